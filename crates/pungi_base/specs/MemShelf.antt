@@ -1,0 +1,47 @@
+-- A shelf in memory, as its callers see it.
+--   text_named texts name     the text of a name among pairs of names and texts
+--   pairs_of texts            such pairs, as contracts read them
+--   left_at texts i from      what is left of the text at a place, and nothing past the last text
+--   ShelfState                its texts, the calls that fail, how many calls and faults came, the names given, and what is left to read
+--   open_fails s name         an open fails at its call, or where the name isn't there
+--   shelf_gave s name         the name counts as given
+--   shelf_failed s            after a call that failed
+--   shelf_left s rest         after a call that leaves this to read
+use Rattle.std.specs.Prelude.{ℕ, Bool, ◌||◌, List, [], ◌∷◌, ◌++◌, drop, map, slice_get, Option, None, Some, is_none, if◌then◌else◌, String, Vec, string_bytes}
+use Rattle.std.specs.Option.{option_map_or}
+use Rattle.std.specs.declared.alloc.Global.{Global}
+use Rattle.std.specs.Str.{bytes_eq}
+use Rattle.pungi_base.specs.Calls.{next_call, is_failing}
+
+abbrev pub text_named : List (List ℕ × List ℕ) → List ℕ → Option (List ℕ)
+text_named [] name = None
+text_named (t ∷ texts) name = if bytes_eq t.0 name then Some t.1 else text_named texts name
+
+abbrev pub pair_of : String Global × Vec ℕ Global → List ℕ × List ℕ
+pair_of t = (string_bytes t.0, t.1.items)
+
+abbrev pub pairs_of : List (String Global × Vec ℕ Global) → List (List ℕ × List ℕ)
+pairs_of texts = map pair_of texts
+
+abbrev pub left_at : List (String Global × Vec ℕ Global) → ℕ → ℕ → List ℕ
+left_at texts i from = drop from (option_map_or (λ t. t.1.items) (slice_get texts i) [])
+
+pub record ShelfState : Type 0 where
+  pub texts : List (List ℕ × List ℕ)
+  pub failing : List ℕ
+  pub calls : ℕ
+  pub faults : ℕ
+  pub given : List (List ℕ)
+  pub rest : List ℕ
+
+abbrev pub open_fails : ShelfState → List ℕ → Bool
+open_fails s name = is_failing s.failing s.calls || is_none (text_named s.texts name)
+
+abbrev pub shelf_gave : ShelfState → List ℕ → ShelfState
+shelf_gave s name = record s { given = s.given ++ name ∷ [] }
+
+abbrev pub shelf_failed : ShelfState → ShelfState
+shelf_failed s = record s { calls = next_call s.calls; faults = next_call s.faults }
+
+abbrev pub shelf_left : ShelfState → List ℕ → ShelfState
+shelf_left s rest = record s { calls = next_call s.calls; rest = rest }

@@ -1,0 +1,51 @@
+//! What all crates of Pungi speak of: names, tokens, values, runs, verdicts, and the outside as a shelf to read from
+//! and a sink to write to.
+#![tactic(auto)]
+
+mod builtin;
+mod choice;
+mod entry;
+mod fault;
+mod key;
+mod kind;
+mod mem_shelf;
+mod mem_sink;
+mod memory;
+mod names;
+mod pos;
+mod punct;
+mod rule;
+mod seq;
+mod shelf;
+mod sink;
+mod sure_shelf;
+mod sure_sink;
+mod token;
+mod value;
+mod verdict;
+mod why;
+mod witness;
+pub mod words;
+
+pub use choice::Choice;
+pub use entry::Entry;
+pub use fault::Fault;
+pub use key::Key;
+pub use kind::Kind;
+pub use mem_shelf::MemShelf;
+pub use mem_sink::MemSink;
+pub use memory::Memory;
+pub use names::{Name, Names};
+pub use pos::Pos;
+pub use punct::Punct;
+pub use rule::Rule;
+pub use seq::Seq;
+pub use shelf::{Failed, OpenFault, Shelf};
+pub use sink::Sink;
+pub use sure_shelf::SureShelf;
+pub use sure_sink::SureSink;
+pub use token::Token;
+pub use value::Value;
+pub use verdict::Verdict;
+pub use why::Why;
+pub use witness::Witness;

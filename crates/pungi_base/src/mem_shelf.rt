@@ -1,0 +1,157 @@
+ghost use Rattle.std.specs.Prelude.{◌≡◌, ◌≤◌, ◌<◌, ◌+◌, ◌^◌, ℕ, [], ◌∷◌, ◌++◌, List, length, take, drop, min, IfOk, IfErr, OnErr, OnOk, MatchOption, MatchResult, Some, None, true, false, is_err, option_map, Err, slice_get};
+ghost use Rattle.std.specs.Io.KnownBytes.{ReadConsumes};
+ghost use Rattle.std.specs.Option.{option_map_or};
+ghost use Rattle.pungi_base.specs.Shelf.{Rose, Opens};
+ghost use Rattle.pungi_base.specs.MemShelf.{ShelfState, text_named, pairs_of, left_at, open_fails, shelf_failed, shelf_gave, shelf_left};
+ghost use Rattle.pungi_base.specs.Calls.{is_failing};
+
+use crate::{Failed, OpenFault, Shelf};
+use std::alloc::Global;
+use std::marker::Model;
+
+/// A shelf in memory, which fails at given calls and where a name isn't there.
+#[derive(Drop)]
+pub struct MemShelf {
+    texts: Vec<(String, Vec<u8>)>,
+    failing: Vec<u64>,
+    calls: u64,
+    faults: u64,
+    given: Vec<Vec<u8>>,
+    opened: usize,
+    at: usize,
+}
+
+impl Model for MemShelf {
+    ghost use Rattle.std.specs.Prelude.{map};
+    ghost use Rattle.pungi_base.specs.MemShelf.{ShelfState, pairs_of, left_at};
+
+    ghost Value = { ShelfState };
+
+    ghost view = { λ s. record { texts = pairs_of s.texts.items; failing = s.failing.items; calls = s.calls; faults = s.faults; given = map (λ n. n.items) s.given.items; rest = left_at s.texts.items s.opened s.at } };
+}
+
+/// The place of the text of a name.
+pub(crate) fn place_of(texts: &[(String, Vec<u8>)], name: &str) -> Option<usize>
+    ensures within { MatchOption result (text_named (pairs_of texts.now) name.now ≡ None) (λ i. i < length texts.now) }
+    ensures text { MatchOption result (text_named (pairs_of texts.now) name.now ≡ None) (λ i. text_named (pairs_of texts.now) name.now ≡ Some (left_at texts.now i 0)) }
+{
+    for (i, text) in texts.iter().enumerate() {
+        if text.0.as_str() == name {
+            return Some(i);
+        }
+    }
+    None
+}
+
+/// What is left of the text at a place.
+pub(crate) fn rest_of(texts: &[(String, Vec<u8>)], place: usize, from: usize) -> &[u8]
+    ensures left { result.now ≡ left_at texts.now place from }
+    ensures short { from + length result.now < 2 ^ 64 }
+{
+    match texts.get(place) {
+        None => &[],
+        Some(text) => {
+            let text = text.1.as_slice();
+            if from <= text.len() {
+                &text[from..]
+            } else {
+                &[]
+            }
+        }
+    }
+}
+
+/// Copies the front of the bytes, as much as the buffer takes.
+pub(crate) fn copy_front(rest: &[u8], buf: &mut [u8]) -> usize
+    ensures count { result ≡ min (length buf.old) (length rest.now) }
+    ensures bytes { rest.now ≡ take result buf.new ++ drop result rest.now }
+{
+    let count = buf.len().min(rest.len());
+    buf[..count].copy_from_slice(&rest[..count]);
+    count
+}
+
+impl MemShelf {
+    pub fn new(alloc: Global, texts: Vec<(String, Vec<u8>)>, failing: Vec<u64>) -> MemShelf
+        ensures { result ≡ record { texts = pairs_of texts.items; failing = failing.items; calls = 0; faults = 0; given = []; rest = [] } }
+    {
+        let opened = texts.len();
+        MemShelf {
+            texts,
+            failing,
+            calls: 0,
+            faults: 0,
+            given: Vec::new(alloc),
+            opened,
+            at: 0,
+        }
+    }
+}
+
+impl Shelf for MemShelf {
+    ghost texts = { λ s. Some (text_named s.texts) };
+
+    ghost rest = { λ s. Some s.rest };
+
+    ghost given = { λ s. Some s.given };
+
+    ghost faults = { λ s. s.faults };
+
+    fn open(&mut self, alloc: Global, name: &str) -> Result<(), OpenFault>
+        ensures ok { OnOk result (Opens (Some (text_named self.old.texts)) name.now (Some self.new.rest)) }
+        ensures err { OnErr result (Some self.new.rest ≡ Some self.old.rest) }
+        ensures given { (result ≡ Err OpenFault.Memory → ⊥) → Some self.new.given ≡ option_map (λ names. names ++ name.now ∷ []) (Some self.old.given) }
+        ensures memory { result ≡ Err OpenFault.Memory → (Some self.new.given ≡ Some self.old.given) × (self.new.faults ≡ self.old.faults) }
+        ensures texts { Some (text_named self.new.texts) ≡ Some (text_named self.old.texts) }
+        ensures later { self.old.faults ≤ self.new.faults }
+        ensures failed { result ≡ Err OpenFault.Failed → Rose self.old.faults self.new.faults }
+
+        ensures exact { OnOk result (open_fails self.old name.now ≡ false) }
+        ensures fails { result ≡ Err OpenFault.Failed → open_fails self.old name.now ≡ true }
+        ensures opened { OnOk result (self.new ≡ shelf_left (shelf_gave self.old name.now) self.new.rest) }
+        ensures refused { result ≡ Err OpenFault.Failed → self.new ≡ shelf_failed (shelf_gave self.old name.now) }
+        ensures unchanged { result ≡ Err OpenFault.Memory → self.new ≡ self.old }
+    {
+        let given = Vec::from_slice(alloc, name.as_bytes())?;
+        self.given.push(given)?;
+        self.calls = self.calls.saturating_add(1);
+        if self.failing.contains(&self.calls) {
+            self.faults = self.faults.saturating_add(1);
+            return Err(OpenFault::Failed);
+        }
+        match place_of(&self.texts, name) {
+            None => {
+                self.faults = self.faults.saturating_add(1);
+                Err(OpenFault::Failed)
+            }
+            Some(place) => {
+                self.opened = place;
+                self.at = 0;
+                Ok(())
+            }
+        }
+    }
+
+    fn read(&mut self, buf: &mut [u8]) -> Result<usize, Failed>
+        ensures within { IfOk result (λ count. count ≤ length buf.new) }
+        ensures bytes { ReadConsumes (Some self.old.rest) (Some self.new.rest) result buf.new }
+        ensures given { Some self.new.given ≡ Some self.old.given }
+        ensures texts { Some (text_named self.new.texts) ≡ Some (text_named self.old.texts) }
+        ensures later { self.old.faults ≤ self.new.faults }
+        ensures failed { OnErr result (Rose self.old.faults self.new.faults) }
+
+        ensures fails { is_err result ≡ is_failing self.old.failing self.old.calls }
+        ensures err { OnErr result (self.new ≡ shelf_failed self.old) }
+        ensures count { IfOk result (λ count. count ≡ min (length buf.old) (length self.old.rest)) }
+        ensures left { IfOk result (λ count. self.new ≡ shelf_left self.old (drop count self.old.rest)) }
+    {
+        self.calls = self.calls.saturating_add(1);
+        if self.failing.contains(&self.calls) {
+            self.faults = self.faults.saturating_add(1);
+            return Err(Failed);
+        }
+        let count = copy_front(rest_of(&self.texts, self.opened, self.at), buf);
+        self.at += count;
+        Ok(count)
+    }
+}

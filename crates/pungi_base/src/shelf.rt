@@ -1,0 +1,69 @@
+ghost use Rattle.std.specs.Prelude.{◌≡◌, ℕ, ◌≤◌, ◌∷◌, [], ◌++◌, List, length, OnOk, OnErr, IfOk, IsErrOf, Option, option_map};
+ghost use Rattle.std.specs.Io.KnownBytes.{ReadConsumes};
+ghost use Rattle.pungi_base.specs.Shelf.{Rose, Opens};
+ghost use Rattle.pungi_base.specs.declared.shelf.OpenFault.TheVariants.{Memory as OpenMemory};
+
+use std::alloc::{AllocError, AllocFailed, Global};
+
+/// A call on the outside failed.
+#[derive(Clone, Copy, Debug, PartialEq, Eq)]
+pub struct Failed;
+
+/// Why a text was not opened.
+#[derive(Clone, Copy, Debug, PartialEq, Eq)]
+pub enum OpenFault {
+    /// The shelf could not open it.
+    Failed,
+    /// Memory ran out.
+    Memory,
+}
+
+impl From<AllocError> for OpenFault {
+    ghost from_gives = { λ _ e. e ≡ OpenMemory };
+
+    fn from(_: AllocError) -> Self {
+        OpenFault::Memory
+    }
+}
+
+impl<T: Drop> From<AllocFailed<T>> for OpenFault {
+    ghost from_gives = { λ _ e. e ≡ OpenMemory };
+
+    fn from(_: AllocFailed<T>) -> Self {
+        OpenFault::Memory
+    }
+}
+
+/// Where texts are read from, by name.
+pub trait Shelf {
+    /// The texts by name, where they are told. They never change.
+    ghost texts: { Self → Option (List ℕ → Option (List ℕ)) };
+
+    /// What is left of the opened text, where it is told.
+    ghost rest: { Self → Option (List ℕ) };
+
+    /// The names that `open` was given so far, where they are told.
+    ghost given: { Self → Option (List (List ℕ)) };
+
+    /// How often a call failed. At most 2^64 - 1.
+    ghost faults: { Self → ℕ };
+
+    /// Opens the text of a name.
+    fn open(&mut self, alloc: Global, name: &str) -> Result<(), OpenFault>
+        ensures ok { OnOk result (Opens (texts self.old) name.now (rest self.new)) }
+        ensures err { OnErr result (rest self.new ≡ rest self.old) }
+        ensures given { (result ≡ Err OpenFault.Memory → ⊥) → given self.new ≡ option_map (λ names. names ++ name.now ∷ []) (given self.old) }
+        ensures memory { result ≡ Err OpenFault.Memory → (given self.new ≡ given self.old) × (faults self.new ≡ faults self.old) }
+        ensures texts { texts self.new ≡ texts self.old }
+        ensures later { faults self.old ≤ faults self.new }
+        ensures failed { result ≡ Err OpenFault.Failed → Rose (faults self.old) (faults self.new) };
+
+    /// Copies the next bytes into the front of the buffer, and answers how many.
+    fn read(&mut self, buf: &mut [u8]) -> Result<usize, Failed>
+        ensures within { IfOk result (λ count. count ≤ length buf.new) }
+        ensures bytes { ReadConsumes (rest self.old) (rest self.new) result buf.new }
+        ensures given { given self.new ≡ given self.old }
+        ensures texts { texts self.new ≡ texts self.old }
+        ensures later { faults self.old ≤ faults self.new }
+        ensures failed { OnErr result (Rose (faults self.old) (faults self.new)) };
+}

@@ -1,0 +1,72 @@
+ghost use Rattle.std.specs.Prelude.{◌≡◌, ◌≤◌, ◌<◌, [], List, length, false, IfOk, OnErr, Ok};
+ghost use Rattle.pungi_base.specs.Shelf.{Rose};
+ghost use Rattle.pungi_base.specs.Sink.{WriteTakes};
+ghost use Rattle.pungi_base.specs.SureSink.{KeptState, kept_told, kept_wrote};
+
+use crate::{Failed, Memory, Sink};
+use std::alloc::Global;
+use std::marker::Model;
+
+/// A sink that takes every byte and never fails. It keeps the first bytes, as many as it has room for.
+#[derive(Drop)]
+pub struct SureSink {
+    room: usize,
+    bytes: Vec<u8>,
+    more: bool,
+}
+
+impl Model for SureSink {
+    ghost use Rattle.std.specs.Prelude.{◌≤◌, vec_len, vec_capacity};
+    ghost use Rattle.pungi_base.specs.SureSink.{KeptState};
+
+    ghost Value = { KeptState };
+
+    ghost view = { λ s. record { room = s.room; bytes = s.bytes.items; more = s.more } };
+
+    ghost invariant = { λ s. (vec_len s.bytes ≤ s.room) × (s.room ≤ vec_capacity s.bytes) };
+}
+
+impl SureSink {
+    pub fn new(alloc: Global, room: usize) -> Result<SureSink, Memory>
+        ensures { IfOk result (λ sink. sink ≡ record { room = room; bytes = []; more = false }) }
+    {
+        let bytes = Vec::with_capacity(alloc, room)?;
+        Ok(SureSink {
+            room,
+            bytes,
+            more: false,
+        })
+    }
+
+    /// The first bytes that came.
+    pub fn bytes(&self) -> &[u8]
+        ensures { result.now ≡ self.now.bytes }
+    {
+        self.bytes.as_slice()
+    }
+}
+
+impl Sink for SureSink {
+    ghost taken = { kept_told };
+
+    ghost faults = { λ _. 0 };
+
+    fn write(&mut self, piece: &[u8]) -> Result<usize, Failed>
+        ensures within { IfOk result (λ count. count ≤ length piece.now) }
+        ensures some { IfOk result (λ count. 0 < length piece.now → 0 < count) }
+        ensures bytes { WriteTakes (kept_told self.old) (kept_told self.new) result piece.now }
+        ensures later { 0 ≤ 0 }
+        ensures failed { OnErr result (Rose 0 0) }
+
+        ensures all { result ≡ Ok (length piece.now) }
+        ensures next { self.new ≡ kept_wrote self.old piece.now }
+    {
+        let room = self.room - self.bytes.len();
+        if room < piece.len() {
+            self.more = true;
+        }
+        let count = piece.len().min(room);
+        self.bytes.extend_from_slice(&piece[..count]).unwrap();
+        Ok(piece.len())
+    }
+}

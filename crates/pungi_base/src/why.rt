@@ -1,0 +1,18 @@
+use crate::{Name, Pos, Seq};
+
+/// Why a function is neither clean nor faulty.
+#[derive(Debug, Drop)]
+pub enum Why {
+    /// It has too many short traces.
+    Traces,
+    /// Its affine program is too large.
+    Shapes,
+    /// A relation between its numbers has too large factors: the place, and the relation.
+    Range { pos: Pos, vector: Seq<i64> },
+    /// It compares a number that isn't followed, at this place.
+    Number { pos: Pos },
+    /// A loop at this place may turn more often than was looked at.
+    Loop { pos: Pos },
+    /// A call at this place of this function may go deeper than was looked at.
+    Call { pos: Pos, name: Name },
+}
