@@ -1,0 +1,52 @@
+-- The references that escaped in a run, and when a return is balanced (Li and Tan, ECOOP 2014; the list of escapes is
+-- this project's own).
+--   is_object value object          a value is this object
+--   is_returned value object        it is what a function returns
+--   holds_object content object     it is what a variable or slot holds
+--   held_now, held_at_entry         how many touched slots hold the object now, and held it at entry
+--   escaped_of w object value       how many references to the object escaped where a run returns this value
+--   IsLevel w value object          its count changed by exactly the references that escaped
+--   IsBalanced w value              so did the count of every object
+--   IsCountable w                   the numbers are so small that the code can count
+use Rattle.std.specs.Prelude.{◌≡◌, ℕ, ◌<◌, ◌-◌, ◌^◌, ◌==◌, ℤ, pos, negsuc, ◌+ℤ◌, ◌-ℤ◌, ◌≤ℤ◌, Bool, false, length, count_by, Option, None, Some, if◌then◌else◌}
+use Rattle.pungi_base.specs.declared.value.Value.{Value}
+use Rattle.pungi_base.specs.declared.value.Value.TheVariants.{Null, Object, Int, Text}
+use Rattle.pungi_world.specs.declared.content.Content.{Content}
+use Rattle.pungi_world.specs.declared.content.Content.TheVariants.{Unset, Holds}
+use Rattle.pungi_world.specs.declared.world.World.{World}
+use Rattle.pungi_world.specs.World.{account_of}
+
+abbrev pub is_object : Value → ℕ → Bool
+is_object (Object k) object = k == object
+is_object Null object = false
+is_object (Int n) object = false
+is_object Text object = false
+
+abbrev pub is_returned : Option Value → ℕ → Bool
+is_returned None object = false
+is_returned (Some value) object = is_object value object
+
+abbrev pub holds_object : Content → ℕ → Bool
+holds_object Unset object = false
+holds_object (Holds value) object = is_object value object
+
+abbrev pub held_now : World → ℕ → ℕ
+held_now w object = count_by (λ s. holds_object s.held object) w.slots
+
+abbrev pub held_at_entry : World → ℕ → ℕ
+held_at_entry w object = count_by (λ s. holds_object s.at_entry object) w.slots
+
+abbrev pub escaped_of : World → ℕ → Option Value → ℤ
+escaped_of w object value = (account_of w object).handed +ℤ pos (if is_returned value object then 1 else 0) +ℤ pos (held_now w object) -ℤ pos (held_at_entry w object)
+
+abbrev pub IsLevel : World → Option Value → ℕ → Type 0
+IsLevel w value object = (account_of w object).change ≡ escaped_of w object value
+
+abbrev pub IsBalanced : World → Option Value → Type 0
+IsBalanced w value = (object : ℕ) → object < length w.accounts → IsLevel w value object
+
+pub record IsCountable (w : World) : Type 0 where
+  pub slots : length w.slots < 2 ^ 60
+  pub accounts : length w.accounts < 2 ^ 32 - 1
+  pub low : (object : ℕ) → negsuc (2 ^ 61 - 1) ≤ℤ (account_of w object).handed
+  pub high : (object : ℕ) → (account_of w object).handed ≤ℤ pos (2 ^ 61)
