@@ -1,0 +1,6 @@
+pub mod CommentLemmas
+pub mod Exact
+pub mod KindLemmas
+pub mod MarkLemmas
+pub mod NumberLemmas
+pub mod Progress

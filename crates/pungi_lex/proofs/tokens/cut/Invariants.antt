@@ -1,0 +1,17 @@
+use Rattle.std.proofs.Common.{◌+◌, ◌-◌, ◌≤◌, length}
+use Rattle.pungi_base.specs.Names.{AreNames, Extends}
+use Rattle.pungi_lex.specs.Join.{place_in}
+use Rattle.pungi_lex.proofs.Progress.{Progress}
+use Rattle.pungi_lex.proofs.tokens.cut.Given as goal
+
+abbrev pub invariant-pieces : goal.invariant-pieces
+invariant-pieces l = record {
+  progress : Progress l.fn.names l.names l.bytes (place_in l.places) l.tokens.items l.done l.line l.touching;
+  within : l.done ≤ length l.bytes;
+  grows : Extends l.fn.names l.names;
+  names : AreNames l.fn.names → AreNames l.names;
+  room : length l.names ≤ length l.fn.names + l.done;
+}
+
+abbrev pub decreases-pieces : goal.decreases-pieces
+decreases-pieces l = length l.bytes - l.done

@@ -1,0 +1,19 @@
+use Rattle.std.proofs.Common.{◌≤◌, ℕ, List, length, ap, arith}
+use Rattle.std.proofs.lemmas.List.{length-take}
+use Rattle.pungi_base.specs.declared.words.TheConstants.{KEYWORDS}
+use Rattle.pungi_base.specs.Words.{BeginWithWords, builtin_words}
+use Rattle.pungi_lex.proofs.Exact.{faults_none, tokens_once}
+use Rattle.pungi_lex.proofs.tokens.lex.Goals as goal
+
+keywords_within : (names : List (List ℕ)) → BeginWithWords names → KEYWORDS ≤ length names
+keywords_within names words = omega (arith, ap length words, length-take (length builtin_words) names)
+
+pub cut_text-requires-clause-words : goal.cut_text-requires-clause-words
+cut_text-requires-clause-words c = keywords_within c.args.names.now c.requires.words
+
+pub returns-clause-only : goal.returns-clause-only
+returns-clause-only c = λ after tokens are.
+    tokens_once (λ found. found.items) c.args.names.now c.cut_text.new.names after c.args.text.now tokens c.cut_text.result c.cut_text.ensures.names c.cut_text.ensures.tokens c.cut_text.ensures.fault are
+
+pub returns-clause-none : goal.returns-clause-none
+returns-clause-none c = faults_none c.args.names.now c.args.text.now c.cut_text.result c.cut_text.ensures.fault

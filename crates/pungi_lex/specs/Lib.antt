@@ -1,0 +1,12 @@
+pub mod Bytes
+pub mod Character
+pub mod Comment
+pub mod Join
+pub mod Lengths
+pub mod Line
+pub mod Mark
+pub mod Number
+pub mod Piece
+pub mod Quote
+pub mod Start
+pub mod Tokens

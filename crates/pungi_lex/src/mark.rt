@@ -1,0 +1,214 @@
+ghost use Rattle.std.specs.Prelude.{◌≡◌, ◌≤◌, ◌<◌, IfSome, true, [], ◌∷◌, take, length};
+ghost use Rattle.pungi_base.specs.Token.{punct_text as text_of_punct};
+ghost use Rattle.pungi_base.specs.declared.punct.Punct.{Punct as ThePunct};
+ghost use Rattle.pungi_lex.specs.Bytes.{begins_with};
+ghost use Rattle.pungi_lex.specs.Mark.{mark_one as one, mark_two as two, mark_three as three, mark_at};
+
+use pungi_base::Punct;
+
+fn mark_one(a: u8) -> Option<Punct>
+    ensures mark { result ≡ one a }
+    ensures spelled { IfSome result (λ punct. text_of_punct punct ≡ a ∷ []) }
+{
+    match a {
+        b'(' => Some(Punct::LeftParen),
+        b')' => Some(Punct::RightParen),
+        b'[' => Some(Punct::LeftBracket),
+        b']' => Some(Punct::RightBracket),
+        b'{' => Some(Punct::LeftBrace),
+        b'}' => Some(Punct::RightBrace),
+        b';' => Some(Punct::Semicolon),
+        b',' => Some(Punct::Comma),
+        b'.' => Some(Punct::Dot),
+        b'&' => Some(Punct::And),
+        b'*' => Some(Punct::Star),
+        b'+' => Some(Punct::Plus),
+        b'-' => Some(Punct::Minus),
+        b'~' => Some(Punct::Tilde),
+        b'!' => Some(Punct::Not),
+        b'/' => Some(Punct::Slash),
+        b'%' => Some(Punct::Percent),
+        b'<' => Some(Punct::Less),
+        b'>' => Some(Punct::Greater),
+        b'^' => Some(Punct::Caret),
+        b'|' => Some(Punct::Or),
+        b'?' => Some(Punct::Question),
+        b':' => Some(Punct::Colon),
+        b'=' => Some(Punct::Assign),
+        b'#' => Some(Punct::Hash),
+        _ => None,
+    }
+}
+
+fn mark_two(a: u8, b: u8) -> Option<Punct>
+    ensures mark { result ≡ two a b }
+    ensures spelled { IfSome result (λ punct. text_of_punct punct ≡ a ∷ b ∷ []) }
+{
+    match a {
+        b'-' => match b {
+            b'>' => Some(Punct::Arrow),
+            b'-' => Some(Punct::MinusMinus),
+            b'=' => Some(Punct::MinusAssign),
+            _ => None,
+        },
+        b'+' => match b {
+            b'+' => Some(Punct::PlusPlus),
+            b'=' => Some(Punct::PlusAssign),
+            _ => None,
+        },
+        b'<' => match b {
+            b'<' => Some(Punct::ShiftLeft),
+            b'=' => Some(Punct::LessEqual),
+            _ => None,
+        },
+        b'>' => match b {
+            b'>' => Some(Punct::ShiftRight),
+            b'=' => Some(Punct::GreaterEqual),
+            _ => None,
+        },
+        b'=' => match b {
+            b'=' => Some(Punct::Equal),
+            _ => None,
+        },
+        b'!' => match b {
+            b'=' => Some(Punct::NotEqual),
+            _ => None,
+        },
+        b'&' => match b {
+            b'&' => Some(Punct::AndAnd),
+            b'=' => Some(Punct::AndAssign),
+            _ => None,
+        },
+        b'|' => match b {
+            b'|' => Some(Punct::OrOr),
+            b'=' => Some(Punct::OrAssign),
+            _ => None,
+        },
+        b'*' => match b {
+            b'=' => Some(Punct::StarAssign),
+            _ => None,
+        },
+        b'/' => match b {
+            b'=' => Some(Punct::SlashAssign),
+            _ => None,
+        },
+        b'%' => match b {
+            b'=' => Some(Punct::PercentAssign),
+            _ => None,
+        },
+        b'^' => match b {
+            b'=' => Some(Punct::CaretAssign),
+            _ => None,
+        },
+        b'#' => match b {
+            b'#' => Some(Punct::HashHash),
+            _ => None,
+        },
+        _ => None,
+    }
+}
+
+fn mark_three(a: u8, b: u8, c: u8) -> Option<Punct>
+    ensures mark { result ≡ three a b c }
+    ensures spelled { IfSome result (λ punct. text_of_punct punct ≡ a ∷ b ∷ c ∷ []) }
+{
+    if a == b'<' && b == b'<' && c == b'=' {
+        Some(Punct::ShiftLeftAssign)
+    } else if a == b'>' && b == b'>' && c == b'=' {
+        Some(Punct::ShiftRightAssign)
+    } else if a == b'.' && b == b'.' && c == b'.' {
+        Some(Punct::Ellipsis)
+    } else {
+        None
+    }
+}
+
+fn mark_found(text: &[u8]) -> Option<Punct>
+    ensures mark { result ≡ mark_at text.now }
+    ensures spelled { IfSome result (λ punct. text_of_punct punct ≡ take (length (text_of_punct punct)) text.now) }
+    ensures within { IfSome result (λ punct. length (text_of_punct punct) ≤ length text.now) }
+    ensures some { IfSome result (λ punct. 0 < length (text_of_punct punct)) }
+{
+    match text {
+        [] => None,
+        [a] => mark_one(*a),
+        [a, b] => match mark_two(*a, *b) {
+            Some(punct) => Some(punct),
+            None => mark_one(*a),
+        },
+        [a, b, c, ..] => match mark_three(*a, *b, *c) {
+            Some(punct) => Some(punct),
+            None => match mark_two(*a, *b) {
+                Some(punct) => Some(punct),
+                None => mark_one(*a),
+            },
+        },
+    }
+}
+
+/// The longest punctuator at the front of a text.
+pub(crate) fn longest_mark(text: &[u8]) -> Option<Punct>
+    ensures mark { result ≡ mark_at text.now }
+    ensures spelled { IfSome result (λ punct. text_of_punct punct ≡ take (length (text_of_punct punct)) text.now) }
+    ensures within { IfSome result (λ punct. length (text_of_punct punct) ≤ length text.now) }
+    ensures some { IfSome result (λ punct. 0 < length (text_of_punct punct)) }
+    ensures longest { (other : ThePunct) → begins_with (text_of_punct other) text.now ≡ true → IfSome result (λ punct. length (text_of_punct other) ≤ length (text_of_punct punct)) }
+{
+    mark_found(text)
+}
+
+/// How long the spelling of a punctuator is.
+pub(crate) fn punct_length(punct: Punct) -> usize
+    ensures { result ≡ length (text_of_punct punct) }
+{
+    match punct {
+        Punct::LeftParen => 1,
+        Punct::RightParen => 1,
+        Punct::LeftBracket => 1,
+        Punct::RightBracket => 1,
+        Punct::LeftBrace => 1,
+        Punct::RightBrace => 1,
+        Punct::Semicolon => 1,
+        Punct::Comma => 1,
+        Punct::Dot => 1,
+        Punct::And => 1,
+        Punct::Star => 1,
+        Punct::Plus => 1,
+        Punct::Minus => 1,
+        Punct::Tilde => 1,
+        Punct::Not => 1,
+        Punct::Slash => 1,
+        Punct::Percent => 1,
+        Punct::Less => 1,
+        Punct::Greater => 1,
+        Punct::Caret => 1,
+        Punct::Or => 1,
+        Punct::Question => 1,
+        Punct::Colon => 1,
+        Punct::Assign => 1,
+        Punct::Hash => 1,
+        Punct::Arrow => 2,
+        Punct::PlusPlus => 2,
+        Punct::MinusMinus => 2,
+        Punct::ShiftLeft => 2,
+        Punct::ShiftRight => 2,
+        Punct::LessEqual => 2,
+        Punct::GreaterEqual => 2,
+        Punct::Equal => 2,
+        Punct::NotEqual => 2,
+        Punct::AndAnd => 2,
+        Punct::OrOr => 2,
+        Punct::PlusAssign => 2,
+        Punct::MinusAssign => 2,
+        Punct::StarAssign => 2,
+        Punct::SlashAssign => 2,
+        Punct::PercentAssign => 2,
+        Punct::AndAssign => 2,
+        Punct::CaretAssign => 2,
+        Punct::OrAssign => 2,
+        Punct::HashHash => 2,
+        Punct::ShiftLeftAssign => 3,
+        Punct::ShiftRightAssign => 3,
+        Punct::Ellipsis => 3,
+    }
+}

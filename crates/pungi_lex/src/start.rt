@@ -1,0 +1,91 @@
+ghost use Rattle.std.specs.Prelude.{◌≡◌};
+ghost use Rattle.pungi_lex.specs.Start.{starts, Begins, is_mark as mark, is_token as token, is_after_include as after_include};
+
+use crate::bytes::{is_blank, is_digit, is_letter};
+use crate::line::Line;
+
+/// What may begin at a place.
+#[derive(Clone, Copy, Debug, PartialEq, Eq)]
+pub enum Start {
+    Header,
+    Blank,
+    LineComment,
+    Comment,
+    Word,
+    Number,
+    Char,
+    Text,
+    Mark,
+    Nothing,
+}
+
+fn is_mark(b: u8) -> bool
+    ensures { result ≡ mark b }
+{
+    match b {
+        b'(' | b')' | b'[' | b']' | b'{' | b'}' | b';' | b',' | b'.' => true,
+        b'-' | b'+' | b'&' | b'*' | b'~' | b'!' | b'/' | b'%' => true,
+        b'<' | b'>' | b'=' | b'^' | b'|' | b'?' | b':' | b'#' => true,
+        _ => false,
+    }
+}
+
+/// Whether what begins so is a token: no blanks, and no comment.
+pub(crate) fn is_token(start: Start) -> bool
+    ensures { result ≡ token start }
+{
+    match start {
+        Start::Blank => false,
+        Start::LineComment => false,
+        Start::Comment => false,
+        _ => true,
+    }
+}
+
+fn is_after_include(line: Line) -> bool
+    ensures { result ≡ after_include line }
+{
+    match line {
+        Line::Include => true,
+        _ => false,
+    }
+}
+
+/// What begins at the front of a text, as far as the line has come.
+pub(crate) fn start_of(line: Line, text: &[u8]) -> Start
+    ensures start { result ≡ starts line text.now }
+    ensures begins { Begins result text.now }
+{
+    if text.is_empty() {
+        return Start::Nothing;
+    }
+    let b = text[0];
+    if is_after_include(line) && b != b'\n' {
+        return Start::Header;
+    }
+    if is_blank(b) {
+        return Start::Blank;
+    }
+    if b == b'/' && text.len() > 1 && text[1] == b'/' {
+        return Start::LineComment;
+    }
+    if b == b'/' && text.len() > 1 && text[1] == b'*' {
+        return Start::Comment;
+    }
+    if is_letter(b) {
+        return Start::Word;
+    }
+    if is_digit(b) || (b == b'.' && text.len() > 1 && is_digit(text[1])) {
+        return Start::Number;
+    }
+    if b == b'\'' {
+        return Start::Char;
+    }
+    if b == b'"' {
+        return Start::Text;
+    }
+    if is_mark(b) {
+        return Start::Mark;
+    }
+    Start::Nothing
+}
