@@ -3,7 +3,8 @@ ghost use Rattle.pungi_base.specs.declared.token.Token.{Token as TheToken};
 ghost use Rattle.pungi_base.specs.Names.{AreNames, Extends};
 ghost use Rattle.pungi_base.specs.Words.{BeginWithWords};
 ghost use Rattle.pungi_lex.specs.Join.{place_in};
-ghost use Rattle.pungi_lex.specs.Tokens.{AreTokens, AreTokensOf, IsRefused, HasFault, HasNoTokens, is_memory, token_of, fault_at as fault_told};
+ghost use Rattle.pungi_lex.specs.Tokens.{AreTokens, AreTokensOf, IsRefused, HasFault, HasNoTokens, is_memory, token_of, IsKnown, fault_at as fault_told};
+ghost use Rattle.std.specs.List.{All};
 
 use crate::join::join;
 use crate::lex_fault::LexFault;
@@ -41,7 +42,8 @@ fn push_token(
     first: bool,
     touching: bool,
 ) -> Result<(), AllocError>
-    ensures { OnOk result (tokens.new.items ≡ tokens.old.items ++ token_of found pos first touching) }
+    ensures tokens { OnOk result (tokens.new.items ≡ tokens.old.items ++ token_of found pos first touching) }
+    ensures one { length tokens.new.items ≤ length tokens.old.items + 1 }
 {
     match found {
         None => Ok(()),
@@ -69,6 +71,7 @@ fn cut(
     requires words { KEYWORDS ≤ length names.old }
     requires room { length names.old < 2 ^ 31 }
     ensures tokens { IfOk result (λ tokens. AreTokens names.old names.new bytes.now (place_in places.now) tokens.items) }
+    ensures few { IfOk result (λ tokens. length tokens.items ≤ length bytes.now) }
     ensures refused { IfErr result (λ fault. IsRefused bytes.now (place_in places.now) fault) }
     ensures grows { Extends names.old names.new }
     ensures names { AreNames names.old → AreNames names.new }
@@ -111,6 +114,7 @@ fn cut_text(alloc: Global, names: &mut Names, text: &[u8]) -> Result<Vec<Token>,
     requires words { KEYWORDS ≤ length names.old }
     requires room { length names.old < 2 ^ 31 }
     ensures tokens { IfOk result (λ tokens. AreTokensOf names.old names.new text.now tokens.items) }
+    ensures few { IfOk result (λ tokens. length tokens.items ≤ length text.now) }
     ensures fault { IfErr result (λ fault. is_memory fault ≡ false → HasFault text.now fault) }
     ensures grows { Extends names.old names.new }
     ensures names { AreNames names.new }
@@ -129,6 +133,8 @@ pub fn lex(alloc: Global, names: &mut Names, text: &[u8]) -> Result<Vec<Token>, 
     requires room { length names.old < 2 ^ 31 }
     ensures tokens { IfOk result (λ tokens. AreTokensOf names.old names.new text.now tokens.items) }
     ensures only { (after : List (List ℕ)) → (tokens : List TheToken) → AreTokensOf names.old after text.now tokens → IfOk result (λ found. (after ≡ names.new) × (tokens ≡ found.items)) }
+    ensures few { IfOk result (λ tokens. length tokens.items ≤ length text.now) }
+    ensures known { IfOk result (λ tokens. All (λ token. IsKnown names.new token.kind) tokens.items) }
     ensures fault { IfErr result (λ fault. is_memory fault ≡ false → HasFault text.now fault) }
     ensures none { IfErr result (λ fault. is_memory fault ≡ false → HasNoTokens names.old text.now) }
     ensures grows { Extends names.old names.new }

@@ -25,9 +25,10 @@ pieces-preserved c =
     c.pieces.line c.next_line-line.result c.pieces.touching c.is_fresh.result c.is_token-touching.result c.start_of-start.result
     c.split_at.result.1.now c.split_at-in-Some.result.0.now c.in-Some.found c.in-Some.count
     so_far.progress c.in_ok-piece_of.ensures.grows c.split_at.ensures.back c.split_at-in-Some.ensures.front c.start_of-start.ensures.start found added
-    c.is_fresh.ensures c.in_ok-push_token-in-Some.ensures c.is_token-touching.ensures c.next_line-line.ensures in
+    c.is_fresh.ensures c.in_ok-push_token-in-Some.ensures.tokens c.is_token-touching.ensures c.next_line-line.ensures in
     record {
       progress = step;
+      few = omega (arith, found.some, so_far.few, c.in_ok-push_token-in-Some.ensures.one);
       within = omega (arith, found.within, c.split_at.ensures.back_len, so_far.within);
       grows = extends_on c.args.names.now c.pieces.names c.piece_of.new.names so_far.grows c.in_ok-piece_of.ensures.grows;
       names = λ are. c.in_ok-piece_of.ensures.names (so_far.names are);

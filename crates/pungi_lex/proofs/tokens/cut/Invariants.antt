@@ -7,6 +7,7 @@ use Rattle.pungi_lex.proofs.tokens.cut.Given as goal
 abbrev pub invariant-pieces : goal.invariant-pieces
 invariant-pieces l = record {
   progress : Progress l.fn.names l.names l.bytes (place_in l.places) l.tokens.items l.done l.line l.touching;
+  few : length l.tokens.items ≤ l.done;
   within : l.done ≤ length l.bytes;
   grows : Extends l.fn.names l.names;
   names : AreNames l.fn.names → AreNames l.names;

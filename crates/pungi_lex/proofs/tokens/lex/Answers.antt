@@ -1,8 +1,15 @@
-use Rattle.std.proofs.Common.{◌≤◌, ℕ, List, length, ap, arith}
+use Rattle.std.proofs.Common.{Result, Ok, Err, Vec, IfOk, ◌≤◌, ℕ, List, length, ap, arith}
 use Rattle.std.proofs.lemmas.List.{length-take}
 use Rattle.pungi_base.specs.declared.words.TheConstants.{KEYWORDS}
 use Rattle.pungi_base.specs.Words.{BeginWithWords, builtin_words}
+use Rattle.std.specs.List.{All}
+use Rattle.std.specs.declared.alloc.Global.{Global}
+use Rattle.pungi_base.specs.declared.token.Token.{Token}
+use Rattle.pungi_lex.specs.declared.lex_fault.LexFault.{LexFault}
+use Rattle.pungi_lex.specs.Join.{joined, plain, places_of, place_in}
+use Rattle.pungi_lex.specs.Tokens.{AreTokensOf, IsKnown}
 use Rattle.pungi_lex.proofs.Exact.{faults_none, tokens_once}
+use Rattle.pungi_lex.proofs.Known.{are_known}
 use Rattle.pungi_lex.proofs.tokens.lex.Goals as goal
 
 keywords_within : (names : List (List ℕ)) → BeginWithWords names → KEYWORDS ≤ length names
@@ -17,3 +24,10 @@ returns-clause-only c = λ after tokens are.
 
 pub returns-clause-none : goal.returns-clause-none
 returns-clause-none c = faults_none c.args.names.now c.args.text.now c.cut_text.result c.cut_text.ensures.fault
+
+known_tokens : (r : Result (Vec Token Global) LexFault) (before after : List (List ℕ)) (text : List ℕ) → IfOk r (λ tokens. AreTokensOf before after text tokens.items) → IfOk r (λ tokens. All (λ token. IsKnown after token.kind) tokens.items)
+known_tokens (Ok tokens) before after text are = are_known before after (plain text) (place_in (places_of (joined text))) tokens.items are
+known_tokens (Err fault) before after text are = tt
+
+pub returns-clause-known : goal.returns-clause-known
+returns-clause-known c = known_tokens c.cut_text.result c.args.names.now c.cut_text.new.names c.args.text.now c.cut_text.ensures.tokens
