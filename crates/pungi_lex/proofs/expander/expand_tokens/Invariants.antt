@@ -1,0 +1,14 @@
+use Rattle.std.proofs.Common.{◌-◌, ◌≤◌, length}
+use Rattle.pungi_lex.specs.declared.frames.TheConstants.{TOKEN_LIMIT}
+use Rattle.pungi_lex.proofs.RunLemmas.{Progress}
+use Rattle.pungi_lex.proofs.expander.expand_tokens.Given as goal
+
+abbrev pub invariant-parts : goal.invariant-parts
+invariant-parts l = record {
+  progress : Progress (length l.names) l.tokens l.done l.table.items l.count l.out.items;
+  within : l.done ≤ length l.tokens;
+  few : l.count ≤ TOKEN_LIMIT;
+}
+
+abbrev pub decreases-parts : goal.decreases-parts
+decreases-parts l = length l.tokens - l.done

@@ -1,0 +1,71 @@
+ghost use Rattle.std.specs.Prelude.{◌≡◌, ◌≤◌, ◌<◌, ◌^◌, ◌-◌, false, not, List, length, IfOk, IfErr};
+ghost use Rattle.std.specs.List.{prefix_len};
+ghost use Rattle.pungi_base.specs.declared.token.Token.{Token as TheToken};
+ghost use Rattle.pungi_base.specs.Words.{BeginWithWords};
+ghost use Rattle.pungi_lex.specs.Expander.{IsExpanded, HasMacroFault, HasNoExpansion};
+ghost use Rattle.pungi_lex.specs.MacroFault.{is_want_of_memory};
+
+use crate::directive::{is_hash, obey, token_at};
+use crate::frames::{TOKEN_LIMIT, expand_word};
+use crate::macro_fault::MacroFault;
+use crate::predefined::predefined;
+use pungi_base::{Names, Token};
+use std::alloc::Global;
+
+/// How many tokens come before the next line.
+fn line_count(tokens: &[Token]) -> usize
+    ensures count { result ≡ prefix_len (λ t. not t.first) tokens.now }
+    ensures within { result ≤ length tokens.now }
+{
+    tokens.iter().take_while(|t| !t.first).count()
+}
+
+/// What the tokens become, or what they are refused for.
+fn expand_tokens(alloc: Global, names: &Names, tokens: &[Token]) -> Result<Vec<Token>, MacroFault>
+    requires few { length names.now < 2 ^ 32 }
+    ensures expanded { IfOk result (λ out. IsExpanded (length names.now) tokens.now out.items) }
+    ensures fault { IfErr result (λ fault. is_want_of_memory fault ≡ false → HasMacroFault (length names.now) tokens.now fault) }
+{
+    let mut table = predefined(alloc, names.len() as u32)?;
+    let mut out = Vec::new(alloc);
+    let mut count = 0usize;
+    let mut done = 0usize;
+    'parts: loop {
+        let (_, rest) = tokens.split_at(done);
+        if rest.is_empty() {
+            return Ok(out);
+        }
+        let token = token_at(rest, 0);
+        if is_hash(&token) {
+            let (_, behind) = rest.split_at(1);
+            let length = line_count(behind);
+            let (words, _) = behind.split_at(length);
+            match obey(alloc, &mut table, &token, words) {
+                Ok(()) => done += 1 + length,
+                Err(found) => return Err(found),
+            }
+        } else {
+            match expand_word(alloc, &mut table, &mut out, count, &token) {
+                Ok(now) => {
+                    count = now;
+                    done += 1;
+                }
+                Err(found) => return Err(found),
+            }
+        }
+    }
+}
+
+/// Replaces the object macros among the tokens of a text, and leaves out its directives (C11 6.10.3). A token of an
+/// expansion keeps the place of the word in the text that it comes from.
+pub fn expand(alloc: Global, names: &Names, tokens: &[Token]) -> Result<Vec<Token>, MacroFault>
+    requires words { BeginWithWords names.now }
+    requires few { length names.now < 2 ^ 32 }
+    ensures expanded { IfOk result (λ out. IsExpanded (length names.now) tokens.now out.items) }
+    ensures only { (other : List TheToken) → IsExpanded (length names.now) tokens.now other → IfOk result (λ out. other ≡ out.items) }
+    ensures within { IfOk result (λ out. length out.items ≤ TOKEN_LIMIT) }
+    ensures fault { IfErr result (λ fault. is_want_of_memory fault ≡ false → HasMacroFault (length names.now) tokens.now fault) }
+    ensures none { IfErr result (λ fault. is_want_of_memory fault ≡ false → HasNoExpansion (length names.now) tokens.now) }
+{
+    expand_tokens(alloc, names, tokens)
+}
