@@ -1,2 +1,5 @@
+pub mod Cursor
 pub mod Form
 pub mod Grammar
+pub mod Numbers
+pub mod Parser

@@ -3,12 +3,16 @@
 
 mod argument;
 mod call;
+mod cursor;
+mod fault;
 mod function;
+mod parser;
 mod source;
 mod statement;
 
 pub use argument::Argument;
 pub use call::Call;
+pub use fault::ParseFault;
 pub use function::Function;
 pub use source::Source;
 pub use statement::Statement;
