@@ -1,6 +1,7 @@
 pub mod Complete
 pub mod Lists
 pub mod Loops
+pub mod Names
 pub mod Shrinks
 pub mod Sound
 pub mod Spells
