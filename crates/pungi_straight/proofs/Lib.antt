@@ -6,3 +6,4 @@ pub mod Shrinks
 pub mod Sound
 pub mod Spells
 pub mod Turns
+pub mod Units

@@ -248,3 +248,12 @@ begins_from (l ∷ leaves) (t ∷ ts) z h =
 
 pub spells_from_zip : (leaves : List Leaf) (ts : List Token) → AllZip IsToken ts leaves → have_sizes ts ≡ true → Spells leaves ts []
 spells_from_zip leaves ts z h = record { begins = begins_from leaves ts z h }
+
+begins_sized : (leaves : List Leaf) (ts : List Token) → Begins leaves ts [] → have_sizes ts ≡ true
+begins_sized [] ts s = rw s refl
+begins_sized (l ∷ leaves) [] s = absurd s
+begins_sized (l ∷ leaves) (t ∷ ts) s = rw (s.0.0, s.0.2, begins_sized leaves ts s.1) refl
+
+-- tokens that are leaves have sizes
+pub spells_sized : (leaves : List Leaf) (ts : List Token) → Spells leaves ts [] → have_sizes ts ≡ true
+spells_sized leaves ts s = begins_sized leaves ts s.begins

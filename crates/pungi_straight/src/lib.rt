@@ -11,6 +11,7 @@ mod name_set;
 mod parser;
 mod source;
 mod statement;
+mod unit;
 
 pub use argument::Argument;
 pub use call::Call;
@@ -18,3 +19,4 @@ pub use fault::ParseFault;
 pub use function::Function;
 pub use source::Source;
 pub use statement::Statement;
+pub use unit::parse;
