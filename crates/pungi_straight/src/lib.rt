@@ -3,12 +3,20 @@
 
 mod argument;
 mod call;
+mod cursor;
+mod fault;
+mod form;
 mod function;
+mod name_set;
+mod parser;
 mod source;
 mod statement;
+mod unit;
 
 pub use argument::Argument;
 pub use call::Call;
+pub use fault::ParseFault;
 pub use function::Function;
 pub use source::Source;
 pub use statement::Statement;
+pub use unit::parse;
