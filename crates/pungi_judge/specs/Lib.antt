@@ -1,0 +1,5 @@
+pub mod Executor
+pub mod Meaning
+pub mod Pattern
+pub mod Trial
+pub mod Verdict
