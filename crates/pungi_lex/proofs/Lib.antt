@@ -2,9 +2,9 @@ pub mod CommentLemmas
 pub mod Exact
 pub mod FrameLemmas
 pub mod KindLemmas
-pub mod Known
 pub mod MarkLemmas
 pub mod NumberLemmas
 pub mod OneExpansion
 pub mod Progress
 pub mod RunLemmas
+pub mod Ranges

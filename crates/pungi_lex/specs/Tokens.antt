@@ -10,8 +10,9 @@
 --   HasFault text fault       the text is cut as far as a place, and nothing of what begins there is whole
 --   HasNoTokens before text   the text has no tokens under these names
 --   is_memory fault           the text was refused for want of memory
---   IsKnown names kind       the word or the content that the kind tells is among the names
-use Rattle.std.specs.Prelude.{◌≡◌, ◌≢◌, ℕ, ◌+◌, ◌<◌, Bool, true, false, List, [], ◌∷◌, ◌++◌, length, Option, Some, None}
+--   IsInRange names kind     the word or content that the kind tells is among the names, and an integer constant that is
+--                            not long is below 2 to the 31
+use Rattle.std.specs.Prelude.{◌≡◌, ◌≢◌, ℕ, ◌+◌, ◌<◌, ◌^◌, pos, Bool, true, false, List, [], ◌∷◌, ◌++◌, length, Option, Some, None}
 use Rattle.pungi_base.specs.declared.pos.Pos.{Pos}
 use Rattle.pungi_base.specs.declared.kind.Kind.{Kind}
 use Rattle.pungi_base.specs.declared.kind.Kind.TheVariants as kind
@@ -115,12 +116,12 @@ is_memory (fault.Number at) = false
 abbrev pub IsRefused : List ℕ → (ℕ → Pos) → LexFault → Type 0
 IsRefused bytes place found = is_memory found ≡ false → IsStuck bytes place found
 
-abbrev pub IsKnown : List (List ℕ) → Kind → Type 0
-IsKnown names (kind.Key key) = Unit {0}
-IsKnown names (kind.Word name) = name.0 < length names
-IsKnown names (kind.Int value long unsigned) = Unit {0}
-IsKnown names kind.Float = Unit {0}
-IsKnown names (kind.Char b) = Unit {0}
-IsKnown names (kind.Text name) = name.0 < length names
-IsKnown names (kind.Punct punct) = Unit {0}
-IsKnown names kind.Header = Unit {0}
+abbrev pub IsInRange : List (List ℕ) → Kind → Type 0
+IsInRange names (kind.Key key) = Unit {0}
+IsInRange names (kind.Word name) = name.0 < length names
+IsInRange names (kind.Int value long unsigned) = (n : ℕ) × (value ≡ pos n) × (long ≡ false → n < 2 ^ 31)
+IsInRange names kind.Float = Unit {0}
+IsInRange names (kind.Char b) = Unit {0}
+IsInRange names (kind.Text name) = name.0 < length names
+IsInRange names (kind.Punct punct) = Unit {0}
+IsInRange names kind.Header = Unit {0}

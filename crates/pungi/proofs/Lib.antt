@@ -1,0 +1,5 @@
+pub mod Judged
+pub mod LeftToRead
+pub mod Named
+pub mod Refusals
+pub mod Units

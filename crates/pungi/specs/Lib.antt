@@ -1,0 +1,4 @@
+pub mod Answer
+pub mod Examine
+pub mod Read
+pub mod Settings

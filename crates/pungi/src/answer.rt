@@ -1,0 +1,35 @@
+ghost use Rattle.std.specs.Prelude.{◌≡◌, ◌++◌, ◌∷◌, [], IfOk};
+ghost use Rattle.pungi.specs.Answer.{unread_text};
+
+use crate::status::FILE_UNREAD;
+use pungi_base::Memory;
+use std::alloc::Global;
+
+/// A status, and the text that goes with it.
+#[derive(Debug, Drop)]
+pub struct Answer {
+    pub status: u8,
+    pub text: Vec<u8>,
+}
+
+/// An answer of one line.
+pub fn told(alloc: Global, status: u8, line: &str) -> Result<Answer, Memory>
+    ensures { IfOk result (λ a. (a.status ≡ status) × (a.text.items ≡ line.now ++ 10 ∷ [])) }
+{
+    let mut text = Vec::from_slice(alloc, line.as_bytes())?;
+    text.push(b'\n')?;
+    Ok(Answer { status, text })
+}
+
+/// That the file can't be read.
+pub fn unread(alloc: Global, file: &str) -> Result<Answer, Memory>
+    ensures { IfOk result (λ a. (a.status ≡ FILE_UNREAD) × (a.text.items ≡ unread_text file.now)) }
+{
+    let mut text = Vec::from_slice(alloc, b"cannot read ")?;
+    text.extend_from_slice(file.as_bytes())?;
+    text.push(b'\n')?;
+    Ok(Answer {
+        status: FILE_UNREAD,
+        text,
+    })
+}

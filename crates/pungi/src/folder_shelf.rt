@@ -1,0 +1,60 @@
+ghost use Rattle.std.specs.Prelude.{None};
+
+use pungi_base::{Failed, OpenFault, Shelf};
+use std::alloc::Global;
+use std::fs::File;
+use std::io::Read;
+
+/// The files of the system, by their paths. It tells nothing of what they hold.
+#[derive(Drop)]
+pub struct FolderShelf<'a> {
+    files: &'a HostRuntime,
+    opened: Option<File>,
+    faults: u64,
+}
+
+impl<'a> FolderShelf<'a> {
+    pub fn new(files: &'a HostRuntime) -> FolderShelf<'a> {
+        FolderShelf {
+            files,
+            opened: None,
+            faults: 0,
+        }
+    }
+}
+
+impl Shelf for FolderShelf<'_> {
+    ghost texts = { λ _. None };
+
+    ghost rest = { λ _. None };
+
+    ghost given = { λ _. None };
+
+    ghost faults = { λ s. s.faults };
+
+    fn open(&mut self, _alloc: Global, name: &str) -> Result<(), OpenFault> {
+        match File::open(self.files, name) {
+            Ok(file) => {
+                self.opened = Some(file);
+                Ok(())
+            }
+            Err(_) => {
+                self.faults = self.faults.saturating_add(1);
+                Err(OpenFault::Failed)
+            }
+        }
+    }
+
+    fn read(&mut self, buf: &mut [u8]) -> Result<usize, Failed> {
+        let Some(file) = &mut self.opened else {
+            return Ok(0);
+        };
+        match file.read(buf) {
+            Ok(count) => Ok(count),
+            Err(_) => {
+                self.faults = self.faults.saturating_add(1);
+                Err(Failed)
+            }
+        }
+    }
+}

@@ -1,0 +1,48 @@
+//! Judges the functions of one C file of a Python extension module.
+#![tactic(auto)]
+
+mod answer;
+mod examine;
+mod folder_shelf;
+mod out_sink;
+mod read;
+mod settings;
+mod status;
+mod top;
+mod write;
+
+use crate::folder_shelf::FolderShelf;
+use crate::out_sink::OutSink;
+use crate::status::MEMORY_WANTED;
+pub use crate::top::pungi;
+use pungi_base::Memory;
+use std::env;
+use std::io::ErrorKind;
+use std::process::ExitCode;
+
+#[cfg(test)]
+mod tests;
+
+/// The words of the command. Where the system refuses them for another cause than memory, there are none.
+fn words_of(rt: &HostRuntime) -> Result<Vec<String>, Memory> {
+    match env::args(rt) {
+        Ok(words) => Ok(words.collect(rt.alloc())?),
+        Err(error) => {
+            if error.kind() == ErrorKind::OutOfMemory {
+                Err(Memory)
+            } else {
+                Ok(Vec::new(rt.alloc()))
+            }
+        }
+    }
+}
+
+fn main(rt: HostRuntime) -> ExitCode {
+    let words = match words_of(&rt) {
+        Ok(words) => words,
+        Err(Memory) => return ExitCode::from(MEMORY_WANTED),
+    };
+    let mut shelf = FolderShelf::new(&rt);
+    let mut out = OutSink::new(rt.stdout());
+    ExitCode::from(pungi(rt.alloc(), &words, &mut shelf, &mut out))
+}

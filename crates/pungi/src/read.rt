@@ -1,0 +1,50 @@
+ghost use Rattle.std.specs.Prelude.{◌≡◌, ◌≤◌, vec_len, IfOk, Err};
+ghost use Rattle.pungi_base.specs.Shelf.{Rose, Opens};
+ghost use Rattle.pungi.specs.Read.{IsReading};
+
+use pungi_base::{Failed, OpenFault, Shelf};
+use std::alloc::{AllocError, Global};
+
+/// How many bytes a file has at most.
+pub const FILE_LIMIT: usize = 1048576;
+
+/// How many bytes are asked for at a time.
+const PIECE: usize = 65536;
+
+/// What a file holds, or that it is over the limit.
+#[derive(Debug, Drop)]
+pub enum Reading {
+    Text(Vec<u8>),
+    Long,
+}
+
+/// Room for pieces of this many bytes.
+fn room(alloc: Global, size: usize) -> Result<Vec<u8>, AllocError>
+    ensures { IfOk result (λ piece. vec_len piece ≡ size) }
+{
+    vec![in alloc; 0u8; size]
+}
+
+/// Reads the opened text of a name, to its end or until it is over the limit.
+pub fn read_opened<F: Shelf>(alloc: Global, shelf: &mut F, name: &str) -> Result<Reading, OpenFault>
+    requires { Opens (F.texts shelf.old) name.now (F.rest shelf.old) }
+    ensures ok { IfOk result (IsReading (F.texts shelf.old) name.now) }
+    ensures failed { result ≡ Err OpenFault.Failed → Rose (F.faults shelf.old) (F.faults shelf.new) }
+    ensures later { F.faults shelf.old ≤ F.faults shelf.new }
+    ensures texts { F.texts shelf.new ≡ F.texts shelf.old }
+    ensures given { F.given shelf.new ≡ F.given shelf.old }
+{
+    let mut bytes = Vec::new(alloc);
+    let mut piece = room(alloc, PIECE)?;
+    'reads: while bytes.len() <= FILE_LIMIT {
+        let count = match shelf.read(&mut piece) {
+            Ok(count) => count,
+            Err(Failed) => return Err(OpenFault::Failed),
+        };
+        if count == 0 {
+            return Ok(Reading::Text(bytes));
+        }
+        bytes.extend_from_slice(&piece[..count])?;
+    }
+    Ok(Reading::Long)
+}

@@ -1,0 +1,22 @@
+//! The statuses with which the program ends.
+
+/// Every function is clean, also where there is none.
+pub const ALL_CLEAN: u8 = 0;
+
+/// Some function is faulty.
+pub const SOME_FAULTY: u8 = 1;
+
+/// The words of the command are refused.
+pub const WORDS_REFUSED: u8 = 3;
+
+/// The file can't be read.
+pub const FILE_UNREAD: u8 = 4;
+
+/// The text of the answer could not be written whole.
+pub const ANSWER_CUT: u8 = 5;
+
+/// The file is refused.
+pub const FILE_REFUSED: u8 = 6;
+
+/// Memory ran out.
+pub const MEMORY_WANTED: u8 = 8;

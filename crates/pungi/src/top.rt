@@ -1,0 +1,82 @@
+ghost use Rattle.std.specs.Prelude.{◌≡◌, ◌≢◌, ℕ, ◌≤◌, ◌++◌, List, map, string_bytes, IfOk, OnErr};
+ghost use Rattle.pungi_base.specs.Shelf.{Rose};
+ghost use Rattle.pungi_base.specs.Sink.{Takes};
+ghost use Rattle.pungi.specs.Answer.{Answers, IsAsked};
+
+use crate::answer::{Answer, told, unread};
+use crate::examine::examine;
+use crate::read::{Reading, read_opened};
+use crate::settings::file_word;
+use crate::status::{ANSWER_CUT, FILE_REFUSED, MEMORY_WANTED, WORDS_REFUSED};
+use crate::write::write_all;
+use pungi_base::{Memory, OpenFault, Shelf, Sink};
+use std::alloc::Global;
+
+/// What the program answers.
+fn decide<F: Shelf>(alloc: Global, words: &[String], shelf: &mut F) -> Result<Answer, Memory>
+    ensures answer { IfOk result (λ a. Answers (map string_bytes words.now) (F.texts shelf.old) (Rose (F.faults shelf.old) (F.faults shelf.new)) a.status a.text.items) }
+    ensures asked { IfOk result (λ a. IsAsked (map string_bytes words.now) a.status (F.given shelf.old) (F.given shelf.new)) }
+    ensures unasked { OnErr result (IsAsked (map string_bytes words.now) MEMORY_WANTED (F.given shelf.old) (F.given shelf.new)) }
+    ensures later { F.faults shelf.old ≤ F.faults shelf.new }
+    ensures texts { F.texts shelf.new ≡ F.texts shelf.old }
+{
+    let Some(file) = file_word(words) else {
+        return told(
+            alloc,
+            WORDS_REFUSED,
+            "usage: pungi [--config FILE] FILE.c, or pungi --trial N",
+        );
+    };
+    match shelf.open(alloc, file) {
+        Ok(()) => {}
+        Err(OpenFault::Failed) => return unread(alloc, file),
+        Err(OpenFault::Memory) => return Err(Memory),
+    }
+    let text = match read_opened(alloc, shelf, file) {
+        Ok(Reading::Text(text)) => text,
+        Ok(Reading::Long) => return told(alloc, FILE_REFUSED, "file refused over 1048576 bytes"),
+        Err(OpenFault::Failed) => return unread(alloc, file),
+        Err(OpenFault::Memory) => return Err(Memory),
+    };
+    match examine(alloc, &text)? {
+        Some(report) => Ok(report),
+        None => Ok(told(alloc, FILE_REFUSED, "file refused 1:1 not a unit")?),
+    }
+}
+
+/// Judges the functions of the file that the words name, and writes the report. `words[0]` is the program's name. It
+/// answers the status with which the program ends (see `status`).
+///
+/// The claim: where the report calls a function clean, then in every run of the subset's meaning on the file's own
+/// text, for any arguments, API results and failures, every object's count has at each return changed by exactly the
+/// references that escaped. Where it calls one faulty, the printed run is a run of that meaning that returns with some
+/// object's change different.
+pub fn pungi<F: Shelf, O: Sink>(alloc: Global, words: &[String], shelf: &mut F, out: &mut O) -> u8
+    // The status has its cause, and the text that goes with it was written whole.
+    ensures answer { result ≢ ANSWER_CUT → result ≢ MEMORY_WANTED → (text : List ℕ)
+        × Answers (map string_bytes words.now) (F.texts shelf.old) (Rose (F.faults shelf.old) (F.faults shelf.new)) result text
+        × Takes (O.taken out.old) (O.taken out.new) text }
+
+    // A write failed: the sink's count rose, and a front of the text was taken.
+    ensures cut { result ≡ ANSWER_CUT → Rose (O.faults out.old) (O.faults out.new)
+        × ((status : ℕ) × (front : List ℕ) × (rest : List ℕ)
+        × Answers (map string_bytes words.now) (F.texts shelf.old) (Rose (F.faults shelf.old) (F.faults shelf.new)) status (front ++ rest)
+        × Takes (O.taken out.old) (O.taken out.new) front) }
+
+    // For want of memory nothing was written.
+    ensures memory { result ≡ MEMORY_WANTED → O.taken out.new ≡ O.taken out.old }
+
+    // The shelf was asked for no file but the one that the words name.
+    ensures asked { IsAsked (map string_bytes words.now) result (F.given shelf.old) (F.given shelf.new) }
+
+    ensures later { F.faults shelf.old ≤ F.faults shelf.new }
+    ensures texts { F.texts shelf.new ≡ F.texts shelf.old }
+{
+    match decide(alloc, words, shelf) {
+        Err(Memory) => MEMORY_WANTED,
+        Ok(answer) => match write_all(out, &answer.text) {
+            Ok(()) => answer.status,
+            Err(_) => ANSWER_CUT,
+        },
+    }
+}
