@@ -1,3 +1,4 @@
+pub mod Causes
 pub mod Judged
 pub mod LeftToRead
 pub mod Named

@@ -1,6 +1,8 @@
 -- What the program answers: its status, and the text that goes with it.
 --   usage_text .. no_unit_text   the texts of one line
 --   IsRefusal text answer        why a file with this text is refused, and the text that says so
+--   IsRefusedText text           a file with this text is refused
+--   IsFileText words texts text  the shelf tells its texts, and this is the one of the file that the words name
 --   Answers words texts unread status answer
 --                                a status other than the two of a cut answer and of want of memory, with the text that
 --                                goes with it. Each status has its cause
@@ -28,6 +30,13 @@ no_unit_text = codes "file refused 1:1 not a unit" ++ line_end
 
 abbrev pub IsRefusal : List ℕ → List ℕ → Type 0
 IsRefusal text answer = ((FILE_LIMIT < length text) × (answer ≡ long_text)) ⊎ ((length text ≤ FILE_LIMIT) × IsNoUnit text × (answer ≡ no_unit_text))
+
+abbrev pub IsRefusedText : List ℕ → Type 0
+IsRefusedText text = (FILE_LIMIT < length text) ⊎ ((length text ≤ FILE_LIMIT) × IsNoUnit text)
+
+abbrev pub IsFileText : List (List ℕ) → Option (List ℕ → Option (List ℕ)) → List ℕ → Type 0
+IsFileText words None text = ⊥
+IsFileText words (Some texts) text = (file : List ℕ) × (file_of words ≡ Some file) × (texts file ≡ Some text)
 
 pub record Answers (words : List (List ℕ)) (texts : Option (List ℕ → Option (List ℕ))) (unread : Type 0) (status : ℕ) (answer : List ℕ) : Type 0 where
   pub one : (status ≡ ALL_CLEAN) ⊎ (status ≡ SOME_FAULTY) ⊎ (status ≡ WORDS_REFUSED) ⊎ (status ≡ FILE_UNREAD) ⊎ (status ≡ FILE_REFUSED)

@@ -8,7 +8,7 @@ use crate::answer::Answer;
 use crate::read::FILE_LIMIT;
 use crate::status::{ALL_CLEAN, SOME_FAULTY};
 use pungi_base::{Memory, Name, Names, Verdict};
-use pungi_judge::judge_one;
+use pungi_judge::judge;
 use pungi_lex::{LexFault, lex};
 use pungi_report::report;
 use pungi_straight::{Function, ParseFault, parse};
@@ -48,7 +48,7 @@ fn judge_all(alloc: Global, functions: &[Function]) -> Result<Vec<(Name, Verdict
 {
     let mut lines = Vec::new(alloc);
     for function in functions {
-        lines.push((function.name, judge_one(alloc, function)?))?;
+        lines.push((function.name, judge(alloc, function)?))?;
     }
     Ok(lines)
 }

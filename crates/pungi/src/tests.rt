@@ -1,0 +1,164 @@
+use crate::folder_shelf::FolderShelf;
+use crate::out_sink::OutSink;
+use crate::pungi;
+use pungi_base::{Failed, MemShelf, MemSink, Memory, OpenFault, Shelf, Sink, SureShelf, SureSink};
+use std::alloc::Global;
+use std::fs;
+use std::test::Fail;
+
+/// A function that is clean: its one reference is returned, or it was never made.
+const NUMBER: &str = "PyObject *f(PyObject *self, PyObject *args) { return PyLong_FromLong(1); }";
+
+fn words(alloc: Global, list: &[&str]) -> Result<Vec<String>, Memory> {
+    let mut words = Vec::new(alloc);
+    for word in list {
+        words.push(String::from_str(alloc, word)?)?;
+    }
+    Ok(words)
+}
+
+fn named(alloc: Global, text: &[u8]) -> Result<Vec<(String, Vec<u8>)>, Memory> {
+    let mut texts = Vec::new(alloc);
+    texts.push((
+        String::from_str(alloc, "x.c")?,
+        Vec::from_slice(alloc, text)?,
+    ))?;
+    Ok(texts)
+}
+
+/// The status and the text on a file that is read and answered without a fault.
+fn told(alloc: Global, text: &[u8]) -> Result<(u8, Vec<u8>), Memory> {
+    let mut shelf = SureShelf::new(alloc, named(alloc, text)?);
+    let mut out = SureSink::new(alloc, 4096)?;
+    let status = pungi(alloc, &words(alloc, &["pungi", "x.c"])?, &mut shelf, &mut out);
+    Ok((status, Vec::from_slice(alloc, out.bytes())?))
+}
+
+/// The same of `NUMBER`, where the shelf fails at a call, or the sink, which takes four bytes at a time.
+fn failing(alloc: Global, read: u64, write: u64) -> Result<(u8, Vec<u8>), Memory> {
+    let mut shelf = MemShelf::new(
+        alloc,
+        named(alloc, NUMBER.as_bytes())?,
+        vec![in alloc; read]?,
+    );
+    let mut out = MemSink::new(alloc, 64, 4, vec![in alloc; write]?)?;
+    let status = pungi(alloc, &words(alloc, &["pungi", "x.c"])?, &mut shelf, &mut out);
+    Ok((status, Vec::from_slice(alloc, out.bytes())?))
+}
+
+/// Files with one line for each function, or one for the file. Where a function is faulty the lines of its run follow.
+#[test]
+fn reports(rt: HostRuntime) -> Result<(), Fail> {
+    let rows = [
+        ("", 0, ""),
+        (NUMBER, 0, "clean f\n"),
+        (
+            "// a comment\nvoid f(void) { }\n/* and\none more */ void g(PyObject *x) { Py_INCREF(x); Py_DECREF(x); }",
+            0,
+            "clean f\nclean g\n",
+        ),
+        (
+            "PyObject *f(PyObject *self, PyObject *args) { return Py_None; }",
+            1,
+            "faulty f 1:47 object 0 change 0 escaped 1\n  objects ",
+        ),
+        (
+            "PyObject *keep(PyObject *self, PyObject *x) { return Py_NewRef(x); }\nPyObject *lose(PyObject *self, PyObject *x) { Py_INCREF(x); return PyLong_FromLong(1); }",
+            1,
+            "clean keep\nfaulty lose 2:61 object 24 change 1 escaped 0\n  objects ",
+        ),
+        (
+            "void f(PyObject *x) { x = ; }",
+            6,
+            "file refused 1:1 not a unit\n",
+        ),
+        ("void f(PyObject *x) { x", 6, "file refused 1:1 not a unit\n"),
+        ("void f(void) { } /*", 6, "file refused 1:1 not a unit\n"),
+        ("void f(void) { g(); }", 6, "file refused 1:1 not a unit\n"),
+    ];
+    for (text, status, front) in rows {
+        let (found, report) = told(rt.alloc(), text.as_bytes())?;
+        assert_eq!(rt; found, status, "at {text}");
+        assert!(rt; report.starts_with(front.as_bytes()), "at {text}");
+        if status != 1 {
+            assert_eq!(rt; report.len(), front.len(), "at {text}");
+        }
+    }
+    Ok(())
+}
+
+/// 1,048,576 bytes are read, and one more is refused.
+#[test]
+fn limit_of_the_file(rt: HostRuntime) -> Result<(), Fail> {
+    let mut text = vec![in rt.alloc(); b' '; 1048576]?;
+    assert_eq!(rt; told(rt.alloc(), &text)?.0, 0);
+    text.push(b' ')?;
+    let (status, line) = told(rt.alloc(), &text)?;
+    assert_eq!(rt; status, 6);
+    assert_eq!(rt; line.as_slice(), b"file refused over 1048576 bytes\n");
+    Ok(())
+}
+
+/// Each call on the shelf and on the sink fails in turn.
+#[test]
+fn failing_calls(rt: HostRuntime) -> Result<(), Fail> {
+    let rows: [(u64, u64, u8, &[u8]); 7] = [
+        (1, 0, 4, b"cannot read x.c\n"),
+        (2, 0, 4, b"cannot read x.c\n"),
+        (3, 0, 4, b"cannot read x.c\n"),
+        (4, 0, 0, b"clean f\n"),
+        (0, 1, 5, b""),
+        (0, 2, 5, b"clea"),
+        (0, 3, 0, b"clean f\n"),
+    ];
+    for (read, write, status, text) in rows {
+        let (found, bytes) = failing(rt.alloc(), read, write)?;
+        assert_eq!(rt; found, status, "at {read} and {write}");
+        assert_eq!(rt; bytes.as_slice(), text, "at {read} and {write}");
+    }
+    Ok(())
+}
+
+/// Words other than one file give the usage line, and no file is opened.
+#[test]
+fn refused_words(rt: HostRuntime) -> Result<(), Fail> {
+    let alloc = rt.alloc();
+    let lists: [&[&str]; 5] = [
+        &[],
+        &["pungi"],
+        &["pungi", "a.c", "b.c"],
+        &["pungi", "--help"],
+        &["pungi", "-"],
+    ];
+    for list in lists {
+        let mut shelf = SureShelf::new(alloc, Vec::new(alloc));
+        let mut out = SureSink::new(alloc, 64)?;
+        let status = pungi(alloc, &words(alloc, list)?, &mut shelf, &mut out);
+        assert_eq!(rt; status, 3);
+        assert_eq!(rt; out.bytes(), b"usage: pungi [--config FILE] FILE.c, or pungi --trial N\n");
+    }
+    Ok(())
+}
+
+/// The files of the system: one that is written here, and one that isn't there.
+#[test]
+fn folder_shelf(rt: HostRuntime) -> Result<(), Fail> {
+    fs::write(&rt, "one.c", "void f(void) { }")?;
+    let mut shelf = FolderShelf::new(&rt);
+    let mut buf = [0u8; 64];
+    assert_eq!(rt; shelf.read(&mut buf), Ok(0));
+    assert_eq!(rt; shelf.open(rt.alloc(), "none.c"), Err(OpenFault::Failed));
+    assert_eq!(rt; shelf.open(rt.alloc(), "one.c"), Ok(()));
+    assert_eq!(rt; shelf.read(&mut buf), Ok(16));
+    assert_eq!(rt; &buf[..16], b"void f(void) { }");
+    assert_eq!(rt; shelf.read(&mut buf), Ok(0));
+    fs::remove_file(&rt, "one.c")?;
+    Ok(())
+}
+
+#[test]
+fn out_sink(rt: HostRuntime) {
+    let mut out = OutSink::new(rt.stdout());
+    assert_eq!(rt; out.write(b""), Ok(0));
+    assert_eq!(rt; out.write(b"\n"), Ok(1));
+}

@@ -1,13 +1,18 @@
-ghost use Rattle.std.specs.Prelude.{◌≡◌, ◌≢◌, ℕ, ◌≤◌, ◌++◌, List, map, string_bytes, IfOk, OnErr};
+ghost use Rattle.std.specs.Prelude.{◌≡◌, ◌≢◌, ◌⊎◌, ℕ, ◌≤◌, ◌++◌, List, length, map, string_bytes, IfOk, IsNone, OnErr};
 ghost use Rattle.pungi_base.specs.Shelf.{Rose};
 ghost use Rattle.pungi_base.specs.Sink.{Takes};
-ghost use Rattle.pungi.specs.Answer.{Answers, IsAsked};
+ghost use Rattle.pungi_straight.specs.declared.function.Function.{Function};
+ghost use Rattle.pungi.specs.Answer.{Answers, IsAsked, IsFileText, IsRefusedText};
+ghost use Rattle.pungi.specs.Examine.{IsUnit};
+ghost use Rattle.pungi.specs.Settings.{file_of};
 
 use crate::answer::{Answer, told, unread};
 use crate::examine::examine;
-use crate::read::{Reading, read_opened};
+use crate::read::{FILE_LIMIT, Reading, read_opened};
 use crate::settings::file_word;
-use crate::status::{ANSWER_CUT, FILE_REFUSED, MEMORY_WANTED, WORDS_REFUSED};
+use crate::status::{
+    ALL_CLEAN, ANSWER_CUT, FILE_REFUSED, FILE_UNREAD, MEMORY_WANTED, SOME_FAULTY, WORDS_REFUSED,
+};
 use crate::write::write_all;
 use pungi_base::{Memory, OpenFault, Shelf, Sink};
 use std::alloc::Global;
@@ -68,6 +73,14 @@ pub fn pungi<F: Shelf, O: Sink>(alloc: Global, words: &[String], shelf: &mut F, 
 
     // The shelf was asked for no file but the one that the words name.
     ensures asked { IsAsked (map string_bytes words.now) result (F.given shelf.old) (F.given shelf.new) }
+
+    // Where a cause holds, its status comes, unless a call failed or memory ran out.
+    ensures words { IsNone (file_of (map string_bytes words.now)) → result ≢ ANSWER_CUT → result ≢ MEMORY_WANTED → result ≡ WORDS_REFUSED }
+    ensures file { (text : List ℕ) → IsFileText (map string_bytes words.now) (F.texts shelf.old) text → IsRefusedText text
+        → result ≢ FILE_UNREAD → result ≢ ANSWER_CUT → result ≢ MEMORY_WANTED → result ≡ FILE_REFUSED }
+    ensures judged { (text : List ℕ) → IsFileText (map string_bytes words.now) (F.texts shelf.old) text → length text ≤ FILE_LIMIT
+        → (names : List (List ℕ)) → (functions : List Function) → IsUnit text names functions
+        → result ≢ FILE_UNREAD → result ≢ ANSWER_CUT → result ≢ MEMORY_WANTED → (result ≡ ALL_CLEAN) ⊎ (result ≡ SOME_FAULTY) }
 
     ensures later { F.faults shelf.old ≤ F.faults shelf.new }
     ensures texts { F.texts shelf.new ≡ F.texts shelf.old }

@@ -1,0 +1,1 @@
+PyObject *f(PyObject *self, PyObject *args) { return PyLong_FromLong(1); }
