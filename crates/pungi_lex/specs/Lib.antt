@@ -10,6 +10,7 @@ pub mod Line
 pub mod MacroFault
 pub mod Macros
 pub mod Mark
+pub mod MarkTable
 pub mod Number
 pub mod Piece
 pub mod Predefined

@@ -27,7 +27,7 @@ fn expand_tokens(alloc: Global, names: &Names, tokens: &[Token]) -> Result<Vec<T
     ensures fault { IfErr result (λ fault. is_want_of_memory fault ≡ false → HasMacroFault (length names.now) tokens.now fault) }
 {
     let mut table = predefined(alloc, names.len() as u32)?;
-    let mut out = Vec::new(alloc);
+    let mut out = Vec::with_capacity(alloc, tokens.len())?;
     let mut count = 0usize;
     let mut done = 0usize;
     'parts: loop {

@@ -17,6 +17,9 @@ use std::alloc::{AllocError, Global};
 /// The greatest length of a text, in bytes.
 pub const TEXT_LIMIT: usize = 1048576;
 
+/// About how many bytes of a text make a token. The list of tokens is made with room for as many.
+const BYTES_A_TOKEN: usize = 4;
+
 fn fault_at(start: Start, at: Pos) -> LexFault
     ensures { result ≡ fault_told start at }
 {
@@ -74,7 +77,7 @@ fn cut(
     ensures names { AreNames names.old → AreNames names.new }
     ensures room { length names.new ≤ length names.old + length bytes.now }
 {
-    let mut tokens = Vec::new(alloc);
+    let mut tokens = Vec::with_capacity(alloc, bytes.len() / BYTES_A_TOKEN)?;
     let mut line = Line::Fresh;
     let mut touching = false;
     let mut done = 0usize;
