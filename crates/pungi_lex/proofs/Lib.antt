@@ -2,6 +2,8 @@ pub mod CommentLemmas
 pub mod Exact
 pub mod FrameLemmas
 pub mod KindLemmas
+pub mod KnownExpansion
+pub mod KnownTokens
 pub mod MarkLemmas
 pub mod NumberLemmas
 pub mod OneExpansion

@@ -5,6 +5,7 @@ pub mod Directive
 pub mod Expander
 pub mod Frames
 pub mod Join
+pub mod Known
 pub mod Lengths
 pub mod Line
 pub mod MacroFault

@@ -3,6 +3,7 @@ use Rattle.std.proofs.lemmas.List.{length-take}
 use Rattle.pungi_base.specs.declared.words.TheConstants.{KEYWORDS}
 use Rattle.pungi_base.specs.Words.{BeginWithWords, builtin_words}
 use Rattle.pungi_lex.proofs.Exact.{faults_none, tokens_once}
+use Rattle.pungi_lex.proofs.KnownTokens.{tokens_known}
 use Rattle.pungi_lex.proofs.tokens.lex.Goals as goal
 
 keywords_within : (names : List (List ℕ)) → BeginWithWords names → KEYWORDS ≤ length names
@@ -17,3 +18,6 @@ returns-clause-only c = λ after tokens are.
 
 pub returns-clause-none : goal.returns-clause-none
 returns-clause-none c = faults_none c.args.names.now c.args.text.now c.cut_text.result c.cut_text.ensures.fault
+
+pub returns-clause-known : goal.returns-clause-known
+returns-clause-known c = tokens_known (λ found. found.items) c.args.names.now c.cut_text.new.names c.args.text.now c.cut_text.result c.cut_text.ensures.tokens
