@@ -2,9 +2,11 @@ pub mod CommentLemmas
 pub mod Exact
 pub mod FrameLemmas
 pub mod KindLemmas
+pub mod KnownExpansion
+pub mod KnownTokens
 pub mod MarkLemmas
 pub mod NumberLemmas
 pub mod OneExpansion
 pub mod Progress
 pub mod RunLemmas
-pub mod Ranges
+pub mod SizedTokens

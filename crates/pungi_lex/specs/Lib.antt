@@ -5,14 +5,17 @@ pub mod Directive
 pub mod Expander
 pub mod Frames
 pub mod Join
+pub mod Known
 pub mod Lengths
 pub mod Line
 pub mod MacroFault
 pub mod Macros
 pub mod Mark
+pub mod MarkTable
 pub mod Number
 pub mod Piece
 pub mod Predefined
 pub mod Quote
+pub mod Size
 pub mod Start
 pub mod Tokens

@@ -4,11 +4,10 @@
 --   spells start piece              what a piece adds to the names: a word its spelling, a string literal its content
 --   with_texts names texts          these names, and behind them those of the texts that are new, in order
 --   IsPieceAt names start text kind n   the piece at the front of a text has this kind and n bytes
-use Rattle.std.specs.Prelude.{◌≡◌, ◌≤◌, ◌<◌, ℕ, false, List, [], ◌∷◌, length, take, drop, fold, Option, Some, None, is_some, option_map, slice_get, if◌then◌else◌}
+use Rattle.std.specs.Prelude.{◌≡◌, ◌≤◌, ◌<◌, ◌==◌, ℕ, false, List, [], ◌∷◌, length, take, drop, fold, Option, Some, None, is_some, option_map, slice_get, if◌then◌else◌}
 use Rattle.std.specs.List.{prefix_len}
 use Rattle.pungi_base.specs.declared.kind.Kind.{Kind}
 use Rattle.pungi_base.specs.declared.kind.Kind.TheVariants as kind
-use Rattle.pungi_base.specs.declared.punct.Punct.{Punct}
 use Rattle.pungi_base.specs.declared.words.TheConstants.{KEYWORDS}
 use Rattle.pungi_base.specs.Names.{with_text}
 use Rattle.pungi_base.specs.Token.{key_number, punct_text}
@@ -18,13 +17,9 @@ use Rattle.pungi_lex.specs.Bytes.{is_blank, is_in_line, is_word_byte}
 use Rattle.pungi_lex.specs.Character.{char_behind, char_length, char_value}
 use Rattle.pungi_lex.specs.Comment.{close_len}
 use Rattle.pungi_lex.specs.Lengths.{add_to}
-use Rattle.pungi_lex.specs.Mark.{mark_at}
+use Rattle.pungi_lex.specs.Mark.{mark_len}
 use Rattle.pungi_lex.specs.Number.{number_kind, number_len}
 use Rattle.pungi_lex.specs.Quote.{quote_len, content}
-
-abbrev pub mark_length : Option Punct → Option ℕ
-mark_length None = None
-mark_length (Some punct) = Some (length (punct_text punct))
 
 abbrev pub length_at : Start → List ℕ → Option ℕ
 length_at start.Header text = Some (prefix_len is_in_line text)
@@ -35,7 +30,7 @@ length_at start.Word text = Some (prefix_len is_word_byte text)
 length_at start.Number text = if is_some (number_kind (take (number_len text) text)) then Some (number_len text) else None
 length_at start.Char text = char_length (char_behind (drop 1 text))
 length_at start.Text text = add_to 1 (quote_len false (drop 1 text))
-length_at start.Mark text = mark_length (mark_at text)
+length_at start.Mark text = if mark_len text == 0 then None else Some (mark_len text)
 length_at start.Nothing text = None
 
 -- a keyword, or another word

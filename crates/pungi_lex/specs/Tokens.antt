@@ -10,12 +10,9 @@
 --   HasFault text fault       the text is cut as far as a place, and nothing of what begins there is whole
 --   HasNoTokens before text   the text has no tokens under these names
 --   is_memory fault           the text was refused for want of memory
---   IsInRange names kind     the word or content that the kind tells is among the names, and an integer constant that is
---                            not long is below 2 to the 31
-use Rattle.std.specs.Prelude.{◌≡◌, ◌≢◌, ℕ, ◌+◌, ◌<◌, ◌^◌, pos, Bool, true, false, List, [], ◌∷◌, ◌++◌, length, Option, Some, None}
+use Rattle.std.specs.Prelude.{◌≡◌, ◌≢◌, ℕ, ◌+◌, Bool, true, false, List, [], ◌∷◌, ◌++◌, length, Option, Some, None}
 use Rattle.pungi_base.specs.declared.pos.Pos.{Pos}
 use Rattle.pungi_base.specs.declared.kind.Kind.{Kind}
-use Rattle.pungi_base.specs.declared.kind.Kind.TheVariants as kind
 use Rattle.pungi_base.specs.declared.token.Token.{Token}
 use Rattle.pungi_lex.specs.declared.line.Line.{Line}
 use Rattle.pungi_lex.specs.declared.line.Line.TheVariants as lines
@@ -115,13 +112,3 @@ is_memory (fault.Number at) = false
 -- why bytes are refused, but for want of memory
 abbrev pub IsRefused : List ℕ → (ℕ → Pos) → LexFault → Type 0
 IsRefused bytes place found = is_memory found ≡ false → IsStuck bytes place found
-
-abbrev pub IsInRange : List (List ℕ) → Kind → Type 0
-IsInRange names (kind.Key key) = Unit {0}
-IsInRange names (kind.Word name) = name.0 < length names
-IsInRange names (kind.Int value long unsigned) = (n : ℕ) × (value ≡ pos n) × (long ≡ false → n < 2 ^ 31)
-IsInRange names kind.Float = Unit {0}
-IsInRange names (kind.Char b) = Unit {0}
-IsInRange names (kind.Text name) = name.0 < length names
-IsInRange names (kind.Punct punct) = Unit {0}
-IsInRange names kind.Header = Unit {0}

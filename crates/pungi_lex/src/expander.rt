@@ -3,6 +3,7 @@ ghost use Rattle.std.specs.List.{prefix_len};
 ghost use Rattle.pungi_base.specs.declared.token.Token.{Token as TheToken};
 ghost use Rattle.pungi_base.specs.Words.{BeginWithWords};
 ghost use Rattle.pungi_lex.specs.Expander.{IsExpanded, HasMacroFault, HasNoExpansion};
+ghost use Rattle.pungi_lex.specs.Known.{AreKnown};
 ghost use Rattle.pungi_lex.specs.MacroFault.{is_want_of_memory};
 
 use crate::directive::{is_hash, obey, token_at};
@@ -27,7 +28,7 @@ fn expand_tokens(alloc: Global, names: &Names, tokens: &[Token]) -> Result<Vec<T
     ensures fault { IfErr result (λ fault. is_want_of_memory fault ≡ false → HasMacroFault (length names.now) tokens.now fault) }
 {
     let mut table = predefined(alloc, names.len() as u32)?;
-    let mut out = Vec::new(alloc);
+    let mut out = Vec::with_capacity(alloc, tokens.len())?;
     let mut count = 0usize;
     let mut done = 0usize;
     'parts: loop {
@@ -64,6 +65,7 @@ pub fn expand(alloc: Global, names: &Names, tokens: &[Token]) -> Result<Vec<Toke
     ensures expanded { IfOk result (λ out. IsExpanded (length names.now) tokens.now out.items) }
     ensures only { (other : List TheToken) → IsExpanded (length names.now) tokens.now other → IfOk result (λ out. other ≡ out.items) }
     ensures within { IfOk result (λ out. length out.items ≤ TOKEN_LIMIT) }
+    ensures known { AreKnown (length names.now) tokens.now → IfOk result (λ out. AreKnown (length names.now) out.items) }
     ensures fault { IfErr result (λ fault. is_want_of_memory fault ≡ false → HasMacroFault (length names.now) tokens.now fault) }
     ensures none { IfErr result (λ fault. is_want_of_memory fault ≡ false → HasNoExpansion (length names.now) tokens.now) }
 {

@@ -66,8 +66,8 @@ pub(crate) fn join(alloc: Global, text: &[u8]) -> Result<Joined, AllocError>
     ensures same { IfOk result (λ j. length j.places.items ≡ length j.bytes.items) }
     ensures short { IfOk result (λ j. length j.bytes.items ≤ length text.now) }
 {
-    let mut bytes = Vec::new(alloc);
-    let mut places = Vec::new(alloc);
+    let mut bytes = Vec::with_capacity(alloc, text.len())?;
+    let mut places = Vec::with_capacity(alloc, text.len())?;
     let mut at = Pos { line: 1, col: 1 };
     let mut left = 0usize;
     for i in 0..text.len() {

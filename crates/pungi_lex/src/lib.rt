@@ -19,6 +19,8 @@ mod piece;
 mod predefined;
 mod quote;
 mod start;
+#[cfg(test)]
+mod tests;
 mod tokens;
 
 pub use expander::expand;

@@ -1,8 +1,7 @@
-ghost use Rattle.std.specs.Prelude.{◌≡◌, ◌≤◌, ◌<◌, IfSome, true, [], ◌∷◌, take, length};
+ghost use Rattle.std.specs.Prelude.{◌≡◌, ◌≤◌, ◌<◌, IfSome, MatchOption, [], ◌∷◌, take, length};
 ghost use Rattle.pungi_base.specs.Token.{punct_text as text_of_punct};
-ghost use Rattle.pungi_base.specs.declared.punct.Punct.{Punct as ThePunct};
-ghost use Rattle.pungi_lex.specs.Bytes.{begins_with};
-ghost use Rattle.pungi_lex.specs.Mark.{mark_one as one, mark_two as two, mark_three as three, mark_at};
+ghost use Rattle.pungi_lex.specs.Mark.{mark_len};
+ghost use Rattle.pungi_lex.specs.MarkTable.{mark_one as one, mark_two as two, mark_three as three, mark_at};
 
 use pungi_base::Punct;
 
@@ -148,11 +147,10 @@ fn mark_found(text: &[u8]) -> Option<Punct>
 
 /// The longest punctuator at the front of a text.
 pub(crate) fn longest_mark(text: &[u8]) -> Option<Punct>
-    ensures mark { result ≡ mark_at text.now }
+    ensures longest { MatchOption result (mark_len text.now ≡ 0) (λ punct. length (text_of_punct punct) ≡ mark_len text.now) }
     ensures spelled { IfSome result (λ punct. text_of_punct punct ≡ take (length (text_of_punct punct)) text.now) }
     ensures within { IfSome result (λ punct. length (text_of_punct punct) ≤ length text.now) }
     ensures some { IfSome result (λ punct. 0 < length (text_of_punct punct)) }
-    ensures longest { (other : ThePunct) → begins_with (text_of_punct other) text.now ≡ true → IfSome result (λ punct. length (text_of_punct other) ≤ length (text_of_punct punct)) }
 {
     mark_found(text)
 }

@@ -76,7 +76,7 @@ fn first_entry(alloc: Global, name: u32) -> Result<Option<Body>, AllocError>
 pub(crate) fn predefined(alloc: Global, count: u32) -> Result<Vec<Option<Body>>, AllocError>
     ensures { IfOk result (λ table. table.items ≡ first_macros count) }
 {
-    let mut table = Vec::new(alloc);
+    let mut table = Vec::with_capacity(alloc, count as usize)?;
     for name in 0..count {
         table.push(first_entry(alloc, name)?)?;
     }

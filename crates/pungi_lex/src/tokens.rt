@@ -3,8 +3,9 @@ ghost use Rattle.pungi_base.specs.declared.token.Token.{Token as TheToken};
 ghost use Rattle.pungi_base.specs.Names.{AreNames, Extends};
 ghost use Rattle.pungi_base.specs.Words.{BeginWithWords};
 ghost use Rattle.pungi_lex.specs.Join.{place_in};
-ghost use Rattle.pungi_lex.specs.Tokens.{AreTokens, AreTokensOf, IsRefused, HasFault, HasNoTokens, is_memory, token_of, IsInRange, fault_at as fault_told};
-ghost use Rattle.std.specs.List.{All};
+ghost use Rattle.pungi_lex.specs.Known.{AreKnown};
+ghost use Rattle.pungi_lex.specs.Size.{AreSized};
+ghost use Rattle.pungi_lex.specs.Tokens.{AreTokens, AreTokensOf, IsRefused, HasFault, HasNoTokens, is_memory, token_of, fault_at as fault_told};
 
 use crate::join::join;
 use crate::lex_fault::LexFault;
@@ -17,6 +18,9 @@ use std::alloc::{AllocError, Global};
 
 /// The greatest length of a text, in bytes.
 pub const TEXT_LIMIT: usize = 1048576;
+
+/// About how many bytes of a text make a token. The list of tokens is made with room for as many.
+const BYTES_A_TOKEN: usize = 4;
 
 fn fault_at(start: Start, at: Pos) -> LexFault
     ensures { result ≡ fault_told start at }
@@ -77,7 +81,7 @@ fn cut(
     ensures names { AreNames names.old → AreNames names.new }
     ensures room { length names.new ≤ length names.old + length bytes.now }
 {
-    let mut tokens = Vec::new(alloc);
+    let mut tokens = Vec::with_capacity(alloc, bytes.len() / BYTES_A_TOKEN)?;
     let mut line = Line::Fresh;
     let mut touching = false;
     let mut done = 0usize;
@@ -134,7 +138,8 @@ pub fn lex(alloc: Global, names: &mut Names, text: &[u8]) -> Result<Vec<Token>, 
     ensures tokens { IfOk result (λ tokens. AreTokensOf names.old names.new text.now tokens.items) }
     ensures only { (after : List (List ℕ)) → (tokens : List TheToken) → AreTokensOf names.old after text.now tokens → IfOk result (λ found. (after ≡ names.new) × (tokens ≡ found.items)) }
     ensures few { IfOk result (λ tokens. length tokens.items ≤ length text.now) }
-    ensures in_range { IfOk result (λ tokens. All (λ token. IsInRange names.new token.kind) tokens.items) }
+    ensures known { IfOk result (λ tokens. AreKnown (length names.new) tokens.items) }
+    ensures sized { IfOk result (λ tokens. AreSized tokens.items) }
     ensures fault { IfErr result (λ fault. is_memory fault ≡ false → HasFault text.now fault) }
     ensures none { IfErr result (λ fault. is_memory fault ≡ false → HasNoTokens names.old text.now) }
     ensures grows { Extends names.old names.new }

@@ -1,5 +1,6 @@
 use Rattle.std.proofs.Common.{length}
 use Rattle.pungi_lex.proofs.OneExpansion.{expanded_once, expanded_within, faults_none}
+use Rattle.pungi_lex.proofs.KnownExpansion.{expansion_known}
 use Rattle.pungi_lex.proofs.expander.expand.Goals as goal
 
 pub returns-clause-only : goal.returns-clause-only
@@ -10,3 +11,6 @@ returns-clause-within c = expanded_within (λ out. out.items) (length c.args.nam
 
 pub returns-clause-none : goal.returns-clause-none
 returns-clause-none c = faults_none (length c.args.names.now) c.args.tokens.now c.expand_tokens.result c.expand_tokens.ensures.fault
+
+pub returns-clause-known : goal.returns-clause-known
+returns-clause-known c = λ known. expansion_known (λ out. out.items) c.args.names.now c.args.tokens.now c.expand_tokens.result c.requires.words known c.expand_tokens.ensures.expanded
