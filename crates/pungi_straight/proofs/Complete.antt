@@ -1,6 +1,5 @@
 -- What stands at the front of the tokens is read, production by production.
-use Rattle.std.proofs.Common.{◌≡◌, ℕ, pos, Bool, true, false, List, [], ◌∷◌, ◌++◌, map, Option, Some, None, refl, sym, ◌∙◌, ap, subst, append_assoc}
-use Rattle.std.specs.Prelude.{◌==◌, if◌then◌else◌}
+use Rattle.std.proofs.Common.{◌≡◌, Bool, true, false, List, [], ◌∷◌, ◌++◌, map, Option, Some, None, refl, append_assoc}
 use Rattle.std.specs.List.{flat_map}
 use Rattle.pungi_base.specs.declared.key.Key.TheVariants as key
 use Rattle.pungi_base.specs.declared.punct.Punct.TheVariants as punct
@@ -8,10 +7,9 @@ use Rattle.pungi_base.specs.declared.kind.Kind.TheVariants as kind
 use Rattle.pungi_base.specs.declared.names.Name.{Name}
 use Rattle.pungi_base.specs.declared.pos.Pos.{Pos}
 use Rattle.pungi_base.specs.declared.token.Token.{Token}
-use Rattle.pungi_base.specs.declared.words.TheConstants.{PY_OBJECT}
-use Rattle.pungi_straight.specs.Cursor.{Read, ◌>>=◌, chain, on_some, when, eat_punct, eat_key, eat_word, eat_number, all_of}
-use Rattle.pungi_straight.specs.Grammar.{Leaf, key_leaf, punct_leaf, word_leaf, separated, object_star, argument_leaf, call_leaves, source_leaves, statement_leaves, more_params, params_leaves, local_leaves, function_leaves, unit_leaves}
-use Rattle.pungi_straight.specs.Parser.{read_argument, read_next_argument, list_with, read_arguments, read_call, read_source, read_source_end, read_returned, read_assignment, read_statement, read_object_star, read_parameter, read_next_parameter, read_parameters, read_local, read_head, read_signature, read_body, read_function, read_unit, if_empty}
+use Rattle.pungi_straight.specs.Cursor.{chain, on_some, when, eat_punct, eat_key, eat_word}
+use Rattle.pungi_straight.specs.Grammar.{Leaf, punct_leaf, separated, argument_leaf, call_leaves, source_leaves, statement_leaves, params_leaves, local_leaves, function_leaves, unit_leaves}
+use Rattle.pungi_straight.specs.Parser.{read_argument, read_next_argument, list_with, read_arguments, read_call, read_source, read_source_end, read_returned, read_assignment, read_statement, read_object_star, read_parameter, read_next_parameter, read_parameters, read_local, read_head, read_signature, read_body, read_function, read_unit}
 use Rattle.pungi_straight.specs.declared.argument.Argument.{Argument}
 use Rattle.pungi_straight.specs.declared.argument.Argument.TheVariants as argument
 use Rattle.pungi_straight.specs.declared.call.Call.{Call}
@@ -20,7 +18,7 @@ use Rattle.pungi_straight.specs.declared.source.Source.TheVariants as source
 use Rattle.pungi_straight.specs.declared.statement.Statement.{Statement}
 use Rattle.pungi_straight.specs.declared.statement.Statement.TheVariants as statement
 use Rattle.pungi_straight.specs.declared.function.Function.{Function}
-use Rattle.pungi_straight.proofs.Spells.{Spells, Front, front, spells_split, spells_end}
+use Rattle.pungi_straight.proofs.Spells.{Spells, front, spells_split, spells_end}
 use Rattle.pungi_straight.proofs.Lists.{Complete, all_complete}
 use Rattle.pungi_straight.proofs.Shrinks.{next_argument_shrinks, next_parameter_shrinks, local_shrinks, statement_shrinks, function_shrinks}
 use Rattle.pungi_straight.proofs.Sound.{next_argument_leaves, separated_flat, param_leaves, next_param_leaves, more_flat, head_leaves, signature_leaves, body_leaves, function_flat}

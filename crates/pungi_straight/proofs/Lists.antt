@@ -1,5 +1,5 @@
 -- Lists of leaves, read by what is read again and again.
-use Rattle.std.proofs.Common.{◌≡◌, ℕ, zero, suc, List, [], ◌∷◌, ◌++◌, Option, Some, None, refl, sym, ◌∙◌, ap}
+use Rattle.std.proofs.Common.{◌≡◌, ℕ, zero, suc, List, [], ◌∷◌, Some, None, refl}
 use Rattle.std.specs.List.{flat_map}
 use Rattle.pungi_base.specs.declared.token.Token.{Token}
 use Rattle.pungi_straight.specs.Cursor.{Read, on_some, many, all_of}

@@ -1,8 +1,8 @@
 -- What is read again and again, and the loops that do so.
-use Rattle.std.proofs.Common.{◌≡◌, ℕ, zero, suc, ◌+◌, ◌<◌, ◌≤◌, List, [], ◌∷◌, ◌++◌, length, Option, Some, None, refl, sym, ◌∙◌, append_assoc, arith}
+use Rattle.std.proofs.Common.{◌≡◌, ℕ, zero, suc, ◌<◌, ◌≤◌, List, [], ◌∷◌, ◌++◌, length, Some, None, refl, sym, ◌∙◌, append_assoc, arith}
 use Rattle.std.proofs.lemmas.List.{append-nil}
 use Rattle.pungi_base.specs.declared.token.Token.{Token}
-use Rattle.pungi_straight.specs.Cursor.{Read, ◌>>=◌, chain, on_some, many, all_of}
+use Rattle.pungi_straight.specs.Cursor.{Read, on_some, many, all_of}
 
 -- a reading takes tokens
 abbrev pub Shrinks : {A : Type 0} → (List Token → Read A) → Type 0

@@ -1,19 +1,15 @@
 -- Names told apart one after another.
-use Rattle.std.proofs.Common.{◌≡◌, ℕ, ◌+◌, ◌≤◌, ◌-◌, Bool, true, false, List, [], ◌∷◌, ◌++◌, length, refl, sym, ◌∙◌, ap, append_assoc, arith}
-use Rattle.std.specs.Prelude.{if◌then◌else◌, not, ◌&&◌, ◌||◌, ◌==◌, nat_le, sum_by, count_by, None, Some}
-use Rattle.std.specs.List.{list_all, list_any}
+use Rattle.std.proofs.Common.{◌≡◌, ℕ, Bool, true, false, List, [], ◌∷◌, ◌++◌, refl, sym, ◌∙◌, ap, append_assoc, arith}
+use Rattle.std.specs.Prelude.{if◌then◌else◌, not, ◌&&◌, ◌||◌, ◌==◌, None, Some}
+use Rattle.std.specs.List.{list_all}
 use Rattle.std.proofs.lemmas.Bool.Decides.{nat_tests}
 use Rattle.std.proofs.lemmas.List.Folds.{list_all-append}
-use Rattle.std.proofs.lemmas.List.Sums.{sum_by-cons}
 use Rattle.std.proofs.lemmas.List.{append-nil}
 use Rattle.pungi_base.specs.declared.names.Name.{Name}
-use Rattle.pungi_straight.specs.declared.source.Source.{Source}
-use Rattle.pungi_straight.specs.declared.source.Source.TheVariants as source
-use Rattle.pungi_straight.specs.declared.statement.Statement.{Statement}
-use Rattle.pungi_straight.specs.declared.statement.Statement.TheVariants as statement
 use Rattle.pungi_straight.specs.declared.function.Function.{Function}
-use Rattle.pungi_straight.specs.Form.{is_one_of, all_differ, variables, is_free, is_statement, statement_calls, source_calls, call_limit, is_first_form}
-use Rattle.pungi_straight.specs.NameSet.{are_new, is_allowed, passes}
+use Rattle.pungi_straight.specs.Form.{is_one_of, all_differ, variables, is_free, is_first_form}
+use Rattle.pungi_straight.specs.FormTests.{is_allowed, passes}
+use Rattle.pungi_straight.specs.NameSet.{are_new}
 
 same_sym : (m n : ℕ) → (m == n) ≡ (n == m)
 same_sym m n = grind (arith, nat_tests)
@@ -110,7 +106,7 @@ regroup_tests true false true false p l g n s c h = rw h refl
 first_form_tests : (earlier : List Name) (f : Function) → (all_differ (variables f) && passes earlier (variables f) f) ≡ is_first_form earlier f
 first_form_tests earlier f =
     let both : (list_all (is_allowed earlier) f.params && list_all (is_allowed earlier) f.locals) ≡ (list_all is_free (variables f) && none_in earlier (variables f)) =
-      sym (list_all-append (is_allowed earlier) f.params f.locals) ∙ allowed_all earlier (variables f) in
+    sym (list_all-append (is_allowed earlier) f.params f.locals) ∙ allowed_all earlier (variables f) in
     regroup_tests (all_differ (variables f)) (is_one_of (variables f) f.name) (is_free f.name) (is_one_of earlier f.name) _ _ _ _ _ _ both
 
 none_at : (d : Bool) (p q : Bool) (vars : List Name) → (d && p) ≡ q → None ≡ (if d then Some vars else None) → false ≡ q

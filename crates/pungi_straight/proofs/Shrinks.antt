@@ -1,15 +1,12 @@
 -- What is read takes tokens, so the loops end.
-use Rattle.std.proofs.Common.{◌≡◌, ℕ, ◌<◌, Bool, true, false, List, [], ◌∷◌, ◌++◌, length, Option, Some, None}
+use Rattle.std.proofs.Common.{◌<◌, Bool, true, false, List, [], ◌∷◌, ◌++◌, length, Some, None}
 use Rattle.std.specs.Prelude.{if◌then◌else◌}
-use Rattle.std.specs.List.{flat_map}
 use Rattle.pungi_base.specs.declared.key.Key.TheVariants as key
 use Rattle.pungi_base.specs.declared.token.Token.{Token}
-use Rattle.pungi_straight.specs.Cursor.{Read}
-use Rattle.pungi_straight.specs.Grammar.{Leaf, key_leaf, object_star, statement_leaves, function_leaves, params_leaves}
+use Rattle.pungi_straight.specs.Grammar.{Leaf, key_leaf, object_star, statement_leaves}
 use Rattle.pungi_straight.specs.Parser.{read_next_argument, read_statement, read_next_parameter, read_local, read_function}
 use Rattle.pungi_straight.specs.declared.statement.Statement.{Statement}
 use Rattle.pungi_straight.specs.declared.statement.Statement.TheVariants as statement
-use Rattle.pungi_straight.specs.declared.function.Function.{Function}
 use Rattle.pungi_straight.proofs.Loops.{Shrinks}
 use Rattle.pungi_straight.proofs.Spells.{Spells, spells_shorter}
 use Rattle.pungi_straight.proofs.Sound.{next_argument_sound, next_parameter_sound, local_sound, statement_sound, function_sound}

@@ -1,5 +1,5 @@
 -- What is read stands at the front of the tokens, production by production.
-use Rattle.std.proofs.Common.{◌≡◌, ℕ, pos, Bool, true, false, cond, inl, inr, List, [], ◌∷◌, ◌++◌, map, Option, Some, None, refl, sym, ◌∙◌, ap, subst, append_assoc, arith}
+use Rattle.std.proofs.Common.{◌≡◌, ℕ, Bool, true, false, inl, inr, List, [], ◌∷◌, ◌++◌, map, Some, None, refl, ap, append_assoc, arith}
 use Rattle.std.specs.Prelude.{◌==◌, if◌then◌else◌}
 use Rattle.std.specs.List.{flat_map}
 use Rattle.std.proofs.lemmas.Bool.Decides.{nat_tests}
@@ -10,18 +10,15 @@ use Rattle.pungi_base.specs.declared.names.Name.{Name}
 use Rattle.pungi_base.specs.declared.pos.Pos.{Pos}
 use Rattle.pungi_base.specs.declared.token.Token.{Token}
 use Rattle.pungi_base.specs.declared.words.TheConstants.{PY_OBJECT}
-use Rattle.pungi_straight.specs.Cursor.{Read, ◌>>=◌, chain, on_some, when, eat_punct, eat_key, eat_word, eat_number, all_of}
 use Rattle.pungi_straight.specs.Grammar.{Leaf, key_leaf, punct_leaf, word_leaf, separated, object_star, argument_leaf, call_leaves, source_leaves, statement_leaves, more_params, params_leaves, local_leaves, function_leaves, unit_leaves}
 use Rattle.pungi_straight.specs.Parser.{read_argument, read_next_argument, list_with, read_arguments, read_call, read_source, read_source_end, read_returned, read_assignment, read_statement, read_object_star, read_parameter, read_next_parameter, read_parameters, read_local, read_head, read_signature, read_body, read_function, read_unit, if_empty}
 use Rattle.pungi_straight.specs.declared.argument.Argument.{Argument}
 use Rattle.pungi_straight.specs.declared.argument.Argument.TheVariants as argument
-use Rattle.pungi_straight.specs.declared.call.Call.{Call}
-use Rattle.pungi_straight.specs.declared.source.Source.{Source}
 use Rattle.pungi_straight.specs.declared.source.Source.TheVariants as source
 use Rattle.pungi_straight.specs.declared.statement.Statement.{Statement}
 use Rattle.pungi_straight.specs.declared.statement.Statement.TheVariants as statement
 use Rattle.pungi_straight.specs.declared.function.Function.{Function}
-use Rattle.pungi_straight.proofs.Spells.{Spells, bind_some, on_some_cases, when_some, spells_nothing, spells_join, spells_end, word_here, word_here_at, punct_here, punct_here_at, key_here, key_here_at, number_here}
+use Rattle.pungi_straight.proofs.Spells.{Spells, bind_some, on_some_cases, when_some, spells_nothing, spells_join, word_here, word_here_at, punct_here, punct_here_at, key_here, key_here_at, number_here}
 use Rattle.pungi_straight.proofs.Lists.{Sound, all_sound}
 
 -- an argument after a comma
@@ -67,12 +64,12 @@ unfolding read_argument
 argument_sound ts x h = elim (on_some_cases _ _ _ _ h) [
   | inl w ↦ let e : (argument.Word w.0.0, w.0.2) ≡ x = cc in rw (← e) (word_here ts w.0 w.1)
   | inr n ↦ elim (on_some_cases _ _ _ _ n.1) [
-      | inl k ↦ let e : (argument.Null, k.0.1) ≡ x = cc in rw (← e) (key_here key.Null ts k.0 k.1)
-      | inr m ↦
-          let v = bind_some _ _ _ m.1 in
-          let e : (argument.Number v.0.0, v.0.1) ≡ x = cc in
-          rw (← e) (number_here ts v.0 v.1)
-    ]
+    | inl k ↦ let e : (argument.Null, k.0.1) ≡ x = cc in rw (← e) (key_here key.Null ts k.0 k.1)
+    | inr m ↦
+        let v = bind_some _ _ _ m.1 in
+        let e : (argument.Number v.0.0, v.0.1) ≡ x = cc in
+        rw (← e) (number_here ts v.0 v.1)
+  ]
 ]
 
 pub next_argument_sound : Sound read_next_argument next_argument_leaves
@@ -102,19 +99,19 @@ call_sound ts x h =
     let e : (record { pos = w.0.1; name = w.0.0; args = a.0.0 }, c.0.1) ≡ x = cc in
     rw (← e)
     (spells_join (word_here_at ts w.0 w.1) (spells_join (punct_here punct.LeftParen w.0.2 o.0 o.1)
-      (spells_join (arguments_sound o.0.1 a.0 a.1) (punct_here punct.RightParen a.0.1 c.0 c.1))))
+    (spells_join (arguments_sound o.0.1 a.0 a.1) (punct_here punct.RightParen a.0.1 c.0 c.1))))
 
 pub source_sound : Sound read_source source_leaves
 unfolding read_source
 source_sound ts x h = elim (on_some_cases _ _ _ _ h) [
   | inl k ↦ let e : (source.Null, k.0.1) ≡ x = cc in rw (← e) (key_here key.Null ts k.0 k.1)
   | inr n ↦ elim (on_some_cases _ _ _ _ n.1) [
-      | inl c ↦ let e : (source.Call c.0.0, c.0.1) ≡ x = cc in rw (← e) (call_sound ts c.0 c.1)
-      | inr m ↦
-          let w = bind_some _ _ _ m.1 in
-          let e : (source.Word w.0.0, w.0.2) ≡ x = cc in
-          rw (← e) (word_here ts w.0 w.1)
-    ]
+    | inl c ↦ let e : (source.Call c.0.0, c.0.1) ≡ x = cc in rw (← e) (call_sound ts c.0 c.1)
+    | inr m ↦
+        let w = bind_some _ _ _ m.1 in
+        let e : (source.Word w.0.0, w.0.2) ≡ x = cc in
+        rw (← e) (word_here ts w.0 w.1)
+  ]
 ]
 
 pub source_end_sound : Sound read_source_end (λ v. source_leaves v ++ punct_leaf punct.Semicolon ∷ [])
@@ -150,12 +147,12 @@ unfolding read_statement
 statement_sound ts x h = elim (on_some_cases _ _ _ _ h) [
   | inl k ↦ returned_sound ts k.0.1 k.0.0 x (key_here_at key.Return ts k.0 k.1) k.2
   | inr n ↦ elim (on_some_cases _ _ _ _ n.1) [
-      | inl c ↦
-          let s = bind_some _ _ _ c.2 in
-          let e : (statement.Call c.0.0, s.0.1) ≡ x = cc in
-          rw (← e) (spells_join (call_sound ts c.0 c.1) (punct_here punct.Semicolon c.0.1 s.0 s.1))
-      | inr m ↦ assignment_sound ts x m.1
-    ]
+    | inl c ↦
+        let s = bind_some _ _ _ c.2 in
+        let e : (statement.Call c.0.0, s.0.1) ≡ x = cc in
+        rw (← e) (spells_join (call_sound ts c.0 c.1) (punct_here punct.Semicolon c.0.1 s.0 s.1))
+    | inr m ↦ assignment_sound ts x m.1
+  ]
 ]
 
 word_of : (n : Name) (k : ℕ) → (n.0 == k) ≡ true → n ≡ record { 0 = k }
@@ -228,7 +225,7 @@ signature_sound ts x h =
     let e : (d.0.0, d.0.1, p.0.0, c.0.1) ≡ x = cc in
     rw (← e)
     (spells_join (head_sound ts d.0 d.1) (spells_join (punct_here punct.LeftParen d.0.2 o.0 o.1)
-      (spells_join (parameters_sound o.0.1 p.0 p.1) (punct_here punct.RightParen p.0.1 c.0 c.1))))
+    (spells_join (parameters_sound o.0.1 p.0 p.1) (punct_here punct.RightParen p.0.1 c.0 c.1))))
 
 body_sound : (ts : List Token) (x : List Name × List Statement × Pos × List Token) → read_body ts ≡ Some x → Spells (body_leaves x.0 x.1 x.2) ts x.3
 unfolding read_body
@@ -240,7 +237,7 @@ body_sound ts x h =
     let e : (l.0.0, s.0.0, c.0.0, c.0.1) ≡ x = cc in
     rw (← e)
     (spells_join (punct_here punct.LeftBrace ts b.0 b.1) (spells_join (all_sound read_local local_leaves local_sound b.0.1 l.0 l.1)
-      (spells_join (all_sound read_statement statement_leaves statement_sound l.0.1 s.0 s.1) (punct_here_at punct.RightBrace s.0.1 c.0 c.1))))
+    (spells_join (all_sound read_statement statement_leaves statement_sound l.0.1 s.0 s.1) (punct_here_at punct.RightBrace s.0.1 c.0 c.1))))
 
 pub function_sound : Sound read_function function_leaves
 unfolding read_function

@@ -1,7 +1,7 @@
 -- Leaves at the front of a list of tokens, and what is eaten there.
-use Rattle.std.proofs.Common.{◌≡◌, ℕ, zero, suc, pos, negsuc, ◌+◌, ◌<◌, ◌≤◌, ◌⊎◌, inl, inr, Bool, true, false, cond, List, [], ◌∷◌, ◌++◌, length, Option, Some, None, refl, sym, ◌∙◌, ap, subst, rules, arith}
-use Rattle.std.specs.Prelude.{ℤ, IfSome, nat_lt, ◌&&◌, ◌||◌, ◌^◌}
-use Rattle.std.specs.List.{list_all, AllZip}
+use Rattle.std.proofs.Common.{◌≡◌, ℕ, pos, negsuc, ◌+◌, ◌<◌, ◌⊎◌, inl, inr, Bool, true, false, cond, List, [], ◌∷◌, ◌++◌, length, Option, Some, None, refl, ◌∙◌, ap, subst, rules, arith}
+use Rattle.std.specs.Prelude.{ℤ, IfSome, nat_lt, ◌&&◌, ◌^◌}
+use Rattle.std.specs.List.{AllZip}
 use denote.Enum.Bare.{sameb, same_true}
 use Rattle.pungi_base.specs.declared.key.Key.{Key}
 use Rattle.pungi_base.specs.contracts.key.Key.{the_type as the_keys}
@@ -12,7 +12,7 @@ use Rattle.pungi_base.specs.declared.kind.Kind.TheVariants as kind
 use Rattle.pungi_base.specs.declared.names.Name.{Name}
 use Rattle.pungi_base.specs.declared.pos.Pos.{Pos}
 use Rattle.pungi_base.specs.declared.token.Token.{Token}
-use Rattle.pungi_straight.specs.Cursor.{Read, ◌>>=◌, chain, on_some, when, eat_punct, eat_key, eat_word, eat_number, punct_at, key_at, word_at, number_at, as_u32}
+use Rattle.pungi_straight.specs.Cursor.{◌>>=◌, chain, on_some, when, eat_punct, eat_key, eat_word, eat_number, punct_at, key_at, word_at, number_at, as_u32}
 use Rattle.pungi_straight.specs.Grammar.{Leaf, IsToken, key_leaf, punct_leaf, word_leaf}
 use Rattle.pungi_straight.specs.Numbers.{has_size, have_sizes}
 

@@ -1,11 +1,11 @@
 -- How the loops of the parser begin.
-use Rattle.std.proofs.Common.{◌≡◌, List, [], ◌∷◌, ◌++◌, Option, Some, None, refl}
+use Rattle.std.proofs.Common.{◌≡◌, List, [], ◌∷◌, Some, None, refl}
 use Rattle.pungi_base.specs.declared.names.Name.{Name}
 use Rattle.pungi_base.specs.declared.pos.Pos.{Pos}
 use Rattle.pungi_base.specs.declared.key.Key.TheVariants as key
 use Rattle.pungi_base.specs.declared.token.Token.{Token}
 use Rattle.pungi_straight.specs.declared.argument.Argument.{Argument}
-use Rattle.pungi_straight.specs.Cursor.{Read, chain, on_some, eat_key}
+use Rattle.pungi_straight.specs.Cursor.{chain, on_some, eat_key}
 use Rattle.pungi_straight.specs.Parser.{read_argument, read_next_argument, read_arguments, read_parameter, read_next_parameter, read_parameters, list_with}
 use Rattle.pungi_straight.proofs.Loops.{LoopTo}
 

@@ -1,5 +1,5 @@
 -- What stands at the front of a list of tokens, and how readings follow one another. A reading gives what it reads and
--- the tokens after it, or nothing.
+-- the tokens after it, or nothing. Punctuators and keywords are compared by their tags, as the derived `==` does.
 --   Read A                 a reading of an A
 --   o >>= f                the reading f of what o gave
 --   on_some o f b          f of what o gave, and b where it gave nothing

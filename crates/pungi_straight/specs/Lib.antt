@@ -1,5 +1,6 @@
 pub mod Cursor
 pub mod Form
+pub mod FormTests
 pub mod Grammar
 pub mod NameSet
 pub mod Numbers

@@ -1,37 +1,9 @@
 -- Names taken one after another.
---   are_new known names        the names differ from each other and from those known
---   is_allowed taken n         a name that a source may give, and that isn't taken
---   has_call s                 a statement with a call
---   passes earlier vars f      the tests of the first form but for the variables' names, which are to differ
-use Rattle.std.specs.Prelude.{◌+◌, length, sum_by, nat_le, Bool, true, false, not, ◌&&◌, List, [], ◌∷◌, ◌++◌, None, Some}
-use Rattle.std.specs.List.{list_all}
+--   are_new known names   the names differ from each other and from those known
+use Rattle.std.specs.Prelude.{Bool, true, not, ◌&&◌, List, [], ◌∷◌, ◌++◌}
 use Rattle.pungi_base.specs.declared.names.Name.{Name}
-use Rattle.pungi_straight.specs.declared.source.Source.{Source}
-use Rattle.pungi_straight.specs.declared.source.Source.TheVariants as source
-use Rattle.pungi_straight.specs.declared.statement.Statement.{Statement}
-use Rattle.pungi_straight.specs.declared.statement.Statement.TheVariants as statement
-use Rattle.pungi_straight.specs.declared.function.Function.{Function}
-use Rattle.pungi_straight.specs.Form.{is_one_of, is_free, is_statement, statement_calls, call_limit}
+use Rattle.pungi_straight.specs.Form.{is_one_of}
 
 abbrev pub are_new : List Name → List Name → Bool
 are_new known [] = true
 are_new known (n ∷ names) = not (is_one_of known n) && are_new (known ++ n ∷ []) names
-
-abbrev pub is_allowed : List Name → Name → Bool
-is_allowed taken n = is_free n && not (is_one_of taken n)
-
-abbrev pub is_call : Source → Bool
-is_call (source.Word n) = false
-is_call source.Null = false
-is_call (source.Call c) = true
-
-abbrev pub has_call : Statement → Bool
-has_call (statement.Assign n value) = is_call value
-has_call (statement.Call c) = true
-has_call (statement.Return at None) = false
-has_call (statement.Return at (Some value)) = is_call value
-
-abbrev pub passes : List Name → List Name → Function → Bool
-passes earlier vars f =
-    not (is_one_of vars f.name) && is_allowed earlier f.name && list_all (is_allowed earlier) f.params && list_all (is_allowed earlier) f.locals
-    && list_all (is_statement f.object vars) f.body && nat_le (length f.params + sum_by statement_calls f.body) call_limit

@@ -1,7 +1,7 @@
 -- The sizes of integer constants (C11 6.4.4.1: a decimal constant has type int if int holds it, else long).
 --   has_size kind          an integer constant that is not long is below 2 to the 32, which unsigned int holds
 --   have_sizes tokens      this holds of all tokens
-use Rattle.std.specs.Prelude.{ℕ, ℤ, pos, negsuc, ◌^◌, Bool, true, ◌||◌, nat_lt, List}
+use Rattle.std.specs.Prelude.{pos, ◌^◌, Bool, true, ◌||◌, nat_lt, List}
 use Rattle.std.specs.List.{list_all}
 use Rattle.pungi_base.specs.declared.kind.Kind.{Kind}
 use Rattle.pungi_base.specs.declared.kind.Kind.TheVariants as kind

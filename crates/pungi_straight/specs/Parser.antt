@@ -4,14 +4,14 @@
 --   parameter, parameters, local   names of object pointers
 --   head, signature, body, function     a function, part by part
 --   unit                           the functions that the whole list is
-use Rattle.std.specs.Prelude.{ℕ, ◌==◌, Bool, true, false, List, [], ◌∷◌, Option, Some, None}
+use Rattle.std.specs.Prelude.{◌==◌, Bool, true, false, List, [], ◌∷◌, Option, Some, None}
 use Rattle.pungi_base.specs.declared.key.Key.TheVariants as key
 use Rattle.pungi_base.specs.declared.punct.Punct.TheVariants as punct
 use Rattle.pungi_base.specs.declared.names.Name.{Name}
 use Rattle.pungi_base.specs.declared.pos.Pos.{Pos}
 use Rattle.pungi_base.specs.declared.token.Token.{Token}
 use Rattle.pungi_base.specs.declared.words.TheConstants.{PY_OBJECT}
-use Rattle.pungi_straight.specs.Cursor.{Read, ◌>>=◌, chain, on_some, when, eat_punct, eat_key, eat_word, eat_number, all_of}
+use Rattle.pungi_straight.specs.Cursor.{Read, ◌>>=◌, on_some, when, eat_punct, eat_key, eat_word, eat_number, all_of}
 use Rattle.pungi_straight.specs.declared.argument.Argument.{Argument}
 use Rattle.pungi_straight.specs.declared.argument.Argument.TheVariants as argument
 use Rattle.pungi_straight.specs.declared.call.Call.{Call}

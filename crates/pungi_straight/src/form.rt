@@ -3,12 +3,13 @@
 ghost use Rattle.std.specs.Prelude.{◌≡◌, [], IfOk, Some, None, if◌then◌else◌, count_by, ◌==◌, sum_by, ◌+◌, nat_le, length};
 ghost use Rattle.std.specs.List.{list_all};
 ghost use Rattle.pungi_straight.specs.Form.{is_static as is_static_of, is_readable as is_readable_of, takes_pointer as takes_pointer_of, takes_number as takes_number_of, is_source_call as is_source_call_of, is_row_call as is_row_call_of, is_source as is_source_of, is_statement as is_statement_of, all_differ, variables as variables_of, statement_calls, call_limit, is_first_form as is_first_form_of, are_first_form as are_first_form_of};
-ghost use Rattle.pungi_straight.specs.NameSet.{is_allowed as is_allowed_of, is_call as is_call_of, has_call as has_call_of, passes as passes_of};
+ghost use Rattle.pungi_straight.specs.FormTests.{is_allowed as is_allowed_of, is_call as is_call_of, has_call as has_call_of, passes as passes_of};
 
 use crate::name_set::NameSet;
 use crate::{Argument, Call, Function, Source, Statement};
 use pungi_base::words::{
-    FIRST_FREE, PLAIN_STATICS, PY_DECREF, PY_INCREF, PY_LONG_FROM_LONG, PY_NEW_REF, PY_NONE, PY_XDECREF,
+    FIRST_FREE, PLAIN_STATICS, PY_DECREF, PY_INCREF, PY_LONG_FROM_LONG, PY_NEW_REF, PY_NONE,
+    PY_XDECREF,
 };
 use pungi_base::{Memory, Name};
 use std::alloc::Global;

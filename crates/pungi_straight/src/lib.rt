@@ -20,3 +20,6 @@ pub use function::Function;
 pub use source::Source;
 pub use statement::Statement;
 pub use unit::parse;
+
+#[cfg(test)]
+mod tests;

@@ -313,7 +313,10 @@ fn function(alloc: Global, tokens: &[Token]) -> Result<Option<(Function, &[Token
 }
 
 /// The functions at the front, as many as there are, and the tokens after them.
-pub(crate) fn functions(alloc: Global, tokens: &[Token]) -> Result<(Vec<Function>, &[Token]), Memory>
+pub(crate) fn functions(
+    alloc: Global,
+    tokens: &[Token],
+) -> Result<(Vec<Function>, &[Token]), Memory>
     ensures { IfOk result (λ x. all_of read_function tokens.now ≡ Some (x.0.items, x.1.now)) }
 {
     let mut list = Vec::new(alloc);

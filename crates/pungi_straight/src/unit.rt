@@ -27,7 +27,7 @@ fn unit(alloc: Global, tokens: &[Token]) -> Result<Option<Vec<Function>>, Memory
 /// The functions of the first form that the tokens are, in their order. `NotAUnit` says that there are none such.
 pub fn parse(alloc: Global, tokens: &[Token]) -> Result<Vec<Function>, ParseFault>
     ensures unit { IfOk result (λ functions. AreTokensOfUnit tokens.now functions.items × IsTrue (are_first_form_of [] functions.items)) }
-    // A tree keeps numbers below 2 to the 32.
+    // A tree keeps numbers of 32 bits, and no token that isn't `long` has more.
     ensures none { result ≡ Err ParseFault.NotAUnit → IsTrue (have_sizes tokens.now) → (functions : List Function) → AreTokensOfUnit tokens.now functions → IsTrue (are_first_form_of [] functions) → ⊥ }
     ensures only { (functions : List Function) → AreTokensOfUnit tokens.now functions → IfOk result (λ found. functions ≡ found.items) }
     ensures short { IfOk result (λ functions. All (λ f. length f.body ≤ length tokens.now) functions.items) }

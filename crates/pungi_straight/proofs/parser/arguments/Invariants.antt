@@ -1,5 +1,4 @@
 use Rattle.std.proofs.Common.{length}
-use Rattle.pungi_straight.specs.Cursor.{all_of}
 use Rattle.pungi_straight.specs.Parser.{read_arguments, read_next_argument}
 use Rattle.pungi_straight.proofs.Loops.{LoopTo}
 use Rattle.pungi_straight.proofs.parser.arguments.Given as goal

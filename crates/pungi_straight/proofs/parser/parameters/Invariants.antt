@@ -1,5 +1,4 @@
 use Rattle.std.proofs.Common.{length}
-use Rattle.pungi_straight.specs.Cursor.{all_of}
 use Rattle.pungi_straight.specs.Parser.{read_parameters, read_next_parameter}
 use Rattle.pungi_straight.proofs.Loops.{LoopTo}
 use Rattle.pungi_straight.proofs.parser.parameters.Given as goal
