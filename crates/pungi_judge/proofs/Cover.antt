@@ -26,7 +26,8 @@ use Rattle.pungi_judge.specs.declared.row.Row.{Row}
 use Rattle.pungi_judge.specs.declared.row.Row.TheVariants.{FromLong, NewRef, Increment, Decrement, DecrementIfAny}
 use Rattle.pungi_judge.specs.Pattern.{trues, args_of, choices_of, pattern_entry, pattern_choices}
 use Rattle.pungi_judge.specs.Meaning.{Moment, Ending, Returned, Stopped, NeedsChoice, ◌>>=◌, content_of, value_in, assigned, word_value, argument_value, chosen, referred, count_argument, release_argument, row_of, row_effect, call_effect, source_effect, statement_effect, body_run, run_of, moment_at, EndsBalanced, IsPointer, IsClean}
-use Rattle.pungi_judge.proofs.Naming.{fresh_choices, fresh_args, objects_of, static_names, start_names, fresh_entry, clean_by_fresh}
+use Rattle.pungi_judge.proofs.Naming.{fresh_choices}
+use Rattle.pungi_judge.proofs.Fresh.{fresh_args, objects_of, static_names, start_names, fresh_entry, clean_by_fresh}
 
 -- the first choices, as far as they can be accepted, are those of the other list too
 abbrev pub Covers : ℕ → List Choice → List Choice → Type 0

@@ -1,8 +1,10 @@
 pub mod Assigned
 pub mod Cover
+pub mod Fresh
 pub mod Front
 pub mod Naming
 pub mod Patterns
 pub mod Searches
+pub mod Totals
 pub mod Trials
 pub mod Within

@@ -1,29 +1,23 @@
 -- A run in which some objects are one has the counts of a run in which all are different, added up.
-use Rattle.std.proofs.Common.{◌≡◌, ◌≢◌, inl, inr, ℕ, zero, suc, ◌+◌, ◌-◌, ◌≤◌, ◌<◌, Bool, true, false, ◌==◌, ◌&&◌, List, [], ◌∷◌, ◌++◌, length, get_or, map, Option, Some, None, Result, Ok, Err, refl, sym, ap, subst, ◌∙◌, arith, length-append, append_assoc, true≢false}
-use Rattle.std.specs.Prelude.{ℤ, pos, negsuc, ◌+ℤ◌, slice_set, replicate, nat_le, nat_lt, if◌then◌else◌, count_by}
-use Rattle.std.proofs.lemmas.Int.{ints}
-use Rattle.std.proofs.lemmas.List.{get_or-set_same, get_or-set_other, get_or_append_left, get_or-append-add}
+use Rattle.std.proofs.Common.{◌≡◌, inl, inr, ℕ, zero, suc, ◌+◌, ◌-◌, ◌≤◌, ◌<◌, Bool, true, false, ◌==◌, ◌&&◌, List, [], ◌∷◌, ◌++◌, length, get_or, Option, Some, None, Result, Ok, Err, refl, sym, ap, subst, ◌∙◌, arith, length-append, true≢false}
+use Rattle.std.specs.Prelude.{ℤ, pos, negsuc, ◌+ℤ◌, nat_le, nat_lt, if◌then◌else◌}
+use Rattle.std.proofs.lemmas.List.{get_or_append_left}
 use Rattle.std.proofs.Math.Seq.{get_or-append_seam}
 use Rattle.std.proofs.Math.ListN.{length-set}
-use Rattle.std.proofs.lemmas.Bool.{cases_eq, cases_lt, eqb-true}
-use Rattle.std.specs.List.{AllZip}
-use Rattle.std.proofs.lemmas.List.{length-replicate}
+use Rattle.std.proofs.lemmas.Bool.{cases_lt}
 use Rattle.std.proofs.lemmas.Bool.Decides.{nat_tests}
 use Rattle.pungi_base.specs.declared.names.Name.{Name}
 use Rattle.pungi_base.specs.declared.pos.Pos.{Pos}
 use Rattle.pungi_base.specs.declared.value.Value.{Value}
 use Rattle.pungi_base.specs.declared.value.Value.TheVariants as value
-use Rattle.pungi_base.specs.declared.entry.Entry.{Entry}
 use Rattle.pungi_base.specs.declared.choice.Choice.{Choice}
 use Rattle.pungi_base.specs.declared.choice.Choice.TheVariants as choice
 use Rattle.pungi_world.specs.declared.account.Account.{Account}
 use Rattle.pungi_world.specs.declared.content.Content.{Content}
 use Rattle.pungi_world.specs.declared.content.Content.TheVariants.{Unset, Holds}
 use Rattle.pungi_world.specs.declared.world.World.{World}
-use Rattle.pungi_world.specs.declared.slot.SlotState.{SlotState}
-use Rattle.pungi_world.specs.World.{untouched, account_of, world_at}
-use Rattle.pungi_world.specs.Escapes.{is_object, is_returned, holds_object, held_now, held_at_entry, IsLevel, IsBalanced}
-use Rattle.pungi_judge.specs.Meaning.{Moment, Ending, Returned, Stopped, NeedsChoice, ◌>>=◌, counted, grown, referred, content_of, assigned, value_in, word_value, argument_value, chosen, count_argument, release_argument, row_of, row_effect, call_effect, source_effect, statement_effect, body_run, run_of, moment_at, passed, EndsBalanced, IsEntry, IsPointer, IsClean}
+use Rattle.pungi_world.specs.World.{untouched, account_of}
+use Rattle.pungi_judge.specs.Meaning.{Moment, Ending, Returned, Stopped, NeedsChoice, ◌>>=◌, counted, grown, referred, content_of, assigned, value_in, word_value, argument_value, chosen, count_argument, release_argument, row_of, row_effect, call_effect, source_effect, statement_effect, body_run}
 use Rattle.pungi_straight.specs.declared.argument.Argument.{Argument}
 use Rattle.pungi_straight.specs.declared.argument.Argument.TheVariants as argument
 use Rattle.pungi_straight.specs.declared.call.Call.{Call}
@@ -36,77 +30,7 @@ use Rattle.pungi_straight.specs.Form.{is_static}
 use Rattle.pungi_base.specs.declared.words.TheConstants.{PLAIN_STATICS, PY_NONE, STATICS}
 use Rattle.pungi_judge.specs.declared.row.Row.{Row}
 use Rattle.pungi_judge.specs.declared.row.Row.TheVariants.{FromLong, NewRef, Increment, Decrement, DecrementIfAny}
-
--- what is added at the object k, seen at the object o
-abbrev pub at_object : ℕ → ℕ → ℤ → ℤ
-at_object k o by = if k == o then by else pos 0
-
--- the changes of all objects that go by this name
-abbrev pub total : List ℕ → List Account → ℕ → ℤ
-total [] accounts o = pos 0
-total (k ∷ names) [] o = pos 0
-total (k ∷ names) (a ∷ accounts) o = at_object k o a.change +ℤ total names accounts o
-
-abbrev raised : Account → ℤ → Account
-raised a by = record a { change = a.change +ℤ by }
-
-add_at : (k o : ℕ) (x by : ℤ) → at_object k o (x +ℤ by) ≡ at_object k o x +ℤ at_object k o by
-add_at k o x by = by_test (k == o)
-  where
-    by_test : (b : Bool) → (if b then x +ℤ by else pos 0) ≡ (if b then x else pos 0) +ℤ (if b then by else pos 0)
-    by_test true = refl
-    by_test false = omega (arith, ints)
-
--- a count that rises adds to the total of its name
-pub total-raised : (names : List ℕ) (accounts : List Account) (t : ℕ) (by : ℤ) (o : ℕ) → length names ≡ length accounts → t < length accounts
-    → total names (slice_set accounts t (raised (get_or accounts t untouched) by)) o ≡ total names accounts o +ℤ at_object (get_or names t 0) o by
-total-raised [] [] t by o e lt = absurd (omega arith)
-total-raised [] (a ∷ accounts) t by o e lt = absurd (omega arith)
-total-raised (k ∷ names) [] t by o e lt = absurd (omega arith)
-total-raised (k ∷ names) (a ∷ accounts) zero by o e lt = omega (arith, ints, add_at k o a.change by)
-total-raised (k ∷ names) (a ∷ accounts) (suc t) by o e lt = omega (arith, ints, total-raised names accounts t by o (omega arith) (omega arith))
-
--- one object more that hasn't changed adds nothing
-pub total-push : (names : List ℕ) (accounts : List Account) (k o : ℕ) → length names ≡ length accounts → total (names ++ k ∷ []) (accounts ++ untouched ∷ []) o ≡ total names accounts o
-total-push [] [] k o e = none_at (k == o)
-  where
-    none_at : (b : Bool) → (if b then pos 0 else pos 0) +ℤ pos 0 ≡ pos 0
-    none_at true = refl
-    none_at false = refl
-total-push [] (a ∷ accounts) k o e = absurd (omega arith)
-total-push (n ∷ names) [] k o e = absurd (omega arith)
-total-push (n ∷ names) (a ∷ accounts) k o e = ap (λ (z : ℤ). at_object n o a.change +ℤ z) (total-push names accounts k o (omega arith))
-
-is_same : (k o : ℕ) → k ≡ o → (k == o) ≡ true
-is_same k o e = grind (arith, nat_tests)
-
-is_other : (k o : ℕ) → k ≢ o → (k == o) ≡ false
-is_other k o e = grind (arith, nat_tests)
-
-plus_none : (z : ℤ) → z ≡ z +ℤ pos 0
-plus_none z = omega (arith, ints)
-
--- the account of an object after a count rose
-pub change_raised : (accounts : List Account) (k : ℕ) (by : ℤ) (o : ℕ) → k < length accounts
-    → (get_or (slice_set accounts k (raised (get_or accounts k untouched) by)) o untouched).change ≡ (get_or accounts o untouched).change +ℤ at_object k o by
-change_raised accounts k by o lt = elim (cases_eq k o) [
-  | inl e ↦
-      ap (λ (j : ℕ). (get_or (slice_set accounts k (raised (get_or accounts k untouched) by)) j untouched).change) (sym e)
-      ∙ ap (λ (a : Account). a.change) (get_or-set_same accounts k (raised (get_or accounts k untouched) by) untouched lt)
-      ∙ ap (λ (j : ℕ). (get_or accounts j untouched).change +ℤ by) e
-      ∙ ap (λ (b : Bool). (get_or accounts o untouched).change +ℤ (if b then by else pos 0)) (sym (is_same k o e))
-  | inr ne ↦
-      ap (λ (a : Account). a.change) (get_or-set_other accounts k o (raised (get_or accounts k untouched) by) untouched (λ e. ne (sym e)))
-      ∙ plus_none (get_or accounts o untouched).change
-      ∙ ap (λ (b : Bool). (get_or accounts o untouched).change +ℤ (if b then by else pos 0)) (sym (is_other k o ne))
-]
-
-pub handed_raised : (accounts : List Account) (k : ℕ) (by : ℤ) (o : ℕ) → (get_or (slice_set accounts k (raised (get_or accounts k untouched) by)) o untouched).handed ≡ (get_or accounts o untouched).handed
-handed_raised [] k by o = refl
-handed_raised (a ∷ accounts) zero by zero = refl
-handed_raised (a ∷ accounts) zero by (suc o) = refl
-handed_raised (a ∷ accounts) (suc k) by zero = refl
-handed_raised (a ∷ accounts) (suc k) by (suc o) = handed_raised accounts k by o
+use Rattle.pungi_judge.proofs.Totals.{at_object, change_raised, handed_raised, is_same, raised, total, total-push, total-raised}
 
 -- ---- two runs, side by side
 
@@ -178,7 +102,7 @@ counted_same names fresh world t by lt same =
       fresh_slots = same.fresh_slots;
     }
 
-pub get_or_push : (accounts : List Account) (t : ℕ) → get_or (accounts ++ untouched ∷ []) t untouched ≡ get_or accounts t untouched
+get_or_push : (accounts : List Account) (t : ℕ) → get_or (accounts ++ untouched ∷ []) t untouched ≡ get_or accounts t untouched
 get_or_push [] zero = refl
 get_or_push [] (suc t) = refl
 get_or_push (a ∷ accounts) zero = refl
@@ -190,10 +114,10 @@ name_front names k t lt = get_or_append_left names (k ∷ []) 0 t lt
 name_last : (names : List ℕ) (k : ℕ) → get_or (names ++ k ∷ []) (length names) 0 ≡ k
 name_last names k = get_or-append_seam names k [] 0
 
-one_longer : (names : List ℕ) (k : ℕ) → length (names ++ k ∷ []) ≡ length names + 1
+pub one_longer : (names : List ℕ) (k : ℕ) → length (names ++ k ∷ []) ≡ length names + 1
 one_longer names k = omega (arith, length-append names (k ∷ []))
 
-pub accounts_longer : (accounts : List Account) → length (accounts ++ untouched ∷ []) ≡ length accounts + 1
+accounts_longer : (accounts : List Account) → length (accounts ++ untouched ∷ []) ≡ length accounts + 1
 accounts_longer accounts = omega (arith, length-append accounts (untouched ∷ []))
 
 -- one object more in the run with different objects, which goes by the name of one that is there
@@ -318,7 +242,7 @@ pick_value : (names : List ℕ) (b : Bool) (a c a2 c2 : Result Value Ending) →
 pick_value names true a c a2 c2 h h2 = h refl
 pick_value names false a c a2 c2 h h2 = h2
 
-and_left : (a b : Bool) → (a && b) ≡ true → a ≡ true
+pub and_left : (a b : Bool) → (a && b) ≡ true → a ≡ true
 and_left true b h = refl
 and_left false b h = h
 
@@ -524,212 +448,3 @@ body_same f [] r (Err Stopped) h = tt
 body_same f (st ∷ statements) r (Err Stopped) h = tt
 body_same f [] r (Err NeedsChoice) h = tt
 body_same f (st ∷ statements) r (Err NeedsChoice) h = tt
-
--- ---- balances
-
-total_none : (names : List ℕ) (accounts : List Account) (o : ℕ) → ((t : ℕ) → t < length accounts → (get_or accounts t untouched).change ≡ pos 0) → total names accounts o ≡ pos 0
-total_none [] accounts o h = refl
-total_none (k ∷ names) [] o h = refl
-total_none (k ∷ names) (a ∷ accounts) o h =
-    let first : a.change ≡ pos 0 = h 0 (omega arith) in
-    let here : at_object k o a.change ≡ pos 0 = ap (at_object k o) first ∙ none_here (k == o) in
-    let rest = total_none names accounts o (λ t lt. h (suc t) (omega arith)) in
-    omega (arith, ints, here, rest)
-  where
-    none_here : (b : Bool) → (if b then pos 0 else pos 0) ≡ pos 0
-    none_here true = refl
-    none_here false = refl
-
-abbrev one_if : Bool → ℤ
-one_if b = pos (if b then 1 else 0)
-
-zero_other : (t : ℕ) → (0 == suc t) ≡ false
-zero_other t = is_other 0 (suc t) (λ e. omega (arith, e))
-
-suc_other : (t : ℕ) → (suc t == 0) ≡ false
-suc_other t = is_other (suc t) 0 (λ e. omega (arith, e))
-
-suc_same : (t u : ℕ) → (suc t == suc u) ≡ (t == u)
-suc_same t u = elim (cases_eq t u) [
-  | inl e ↦ is_same (suc t) (suc u) (ap suc e) ∙ sym (is_same t u e)
-  | inr ne ↦ is_other (suc t) (suc u) (λ e. ne (omega (arith, e))) ∙ sym (is_other t u ne)
-]
-
-pub total_one : (names : List ℕ) (accounts : List Account) (only o : ℕ) → length names ≡ length accounts → only < length accounts → ((t : ℕ) → t < length accounts → (get_or accounts t untouched).change ≡ one_if (only == t))
-    → total names accounts o ≡ at_object (get_or names only 0) o (pos 1)
-total_one [] accounts only o e lt h = absurd (omega arith)
-total_one (k ∷ names) [] only o e lt h = absurd (omega arith)
-total_one (k ∷ names) (a ∷ accounts) zero o e lt h =
-    let first : a.change ≡ pos 1 = h 0 (omega arith) ∙ ap one_if (is_same 0 0 refl) in
-    let here : at_object k o a.change ≡ at_object k o (pos 1) = ap (at_object k o) first in
-    let rest = total_none names accounts o (λ t lt. h (suc t) (omega arith) ∙ ap one_if (zero_other t)) in
-    omega (arith, ints, here, rest)
-total_one (k ∷ names) (a ∷ accounts) (suc only) o e lt h =
-    let first : a.change ≡ pos 0 = h 0 (omega arith) ∙ ap one_if (suc_other only) in
-    let here : at_object k o a.change ≡ pos 0 = ap (at_object k o) first ∙ none_at (k == o) in
-    let rest = total_one names accounts only o (omega arith) (omega arith) (λ t lt. h (suc t) (omega arith) ∙ ap one_if (suc_same only t)) in
-    omega (arith, ints, here, rest)
-  where
-    none_at : (b : Bool) → (if b then pos 0 else pos 0) ≡ pos 0
-    none_at true = refl
-    none_at false = refl
-
-level_to : (w : World) (returned : Option Value) (o : ℕ) → w.slots ≡ [] → (account_of w o).handed ≡ pos 0 → IsLevel w returned o → (account_of w o).change ≡ one_if (is_returned returned o)
-level_to w returned o none handed level =
-    let now : held_now w o ≡ 0 = ap (λ (l : List SlotState). count_by (λ s. holds_object s.held o) l) none in
-    let before : held_at_entry w o ≡ 0 = ap (λ (l : List SlotState). count_by (λ s. holds_object s.at_entry o) l) none in
-    omega (arith, ints, level, handed, now, before)
-
-level_from : (w : World) (returned : Option Value) (o : ℕ) → w.slots ≡ [] → (account_of w o).handed ≡ pos 0 → (account_of w o).change ≡ one_if (is_returned returned o) → IsLevel w returned o
-level_from w returned o none handed change =
-    let now : held_now w o ≡ 0 = ap (λ (l : List SlotState). count_by (λ s. holds_object s.held o) l) none in
-    let before : held_at_entry w o ≡ 0 = ap (λ (l : List SlotState). count_by (λ s. holds_object s.at_entry o) l) none in
-    omega (arith, ints, change, handed, now, before)
-
-one_at : (k o : ℕ) (b : Bool) → (if b then pos 1 else pos 0) ≡ one_if b
-one_at k o true = refl
-one_at k o false = refl
-
-total_returned : (names : List ℕ) (fresh : World) (returned fresh_returned : Option Value) (o : ℕ) → length names ≡ length fresh.accounts → SameReturned names fresh_returned returned
-    → ((t : ℕ) → t < length fresh.accounts → (account_of fresh t).change ≡ one_if (is_returned fresh_returned t)) → total names fresh.accounts o ≡ one_if (is_returned returned o)
-total_returned names fresh None None o e same h = total_none names fresh.accounts o h
-total_returned names fresh (Some y) None o e same h = absurd same
-total_returned names fresh None (Some x) o e same h = absurd same
-total_returned names fresh (Some y) (Some value.Null) o e same h = total_none names fresh.accounts o h ∙ ap (λ (v : Value). one_if (is_object v o)) (sym same.1)
-total_returned names fresh (Some y) (Some (value.Int n)) o e same h = total_none names fresh.accounts o h ∙ ap (λ (v : Value). one_if (is_object v o)) (sym same.1)
-total_returned names fresh (Some y) (Some value.Text) o e same h = total_none names fresh.accounts o h ∙ ap (λ (v : Value). one_if (is_object v o)) (sym same.1)
-total_returned names fresh (Some y) (Some (value.Object t)) o e same h =
-    total_one names fresh.accounts t o e (omega (arith, same.0, e)) h ∙ one_at (get_or names t 0) o (get_or names t 0 == o) ∙ ap (λ (v : Value). one_if (is_object v o)) (sym same.1)
-
--- where the run with different objects is balanced, the other is
-pub balanced_same : (names : List ℕ) (fresh world : World) (fresh_returned returned : Option Value) → AreSameWorlds names fresh world → SameReturned names fresh_returned returned → IsBalanced fresh fresh_returned → IsBalanced world returned
-balanced_same names fresh world fresh_returned returned same back balanced o lt =
-    level_from world returned o same.slots (same.handed o)
-    (same.change o ∙ total_returned names fresh returned fresh_returned o same.objects back (λ t h. level_to fresh fresh_returned t same.fresh_slots (same.fresh_handed t) (balanced t h)))
-
-pub ends_same : (e d : Ending) → SameEnding e d → EndsBalanced e → EndsBalanced d
-ends_same e (Returned world returned at used) h balanced = balanced_same h.0 h.1 world h.2 returned h.4 h.5 (subst EndsBalanced h.3 balanced)
-ends_same e Stopped h balanced = tt
-ends_same e NeedsChoice h balanced = tt
-
--- ---- the start of a run
-
-abbrev pub objects_of : List Value → List ℕ
-objects_of [] = []
-objects_of (value.Object k ∷ args) = k ∷ objects_of args
-objects_of (value.Null ∷ args) = objects_of args
-objects_of (value.Int n ∷ args) = objects_of args
-objects_of (value.Text ∷ args) = objects_of args
-
--- the arguments with a new object in the place of each
-abbrev pub fresh_args : ℕ → List Value → List Value
-fresh_args n [] = []
-fresh_args n (value.Object k ∷ args) = value.Object n ∷ fresh_args (n + 1) args
-fresh_args n (value.Null ∷ args) = value.Null ∷ fresh_args n args
-fresh_args n (value.Int k ∷ args) = value.Int k ∷ fresh_args n args
-fresh_args n (value.Text ∷ args) = value.Text ∷ fresh_args n args
-
-args_same : (before : List ℕ) (params : List Name) (args : List Value) → AreSameVars (before ++ objects_of args) (passed params (fresh_args (length before) args)) (passed params args)
-args_same before [] [] = tt
-args_same before [] (x ∷ args) = tt
-args_same before (p ∷ params) [] = tt
-args_same before (p ∷ params) (value.Object k ∷ args) =
-    let names = before ++ (k ∷ objects_of args) in
-    let regrouped : (before ++ k ∷ []) ++ objects_of args ≡ names = append_assoc before (k ∷ []) (objects_of args) in
-    let rest = args_same (before ++ k ∷ []) params args in
-    let rest2 = subst (λ (l : List ℕ). AreSameVars l (passed params (fresh_args (length (before ++ k ∷ [])) args)) (passed params args)) regrouped rest in
-    let rest3 = subst (λ (n : ℕ). AreSameVars names (passed params (fresh_args n args)) (passed params args)) (one_longer before k) rest2 in
-    (refl, (omega (arith, length-append before (k ∷ objects_of args)), ap (λ (n : ℕ). value.Object n) (sym (get_or-append_seam before k (objects_of args) 0))), rest3)
-args_same before (p ∷ params) (value.Null ∷ args) = (refl, (tt, refl), args_same before params args)
-args_same before (p ∷ params) (value.Int n ∷ args) = (refl, (tt, refl), args_same before params args)
-args_same before (p ∷ params) (value.Text ∷ args) = (refl, (tt, refl), args_same before params args)
-
-unset_same : (names : List ℕ) (locals : List Name) → AreSameVars names (map (λ n. (n, Unset)) locals) (map (λ n. (n, Unset)) locals)
-unset_same names [] = tt
-unset_same names (n ∷ locals) = (refl, tt, unset_same names locals)
-
-vars_append : (names : List ℕ) (a b c d : List (Name × Content)) → AreSameVars names a c → AreSameVars names b d → AreSameVars names (a ++ b) (c ++ d)
-vars_append names [] b [] d h k = k
-vars_append names [] b (w ∷ c) d h k = absurd h
-vars_append names (v ∷ a) b [] d h k = absurd h
-vars_append names (v ∷ a) b (w ∷ c) d h k = (h.0, h.1, vars_append names a b c d h.2 k)
-
-untouched_at : (n o : ℕ) → get_or (replicate n untouched) o untouched ≡ untouched
-untouched_at zero o = refl
-untouched_at (suc n) zero = refl
-untouched_at (suc n) (suc o) = untouched_at n o
-
-objects_below : (objects : ℕ) (params : List Name) (args : List Value) (t : ℕ) → AllZip (λ (n : Name) (x : Value). IsPointer objects x) params args → t < length (objects_of args) → get_or (objects_of args) t 0 < objects
-objects_below objects params [] t h lt = absurd (omega arith)
-objects_below objects [] (x ∷ args) t h lt = absurd h
-objects_below objects (p ∷ params) (value.Object k ∷ args) zero h lt = h.0
-objects_below objects (p ∷ params) (value.Object k ∷ args) (suc t) h lt = objects_below objects params args t h.1 (omega arith)
-objects_below objects (p ∷ params) (value.Null ∷ args) t h lt = objects_below objects params args t h.1 lt
-objects_below objects (p ∷ params) (value.Int n ∷ args) t h lt = objects_below objects params args t h.1 lt
-objects_below objects (p ∷ params) (value.Text ∷ args) t h lt = objects_below objects params args t h.1 lt
-
-abbrev pub static_names : List ℕ
-static_names = 0 ∷ 1 ∷ 2 ∷ 3 ∷ 4 ∷ 5 ∷ 6 ∷ 7 ∷ 8 ∷ 9 ∷ 10 ∷ 11 ∷ 12 ∷ 13 ∷ 14 ∷ 15 ∷ 16 ∷ 17 ∷ 18 ∷ 19 ∷ 20 ∷ 21 ∷ 22 ∷ 23 ∷ []
-
-abbrev is_numbered : ℕ → List ℕ → Bool
-is_numbered n [] = true
-is_numbered n (k ∷ names) = (n == k) && is_numbered (n + 1) names
-
-numbered_at : (n : ℕ) (names : List ℕ) (s : ℕ) → is_numbered n names ≡ true → s < length names → get_or names s 0 ≡ n + s
-numbered_at n [] s h lt = absurd (omega arith)
-numbered_at n (k ∷ names) zero h lt =
-    let is : n ≡ k = eqb-true n k (and_left (n == k) (is_numbered (n + 1) names) h) in
-    omega (arith, is)
-numbered_at n (k ∷ names) (suc s) h lt = omega (arith, numbered_at (n + 1) names s (and_right (n == k) (is_numbered (n + 1) names) h) (omega arith))
-
-static_at : (s : ℕ) → s < STATICS → get_or static_names s 0 ≡ s
-static_at s lt = omega (arith, numbered_at 0 static_names s refl lt)
-
-abbrev pub start_names : Entry → List ℕ
-start_names entry = static_names ++ objects_of entry.args
-
--- the entry with new objects, as many as there are arguments that aren't NULL
-abbrev pub fresh_entry : Entry → Entry
-fresh_entry entry = record { objects = length (start_names entry); args = fresh_args STATICS entry.args }
-
-start_worlds : (f : Function) (entry : Entry) → IsEntry f entry → AreSameWorlds (start_names entry) (world_at (fresh_entry entry)) (world_at entry)
-start_worlds f entry ok =
-    let names = start_names entry in
-    let len : length (replicate entry.objects untouched) ≡ entry.objects = length-replicate entry.objects untouched in
-    record {
-      objects = sym (length-replicate (length names) untouched);
-      within = λ t h. elim (cases_lt t STATICS) [
-        | inl front ↦ omega (arith, ok.statics, len, get_or_append_left static_names (objects_of entry.args) 0 t front, static_at t front)
-        | inr past ↦
-            let is : t ≡ STATICS + (t - STATICS) = omega (arith, past) in
-            let at : get_or names t 0 ≡ get_or (objects_of entry.args) (t - STATICS) 0 = ap (λ (j : ℕ). get_or names j 0) is ∙ get_or-append-add static_names (objects_of entry.args) (t - STATICS) 0 in
-            let below = objects_below entry.objects f.params entry.args (t - STATICS) ok.args (omega (arith, past, h, length-append static_names (objects_of entry.args))) in
-            omega (arith, at, below, len)
-      ];
-      statics = λ s h. (omega (arith, h, length-append static_names (objects_of entry.args)), get_or_append_left static_names (objects_of entry.args) 0 s h ∙ static_at s h);
-      change = λ o. ap (λ (a : Account). a.change) (untouched_at entry.objects o) ∙ sym (total_none names (replicate (length names) untouched) o (λ t lt. ap (λ (a : Account). a.change) (untouched_at (length names) t)));
-      handed = λ o. ap (λ (a : Account). a.handed) (untouched_at entry.objects o);
-      fresh_handed = λ t. ap (λ (a : Account). a.handed) (untouched_at (length names) t);
-      slots = refl;
-      fresh_slots = refl;
-    }
-
-start_same : (f : Function) (entry : Entry) (choices : List Choice) → IsEntry f entry → AreSame (start_names entry) (moment_at f (fresh_entry entry) (fresh_choices (length (start_names entry)) choices)) (moment_at f entry choices)
-start_same f entry choices ok = record {
-  worlds = start_worlds f entry ok;
-  vars = vars_append (start_names entry) (passed f.params (fresh_args STATICS entry.args)) (map (λ n. (n, Unset)) f.locals) (passed f.params entry.args) (map (λ n. (n, Unset)) f.locals) (args_same static_names f.params entry.args) (unset_same (start_names entry) f.locals);
-  choices = refl;
-  used = refl;
-}
-
--- a run is balanced where the run with a new object in the place of each is
-pub balanced_by_fresh : (f : Function) (entry : Entry) (choices : List Choice) → IsEntry f entry → EndsBalanced (run_of f (fresh_entry entry) (fresh_choices (length (start_names entry)) choices)) → EndsBalanced (run_of f entry choices)
-balanced_by_fresh f entry choices ok balanced =
-    let start = start_same f entry choices ok in
-    let n = length (start_names entry) in
-    let ends = body_same f f.body (Ok (moment_at f (fresh_entry entry) (fresh_choices n choices))) (Ok (moment_at f entry choices)) (start_names entry, moment_at f (fresh_entry entry) (fresh_choices n choices), refl, start) in
-    ends_same (run_of f (fresh_entry entry) (fresh_choices n choices)) (run_of f entry choices) ends balanced
-
--- A function is clean where each run with new objects is balanced.
-pub clean_by_fresh : (f : Function) → ((entry : Entry) → IsEntry f entry → (choices : List Choice) → EndsBalanced (run_of f (fresh_entry entry) (fresh_choices (length (start_names entry)) choices))) → IsClean f
-clean_by_fresh f h entry ok choices = balanced_by_fresh f entry choices ok (h entry ok choices)

@@ -1,20 +1,17 @@
 -- The worlds of runs: counts stay near 0, and there is at most one object more for each statement.
-use Rattle.std.proofs.Common.{◌≡◌, ℕ, ◌+◌, ◌^◌, ◌≤◌, Bool, true, false, List, length, get_or, ◌==◌, ◌∙◌, sym, ap, subst, arith, inl, inr}
+use Rattle.std.proofs.Common.{◌≡◌, ℕ, ◌+◌, ◌≤◌, Bool, true, false, List, length, get_or, ◌==◌, ◌∙◌, sym, ap, subst, arith, inl, inr}
 use Rattle.std.specs.Prelude.{ℤ, pos, neg_ℤ, ◌+ℤ◌, ◌≤ℤ◌, if◌then◌else◌}
 use Rattle.std.proofs.lemmas.Int.{ints}
 use Rattle.std.proofs.lemmas.Bool.{cases_lt}
 use Rattle.std.proofs.lemmas.List.{set_past}
-use Rattle.std.proofs.Math.ListN.{length-set}
 use Rattle.pungi_world.specs.declared.account.Account.{Account}
-use Rattle.pungi_world.specs.declared.slot.SlotState.{SlotState}
 use Rattle.pungi_world.specs.declared.world.World.{World}
-use Rattle.pungi_world.specs.Escapes.{IsCountable}
 use Rattle.pungi_world.specs.World.{untouched, account_of}
 use Rattle.pungi_judge.specs.declared.counts.Way.{Way}
 use Rattle.pungi_judge.specs.declared.counts.Way.TheVariants.{Up, Down}
-use Rattle.pungi_judge.specs.Meaning.{counted, grown}
+use Rattle.pungi_judge.specs.Meaning.{counted}
 use Rattle.pungi_judge.specs.Executor.{by_one, AreWithin, IsReached}
-use Rattle.pungi_judge.proofs.Naming.{at_object, change_raised, handed_raised, get_or_push, accounts_longer}
+use Rattle.pungi_judge.proofs.Totals.{at_object, change_raised}
 
 near : (b : Bool) (way : Way) (n : ℕ) (x : ℤ) → neg_ℤ (pos n) ≤ℤ x → x ≤ℤ pos n → (neg_ℤ (pos (n + 1)) ≤ℤ (x +ℤ (if b then by_one way else pos 0))) × ((x +ℤ (if b then by_one way else pos 0)) ≤ℤ pos (n + 1))
 near true Up n x l h = (omega (arith, ints), omega (arith, ints))
@@ -39,39 +36,4 @@ reached_later w steps later le reached = record {
   handed = reached.handed;
   slots = reached.slots;
   objects = omega (arith, reached.objects);
-}
-
-pub reached_more : (w : World) (steps : ℕ) → IsReached steps w → IsReached (steps + 1) w
-reached_more w steps reached = reached_later w steps (steps + 1) (omega arith) reached
-
-counted_length : (w : World) (object : ℕ) (by : ℤ) → length (counted w object by).accounts ≡ length w.accounts
-counted_length w object by = length-set w.accounts object (record (account_of w object) { change = (account_of w object).change +ℤ by })
-
-pub reached_counted : (old new : World) (object steps : ℕ) (way : Way) → IsReached steps old → new ≡ counted old object (by_one way) → AreWithin (steps + 1) new → IsReached (steps + 1) new
-reached_counted old new object steps way reached is within = record {
-  within = within;
-  handed = λ o. ap (λ (w : World). (account_of w o).handed) is ∙ handed_raised old.accounts object (by_one way) o ∙ reached.handed o;
-  slots = ap (λ (w : World). w.slots) is ∙ reached.slots;
-  objects = omega (arith, reached.objects, ap (λ (w : World). length w.accounts) is, counted_length old object (by_one way));
-}
-
--- one object more, and no other change
-pub within_grown : (w : World) (steps : ℕ) → AreWithin steps w → AreWithin steps (grown w)
-within_grown w steps within o = subst (λ (z : ℤ). (neg_ℤ (pos steps) ≤ℤ z) × (z ≤ℤ pos steps)) (sym (ap (λ (a : Account). a.change) (get_or_push w.accounts o))) (within o)
-
-pub reached_referred : (old new : World) (object steps : ℕ) → IsReached steps old → new ≡ counted (grown old) object (pos 1) → AreWithin (steps + 1) new → IsReached (steps + 1) new
-reached_referred old new object steps reached is within = record {
-  within = within;
-  handed = λ o. ap (λ (w : World). (account_of w o).handed) is ∙ handed_raised (grown old).accounts object (pos 1) o ∙ ap (λ (a : Account). a.handed) (get_or_push old.accounts o) ∙ reached.handed o;
-  slots = ap (λ (w : World). w.slots) is ∙ reached.slots;
-  objects = omega (arith, reached.objects, ap (λ (w : World). length w.accounts) is, counted_length (grown old) object (pos 1), accounts_longer old.accounts);
-}
-
--- and so the world can be weighed
-pub reached_countable : (w : World) → IsReached (2 ^ 31) w → IsCountable w
-reached_countable w reached = record {
-  slots = omega (arith, ap (λ (l : List SlotState). length l) reached.slots);
-  accounts = omega (arith, reached.objects);
-  low = λ o. omega (arith, ints, reached.handed o);
-  high = λ o. omega (arith, ints, reached.handed o);
 }

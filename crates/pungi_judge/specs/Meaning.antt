@@ -1,26 +1,28 @@
--- What a straight-line function does to the reference counts of objects: its runs, and when it is clean.
+-- What a straight-line function does to the reference counts of objects: its runs, and when it is clean. 'Manual' is the
+-- Python/C API Reference Manual 3.11.
 --   Moment, Ending               where a run stands, and how it ends: it returns, stops, or wants a choice that isn't there
 --   ◌>>=◌                        then: what comes after an end isn't done
 --   content_of vars n            what the variable of this name holds
---   assigned vars n x            the variables after this one was given a value
---   value_in content             its value; to read what is unset stops the run (C11 6.2.4 and 6.3.2.1: it has no value)
+--   assigned vars n x            the variables after this one was given a value (C11 6.5.16.1)
+--   value_in content             its value; to read what is unset stops the run (C11 6.3.2.1: it is undefined)
 --   word_value, argument_value   the value of a word, and of a call's one argument
 --   counted w object by          the world after the count of an object changed
 --   grown, referred              one object more; a new reference to an object that is there, or to one more
---   chosen m at choices          a call that answers a new reference, or NULL where it fails (manual, 'Reference Count Details')
+--   chosen m at choices          a call that answers a new reference, or NULL where it fails (manual, 'Integer Objects')
 --   count_argument               the count of the argument changes, and the argument is the answer; NULL stops the run
 --   release_argument             the count of the argument falls, and NULL is passed over
---   row_of n, row_effect         the API call of this name, and what it does (manual, 'Reference Counting' and 'Integer Objects')
+--   row_of n, row_effect         the API call of this name, and what it does (manual, 'Reference Counting')
 --   call_effect, source_effect   what a call does, and what is assigned or returned
---   statement_effect m s         the moment after a statement, or the end of the run there (C11 6.5.16 and 6.8.6.4)
---   at_end, body_run             the end of the function (C11 6.9.1; without a return it must be void), and the run of statements
+--   statement_effect m s         the moment after a statement, or the end of the run there (C11 6.8.6.4)
+--   at_end, body_run             the end of the function (C11 6.9.1), and the run of statements in their order (C11 6.8)
 --   passed, moment_at            the parameters with their arguments, and the start of a run
 --   run_of f entry choices       the run of a function from an entry with a list of choices
 --   IsPointer, IsEntry           a value of an object parameter, and the entries of a function
 --   EndsBalanced ending          if the run returns, each count changed by the references that escaped
 --   IsClean f                    each run that returns, from each entry and with each list of choices, returns balanced
 --   IsFaultOf f fault            the fault tells a run of the function that returns and isn't balanced
--- That NULL stops a run where an object is wanted, and that a stopped run owes nothing, is this project's own.
+-- That a read of what is unset, NULL where an object is wanted, and the end of a function that isn't void stop a run, and
+-- that a stopped run owes nothing, is this project's own.
 use Rattle.std.specs.Prelude.{◌≡◌, ◌≢◌, ℕ, ◌-◌, ◌≤◌, ◌<◌, ◌==◌, ℤ, pos, negsuc, ◌+ℤ◌, List, [], ◌∷◌, ◌++◌, length, map, zip, slice_set, Option, None, Some, Result, Ok, Err, nat_le, if◌then◌else◌}
 use Rattle.std.specs.List.{AllZip}
 use Rattle.pungi_base.specs.declared.names.Name.{Name}

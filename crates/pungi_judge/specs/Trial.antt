@@ -2,14 +2,13 @@
 --   IsReturnOf input list state ended fault   the fault tells this return, of a run from this entry with these choices
 --   IsTrial f a b trial      what is answered for the run by these patterns: it is balanced, with whatever choices come
 --                            after these; or it wants one more; or it is faulty
-use Rattle.std.specs.Prelude.{◌≡◌, ◌≢◌, ◌<◌, List, ◌++◌, length, take}
+use Rattle.std.specs.Prelude.{◌≡◌, ◌≢◌, ◌<◌, Bool, List, ◌++◌, length, take}
 use Rattle.pungi_base.specs.declared.choice.Choice.{Choice}
 use Rattle.pungi_base.specs.declared.entry.Entry.{Entry}
 use Rattle.pungi_base.specs.declared.fault.Fault.{Fault}
 use Rattle.pungi_world.specs.World.{account_of}
 use Rattle.pungi_world.specs.Escapes.{escaped_of}
 use Rattle.pungi_straight.specs.declared.function.Function.{Function}
-use Rattle.std.specs.Prelude.{Bool}
 use Rattle.pungi_judge.specs.declared.state.State.{State}
 use Rattle.pungi_judge.specs.declared.state.Ended.{Ended}
 use Rattle.pungi_judge.specs.declared.trial.Trial.{Trial}

@@ -13,3 +13,6 @@ mod variables;
 mod verdict;
 
 pub use verdict::judge;
+
+#[cfg(test)]
+mod tests;

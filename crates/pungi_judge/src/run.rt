@@ -21,26 +21,22 @@ pub enum Outcome {
     NeedsChoice,
 }
 
-/// The parameters with their arguments.
-fn arguments(alloc: Global, params: &[Name], args: &[Value]) -> Result<Vec<(Name, Content)>, Memory>
-    ensures { IfOk result (λ vars. vars.items ≡ passed params.now args.now) }
+/// The parameters with their arguments, and the locals, which hold nothing yet.
+fn variables(
+    alloc: Global,
+    function: &Function,
+    args: &[Value],
+) -> Result<Vec<(Name, Content)>, Memory>
+    ensures { IfOk result (λ vars. vars.items ≡ passed function.now.params args.now ++ map (λ n. (n, Unset)) function.now.locals) }
 {
+    let params = function.params.as_slice().iter().copied();
+    let locals = function.locals.as_slice().iter().copied();
     let vars = params
-        .iter()
-        .copied()
         .zip(args.iter().copied())
         .map(|(name, value)| (name, Content::Holds(value)))
+        .chain(locals.map(|name| (name, Content::Unset)))
         .collect(alloc)?;
     Ok(vars)
-}
-
-fn push_locals(vars: &mut Seq<(Name, Content)>, locals: &[Name]) -> Result<(), Memory>
-    ensures { OnOk result (vars.new ≡ vars.old ++ map (λ n. (n, Unset)) locals.now) }
-{
-    for name in locals {
-        vars.push((*name, Content::Unset))?;
-    }
-    Ok(())
 }
 
 /// The start of a run.
@@ -55,12 +51,10 @@ fn start(
     ensures reached { IfOk result (λ state. IsReached 0 state.world) }
 {
     let world = World::start(alloc, entry)?;
-    let vars = arguments(alloc, function.params.as_slice(), entry.args.as_slice())?;
-    let mut vars = Seq::new(vars);
-    push_locals(&mut vars, function.locals.as_slice())?;
+    let vars = variables(alloc, function, entry.args.as_slice())?;
     Ok(State {
         world,
-        vars,
+        vars: Seq::new(vars),
         used: Seq::new(Vec::new(alloc)),
     })
 }
