@@ -36,20 +36,12 @@ no_refusal text answer names functions within unit refused =
 of_five : {A B C D E P : Type 0} → A ⊎ B ⊎ C ⊎ D ⊎ E → (A → P) → (B → P) → (C → P) → (D → P) → (E → P) → P
 of_five cases a b c d e = ⊎_elim a (λ cases. ⊎_elim b (λ cases. ⊎_elim c (λ cases. ⊎_elim d e cases) cases) cases) cases
 
-pub words_refused : (words : List (List ℕ)) (texts : Option (List ℕ → Option (List ℕ))) (unread : Type 0) (status : ℕ) (answer : List ℕ) → Answers words texts unread status answer
-    → IsNone (file_of words) → status ≡ WORDS_REFUSED
-words_refused words texts unread status answer a none =
-    let reported = λ (h : (status ≡ ALL_CLEAN) ⊎ (status ≡ SOME_FAULTY)). none_is_some (file_of words) (a.report h).0 (a.report h).2 none in
-    of_five a.one (λ h. absurd (reported (inl h))) (λ h. absurd (reported (inr h))) (λ h. h)
-    (λ h. absurd (none_is_some (file_of words) (a.failed h).0 (a.failed h).1 none))
-    (λ h. absurd (none_is_some (file_of words) (a.refused h).0 (a.refused h).2 none))
-
 pub file_refused : (words : List (List ℕ)) (texts : Option (List ℕ → Option (List ℕ))) (unread : Type 0) (status : ℕ) (answer : List ℕ) → Answers words texts unread status answer
     → (text : List ℕ) → IsFileText words texts text → IsRefusedText text → (status ≡ FILE_UNREAD → ⊥) → status ≡ FILE_REFUSED
 file_refused words texts unread status answer a text is refused read =
     let n = named words texts text is in
     let reported = λ (h : (status ≡ ALL_CLEAN) ⊎ (status ≡ SOME_FAULTY)).
-        no_report (a.report h).1 status answer (a.report h).4 (a.report h).5 (subst IsRefusedText (one_text words texts text (a.report h).0 (a.report h).1 is (a.report h).2 (a.report h).3) refused) in
+    no_report (a.report h).1 status answer (a.report h).4 (a.report h).5 (subst IsRefusedText (one_text words texts text (a.report h).0 (a.report h).1 is (a.report h).2 (a.report h).3) refused) in
     of_five a.one (λ h. absurd (reported (inl h))) (λ h. absurd (reported (inr h))) (λ h. absurd (none_is_some (file_of words) n.0 n.1 (a.usage h).0)) (λ h. absurd (read h)) (λ h. h)
 
 pub file_judged : (words : List (List ℕ)) (texts : Option (List ℕ → Option (List ℕ))) (unread : Type 0) (status : ℕ) (answer : List ℕ) → Answers words texts unread status answer
@@ -58,6 +50,6 @@ pub file_judged : (words : List (List ℕ)) (texts : Option (List ℕ → Option
 file_judged words texts unread status answer a text is within names functions unit read =
     let n = named words texts text is in
     let refused = λ (h : status ≡ FILE_REFUSED).
-        let same = one_text words texts text (a.refused h).0 (a.refused h).1 is (a.refused h).2 (a.refused h).3 in
-        no_refusal (a.refused h).1 answer names functions (subst (λ (t : List ℕ). length t ≤ FILE_LIMIT) same within) (subst (λ (t : List ℕ). IsUnit t names functions) same unit) (a.refused h).4 in
+    let same = one_text words texts text (a.refused h).0 (a.refused h).1 is (a.refused h).2 (a.refused h).3 in
+    no_refusal (a.refused h).1 answer names functions (subst (λ (t : List ℕ). length t ≤ FILE_LIMIT) same within) (subst (λ (t : List ℕ). IsUnit t names functions) same unit) (a.refused h).4 in
     of_five a.one (λ h. inl h) (λ h. inr h) (λ h. absurd (none_is_some (file_of words) n.0 n.1 (a.usage h).0)) (λ h. absurd (read h)) (λ h. absurd (refused h))

@@ -10,7 +10,7 @@ use Rattle.pungi_base.specs.declared.punct.Punct.TheVariants as punct
 use Rattle.pungi_base.specs.declared.token.Token.{Token}
 use Rattle.pungi_base.specs.declared.verdict.Verdict.{Verdict}
 use Rattle.pungi_base.specs.declared.verdict.Verdict.TheVariants as verdict
-use Rattle.pungi_lex.specs.Tokens.{IsInRange}
+use Rattle.pungi_lex.specs.Known.{IsKnown, AreKnown}
 use Rattle.pungi_straight.specs.declared.function.Function.{Function}
 use Rattle.pungi_straight.specs.Grammar.{Leaf, IsToken, key_leaf, punct_leaf, word_leaf, object_star, params_leaves, local_leaves, statement_leaves, function_leaves, unit_leaves}
 use Rattle.pungi_report.specs.Text.{IsLine}
@@ -19,14 +19,14 @@ use Rattle.pungi.specs.Examine.{IsJudged}
 -- the words of leaves are among the names
 abbrev Known : List (List ℕ) → List Leaf → Type 0
 Known names [] = Unit {0}
-Known names (leaf ∷ leaves) = IsInRange names leaf.0 × Known names leaves
+Known names (leaf ∷ leaves) = IsKnown (length names) leaf.0 × Known names leaves
 
-known_leaves : (names : List (List ℕ)) (tokens : List Token) (leaves : List Leaf) → All (λ (t : Token). IsInRange names t.kind) tokens → AllZip IsToken tokens leaves → Known names leaves
+known_leaves : (names : List (List ℕ)) (tokens : List Token) (leaves : List Leaf) → AreKnown (length names) tokens → AllZip IsToken tokens leaves → Known names leaves
 known_leaves names [] [] known are = tt
 known_leaves names [] (leaf ∷ leaves) known are = absurd are
 known_leaves names (t ∷ tokens) [] known are = absurd are
 known_leaves names (t ∷ tokens) (leaf ∷ leaves) known are =
-    (subst (IsInRange names) are.0.0 (known 0 t (omega arith)), known_leaves names tokens leaves (λ k d lt. known (suc k) d (omega arith)) are.1)
+    (subst (IsKnown (length names)) are.0.0 (known 0 t (omega arith)), known_leaves names tokens leaves (λ k d lt. known (suc k) d (omega arith)) are.1)
 
 known_behind : (names : List (List ℕ)) (front leaves : List Leaf) → Known names (front ++ leaves) → Known names leaves
 known_behind names [] leaves known = known
@@ -79,7 +79,7 @@ lines_printable names (f ∷ functions) (line ∷ lines) known judged =
     All-cons (IsLine names) line lines (printable names f line (known 0 f (omega arith)) judged.0)
     (lines_printable names functions lines (λ k d lt. known (suc k) d (omega arith)) judged.1)
 
-pub all_printable : (names : List (List ℕ)) (tokens : List Token) (functions : List Function) (lines : List (Name × Verdict)) → All (λ (t : Token). IsInRange names t.kind) tokens → AllZip IsToken tokens (unit_leaves functions)
+pub all_printable : (names : List (List ℕ)) (tokens : List Token) (functions : List Function) (lines : List (Name × Verdict)) → AreKnown (length names) tokens → AllZip IsToken tokens (unit_leaves functions)
     → AllZip IsJudged functions lines → All (IsLine names) lines
 all_printable names tokens functions lines known are judged =
     lines_printable names functions lines (names_known names functions (known_leaves names tokens (unit_leaves functions) known are)) judged

@@ -17,7 +17,7 @@ returns-in-Err-clause-report c = no_tokens c.refused.result c.in_ok-names.names 
 
 pub returns-in-Err-NotAUnit-clause-report : goal.returns-in-Err-NotAUnit-clause-report
 returns-in-Err-NotAUnit-clause-report c =
-    no_functions c.in_ok-names.names c.lex.new.names c.args.text.now c.in-Ok.tokens.items c.deref.result.now c.in_ok-names.ensures c.deref.ensures.value c.in-Ok.ensures.only c.in-Ok.ensures.in_range
+    no_functions c.in_ok-names.names c.lex.new.names c.args.text.now c.in-Ok.tokens.items c.deref.result.now c.in_ok-names.ensures c.deref.ensures.value c.in-Ok.ensures.only c.in-Ok.ensures.sized
     (c.in-Err-NotAUnit.ensures.none (ap Err c.in-Err-NotAUnit.field-0-is))
 
 pub report-requires : goal.report-requires
@@ -25,4 +25,4 @@ report-requires c =
     let spelled : AreTokensOfUnit c.in-Ok.tokens.items c.in-Ok-parse.functions.items = subst (λ (ts : List Token). AreTokensOfUnit ts c.in-Ok-parse.functions.items) c.deref.ensures.value c.in-Ok-parse.ensures.unit.0 in
     let judged : AllZip IsJudged c.in-Ok-parse.functions.items c.in_ok-lines.lines.items = subst (λ (fs : List Function). AllZip IsJudged fs c.in_ok-lines.lines.items) c.deref-2.ensures.value c.in_ok-lines.ensures in
     subst (λ (lines : List (Name × Verdict)). All (IsLine c.lex.new.names) lines) (sym c.deref-4.ensures.value)
-    (all_printable c.lex.new.names c.in-Ok.tokens.items c.in-Ok-parse.functions.items c.in_ok-lines.lines.items c.in-Ok.ensures.in_range spelled judged)
+    (all_printable c.lex.new.names c.in-Ok.tokens.items c.in-Ok-parse.functions.items c.in_ok-lines.lines.items c.in-Ok.ensures.known spelled judged)
