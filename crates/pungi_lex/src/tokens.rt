@@ -2,6 +2,7 @@ ghost use Rattle.std.specs.Prelude.{◌≡◌, ◌≤◌, ◌<◌, ◌+◌, ◌^
 ghost use Rattle.pungi_base.specs.declared.token.Token.{Token as TheToken};
 ghost use Rattle.pungi_base.specs.Names.{AreNames, Extends};
 ghost use Rattle.pungi_base.specs.Words.{BeginWithWords};
+ghost use Rattle.pungi_lex.specs.declared.lex_fault.LexFault.{LexFault as TheLexFault};
 ghost use Rattle.pungi_lex.specs.Join.{place_in};
 ghost use Rattle.pungi_lex.specs.Known.{AreKnown};
 ghost use Rattle.pungi_lex.specs.Tokens.{AreTokens, AreTokensOf, IsRefused, HasFault, HasNoTokens, is_memory, token_of, fault_at as fault_told};
@@ -135,6 +136,7 @@ pub fn lex(alloc: Global, names: &mut Names, text: &[u8]) -> Result<Vec<Token>, 
     ensures only { (after : List (List ℕ)) → (tokens : List TheToken) → AreTokensOf names.old after text.now tokens → IfOk result (λ found. (after ≡ names.new) × (tokens ≡ found.items)) }
     ensures known { IfOk result (λ tokens. AreKnown (length names.new) tokens.items) }
     ensures fault { IfErr result (λ fault. is_memory fault ≡ false → HasFault text.now fault) }
+    ensures first { (other : TheLexFault) → HasFault text.now other → IfErr result (λ fault. is_memory fault ≡ false → other ≡ fault) }
     ensures none { IfErr result (λ fault. is_memory fault ≡ false → HasNoTokens names.old text.now) }
     ensures grows { Extends names.old names.new }
     ensures names { AreNames names.new }
