@@ -12,7 +12,7 @@ use Rattle.pungi_lex.specs.Join.{plain, joined, places_of, place_in}
 use Rattle.pungi_lex.specs.Line.{next_line}
 use Rattle.pungi_lex.specs.Piece.{length_at, IsKind, spells, with_texts}
 use Rattle.pungi_lex.specs.Start.{starts}
-use Rattle.pungi_lex.specs.Tokens.{Piece, text_of, IsCut, line_behind, tokens_of, spelled, AreTokens, AreTokensOf, HasFault, HasNoTokens, is_memory}
+use Rattle.pungi_lex.specs.Tokens.{Piece, text_of, IsCut, line_behind, tokens_of, spelled, AreTokens, AreTokensOf, HasFault, HasNoTokens, is_memory, fault_at}
 use Rattle.pungi_lex.proofs.KindLemmas.{kind_once}
 
 front_same : (a x b y : List ℕ) → length a ≡ length b → a ++ x ≡ b ++ y → (a ≡ b) × (x ≡ y)
@@ -83,6 +83,47 @@ pub faults_none : {A : Type 0} (before : List (List ℕ)) (text : List ℕ) (r :
     → IfErr r (λ fault. is_memory fault ≡ false → HasNoTokens before text)
 faults_none before text (Ok x) h = h
 faults_none before text (Err f) h = λ m. fault_none before text f (h m)
+
+-- ---- two cuts that are stuck are stuck at one place
+
+never_both : (line : Line) (q : Piece) (qs : List Piece) (rest end : List ℕ) (m : List (List ℕ)) → length_at (starts line rest) rest ≡ None → IsCut m line (q ∷ qs) end → rest ≡ text_of (q ∷ qs) ++ end → ⊥
+never_both line q qs rest end m none other e =
+    let whole : rest ≡ q.bytes ++ (text_of qs ++ end) = e ∙ append_assoc q.bytes (text_of qs) end in
+    let measured : None ≡ Some (length q.bytes) = sym none ∙ (λ i. length_at (starts line (whole i)) (whole i)) ∙ ap (λ (s : Start). length_at s (q.bytes ++ (text_of qs ++ end))) (sym other.0) ∙ other.1 in
+    cc
+
+record SamePlace (line : Line) (ps qs : List Piece) (rest end : List ℕ) : Type 0 where
+  pub rest_is : end ≡ rest
+  pub line_is : line_behind line qs ≡ line_behind line ps
+  pub front : text_of qs ≡ text_of ps
+
+stuck_same : (n m : List (List ℕ)) (line : Line) (ps qs : List Piece) (rest end : List ℕ) → IsCut n line ps rest → IsCut m line qs end → length_at (starts (line_behind line ps) rest) rest ≡ None
+    → length_at (starts (line_behind line qs) end) end ≡ None → text_of ps ++ rest ≡ text_of qs ++ end → SamePlace line ps qs rest end
+stuck_same n m line [] [] rest end cut other none still e = record { rest_is = sym e; line_is = refl; front = refl }
+stuck_same n m line [] (q ∷ qs) rest end cut other none still e = absurd (never_both line q qs rest end m none other e)
+stuck_same n m line (p ∷ ps) [] rest end cut other none still e = absurd (never_both line p ps end rest n still cut (sym e))
+stuck_same n m line (p ∷ ps) (q ∷ qs) rest end cut other none still e =
+    let head = same_head n m line p q ps qs rest end cut other e in
+    let next = next_line line p.start p.bytes in
+    let later : IsCut m next qs end = subst (λ (l : Line). IsCut m l qs end) head.line_is other.3 in
+    let stays : length_at (starts (line_behind next qs) end) end ≡ None = subst (λ (l : Line). length_at (starts (line_behind l qs) end) end ≡ None) head.line_is still in
+    let r = stuck_same n m next ps qs rest end cut.3 later none stays head.behind in
+    record {
+      rest_is = r.rest_is;
+      line_is = ap (λ (l : Line). line_behind l qs) head.line_is ∙ r.line_is;
+      front = λ i. sym head.bytes i ++ r.front i;
+    }
+
+fault_once : (text : List ℕ) (found other : LexFault) → HasFault text found → HasFault text other → other ≡ found
+fault_once text found other x y =
+    let place = place_in (places_of (joined text)) in
+    let same = stuck_same x.names y.names lines.Fresh x.pieces y.pieces x.rest y.rest x.cut y.cut x.stuck y.stuck (sym x.whole ∙ y.whole) in
+    y.told ∙ (λ i. fault_at (starts (same.line_is i) (same.rest_is i)) (place (length (same.front i)))) ∙ sym x.told
+
+pub faults_once : {A : Type 0} (text : List ℕ) (other : LexFault) (r : Result A LexFault) → IfErr r (λ fault. is_memory fault ≡ false → HasFault text fault) → HasFault text other
+    → IfErr r (λ fault. is_memory fault ≡ false → other ≡ fault)
+faults_once text other (Ok x) h y = tt
+faults_once text other (Err f) h y = λ m. fault_once text f other (h m) y
 
 -- ---- two cuts that go to the end are one
 

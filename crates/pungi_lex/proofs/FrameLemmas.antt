@@ -1,5 +1,6 @@
 -- An expansion by a stack of bodies: what is left of each completes to an expansion of the word.
 use Rattle.std.proofs.Common.{◌≡◌, ℕ, suc, zero, ◌+◌, ◌<◌, ◌≤◌, Bool, true, false, List, [], ◌∷◌, ◌++◌, length, drop, set, get_or, reverse, Option, Some, None, refl, sym, ap, subst, ◌∙◌, arith, append_assoc}
+use Rattle.std.specs.Prelude.{is_some}
 use Rattle.std.proofs.Math.Seq.{drop-cons}
 use Rattle.std.proofs.lemmas.List.{append-nil, reverse-append}
 use Rattle.pungi_base.specs.declared.kind.Kind.{Kind}
@@ -253,3 +254,11 @@ over_within first now f fs t before after used count some full x =
 pub unpopped : (first now : Macros) (f : Frame) (frames rest : List Frame) (t : Token) (before after : List Token) (used count : ℕ) → frames ≡ rest ++ f ∷ [] → Expansion first now (reverse frames) t before after used count
     → Expansion first now (f ∷ reverse rest) t before after used count
 unpopped first now f frames rest t before after used count e x = subst (λ (l : List Frame). Expansion first now l t before after used count) (ap reverse e ∙ pushed rest f) x
+
+-- a token that is no word stays
+pub stays : (m : Macros) (used : ℕ) (t : Token) (before after : List Token) → is_some (word_number t.kind) ≡ false → after ≡ before ++ t ∷ [] → IsReplaced m used t before after (used + 1)
+stays m used t before after other is = (t.kind ∷ [], 1, Kept m t.kind [] [] 0 (ap (body_at m) (nothing (word_number t.kind) other)) (Nothing m), is, refl)
+  where
+    nothing : (n : Option ℕ) → is_some n ≡ false → n ≡ None
+    nothing None e = refl
+    nothing (Some n) e = absurd cc

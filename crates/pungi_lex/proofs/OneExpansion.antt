@@ -227,17 +227,17 @@ record RanPlain (macros : Macros) (n : ℕ) (t : Token) (parts : List Part) (out
   pub out_is : out ≡ placed t kinds ++ rest
 
 abbrev Running : Macros → ℕ → List Part → List Token → Macros → ℕ → Type 0
-Running macros n [] out last m = out ≡ []
+Running macros n [] out last m = (out ≡ []) × (last ≡ macros) × (m ≡ n)
 Running macros n (Directed hash words ∷ parts) out last m = RanDirective macros n hash words parts out last m
 Running macros n (Plain t ∷ parts) out last m = RanPlain macros n t parts out last m
 
 running : (macros : Macros) (n : ℕ) (parts : List Part) (out : List Token) (last : Macros) (m : ℕ) → Runs macros n parts out last m → Running macros n parts out last m
-running macros n parts out last m (Ends _ _) = refl
+running macros n parts out last m (Ends _ _) = (refl, refl, refl)
 running macros n parts out last m (Directs _ next _ _ _ hash words rest _ obeys runs) = record { next = next; obeys = obeys; behind = runs }
 running macros n parts out last m (Expanded _ _ _ k _ t kinds rest later expands few runs) = record { kinds = kinds; spent = k; rest = later; expands = expands; within = few; behind = runs; out_is = refl }
 
 runs_once : (macros : Macros) (n : ℕ) (parts : List Part) (out other : List Token) (last final : Macros) (m c : ℕ) → Runs macros n parts out last m → Runs macros n parts other final c → other ≡ out
-runs_once macros n parts out other last final m c (Ends _ _) y = running macros n [] other final c y
+runs_once macros n parts out other last final m c (Ends _ _) y = (running macros n [] other final c y).0
 runs_once macros n parts out other last final m c (Directs _ next _ _ _ hash words rest _ obeys runs) y =
     let r = running macros n (Directed hash words ∷ rest) other final c y in
     let same : r.next ≡ next = ok_once macros next r.next hash words obeys r.obeys in
@@ -264,6 +264,99 @@ refused_once macros n parts more part found out other last final m c (Expanded _
     let r = running macros n (Plain t ∷ (rest ++ part ∷ more)) other final c y in
     let same = expands_once macros (t.kind ∷ []) kinds k expands r.kinds r.spent r.expands in
     refused_once macros (n + k) rest more part found later r.rest last final m c runs refused (subst (λ (j : ℕ). Runs macros (n + j) (rest ++ part ∷ more) r.rest final c) same.1 r.behind)
+
+-- ---- parts are refused at one place
+
+-- of two fronts of one list of tokens, one is the front of the other
+abbrev Begins : List Part → List Part → Type 0
+Begins ps qs = (more : List Part) × (qs ≡ ps ++ more)
+
+with_head : (p q : Part) (ps qs : List Part) → q ≡ p → Begins ps qs ⊎ Begins qs ps → Begins (p ∷ ps) (q ∷ qs) ⊎ Begins (q ∷ qs) (p ∷ ps)
+with_head p q ps qs same (inl r) = inl (r.0, λ i. same i ∷ r.1 i)
+with_head p q ps qs same (inr r) = inr (r.0, λ i. sym same i ∷ r.1 i)
+
+one_front : (ps qs : List Part) (rest end : List Token) → ArePartsBefore ps rest → ArePartsBefore qs end → tokens_in ps ++ rest ≡ tokens_in qs ++ end → Begins ps qs ⊎ Begins qs ps
+one_front [] qs rest end are others e = inl (qs, refl)
+one_front (p ∷ ps) [] rest end are others e = inr (p ∷ ps, refl)
+one_front (Directed h ws ∷ ps) (Plain u ∷ qs) rest end are others e =
+    let head : h ≡ u = cc in
+    absurd (others.0 (subst IsHash head are.0))
+one_front (Plain t ∷ ps) (Directed h ws ∷ qs) rest end are others e =
+    let head : h ≡ t = cc in
+    absurd (are.0 (subst IsHash head others.0))
+one_front (Plain t ∷ ps) (Plain u ∷ qs) rest end are others e =
+    let head : u ≡ t = cc in
+    let tail : tokens_in ps ++ rest ≡ tokens_in qs ++ end = cc in
+    with_head (Plain t) (Plain u) ps qs (ap Plain head) (one_front ps qs rest end are.1 others.1 tail)
+one_front (Directed h ws ∷ ps) (Directed g vs ∷ qs) rest end are others e =
+    let head : g ≡ h = cc in
+    let tail : (ws ++ tokens_in ps) ++ rest ≡ (vs ++ tokens_in qs) ++ end = cc in
+    let same = words_once ws (tokens_in ps ++ rest) vs (tokens_in qs ++ end) are.1 are.2 others.1 others.2 (sym (append_assoc ws (tokens_in ps) rest) ∙ tail ∙ append_assoc vs (tokens_in qs) end) in
+    with_head (Directed h ws) (Directed g vs) ps qs (λ i. Directed (head i) (same.0 i)) (one_front ps qs rest end are.3 others.3 same.1)
+
+never_nothing : (ps more : List Part) (p : Part) → [] ≡ (ps ++ p ∷ []) ++ more → ⊥
+never_nothing [] more p e = cc
+never_nothing (q ∷ ps) more p e = cc
+
+-- where parts with one behind them begin other parts, that one is the last of these, or it stands among them
+abbrev IsLastOrWithin : List Part → List Part → Part → Part → Type 0
+IsLastOrWithin ps qs p q = ((qs ≡ ps) × (q ≡ p)) ⊎ ((later : List Part) × (qs ≡ ps ++ p ∷ later))
+
+behind_head : (a b : Part) (ps qs : List Part) (p q : Part) → b ≡ a → IsLastOrWithin ps qs p q → IsLastOrWithin (a ∷ ps) (b ∷ qs) p q
+behind_head a b ps qs p q same (inl r) = inl ((λ i. same i ∷ r.0 i), r.1)
+behind_head a b ps qs p q same (inr r) = inr (r.0, λ i. same i ∷ r.1 i)
+
+last_or_within : (ps qs more : List Part) (p q : Part) → qs ++ q ∷ [] ≡ (ps ++ p ∷ []) ++ more → IsLastOrWithin ps qs p q
+last_or_within [] [] more p q e = let same : q ≡ p = cc in inl (refl, same)
+last_or_within [] (b ∷ qs) more p q e = let same : b ≡ p = cc in inr (qs, λ i. same i ∷ qs)
+last_or_within (a ∷ ps) [] more p q e = let none : [] ≡ (ps ++ p ∷ []) ++ more = cc in absurd (never_nothing ps more p none)
+last_or_within (a ∷ ps) (b ∷ qs) more p q e =
+    let same : b ≡ a = cc in
+    let tail : qs ++ q ∷ [] ≡ (ps ++ p ∷ []) ++ more = cc in
+    behind_head a b ps qs p q same (last_or_within ps qs more p q tail)
+
+ends_once : (macros : Macros) (n : ℕ) (parts : List Part) (out other : List Token) (last final : Macros) (m c : ℕ) → Runs macros n parts out last m → Runs macros n parts other final c → (final ≡ last) × (c ≡ m)
+ends_once macros n parts out other last final m c (Ends _ _) y = let r = running macros n [] other final c y in (r.1, r.2)
+ends_once macros n parts out other last final m c (Directs _ next _ _ _ hash words rest _ obeys runs) y =
+    let r = running macros n (Directed hash words ∷ rest) other final c y in
+    let same : r.next ≡ next = ok_once macros next r.next hash words obeys r.obeys in
+    ends_once next n rest out other last final m c runs (subst (λ (l : Macros). Runs l n rest other final c) same r.behind)
+ends_once macros n parts out other last final m c (Expanded _ _ _ k _ t kinds rest later expands few runs) y =
+    let r = running macros n (Plain t ∷ rest) other final c y in
+    let same = expands_once macros (t.kind ∷ []) kinds k expands r.kinds r.spent r.expands in
+    ends_once macros (n + k) rest later r.rest last final m c runs (subst (λ (j : ℕ). Runs macros (n + j) rest r.rest final c) same.1 r.behind)
+
+refuses_once : (macros : Macros) (n : ℕ) (part : Part) (found other : MacroFault) → Refuses macros n part found → Refuses macros n part other → other ≡ found
+refuses_once macros n part found other (OfDirective hash words _ x) (OfDirective _ _ _ y) = let same = obeys_once macros hash words (Err found) (Err other) x y in cc
+refuses_once macros n part found other (OfCount t kinds k x over) (OfCount _ _ _ y more) = refl
+
+fault_once : (names : ℕ) (tokens : List Token) (found other : MacroFault) → HasMacroFault names tokens found → HasMacroFault names tokens other → other ≡ found
+fault_once names tokens found other x y = by (one_front (x.parts ++ x.part ∷ []) (y.parts ++ y.part ∷ []) x.rest y.rest x.are y.are (sym x.whole ∙ y.whole))
+  where
+    at_last : y.parts ≡ x.parts → y.part ≡ x.part → other ≡ found
+    at_last parts part =
+        let runs : Runs (predefined names) 0 x.parts y.out y.macros y.count = subst (λ (ps : List Part). Runs (predefined names) 0 ps y.out y.macros y.count) parts y.runs in
+        let same = ends_once (predefined names) 0 x.parts x.out y.out x.macros y.macros x.count y.count x.runs runs in
+        let refused : Refuses x.macros x.count x.part other =
+        subst (λ (m : Macros). Refuses m x.count x.part other) same.0 (subst (λ (k : ℕ). Refuses y.macros k x.part other) same.1 (subst (λ (p : Part). Refuses y.macros y.count p other) part y.refused)) in
+        refuses_once x.macros x.count x.part found other x.refused refused
+
+    ahead : IsLastOrWithin x.parts y.parts x.part y.part → other ≡ found
+    ahead (inl r) = at_last r.0 r.1
+    ahead (inr r) = absurd (refused_once (predefined names) 0 x.parts r.0 x.part found x.out y.out x.macros y.macros x.count y.count x.runs x.refused (subst (λ (ps : List Part). Runs (predefined names) 0 ps y.out y.macros y.count) r.1 y.runs))
+
+    behind : IsLastOrWithin y.parts x.parts y.part x.part → other ≡ found
+    behind (inl r) = at_last (sym r.0) (sym r.1)
+    behind (inr r) = absurd (refused_once (predefined names) 0 y.parts r.0 y.part other y.out x.out y.macros x.macros y.count x.count y.runs y.refused (subst (λ (ps : List Part). Runs (predefined names) 0 ps x.out x.macros x.count) r.1 x.runs))
+
+    by : Begins (x.parts ++ x.part ∷ []) (y.parts ++ y.part ∷ []) ⊎ Begins (y.parts ++ y.part ∷ []) (x.parts ++ x.part ∷ []) → other ≡ found
+    by (inl r) = ahead (last_or_within x.parts y.parts r.0 x.part y.part r.1)
+    by (inr r) = behind (last_or_within y.parts x.parts r.0 y.part x.part r.1)
+
+pub faults_once : {A : Type 0} (names : ℕ) (tokens : List Token) (other : MacroFault) (r : Result A MacroFault) → IfErr r (λ found. is_want_of_memory found ≡ false → HasMacroFault names tokens found)
+    → HasMacroFault names tokens other → IfErr r (λ found. is_want_of_memory found ≡ false → other ≡ found)
+faults_once names tokens other (Ok out) x y = tt
+faults_once names tokens other (Err found) x y = λ m. fault_once names tokens found other (x m) y
 
 -- ---- no more tokens than the limit
 

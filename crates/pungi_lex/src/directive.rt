@@ -1,11 +1,9 @@
-ghost use Rattle.std.specs.Prelude.{◌≡◌, ◌≢◌, ◌≤◌, ◌<◌, ℕ, List, length, map, get_or, set, true, false, not, Some, None, Ok, Err, IfOk, IfErr, IsTrue, MatchOption, take, [], ◌∷◌};
-ghost use Rattle.pungi_base.specs.declared.token.Token.{Token as TheToken};
+ghost use Rattle.std.specs.Prelude.{◌≡◌, ◌≢◌, ◌<◌, length, map, get_or, true, false, Some, None, Ok, Err, IfOk, IfErr, IsTrue, MatchOption, []};
 ghost use Rattle.pungi_base.specs.declared.kind.Kind.TheVariants as kind;
 ghost use Rattle.pungi_base.specs.declared.punct.Punct.TheVariants as punct;
 ghost use Rattle.pungi_lex.specs.declared.macro_fault.MacroFault.TheVariants as fault;
 ghost use Rattle.pungi_lex.specs.Directive.{IsHash, IsWord, IsFunctionLike, Redefines, HasNoJointBelow, IsJointAt, Defines, Obeys, IsInclusion, IsDefinition, IsDefinitionOf, kinds_of};
 ghost use Rattle.pungi_lex.specs.MacroFault.{is_want_of_memory};
-ghost use Rattle.pungi_lex.specs.Macros.{body_of};
 ghost use Rattle.pungi_lex.specs.Predefined.{is_predefined as predefined_number};
 
 use crate::macro_fault::MacroFault;

@@ -2,12 +2,13 @@ ghost use Rattle.std.specs.Prelude.{◌≡◌, ◌≤◌, ◌<◌, ◌^◌, ◌-
 ghost use Rattle.std.specs.List.{prefix_len};
 ghost use Rattle.pungi_base.specs.declared.token.Token.{Token as TheToken};
 ghost use Rattle.pungi_base.specs.Words.{BeginWithWords};
+ghost use Rattle.pungi_lex.specs.declared.macro_fault.MacroFault.{MacroFault as TheMacroFault};
 ghost use Rattle.pungi_lex.specs.Expander.{IsExpanded, HasMacroFault, HasNoExpansion};
 ghost use Rattle.pungi_lex.specs.Known.{AreKnown};
 ghost use Rattle.pungi_lex.specs.MacroFault.{is_want_of_memory};
 
 use crate::directive::{is_hash, obey, token_at};
-use crate::frames::{TOKEN_LIMIT, expand_word};
+use crate::frames::{TOKEN_LIMIT, expand_token};
 use crate::macro_fault::MacroFault;
 use crate::predefined::predefined;
 use pungi_base::{Names, Token};
@@ -46,7 +47,7 @@ fn expand_tokens(alloc: Global, names: &Names, tokens: &[Token]) -> Result<Vec<T
                 Err(found) => return Err(found),
             }
         } else {
-            match expand_word(alloc, &mut table, &mut out, count, &token) {
+            match expand_token(alloc, &mut table, &mut out, count, &token) {
                 Ok(now) => {
                     count = now;
                     done += 1;
@@ -67,6 +68,7 @@ pub fn expand(alloc: Global, names: &Names, tokens: &[Token]) -> Result<Vec<Toke
     ensures within { IfOk result (λ out. length out.items ≤ TOKEN_LIMIT) }
     ensures known { AreKnown (length names.now) tokens.now → IfOk result (λ out. AreKnown (length names.now) out.items) }
     ensures fault { IfErr result (λ fault. is_want_of_memory fault ≡ false → HasMacroFault (length names.now) tokens.now fault) }
+    ensures first { (other : TheMacroFault) → HasMacroFault (length names.now) tokens.now other → IfErr result (λ fault. is_want_of_memory fault ≡ false → other ≡ fault) }
     ensures none { IfErr result (λ fault. is_want_of_memory fault ≡ false → HasNoExpansion (length names.now) tokens.now) }
 {
     expand_tokens(alloc, names, tokens)

@@ -1,8 +1,7 @@
-ghost use Rattle.std.specs.Prelude.{◌≡◌, ◌≤◌, ◌<◌, ◌+◌, ◌++◌, ℕ, List, length, [], ◌∷◌, Some, None, IfOk, IfErr, OnOk, false};
-ghost use Rattle.pungi_base.specs.declared.kind.Kind.{Kind as TheKind};
+ghost use Rattle.std.specs.Prelude.{◌≡◌, ◌≤◌, ◌<◌, ◌+◌, Some, None, is_some, IfOk, IfErr, OnOk, false};
 ghost use Rattle.pungi_lex.specs.MacroFault.{is_want_of_memory};
 ghost use Rattle.pungi_lex.specs.Frames.{Emits, IsReplaced, IsOverLimit};
-ghost use Rattle.pungi_lex.specs.Macros.{Expands, placed};
+ghost use Rattle.pungi_lex.specs.Macros.{Expands, word_number};
 
 use crate::macro_fault::MacroFault;
 use crate::macros::{Body, put_body, take_body};
@@ -18,6 +17,15 @@ struct Frame {
     name: u32,
     body: Body,
     next: usize,
+}
+
+fn is_word(kind: Kind) -> bool
+    ensures { result ≡ is_some (word_number kind) }
+{
+    match kind {
+        Kind::Word(_) => true,
+        _ => false,
+    }
 }
 
 /// Writes a kind out, or opens its body.
@@ -47,7 +55,7 @@ fn emit(
 }
 
 /// Expands a word of the text.
-pub(crate) fn expand_word(
+fn expand_word(
     alloc: Global,
     table: &mut Vec<Option<Body>>,
     out: &mut Vec<Token>,
@@ -88,5 +96,29 @@ pub(crate) fn expand_word(
                 }
             }
         }
+    }
+}
+
+/// Expands a token of the text. One that is no word stays.
+pub(crate) fn expand_token(
+    alloc: Global,
+    table: &mut Vec<Option<Body>>,
+    out: &mut Vec<Token>,
+    used: usize,
+    token: &Token,
+) -> Result<usize, MacroFault>
+    requires { used ≤ TOKEN_LIMIT }
+    ensures replaced { IfOk result (λ count. IsReplaced table.old.items used token.now out.old.items out.new.items count) }
+    ensures within { IfOk result (λ count. count ≤ TOKEN_LIMIT) }
+    ensures same { OnOk result (table.new.items ≡ table.old.items) }
+    ensures over { IfErr result (λ fault. is_want_of_memory fault ≡ false → IsOverLimit table.old.items used token.now fault) }
+{
+    if used < TOKEN_LIMIT && !is_word(token.kind) {
+        out.push(*token)?;
+        return Ok(used + 1);
+    }
+    match expand_word(alloc, table, out, used, token) {
+        Ok(count) => Ok(count),
+        Err(found) => Err(found),
     }
 }

@@ -1,4 +1,4 @@
-ghost use Rattle.std.specs.Prelude.{◌≡◌, ◌≤◌, ◌<◌, ◌+◌, ◌-◌, ◌^◌, ℕ, List, length, IfOk};
+ghost use Rattle.std.specs.Prelude.{◌≡◌, ◌≤◌, ◌<◌, ◌+◌, ◌-◌, ◌^◌, ◌∷◌, length, IfOk};
 ghost use Rattle.pungi_lex.specs.Join.{join_length as length_of_join, still as still_left, after_byte as behind_byte, bytes_of, places_of, joined};
 
 use crate::tokens::TEXT_LIMIT;
@@ -12,18 +12,35 @@ pub(crate) struct Joined {
     pub places: Vec<Pos>,
 }
 
+const BACKSLASH: u8 = b'\\';
+
 /// How long the line join at the front of a text is.
 fn join_length(text: &[u8]) -> usize
     ensures { result ≡ length_of_join text.now }
 {
     match text {
         [] => 0,
-        [_] => 0,
-        [a, b] => { if *a == b'\\' && *b == b'\n' { 2 } else { 0 } }
-        [a, b, c, ..] => {
-            if *a == b'\\' && *b == b'\n' {
+        [b, rest @ ..] => {
+            if *b == BACKSLASH {
+                join_end_length(rest)
+            } else {
+                0
+            }
+        }
+    }
+}
+
+/// How long a line join is whose backslash has this behind it.
+fn join_end_length(rest: &[u8]) -> usize
+    ensures { result ≡ length_of_join (BACKSLASH ∷ rest.now) }
+{
+    match rest {
+        [] => 0,
+        [a] => { if *a == b'\n' { 2 } else { 0 } }
+        [a, b, ..] => {
+            if *a == b'\n' {
                 2
-            } else if *a == b'\\' && *b == b'\r' && *c == b'\n' {
+            } else if *a == b'\r' && *b == b'\n' {
                 3
             } else {
                 0

@@ -1,4 +1,4 @@
-ghost use Rattle.std.specs.Prelude.{◌≡◌, ◌≤◌, ◌<◌, List, length, set, get_or, Some, None, MatchOption};
+ghost use Rattle.std.specs.Prelude.{◌≡◌, ◌<◌, List, length, set, get_or, Some, None, MatchOption};
 ghost use Rattle.pungi_base.specs.declared.kind.Kind.{Kind as TheKind};
 ghost use Rattle.pungi_lex.specs.Macros.{word_number, body_of, replacement};
 

@@ -2,6 +2,7 @@ ghost use Rattle.std.specs.Prelude.{◌≡◌, ◌≤◌, ◌<◌, ◌+◌, ◌^
 ghost use Rattle.pungi_base.specs.declared.token.Token.{Token as TheToken};
 ghost use Rattle.pungi_base.specs.Names.{AreNames, Extends};
 ghost use Rattle.pungi_base.specs.Words.{BeginWithWords};
+ghost use Rattle.pungi_lex.specs.declared.lex_fault.LexFault.{LexFault as TheLexFault};
 ghost use Rattle.pungi_lex.specs.Join.{place_in};
 ghost use Rattle.pungi_lex.specs.Known.{AreKnown};
 ghost use Rattle.pungi_lex.specs.Size.{AreSized};
@@ -141,6 +142,7 @@ pub fn lex(alloc: Global, names: &mut Names, text: &[u8]) -> Result<Vec<Token>, 
     ensures known { IfOk result (λ tokens. AreKnown (length names.new) tokens.items) }
     ensures sized { IfOk result (λ tokens. AreSized tokens.items) }
     ensures fault { IfErr result (λ fault. is_memory fault ≡ false → HasFault text.now fault) }
+    ensures first { (other : TheLexFault) → HasFault text.now other → IfErr result (λ fault. is_memory fault ≡ false → other ≡ fault) }
     ensures none { IfErr result (λ fault. is_memory fault ≡ false → HasNoTokens names.old text.now) }
     ensures grows { Extends names.old names.new }
     ensures names { AreNames names.new }

@@ -28,14 +28,14 @@ pub parts-preserved : goal.parts-preserved
 parts-preserved c =
     let some : 0 < length c.split_at.result.1.now = grind (arith, nat_tests, c.is_empty.ensures, c.if-is_empty.false) in
     record {
-      progress = at_plain (length c.args.names.now) c.args.tokens.now c.split_at.result.1.now c.parts.done c.parts.table.items c.expand_word.new.table.items c.parts.count c.in-Ok-expand_word.now c.parts.out.items c.expand_word.new.out.items c.token_at-token.result
-          c.split_at.ensures.back some c.token_at-token.ensures (c.is_hash.ensures.other c.if-is_hash.false) c.in-Ok-expand_word.ensures.replaced c.in-Ok-expand_word.ensures.within c.in-Ok-expand_word.ensures.same c.parts.invariant.progress;
+      progress = at_plain (length c.args.names.now) c.args.tokens.now c.split_at.result.1.now c.parts.done c.parts.table.items c.expand_token.new.table.items c.parts.count c.in-Ok-expand_token.now c.parts.out.items c.expand_token.new.out.items c.token_at-token.result
+          c.split_at.ensures.back some c.token_at-token.ensures (c.is_hash.ensures.other c.if-is_hash.false) c.in-Ok-expand_token.ensures.replaced c.in-Ok-expand_token.ensures.within c.in-Ok-expand_token.ensures.same c.parts.invariant.progress;
       within = omega (arith, some, c.split_at.ensures.back_len, c.parts.invariant.within);
-      few = c.in-Ok-expand_word.ensures.within;
+      few = c.in-Ok-expand_token.ensures.within;
     }
 
-pub returns-in-Err-expand_word-clause-fault : goal.returns-in-Err-expand_word-clause-fault
-returns-in-Err-expand_word-clause-fault c = λ other.
+pub returns-in-Err-expand_token-clause-fault : goal.returns-in-Err-expand_token-clause-fault
+returns-in-Err-expand_token-clause-fault c = λ other.
     let some : 0 < length c.split_at.result.1.now = grind (arith, nat_tests, c.is_empty.ensures, c.if-is_empty.false) in
-    plain_refused (length c.args.names.now) c.args.tokens.now c.split_at.result.1.now c.parts.done c.parts.table.items c.parts.count c.parts.out.items c.token_at-token.result c.in-Err-expand_word.found
-    c.split_at.ensures.back some c.token_at-token.ensures (c.is_hash.ensures.other c.if-is_hash.false) (c.in-Err-expand_word.ensures.over other) c.parts.invariant.progress
+    plain_refused (length c.args.names.now) c.args.tokens.now c.split_at.result.1.now c.parts.done c.parts.table.items c.parts.count c.parts.out.items c.token_at-token.result c.in-Err-expand_token.found
+    c.split_at.ensures.back some c.token_at-token.ensures (c.is_hash.ensures.other c.if-is_hash.false) (c.in-Err-expand_token.ensures.over other) c.parts.invariant.progress

@@ -2,7 +2,7 @@ use Rattle.std.proofs.Common.{◌≤◌, ℕ, List, length, ap, arith}
 use Rattle.std.proofs.lemmas.List.{length-take}
 use Rattle.pungi_base.specs.declared.words.TheConstants.{KEYWORDS}
 use Rattle.pungi_base.specs.Words.{BeginWithWords, builtin_words}
-use Rattle.pungi_lex.proofs.Exact.{faults_none, tokens_once}
+use Rattle.pungi_lex.proofs.Exact.{faults_none, faults_once, tokens_once}
 use Rattle.pungi_lex.proofs.KnownTokens.{tokens_known}
 use Rattle.pungi_lex.proofs.SizedTokens.{tokens_sized}
 use Rattle.pungi_lex.proofs.tokens.lex.Goals as goal
@@ -25,3 +25,6 @@ returns-clause-known c = tokens_known (λ found. found.items) c.args.names.now c
 
 pub returns-clause-sized : goal.returns-clause-sized
 returns-clause-sized c = tokens_sized (λ found. found.items) c.args.names.now c.cut_text.new.names c.args.text.now c.cut_text.result c.cut_text.ensures.tokens
+
+pub returns-clause-first : goal.returns-clause-first
+returns-clause-first c = λ other is. faults_once c.args.text.now other c.cut_text.result c.cut_text.ensures.fault is
