@@ -1,9 +1,9 @@
 -- Each status comes where its cause holds.
-use Rattle.std.proofs.Common.{◌≡◌, ◌⊎◌, inl, inr, ⊎_elim, ℕ, ◌≤◌, ◌<◌, Bool, true, false, List, length, Option, Some, None, sym, subst, ◌∙◌, arith}
+use Rattle.std.proofs.Common.{◌≡◌, ◌⊎◌, inl, inr, ⊎_elim, ℕ, ◌≤◌, ◌<◌, List, length, Option, Some, None, subst, arith}
 use Rattle.std.specs.Prelude.{IsNone}
 use Rattle.pungi_straight.specs.declared.function.Function.{Function}
 use Rattle.pungi.specs.declared.read.TheConstants.{FILE_LIMIT}
-use Rattle.pungi.specs.declared.status.TheConstants.{ALL_CLEAN, SOME_FAULTY, WORDS_REFUSED, FILE_UNREAD, FILE_REFUSED}
+use Rattle.pungi.specs.declared.status.TheConstants.{ALL_CLEAN, SOME_FAULTY, FILE_UNREAD, FILE_REFUSED}
 use Rattle.pungi.specs.Settings.{file_of}
 use Rattle.pungi.specs.Read.{IsRead}
 use Rattle.pungi.specs.Examine.{IsUnit, IsNoUnit, IsReport}

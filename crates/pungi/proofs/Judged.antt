@@ -1,5 +1,5 @@
 -- Functions of the first form that are judged one after another.
-use Rattle.std.proofs.Common.{◌≡◌, ℕ, ◌+◌, ◌<◌, ◌≤◌, List, [], ◌∷◌, ◌++◌, length, get_or, drop, IsTrue, ◌&&◌, Bool, true, false, not, refl, sym, ap, ◌∙◌, subst, append_assoc, add-one, drop-cons, true≢false, arith}
+use Rattle.std.proofs.Common.{◌≡◌, ℕ, ◌+◌, ◌<◌, ◌≤◌, List, [], ◌∷◌, ◌++◌, length, get_or, drop, IsTrue, ◌&&◌, Bool, true, false, not, refl, sym, subst, append_assoc, drop-cons, true≢false, arith}
 use Rattle.std.proofs.lemmas.List.{append-nil, drop_all}
 use Rattle.std.specs.List.{AllZip, list_all}
 use Rattle.pungi_base.specs.declared.names.Name.{Name}

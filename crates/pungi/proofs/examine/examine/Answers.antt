@@ -1,4 +1,4 @@
-use Rattle.std.proofs.Common.{◌≡◌, List, sym, ap, subst}
+use Rattle.std.proofs.Common.{List, sym, ap, subst}
 use Rattle.std.specs.Prelude.{Err}
 use Rattle.std.specs.List.{All, AllZip}
 use Rattle.pungi_base.specs.declared.names.Name.{Name}
