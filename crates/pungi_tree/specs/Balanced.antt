@@ -1,0 +1,62 @@
+-- Tokens in which the three kinds of brackets match.
+--   is_same m n            the same closing bracket
+--   closed m awaited       the brackets that are awaited once a closing one was read, where it is the innermost that was
+--   awaited_after k awaited    the brackets that are awaited once a token was read, the innermost first; none where it closes another one
+--   closes ts awaited      the tokens close the brackets that are awaited, and all that they open
+--   is_balanced ts         the tokens close all that they open, and nothing else
+use Rattle.std.specs.Prelude.{Bool, true, false, if◌then◌else◌, List, [], ◌∷◌, Option, Some, None}
+use Rattle.pungi_base.specs.declared.kind.Kind.{Kind}
+use Rattle.pungi_base.specs.declared.kind.Kind.TheVariants as kind
+use Rattle.pungi_base.specs.declared.punct.Punct.{Punct}
+use Rattle.pungi_base.specs.declared.punct.Punct.TheVariants as puncts
+use Rattle.pungi_tree.specs.Placed.{Placed}
+
+abbrev pub is_right_paren : Punct → Bool
+is_right_paren puncts.RightParen = true
+is_right_paren _ = false
+
+abbrev pub is_right_bracket : Punct → Bool
+is_right_bracket puncts.RightBracket = true
+is_right_bracket _ = false
+
+abbrev pub is_right_brace : Punct → Bool
+is_right_brace puncts.RightBrace = true
+is_right_brace _ = false
+
+abbrev pub is_same : Punct → Punct → Bool
+is_same puncts.RightParen n = is_right_paren n
+is_same puncts.RightBracket n = is_right_bracket n
+is_same puncts.RightBrace n = is_right_brace n
+is_same _ n = false
+
+abbrev pub closed : Punct → List Punct → Option (List Punct)
+closed m [] = None
+closed m (n ∷ awaited) = if is_same m n then Some awaited else None
+
+abbrev pub awaited_after_mark : Punct → List Punct → Option (List Punct)
+awaited_after_mark puncts.LeftParen awaited = Some (puncts.RightParen ∷ awaited)
+awaited_after_mark puncts.LeftBracket awaited = Some (puncts.RightBracket ∷ awaited)
+awaited_after_mark puncts.LeftBrace awaited = Some (puncts.RightBrace ∷ awaited)
+awaited_after_mark puncts.RightParen awaited = closed puncts.RightParen awaited
+awaited_after_mark puncts.RightBracket awaited = closed puncts.RightBracket awaited
+awaited_after_mark puncts.RightBrace awaited = closed puncts.RightBrace awaited
+awaited_after_mark _ awaited = Some awaited
+
+abbrev pub awaited_after : Kind → List Punct → Option (List Punct)
+awaited_after (kind.Punct m) awaited = awaited_after_mark m awaited
+awaited_after _ awaited = Some awaited
+
+abbrev pub none_awaited : List Punct → Bool
+none_awaited [] = true
+none_awaited (m ∷ awaited) = false
+
+abbrev pub holds_of : Option (List Punct) → (List Punct → Bool) → Bool
+holds_of None test = false
+holds_of (Some awaited) test = test awaited
+
+abbrev pub closes : List Placed → List Punct → Bool
+closes [] awaited = none_awaited awaited
+closes (t ∷ ts) awaited = holds_of (awaited_after t.0 awaited) (closes ts)
+
+abbrev pub is_balanced : List Placed → Bool
+is_balanced ts = closes ts []
