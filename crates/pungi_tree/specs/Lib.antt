@@ -4,7 +4,6 @@ pub mod ExprFlat
 pub mod ExprLevels
 pub mod ExprSpells
 pub mod ExprView
-pub mod Flat
 pub mod Operators
 pub mod Placed
 pub mod StmtDepth
@@ -13,6 +12,7 @@ pub mod StmtLevels
 pub mod StmtSpells
 pub mod StmtView
 pub mod Syntax
+pub mod Tokens
 pub mod TypeWords
 pub mod UnitDepth
 pub mod UnitFlat

@@ -1,6 +1,6 @@
 -- The tokens of a declaration or a statement from left to right (C11 6.7 and 6.8).
 --   optional_flat         an expression, where it is there
---   head_flat k e         a keyword and an expression in parentheses
+--   condition_flat k e         a keyword and an expression in parentheses
 --   init_flat, var_decl_flat, vars_flat, more_vars_flat, decl_flat    a first value with its `=`, variables, and their declaration
 --   for_start_flat        what a `for` begins with
 --   stmt_flat, stmts_flat statements
@@ -11,7 +11,7 @@ use Rattle.pungi_base.specs.declared.kind.Kind.{Kind}
 use Rattle.pungi_base.specs.declared.kind.Kind.TheVariants as kind
 use Rattle.pungi_base.specs.declared.punct.Punct.TheVariants as puncts
 use Rattle.pungi_tree.specs.ExprFlat.{expr_flat, spec_flat, declr_flat}
-use Rattle.pungi_tree.specs.Flat.{mark, key, keys_flat}
+use Rattle.pungi_tree.specs.Tokens.{mark, key, keys_flat}
 use Rattle.pungi_tree.specs.Placed.{kinds}
 use Rattle.pungi_tree.specs.Syntax.{Expr, Init, value, table, VarDecl, var_decl, Decl, decl, ForStart, start_decl, start_expr, Stmt, block, declare, do_expr, if_only, if_else, while, do_while, for, switch, case, default, label, goto, break, continue, return, Stmts, no_stmts, stmt_and}
 
@@ -20,8 +20,8 @@ optional_flat None = []
 optional_flat (Some e) = expr_flat e
 
 -- a keyword and a condition in parentheses
-abbrev pub head_flat : Key → Expr → List Kind
-head_flat k e = key k ∷ mark puncts.LeftParen ∷ (expr_flat e ++ mark puncts.RightParen ∷ [])
+abbrev pub condition_flat : Key → Expr → List Kind
+condition_flat k e = key k ∷ mark puncts.LeftParen ∷ (expr_flat e ++ mark puncts.RightParen ∷ [])
 
 abbrev pub init_flat : Option Init → List Kind
 init_flat None = []

@@ -7,7 +7,7 @@ use Rattle.pungi_base.specs.declared.pos.Pos.{Pos}
 use Rattle.pungi_base.specs.declared.punct.Punct.TheVariants as puncts
 use Rattle.pungi_base.specs.declared.words.TheConstants.{PY_DOC_STRVAR}
 use Rattle.pungi_tree.specs.ExprSpells.{SpellsTexts, SpellsKeys, SpellsStars, SpellsSpec, SpellsParams}
-use Rattle.pungi_tree.specs.Flat.{named_word}
+use Rattle.pungi_tree.specs.Tokens.{named_word}
 use Rattle.pungi_tree.specs.Placed.{Placed, mark_at, key_at, word_at}
 use Rattle.pungi_tree.specs.StmtSpells.{SpellsDecl, SpellsStmt}
 use Rattle.pungi_tree.specs.Syntax.{Head, head, Item, nothing, doc, typedef, tag, variables, prototype, function_def}

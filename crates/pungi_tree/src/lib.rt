@@ -4,11 +4,15 @@
 mod decl;
 mod declr;
 mod expr;
+mod expr_flat;
 mod item;
 mod params;
 mod spec;
 mod stmt;
+mod stmt_flat;
+mod tokens;
 mod unit;
+mod unit_flat;
 
 pub use decl::{Decl, Init, VarDecl};
 pub use declr::{Declr, Tail};
@@ -18,3 +22,4 @@ pub use params::{ParamDecl, ParamDeclr, Params};
 pub use spec::{Base, Field, Spec, TypeName};
 pub use stmt::{ForStart, Stmt, StmtNode};
 pub use unit::Unit;
+pub use unit_flat::flat;
