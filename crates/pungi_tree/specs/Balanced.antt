@@ -1,15 +1,36 @@
 -- Tokens in which the three kinds of brackets match.
---   is_same m n            the same closing bracket
---   closed m awaited       the brackets that are awaited once a closing one was read, where it is the innermost that was
+--   awaited_by k, closing k    the bracket that one that opens awaits, and the bracket that closes; none for any other token
+--   is_same m n                the same closing bracket
+--   closed m awaited           the brackets that are awaited once a closing one was read, where it is the innermost that was
 --   awaited_after k awaited    the brackets that are awaited once a token was read, the innermost first; none where it closes another one
---   closes ts awaited      the tokens close the brackets that are awaited, and all that they open
---   is_balanced ts         the tokens close all that they open, and nothing else
+--   closes ts awaited          the tokens close the brackets that are awaited, and all that they open
+--   is_balanced ts             the tokens close all that they open, and nothing else
 use Rattle.std.specs.Prelude.{Bool, true, false, if◌then◌else◌, List, [], ◌∷◌, Option, Some, None}
 use Rattle.pungi_base.specs.declared.kind.Kind.{Kind}
 use Rattle.pungi_base.specs.declared.kind.Kind.TheVariants as kind
 use Rattle.pungi_base.specs.declared.punct.Punct.{Punct}
 use Rattle.pungi_base.specs.declared.punct.Punct.TheVariants as puncts
 use Rattle.pungi_tree.specs.Placed.{Placed}
+
+abbrev pub awaited_by_mark : Punct → Option Punct
+awaited_by_mark puncts.LeftParen = Some puncts.RightParen
+awaited_by_mark puncts.LeftBracket = Some puncts.RightBracket
+awaited_by_mark puncts.LeftBrace = Some puncts.RightBrace
+awaited_by_mark _ = None
+
+abbrev pub awaited_by : Kind → Option Punct
+awaited_by (kind.Punct m) = awaited_by_mark m
+awaited_by _ = None
+
+abbrev pub closing_mark : Punct → Option Punct
+closing_mark puncts.RightParen = Some puncts.RightParen
+closing_mark puncts.RightBracket = Some puncts.RightBracket
+closing_mark puncts.RightBrace = Some puncts.RightBrace
+closing_mark _ = None
+
+abbrev pub closing : Kind → Option Punct
+closing (kind.Punct m) = closing_mark m
+closing _ = None
 
 abbrev pub is_right_paren : Punct → Bool
 is_right_paren puncts.RightParen = true
@@ -33,18 +54,13 @@ abbrev pub closed : Punct → List Punct → Option (List Punct)
 closed m [] = None
 closed m (n ∷ awaited) = if is_same m n then Some awaited else None
 
-abbrev pub awaited_after_mark : Punct → List Punct → Option (List Punct)
-awaited_after_mark puncts.LeftParen awaited = Some (puncts.RightParen ∷ awaited)
-awaited_after_mark puncts.LeftBracket awaited = Some (puncts.RightBracket ∷ awaited)
-awaited_after_mark puncts.LeftBrace awaited = Some (puncts.RightBrace ∷ awaited)
-awaited_after_mark puncts.RightParen awaited = closed puncts.RightParen awaited
-awaited_after_mark puncts.RightBracket awaited = closed puncts.RightBracket awaited
-awaited_after_mark puncts.RightBrace awaited = closed puncts.RightBrace awaited
-awaited_after_mark _ awaited = Some awaited
+abbrev pub after_bracket : Option Punct → Option Punct → List Punct → Option (List Punct)
+after_bracket (Some m) right awaited = Some (m ∷ awaited)
+after_bracket None (Some m) awaited = closed m awaited
+after_bracket None None awaited = Some awaited
 
 abbrev pub awaited_after : Kind → List Punct → Option (List Punct)
-awaited_after (kind.Punct m) awaited = awaited_after_mark m awaited
-awaited_after _ awaited = Some awaited
+awaited_after k awaited = after_bracket (awaited_by k) (closing k) awaited
 
 abbrev pub none_awaited : List Punct → Bool
 none_awaited [] = true

@@ -1,5 +1,6 @@
 -- Which items and files the grammar allows (C11 6.9), where `types` are the words of the `typedef`s of the file. `PyDoc_STRVAR` begins its item only
 -- where it is no type word. The word of a `typedef` may be any.
+--   typedef_names items    the words of the items that are `typedef`s
 --   is_block s         a block
 --   signature_ok types qs s n ps    a function without its body
 --   item_ok, items_ok  items
@@ -15,6 +16,14 @@ use Rattle.pungi_tree.specs.StmtLevels.{decl_ok, stmt_ok}
 use Rattle.pungi_tree.specs.Syntax.{Spec, Params, head, Stmt, block, Item, nothing, doc, typedef, tag, variables, prototype, function_def}
 use Rattle.pungi_tree.specs.TypeWords.{is_word, type_words}
 use Rattle.pungi_tree.specs.UnitFlat.{items_flat}
+
+abbrev pub with_typedef : Item → List Name → List Name
+with_typedef (typedef s stars n p) names = n ∷ names
+with_typedef _ names = names
+
+abbrev pub typedef_names : List Item → List Name
+typedef_names [] = []
+typedef_names (i ∷ items) = with_typedef i (typedef_names items)
 
 abbrev pub is_block : Stmt → Bool
 is_block (block p ss q) = true
@@ -38,4 +47,4 @@ module _ (types : List Name) where
   items_ok (i ∷ items) = item_ok i && items_ok items
 
 abbrev pub is_levelled : List Item → Bool
-is_levelled items = items_ok (type_words (items_flat items)) items
+is_levelled items = items_ok (typedef_names items) items
