@@ -10,7 +10,7 @@
 --   is_among words w      one of these words
 --   is_type types w       a type word, where `types` are the words of the `typedef`s
 --   is_word types w       a word that is no type word
-use Rattle.std.specs.Prelude.{ℕ, ◌+◌, ◌-◌, Bool, true, false, not, ◌&&◌, ◌||◌, ◌==◌, nat_le, nat_lt, if◌then◌else◌, List, [], ◌∷◌, ◌++◌, Option, Some, None, option_to_list}
+use Rattle.std.specs.Prelude.{ℕ, suc, pred, ◌+◌, Bool, true, false, not, ◌&&◌, ◌||◌, ◌==◌, nat_le, nat_lt, if◌then◌else◌, List, [], ◌∷◌, ◌++◌, Option, Some, None, option_to_list}
 use Rattle.pungi_base.specs.declared.key.Key.{Key}
 use Rattle.pungi_base.specs.declared.key.Key.TheVariants as keys
 use Rattle.pungi_base.specs.declared.kind.Kind.{Kind}
@@ -21,8 +21,8 @@ use Rattle.pungi_base.specs.declared.punct.Punct.TheVariants as puncts
 use Rattle.pungi_base.specs.declared.words.TheConstants.{KEYWORDS, MACROS, TYPE_WORDS}
 
 abbrev pub braces_after_mark : ℕ → Punct → ℕ
-braces_after_mark n puncts.LeftBrace = n + 1
-braces_after_mark n puncts.RightBrace = n - 1
+braces_after_mark n puncts.LeftBrace = suc n
+braces_after_mark n puncts.RightBrace = pred n
 braces_after_mark n _ = n
 
 abbrev pub braces_after : ℕ → Kind → ℕ

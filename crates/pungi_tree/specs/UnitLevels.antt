@@ -47,4 +47,4 @@ module _ (types : List Name) where
   items_ok (i ∷ items) = item_ok i && items_ok items
 
 abbrev pub is_levelled : List Item → Bool
-is_levelled items = items_ok (typedef_names items) items
+is_levelled items = items_ok (type_words (items_flat items)) items

@@ -34,3 +34,6 @@ pub use unit::Unit;
 pub use unit_depth::depth;
 pub use unit_flat::flat;
 pub use unit_levels::levels_ok;
+
+#[cfg(test)]
+mod tests;

@@ -17,6 +17,7 @@ use pungi_base::{Key, Name};
 /// parameters, and each `else` belongs to the nearest `if`.
 ///
 /// It takes no memory, so it looks through the items of the file at each word.
+#[tactic(auto, using(crate::proofs::UnitScans::same_levels))]
 pub fn levels_ok(unit: &Unit) -> bool
     ensures { result ≡ is_levelled (unit_view unit.now) }
 {
