@@ -471,3 +471,129 @@ fn a_tree_of_each_type(rt: HostRuntime) -> Result<(), Fail> {
     assert!(rt; kinds.as_slice() == want.as_slice());
     Ok(())
 }
+
+/// `typedef int T;` and these.
+fn with_typedef(alloc: Global, item: Item) -> Result<Unit, AllocError> {
+    let declared = Item::Typedef {
+        spec: keyword(alloc, Key::Int)?,
+        stars: Vec::new(alloc),
+        name: T,
+        pos: AT,
+    };
+    Ok(Unit {
+        items: vec![in alloc; declared, item]?,
+    })
+}
+
+/// `int a = value;`.
+fn with_value(alloc: Global, value: Expr) -> Result<Unit, AllocError> {
+    let var = VarDecl {
+        declr: declr(alloc, A),
+        value: Some(Init::Value(value)),
+    };
+    let decl = Decl {
+        quals: Vec::new(alloc),
+        type_name: keyword(alloc, Key::Int)?,
+        vars: vec![in alloc; var]?,
+    };
+    with_typedef(alloc, Item::Vars(decl))
+}
+
+/// `void f(void) { stmt }`.
+fn with_stmt(alloc: Global, body: Stmt) -> Result<Unit, AllocError> {
+    let function = FunctionDef {
+        quals: Vec::new(alloc),
+        result: keyword(alloc, Key::Void)?,
+        stars: Vec::new(alloc),
+        name: F,
+        pos: AT,
+        params: no_params(alloc),
+        body: stmt(StmtNode::Block(vec![in alloc; body]?, AT)),
+    };
+    with_typedef(alloc, Item::Function(function))
+}
+
+fn cast(alloc: Global) -> Result<Expr, AllocError> {
+    let name = TypeName {
+        spec: spec(Base::Alias(T)),
+        stars: Vec::new(alloc),
+    };
+    Ok(expr(ExprNode::Cast(name, boxed(alloc, ExprNode::Null)?)))
+}
+
+fn prefix(alloc: Global, kind: Kind, operand: Expr) -> Result<Expr, AllocError> {
+    Ok(expr(ExprNode::Unary(kind, Box::new(alloc, operand)?)))
+}
+
+/// `if (a) then else otherwise`.
+fn choice(alloc: Global, then: Stmt, otherwise: Option<Box<Stmt>>) -> Result<Stmt, AllocError> {
+    let then = Box::new(alloc, then)?;
+    Ok(stmt(StmtNode::If(word(A), then, otherwise)))
+}
+
+#[test]
+fn what_the_grammar_allows(rt: HostRuntime) -> Result<(), Fail> {
+    let alloc = rt.alloc();
+    let left = minus(alloc, word(A), word(B))?;
+    let right = minus(alloc, word(A), word(B))?;
+    let values = vec![in alloc;
+        (minus(alloc, left, word(F))?, true),
+        (minus(alloc, word(F), right)?, false),
+        (word(T), false),
+        (expr(ExprNode::Text(Vec::new(alloc))), false),
+        (prefix(alloc, SIZEOF, cast(alloc)?)?, false),
+        (prefix(alloc, NOT, cast(alloc)?)?, true),
+        (prefix(alloc, LESS, word(A))?, false),
+    ]?;
+    for (value, want) in values {
+        assert_eq!(rt; levels_ok(&with_value(alloc, value)?), want);
+    }
+    let inner = choice(
+        alloc,
+        stmt(StmtNode::Do(None)),
+        Some(boxed_stmt(alloc, StmtNode::Do(None))?),
+    )?;
+    let outer = choice(alloc, stmt(StmtNode::Do(None)), None)?;
+    let body = boxed_stmt(alloc, StmtNode::Do(None))?;
+    let stmts = vec![in alloc;
+        (choice(alloc, inner, None)?, true),
+        (choice(alloc, outer, Some(body))?, false),
+        (
+            stmt(StmtNode::Label(B, boxed_stmt(alloc, StmtNode::Break)?)),
+            true
+        ),
+        (
+            stmt(StmtNode::Label(T, boxed_stmt(alloc, StmtNode::Break)?)),
+            false
+        ),
+    ]?;
+    for (body, want) in stmts {
+        assert_eq!(rt; levels_ok(&with_stmt(alloc, body)?), want);
+    }
+    Ok(())
+}
+
+/// So many `if`s in one another, and so many parentheses in the last.
+fn nested(alloc: Global, ifs: u32, parens: u32) -> Result<Unit, AllocError> {
+    let mut value = word(A);
+    for _ in 0..parens {
+        value = expr(ExprNode::Paren(Box::new(alloc, value)?));
+    }
+    let mut body = stmt(StmtNode::Return(Some(value)));
+    for _ in 0..ifs {
+        body = choice(alloc, body, None)?;
+    }
+    with_stmt(alloc, body)
+}
+
+#[test]
+fn the_deepest_trees(rt: HostRuntime) -> Result<(), Fail> {
+    for (ifs, parens) in [(0, 253), (253, 0), (100, 153)] {
+        let unit = nested(rt.alloc(), ifs, parens)?;
+        assert_eq!(rt; depth(&unit), 256);
+        assert!(rt; levels_ok(&unit));
+        let kinds = flat(rt.alloc(), &unit)?;
+        assert_eq!(rt; kinds.len(), 14 + 4 * ifs as usize + 2 * parens as usize);
+    }
+    Ok(())
+}
