@@ -3,7 +3,7 @@
 --   none, one, plain, two        no token, one token before others, one that is no brace, and one list before another
 --   semicolon                    a `;` inside braces
 --   Finds a b xs                 as Scans, where a `;` may stand
-use Rattle.std.proofs.Common.{◌≡◌, ℕ, suc, Bool, true, false, List, [], ◌∷◌, ◌++◌, Option, Some, None, refl, ◌∙◌, arith}
+use Rattle.std.proofs.Common.{◌≡◌, ℕ, suc, false, List, [], ◌∷◌, ◌++◌, Option, refl, ◌∙◌, arith}
 use Rattle.std.specs.Prelude.{◌&&◌, ◌==◌}
 use Rattle.std.proofs.lemmas.List.{append_assoc}
 use Rattle.pungi_base.specs.declared.kind.Kind.{Kind}

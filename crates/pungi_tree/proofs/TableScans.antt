@@ -1,7 +1,6 @@
 -- Tokens whose brackets match close the braces that they open.
-use Rattle.std.proofs.Common.{◌≡◌, ℕ, suc, Bool, true, false, cond, List, [], ◌∷◌, Option, Some, None, refl, sym}
+use Rattle.std.proofs.Common.{◌≡◌, ℕ, suc, Bool, true, false, cond, List, [], ◌∷◌, Option, Some, None, refl}
 use Rattle.std.specs.Prelude.{◌&&◌, ◌==◌}
-use Rattle.pungi_base.specs.declared.key.Key.{Key}
 use Rattle.pungi_base.specs.declared.kind.Kind.{Kind}
 use Rattle.pungi_base.specs.declared.kind.Kind.TheVariants as kind
 use Rattle.pungi_base.specs.declared.punct.Punct.{Punct}
@@ -9,7 +8,7 @@ use Rattle.pungi_base.specs.declared.punct.Punct.TheVariants as puncts
 use Rattle.pungi_tree.proofs.Scans.{Steps, Scans, none, one, suc_is_positive}
 use Rattle.pungi_tree.specs.Balanced.{is_right_paren, is_right_bracket, is_right_brace, is_same, closed, awaited_after, holds_of, closes}
 use Rattle.pungi_tree.specs.Placed.{Placed, kinds}
-use Rattle.pungi_tree.specs.Tokens.{mark, key}
+use Rattle.pungi_tree.specs.Tokens.{mark}
 use Rattle.pungi_tree.specs.TypeWords.{is_typedef_key}
 
 -- the number of open braces where these brackets are awaited as well

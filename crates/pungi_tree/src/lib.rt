@@ -36,4 +36,6 @@ pub use unit_flat::flat;
 pub use unit_levels::levels_ok;
 
 #[cfg(test)]
+mod test_trees;
+#[cfg(test)]
 mod tests;
