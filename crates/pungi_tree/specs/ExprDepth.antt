@@ -2,7 +2,8 @@
 -- and a parameter are none.
 --   capped n      a number, or the largest of 32 bits where it is larger
 --   expr_depth, exprs_depth    an expression, and a list of arguments
---   type_name_depth .. param_declr_depth    the type of the same name
+--   type_name_depth, spec_depth, base_depth, field_depth, fields_depth, declr_depth, declrs_depth, tail_depth, sizes_depth, params_depth,
+--   param_decl_depth, param_decls_depth, param_declr_depth    the type of the same name
 use Rattle.std.specs.Prelude.{ℕ, ◌+◌, ◌-◌, ◌^◌, max, min}
 use Rattle.pungi_tree.specs.Syntax.{Expr, word, int, float, char, text, null, paren, unary, post, binary, assign, conditional, comma, cast, size_of_type, call, new, index, dot, arrow, Exprs, no_exprs, expr_and, TypeName, type_name, Spec, spec, Base, words, alias, tagged, tagged_fields, Field, empty, members, Fields, no_fields, field_and, Declr, declr, Declrs, no_declrs, declr_and, Tail, sizes, function, Sizes, no_sizes, open_and, size_and, Params, params, ParamDecl, param_decl, ParamDecls, no_params, param_and, ParamDeclr, named, bare, unused}
 

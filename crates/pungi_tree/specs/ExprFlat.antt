@@ -1,7 +1,9 @@
 -- The tokens of an expression or a type from left to right (C11 6.5 and 6.7).
 --   expr_flat                    an expression
 --   args_flat, more_args_flat    arguments with a comma between, and further ones with a comma before each
---   type_name_flat .. param_declr_flat    the type of the same name; more_declrs_flat and more_param_decls_flat as more_args_flat
+--   type_name_flat, spec_flat, base_flat, field_flat, fields_flat, declr_flat, declrs_flat, sizes_flat, params_flat, param_decl_flat,
+--   param_decls_flat, param_declr_flat    the type of the same name
+--   more_declrs_flat, more_param_decls_flat    as more_args_flat
 --   tail_flat n t                a declared name and what stands behind it
 use Rattle.std.specs.Prelude.{List, [], ◌∷◌, ◌++◌}
 use Rattle.pungi_base.specs.declared.key.Key.TheVariants as keys

@@ -6,7 +6,9 @@
 --   SpellsTag, SpellsVoid, SpellsDots    a tag, the lone `void`, and `, ...`, where they are there
 --   Spells                       an expression
 --   SpellsArgs, SpellsMoreArgs   arguments with a comma between, and further ones with a comma before each
---   SpellsTypeName .. SpellsParamDeclr   the type of the same name; SpellsMoreDeclrs and SpellsMoreParamDecls as SpellsMoreArgs
+--   SpellsTypeName, SpellsSpec, SpellsBase, SpellsField, SpellsFields, SpellsDeclr, SpellsDeclrs, SpellsTail, SpellsSizes, SpellsParams,
+--   SpellsParamDecl, SpellsParamDecls, SpellsParamDeclr    the type of the same name
+--   SpellsMoreDeclrs, SpellsMoreParamDecls    as SpellsMoreArgs
 use Rattle.std.specs.Prelude.{◌≡◌, ℕ, zero, suc, Bool, true, false, List, [], ◌∷◌, Option, Some, None}
 use Rattle.pungi_base.specs.declared.key.Key.{Key}
 use Rattle.pungi_base.specs.declared.key.Key.TheVariants as keys

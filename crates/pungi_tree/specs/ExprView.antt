@@ -1,8 +1,10 @@
 -- The tree of `Syntax` that an expression or a type of the program stands for.
---   expr_view e, spec_view s, ..    what it stands for; the type of the same name
+--   expr_view, type_name_view, spec_view, base_view, field_view, declr_view, tail_view, params_view, param_decl_view, param_declr_view    what it stands for
 --   optional_view o                 an expression, where it is there
 --   exprs_of, fields_of, declrs_of, sizes_of, param_decls_of    a list of nodes, as `Syntax` writes it
---   base_step, node_step, ..        one level of it
+--   Node                            an expression that waits for its place
+--   base_step, node_step, field_step, param_declr_step, tail_step, declr_step, expr_step, param_decl_step, params_step, spec_step, type_name_step
+--                                   one level of it
 use Rattle.std.specs.Prelude.{List, [], ◌∷◌, Option, Some, None, option_map}
 use Rattle.pungi_base.specs.declared.pos.Pos.{Pos}
 use Rattle.pungi_tree.specs.Syntax as plain

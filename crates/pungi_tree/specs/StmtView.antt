@@ -3,6 +3,7 @@
 --   for_start_view        what a `for` begins with
 --   stmt_view             a statement
 --   stmts_of              a list of statements, as `Syntax` writes it
+--   StmtNode              a statement that waits for its place
 --   stmt_node_step, stmt_step    one level of a statement
 use Rattle.std.specs.Prelude.{List, [], ◌∷◌, map, Option, Some, None, option_map}
 use Rattle.pungi_base.specs.declared.pos.Pos.{Pos}

@@ -1,5 +1,6 @@
 -- Which items and files the grammar allows (C11 6.9), where `types` are the words of the `typedef`s of the file. `PyDoc_STRVAR` begins its item only
 -- where it is no type word. The word of a `typedef` may be any.
+--   with_typedef i names   the word of an item that is a `typedef`, before these
 --   typedef_names items    the words of the items that are `typedef`s
 --   is_block s         a block
 --   signature_ok types qs s n ps    a function without its body
