@@ -1,14 +1,14 @@
 -- What `Bounds` holds, and its additions.
---   State                        how contracts see it: the nodes, the room, the constraints held, and the last cycle
---   Kept held value              the values are the greatest that meet the constraints and are at most 0
---   Roomy nodes held value ..    the room that the calls use
---   AddsOk old k new             the constraint is held, and no round of it has a sum below 0
---   AddsNot old k new            the constraint isn't held, and a round of it with a sum below 0 is the cycle
---   Adds old k new result        one of these, by the result
---   Solution s values            values that meet all constraints, with node 0 at 0
---   MeetsIf v k result           whether values meet a constraint
---   Extends held new value ..    the values meet the new constraint too, or the round shows that none do
---   Moves value values           each value less that of node 0
+--   State                       how contracts see it: the nodes, the room, the constraints held, and the last cycle
+--   Kept held value             the values are the greatest that meet the constraints and are at most 0
+--   Roomy nodes held value ..   the room that the calls use
+--   AddsOk old k new            the constraint is held, and no round of it has a sum below 0
+--   AddsNot old k new           the constraint isn't held, and a round of it with a sum below 0 is the cycle
+--   Adds old k new result       one of these, by the result
+--   Solution s values           values that meet all constraints, with node 0 at 0
+--   MeetsIf v k result          whether values meet a constraint
+--   Extends held new value ..   the values meet the new constraint too, or the round shows that none do
+--   Moves value values          each value less that of node 0
 use Rattle.std.specs.Prelude.{◌≡◌, ℕ, ◌<◌, ◌≤◌, ℤ, pos, ◌≤ℤ◌, ◌<ℤ◌, List, [], ◌∷◌, ◌++◌, length, Result, Ok, Err, Bool, true, false, ◌+ℤ◌, ◌-ℤ◌}
 use Rattle.std.specs.List.{All}
 use Rattle.pungi_diff.specs.declared.constraint.Constraint.{Constraint}

@@ -1,21 +1,23 @@
 -- The search for the least lowering of values that meets one more constraint, by Dijkstra's algorithm over the nodes.
 -- A gap is how far the value of a node falls. A node is done once it has a rank, its number among those that are done.
---   IsOpen, IsDone rank u                whether the node has no rank yet, or has one
---   lowered value gap u                  the value of a node with its gap
---   want value gap from k                the gap of x that a constraint on `from` asks for
---   NoneOpen gap rank                    no open node has a gap below 0
---   IsLeastOpen gap rank u               the node is open, its gap is below 0, and no open node has a lesser one
---   NoneIn, IsLeastIn gap rank fringe    the same among the nodes of a fringe
---   Fringe gap rank fringe               the open nodes with a gap below 0 are all in it, and it has no more nodes than have such gaps
---   Lowers gap via k next gap' via'      the gap of x becomes `next`, by this constraint, if it was more
---   Reaches gap rank via k next ..       the same where x is open, and otherwise nothing
---   Stays, Drops ..                      a node is as before, or its gap became what a constraint on `from` asks for
---   Relaxes held value rank gap ..       all nodes stay or drop, and the constraints on `from` are met by open nodes
---   HasVia .. by u                       the constraint holds the node exactly at its place, from a node done before it
---   Searching held value .. new turn     the search after so many nodes are done
---   Lowered held value gap new           the lowered values meet all constraints, and are the greatest that do and lie below the old ones
---   Cycles held value .. new             y itself would have to be lowered
---   Ends held value .. new result        the end of a search
+--   IsOpen, IsDone rank u               whether the node has no rank yet, or has one
+--   lowered value gap u                 the value of a node with its gap
+--   want value gap from k               the gap of x that a constraint on `from` asks for
+--   NoneOpen gap rank                   no open node has a gap below 0
+--   IsLeastOpen gap rank u              the node is open, its gap is below 0, and no open node has a lesser one
+--   NoneIn, IsLeastIn gap rank fringe   the same among the nodes of a fringe
+--   idle_one z, idle_count gap          how many gaps aren't below 0
+--   Fringe gap rank fringe              the open nodes with a gap below 0 are all in it, and it has no more nodes than have such gaps
+--   Lowers gap via k next gap' via'     the gap of x becomes `next`, by this constraint, if it was more
+--   Reaches gap rank via k next ..      the same where x is open, and otherwise nothing
+--   Stays, Drops ..                     a node is as before, or its gap became what a constraint on `from` asks for
+--   Relaxes held value rank gap ..      all nodes stay or drop, and the constraints on `from` are met by open nodes
+--   open_one n r, open_count rank       how many nodes are open
+--   HasVia .. by u                      the constraint holds the node exactly at its place, from a node done before it
+--   Searching held value .. new turn    the search after so many nodes are done
+--   Lowered held value gap new          the lowered values meet all constraints, and are the greatest that do and lie below the old ones
+--   Cycles held value .. new            y itself would have to be lowered
+--   Ends held value .. new result       the end of a search
 use Rattle.std.specs.Prelude.{◌≡◌, ℕ, ◌+◌, ◌<◌, ◌≤◌, ◌⊎◌, ℤ, pos, ◌+ℤ◌, ◌-ℤ◌, ◌≤ℤ◌, ◌<ℤ◌, List, length, slice_index, slice_set, nat_le, if◌then◌else◌, sum_by, Bool, true, false}
 use Rattle.std.specs.Int.Signed.{lt_z}
 use Rattle.std.specs.List.{All, slice_index_or, Contains}

@@ -17,7 +17,7 @@ fn least(gap: &[i128], rank: &[u32], fringe: &[u32]) -> Option<usize>
     let mut bound = 0i128;
     for (place, node) in fringe.iter().enumerate() {
         let node = *node as usize;
-        if rank[node] as usize >= rank.len() && gap[node] < bound {
+        if gap[node] < bound && rank[node] as usize >= rank.len() {
             best = Some(place);
             bound = gap[node];
         }

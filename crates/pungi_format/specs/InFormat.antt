@@ -1,15 +1,16 @@
 -- The formats of `PyArg_ParseTuple` (Python/C API Reference Manual 3.11, 'Parsing arguments and building values').
---   ends_units b             `:` and `;` end the units; what follows is free text
---   in_letter b              the unit that a byte alone spells
---   unit_before b bs         the unit that a byte begins before these: `O!` is one unit
---   units_of text            the units of a text, one after another
---   required_of text         how many units stand before the bar, or all where there is none
---   has_bar text             whether a bar stands in the text
---   in_rule before b         what is wrong with a byte behind these: a second bar, a `!` that isn't behind an `O`, or no unit
---   in_fault text            the first fault of a format
---   in_format text           the units of a format without fault
---   ReadsUnits text result   the answer for the part of a format that has its units
---   Parses text result       the answer for a format: its units, or its first fault
+--   ends_units b                   `:` and `;` end the units; what follows is free text
+--   in_letter b                    the unit that a byte alone spells
+--   unit_before b bs               the unit that a byte begins before these: `O!` is one unit
+--   units_of text                  the units of a text, one after another
+--   required_of text               how many units stand before the bar, or all where there is none
+--   has_bar text                   whether a bar stands in the text
+--   is_typed before                whether an `O` stands directly before
+--   in_rule before b               what is wrong with a byte behind these: a second bar, a `!` that isn't behind an `O`, or no unit
+--   units_fault, in_fault text     the first fault of the part that has the units, and of a format
+--   units_format, in_format text   the units of that part, and of a format, where no fault is
+--   ReadsUnits text result         the answer for the part of a format that has its units
+--   Parses text result             the answer for a format: its units, or its first fault
 use Rattle.std.specs.Prelude.{◌≡◌, ℕ, ◌+◌, ◌-◌, ◌==◌, Bool, ◌&&◌, ◌||◌, List, [], ◌∷◌, ◌++◌, length, slice_index, Option, None, Some, is_some, if◌then◌else◌, Result, Ok, Err, codes}
 use Rattle.std.specs.Option.{option_to_list}
 use Rattle.std.specs.List.{before_first, list_any}

@@ -1,16 +1,18 @@
 -- The formats of `Py_BuildValue` (Python/C API Reference Manual 3.11, 'Parsing arguments and building values').
---   out_letter b                   the unit that a byte spells
---   closing_of b                   the byte that closes an opening bracket
---   is_closing b, is_blank b       a closing bracket; a byte that is passed over
---   is_closed groups b             whether a closing bracket matches the one that was opened last
---   open_behind at groups text     the groups that are open behind a text that begins at a place, where these were open: the last one first
---   open_in text                   the groups that are open behind a text
---   out_rule before b              what is wrong with a byte behind these: a closing bracket that matches no open one, or no unit
---   left_open groups               the last open bracket, where one is open at the end
---   out_fault text                 the first fault of a format
---   out_units text                 the units of a text
---   Closes groups b new result     an answer of whether a closing bracket matches; if so, its open one is gone
---   Builds text result             the answer for a format: its units, or its first fault
+--   out_letter b                 the unit that a byte spells
+--   closing_by os cs b           the byte that closes b, where those of the second list close those of the first
+--   closing_of b                 the byte that closes an opening bracket
+--   is_closing b, is_blank b     a closing bracket; a byte that is passed over
+--   is_closed groups b           whether a closing bracket matches the one that was opened last
+--   opened closing at groups b   the groups that are open behind one more byte, which this one closes if it opens
+--   open_behind at groups text   the groups that are open behind a text that begins at a place, where these were open: the last one first
+--   open_in text                 the groups that are open behind a text
+--   out_rule before b            what is wrong with a byte behind these: a closing bracket that matches no open one, or no unit
+--   left_open groups             the last open bracket, where one is open at the end
+--   out_fault text               the first fault of a format
+--   out_units text               the units of a text
+--   Closes groups b new result   an answer of whether a closing bracket matches; if so, its open one is gone
+--   Builds text result           the answer for a format: its units, or its first fault
 use Rattle.std.specs.Prelude.{◌≡◌, ℕ, ◌+◌, ◌==◌, Bool, true, false, ◌||◌, List, [], ◌∷◌, length, drop, Option, None, Some, is_some, if◌then◌else◌, Result, Ok, Err, codes, Vec}
 use Rattle.std.specs.Option.{option_or}
 use Rattle.std.specs.List.{filter_map}
@@ -32,7 +34,6 @@ out_letter b =
     else if is_among (codes "sz") b then Some unit.TextOrNull
     else None
 
--- the byte b closes what this byte opens
 abbrev pub closing_by : List ℕ → List ℕ → ℕ → Option ℕ
 closing_by (o ∷ os) (c ∷ cs) b = if b == o then Some c else closing_by os cs b
 closing_by _ _ b = None
@@ -50,7 +51,6 @@ abbrev pub is_closed : List Group → ℕ → Bool
 is_closed [] b = false
 is_closed (g ∷ gs) b = g.closing == b
 
--- what is open behind one more byte
 abbrev pub opened : Option ℕ → ℕ → List Group → ℕ → List Group
 opened (Some c) at groups b = record { place = at; closing = c } ∷ groups
 opened None at groups b = if is_closing b then drop 1 groups else groups
