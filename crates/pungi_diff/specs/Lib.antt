@@ -1,0 +1,5 @@
+pub mod Bounds
+pub mod Constraint
+pub mod Held
+pub mod Round
+pub mod Search

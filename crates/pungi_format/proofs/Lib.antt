@@ -1,0 +1,3 @@
+pub mod FaultLemmas
+pub mod InFormatLemmas
+pub mod OutFormatLemmas

@@ -1,0 +1,3 @@
+pub mod FormatFault
+pub mod InFormat
+pub mod OutFormat

@@ -1,0 +1,4 @@
+pub mod RingLemmas
+pub mod ChainsLemmas
+pub mod WalkLemmas
+pub mod PendingLemmas
