@@ -1,0 +1,6 @@
+mod Closure
+mod Dots
+mod LineLemmas
+mod Products
+mod Reduced
+mod SpanLemmas

@@ -1,0 +1,9 @@
+use Rattle.std.proofs.Common.{◌≡◌, ◌*◌, ◌^◌, take}
+use Rattle.pungi_domain.specs.Vectors.{IsWithin, dot, at}
+use Rattle.pungi_affine.proofs.row.dot_product.Given as goal
+
+abbrev pub invariant-loop-i : goal.invariant-loop-i
+invariant-loop-i l = record {
+  value : l.sum ≡ dot (take l.i l.coefficients) (at l.entries);
+  within : IsWithin (l.i * 2 ^ 94) l.sum;
+}

@@ -1,0 +1,4 @@
+mod Products
+mod Dots
+mod ConstantLemmas
+mod FlatLemmas

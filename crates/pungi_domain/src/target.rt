@@ -1,0 +1,8 @@
+/// Where an edge leads to.
+#[derive(Clone, Copy, Debug, PartialEq, Eq)]
+pub enum Target {
+    /// A place of the program, by number.
+    Place(u32),
+    /// An exit class of the program, by number.
+    Exit(u32),
+}
