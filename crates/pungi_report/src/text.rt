@@ -6,12 +6,7 @@ use pungi_base::{Fault, Memory, Name, Names, Pos, Rule, Verdict, Why};
 use std::alloc::Global;
 
 /// Adds a word and a name.
-fn push_named(
-    text: &mut Vec<u8>,
-    word: &str,
-    names: &Names,
-    name: Name,
-) -> Result<(), Memory>
+fn push_named(text: &mut Vec<u8>, word: &str, names: &Names, name: Name) -> Result<(), Memory>
     requires { name.0 < length names.now }
     ensures { OnOk result (text.new.items ≡ text.old.items ++ word.now ++ name_text names.now name) }
 {
@@ -20,12 +15,7 @@ fn push_named(
     Ok(())
 }
 
-fn push_why(
-    alloc: Global,
-    text: &mut Vec<u8>,
-    names: &Names,
-    why: &Why,
-) -> Result<(), Memory>
+fn push_why(alloc: Global, text: &mut Vec<u8>, names: &Names, why: &Why) -> Result<(), Memory>
     requires { IsNamedWhy names.now why.now }
     ensures { OnOk result (text.new.items ≡ text.old.items ++ why_text names.now why.now) }
 {
@@ -55,7 +45,9 @@ fn counts_of(alloc: Global, fault: &Fault) -> Result<String, Memory>
     ensures { IfOk result (λ text. string_bytes text ≡ counts_text fault.now) }
 {
     let Fault {
-        change, escaped, ..
+        change,
+        escaped,
+        ..
     } = fault;
     Ok(format!(in alloc; " change {change} escaped {escaped}\n")?)
 }
