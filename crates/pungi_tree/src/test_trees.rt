@@ -341,18 +341,33 @@ pub(crate) fn with_value(alloc: Global, value: Expr) -> Result<Unit, AllocError>
     with_typedef(alloc, Item::Vars(decl))
 }
 
-/// `void f(void) { stmt }`.
-pub(crate) fn with_stmt(alloc: Global, body: Stmt) -> Result<Unit, AllocError> {
-    let function = FunctionDef {
+fn block_of(alloc: Global, body: Stmt) -> Result<Stmt, AllocError> {
+    let statements = vec![in alloc; body]?;
+    Ok(stmt(StmtNode::Block(statements, AT)))
+}
+
+fn function_of(alloc: Global, void: Spec, body: Stmt) -> Item {
+    Item::Function(FunctionDef {
         quals: Vec::new(alloc),
-        result: keyword(alloc, Key::Void)?,
+        result: void,
         stars: Vec::new(alloc),
         name: F,
         pos: AT,
         params: no_params(alloc),
-        body: stmt(StmtNode::Block(vec![in alloc; body]?, AT)),
-    };
-    with_typedef(alloc, Item::Function(function))
+        body,
+    })
+}
+
+fn void_function(alloc: Global, body: Stmt) -> Result<Item, AllocError> {
+    let void = keyword(alloc, Key::Void)?;
+    Ok(function_of(alloc, void, body))
+}
+
+/// `void f(void) { stmt }`.
+pub(crate) fn with_stmt(alloc: Global, body: Stmt) -> Result<Unit, AllocError> {
+    let block = block_of(alloc, body)?;
+    let function = void_function(alloc, block)?;
+    with_typedef(alloc, function)
 }
 
 pub(crate) fn cast(alloc: Global) -> Result<Expr, AllocError> {
