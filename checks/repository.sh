@@ -8,10 +8,8 @@ complain() {
     failed=1
 }
 [ "$(cat HANDLES)" = 'Handles allowed: none.' ] || complain 'HANDLES is not its one line'
-for crate in crates/*/; do
-    name=$(basename "$crate")
-    grep -q "^$name:" crates.txt || complain "crates.txt does not list $name"
-    ls "$crate"must-fail/*.edit >/dev/null 2>&1 || complain "$name has no edit that must fail"
+for name in $(sed -n 's/^\([a-z0-9_]*\)[ a-z0-9_=]*:.*/\1/p' crates.txt); do
+    ls crates/"$name"/must-fail/*.edit >/dev/null 2>&1 || complain "$name has no edit that must fail"
 done
 for link in $(sed -n 's/.*](\([^)#:]*\)).*/\1/p' README.md); do
     [ -e "$link" ] || complain "README.md points at $link, which is not there"
