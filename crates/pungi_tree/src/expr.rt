@@ -1,0 +1,78 @@
+use crate::TypeName;
+use pungi_base::{Kind, Name, Pos, Punct};
+
+/// An expression (C11 6.5). Its place is that of its operator, and of its first token where it has none.
+///
+/// From the loosest to the tightest, where a level takes in each that is tighter:
+///
+/// ```text
+/// expr    = assign | expr "," assign
+/// assign  = cond | unary ("=" | "+=" | "-=" | "*=" | "/=" | "%=" | "<<=" | ">>=" | "&=" | "^=" | "|=") assign
+/// cond    = binary | binary "?" expr ":" cond
+/// binary  = cast, or two of them with an operator between, all to the left, by these levels:
+///           "||"; "&&"; "|"; "^"; "&"; "==" "!="; "<" ">" "<=" ">="; "<<" ">>"; "+" "-"; "*" "/" "%"
+/// cast    = unary | "(" typename ")" cast
+/// unary   = postfix | ("++" | "--" | "sizeof") unary | ("&" | "*" | "+" | "-" | "~" | "!") cast
+///         | "sizeof" "(" typename ")"
+/// postfix = primary | postfix "(" (assign ("," assign)*)? ")" | postfix "[" expr "]"
+///         | postfix "." word | postfix "->" word | postfix "++" | postfix "--"
+/// primary = word | number | character | text+ | "NULL" | "(" expr ")"
+///         | "PyObject_New" "(" typename "," assign ")"
+/// ```
+#[derive(Debug, Drop)]
+#[cycle(tree)]
+pub struct Expr {
+    pub pos: Pos,
+    pub node: ExprNode,
+}
+
+/// What an expression is made of.
+#[derive(Debug, Drop)]
+#[cycle(tree)]
+pub enum ExprNode {
+    /// `word`, no type word.
+    Word(Name),
+    /// An integer constant.
+    Int {
+        value: i128,
+        long: bool,
+        unsigned: bool,
+    },
+    /// A floating constant.
+    Float,
+    /// `character`.
+    Char(u8),
+    /// `text+`.
+    Text(Vec<Name>),
+    /// `"NULL"`.
+    Null,
+    /// `"(" expr ")"`.
+    Paren(Box<Expr>),
+    /// `("++" | "--" | "sizeof") unary | ("&" | "*" | "+" | "-" | "~" | "!") cast`.
+    Unary(Kind, Box<Expr>),
+    /// `postfix ("++" | "--")`.
+    Post(Punct, Box<Expr>),
+    /// Two operands with a binary operator between.
+    Binary(Punct, Box<Expr>, Box<Expr>),
+    /// `unary ("=" | "+=" | ..) assign`.
+    Assign(Punct, Box<Expr>, Box<Expr>),
+    /// `binary "?" expr ":" cond`, at the `?`.
+    Cond(Box<Expr>, Box<Expr>, Box<Expr>),
+    /// `expr "," assign`.
+    Comma(Box<Expr>, Box<Expr>),
+    /// `"(" typename ")" cast`, at the parenthesis.
+    Cast(TypeName, Box<Expr>),
+    /// `"sizeof" "(" typename ")"`.
+    SizeOfType(TypeName),
+    /// `postfix "(" (assign ("," assign)*)? ")"`, at its first token.
+    Call(Box<Expr>, Vec<Expr>),
+    /// `"PyObject_New" "(" typename "," assign ")"` (Python/C API Reference Manual 3.11,
+    /// "Allocating Objects on the Heap").
+    New(TypeName, Box<Expr>),
+    /// `postfix "[" expr "]"`, at the bracket.
+    Index(Box<Expr>, Box<Expr>),
+    /// `postfix "." word`.
+    Dot(Box<Expr>, Name),
+    /// `postfix "->" word`.
+    Arrow(Box<Expr>, Name),
+}

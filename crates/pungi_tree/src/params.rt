@@ -1,0 +1,47 @@
+use crate::{Declr, Spec};
+use pungi_base::{Key, Name, Pos};
+
+/// The parameters of a function (C11 6.7.6.3):
+///
+/// ```text
+/// params = nothing | "void" | param ("," param)* ("," "...")?
+/// ```
+///
+/// `void` tells that the lone `void` stands there, and `dots` holds the place of `...`.
+#[derive(Debug, Drop)]
+#[cycle(tree)]
+pub struct Params {
+    pub list: Vec<ParamDecl>,
+    pub void: bool,
+    pub dots: Option<Pos>,
+}
+
+/// A parameter (C11 6.7.6.3):
+///
+/// ```text
+/// param = quals type (declr | stars | stars "Py_UNUSED" "(" word ")")
+/// ```
+#[derive(Debug, Drop)]
+#[cycle(tree)]
+pub struct ParamDecl {
+    pub quals: Vec<Key>,
+    pub spec: Spec,
+    pub declr: ParamDeclr,
+}
+
+/// What stands behind the type of a parameter. `stars` has a number for each `*`, that of the `const` behind it.
+#[derive(Debug, Drop)]
+#[cycle(tree)]
+pub enum ParamDeclr {
+    /// `declr`.
+    Named(Declr),
+    /// `stars`, a parameter without a name.
+    Bare(Vec<u32>),
+    /// `stars "Py_UNUSED" "(" word ")"`, a parameter that the body does not use, with the place of its name
+    /// (Python/C API Reference Manual 3.11, "Useful macros").
+    Unused {
+        stars: Vec<u32>,
+        name: Name,
+        pos: Pos,
+    },
+}

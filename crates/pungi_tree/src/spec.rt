@@ -1,0 +1,72 @@
+use crate::Declr;
+use pungi_base::{Key, Name, Pos};
+
+/// A type without its pointers (C11 6.7.2):
+///
+/// ```text
+/// type = base "const"*
+/// ```
+///
+/// `pos` is the place of its first token, and `consts` how many `const` stand behind the base.
+#[derive(Debug, Drop)]
+#[cycle(tree)]
+pub struct Spec {
+    pub pos: Pos,
+    pub base: Base,
+    pub consts: u32,
+}
+
+/// What a type begins with (C11 6.7.2, 6.7.2.1 and 6.7.8):
+///
+/// ```text
+/// base = baseword+ | typeword | ("struct" | "union") (word fields? | typeword | fields)
+/// ```
+///
+/// A `baseword` is one of `int long short char unsigned signed float double void _Bool`.
+#[derive(Debug, Drop)]
+#[cycle(tree)]
+pub enum Base {
+    /// `baseword+`.
+    Words(Vec<Key>),
+    /// `typeword`.
+    Alias(Name),
+    /// `("struct" | "union") (word fields? | typeword | fields)`, the tag with its place.
+    Tagged {
+        of: Key,
+        tag: Option<(Name, Pos)>,
+        fields: Option<Vec<Field>>,
+    },
+}
+
+/// A line between the braces of a struct or a union (C11 6.7.2.1):
+///
+/// ```text
+/// fields = "{" (quals type declr ("," declr)* ";" | ";")* "}"
+/// ```
+#[derive(Debug, Drop)]
+#[cycle(tree)]
+pub enum Field {
+    /// `";"`.
+    Empty,
+    /// `quals type declr ("," declr)* ";"`.
+    Members {
+        quals: Vec<Key>,
+        spec: Spec,
+        declrs: Vec<Declr>,
+    },
+}
+
+/// The name of a type, in a cast for example (C11 6.7.7):
+///
+/// ```text
+/// typename = type stars
+/// stars    = ("*" "const"*)*
+/// ```
+///
+/// `stars` has a number for each `*`, that of the `const` behind it.
+#[derive(Debug, Drop)]
+#[cycle(tree)]
+pub struct TypeName {
+    pub spec: Spec,
+    pub stars: Vec<u32>,
+}

@@ -1,0 +1,11 @@
+use crate::Item;
+
+/// A file (C11 6.9):
+///
+/// ```text
+/// unit = item*
+/// ```
+#[derive(Debug, Drop)]
+pub struct Unit {
+    pub items: Vec<Item>,
+}
