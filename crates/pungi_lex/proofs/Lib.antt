@@ -1,6 +1,8 @@
 pub mod CommentLemmas
 pub mod Exact
 pub mod FrameLemmas
+pub mod FrontLemmas
+pub mod JoinLemmas
 pub mod KindLemmas
 pub mod KnownExpansion
 pub mod KnownTokens
@@ -10,3 +12,4 @@ pub mod OneExpansion
 pub mod Progress
 pub mod RunLemmas
 pub mod SizedTokens
+pub mod StretchLemmas

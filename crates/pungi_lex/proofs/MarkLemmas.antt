@@ -78,7 +78,7 @@ and_right false b h = absurd cc
 same_byte : (a b : ℕ) → (a == b) ≡ true → a ≡ b
 same_byte a b h = grind (arith, nat_tests)
 
-front : (s text : List ℕ) → begins_with s text ≡ true → (rest : List ℕ) × (text ≡ s ++ rest)
+pub front : (s text : List ℕ) → begins_with s text ≡ true → (rest : List ℕ) × (text ≡ s ++ rest)
 front [] text h = (text, refl)
 front (a ∷ s) [] h = absurd cc
 front (a ∷ s) (b ∷ text) h =

@@ -1,5 +1,5 @@
 -- How far the parts of a text have come.
-use Rattle.std.proofs.Common.{◌≡◌, ℕ, suc, ◌+◌, ◌<◌, ◌≤◌, Bool, true, false, not, ◌&&◌, cond, List, [], ◌∷◌, ◌++◌, length, take, drop, get_or, Ok, Err, refl, sym, ap, subst, ◌∙◌, arith, append_assoc, take-append-drop}
+use Rattle.std.proofs.Common.{◌≡◌, ℕ, suc, ◌+◌, ◌<◌, ◌≤◌, Bool, true, false, not, cond, List, [], ◌∷◌, ◌++◌, length, take, drop, get_or, Ok, Err, refl, sym, ap, subst, ◌∙◌, arith, append_assoc, take-append-drop}
 use Rattle.std.specs.List.{list_all, prefix_len}
 use Rattle.std.proofs.lemmas.List.{append-nil, drop-drop}
 use Rattle.pungi_base.specs.declared.token.Token.{Token}
@@ -10,6 +10,7 @@ use Rattle.pungi_lex.specs.Expander.{Part, Directed, Plain, tokens_of_part, toke
 use Rattle.pungi_lex.specs.Frames.{IsReplaced, IsOverLimit}
 use Rattle.pungi_lex.specs.Macros.{Macros, placed}
 use Rattle.pungi_lex.specs.Predefined.{predefined}
+use Rattle.pungi_lex.proofs.FrontLemmas.{front_passes}
 
 -- parts so far, and behind them `extra`, whose effect is not told
 pub record Reaches (names : ℕ) (tokens rest : List Token) (extra : List Part) (out : List Token) (last : Macros) (count : ℕ) : Type 0 where
@@ -79,14 +80,6 @@ later n m xs rest is = sym (drop-drop m n xs) ∙ ap (drop m) (sym is)
 
 one_more : (n : ℕ) → suc n ≡ 1 + n
 one_more n = omega arith
-
-front_cons : (p : Token → Bool) (x : Token) (xs : List Token) (b : Bool) → p x ≡ b → list_all p (take (prefix_len p xs) xs) ≡ true → list_all p (take (cond b (1 + prefix_len p xs) 0) (x ∷ xs)) ≡ true
-front_cons p x xs true e rest = subst (λ (n : ℕ). list_all p (take n (x ∷ xs)) ≡ true) (one_more (prefix_len p xs)) (ap (λ (b : Bool). b && list_all p (take (prefix_len p xs) xs)) e ∙ rest)
-front_cons p x xs false e rest = refl
-
-front_passes : (p : Token → Bool) (xs : List Token) → list_all p (take (prefix_len p xs) xs) ≡ true
-front_passes p [] = refl
-front_passes p (x ∷ xs) = front_cons p x xs (p x) refl (front_passes p xs)
 
 abbrev within : Token → Bool
 within t = not t.first

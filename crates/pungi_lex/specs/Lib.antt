@@ -18,4 +18,5 @@ pub mod Predefined
 pub mod Quote
 pub mod Size
 pub mod Start
+pub mod Stretch
 pub mod Tokens

@@ -1,18 +1,33 @@
-ghost use Rattle.std.specs.Prelude.{◌≡◌, ◌≤◌, ◌<◌, ◌+◌, ◌-◌, ◌^◌, ◌∷◌, length, IfOk};
-ghost use Rattle.pungi_lex.specs.Join.{join_length as length_of_join, still as still_left, after_byte as behind_byte, bytes_of, places_of, joined};
+ghost use Rattle.std.specs.Prelude.{◌≡◌, ◌≤◌, ◌<◌, ◌+◌, ◌-◌, ◌^◌, ◌∷◌, ◌++◌, length, take, drop, IfOk};
+ghost use Rattle.std.specs.List.{prefix_len, All};
+ghost use Rattle.pungi_lex.specs.Join.{join_length as length_of_join, after_byte as behind_byte, bytes_of, places_of, joined, joined_from};
+ghost use Rattle.pungi_lex.specs.Stretch.{is_unbroken as unbroken, side_by_side, places_along, IsNarrow};
 
+use crate::stretch::{Stretch, right_of};
 use crate::tokens::TEXT_LIMIT;
 use pungi_base::Pos;
 use std::alloc::{AllocError, Global};
 
-/// A text without its line joins, and the place of each byte that stays.
+/// A text without its line joins, and where the bytes that stay stand.
 #[derive(Drop)]
 pub(crate) struct Joined {
     pub bytes: Vec<u8>,
-    pub places: Vec<Pos>,
+    pub stretches: Vec<Stretch>,
+}
+
+/// What stands first in a text: so many bytes that stay, side by side, so many bytes with the join behind them, if one
+/// is there, and the place behind it all.
+#[derive(Clone, Copy)]
+struct Front {
+    kept: usize,
+    passed: usize,
+    next: Pos,
 }
 
 const BACKSLASH: u8 = b'\\';
+
+/// About how many bytes of a text stand on a line. The list of stretches is made with room for as many.
+const BYTES_A_STRETCH: usize = 16;
 
 /// How long the line join at the front of a text is.
 fn join_length(text: &[u8]) -> usize
@@ -49,12 +64,6 @@ fn join_end_length(rest: &[u8]) -> usize
     }
 }
 
-fn still(left: usize, text: &[u8]) -> usize
-    ensures { result ≡ still_left left text.now }
-{
-    if left == 0 { join_length(text) } else { left }
-}
-
 fn after_byte(at: Pos, b: u8) -> Pos
     requires line { at.line + 1 < 2 ^ 32 }
     requires col { at.col + 1 < 2 ^ 32 }
@@ -75,27 +84,88 @@ fn after_byte(at: Pos, b: u8) -> Pos
     }
 }
 
+fn is_unbroken(b: u8) -> bool
+    ensures { result ≡ unbroken b }
+{
+    b != b'\n' && b != BACKSLASH
+}
+
+/// How many bytes come before the next line feed or backslash.
+fn unbroken_count(text: &[u8]) -> usize
+    ensures count { result ≡ prefix_len unbroken text.now }
+    ensures within { result ≤ length text.now }
+{
+    text.iter().take_while(|b| is_unbroken(**b)).count()
+}
+
+/// What stands first in a text that begins at a place.
+fn front_of(at: Pos, text: &[u8]) -> Front
+    requires short { length text.now ≤ TEXT_LIMIT }
+    requires line { at.line + 1 < 2 ^ 32 }
+    requires col { at.col + TEXT_LIMIT < 2 ^ 32 - 1 }
+    ensures bytes { bytes_of (joined_from 0 at text.now) ≡ take result.kept text.now ++ bytes_of (joined_from 0 result.next (drop result.passed text.now)) }
+    ensures places { places_of (joined_from 0 at text.now) ≡ side_by_side at result.kept ++ places_of (joined_from 0 result.next (drop result.passed text.now)) }
+    ensures some { 0 < length text.now → 0 < result.passed }
+    ensures kept { result.kept ≤ result.passed }
+    ensures within { result.passed ≤ length text.now }
+    ensures line { result.next.line ≤ at.line + 1 }
+    ensures col { result.next.col ≤ at.col + result.passed }
+{
+    let count = unbroken_count(text);
+    let (_, behind) = text.split_at(count);
+    let next = right_of(at, count as u32);
+    match behind {
+        [] => Front {
+            kept: count,
+            passed: count,
+            next,
+        },
+        [b, ..] => {
+            let length = join_length(behind);
+            if length == 0 {
+                Front {
+                    kept: count + 1,
+                    passed: count + 1,
+                    next: after_byte(next, *b),
+                }
+            } else {
+                Front {
+                    kept: count,
+                    passed: count + length,
+                    next: Pos {
+                        line: at.line + 1,
+                        col: 1,
+                    },
+                }
+            }
+        }
+    }
+}
+
 /// Takes the line joins out of a text.
 pub(crate) fn join(alloc: Global, text: &[u8]) -> Result<Joined, AllocError>
     requires short { length text.now ≤ TEXT_LIMIT }
     ensures bytes { IfOk result (λ j. j.bytes.items ≡ bytes_of (joined text.now)) }
-    ensures places { IfOk result (λ j. j.places.items ≡ places_of (joined text.now)) }
-    ensures same { IfOk result (λ j. length j.places.items ≡ length j.bytes.items) }
+    ensures places { IfOk result (λ j. places_along j.stretches.items ≡ places_of (joined text.now)) }
+    ensures narrow { IfOk result (λ j. All IsNarrow j.stretches.items) }
+    ensures same { IfOk result (λ j. length (places_along j.stretches.items) ≡ length j.bytes.items) }
     ensures short { IfOk result (λ j. length j.bytes.items ≤ length text.now) }
 {
     let mut bytes = Vec::with_capacity(alloc, text.len())?;
-    let mut places = Vec::with_capacity(alloc, text.len())?;
+    let mut stretches = Vec::with_capacity(alloc, text.len() / BYTES_A_STRETCH)?;
     let mut at = Pos { line: 1, col: 1 };
-    let mut left = 0usize;
-    for i in 0..text.len() {
-        let now = still(left, &text[i..]);
-        let b = text[i];
-        if now == 0 {
-            bytes.push(b)?;
-            places.push(at)?;
-        }
-        at = after_byte(at, b);
-        left = now.saturating_sub(1);
+    let mut done = 0usize;
+    'fronts: while done < text.len() {
+        let (_, rest) = text.split_at(done);
+        let front = front_of(at, rest);
+        let (kept, _) = rest.split_at(front.kept);
+        bytes.extend_from_slice(kept)?;
+        stretches.push(Stretch {
+            at,
+            count: front.kept as u32,
+        })?;
+        at = front.next;
+        done += front.passed;
     }
-    Ok(Joined { bytes, places })
+    Ok(Joined { bytes, stretches })
 }

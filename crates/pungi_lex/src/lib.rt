@@ -19,6 +19,7 @@ mod piece;
 mod predefined;
 mod quote;
 mod start;
+mod stretch;
 #[cfg(test)]
 mod tests;
 mod tokens;

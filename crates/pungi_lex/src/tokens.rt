@@ -1,4 +1,5 @@
 ghost use Rattle.std.specs.Prelude.{◌≡◌, ◌≤◌, ◌<◌, ◌+◌, ◌^◌, ◌++◌, ℕ, List, length, false, IfOk, OnOk, IfErr};
+ghost use Rattle.std.specs.List.{All};
 ghost use Rattle.pungi_base.specs.declared.token.Token.{Token as TheToken};
 ghost use Rattle.pungi_base.specs.Names.{AreNames, Extends};
 ghost use Rattle.pungi_base.specs.Words.{BeginWithWords};
@@ -6,6 +7,7 @@ ghost use Rattle.pungi_lex.specs.declared.lex_fault.LexFault.{LexFault as TheLex
 ghost use Rattle.pungi_lex.specs.Join.{place_in};
 ghost use Rattle.pungi_lex.specs.Known.{AreKnown};
 ghost use Rattle.pungi_lex.specs.Size.{AreSized};
+ghost use Rattle.pungi_lex.specs.Stretch.{places_along, IsNarrow};
 ghost use Rattle.pungi_lex.specs.Tokens.{AreTokens, AreTokensOf, IsRefused, HasFault, HasNoTokens, is_memory, token_of, fault_at as fault_told};
 
 use crate::join::join;
@@ -13,6 +15,7 @@ use crate::lex_fault::LexFault;
 use crate::line::{Line, is_fresh, next_line};
 use crate::piece::piece_of;
 use crate::start::{Start, is_token, start_of};
+use crate::stretch::{Stretch, first_spot, spot_behind};
 use pungi_base::words::KEYWORDS;
 use pungi_base::{Kind, Names, Pos, Token};
 use std::alloc::{AllocError, Global};
@@ -69,15 +72,16 @@ fn cut(
     alloc: Global,
     names: &mut Names,
     bytes: &[u8],
-    places: &[Pos],
+    stretches: &[Stretch],
 ) -> Result<Vec<Token>, LexFault>
     requires short { length bytes.now ≤ TEXT_LIMIT }
-    requires same { length places.now ≡ length bytes.now }
+    requires same { length (places_along stretches.now) ≡ length bytes.now }
+    requires narrow { All IsNarrow stretches.now }
     requires words { KEYWORDS ≤ length names.old }
     requires room { length names.old < 2 ^ 31 }
-    ensures tokens { IfOk result (λ tokens. AreTokens names.old names.new bytes.now (place_in places.now) tokens.items) }
+    ensures tokens { IfOk result (λ tokens. AreTokens names.old names.new bytes.now (place_in (places_along stretches.now)) tokens.items) }
     ensures few { IfOk result (λ tokens. length tokens.items ≤ length bytes.now) }
-    ensures refused { IfErr result (λ fault. IsRefused bytes.now (place_in places.now) fault) }
+    ensures refused { IfErr result (λ fault. IsRefused bytes.now (place_in (places_along stretches.now)) fault) }
     ensures grows { Extends names.old names.new }
     ensures names { AreNames names.old → AreNames names.new }
     ensures room { length names.new ≤ length names.old + length bytes.now }
@@ -86,20 +90,21 @@ fn cut(
     let mut line = Line::Fresh;
     let mut touching = false;
     let mut done = 0usize;
+    let mut spot = first_spot(stretches);
     'pieces: loop {
         let (_, rest) = bytes.split_at(done);
         if rest.is_empty() {
             return Ok(tokens);
         }
         let start = start_of(line, rest);
-        let at = places[done];
         match piece_of(alloc, names, start, rest)? {
-            None => return Err(fault_at(start, at)),
+            None => return Err(fault_at(start, spot.at)),
             Some((found, count)) => {
                 let (piece, _) = rest.split_at(count);
-                push_token(&mut tokens, found, at, is_fresh(line), touching)?;
+                push_token(&mut tokens, found, spot.at, is_fresh(line), touching)?;
                 line = next_line(line, start, piece);
                 touching = is_token(start);
+                spot = spot_behind(stretches, spot, count as u32);
                 done += count;
             }
         }
@@ -127,7 +132,7 @@ fn cut_text(alloc: Global, names: &mut Names, text: &[u8]) -> Result<Vec<Token>,
 {
     are_distinct(names);
     let joined = join(alloc, text)?;
-    cut(alloc, names, &joined.bytes, &joined.places)
+    cut(alloc, names, &joined.bytes, &joined.stretches)
 }
 
 /// Cuts a text into its tokens. The names gain its words and the contents of its string literals, in the order in
