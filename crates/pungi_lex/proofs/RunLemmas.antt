@@ -1,14 +1,15 @@
 -- How far the parts of a text have come.
 use Rattle.std.proofs.Common.{◌≡◌, ℕ, suc, ◌+◌, ◌<◌, ◌≤◌, Bool, true, false, not, cond, List, [], ◌∷◌, ◌++◌, length, take, drop, get_or, Ok, Err, refl, sym, ap, subst, ◌∙◌, arith, append_assoc, take-append-drop}
-use Rattle.std.specs.List.{list_all, prefix_len}
-use Rattle.std.proofs.lemmas.List.{append-nil, drop-drop}
+use Rattle.std.specs.List.{All, list_all, prefix_len}
+use Rattle.std.proofs.lemmas.List.{append-nil, drop-drop, length-take-le}
+use Rattle.std.proofs.lemmas.List.Elements.{All-head, All-tail}
 use Rattle.pungi_base.specs.declared.token.Token.{Token}
 use Rattle.pungi_lex.specs.declared.macro_fault.MacroFault.{MacroFault}
 use Rattle.pungi_lex.specs.declared.frames.TheConstants.{TOKEN_LIMIT}
 use Rattle.pungi_lex.specs.Directive.{IsHash, Obeys}
 use Rattle.pungi_lex.specs.Expander.{Part, Directed, Plain, tokens_of_part, tokens_in, starts_first, ArePartsBefore, Runs, Ends, Directs, Expanded, Refuses, OfDirective, OfCount, IsExpanded, HasMacroFault}
-use Rattle.pungi_lex.specs.Frames.{IsReplaced, IsOverLimit}
-use Rattle.pungi_lex.specs.Macros.{Macros, placed}
+use Rattle.pungi_lex.specs.Frames.{Stays, IsReplaced, IsOverLimit}
+use Rattle.pungi_lex.specs.Macros.{Macros, Expands, Nothing, Kept, placed}
 use Rattle.pungi_lex.specs.Predefined.{predefined}
 use Rattle.pungi_lex.proofs.FrontLemmas.{front_passes}
 
@@ -41,6 +42,28 @@ plain_on names tokens behind done next m n count out after t here there other is
         runs = subst (λ (l : List Token). Runs (predefined names) 0 r.all l last k) (sym (append_assoc out (placed t kinds) later) ∙ ap (λ (l : List Token). l ++ later) (sym is.3)) r.runs;
       };
 }
+
+-- the same progress, told otherwise
+told_as : (names : ℕ) (tokens : List Token) (done done' : ℕ) (m : Macros) (n n' : ℕ) (out out' : List Token) → done ≡ done' → n ≡ n' → out ≡ out' → Progress names tokens done m n out → Progress names tokens done' m n' out'
+told_as names tokens done done' m n n' out out' done-is n-is out-is so_far =
+    subst (λ (d : ℕ). Progress names tokens d m n' out') done-is (subst (λ (k : ℕ). Progress names tokens done m k out') n-is (subst (λ (l : List Token). Progress names tokens done m n l) out-is so_far))
+
+pub kept_on : (names : ℕ) (tokens kept behind : List Token) (done : ℕ) (m : Macros) (n : ℕ) (out : List Token) → drop done tokens ≡ kept ++ behind → All (Stays m) kept → n + length kept ≤ TOKEN_LIMIT
+    → Progress names tokens done m n out → Progress names tokens (done + length kept) m (n + length kept) (out ++ kept)
+kept_on names tokens [] behind done m n out here stay within so_far =
+    let done-is : done ≡ done + 0 = omega arith in
+    let n-is : n ≡ n + 0 = omega arith in
+    told_as names tokens done (done + 0) m n (n + 0) out (out ++ []) done-is n-is (sym (append-nil out)) so_far
+kept_on names tokens (t ∷ kept) behind done m n out here stay within so_far =
+    let stays : Stays m t = All-head (Stays m) t kept stay in
+    let there : drop (done + 1) tokens ≡ kept ++ behind = sym (drop-drop 1 done tokens) ∙ ap (drop 1) here in
+    let one : Expands m (t.kind ∷ []) (t.kind ∷ []) 1 = Kept m t.kind [] [] 0 stays.1 (Nothing m) in
+    let step : Progress names tokens (done + 1) m (n + 1) (out ++ t ∷ []) =
+        plain_on names tokens (kept ++ behind) done (done + 1) m n (n + 1) out (out ++ t ∷ []) t here there stays.0 (t.kind ∷ [], 1, one, refl, refl) (omega arith) so_far in
+    let done-is : done + 1 + length kept ≡ done + suc (length kept) = omega arith in
+    let n-is : n + 1 + length kept ≡ n + suc (length kept) = omega arith in
+    told_as names tokens (done + 1 + length kept) (done + suc (length kept)) m (n + 1 + length kept) (n + suc (length kept)) (out ++ t ∷ [] ++ kept) (out ++ (t ∷ kept)) done-is n-is (append_assoc out (t ∷ []) kept)
+    (kept_on names tokens kept behind (done + 1) m (n + 1) (out ++ t ∷ []) there (All-tail (Stays m) t kept stay) (omega arith) step)
 
 pub line_on : (names : ℕ) (tokens ws behind : List Token) (done next : ℕ) (m after : Macros) (n : ℕ) (out : List Token) (t : Token) → drop done tokens ≡ t ∷ (ws ++ behind) → drop next tokens ≡ behind → IsHash t
     → list_all (λ (t : Token). not t.first) ws ≡ true → starts_first behind ≡ true → Obeys m t ws (Ok after) → Progress names tokens done m n out → Progress names tokens next after n out
@@ -136,3 +159,14 @@ pub plain_refused : (names : ℕ) (tokens rest : List Token) (done : ℕ) (m : M
 plain_refused names tokens rest done m n out t found is some t-is other over so_far =
     stopped names tokens done m n out (drop 1 rest) (Plain t) found (sym is ∙ uncons rest t some t-is) (other, tt)
     (subst (λ (f : MacroFault). Refuses m n (Plain t) f) (sym over.4) (OfCount t over.0 over.1 over.2 over.3)) so_far
+
+pub at_kept : (names : ℕ) (tokens rest kept : List Token) (done length_of : ℕ) (m : Macros) (n : ℕ) (out after : List Token) → rest ≡ drop done tokens → kept ≡ take length_of rest → length_of ≤ length rest → All (Stays m) (take length_of rest) → n + length_of ≤ TOKEN_LIMIT → after ≡ out ++ kept
+    → Progress names tokens done m n out → Progress names tokens (done + length_of) m (n + length_of) after
+at_kept names tokens rest kept done k m n out after is kept-is within stay few after-is so_far =
+    let front = take k rest in
+    let long : length front ≡ k = length-take-le k rest within in
+    let here : drop done tokens ≡ front ++ drop k rest = sym is ∙ sym (take-append-drop k rest) in
+    let done-is : done + length front ≡ done + k = omega arith in
+    let n-is : n + length front ≡ n + k = omega arith in
+    told_as names tokens (done + length front) (done + k) m (n + length front) (n + k) (out ++ front) after done-is n-is (ap (λ (l : List Token). out ++ l) (sym kept-is) ∙ sym after-is)
+    (kept_on names tokens front (drop k rest) done m n out here stay (omega arith) so_far)

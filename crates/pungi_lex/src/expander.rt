@@ -11,6 +11,7 @@ use crate::directive::{is_hash, obey, token_at};
 use crate::frames::{TOKEN_LIMIT, expand_token};
 use crate::macro_fault::MacroFault;
 use crate::predefined::predefined;
+use crate::stay::stay_count;
 use pungi_base::{Names, Token};
 use std::alloc::Global;
 
@@ -37,8 +38,14 @@ fn expand_tokens(alloc: Global, names: &Names, tokens: &[Token]) -> Result<Vec<T
         if rest.is_empty() {
             return Ok(out);
         }
+        let length = stay_count(&table, rest, TOKEN_LIMIT - count);
         let token = token_at(rest, 0);
-        if is_hash(&token) {
+        if 0 < length {
+            let (kept, _) = rest.split_at(length);
+            out.extend_from_slice(kept)?;
+            count += length;
+            done += length;
+        } else if is_hash(&token) {
             let (_, behind) = rest.split_at(1);
             let length = line_count(behind);
             let (words, _) = behind.split_at(length);

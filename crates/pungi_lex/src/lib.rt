@@ -19,6 +19,7 @@ mod piece;
 mod predefined;
 mod quote;
 mod start;
+mod stay;
 mod stretch;
 #[cfg(test)]
 mod tests;
