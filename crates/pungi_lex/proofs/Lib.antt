@@ -7,6 +7,7 @@ pub mod KindLemmas
 pub mod KnownExpansion
 pub mod KnownTokens
 pub mod MarkLemmas
+pub mod NameLemmas
 pub mod NumberLemmas
 pub mod OneExpansion
 pub mod Progress

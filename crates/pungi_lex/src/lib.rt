@@ -18,6 +18,7 @@ mod number;
 mod piece;
 mod predefined;
 mod quote;
+mod recent;
 mod start;
 mod stay;
 mod stretch;

@@ -12,21 +12,27 @@ use crate::key::key_at;
 use crate::mark::{longest_mark, punct_length};
 use crate::number::{number_count, number_kind};
 use crate::quote::quote_count;
+use crate::recent::Recent;
 use crate::start::Start;
 use pungi_base::words::KEYWORDS;
 use pungi_base::{Kind, Memory, Names};
 use std::alloc::Global;
 
 /// What a word is under these names, which gain it.
-fn word_kind(alloc: Global, names: &mut Names, word: &[u8]) -> Result<Kind, Memory>
+fn word_kind(
+    alloc: Global,
+    names: &mut Names,
+    recent: &mut Recent,
+    word: &[u8],
+) -> Result<Kind, Memory>
     requires words { KEYWORDS ≤ length names.old }
     requires room { length names.old < 2 ^ 32 - 1 }
     ensures ok { OnOk result (names.new ≡ with_text names.old word.now) }
     ensures kind { IfOk result (λ kind. NamesWord names.new (Some kind) word.now) }
-    ensures names { OnOk result (AreNames names.new) }
+    ensures names { AreNames names.old → AreNames names.new }
     ensures err { OnErr result (names.new ≡ names.old) }
 {
-    let name = names.number(alloc, word)?;
+    let name = recent.number(alloc, names, word)?;
     if name.0 < KEYWORDS {
         Ok(Kind::Key(key_at(name.0)))
     } else {
@@ -114,6 +120,7 @@ fn mark_piece(text: &[u8]) -> Option<(Option<Kind>, usize)>
 fn word_piece(
     alloc: Global,
     names: &mut Names,
+    recent: &mut Recent,
     text: &[u8],
 ) -> Result<(Option<Kind>, usize), Memory>
     requires first { IsTrue (begins letter text.now) }
@@ -127,7 +134,7 @@ fn word_piece(
 {
     let count = word_count(text);
     let (word, _) = text.split_at(count);
-    let kind = word_kind(alloc, names, word)?;
+    let kind = word_kind(alloc, names, recent, word)?;
     Ok((Some(kind), count))
 }
 
@@ -159,6 +166,7 @@ fn text_piece(
 pub(crate) fn piece_of(
     alloc: Global,
     names: &mut Names,
+    recent: &mut Recent,
     start: Start,
     text: &[u8],
 ) -> Result<Option<(Option<Kind>, usize)>, Memory>
@@ -176,7 +184,7 @@ pub(crate) fn piece_of(
         Start::Blank => Ok(Some(blank_piece(text))),
         Start::LineComment => Ok(Some(line_comment_piece(text))),
         Start::Comment => Ok(comment_piece(text)),
-        Start::Word => Ok(Some(word_piece(alloc, names, text)?)),
+        Start::Word => Ok(Some(word_piece(alloc, names, recent, text)?)),
         Start::Number => Ok(number_piece(text)),
         Start::Char => Ok(char_piece(text)),
         Start::Text => Ok(text_piece(alloc, names, text)?),

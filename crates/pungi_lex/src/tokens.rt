@@ -14,6 +14,7 @@ use crate::join::join;
 use crate::lex_fault::LexFault;
 use crate::line::{Line, is_fresh, next_line};
 use crate::piece::piece_of;
+use crate::recent::Recent;
 use crate::start::{Start, is_token, start_of};
 use crate::stretch::{Stretch, first_spot, spot_behind};
 use pungi_base::words::KEYWORDS;
@@ -87,6 +88,7 @@ fn cut(
     ensures room { length names.new ≤ length names.old + length bytes.now }
 {
     let mut tokens = Vec::with_capacity(alloc, bytes.len() / BYTES_A_TOKEN)?;
+    let mut recent = Recent::new(alloc)?;
     let mut line = Line::Fresh;
     let mut touching = false;
     let mut done = 0usize;
@@ -97,7 +99,7 @@ fn cut(
             return Ok(tokens);
         }
         let start = start_of(line, rest);
-        match piece_of(alloc, names, start, rest)? {
+        match piece_of(alloc, names, &mut recent, start, rest)? {
             None => return Err(fault_at(start, spot.at)),
             Some((found, count)) => {
                 let (piece, _) = rest.split_at(count);
