@@ -1,13 +1,13 @@
 -- A text without its line joins, stretch by stretch.
 use Rattle.std.specs.Prelude.{codes, if◌then◌else◌}
-use Rattle.std.proofs.Common.{◌≡◌, ℕ, ◌+◌, ◌<◌, ◌≤◌, ◌==◌, Bool, true, false, List, [], ◌∷◌, ◌++◌, length, take, drop, get_or, refl, sym, ap, ◌∙◌, arith, take-append-drop, append_assoc, add-zero}
+use Rattle.std.proofs.Common.{◌≡◌, ℕ, zero, suc, ◌+◌, ◌-◌, ◌<◌, ◌≤◌, ◌==◌, Bool, true, false, List, [], ◌∷◌, ◌++◌, length, take, drop, get_or, refl, sym, ap, ◌∙◌, arith, take-append-drop, append_assoc, add-zero}
 use Rattle.std.specs.List.{list_all, prefix_len}
-use Rattle.std.proofs.lemmas.List.{map-append, drop-drop, take_more, drop_more, get_or-drop, length-drop, length-take-le}
+use Rattle.std.proofs.lemmas.List.{map-append, drop-drop, length-map, take_more, drop_more, get_or-drop, length-drop, length-take-le}
 use Rattle.std.proofs.lemmas.List.Folds.{length-prefix_len}
 use Rattle.std.proofs.lemmas.Bool.Decides.{nat_tests}
 use Rattle.pungi_base.specs.declared.pos.Pos.{Pos}
 use Rattle.pungi_lex.specs.Bytes.{begins_with}
-use Rattle.pungi_lex.specs.Join.{join_length, after_byte, joined_from, bytes_of, places_of, Placed}
+use Rattle.pungi_lex.specs.Join.{join_length, after_byte, joined, joined_from, bytes_of, places_of, plain, Placed, kept, still, first_place}
 use Rattle.pungi_lex.specs.Stretch.{is_unbroken, right_of, side_by_side}
 use Rattle.pungi_lex.proofs.FrontLemmas.{front_passes}
 use Rattle.pungi_lex.proofs.MarkLemmas.{front}
@@ -126,3 +126,29 @@ stands_to_byte at next text behind n is behind-is some none next-is =
     stands at next text (n + 1) (n + 1) long
     (front_on at text n is ∙ ap (λ (l : List Placed). standing at (take n text) ++ l) one ∙ sym (append_assoc (standing at (take n text)) ((record { byte = b; at = right_of at n }) ∷ []) rest)
     ∙ ap (λ (l : List Placed). l ++ rest) (sym last ∙ ap (standing at) (sym here)))
+
+-- ---- a text with no join
+
+within_text : (left : ℕ) (at : Pos) (text : List ℕ) → length (bytes_of (joined_from left at text)) ≤ length text
+within_text left at [] = omega arith
+within_text left at (b ∷ rest) = within_step (still left (b ∷ rest)) (within_text (still left (b ∷ rest) - 1) (after_byte at b) rest)
+  where
+    within_step : (now : ℕ) → length (bytes_of (joined_from (now - 1) (after_byte at b) rest)) ≤ length rest → length (bytes_of (kept now b at ++ joined_from (now - 1) (after_byte at b) rest)) ≤ suc (length rest)
+    within_step zero h = omega (arith, h)
+    within_step (suc now) h = let some : (suc now == 0) ≡ false = grind (arith, nat_tests) in rw some (omega (arith, h))
+
+whole_from : (left : ℕ) (at : Pos) (text : List ℕ) → length (bytes_of (joined_from left at text)) ≡ length text → bytes_of (joined_from left at text) ≡ text
+whole_from left at [] long = refl
+whole_from left at (b ∷ rest) long = whole_step (still left (b ∷ rest)) long (within_text (still left (b ∷ rest) - 1) (after_byte at b) rest) (whole_from (still left (b ∷ rest) - 1) (after_byte at b) rest)
+  where
+    whole_step : (now : ℕ) → length (bytes_of (kept now b at ++ joined_from (now - 1) (after_byte at b) rest)) ≡ suc (length rest) → length (bytes_of (joined_from (now - 1) (after_byte at b) rest)) ≤ length rest
+        → (length (bytes_of (joined_from (now - 1) (after_byte at b) rest)) ≡ length rest → bytes_of (joined_from (now - 1) (after_byte at b) rest) ≡ rest) → bytes_of (kept now b at ++ joined_from (now - 1) (after_byte at b) rest) ≡ b ∷ rest
+    whole_step zero long within more = ap (λ (l : List ℕ). b ∷ l) (more (omega (arith, long)))
+    whole_step (suc now) long within more = let some : (suc now == 0) ≡ false = grind (arith, nat_tests) in absurd (omega (arith, rw some at long, within))
+
+pub whole_text : (text : List ℕ) → length (plain text) ≡ length text → plain text ≡ text
+whole_text text long = whole_from 0 first_place text long
+
+-- each byte that stays has its place
+pub as_many : (text : List ℕ) → length (places_of (joined text)) ≡ length (plain text)
+as_many text = length-map (joined text) (λ (p : Placed). p.at) ∙ sym (length-map (joined text) (λ (p : Placed). p.byte))

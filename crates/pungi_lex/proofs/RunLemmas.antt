@@ -59,7 +59,7 @@ kept_on names tokens (t ∷ kept) behind done m n out here stay within so_far =
     let there : drop (done + 1) tokens ≡ kept ++ behind = sym (drop-drop 1 done tokens) ∙ ap (drop 1) here in
     let one : Expands m (t.kind ∷ []) (t.kind ∷ []) 1 = Kept m t.kind [] [] 0 stays.1 (Nothing m) in
     let step : Progress names tokens (done + 1) m (n + 1) (out ++ t ∷ []) =
-        plain_on names tokens (kept ++ behind) done (done + 1) m n (n + 1) out (out ++ t ∷ []) t here there stays.0 (t.kind ∷ [], 1, one, refl, refl) (omega arith) so_far in
+    plain_on names tokens (kept ++ behind) done (done + 1) m n (n + 1) out (out ++ t ∷ []) t here there stays.0 (t.kind ∷ [], 1, one, refl, refl) (omega arith) so_far in
     let done-is : done + 1 + length kept ≡ done + suc (length kept) = omega arith in
     let n-is : n + 1 + length kept ≡ n + suc (length kept) = omega arith in
     told_as names tokens (done + 1 + length kept) (done + suc (length kept)) m (n + 1 + length kept) (n + suc (length kept)) (out ++ t ∷ [] ++ kept) (out ++ (t ∷ kept)) done-is n-is (append_assoc out (t ∷ []) kept)

@@ -1,6 +1,6 @@
 ghost use Rattle.std.specs.Prelude.{◌≡◌, ◌≤◌, ◌<◌, ◌+◌, ◌-◌, ◌^◌, ◌∷◌, ◌++◌, length, take, drop, IfOk};
 ghost use Rattle.std.specs.List.{prefix_len, All};
-ghost use Rattle.pungi_lex.specs.Join.{join_length as length_of_join, after_byte as behind_byte, bytes_of, places_of, joined, joined_from};
+ghost use Rattle.pungi_lex.specs.Join.{join_length as length_of_join, after_byte as behind_byte, bytes_of, places_of, joined, joined_from, plain};
 ghost use Rattle.pungi_lex.specs.Stretch.{is_unbroken as unbroken, side_by_side, places_along, IsNarrow};
 
 use crate::stretch::{Stretch, right_of};
@@ -8,11 +8,11 @@ use crate::tokens::TEXT_LIMIT;
 use pungi_base::Pos;
 use std::alloc::{AllocError, Global};
 
-/// A text without its line joins, and where the bytes that stay stand.
+/// Where the bytes that a text keeps without its line joins stand, and how many they are.
 #[derive(Drop)]
-pub(crate) struct Joined {
-    pub bytes: Vec<u8>,
+pub(crate) struct Standing {
     pub stretches: Vec<Stretch>,
+    pub count: usize,
 }
 
 /// What stands first in a text: so many bytes that stay, side by side, so many bytes with the join behind them, if one
@@ -142,17 +142,38 @@ fn front_of(at: Pos, text: &[u8]) -> Front
     }
 }
 
-/// Takes the line joins out of a text.
-pub(crate) fn join(alloc: Global, text: &[u8]) -> Result<Joined, AllocError>
+/// Where the bytes of a text without its line joins stand.
+pub(crate) fn stretches_of(alloc: Global, text: &[u8]) -> Result<Standing, AllocError>
     requires short { length text.now ≤ TEXT_LIMIT }
-    ensures bytes { IfOk result (λ j. j.bytes.items ≡ bytes_of (joined text.now)) }
-    ensures places { IfOk result (λ j. places_along j.stretches.items ≡ places_of (joined text.now)) }
-    ensures narrow { IfOk result (λ j. All IsNarrow j.stretches.items) }
-    ensures same { IfOk result (λ j. length (places_along j.stretches.items) ≡ length j.bytes.items) }
-    ensures short { IfOk result (λ j. length j.bytes.items ≤ length text.now) }
+    ensures places { IfOk result (λ s. places_along s.stretches.items ≡ places_of (joined text.now)) }
+    ensures narrow { IfOk result (λ s. All IsNarrow s.stretches.items) }
+    ensures count { IfOk result (λ s. s.count ≡ length (plain text.now)) }
+{
+    let mut stretches = Vec::with_capacity(alloc, text.len() / BYTES_A_STRETCH)?;
+    let mut count = 0usize;
+    let mut at = Pos { line: 1, col: 1 };
+    let mut done = 0usize;
+    'fronts: while done < text.len() {
+        let (_, rest) = text.split_at(done);
+        let front = front_of(at, rest);
+        stretches.push(Stretch {
+            at,
+            count: front.kept as u32,
+        })?;
+        count += front.kept;
+        at = front.next;
+        done += front.passed;
+    }
+    Ok(Standing { stretches, count })
+}
+
+/// A text without its line joins.
+pub(crate) fn join(alloc: Global, text: &[u8]) -> Result<Vec<u8>, AllocError>
+    requires short { length text.now ≤ TEXT_LIMIT }
+    ensures bytes { IfOk result (λ bytes. bytes.items ≡ plain text.now) }
+    ensures short { IfOk result (λ bytes. length bytes.items ≤ length text.now) }
 {
     let mut bytes = Vec::with_capacity(alloc, text.len())?;
-    let mut stretches = Vec::with_capacity(alloc, text.len() / BYTES_A_STRETCH)?;
     let mut at = Pos { line: 1, col: 1 };
     let mut done = 0usize;
     'fronts: while done < text.len() {
@@ -160,12 +181,8 @@ pub(crate) fn join(alloc: Global, text: &[u8]) -> Result<Joined, AllocError>
         let front = front_of(at, rest);
         let (kept, _) = rest.split_at(front.kept);
         bytes.extend_from_slice(kept)?;
-        stretches.push(Stretch {
-            at,
-            count: front.kept as u32,
-        })?;
         at = front.next;
         done += front.passed;
     }
-    Ok(Joined { bytes, stretches })
+    Ok(bytes)
 }

@@ -5,6 +5,7 @@ ghost use Rattle.pungi_lex.specs.MarkTable.{mark_one as one, mark_two as two, ma
 
 use pungi_base::Punct;
 
+#[inline(always)]
 fn mark_one(a: u8) -> Option<Punct>
     ensures mark { result ≡ one a }
     ensures spelled { IfSome result (λ punct. text_of_punct punct ≡ a ∷ []) }
@@ -39,6 +40,7 @@ fn mark_one(a: u8) -> Option<Punct>
     }
 }
 
+#[inline(always)]
 fn mark_two(a: u8, b: u8) -> Option<Punct>
     ensures mark { result ≡ two a b }
     ensures spelled { IfSome result (λ punct. text_of_punct punct ≡ a ∷ b ∷ []) }
@@ -107,6 +109,7 @@ fn mark_two(a: u8, b: u8) -> Option<Punct>
     }
 }
 
+#[inline(always)]
 fn mark_three(a: u8, b: u8, c: u8) -> Option<Punct>
     ensures mark { result ≡ three a b c }
     ensures spelled { IfSome result (λ punct. text_of_punct punct ≡ a ∷ b ∷ c ∷ []) }
@@ -122,6 +125,7 @@ fn mark_three(a: u8, b: u8, c: u8) -> Option<Punct>
     }
 }
 
+#[inline(always)]
 fn mark_found(text: &[u8]) -> Option<Punct>
     ensures mark { result ≡ mark_at text.now }
     ensures spelled { IfSome result (λ punct. text_of_punct punct ≡ take (length (text_of_punct punct)) text.now) }
@@ -146,6 +150,7 @@ fn mark_found(text: &[u8]) -> Option<Punct>
 }
 
 /// The longest punctuator at the front of a text.
+#[inline(always)]
 pub(crate) fn longest_mark(text: &[u8]) -> Option<Punct>
     ensures longest { MatchOption result (mark_len text.now ≡ 0) (λ punct. length (text_of_punct punct) ≡ mark_len text.now) }
     ensures spelled { IfSome result (λ punct. text_of_punct punct ≡ take (length (text_of_punct punct)) text.now) }
@@ -156,6 +161,7 @@ pub(crate) fn longest_mark(text: &[u8]) -> Option<Punct>
 }
 
 /// How long the spelling of a punctuator is.
+#[inline(always)]
 pub(crate) fn punct_length(punct: Punct) -> usize
     ensures { result ≡ length (text_of_punct punct) }
 {

@@ -68,6 +68,7 @@ fn digit_value(b: u8) -> u8
 }
 
 /// The value of digits in a base.
+#[inline(always)]
 fn value_of(base: u128, digits: &[u8]) -> Option<u128>
     requires some { 0 < base }
     requires small { base ≤ 16 }
@@ -141,6 +142,7 @@ fn is_suffix(s: &[u8]) -> bool
 }
 
 /// The integer constant of these digits in a base, and of this suffix.
+#[inline(always)]
 fn int_kind(decimal: bool, base: u128, digits: &[u8], suffix: &[u8]) -> Option<Kind>
     requires some { 0 < base }
     requires small { base ≤ 16 }

@@ -19,6 +19,7 @@ pub enum Start {
     Nothing,
 }
 
+#[inline(always)]
 fn is_mark(b: u8) -> bool
     ensures { result ≡ mark b }
 {

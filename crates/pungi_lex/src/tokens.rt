@@ -10,7 +10,7 @@ ghost use Rattle.pungi_lex.specs.Size.{AreSized};
 ghost use Rattle.pungi_lex.specs.Stretch.{places_along, IsNarrow};
 ghost use Rattle.pungi_lex.specs.Tokens.{AreTokens, AreTokensOf, IsRefused, HasFault, HasNoTokens, is_memory, token_of, fault_at as fault_told};
 
-use crate::join::join;
+use crate::join::{join, stretches_of};
 use crate::lex_fault::LexFault;
 use crate::line::{Line, is_fresh, next_line};
 use crate::piece::piece_of;
@@ -133,8 +133,12 @@ fn cut_text(alloc: Global, names: &mut Names, text: &[u8]) -> Result<Vec<Token>,
     ensures room { length names.new ≤ length names.old + length text.now }
 {
     are_distinct(names);
-    let joined = join(alloc, text)?;
-    cut(alloc, names, &joined.bytes, &joined.stretches)
+    let standing = stretches_of(alloc, text)?;
+    if standing.count == text.len() {
+        return cut(alloc, names, text, &standing.stretches);
+    }
+    let bytes = join(alloc, text)?;
+    cut(alloc, names, &bytes, &standing.stretches)
 }
 
 /// Cuts a text into its tokens. The names gain its words and the contents of its string literals, in the order in

@@ -1,11 +1,6 @@
-use Rattle.std.proofs.Common.{◌≡◌, ◌+◌, ◌++◌, ◌∷◌, [], ℕ, List, length, drop, take, ap, sym, ◌∙◌, arith, append_assoc}
+use Rattle.std.proofs.Common.{◌≡◌, ◌+◌, ◌++◌, ℕ, List, length, drop, take, ap, sym, ◌∙◌, arith, append_assoc}
 use Rattle.std.proofs.lemmas.List.{drop-drop}
-use Rattle.std.proofs.lemmas.List.Elements.{All-push, All-same}
-use Rattle.pungi_base.specs.declared.pos.Pos.{Pos}
-use Rattle.pungi_lex.specs.declared.stretch.Stretch.{Stretch}
-use Rattle.pungi_lex.specs.Join.{Placed, joined_from, bytes_of, places_of}
-use Rattle.pungi_lex.specs.Stretch.{places_along, side_by_side, IsNarrow}
-use Rattle.pungi_lex.proofs.StretchLemmas.{along_one}
+use Rattle.pungi_lex.specs.Join.{Placed, joined_from, bytes_of}
 use Rattle.pungi_lex.proofs.join.join.Goals as goal
 
 pub fronts-preserved : goal.fronts-preserved
@@ -16,18 +11,11 @@ fronts-preserved c =
     let rest : c.split_at.result.1.now ≡ drop c.fronts.done c.args.text.now = c.split_at.ensures.back in
     let last : List Placed = joined_from 0 front.next (drop (c.fronts.done + front.passed) c.args.text.now) in
     let behind : joined_from 0 front.next (drop front.passed c.split_at.result.1.now) ≡ last = ap (λ (l : List ℕ). joined_from 0 front.next (drop front.passed l)) rest ∙ ap (joined_from 0 front.next) (drop-drop front.passed c.fronts.done c.args.text.now) in
-    let added : Stretch = record { at = c.fronts.at; count = front.kept } in
-    let thin : IsNarrow added = omega (arith, so_far.col, told.kept, told.within, c.split_at.ensures.back_len, so_far.within, c.requires.short) in
     record {
       bytes = so_far.bytes ∙ ap (λ (l : List ℕ). c.fronts.bytes.items ++ bytes_of (joined_from 0 c.fronts.at l)) (sym rest)
           ∙ ap (λ (l : List ℕ). c.fronts.bytes.items ++ l) (told.bytes ∙ ap (λ (l : List Placed). take front.kept c.split_at.result.1.now ++ bytes_of l) behind)
           ∙ sym (append_assoc c.fronts.bytes.items (take front.kept c.split_at.result.1.now) (bytes_of last))
           ∙ ap (λ (l : List ℕ). l ++ bytes_of last) (ap (λ (l : List ℕ). c.fronts.bytes.items ++ l) (sym c.split_at-in-fronts.ensures.front) ∙ sym c.in_ok-extend_from_slice.ensures.items);
-      places = so_far.places ∙ ap (λ (l : List ℕ). places_along c.fronts.stretches.items ++ places_of (joined_from 0 c.fronts.at l)) (sym rest)
-          ∙ ap (λ (l : List Pos). places_along c.fronts.stretches.items ++ l) (told.places ∙ ap (λ (l : List Placed). side_by_side c.fronts.at front.kept ++ places_of l) behind)
-          ∙ sym (append_assoc (places_along c.fronts.stretches.items) (side_by_side c.fronts.at front.kept) (places_of last))
-          ∙ ap (λ (l : List Pos). l ++ places_of last) (sym (along_one c.fronts.stretches.items added) ∙ ap places_along (sym c.in_ok-push.ensures.items));
-      narrow = All-same IsNarrow c.push.new.self.items (c.fronts.stretches.items ++ added ∷ []) c.in_ok-push.ensures.items (All-push IsNarrow c.fronts.stretches.items added so_far.narrow thin);
       short = omega (arith, ap length c.in_ok-extend_from_slice.ensures.items, c.in_ok-extend_from_slice.ensures.len, c.split_at-in-fronts.ensures.front_len, told.kept, so_far.short);
       within = omega (arith, told.within, c.split_at.ensures.back_len, so_far.within);
       line = omega (arith, told.line, so_far.line, told.some);
