@@ -15,6 +15,9 @@ use crate::stay::stay_count;
 use pungi_base::{Names, Token};
 use std::alloc::Global;
 
+/// About how many tokens come for each that macros add. The list of tokens is made with room for as many.
+const TOKENS_A_MACRO: usize = 8;
+
 /// How many tokens come before the next line.
 fn line_count(tokens: &[Token]) -> usize
     ensures count { result ≡ prefix_len (λ t. not t.first) tokens.now }
@@ -30,7 +33,7 @@ fn expand_tokens(alloc: Global, names: &Names, tokens: &[Token]) -> Result<Vec<T
     ensures fault { IfErr result (λ fault. is_want_of_memory fault ≡ false → HasMacroFault (length names.now) tokens.now fault) }
 {
     let mut table = predefined(alloc, names.len() as u32)?;
-    let mut out = Vec::with_capacity(alloc, tokens.len())?;
+    let mut out = Vec::with_capacity(alloc, tokens.len() + tokens.len() / TOKENS_A_MACRO)?;
     let mut count = 0usize;
     let mut done = 0usize;
     'parts: loop {
