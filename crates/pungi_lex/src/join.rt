@@ -5,6 +5,7 @@ ghost use Rattle.pungi_lex.specs.Stretch.{is_unbroken as unbroken, side_by_side,
 
 use crate::stretch::{Stretch, right_of};
 use crate::tokens::TEXT_LIMIT;
+use memchr::memchr2;
 use pungi_base::Pos;
 use std::alloc::{AllocError, Global};
 
@@ -84,18 +85,15 @@ fn after_byte(at: Pos, b: u8) -> Pos
     }
 }
 
-fn is_unbroken(b: u8) -> bool
-    ensures { result ≡ unbroken b }
-{
-    b != b'\n' && b != BACKSLASH
-}
-
 /// How many bytes come before the next line feed or backslash.
 fn unbroken_count(text: &[u8]) -> usize
     ensures count { result ≡ prefix_len unbroken text.now }
     ensures within { result ≤ length text.now }
 {
-    text.iter().take_while(|b| is_unbroken(**b)).count()
+    match memchr2(b'\n', BACKSLASH, text) {
+        None => text.len(),
+        Some(index) => index,
+    }
 }
 
 /// What stands first in a text that begins at a place.
