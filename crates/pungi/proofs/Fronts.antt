@@ -117,9 +117,10 @@ parse_fault ts (parse.NotAUnit p) told h a = ((no_depth ts p (too_deep 0 ts) ref
 pub parse_refused : (old new : List (List ℕ)) (text : List ℕ) (tokens expanded : List Token) (found : ParseFault) → IsReady old new text tokens expanded → IsParsed (placed expanded) found
     → (told : Pos × List ℕ) → told_of (fault.Parse found) ≡ Some told → IsFaultOf text (fault.Parse found) × IsNoFile text
 parse_refused old new text tokens expanded found r a told h =
-    let f = parse_fault (placed expanded) found told h a in
-    ((new, tokens, expanded, own_cut old new text tokens r.lexed, r.replaced, f.0),
-        λ names items file. let u = file_unit old new text tokens expanded r names items file in f.1 items u.0 u.1)
+    let f = parse_fault (placed expanded) found told h a in (
+      (new, tokens, expanded, own_cut old new text tokens r.lexed, r.replaced, f.0),
+      λ names items file. let u = file_unit old new text tokens expanded r names items file in f.1 items u.0 u.1,
+    )
 
 not_deep : (ts : List Placed) (o : Option Pos) → too_deep 0 ts ≡ o → ((p : Pos) → too_deep 0 ts ≡ Some p → ⊥) → too_deep 0 ts ≡ None
 not_deep ts None h a = h

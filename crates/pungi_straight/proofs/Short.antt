@@ -117,8 +117,8 @@ short_function : (h : Head) (b : Stmt) → IfSome (function_of h b) (IsShort (le
 short_function (head qs s stars n p ps) b =
     if_holds (is_empty qs) _ (IsShort (length (stmt_flat b)))
     (bind_holds (result_of s stars) _ (λ x. Unit {0}) _ (anything (result_of s stars)) (λ object u.
-        bind_holds (params_of ps) _ (λ x. Unit {0}) _ (anything (params_of ps)) (λ names v.
-            bind_holds (body_of b) _ (FewOf (length (stmt_flat b))) _ (few_body b) (λ x few. few))))
+    bind_holds (params_of ps) _ (λ x. Unit {0}) _ (anything (params_of ps)) (λ names v.
+    bind_holds (body_of b) _ (FewOf (length (stmt_flat b))) _ (few_body b) (λ x few. few))))
 
 short_definition : (earlier : List Name) (h : Head) (b : Stmt) → IfSome (definition_of earlier h b).straight (IsShort (length (stmt_flat b)))
 short_definition earlier (head qs s stars n p ps) b =

@@ -160,7 +160,7 @@ abbrev pub function_of : Head → Stmt → Option Function
 function_of (head qs s stars n p ps) b =
     if is_empty qs
     then (result_of s stars >>= λ object. params_of ps >>= λ names. body_of b >>= λ x.
-        Some (record { object = object; name = n; params = names; locals = x.0; body = x.1; end = x.2 }))
+    Some (record { object = object; name = n; params = names; locals = x.0; body = x.1; end = x.2 }))
     else None
 
 abbrev pub in_first_form : List Name → Function → Option Function

@@ -170,7 +170,11 @@ fn passes(earlier: &NameSet, vars: &NameSet, function: &Function) -> bool
 
 /// A function of the first form, after functions of these names.
 #[tactic(auto, using(crate::proofs::Names::form_fails, crate::proofs::Names::form_decided))]
-pub(crate) fn is_first_form(alloc: Global, earlier: &NameSet, function: &Function) -> Result<bool, Memory>
+pub(crate) fn is_first_form(
+    alloc: Global,
+    earlier: &NameSet,
+    function: &Function,
+) -> Result<bool, Memory>
     ensures { IfOk result (λ holds. holds ≡ is_first_form_of earlier.now function.now) }
 {
     match variables(alloc, function)? {

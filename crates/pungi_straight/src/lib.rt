@@ -4,7 +4,6 @@
 mod argument;
 mod call;
 mod definition;
-
 mod form;
 mod function;
 mod name_set;
@@ -16,7 +15,6 @@ mod unit;
 pub use argument::Argument;
 pub use call::Call;
 pub use definition::Definition;
-
 pub use function::Function;
 pub use source::Source;
 pub use statement::Statement;

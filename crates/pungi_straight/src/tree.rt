@@ -273,7 +273,12 @@ fn is_assign(op: Punct) -> bool
     }
 }
 
-fn assignment(alloc: Global, op: Punct, to: &Expr, value: &Expr) -> Result<Option<Statement>, Memory>
+fn assignment(
+    alloc: Global,
+    op: Punct,
+    to: &Expr,
+    value: &Expr,
+) -> Result<Option<Statement>, Memory>
     ensures { IfOk result (λ found. found ≡ assignment_of op (expr_view to.now) (expr_view value.now)) }
 {
     let ExprNode::Word(name) = &to.node else {

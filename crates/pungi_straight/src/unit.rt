@@ -13,7 +13,11 @@ use pungi_base::Memory;
 use pungi_tree::{FunctionDef, Item, Unit};
 use std::alloc::Global;
 
-fn in_first_form(alloc: Global, earlier: &NameSet, function: Function) -> Result<Option<Function>, Memory>
+fn in_first_form(
+    alloc: Global,
+    earlier: &NameSet,
+    function: Function,
+) -> Result<Option<Function>, Memory>
     ensures { IfOk result (λ found. found ≡ in_first_form_of earlier.now function) }
 {
     if is_first_form(alloc, earlier, &function)? {
