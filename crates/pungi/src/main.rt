@@ -24,6 +24,8 @@ use std::io::ErrorKind;
 use std::process::ExitCode;
 
 #[cfg(test)]
+mod test_modules;
+#[cfg(test)]
 mod tests;
 
 /// The words of the command. Where the system refuses them for another cause than memory, there are none.
