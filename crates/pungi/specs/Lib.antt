@@ -1,4 +1,5 @@
 pub mod Answer
 pub mod Examine
+pub mod Front
 pub mod Read
 pub mod Settings

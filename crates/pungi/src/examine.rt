@@ -1,17 +1,22 @@
-ghost use Rattle.std.specs.Prelude.{◌≡◌, ◌≤◌, ◌<◌, ◌^◌, [], length, map, IsTrue, IfOk, IfSome, IsNone, MatchOption, false};
+ghost use Rattle.std.specs.Prelude.{◌≡◌, ◌⊎◌, ◌≤◌, ◌<◌, ◌^◌, [], length, IsTrue, IfOk, IfSome};
 ghost use Rattle.std.specs.List.{All, AllZip, list_any};
-ghost use Rattle.pungi_lex.specs.Tokens.{is_memory};
-ghost use Rattle.pungi_straight.specs.Form.{are_first_form};
-ghost use Rattle.pungi.specs.Examine.{IsReport, IsNoUnit, IsJudged, is_faulty, status_of};
+ghost use Rattle.pungi_judge.specs.Verdict.{is_small};
+ghost use Rattle.pungi_tree.specs.UnitFlat.{items_flat};
+ghost use Rattle.pungi_tree.specs.UnitView.{unit_view};
+ghost use Rattle.pungi_straight.specs.Straight.{definitions_of};
+ghost use Rattle.pungi.specs.Examine.{IsReport, IsJudged, IsVerdict, is_faulty, is_open as is_open_of, status_of};
+ghost use Rattle.pungi.specs.Front.{IsRefusedAs};
 
 use crate::answer::Answer;
+use crate::front::unit_of;
 use crate::read::FILE_LIMIT;
-use crate::status::{ALL_CLEAN, SOME_FAULTY};
-use pungi_base::{Memory, Name, Names, Verdict};
+use crate::refusal::refused;
+use crate::status::{ALL_CLEAN, FILE_REFUSED, SOME_FAULTY, SOME_OPEN};
+use pungi_base::{Memory, Name, Names, Rule, Verdict};
 use pungi_judge::judge;
-use pungi_lex::{LexFault, lex};
 use pungi_report::report;
-use pungi_straight::{Function, ParseFault, parse};
+use pungi_straight::{Definition, definitions};
+use pungi_tree::Unit;
 use std::alloc::Global;
 
 fn is_fault(verdict: &Verdict) -> bool
@@ -23,10 +28,25 @@ fn is_fault(verdict: &Verdict) -> bool
     }
 }
 
+fn is_open(verdict: &Verdict) -> bool
+    ensures { result ≡ is_open_of verdict.now }
+{
+    match verdict {
+        Verdict::Unknown(_) | Verdict::Refused(..) => true,
+        Verdict::Clean | Verdict::Faulty(_) => false,
+    }
+}
+
 fn has_fault(lines: &[(Name, Verdict)]) -> bool
     ensures { result ≡ list_any (λ line. is_faulty line.1) lines.now }
 {
     lines.iter().any(|line| is_fault(&line.1))
+}
+
+fn has_open(lines: &[(Name, Verdict)]) -> bool
+    ensures { result ≡ list_any (λ line. is_open_of line.1) lines.now }
+{
+    lines.iter().any(|line| is_open(&line.1))
 }
 
 /// The status that goes with these verdicts.
@@ -35,56 +55,61 @@ fn status(lines: &[(Name, Verdict)]) -> u8
 {
     if has_fault(lines) {
         SOME_FAULTY
+    } else if has_open(lines) {
+        SOME_OPEN
     } else {
         ALL_CLEAN
     }
 }
 
-/// The verdict of each function, by its name.
-fn judge_all(alloc: Global, functions: &[Function]) -> Result<Vec<(Name, Verdict)>, Memory>
-    requires form { IsTrue (are_first_form [] functions.now) }
-    requires few { All (λ f. length f.body < 2 ^ 31) functions.now }
-    ensures { IfOk result (λ lines. AllZip IsJudged functions.now lines.items) }
+/// The verdict on a function. One that is not of the first form is refused by rule 0, which says that its form isn't
+/// judged yet.
+fn verdict(alloc: Global, definition: &Definition) -> Result<Verdict, Memory>
+    requires small { IfSome definition.now.straight (λ f. IsTrue (is_small f)) }
+    requires few { IfSome definition.now.straight (λ f. length f.body < 2 ^ 31) }
+    ensures { IfOk result (λ found. IsVerdict definition.now.pos definition.now.straight found) }
+{
+    match &definition.straight {
+        Some(function) => judge(alloc, function),
+        None => Ok(Verdict::Refused(definition.pos, Rule(0))),
+    }
+}
+
+/// The verdict on each function, by its name.
+fn verdicts(alloc: Global, list: &[Definition]) -> Result<Vec<(Name, Verdict)>, Memory>
+    requires small { All (λ d. IfSome d.straight (λ f. IsTrue (is_small f))) list.now }
+    requires few { All (λ d. IfSome d.straight (λ f. length f.body < 2 ^ 31)) list.now }
+    ensures { IfOk result (λ lines. AllZip IsJudged list.now lines.items) }
 {
     let mut lines = Vec::new(alloc);
-    for function in functions {
-        lines.push((function.name, judge(alloc, function)?))?;
+    for definition in list {
+        lines.push((definition.name, verdict(alloc, definition)?))?;
     }
     Ok(lines)
 }
 
-/// A text without tokens is no unit, and want of memory says nothing of it.
-fn refused(fault: &LexFault) -> Result<Option<Answer>, Memory>
-    ensures { IfOk result (λ answer. IsNone answer × (is_memory fault.now ≡ false)) }
+/// The verdict on each function that a file defines, in their order.
+fn judge_all(alloc: Global, unit: &Unit) -> Result<Vec<(Name, Verdict)>, Memory>
+    requires few { length (items_flat (unit_view unit.now)) < 2 ^ 31 }
+    ensures { IfOk result (λ lines. AllZip IsJudged (definitions_of [] (unit_view unit.now)) lines.items) }
 {
-    match fault {
-        LexFault::Memory => Err(Memory),
-        LexFault::Byte(_) => Ok(None),
-        LexFault::OpenComment(_) => Ok(None),
-        LexFault::OpenText(_) => Ok(None),
-        LexFault::Number(_) => Ok(None),
-    }
+    let list = definitions(alloc, unit)?;
+    verdicts(alloc, &list)
 }
 
-/// Judges the functions of a text within the limit. None where the text is no unit.
-pub fn examine(alloc: Global, text: &[u8]) -> Result<Option<Answer>, Memory>
+/// The answer to a text within the limit: the report on its functions, or why it is refused.
+pub(crate) fn examine(alloc: Global, text: &[u8]) -> Result<Answer, Memory>
     requires { length text.now ≤ FILE_LIMIT }
-    ensures report { IfOk result (λ answer. MatchOption answer (IsNoUnit text.now) (λ a. IsReport text.now a.status a.text.items)) }
-    ensures status { IfOk result (λ answer. IfSome answer (λ a. a.status ≤ SOME_FAULTY)) }
+    ensures { IfOk result (λ a. ((a.status ≤ SOME_OPEN) × IsReport text.now a.status a.text.items) ⊎ ((a.status ≡ FILE_REFUSED) × IsRefusedAs text.now a.text.items)) }
 {
     let mut names = Names::builtin(alloc)?;
-    let tokens = match lex(alloc, &mut names, text) {
-        Ok(tokens) => tokens,
-        Err(fault) => return refused(&fault),
+    let unit = match unit_of(alloc, &mut names, text) {
+        Ok(unit) => unit,
+        Err(fault) => return refused(alloc, &fault),
     };
-    let functions = match parse(alloc, &tokens) {
-        Ok(functions) => functions,
-        Err(ParseFault::Memory) => return Err(Memory),
-        Err(ParseFault::NotAUnit) => return Ok(None),
-    };
-    let lines = judge_all(alloc, &functions)?;
-    Ok(Some(Answer {
+    let lines = judge_all(alloc, &unit)?;
+    Ok(Answer {
         status: status(&lines),
         text: report(alloc, &names, &lines)?,
-    }))
+    })
 }

@@ -3,9 +3,12 @@
 
 mod answer;
 mod examine;
+mod file_fault;
 mod folder_shelf;
+mod front;
 mod out_sink;
 mod read;
+mod refusal;
 mod settings;
 mod status;
 mod top;
@@ -20,6 +23,8 @@ use std::env;
 use std::io::ErrorKind;
 use std::process::ExitCode;
 
+#[cfg(test)]
+mod test_modules;
 #[cfg(test)]
 mod tests;
 

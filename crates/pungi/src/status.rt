@@ -6,6 +6,9 @@ pub const ALL_CLEAN: u8 = 0;
 /// Some function is faulty.
 pub const SOME_FAULTY: u8 = 1;
 
+/// No function is faulty, and some is neither clean nor faulty.
+pub const SOME_OPEN: u8 = 2;
+
 /// The words of the command are refused.
 pub const WORDS_REFUSED: u8 = 3;
 

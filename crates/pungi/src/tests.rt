@@ -1,6 +1,7 @@
 use crate::folder_shelf::FolderShelf;
 use crate::out_sink::OutSink;
 use crate::pungi;
+use crate::test_modules::{HELPERS, PAIR, POOL};
 use pungi_base::{Failed, MemShelf, MemSink, Memory, OpenFault, Shelf, Sink, SureShelf, SureSink};
 use std::alloc::Global;
 use std::fs;
@@ -56,56 +57,136 @@ fn failing(alloc: Global, read: u64, write: u64) -> Result<(u8, Vec<u8>), Memory
     Ok((status, Vec::from_slice(alloc, out.bytes())?))
 }
 
-/// Files with one line for each function, or one for the file. Where a function is faulty the lines of its run follow.
+/// What a report says of each function: the lines that don't begin with a blank, each up to its fourth blank.
+fn heads(alloc: Global, report: &[u8]) -> Result<Vec<u8>, Memory> {
+    let mut heads = Vec::new(alloc);
+    let mut blanks = 0u32;
+    let mut begins = true;
+    for byte in report {
+        if *byte == b'\n' {
+            if blanks < 100 {
+                heads.push(b'\n')?;
+            }
+            blanks = 0;
+            begins = true;
+            continue;
+        }
+        if *byte == b' ' {
+            blanks = if begins {
+                100
+            } else {
+                blanks.saturating_add(1)
+            };
+        }
+        begins = false;
+        if blanks < 4 {
+            heads.push(*byte)?;
+        }
+    }
+    Ok(heads)
+}
+
+fn is_told(rt: &HostRuntime, text: &str, status: u8, lines: &str) -> Result<(), Fail> {
+    let (found, report) = told(rt.alloc(), text.as_bytes())?;
+    let heads = heads(rt.alloc(), &report)?;
+    assert_eq!(rt; found, status, "at {text}");
+    assert_eq!(rt; heads.as_slice(), lines.as_bytes(), "at {text}");
+    Ok(())
+}
+
+/// Files with a line for each function. What is no function is passed over.
 #[test]
 fn reports(rt: HostRuntime) -> Result<(), Fail> {
     let rows = [
-        ("", 0, "", 0),
-        (NUMBER, 0, "clean f\n", 1),
+        ("", 0, ""),
+        (NUMBER, 0, "clean f\n"),
         (
             "// a comment\nvoid f(void) { }\n/* and\none more */ void g(PyObject *x) { Py_INCREF(x); Py_DECREF(x); }",
             0,
             "clean f\nclean g\n",
-            2,
         ),
         (
             "PyObject *f(PyObject *self, PyObject *args) { return Py_None; }",
             1,
-            "faulty f 1:47 object 0 change 0 escaped 1\n  objects ",
-            4,
+            "faulty f 1:47 object\n",
         ),
         (
             "PyObject *keep(PyObject *self, PyObject *x) { return Py_NewRef(x); }\nPyObject *lose(PyObject *self, PyObject *x) { Py_INCREF(x); return PyLong_FromLong(1); }",
             1,
-            "clean keep\nfaulty lose 2:61 object ",
-            6,
+            "clean keep\nfaulty lose 2:61 object\n",
+        ),
+        ("void f(void) { g(); }", 2, "refused f 1:6 N0\n"),
+        (
+            "int f(int a, int b, int c) { return a - b - c; }",
+            2,
+            "refused f 1:5 N0\n",
         ),
         (
-            "void f(PyObject *x) { x = ; }",
-            6,
-            "file refused 1:1 not a unit\n",
-            1,
+            "int f(int a) { if (a) if (a) return 1; else return 2; return 3; }",
+            2,
+            "refused f 1:5 N0\n",
         ),
         (
-            "void f(PyObject *x) { x",
-            6,
-            "file refused 1:1 not a unit\n",
-            1,
+            "typedef struct { int a; } Box; static int n; int g(int a); ; void f(void) { }",
+            0,
+            "clean f\n",
         ),
-        ("void f(void) { } /*", 6, "file refused 1:1 not a unit\n", 1),
         (
-            "void f(void) { g(); }",
-            6,
-            "file refused 1:1 not a unit\n",
+            "#define NEW Py_NewRef\nPyObject *f(PyObject *a) { return NEW(a); }\nvoid g(PyObject *a) { NEW(a); }",
             1,
+            "clean f\nfaulty g 3:31 object\n",
+        ),
+        (
+            PAIR,
+            2,
+            "refused Pair_first 13:1 N0\nrefused Pair_put 22:1 N0\nrefused Pair_twice 35:1 N0\nrefused Pair_new 45:1 N0\nrefused PyInit_pair 71:1 N0\n",
+        ),
+        (
+            HELPERS,
+            1,
+            "clean same\nrefused answer 26:1 N0\nclean number\nfaulty twice 45:5 object\nclean nothing\nrefused cache_size 55:1 N0\n",
+        ),
+        (
+            POOL,
+            1,
+            "clean hold\nfaulty release 26:1 object\nrefused pool_size 29:1 N0\n",
         ),
     ];
-    for (text, status, front, lines) in rows {
-        let (found, report) = told(rt.alloc(), text.as_bytes())?;
-        assert_eq!(rt; found, status, "at {text}");
-        assert!(rt; report.starts_with(front.as_bytes()), "at {text}");
-        let ends = report.iter().filter(|b| **b == b'\n').count();
-        assert_eq!(rt; ends, lines, "at {text}");
+    for (text, status, lines) in rows {
+        is_told(&rt, text, status, lines)?;
+    }
+    Ok(())
+}
+
+/// Files that are refused as a whole, each at its place and for its reason.
+#[test]
+fn refusals(rt: HostRuntime) -> Result<(), Fail> {
+    let rows = [
+        ("int a; /* cut", "file refused 1:8 open comment\n"),
+        ("int f( {", "file refused 1:1 not a unit\n"),
+        ("#pragma once", "file refused 1:1 directive\n"),
+        (
+            "void f(PyObject *x) { x = ; }",
+            "file refused 1:1 not a unit\n",
+        ),
+        (
+            "void f(void) { }\nvoid g(void) { x",
+            "file refused 2:1 not a unit\n",
+        ),
+        ("void f(void) { } @", "file refused 1:18 byte\n"),
+        ("int a = \"x", "file refused 1:9 open text\n"),
+        ("int a = 08;", "file refused 1:9 number\n"),
+        ("#define F(x) x", "file refused 1:9 function macro\n"),
+        ("#define A 1\n#define A 2", "file refused 2:9 redefined\n"),
+        (
+            "((((((((((((((((((((((((((((((((((((((((((((((((((((((((((((((((((",
+            "file refused 1:65 nested over 64\n",
+        ),
+    ];
+    for (text, line) in rows {
+        let (status, found) = told(rt.alloc(), text.as_bytes())?;
+        assert_eq!(rt; status, 6, "at {text}");
+        assert_eq!(rt; found.as_slice(), line.as_bytes(), "at {text}");
     }
     Ok(())
 }

@@ -1,18 +1,16 @@
-ghost use Rattle.std.specs.Prelude.{◌≡◌, ◌≢◌, ◌⊎◌, ℕ, ◌≤◌, ◌++◌, List, length, map, string_bytes, IfOk, IsNone, OnErr};
+ghost use Rattle.std.specs.Prelude.{◌≡◌, ◌≢◌, ℕ, ◌≤◌, ◌++◌, List, length, map, string_bytes, IfOk, IsNone, OnErr};
 ghost use Rattle.pungi_base.specs.Shelf.{Rose};
 ghost use Rattle.pungi_base.specs.Sink.{Takes};
-ghost use Rattle.pungi_straight.specs.declared.function.Function.{Function};
-ghost use Rattle.pungi.specs.Answer.{Answers, IsAsked, IsFileText, IsRefusedText};
-ghost use Rattle.pungi.specs.Examine.{IsUnit};
+ghost use Rattle.pungi_tree.specs.Syntax.{Item};
+ghost use Rattle.pungi.specs.Answer.{Answers, IsAsked, IsFileText, IsRefusedText, IsReported};
+ghost use Rattle.pungi.specs.Front.{IsFile};
 ghost use Rattle.pungi.specs.Settings.{file_of};
 
 use crate::answer::{Answer, told, unread};
 use crate::examine::examine;
 use crate::read::{FILE_LIMIT, Reading, read_opened};
 use crate::settings::file_word;
-use crate::status::{
-    ALL_CLEAN, ANSWER_CUT, FILE_REFUSED, FILE_UNREAD, MEMORY_WANTED, SOME_FAULTY, WORDS_REFUSED,
-};
+use crate::status::{ANSWER_CUT, FILE_REFUSED, FILE_UNREAD, MEMORY_WANTED, WORDS_REFUSED};
 use crate::write::write_all;
 use pungi_base::{Memory, OpenFault, Shelf, Sink};
 use std::alloc::Global;
@@ -43,10 +41,7 @@ fn decide<F: Shelf>(alloc: Global, words: &[String], shelf: &mut F) -> Result<An
         Err(OpenFault::Failed) => return unread(alloc, file),
         Err(OpenFault::Memory) => return Err(Memory),
     };
-    match examine(alloc, &text)? {
-        Some(report) => Ok(report),
-        None => Ok(told(alloc, FILE_REFUSED, "file refused 1:1 not a unit")?),
-    }
+    examine(alloc, &text)
 }
 
 /// Judges the functions of the file that the words name, and writes the report. `words[0]` is the program's name. It
@@ -79,8 +74,8 @@ pub fn pungi<F: Shelf, O: Sink>(alloc: Global, words: &[String], shelf: &mut F, 
     ensures file { (text : List ℕ) → IsFileText (map string_bytes words.now) (F.texts shelf.old) text → IsRefusedText text
         → result ≢ FILE_UNREAD → result ≢ ANSWER_CUT → result ≢ MEMORY_WANTED → result ≡ FILE_REFUSED }
     ensures judged { (text : List ℕ) → IsFileText (map string_bytes words.now) (F.texts shelf.old) text → length text ≤ FILE_LIMIT
-        → (names : List (List ℕ)) → (functions : List Function) → IsUnit text names functions
-        → result ≢ FILE_UNREAD → result ≢ ANSWER_CUT → result ≢ MEMORY_WANTED → (result ≡ ALL_CLEAN) ⊎ (result ≡ SOME_FAULTY) }
+        → (names : List (List ℕ)) → (items : List Item) → IsFile text names items
+        → result ≢ FILE_UNREAD → result ≢ ANSWER_CUT → result ≢ MEMORY_WANTED → IsReported result }
 
     ensures later { F.faults shelf.old ≤ F.faults shelf.new }
     ensures texts { F.texts shelf.new ≡ F.texts shelf.old }

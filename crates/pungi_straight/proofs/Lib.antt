@@ -1,9 +1,2 @@
-pub mod Complete
-pub mod Lists
-pub mod Loops
 pub mod Names
-pub mod Shrinks
-pub mod Sound
-pub mod Spells
-pub mod Turns
-pub mod Units
+pub mod Short

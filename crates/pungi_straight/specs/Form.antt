@@ -7,7 +7,6 @@
 --   is_statement object vars s    a statement of a function with these variables that returns an object, or nothing
 --   call_limit              how many parameters and calls a function has together at most
 --   is_first_form earlier f       a function of the first form, after functions of these names
---   are_first_form earlier fs     functions of the first form, one after another
 use Rattle.std.specs.Prelude.{ℕ, ◌+◌, ◌==◌, Bool, true, false, not, ◌&&◌, ◌||◌, List, [], ◌∷◌, ◌++◌, length, sum_by, None, Some, nat_le, nat_lt}
 use Rattle.std.specs.List.{list_all, list_any}
 use Rattle.pungi_base.specs.declared.names.Name.{Name}
@@ -92,7 +91,3 @@ is_first_form earlier f = all_differ (f.name ∷ variables f) && list_all is_fre
     && list_all (λ n. not (is_one_of earlier n)) (f.name ∷ variables f)
     && list_all (is_statement f.object (variables f)) f.body
     && nat_le (length f.params + sum_by statement_calls f.body) call_limit
-
-abbrev pub are_first_form : List Name → List Function → Bool
-are_first_form earlier [] = true
-are_first_form earlier (f ∷ functions) = is_first_form earlier f && are_first_form (earlier ++ f.name ∷ []) functions

@@ -1,7 +1,4 @@
-pub mod Cursor
 pub mod Form
 pub mod FormTests
-pub mod Grammar
 pub mod NameSet
-pub mod Numbers
-pub mod Parser
+pub mod Straight

@@ -1,8 +1,8 @@
-//! Whether functions are of the first form: straight-line code whose names and calls are known.
+//! Whether a function is of the first form: straight-line code whose names and calls are known.
 
-ghost use Rattle.std.specs.Prelude.{◌≡◌, [], IfOk, Some, None, if◌then◌else◌, count_by, ◌==◌, sum_by, ◌+◌, nat_le, length};
+ghost use Rattle.std.specs.Prelude.{◌≡◌, IfOk, Some, None, if◌then◌else◌, count_by, ◌==◌, sum_by, ◌+◌, nat_le, length};
 ghost use Rattle.std.specs.List.{list_all};
-ghost use Rattle.pungi_straight.specs.Form.{is_static as is_static_of, is_readable as is_readable_of, takes_pointer as takes_pointer_of, takes_number as takes_number_of, is_source_call as is_source_call_of, is_row_call as is_row_call_of, is_source as is_source_of, is_statement as is_statement_of, all_differ, variables as variables_of, statement_calls, call_limit, is_first_form as is_first_form_of, are_first_form as are_first_form_of};
+ghost use Rattle.pungi_straight.specs.Form.{is_static as is_static_of, is_readable as is_readable_of, takes_pointer as takes_pointer_of, takes_number as takes_number_of, is_source_call as is_source_call_of, is_row_call as is_row_call_of, is_source as is_source_of, is_statement as is_statement_of, all_differ, variables as variables_of, statement_calls, call_limit, is_first_form as is_first_form_of};
 ghost use Rattle.pungi_straight.specs.FormTests.{is_allowed as is_allowed_of, is_call as is_call_of, has_call as has_call_of, passes as passes_of};
 
 use crate::name_set::NameSet;
@@ -170,25 +170,15 @@ fn passes(earlier: &NameSet, vars: &NameSet, function: &Function) -> bool
 
 /// A function of the first form, after functions of these names.
 #[tactic(auto, using(crate::proofs::Names::form_fails, crate::proofs::Names::form_decided))]
-fn is_first_form(alloc: Global, earlier: &NameSet, function: &Function) -> Result<bool, Memory>
+pub(crate) fn is_first_form(
+    alloc: Global,
+    earlier: &NameSet,
+    function: &Function,
+) -> Result<bool, Memory>
     ensures { IfOk result (λ holds. holds ≡ is_first_form_of earlier.now function.now) }
 {
     match variables(alloc, function)? {
         None => Ok(false),
         Some(vars) => Ok(passes(earlier, &vars, function)),
     }
-}
-
-/// Functions of the first form, one after another.
-pub(crate) fn are_first_form(alloc: Global, functions: &[Function]) -> Result<bool, Memory>
-    ensures { IfOk result (λ holds. holds ≡ are_first_form_of [] functions.now) }
-{
-    let mut earlier = NameSet::new(alloc);
-    for function in functions {
-        if !is_first_form(alloc, &earlier, function)? {
-            return Ok(false);
-        }
-        earlier.add(function.name)?;
-    }
-    Ok(true)
 }

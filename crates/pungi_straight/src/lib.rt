@@ -1,25 +1,21 @@
-//! Straight-line functions over object pointers: their trees, their grammar, and the parser.
+//! Straight-line functions over object pointers, and which functions of a file are such.
 #![tactic(auto)]
 
 mod argument;
 mod call;
-mod cursor;
-mod fault;
+mod definition;
 mod form;
 mod function;
 mod name_set;
-mod parser;
 mod source;
 mod statement;
+mod tree;
 mod unit;
 
 pub use argument::Argument;
 pub use call::Call;
-pub use fault::ParseFault;
+pub use definition::Definition;
 pub use function::Function;
 pub use source::Source;
 pub use statement::Statement;
-pub use unit::parse;
-
-#[cfg(test)]
-mod tests;
+pub use unit::definitions;

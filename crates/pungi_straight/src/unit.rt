@@ -1,43 +1,58 @@
-ghost use Rattle.std.specs.Prelude.{◌≡◌, ◌≤◌, Option, Some, None, Err, IfOk, IsTrue, [], List, length, option_map};
+ghost use Rattle.std.specs.Prelude.{◌≡◌, ◌≤◌, [], length, IfOk, IfSome};
 ghost use Rattle.std.specs.List.{All};
-ghost use Rattle.pungi_straight.specs.Form.{are_first_form as are_first_form_of};
-ghost use Rattle.pungi_straight.specs.Grammar.{AreTokensOfUnit};
-ghost use Rattle.pungi_straight.specs.Numbers.{have_sizes};
-ghost use Rattle.pungi_straight.specs.Parser.{read_unit};
+ghost use Rattle.pungi_straight.specs.Straight.{in_first_form as in_first_form_of, definition_of, definitions_of};
+ghost use Rattle.pungi_tree.specs.StmtView.{stmt_view};
+ghost use Rattle.pungi_tree.specs.UnitFlat.{items_flat};
+ghost use Rattle.pungi_tree.specs.UnitView.{function_head_view, unit_view};
 
-use crate::form::are_first_form;
-use crate::parser::functions;
-use crate::{Function, ParseFault};
-use pungi_base::{Memory, Token};
+use crate::form::is_first_form;
+use crate::name_set::NameSet;
+use crate::tree::function;
+use crate::{Definition, Function};
+use pungi_base::Memory;
+use pungi_tree::{FunctionDef, Item, Unit};
 use std::alloc::Global;
 
-/// The functions that the tokens are, from the first to the last.
-#[tactic(auto, unfolding(crate::specs::Parser::read_unit, crate::specs::Cursor::chain))]
-fn unit(alloc: Global, tokens: &[Token]) -> Result<Option<Vec<Function>>, Memory>
-    ensures { IfOk result (λ found. option_map (λ x. x.items) found ≡ read_unit tokens.now) }
+fn in_first_form(
+    alloc: Global,
+    earlier: &NameSet,
+    function: Function,
+) -> Result<Option<Function>, Memory>
+    ensures { IfOk result (λ found. found ≡ in_first_form_of earlier.now function) }
 {
-    let (list, rest) = functions(alloc, tokens)?;
-    if rest.is_empty() {
-        Ok(Some(list))
+    if is_first_form(alloc, earlier, &function)? {
+        Ok(Some(function))
     } else {
         Ok(None)
     }
 }
 
-/// The functions of the first form that the tokens are, in their order. `NotAUnit` says that there are none such.
-pub fn parse(alloc: Global, tokens: &[Token]) -> Result<Vec<Function>, ParseFault>
-    ensures unit { IfOk result (λ functions. AreTokensOfUnit tokens.now functions.items × IsTrue (are_first_form_of [] functions.items)) }
-    // A tree keeps numbers of 32 bits, and no token that isn't `long` has more.
-    ensures none { result ≡ Err ParseFault.NotAUnit → IsTrue (have_sizes tokens.now) → (functions : List Function) → AreTokensOfUnit tokens.now functions → IsTrue (are_first_form_of [] functions) → ⊥ }
-    ensures only { (functions : List Function) → AreTokensOfUnit tokens.now functions → IfOk result (λ found. functions ≡ found.items) }
-    ensures short { IfOk result (λ functions. All (λ f. length f.body ≤ length tokens.now) functions.items) }
+fn definition(alloc: Global, earlier: &NameSet, def: &FunctionDef) -> Result<Definition, Memory>
+    ensures { IfOk result (λ found. found ≡ definition_of earlier.now (function_head_view def.now) (stmt_view def.now.body)) }
 {
-    let Some(list) = unit(alloc, tokens)? else {
-        return Err(ParseFault::NotAUnit);
+    let straight = match function(alloc, def)? {
+        Some(found) => in_first_form(alloc, earlier, found)?,
+        None => None,
     };
-    if are_first_form(alloc, list.as_slice())? {
-        Ok(list)
-    } else {
-        Err(ParseFault::NotAUnit)
+    Ok(Definition {
+        name: def.name,
+        pos: def.pos,
+        straight,
+    })
+}
+
+/// The functions that a file defines, in their order. What is no function is passed over.
+pub fn definitions(alloc: Global, unit: &Unit) -> Result<Vec<Definition>, Memory>
+    ensures list { IfOk result (λ list. list.items ≡ definitions_of [] (unit_view unit.now)) }
+    ensures short { IfOk result (λ list. All (λ d. IfSome d.straight (λ f. length f.body ≤ length (items_flat (unit_view unit.now)))) list.items) }
+{
+    let mut list = Vec::new(alloc);
+    let mut earlier = NameSet::new(alloc);
+    for item in unit.items.as_slice() {
+        if let Item::Function(def) = item {
+            list.push(definition(alloc, &earlier, def)?)?;
+            earlier.add(def.name)?;
+        }
     }
+    Ok(list)
 }

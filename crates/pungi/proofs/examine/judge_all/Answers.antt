@@ -1,6 +1,10 @@
-use Rattle.std.proofs.Common.{arith}
-use Rattle.pungi.proofs.Judged.{judged_all}
+use Rattle.std.proofs.Common.{[], List, sym, subst, ◌∙◌}
+use Rattle.std.specs.List.{All}
+use Rattle.pungi_straight.specs.declared.definition.Definition.{Definition}
+use Rattle.pungi_tree.specs.UnitView.{unit_view}
+use Rattle.pungi.proofs.Judged.{IsSmall, all_small}
 use Rattle.pungi.proofs.examine.judge_all.Goals as goal
 
-pub returns : goal.returns
-returns c = judged_all c.args.functions.now c.loop-function.function-index c.loop-function.lines.items (omega arith) c.loop-function.invariant.judged
+pub verdicts-requires-clause-small : goal.verdicts-requires-clause-small
+verdicts-requires-clause-small c =
+    subst (λ (ds : List Definition). All IsSmall ds) (sym (c.deref.ensures.value ∙ c.in_ok-list.ensures.list)) (all_small [] (unit_view c.args.unit.now))

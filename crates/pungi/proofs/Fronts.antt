@@ -1,0 +1,146 @@
+-- Why a text is refused by each part of the front end, and that it is no file then.
+use Rattle.std.proofs.Common.{◌≡◌, ◌⊎◌, inl, inr, ⊎_elim, ℕ, zero, suc, ◌<◌, ◌≤◌, Bool, true, false, List, [], ◌∷◌, length, Option, Some, None, Result, Ok, Err, refl, sym, subst, ◌∙◌, arith, map}
+use Rattle.std.specs.Prelude.{MatchResult, IfErr}
+use Rattle.std.specs.List.{All}
+use Rattle.std.proofs.lemmas.List.Elements.{All-cons, All-nil}
+use Rattle.pungi_base.specs.declared.kind.Kind.{Kind}
+use Rattle.pungi_base.specs.declared.pos.Pos.{Pos}
+use Rattle.pungi_base.specs.declared.token.Token.{Token}
+use Rattle.pungi_base.specs.Words.{builtin_words}
+use Rattle.pungi_lex.specs.declared.lex_fault.LexFault.{LexFault}
+use Rattle.pungi_lex.specs.declared.lex_fault.LexFault.TheVariants as lex
+use Rattle.pungi_lex.specs.declared.macro_fault.MacroFault.{MacroFault}
+use Rattle.pungi_lex.specs.declared.macro_fault.MacroFault.TheVariants as macro
+use Rattle.pungi_lex.specs.Expander.{IsExpanded, HasMacroFault, HasNoExpansion}
+use Rattle.pungi_lex.specs.Known.{IsKnown, AreKnown}
+use Rattle.pungi_lex.specs.MacroFault.{is_want_of_memory}
+use Rattle.pungi_lex.specs.Tokens.{AreTokensOf, HasFault, HasNoTokens, is_memory}
+use Rattle.pungi_parse.specs.declared.fault.ParseFault.{ParseFault}
+use Rattle.pungi_parse.specs.declared.fault.ParseFault.TheVariants as parse
+use Rattle.pungi_parse.specs.Units.{IsUnit, StopsAt, too_deep}
+use Rattle.pungi_tree.specs.Placed.{Placed, placed, kinds}
+use Rattle.pungi_tree.specs.Syntax.{Item}
+use Rattle.pungi.specs.declared.file_fault.FileFault.TheVariants as fault
+use Rattle.pungi.specs.Front.{IsFile, IsNoFile, IsParseFault, IsFaultOf, AreKnownKinds, told_of_lex, told_of_macro, told_of_parse, told_of}
+
+told_lex : (found : LexFault) (told : Pos × List ℕ) → told_of_lex found ≡ Some told → is_memory found ≡ false
+told_lex lex.Memory told h = absurd (cc)
+told_lex (lex.Byte at) told h = refl
+told_lex (lex.OpenComment at) told h = refl
+told_lex (lex.OpenText at) told h = refl
+told_lex (lex.Number at) told h = refl
+
+pub lex_refused : (old : List (List ℕ)) (bytes : List ℕ) (found : LexFault) → old ≡ builtin_words → (is_memory found ≡ false → HasFault bytes found) → (is_memory found ≡ false → HasNoTokens old bytes)
+    → (told : Pos × List ℕ) → told_of (fault.Lex found) ≡ Some told → IsFaultOf bytes (fault.Lex found) × IsNoFile bytes
+lex_refused old bytes found is holds none told h =
+    let m = told_lex found told h in
+    (holds m, λ names items file. none m names file.tokens (subst (λ (words : List (List ℕ)). AreTokensOf words names bytes file.tokens) (sym is) file.cut))
+
+told_macro : (found : MacroFault) (told : Pos × List ℕ) → told_of_macro found ≡ Some told → is_want_of_memory found ≡ false
+told_macro macro.Memory told h = absurd (cc)
+told_macro (macro.Directive at) told h = refl
+told_macro (macro.FunctionMacro at) told h = refl
+told_macro (macro.Redefined at) told h = refl
+told_macro (macro.TooManyTokens at) told h = refl
+
+-- the tokens of a text, under the names after it, and no others
+pub record IsLexed (old new : List (List ℕ)) (text : List ℕ) (tokens : List Token) : Type 0 where
+  pub builtin : old ≡ builtin_words
+  pub cut : AreTokensOf old new text tokens
+  pub only : (after : List (List ℕ)) (others : List Token) → AreTokensOf old after text others → (after ≡ new) × (others ≡ tokens)
+
+pub lexed : (old new : List (List ℕ)) (text : List ℕ) (shown tokens : List Token) → old ≡ builtin_words → shown ≡ tokens → AreTokensOf old new text tokens
+    → ((after : List (List ℕ)) (others : List Token) → AreTokensOf old after text others → (after ≡ new) × (others ≡ tokens)) → IsLexed old new text shown
+lexed old new text shown tokens is same cut only =
+    subst (λ (ts : List Token). IsLexed old new text ts) (sym same) (record { builtin = is; cut = cut; only = only })
+
+own_cut : (old new : List (List ℕ)) (text : List ℕ) (tokens : List Token) → IsLexed old new text tokens → AreTokensOf builtin_words new text tokens
+own_cut old new text tokens l = subst (λ (words : List (List ℕ)). AreTokensOf words new text tokens) l.builtin l.cut
+
+-- a file's tokens are these, and so are its names
+same_lexed : (old new : List (List ℕ)) (text : List ℕ) (tokens : List Token) → IsLexed old new text tokens → (names : List (List ℕ)) (items : List Item) (file : IsFile text names items)
+    → (names ≡ new) × (file.tokens ≡ tokens)
+same_lexed old new text tokens l names items file = l.only names file.tokens (subst (λ (words : List (List ℕ)). AreTokensOf words names text file.tokens) (sym l.builtin) file.cut)
+
+-- its expansion is one of these tokens
+expansion_of : (old new : List (List ℕ)) (text : List ℕ) (tokens : List Token) → IsLexed old new text tokens → (names : List (List ℕ)) (items : List Item) (file : IsFile text names items)
+    → IsExpanded (length new) tokens file.expanded
+expansion_of old new text tokens l names items file =
+    let s = same_lexed old new text tokens l names items file in
+    subst (λ (ts : List Token). IsExpanded (length new) ts file.expanded) s.1 (subst (λ (ns : List (List ℕ)). IsExpanded (length ns) file.tokens file.expanded) s.0 file.replaced)
+
+pub macro_refused : (old new : List (List ℕ)) (text : List ℕ) (tokens : List Token) (found : MacroFault) → IsLexed old new text tokens
+    → (is_want_of_memory found ≡ false → HasMacroFault (length new) tokens found) → (is_want_of_memory found ≡ false → HasNoExpansion (length new) tokens)
+    → (told : Pos × List ℕ) → told_of (fault.Macro found) ≡ Some told → IsFaultOf text (fault.Macro found) × IsNoFile text
+macro_refused old new text tokens found l holds none told h =
+    let m = told_macro found told h in
+    ((new, tokens, own_cut old new text tokens l, holds m), λ names items file. none m file.expanded (expansion_of old new text tokens l names items file))
+
+-- the tokens with their macros replaced, and no others
+pub record IsReady (old new : List (List ℕ)) (text : List ℕ) (tokens expanded : List Token) : Type 0 where
+  pub lexed : IsLexed old new text tokens
+  pub replaced : IsExpanded (length new) tokens expanded
+  pub only : (other : List Token) → IsExpanded (length new) tokens other → other ≡ expanded
+
+pub ready : (old new : List (List ℕ)) (text : List ℕ) (tokens shown expanded : List Token) → IsLexed old new text tokens → shown ≡ expanded → IsExpanded (length new) tokens expanded
+    → ((other : List Token) → IsExpanded (length new) tokens other → other ≡ expanded) → IsReady old new text tokens shown
+ready old new text tokens shown expanded l same replaced only =
+    subst (λ (ts : List Token). IsReady old new text tokens ts) (sym same) (record { lexed = l; replaced = replaced; only = only })
+
+same_expansion : (old new : List (List ℕ)) (text : List ℕ) (tokens expanded : List Token) → IsReady old new text tokens expanded → (names : List (List ℕ)) (items : List Item) (file : IsFile text names items)
+    → file.expanded ≡ expanded
+same_expansion old new text tokens expanded r names items file = r.only file.expanded (expansion_of old new text tokens r.lexed names items file)
+
+file_unit : (old new : List (List ℕ)) (text : List ℕ) (tokens expanded : List Token) → IsReady old new text tokens expanded → (names : List (List ℕ)) (items : List Item) (file : IsFile text names items)
+    → (too_deep 0 (placed expanded) ≡ None) × IsUnit items (placed expanded)
+file_unit old new text tokens expanded r names items file =
+    let e = same_expansion old new text tokens expanded r names items file in
+    (subst (λ (ts : List Token). too_deep 0 (placed ts) ≡ None) e file.shallow, subst (λ (ts : List Token). IsUnit items (placed ts)) e file.unit)
+
+-- what the parser says of a fault
+pub record IsParsed (ts : List Placed) (found : ParseFault) : Type 0 where
+  pub deep : (p : Pos) → found ≡ parse.Deep p → too_deep 0 ts ≡ Some p
+  pub not_a_unit : (p : Pos) → found ≡ parse.NotAUnit p → StopsAt ts p
+  pub first : (p : Pos) → too_deep 0 ts ≡ Some p → (found ≡ parse.Deep p) ⊎ (found ≡ parse.Memory)
+  pub only : (items : List Item) → too_deep 0 ts ≡ None → IsUnit items ts → found ≡ parse.Memory
+
+no_depth : (ts : List Placed) (p : Pos) (o : Option Pos) → too_deep 0 ts ≡ o → IsParsed ts (parse.NotAUnit p) → too_deep 0 ts ≡ None
+no_depth ts p None h a = h
+no_depth ts p (Some q) h a = ⊎_elim (λ (e : parse.NotAUnit p ≡ parse.Deep q). absurd (cc)) (λ (e : parse.NotAUnit p ≡ parse.Memory). absurd (cc)) (a.first q h)
+
+parse_fault : (ts : List Placed) (found : ParseFault) (told : Pos × List ℕ) → told_of_parse found ≡ Some told → IsParsed ts found
+    → IsParseFault ts found × ((items : List Item) → too_deep 0 ts ≡ None → IsUnit items ts → ⊥)
+parse_fault ts parse.Memory told h a = absurd (cc)
+parse_fault ts (parse.Deep p) told h a = (a.deep p refl, λ items n u. let d = a.deep p refl in cc)
+parse_fault ts (parse.NotAUnit p) told h a = ((no_depth ts p (too_deep 0 ts) refl a, a.not_a_unit p refl), λ items n u. let m = a.only items n u in cc)
+
+pub parse_refused : (old new : List (List ℕ)) (text : List ℕ) (tokens expanded : List Token) (found : ParseFault) → IsReady old new text tokens expanded → IsParsed (placed expanded) found
+    → (told : Pos × List ℕ) → told_of (fault.Parse found) ≡ Some told → IsFaultOf text (fault.Parse found) × IsNoFile text
+parse_refused old new text tokens expanded found r a told h =
+    let f = parse_fault (placed expanded) found told h a in (
+      (new, tokens, expanded, own_cut old new text tokens r.lexed, r.replaced, f.0),
+      λ names items file. let u = file_unit old new text tokens expanded r names items file in f.1 items u.0 u.1,
+    )
+
+not_deep : (ts : List Placed) (o : Option Pos) → too_deep 0 ts ≡ o → ((p : Pos) → too_deep 0 ts ≡ Some p → ⊥) → too_deep 0 ts ≡ None
+not_deep ts None h a = h
+not_deep ts (Some p) h a = absurd (a p h)
+
+pub is_file : (old new : List (List ℕ)) (text : List ℕ) (tokens expanded : List Token) (items : List Item) → IsReady old new text tokens expanded
+    → ((p : Pos) → too_deep 0 (placed expanded) ≡ Some p → ⊥) → IsUnit items (placed expanded) → IsFile text new items
+is_file old new text tokens expanded items r shallow unit = record {
+  tokens = tokens;
+  expanded = expanded;
+  cut = own_cut old new text tokens r.lexed;
+  replaced = r.replaced;
+  shallow = not_deep (placed expanded) (too_deep 0 (placed expanded)) refl shallow;
+  unit = unit;
+}
+
+pub known_kinds : (n : ℕ) (tokens : List Token) → AreKnown n tokens → AreKnownKinds n (kinds (placed tokens))
+known_kinds n [] a = All-nil (λ (k : Kind). IsKnown n k)
+known_kinds n (t ∷ tokens) a = All-cons (λ (k : Kind). IsKnown n k) t.kind (kinds (placed tokens)) (a 0 t (omega arith)) (known_kinds n tokens (λ k d lt. a (suc k) d (omega (arith, lt))))
+
+pub kinds_length : (tokens : List Token) → length (kinds (placed tokens)) ≡ length tokens
+kinds_length [] = refl
+kinds_length (t ∷ tokens) = rw (kinds_length tokens) refl

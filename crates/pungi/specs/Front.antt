@@ -1,0 +1,93 @@
+-- The front end: from the text of a file to what the file consists of, or to why the text is refused.
+--   IsFile text names items   the text is a file of these items, and these are its names: its tokens, their macros replaced, are the unit
+--   IsNoFile text             it is none
+--   IsParseFault ts fault     why tokens have no tree
+--   IsFaultOf text fault      why a text is refused, by its tokens, by its macros, or by its grammar
+--   AreKnownKinds names ks    the words and texts of tokens are among so many names
+--   told_of_lex, told_of_macro, told_of_parse, told_of    the place of a fault and its reason, unless it is want of memory
+--   refused_text at reason    the line of a refusal
+use Rattle.std.specs.Prelude.{◌≡◌, ℕ, List, [], ◌++◌, length, Option, Some, None, codes}
+use Rattle.std.specs.List.{All}
+use Rattle.pungi_base.specs.declared.kind.Kind.{Kind}
+use Rattle.pungi_base.specs.declared.pos.Pos.{Pos}
+use Rattle.pungi_base.specs.declared.token.Token.{Token}
+use Rattle.pungi_base.specs.Witness.{place_text, line_end}
+use Rattle.pungi_base.specs.Words.{builtin_words}
+use Rattle.pungi_lex.specs.declared.lex_fault.LexFault.{LexFault}
+use Rattle.pungi_lex.specs.declared.lex_fault.LexFault.TheVariants as lex
+use Rattle.pungi_lex.specs.declared.macro_fault.MacroFault.{MacroFault}
+use Rattle.pungi_lex.specs.declared.macro_fault.MacroFault.TheVariants as macro
+use Rattle.pungi_lex.specs.Expander.{IsExpanded, HasMacroFault}
+use Rattle.pungi_lex.specs.Known.{IsKnown}
+use Rattle.pungi_lex.specs.Tokens.{AreTokensOf, HasFault}
+use Rattle.pungi_parse.specs.declared.fault.ParseFault.{ParseFault}
+use Rattle.pungi_parse.specs.declared.fault.ParseFault.TheVariants as parse
+use Rattle.pungi_parse.specs.Units.{IsUnit, StopsAt, too_deep}
+use Rattle.pungi_tree.specs.Placed.{Placed, placed}
+use Rattle.pungi_tree.specs.Syntax.{Item}
+use Rattle.pungi.specs.declared.file_fault.FileFault.{FileFault}
+use Rattle.pungi.specs.declared.file_fault.FileFault.TheVariants as fault
+
+pub record IsFile (text : List ℕ) (names : List (List ℕ)) (items : List Item) : Type 0 where
+  pub tokens : List Token
+  pub expanded : List Token
+  pub cut : AreTokensOf builtin_words names text tokens
+  pub replaced : IsExpanded (length names) tokens expanded
+  pub shallow : too_deep 0 (placed expanded) ≡ None
+  pub unit : IsUnit items (placed expanded)
+
+abbrev pub IsNoFile : List ℕ → Type 0
+IsNoFile text = (names : List (List ℕ)) → (items : List Item) → IsFile text names items → ⊥
+
+abbrev pub IsParseFault : List Placed → ParseFault → Type 0
+IsParseFault ts parse.Memory = ⊥
+IsParseFault ts (parse.Deep at) = too_deep 0 ts ≡ Some at
+IsParseFault ts (parse.NotAUnit at) = (too_deep 0 ts ≡ None) × StopsAt ts at
+
+abbrev pub IsFaultOf : List ℕ → FileFault → Type 0
+IsFaultOf text fault.Memory = ⊥
+IsFaultOf text (fault.Lex found) = HasFault text found
+IsFaultOf text (fault.Macro found) = (names : List (List ℕ)) × (tokens : List Token) × AreTokensOf builtin_words names text tokens × HasMacroFault (length names) tokens found
+IsFaultOf text (fault.Parse found) = (names : List (List ℕ)) × (tokens expanded : List Token) × AreTokensOf builtin_words names text tokens
+    × IsExpanded (length names) tokens expanded × IsParseFault (placed expanded) found
+
+abbrev pub AreKnownKinds : ℕ → List Kind → Type 0
+AreKnownKinds names ks = All (λ k. IsKnown names k) ks
+
+abbrev pub told_of_lex : LexFault → Option (Pos × List ℕ)
+told_of_lex lex.Memory = None
+told_of_lex (lex.Byte at) = Some (at, codes "byte")
+told_of_lex (lex.OpenComment at) = Some (at, codes "open comment")
+told_of_lex (lex.OpenText at) = Some (at, codes "open text")
+told_of_lex (lex.Number at) = Some (at, codes "number")
+
+abbrev pub told_of_macro : MacroFault → Option (Pos × List ℕ)
+told_of_macro macro.Memory = None
+told_of_macro (macro.Directive at) = Some (at, codes "directive")
+told_of_macro (macro.FunctionMacro at) = Some (at, codes "function macro")
+told_of_macro (macro.Redefined at) = Some (at, codes "redefined")
+told_of_macro (macro.TooManyTokens at) = Some (at, codes "too many tokens")
+
+abbrev pub told_of_parse : ParseFault → Option (Pos × List ℕ)
+told_of_parse parse.Memory = None
+told_of_parse (parse.Deep at) = Some (at, codes "nested over 64")
+told_of_parse (parse.NotAUnit at) = Some (at, codes "not a unit")
+
+abbrev pub told_of : FileFault → Option (Pos × List ℕ)
+told_of fault.Memory = None
+told_of (fault.Lex found) = told_of_lex found
+told_of (fault.Macro found) = told_of_macro found
+told_of (fault.Parse found) = told_of_parse found
+
+abbrev pub refused_text : Pos → List ℕ → List ℕ
+refused_text at reason = (codes "file refused " ++ place_text at ++ codes " ") ++ (reason ++ line_end)
+
+-- a text that is no file, and the line that says why
+pub record IsRefusedAs (text answer : List ℕ) : Type 0 where
+  pub none : IsNoFile text
+  pub cause : FileFault
+  pub holds : IsFaultOf text cause
+  pub at : Pos
+  pub reason : List ℕ
+  pub told : told_of cause ≡ Some (at, reason)
+  pub printed : answer ≡ refused_text at reason

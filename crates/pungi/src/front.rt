@@ -1,0 +1,37 @@
+ghost use Rattle.std.specs.Prelude.{◌≡◌, ◌≤◌, length, List, ℕ, Some, IfOk, IfErr};
+ghost use Rattle.pungi_base.specs.declared.pos.Pos.{Pos};
+ghost use Rattle.pungi_base.specs.Words.{builtin_words};
+ghost use Rattle.pungi_tree.specs.UnitFlat.{items_flat};
+ghost use Rattle.pungi_tree.specs.UnitView.{unit_view};
+ghost use Rattle.pungi.specs.Front.{IsFile, IsNoFile, IsFaultOf, AreKnownKinds, told_of};
+
+use crate::file_fault::FileFault;
+use crate::read::FILE_LIMIT;
+use pungi_base::Names;
+use pungi_lex::{TOKEN_LIMIT, expand, lex};
+use pungi_parse::parse;
+use pungi_tree::Unit;
+use std::alloc::Global;
+
+/// What a text within the limit consists of: its tokens, their macros replaced, as a tree.
+pub(crate) fn unit_of(alloc: Global, names: &mut Names, text: &[u8]) -> Result<Unit, FileFault>
+    requires limit { length text.now ≤ FILE_LIMIT }
+    requires words { names.old ≡ builtin_words }
+    ensures file { IfOk result (λ unit. IsFile text.now names.new (unit_view unit)) }
+    ensures known { IfOk result (λ unit. AreKnownKinds (length names.new) (items_flat (unit_view unit))) }
+    ensures few { IfOk result (λ unit. length (items_flat (unit_view unit)) ≤ TOKEN_LIMIT) }
+    ensures fault { IfErr result (λ fault. (told : Pos × List ℕ) → told_of fault ≡ Some told → IsFaultOf text.now fault × IsNoFile text.now) }
+{
+    let tokens = match lex(alloc, names, text) {
+        Ok(tokens) => tokens,
+        Err(fault) => return Err(FileFault::Lex(fault)),
+    };
+    let expanded = match expand(alloc, names, &tokens) {
+        Ok(expanded) => expanded,
+        Err(fault) => return Err(FileFault::Macro(fault)),
+    };
+    match parse(alloc, names, &expanded) {
+        Ok(unit) => Ok(unit),
+        Err(fault) => Err(FileFault::Parse(fault)),
+    }
+}
