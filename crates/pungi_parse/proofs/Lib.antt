@@ -1,3 +1,5 @@
+pub mod Eaten
+pub mod Tools
 pub mod Begins
 pub mod Ends
 pub mod Readings
