@@ -1,3 +1,4 @@
+pub mod Words
 pub mod Eaten
 pub mod Tools
 pub mod Begins
