@@ -1,3 +1,4 @@
+pub mod Levels
 pub mod Words
 pub mod Eaten
 pub mod Tools
