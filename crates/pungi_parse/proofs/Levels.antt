@@ -252,6 +252,15 @@ module _ (types : List Name) where
       let most = level_far b in
       (far.0, far.2 (omega arith))
 
+  pub binary_parts : (l : ℕ) (p : Pos) (m : Punct) (a b : Expr) → expr_at types l (binary p m a b) ≡ true → (l ≤ binary_level m) × (expr_at types (binary_level m) a ≡ true) × (expr_at types (binary_level m + 1) b ≡ true)
+  binary_parts l p m a b h =
+      let s = and_true (nat_le l (binary_level m)) (expr_at types (binary_level m) a && expr_at types (binary_level m + 1) b) h in
+      let t = and_true (expr_at types (binary_level m) a) (expr_at types (binary_level m + 1) b) s.1 in
+      (le_from _ _ s.0, t.0, t.1)
+
+  binary_bound : (l : ℕ) (p : Pos) (m : Punct) (a b : Expr) → expr_at types l (binary p m a b) ≡ true → binary_level m ≤ 16
+  binary_bound l p m a b h = let c = binary_bounds m b (binary_parts l p m a b h).2 in omega arith
+
   pub level_bound : (l : ℕ) (e : Expr) → expr_at types l e ≡ true → level e ≤ 16
   level_bound l (word p n) h = omega arith
   level_bound l (int p v b u) h = omega arith
@@ -262,7 +271,7 @@ module _ (types : List Name) where
   level_bound l (paren p e) h = omega arith
   level_bound l (unary p k e) h = omega arith
   level_bound l (post p m e) h = omega arith
-  level_bound l (binary p m a b) h = let s = and_true _ _ (at_whole l (binary p m a b) h) in let t = and_true _ _ s.1 in let c = binary_bounds m b t.1 in omega arith
+  level_bound l (binary p m a b) h = binary_bound l p m a b h
   level_bound l (assign p m a b) h = omega arith
   level_bound l (conditional p a b c) h = omega arith
   level_bound l (comma p a b) h = omega arith

@@ -1,3 +1,5 @@
+pub mod LowSound
+pub mod TypeSound
 pub mod Levels
 pub mod Words
 pub mod Eaten
