@@ -1,3 +1,5 @@
+pub mod Void
+pub mod ParamSound
 pub mod LowSound
 pub mod TypeSound
 pub mod Levels
