@@ -1,3 +1,4 @@
+pub mod ExprSound
 pub mod Void
 pub mod ParamSound
 pub mod LowSound
