@@ -29,7 +29,7 @@ and_one : (b : Bool) → b ≡ (b && true)
 and_one true = refl
 and_one false = refl
 
-binary_far : (m : Punct) → (3 ≤ binary_level m) × (binary_level m ≤ 100) × (binary_level m < 100 → binary_level m ≤ 12)
+pub binary_far : (m : Punct) → (3 ≤ binary_level m) × (binary_level m ≤ 100) × (binary_level m < 100 → binary_level m ≤ 12)
 binary_far puncts.LeftParen = (omega arith, omega arith, λ h. omega (arith, h))
 binary_far puncts.RightParen = (omega arith, omega arith, λ h. omega (arith, h))
 binary_far puncts.LeftBracket = (omega arith, omega arith, λ h. omega (arith, h))

@@ -1,3 +1,4 @@
+pub mod ClimbSound
 pub mod ExprSound
 pub mod Void
 pub mod ParamSound
