@@ -1,3 +1,4 @@
+pub mod Shorter
 pub mod ClimbSound
 pub mod ExprSound
 pub mod Void
