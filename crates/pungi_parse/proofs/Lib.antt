@@ -1,3 +1,4 @@
+pub mod Fronts
 pub mod Shorter
 pub mod ClimbSound
 pub mod ExprSound
