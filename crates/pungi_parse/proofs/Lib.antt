@@ -1,3 +1,5 @@
+pub mod Facts
+pub mod TypeComplete
 pub mod Choices
 pub mod Fronts
 pub mod Shorter
