@@ -1,3 +1,5 @@
+pub mod VoidComplete
+pub mod ParamComplete
 pub mod Facts
 pub mod TypeComplete
 pub mod Choices
