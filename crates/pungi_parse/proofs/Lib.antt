@@ -1,3 +1,4 @@
+pub mod Steps
 pub mod VoidComplete
 pub mod ParamComplete
 pub mod Facts
