@@ -1,3 +1,4 @@
+pub mod PostfixComplete
 pub mod Steps
 pub mod VoidComplete
 pub mod ParamComplete
