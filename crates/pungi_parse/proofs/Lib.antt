@@ -1,3 +1,4 @@
+pub mod TightComplete
 pub mod PostfixComplete
 pub mod Steps
 pub mod VoidComplete
