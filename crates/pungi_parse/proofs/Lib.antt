@@ -1,3 +1,5 @@
+pub mod AllRead
+pub mod TypeExprTheorems
 pub mod TightComplete
 pub mod PostfixComplete
 pub mod Steps
