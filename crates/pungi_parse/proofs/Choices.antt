@@ -55,16 +55,16 @@ module _ (types : List Name) (ts : List Placed) (n : NoType types ts) where
       by None e = refl
       by (Some o) e = rw (n.no_type o e) refl
 
-  pub no_cast_front : (low : Lower) (most : ℕ) → cast_front types low most ts ≡ None
+  pub no_cast_front : cast_front types ts ≡ None
   unfolding cast_front
-  no_cast_front low most = by_front (Pos × List Placed) (λ o. Some o)
+  no_cast_front = by_front (Pos × List Placed) (λ o. Some o)
 
   pub no_sizeof_front : (eat puncts.LeftParen ts >>= λ (o : Pos × List Placed). when (begins_type types o.1) (Some o.1)) ≡ None
   no_sizeof_front = by_front (List Placed) (λ o. Some o.1)
 
-  pub no_new_front : (low : Lower) (w : Name) (p : Pos) → is_word types w ≡ true → new_front types low (word_at w p ∷ ts) ≡ None
+  pub no_new_front : (w : Name) (p : Pos) → is_word types w ≡ true → new_front types (word_at w p ∷ ts) ≡ None
   unfolding new_front chain
-  no_new_front low w p h = rw (plain_word_complete types w p ts h, by_front (Pos × List Placed) (λ o. Some (p, o.1))) (when_none (w.0 == PY_OBJECT_NEW))
+  no_new_front w p h = rw (plain_word_complete types w p ts h, by_front (Pos × List Placed) (λ o. Some (p, o.1))) (when_none (w.0 == PY_OBJECT_NEW))
 
 is_prefix : Punct → Bool
 is_prefix m = nat_le (prefix_mark_need m) 14
@@ -109,18 +109,18 @@ module _ (types : List Name) where
   unary_no_type l (null p) ts rest h ok s = no_paren types ts (rw s refl)
   unary_no_type l (paren p e) ts rest h ok s = subst (NoType types) (sym s.2) (paren_no_type types p s.0 (expr_begins types 0 e s.0 _ s.3 (and_true _ _ ok).1).no_type)
   unary_no_type l (unary p k e) ts rest h ok s = no_paren types ts (subst (λ z. eat puncts.LeftParen z ≡ None) (sym s.1) (kind_no_paren k p s.0 (prefix_bound types k e (and_true _ _ ok).1).1))
-  unary_no_type l (post p m e) ts rest h ok s = let o = (and_true _ _ (and_true _ _ ok).1).1 in unary_no_type 15 e ts _ (omega (arith, at_level types 15 e o)) o s
+  unary_no_type l (post p m e) ts rest h ok s = let o : expr_at types 15 e ≡ true = (and_true _ _ (and_true _ _ ok).1).1 in unary_no_type 15 e ts _ (omega (arith, at_level types 15 e o)) o s
   unary_no_type l (binary p m a b) ts rest h ok s = absurd (omega (arith, h, binary_high l p m a b ok))
   unary_no_type l (assign p m a b) ts rest h ok s = absurd (omega (arith, h))
   unary_no_type l (conditional p a b c) ts rest h ok s = absurd (omega (arith, h))
   unary_no_type l (comma p a b) ts rest h ok s = absurd (omega (arith, h))
   unary_no_type l (cast p t e) ts rest h ok s = absurd (omega (arith, h))
   unary_no_type l (size_of_type p t) ts rest h ok s = no_paren types ts (rw s.3 refl)
-  unary_no_type l (call p f es) ts rest h ok s = let o = (and_true _ _ (and_true _ _ ok).1).0 in unary_no_type 15 f ts _ (omega (arith, at_level types 15 f o)) o s.4
+  unary_no_type l (call p f es) ts rest h ok s = let o : expr_at types 15 f ≡ true = (and_true _ _ (and_true _ _ ok).1).0 in unary_no_type 15 f ts _ (omega (arith, at_level types 15 f o)) o s.4
   unary_no_type l (new p t e) ts rest h ok s = no_paren types ts (rw s.5 refl)
-  unary_no_type l (index p a b) ts rest h ok s = let o = (and_true _ _ (and_true _ _ ok).1).0 in unary_no_type 15 a ts _ (omega (arith, at_level types 15 a o)) o s.2
-  unary_no_type l (dot p e n) ts rest h ok s = let o = (and_true _ _ (and_true _ _ ok).1).0 in unary_no_type 15 e ts _ (omega (arith, at_level types 15 e o)) o s.1
-  unary_no_type l (arrow p e n) ts rest h ok s = let o = (and_true _ _ (and_true _ _ ok).1).0 in unary_no_type 15 e ts _ (omega (arith, at_level types 15 e o)) o s.1
+  unary_no_type l (index p a b) ts rest h ok s = let o : expr_at types 15 a ≡ true = (and_true _ _ (and_true _ _ ok).1).0 in unary_no_type 15 a ts _ (omega (arith, at_level types 15 a o)) o s.2
+  unary_no_type l (dot p e n) ts rest h ok s = let o : expr_at types 15 e ≡ true = (and_true _ _ (and_true _ _ ok).1).0 in unary_no_type 15 e ts _ (omega (arith, at_level types 15 e o)) o s.1
+  unary_no_type l (arrow p e n) ts rest h ok s = let o : expr_at types 15 e ≡ true = (and_true _ _ (and_true _ _ ok).1).0 in unary_no_type 15 e ts _ (omega (arith, at_level types 15 e o)) o s.1
 
   pub postfix_no_prefix : (l : ℕ) (e : Expr) (ts rest : List Placed) → 15 ≤ level e → expr_at types l e ≡ true → Spells e ts rest → (eat_prefix ts ≡ None) × (eat_key keys.Sizeof ts ≡ None)
   postfix_no_prefix l (word p n) ts rest h ok s = (rw s refl, rw s refl)

@@ -46,9 +46,9 @@ pub record NewFront (types : List Name) (ts : List Placed) (n : Pos × List Plac
   pub tokens : ts ≡ word_at (named_word PY_OBJECT_NEW) n.0 ∷ mark_at puncts.LeftParen place ∷ n.1
   pub plain : is_word types (named_word PY_OBJECT_NEW) ≡ true
 
-pub new_front_sound : (types : List Name) (low : Lower) (ts : List Placed) (n : Pos × List Placed) → new_front types low ts ≡ Some n → NewFront types ts n
+pub new_front_sound : (types : List Name) (ts : List Placed) (n : Pos × List Placed) → new_front types ts ≡ Some n → NewFront types ts n
 unfolding new_front
-new_front_sound types low ts n h =
+new_front_sound types ts n h =
     let w = bind_some _ _ _ h in
     let g = when_some _ _ _ w.2 in
     let o = bind_some _ _ _ g.1 in
@@ -138,7 +138,7 @@ module _ (types : List Name) (d : ℕ) (low : Lower) (sound : LowSound types d l
         let l = eat_literal_some ts w.0 w.1 in
         subst (GetsExpr types (suc d) 16 ts) (some_same _ _ w.2) (record { spells = l.spells; allowed = l.allowed types; shallow = omega (arith, l.depth); no_operator = none_so_tight 16 w.0.1 (omega arith) })
     | inr n ↦ elim (on_some_cases _ _ _ _ n.1) [
-      | inl w ↦ new_gets w.0 ts x (new_front_sound types low ts w.0 w.1) w.2
+      | inl w ↦ new_gets w.0 ts x (new_front_sound types ts w.0 w.1) w.2
       | inr n ↦ elim (on_some_cases _ _ _ _ n.1) [
         | inl w ↦
             let v = plain_word_sound types ts w.0 w.1 in

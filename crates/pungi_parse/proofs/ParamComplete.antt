@@ -58,28 +58,28 @@ param_declr_begins (unused ss n p) ts rest s e = stars_begin ss ts _ s.3 (record
 
 module _ (types : List Name) where
   -- a declared name is no `Py_UNUSED (`
-  tail_no_unused : (low : Lower) (w : Name) (p : Pos) (t : Tail) (ts rest : List Placed) → SpellsTail w p t ts rest → is_word types w ≡ true → ParamEnds rest → unused_front types low ts ≡ None
+  tail_no_unused : (w : Name) (p : Pos) (t : Tail) (ts rest : List Placed) → SpellsTail w p t ts rest → is_word types w ≡ true → ParamEnds rest → unused_front types ts ≡ None
   unfolding unused_front plain_word chain unless
-  tail_no_unused low w p (sizes ss) ts rest s ok e = rw (s.1, not_true _ ok, sizes_no_paren ss s.0 rest s.2 e) (when_none (w.0 == PY_UNUSED))
+  tail_no_unused w p (sizes ss) ts rest s ok e = rw (s.1, not_true _ ok, sizes_no_paren ss s.0 rest s.2 e) (when_none (w.0 == PY_UNUSED))
     where
       sizes_no_paren : (ss : Sizes) (ts rest : List Placed) → SpellsSizes ss ts rest → ParamEnds rest → eat puncts.LeftParen ts ≡ None
       sizes_no_paren no_sizes ts rest s e = rw s e.no_paren
       sizes_no_paren (open_and ss) ts rest s e = rw s.3 refl
       sizes_no_paren (size_and x ss) ts rest s e = rw s.4 refl
-  tail_no_unused low w p (function ps) ts rest s ok e = rw s.6 refl
+  tail_no_unused w p (function ps) ts rest s ok e = rw s.6 refl
 
-  tail_begins_name : (low : Lower) (w : Name) (p : Pos) (t : Tail) (ts rest : List Placed) → SpellsTail w p t ts rest → begins_name types low ts ≡ true
+  tail_begins_name : (w : Name) (p : Pos) (t : Tail) (ts rest : List Placed) → SpellsTail w p t ts rest → begins_name ts ≡ true
   unfolding begins_name
-  tail_begins_name low w p (sizes ss) ts rest s = rw s.1 refl
-  tail_begins_name low w p (function ps) ts rest s = rw s.6 refl
+  tail_begins_name w p (sizes ss) ts rest s = rw s.1 refl
+  tail_begins_name w p (function ps) ts rest s = rw s.6 refl
 
   pub param_named : (ss : List ℕ) (w : Name) (p : Pos) (t : Tail) → TailReads types t → ParamDeclrReads types (named (declr ss w p t))
   unfolding param_declr_at param_rest on_some chain when
   param_named ss w p t f n d ts rest s ok deep long e =
       let a = and_true (is_word types w) (tail_ok types t) ok in
       let c = stars_complete ss ts s.0 s.1 (tail_begins w p t s.0 rest s.2).stars in
-      let b = tail_begins_name (readers types n d) w p t s.0 rest s.2 in
-      let u = tail_no_unused (readers types n d) w p t s.0 rest s.2 a.0 e in
+      let b = tail_begins_name w p t s.0 rest s.2 in
+      let u = tail_no_unused w p t s.0 rest s.2 a.0 e in
       let r = f n d ss w p s.0 rest s.2 a.0 a.1 deep (omega (arith, long, stars_no_longer ss ts s.0 s.1)) e.declr in
       rw (c, b, u, r) refl
 
@@ -159,6 +159,6 @@ module _ (types : List Name) where
       let b = and_true (param_decl_ok types x) (param_decls_ok types ds) a.1 in
       let p : SpellsParamDecl x ts s.3.0 = subst (λ z. SpellsParamDecl x z s.3.0) (sym s.2) s.3.1 in
       let none = param_no_mark puncts.RightParen x ts s.3.0 p b.0 in
-      let v = no_void_front types (readers types n d) x ds dots ts s.3.0 s.1 _ p s.3.2 s.4 b.0 a.0 in
+      let v = no_void_front types x ds dots ts s.3.0 s.1 _ p s.3.2 s.4 b.0 a.0 in
       let r = some_params_read x ds dots n d q ts s.3.0 s.1 rest g f p s.3.2 s.4 b.0 b.1 (omega (arith, deep)) (omega (arith, deep)) (omega (arith, long)) in
       rw (none, v) r

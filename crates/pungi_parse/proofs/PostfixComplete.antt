@@ -94,7 +94,7 @@ module _ (types : List Name) where
   unfolding primary on_some chain unless
   word_steps p w = postfix_steps types (word p w) (omega arith) (λ n d q ts rest s place none ends.
       let ok = (and_true true (is_word types w) s.allowed).1 in
-      let front : primary types (readers types n d) (word_at w p ∷ rest) ≡ Some (word p w, rest) = rw (no_new_front types rest ends (readers types n d) w p ok, plain_word_complete types w p rest ok) refl in
+      let front : primary types (readers types n d) (word_at w p ∷ rest) ≡ Some (word p w, rest) = rw (no_new_front types rest ends w p ok, plain_word_complete types w p rest ok) refl in
       from_primary types n d q (word p w) ts rest place (subst (λ z. primary types (readers types n d) z ≡ Some (word p w, rest)) (sym s.spells) front))
 
   literal_steps : (e : Expr) → 15 ≤ level e → ((ts rest : List Placed) → Spells e ts rest → eat_literal ts ≡ Some (e, rest)) → Steps types e

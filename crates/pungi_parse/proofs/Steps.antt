@@ -126,7 +126,7 @@ module _ (types : List Name) where
 
   from_unary : (n d : ℕ) (e : Expr) (ts rest : List Placed) → NoType types ts → unary types (readers types n d) (suc d) ts ≡ Some (e, rest) → casted types (readers types n d) (suc d) ts ≡ Some (e, rest)
   unfolding casted on_some
-  from_unary n d e ts rest none h = rw (no_cast_front types ts none (readers types n d) (suc d)) h
+  from_unary n d e ts rest none h = rw (no_cast_front types ts none) h
 
   cast_up : (e : Expr) → 14 ≤ level e → UnaryAll e → CastAll e
   cast_up e high f n d ts rest s ends = from_unary n d e ts rest (unary_no_type types 0 e ts rest high s.allowed s.spells) (f n d ts rest s ends)

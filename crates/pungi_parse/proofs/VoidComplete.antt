@@ -14,7 +14,7 @@ use Rattle.pungi_base.specs.declared.punct.Punct.{Punct}
 use Rattle.pungi_base.specs.declared.punct.Punct.TheVariants as puncts
 use Rattle.pungi_parse.specs.Eat.{eat, eat_key, eat_word}
 use Rattle.pungi_parse.specs.Reading.{◌>>=◌, chain}
-use Rattle.pungi_parse.specs.TypeReader.{Lower, void_front}
+use Rattle.pungi_parse.specs.TypeReader.{void_front}
 use Rattle.pungi_parse.proofs.Eaten.{eat_some, eat_key_some}
 use Rattle.pungi_parse.proofs.Tools.{bind_some, and_true, not_true}
 use Rattle.pungi_tree.specs.ExprLevels.{base_ok, spec_ok, param_decl_ok, param_declr_ok, is_void_param, is_void_spec, is_void_base, is_nothing, has_no_params, void_ok}
@@ -154,11 +154,11 @@ module _ (types : List Name) where
       let b = dots_at_close dots after rest (subst Closes a.1 o.1) e in
       rw (b, o.0, a.0) refl
 
-  pub no_void_front : (low : Lower) (d : ParamDecl) (ds : ParamDecls) (dots : Option Pos) (ts between after rest : List Placed) → SpellsParamDecl d ts between → SpellsMoreParamDecls ds between after → SpellsDots dots after rest → param_decl_ok types d ≡ true → void_ok false (param_and d ds) dots ≡ true → void_front types low ts ≡ None
+  pub no_void_front : (d : ParamDecl) (ds : ParamDecls) (dots : Option Pos) (ts between after rest : List Placed) → SpellsParamDecl d ts between → SpellsMoreParamDecls ds between after → SpellsDots dots after rest → param_decl_ok types d ≡ true → void_ok false (param_and d ds) dots ≡ true → void_front ts ≡ None
   unfolding void_front
-  no_void_front low d ds dots ts between after rest s m e ok fine = by (void_front types low ts) refl
+  no_void_front d ds dots ts between after rest s m e ok fine = by (void_front ts) refl
     where
-      by : (o : Option (Pos × List Placed)) → void_front types low ts ≡ o → o ≡ None
+      by : (o : Option (Pos × List Placed)) → void_front ts ≡ o → o ≡ None
       by None h = refl
       by (Some x) h =
           let k = bind_some _ _ _ h in
