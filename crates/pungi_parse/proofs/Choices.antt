@@ -4,9 +4,8 @@
 --   postfix_no_prefix a postfix expression begins with no prefix operator
 --   no_cast_front, no_sizeof_front, no_new_front    the tests that a parenthesis before a type would pass
 --   expr_no_label     where an expression begins with a word, no `:` follows it
-use Rattle.std.proofs.Common.{◌≡◌, ℕ, zero, suc, ◌+◌, ◌<◌, ◌≤◌, Bool, true, false, cond, not, ◌&&◌, ◌||◌, List, [], ◌∷◌, Option, Some, None, refl, sym, ◌∙◌, ap, subst, arith}
+use Rattle.std.proofs.Common.{◌≡◌, ℕ, ◌≤◌, Bool, true, false, List, [], ◌∷◌, Option, Some, None, refl, sym, ◌∙◌, subst, arith}
 use Rattle.std.specs.Prelude.{nat_le, ◌==◌}
-use Rattle.pungi_base.specs.declared.key.Key.{Key}
 use Rattle.pungi_base.specs.declared.key.Key.TheVariants as keys
 use Rattle.pungi_base.specs.declared.kind.Kind.{Kind}
 use Rattle.pungi_base.specs.declared.kind.Kind.TheVariants as kind
@@ -17,20 +16,19 @@ use Rattle.pungi_base.specs.declared.punct.Punct.TheVariants as puncts
 use Rattle.pungi_base.specs.declared.words.TheConstants.{PY_OBJECT_NEW}
 use Rattle.pungi_parse.specs.Eat.{eat, eat_key, eat_prefix}
 use Rattle.pungi_parse.specs.ExprReader.{new_front, cast_front}
-use Rattle.pungi_parse.specs.Reading.{◌>>=◌, chain, when, unless}
-use Rattle.pungi_parse.specs.TypeReader.{Lower, plain_word, begins_type}
-use Rattle.pungi_parse.proofs.Eaten.{eat_some}
+use Rattle.pungi_parse.specs.Reading.{◌>>=◌, chain, when}
+use Rattle.pungi_parse.specs.TypeReader.{plain_word, begins_type}
 use Rattle.pungi_parse.proofs.Fronts.{other_mark, expr_begins}
 use Rattle.pungi_parse.proofs.Levels.{at_level, prefix_bound, binary_parts, binary_bounds}
-use Rattle.pungi_parse.proofs.Tools.{and_true, not_true, eq_from, le_true, some_same}
+use Rattle.pungi_parse.proofs.Tools.{and_true, not_true, le_true, some_same}
 use Rattle.pungi_parse.proofs.Words.{plain_word_sound, plain_word_complete}
 use Rattle.pungi_tree.specs.ExprLevels.{expr_at, is_empty}
 use Rattle.pungi_tree.specs.ExprSpells.{Spells, SpellsTexts}
 use Rattle.pungi_tree.specs.Operators.{binary_level, is_assign, is_step, prefix_need, prefix_mark_need, level}
-use Rattle.pungi_tree.specs.Placed.{Placed, mark_at, key_at, word_at, text_at}
+use Rattle.pungi_tree.specs.Placed.{Placed, mark_at, word_at}
 use Rattle.pungi_tree.specs.Syntax.{Expr, word, int, float, char, text, null, paren, unary, post, binary, assign, conditional, comma, cast, size_of_type, call, new, index, dot, arrow}
 use Rattle.pungi_tree.specs.Tokens.{named_word}
-use Rattle.pungi_tree.specs.TypeWords.{is_type, is_word}
+use Rattle.pungi_tree.specs.TypeWords.{is_word}
 
 pub record NoType (types : List Name) (ts : List Placed) : Type 0 where
   pub no_type : (o : Pos × List Placed) → eat puncts.LeftParen ts ≡ Some o → begins_type types o.1 ≡ false

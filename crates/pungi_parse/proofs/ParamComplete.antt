@@ -1,35 +1,33 @@
 -- Parameters that stand at the front of the tokens are read, by what is known of their parts.
 --   .._reads, .._read    the reader of the same name reads it
-use Rattle.std.proofs.Common.{◌≡◌, ℕ, zero, suc, ◌+◌, ◌<◌, ◌≤◌, max, Bool, true, false, not, ◌&&◌, ◌||◌, List, [], ◌∷◌, length, Option, Some, None, is_some, is_none, refl, sym, ◌∙◌, ap, subst, arith}
+use Rattle.std.proofs.Common.{◌≡◌, ℕ, zero, suc, ◌≤◌, Bool, true, false, ◌&&◌, List, ◌∷◌, length, Option, Some, None, refl, sym, ap, subst, arith}
 use Rattle.std.specs.Prelude.{◌==◌}
 use Rattle.pungi_base.specs.declared.key.Key.{Key}
-use Rattle.pungi_base.specs.declared.key.Key.TheVariants as keys
 use Rattle.pungi_base.specs.declared.names.Name.{Name}
 use Rattle.pungi_base.specs.declared.pos.Pos.{Pos}
 use Rattle.pungi_base.specs.declared.punct.Punct.{Punct}
 use Rattle.pungi_base.specs.declared.punct.Punct.TheVariants as puncts
 use Rattle.pungi_base.specs.declared.words.TheConstants.{PY_UNUSED}
-use Rattle.pungi_parse.specs.Eat.{eat, eat_key, eat_word, eat_listed}
-use Rattle.pungi_parse.specs.Reading.{◌>>=◌, chain, on_some, when, unless}
+use Rattle.pungi_parse.specs.Eat.{eat}
+use Rattle.pungi_parse.specs.Reading.{chain, on_some, when, unless}
 use Rattle.pungi_parse.specs.Readers.{readers}
-use Rattle.pungi_parse.specs.TypeReader.{Lower, keywords, stars, plain_word, declr_rest, unused_front, param_rest, begins_name, param_declr_at, param, dots_front, more_params, void_front, some_params, params_at}
-use Rattle.pungi_parse.proofs.Begins.{TypeBegins, DeclBegins}
-use Rattle.pungi_parse.proofs.Ends.{SpecEnds, StarsEnd, DeclrEnds}
-use Rattle.pungi_parse.proofs.Facts.{SpecReads, ParamsReads, TailReads, ParamDeclrReads, ParamDeclReads, MoreParamsRead, ParamEnds, TypeEnds}
+use Rattle.pungi_parse.specs.TypeReader.{plain_word, unused_front, param_rest, begins_name, param_declr_at, param, dots_front, more_params, void_front, some_params, params_at}
+use Rattle.pungi_parse.proofs.Ends.{SpecEnds}
+use Rattle.pungi_parse.proofs.Facts.{SpecReads, ParamsReads, TailReads, ParamDeclrReads, ParamDeclReads, MoreParamsRead, ParamEnds}
 use Rattle.pungi_parse.proofs.Fronts.{spec_begins, decl_begins}
 use Rattle.pungi_parse.proofs.Shorter.{spec_no_longer, param_decl_no_longer}
 use Rattle.pungi_parse.proofs.Tools.{and_true, not_true}
 use Rattle.pungi_parse.proofs.TypeComplete.{tail_begins, stars_begin, declr_begins}
 use Rattle.pungi_parse.proofs.VoidComplete.{no_void_front}
-use Rattle.pungi_parse.proofs.Words.{keywords_complete, stars_complete, plain_word_complete, keys_no_longer, stars_no_longer}
-use Rattle.pungi_tree.specs.ExprDepth.{spec_depth, tail_depth, param_decl_depth, param_decls_depth, param_declr_depth}
-use Rattle.pungi_tree.specs.ExprLevels.{spec_ok, tail_ok, param_decl_ok, param_decls_ok, param_declr_ok, void_ok, is_empty, has_no_params}
-use Rattle.pungi_tree.specs.ExprSpells.{SpellsSpec, SpellsSizes, SpellsTail, SpellsParamDeclr, SpellsParamDecl, SpellsMoreParamDecls, SpellsDots}
+use Rattle.pungi_parse.proofs.Words.{keywords_complete, stars_complete, keys_no_longer, stars_no_longer}
+use Rattle.pungi_tree.specs.ExprDepth.{param_decl_depth, param_decls_depth}
+use Rattle.pungi_tree.specs.ExprLevels.{spec_ok, tail_ok, param_decl_ok, param_decls_ok, param_declr_ok, void_ok}
+use Rattle.pungi_tree.specs.ExprSpells.{SpellsSizes, SpellsTail, SpellsParamDeclr, SpellsParamDecl, SpellsMoreParamDecls, SpellsDots}
 use Rattle.pungi_tree.specs.Operators.{is_qualifier, all_keys}
-use Rattle.pungi_tree.specs.Placed.{Placed, mark_at, key_at, word_at}
-use Rattle.pungi_tree.specs.Syntax.{Spec, Declr, declr, Tail, sizes, function, Sizes, no_sizes, open_and, size_and, Params, params, ParamDecl, param_decl, ParamDecls, no_params, param_and, ParamDeclr, named, bare, unused}
+use Rattle.pungi_tree.specs.Placed.{Placed, mark_at}
+use Rattle.pungi_tree.specs.Syntax.{Spec, declr, Tail, sizes, function, Sizes, no_sizes, open_and, size_and, params, ParamDecl, param_decl, ParamDecls, no_params, param_and, ParamDeclr, named, bare, unused}
 use Rattle.pungi_tree.specs.Tokens.{named_word}
-use Rattle.pungi_tree.specs.TypeWords.{is_type, is_word}
+use Rattle.pungi_tree.specs.TypeWords.{is_word}
 
 when_none : {A : Type 0} (b : Bool) → when {A = A} b None ≡ None
 unfolding when

@@ -1,27 +1,23 @@
 -- What is read as parameters stands at the front of the tokens.
 --   .._gets           what the reader of the same name reads
-use Rattle.std.proofs.Common.{◌≡◌, ℕ, zero, suc, ◌+◌, ◌<◌, ◌≤◌, max, Bool, true, false, not, ◌&&◌, ◌⊎◌, inl, inr, List, [], ◌∷◌, length, Option, Some, None, refl, sym, ◌∙◌, ap, subst, arith}
+use Rattle.std.proofs.Common.{◌≡◌, ℕ, zero, suc, Bool, true, false, ◌&&◌, inl, inr, List, ◌∷◌, length, Option, Some, None, refl, ◌∙◌, ap, subst, arith}
 use Rattle.std.specs.Prelude.{◌==◌}
-use Rattle.pungi_base.specs.declared.key.Key.{Key}
-use Rattle.pungi_base.specs.declared.key.Key.TheVariants as keys
 use Rattle.pungi_base.specs.declared.names.Name.{Name}
 use Rattle.pungi_base.specs.declared.pos.Pos.{Pos}
 use Rattle.pungi_base.specs.declared.punct.Punct.TheVariants as puncts
 use Rattle.pungi_base.specs.declared.words.TheConstants.{PY_UNUSED}
-use Rattle.pungi_parse.specs.Eat.{eat, eat_key, eat_word, eat_listed}
-use Rattle.pungi_parse.specs.Reading.{◌>>=◌, chain, on_some, when, unless}
-use Rattle.pungi_parse.specs.TypeReader.{Lower, keywords, stars, plain_word, declr_rest, unused_front, param_rest, begins_name, param_declr_at, param, dots_front, more_params, void_front, some_params, params_at}
+use Rattle.pungi_parse.specs.TypeReader.{Lower, keywords, stars, unused_front, param_rest, param_declr_at, param, dots_front, more_params, void_front, some_params, params_at}
 use Rattle.pungi_parse.proofs.Eaten.{eat_some, eat_key_some}
-use Rattle.pungi_parse.proofs.LowSound.{Gets, GetsParamDeclr, GetsParamDecl, GetsMoreParams, GetsParams, LowSound}
-use Rattle.pungi_parse.proofs.Tools.{bind_some, on_some_cases, when_some, unless_some, some_same, and_true, and_join, and_false, not_false, eq_from}
+use Rattle.pungi_parse.proofs.LowSound.{GetsParamDeclr, GetsParamDecl, GetsMoreParams, GetsParams, LowSound}
+use Rattle.pungi_parse.proofs.Tools.{bind_some, on_some_cases, when_some, some_same, and_join, and_false, not_false, eq_from}
 use Rattle.pungi_parse.proofs.TypeSound.{declr_rest_gets}
 use Rattle.pungi_parse.proofs.Void.{lone_front}
 use Rattle.pungi_parse.proofs.Words.{keywords_sound, stars_sound, plain_word_sound}
-use Rattle.pungi_tree.specs.ExprLevels.{is_void_param, is_lone_void, has_no_params, void_ok}
-use Rattle.pungi_tree.specs.ExprSpells.{SpellsParamDecl, SpellsMoreParamDecls, SpellsParamDeclr, SpellsDots, SpellsStars, SpellsParams}
+use Rattle.pungi_tree.specs.ExprLevels.{is_void_param, is_lone_void, void_ok}
+use Rattle.pungi_tree.specs.ExprSpells.{SpellsParamDecl, SpellsMoreParamDecls, SpellsDots, SpellsStars, SpellsParams}
 use Rattle.pungi_tree.specs.Operators.{is_qualifier}
-use Rattle.pungi_tree.specs.Placed.{Placed, mark_at, key_at, word_at}
-use Rattle.pungi_tree.specs.Syntax.{Params, params, ParamDecl, param_decl, ParamDecls, no_params, param_and, ParamDeclr, named, bare, unused}
+use Rattle.pungi_tree.specs.Placed.{Placed, mark_at, word_at}
+use Rattle.pungi_tree.specs.Syntax.{Params, params, ParamDecl, ParamDecls, no_params, param_and, ParamDeclr}
 use Rattle.pungi_tree.specs.Tokens.{named_word}
 use Rattle.pungi_tree.specs.TypeWords.{is_word}
 

@@ -1,17 +1,16 @@
 -- A lone `void` between the parentheses of a function.
 --   lone_param        what a parameter that is a lone `void` is
 --   lone_front        its tokens are a `void` and a closing parenthesis
-use Rattle.std.proofs.Common.{◌≡◌, ℕ, zero, suc, Bool, true, false, ◌&&◌, List, [], ◌∷◌, Option, Some, None, refl, sym, ◌∙◌, ap, ap₂, subst, arith}
+use Rattle.std.proofs.Common.{◌≡◌, true, false, List, [], ◌∷◌, Some, refl, ◌∙◌, ap, ap₂, subst}
 use Rattle.std.specs.Prelude.{◌==◌}
 use Rattle.pungi_base.specs.declared.key.Key.{Key}
 use Rattle.pungi_base.specs.declared.key.Key.TheVariants as keys
 use Rattle.pungi_base.specs.declared.pos.Pos.{Pos}
 use Rattle.pungi_base.specs.declared.punct.Punct.TheVariants as puncts
-use Rattle.pungi_parse.specs.Eat.{eat, eat_key}
-use Rattle.pungi_parse.specs.Reading.{◌>>=◌, chain}
+use Rattle.pungi_parse.specs.Reading.{chain}
 use Rattle.pungi_parse.specs.TypeReader.{void_front}
 use Rattle.pungi_parse.proofs.Tools.{and_true, eq_from}
-use Rattle.pungi_tree.specs.ExprLevels.{is_empty, is_void, is_just_void, is_void_base, is_void_spec, is_nothing, is_void_param}
+use Rattle.pungi_tree.specs.ExprLevels.{is_void, is_void_base, is_void_spec, is_nothing, is_void_param}
 use Rattle.pungi_tree.specs.ExprSpells.{SpellsParamDecl}
 use Rattle.pungi_tree.specs.Placed.{Placed, mark_at, key_at}
 use Rattle.pungi_tree.specs.Syntax.{Spec, spec, Base, words, alias, tagged, tagged_fields, ParamDecl, param_decl, ParamDeclr, named, bare, unused}
