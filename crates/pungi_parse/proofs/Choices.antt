@@ -98,6 +98,9 @@ module _ (types : List Name) where
   binary_high : (l : ℕ) (p : Pos) (m : Punct) (a b : Expr) → expr_at types l (binary p m a b) ≡ true → binary_level m ≤ 12
   binary_high l p m a b ok = (binary_bounds types m b (binary_parts types l p m a b ok).2).1
 
+  left_high : (e : Expr) → expr_at types 15 e ≡ true → 14 ≤ level e
+  left_high e ok = omega (arith, at_level types 15 e ok)
+
   pub unary_no_type : (l : ℕ) (e : Expr) (ts rest : List Placed) → 14 ≤ level e → expr_at types l e ≡ true → Spells e ts rest → NoType types ts
   unary_no_type l (word p n) ts rest h ok s = no_paren types ts (rw s refl)
   unary_no_type l (int p v b u) ts rest h ok s = no_paren types ts (rw s refl)
@@ -107,18 +110,18 @@ module _ (types : List Name) where
   unary_no_type l (null p) ts rest h ok s = no_paren types ts (rw s refl)
   unary_no_type l (paren p e) ts rest h ok s = subst (NoType types) (sym s.2) (paren_no_type types p s.0 (expr_begins types 0 e s.0 _ s.3 (and_true _ _ ok).1).no_type)
   unary_no_type l (unary p k e) ts rest h ok s = no_paren types ts (subst (λ z. eat puncts.LeftParen z ≡ None) (sym s.1) (kind_no_paren k p s.0 (prefix_bound types k e (and_true _ _ ok).1).1))
-  unary_no_type l (post p m e) ts rest h ok s = let o : expr_at types 15 e ≡ true = (and_true _ _ (and_true _ _ ok).1).1 in unary_no_type 15 e ts _ (omega (arith, at_level types 15 e o)) o s
+  unary_no_type l (post p m e) ts rest h ok s = unary_no_type 15 e ts _ (left_high e (and_true _ _ (and_true _ _ ok).1).1) (and_true _ _ (and_true _ _ ok).1).1 s
   unary_no_type l (binary p m a b) ts rest h ok s = absurd (omega (arith, h, binary_high l p m a b ok))
   unary_no_type l (assign p m a b) ts rest h ok s = absurd (omega (arith, h))
   unary_no_type l (conditional p a b c) ts rest h ok s = absurd (omega (arith, h))
   unary_no_type l (comma p a b) ts rest h ok s = absurd (omega (arith, h))
   unary_no_type l (cast p t e) ts rest h ok s = absurd (omega (arith, h))
   unary_no_type l (size_of_type p t) ts rest h ok s = no_paren types ts (rw s.3 refl)
-  unary_no_type l (call p f es) ts rest h ok s = let o : expr_at types 15 f ≡ true = (and_true _ _ (and_true _ _ ok).1).0 in unary_no_type 15 f ts _ (omega (arith, at_level types 15 f o)) o s.4
+  unary_no_type l (call p f es) ts rest h ok s = unary_no_type 15 f ts _ (left_high f (and_true _ _ (and_true _ _ ok).1).0) (and_true _ _ (and_true _ _ ok).1).0 s.4
   unary_no_type l (new p t e) ts rest h ok s = no_paren types ts (rw s.5 refl)
-  unary_no_type l (index p a b) ts rest h ok s = let o : expr_at types 15 a ≡ true = (and_true _ _ (and_true _ _ ok).1).0 in unary_no_type 15 a ts _ (omega (arith, at_level types 15 a o)) o s.2
-  unary_no_type l (dot p e n) ts rest h ok s = let o : expr_at types 15 e ≡ true = (and_true _ _ (and_true _ _ ok).1).0 in unary_no_type 15 e ts _ (omega (arith, at_level types 15 e o)) o s.1
-  unary_no_type l (arrow p e n) ts rest h ok s = let o : expr_at types 15 e ≡ true = (and_true _ _ (and_true _ _ ok).1).0 in unary_no_type 15 e ts _ (omega (arith, at_level types 15 e o)) o s.1
+  unary_no_type l (index p a b) ts rest h ok s = unary_no_type 15 a ts _ (left_high a (and_true _ _ (and_true _ _ ok).1).0) (and_true _ _ (and_true _ _ ok).1).0 s.2
+  unary_no_type l (dot p e n) ts rest h ok s = unary_no_type 15 e ts _ (left_high e (and_true _ _ (and_true _ _ ok).1).0) (and_true _ _ (and_true _ _ ok).1).0 s.1
+  unary_no_type l (arrow p e n) ts rest h ok s = unary_no_type 15 e ts _ (left_high e (and_true _ _ (and_true _ _ ok).1).0) (and_true _ _ (and_true _ _ ok).1).0 s.1
 
   pub postfix_no_prefix : (l : ℕ) (e : Expr) (ts rest : List Placed) → 15 ≤ level e → expr_at types l e ≡ true → Spells e ts rest → (eat_prefix ts ≡ None) × (eat_key keys.Sizeof ts ≡ None)
   postfix_no_prefix l (word p n) ts rest h ok s = (rw s refl, rw s refl)
