@@ -1,3 +1,4 @@
+pub mod LeftLoops
 pub mod AllRead
 pub mod TypeExprTheorems
 pub mod TightComplete
