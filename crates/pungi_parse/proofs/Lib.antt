@@ -1,3 +1,5 @@
+pub mod ListLoops
+pub mod PartLoops
 pub mod LeftLoops
 pub mod AllRead
 pub mod TypeExprTheorems

@@ -84,7 +84,7 @@ module _ (types : List Name) (d : ℕ) (low : Lower) (sound : LowSound types d l
     | inr n ↦ subst (GetsParamDeclr types d ts) (some_same _ _ n.1) (record { spells = stars_sound ts; allowed = refl; shallow = omega arith })
   ]
 
-  param_gets : (ts : List Placed) (x : ParamDecl × List Placed) → param types low ts ≡ Some x → GetsParamDecl types d ts x
+  pub param_gets : (ts : List Placed) (x : ParamDecl × List Placed) → param types low ts ≡ Some x → GetsParamDecl types d ts x
   unfolding param
   param_gets ts x h =
       let q = keywords_sound is_qualifier ts in

@@ -156,7 +156,7 @@ module _ (types : List Name) where
   fields_end n d (suc k) q ts rest s ok deep long fuel = rw s refl
 
   -- a line of a struct begins with no brace, and takes a token
-  field_begins : (f : Field) (ts rest : List Placed) → SpellsField f ts rest → field_ok types f ≡ true → (eat puncts.RightBrace ts ≡ None) × (length rest < length ts)
+  pub field_begins : (f : Field) (ts rest : List Placed) → SpellsField f ts rest → field_ok types f ≡ true → (eat puncts.RightBrace ts ≡ None) × (length rest < length ts)
   field_begins empty ts rest s ok = (rw s.1 refl, omega (arith, ap length s.1))
   field_begins (members qs c ds) ts rest s ok =
       let a = and_true (all_keys is_qualifier qs) (spec_ok types c && some_declrs_ok types ds) ok in

@@ -116,7 +116,7 @@ module _ (types : List Name) (d : ℕ) (low : Lower) (sound : LowSound types d l
       let g = more_declrs_get (suc (length e.0.1)) e.0.1 m.0 m.1 in
       subst (GetsDeclrs types d ts) (some_same _ _ m.2) (record { spells = (e.0.1, r.spells, g.spells); allowed = and_join _ _ r.allowed g.allowed; shallow = omega (arith, r.shallow, g.shallow) })
 
-  field_gets : (ts : List Placed) (x : Field × List Placed) → field types low ts ≡ Some x → GetsField types d ts x
+  pub field_gets : (ts : List Placed) (x : Field × List Placed) → field types low ts ≡ Some x → GetsField types d ts x
   unfolding field
   field_gets ts x h = elim (on_some_cases _ _ _ _ h) [
     | inl c ↦ subst (GetsField types d ts) (some_same _ _ c.2) (record { spells = (c.0.0, eat_some _ ts c.0 c.1); allowed = refl; shallow = omega arith })
