@@ -1,3 +1,4 @@
+pub mod TurnParts
 pub mod ListLoops
 pub mod PartLoops
 pub mod LeftLoops
