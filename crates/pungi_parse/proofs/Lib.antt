@@ -1,3 +1,4 @@
+pub mod ReaderSteps
 pub mod TurnParts
 pub mod ListLoops
 pub mod PartLoops
