@@ -5,7 +5,7 @@
 --   .._ends           nothing goes on with the expression
 --   .._deep           something goes on with it, but nothing deeper may be read
 --   .._fails          the right side, or the rest of the turn, is not read
-use Rattle.std.proofs.Common.{◌≡◌, ℕ, zero, suc, ◌+◌, ◌<◌, ◌≤◌, max, Bool, true, false, List, Option, Some, None, refl, sym, ◌∙◌, ap, arith}
+use Rattle.std.proofs.Common.{◌≡◌, ℕ, zero, suc, ◌+◌, ◌<◌, ◌≤◌, max, List, Some, None, refl, ◌∙◌, arith}
 use Rattle.pungi_base.specs.declared.names.Name.{Name}
 use Rattle.pungi_base.specs.declared.pos.Pos.{Pos}
 use Rattle.pungi_base.specs.declared.punct.Punct.{Punct}
@@ -13,9 +13,8 @@ use Rattle.pungi_base.specs.declared.punct.Punct.TheVariants as puncts
 use Rattle.pungi_parse.specs.Eat.{eat, eat_operator}
 use Rattle.pungi_parse.specs.ExprReader.{primary, postfix_turn, postfixes, postfix, casted, operations, climb, assign_at, commas, comma_at}
 use Rattle.pungi_parse.specs.Gives.{Fails}
-use Rattle.pungi_parse.specs.Reading.{Read, ◌>>=◌, chain, on_some, when}
+use Rattle.pungi_parse.specs.Reading.{Read, chain, on_some, when}
 use Rattle.pungi_parse.specs.Readers.{readers}
-use Rattle.pungi_parse.specs.TypeReader.{Lower}
 use Rattle.pungi_parse.specs.declared.stop.Stop.{Stop}
 use Rattle.pungi_parse.specs.declared.stop.Stop.TheVariants as stops
 use Rattle.pungi_parse.proofs.Tools.{lt_true, lt_false}

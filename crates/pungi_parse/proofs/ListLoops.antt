@@ -3,7 +3,7 @@
 --   ListTo            the loop has come behind these parts, with fuel enough
 --   list_begins, list_starts    behind the first part, before any
 --   list_turns, list_ends, list_fails    one more part, no more, none where there had to be one
-use Rattle.std.proofs.Common.{◌≡◌, ℕ, zero, suc, ◌+◌, ◌<◌, ◌≤◌, List, [], ◌∷◌, ◌++◌, length, Option, Some, None, refl, sym, ◌∙◌, ap, arith}
+use Rattle.std.proofs.Common.{◌≡◌, ℕ, zero, suc, ◌<◌, ◌≤◌, List, [], ◌∷◌, ◌++◌, length, Option, Some, None, refl, sym, ◌∙◌, ap, arith}
 use Rattle.pungi_parse.specs.Reading.{Read, ◌>>=◌, chain}
 use Rattle.pungi_tree.specs.Placed.{Placed}
 

@@ -4,7 +4,7 @@
 --   .._turn           one more part
 --   .._end            no more part follows
 --   .._fail, .._first_fail    no part is read where there has to be one
-use Rattle.std.proofs.Common.{◌≡◌, ℕ, zero, suc, ◌+◌, ◌<◌, ◌≤◌, max, Bool, true, false, inl, inr, List, [], ◌∷◌, ◌++◌, length, Option, Some, None, refl, sym, ◌∙◌, ap, subst, arith}
+use Rattle.std.proofs.Common.{◌≡◌, ℕ, suc, ◌<◌, ◌≤◌, max, inl, inr, List, [], ◌∷◌, ◌++◌, length, Option, Some, None, refl, ◌∙◌, ap, subst, arith}
 use Rattle.pungi_base.specs.declared.key.Key.{Key}
 use Rattle.pungi_base.specs.declared.names.Name.{Name}
 use Rattle.pungi_base.specs.declared.pos.Pos.{Pos}
@@ -15,21 +15,21 @@ use Rattle.pungi_parse.specs.Gives.{Fails}
 use Rattle.pungi_parse.specs.Reading.{Read, ◌>>=◌, chain, on_some}
 use Rattle.pungi_parse.specs.Readers.{readers}
 use Rattle.pungi_parse.specs.Turns.{size_at, size_depth, close_params}
-use Rattle.pungi_parse.specs.TypeReader.{Lower, sizes_in, sizes_at, declr_at, more_declrs, declrs, field, fields, fields_at, param, dots_front, more_params, some_params}
+use Rattle.pungi_parse.specs.TypeReader.{sizes_in, sizes_at, declr_at, more_declrs, declrs, field, fields, fields_at, param, dots_front, more_params, some_params}
 use Rattle.pungi_parse.specs.declared.stop.Stop.{Stop}
 use Rattle.pungi_parse.specs.declared.stop.Stop.TheVariants as stops
 use Rattle.pungi_parse.proofs.ClimbSound.{readers_sound}
 use Rattle.pungi_parse.proofs.Eaten.{eat_some}
 use Rattle.pungi_parse.proofs.ListLoops.{behind, one, ListTo, list_starts, list_begins, list_turns, list_ends, list_fails}
 use Rattle.pungi_parse.proofs.ParamSound.{param_gets}
-use Rattle.pungi_parse.proofs.Shorter.{expr_no_longer, expr_shorter, declr_no_longer, declr_shorter, param_decl_no_longer}
+use Rattle.pungi_parse.proofs.Shorter.{expr_shorter, declr_shorter, param_decl_no_longer}
 use Rattle.pungi_parse.proofs.Tools.{bind_some, on_some_cases, some_same}
 use Rattle.pungi_parse.proofs.TypeComplete.{field_begins}
 use Rattle.pungi_parse.proofs.TypeSound.{declr_gets, field_gets}
 use Rattle.pungi_tree.specs.ExprDepth.{expr_depth, exprs_depth, field_depth, fields_depth, declr_depth, declrs_depth, sizes_depth, param_decl_depth, param_decls_depth}
 use Rattle.pungi_tree.specs.ExprView.{exprs_of, fields_of, declrs_of, sizes_of, param_decls_of}
 use Rattle.pungi_tree.specs.Placed.{Placed}
-use Rattle.pungi_tree.specs.Syntax.{Expr, Exprs, no_exprs, expr_and, Base, tagged_fields, Field, Fields, no_fields, field_and, Declr, Declrs, no_declrs, declr_and, Sizes, no_sizes, open_and, size_and, Params, params, ParamDecl, ParamDecls, no_params, param_and}
+use Rattle.pungi_tree.specs.Syntax.{Expr, Exprs, no_exprs, expr_and, Base, tagged_fields, Field, Fields, no_fields, field_and, Declr, Declrs, no_declrs, declr_and, Sizes, no_sizes, open_and, size_and, Params, ParamDecl, ParamDecls, no_params, param_and}
 
 abbrev pub size_and_more : Option Expr → Sizes → Sizes
 size_and_more None ss = open_and ss

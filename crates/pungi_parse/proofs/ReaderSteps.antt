@@ -2,7 +2,7 @@
 --   expr_none, spec_none, params_none    where nothing may nest, or no node may stand, nothing is read
 --   expr_step, spec_step, params_step    the reader over readers of parts
 --   read_comma, read_assign, read_conditional, read_climb, read_unary    the reader of an expression by its level
-use Rattle.std.proofs.Common.{◌≡◌, ℕ, zero, suc, ◌-◌, ◌<◌, ◌≤◌, List, Some, None, refl, arith}
+use Rattle.std.proofs.Common.{◌≡◌, ℕ, zero, suc, ◌-◌, ◌<◌, ◌≤◌, List, None, refl, arith}
 use Rattle.pungi_base.specs.declared.names.Name.{Name}
 use Rattle.pungi_parse.specs.ExprReader.{unary, climb, conditional_at, assign_at, comma_at, read_at, expr_at as read_expr}
 use Rattle.pungi_parse.specs.Readers.{readers}

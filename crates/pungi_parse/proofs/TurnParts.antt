@@ -1,7 +1,7 @@
 -- The readers by the parts that the program reads by functions of their own.
 --   turn_call, turn_index, turn_member, turn_none, turn_goes    what stands behind a postfix expression, by its first token
 --   function_by_front    a pointer to a function behind `( * word ) (`
-use Rattle.std.proofs.Common.{◌≡◌, ℕ, Bool, true, false, ◌||◌, List, Option, Some, None, is_some, refl, sym, ◌∙◌, ap}
+use Rattle.std.proofs.Common.{◌≡◌, ℕ, Bool, true, false, ◌||◌, List, Option, Some, None, is_some, refl}
 use Rattle.pungi_base.specs.declared.names.Name.{Name}
 use Rattle.pungi_base.specs.declared.pos.Pos.{Pos}
 use Rattle.pungi_base.specs.declared.punct.Punct.{Punct}
@@ -12,7 +12,7 @@ use Rattle.pungi_parse.specs.Reading.{Read, ◌>>=◌, chain, on_some}
 use Rattle.pungi_parse.specs.Turns.{goes_on, member_or_step, function_front}
 use Rattle.pungi_parse.specs.TypeReader.{Lower, plain_word, function_rest}
 use Rattle.pungi_tree.specs.Placed.{Placed}
-use Rattle.pungi_tree.specs.Syntax.{Expr, post, dot, arrow, Declr, declr, function, Params}
+use Rattle.pungi_tree.specs.Syntax.{Expr, post, dot, arrow, Declr, declr, function}
 
 none_some : {A : Type 0} (o : Option A) → is_some o ≡ false → o ≡ None
 none_some None h = refl
