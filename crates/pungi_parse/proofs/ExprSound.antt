@@ -1,6 +1,8 @@
 -- What is read as an expression stands at the front of the tokens: primary, postfix, unary and cast expressions.
 --   .._gets           what the reader of the same name reads
---   Postfixed         a primary or postfix expression was read so far
+--   at_least_same, none_so_tight    no binary operator has a level above 12
+--   NewFront          `PyObject_New (`
+--   loosen            what is read at a level is read at a looser one
 use Rattle.std.proofs.Common.{◌≡◌, ℕ, zero, suc, ◌≤◌, true, inl, inr, List, ◌∷◌, length, Some, None, refl, sym, ◌∙◌, ap, subst, arith}
 use Rattle.pungi_base.specs.declared.key.Key.TheVariants as keys
 use Rattle.pungi_base.specs.declared.names.Name.{Name}

@@ -4,7 +4,7 @@
 --   .._turns          one more turn
 --   .._ends           nothing goes on with the expression
 --   .._deep           something goes on with it, but nothing deeper may be read
---   .._fails          the right side, or the rest of the turn, is not read
+--   .._fails, .._first_fails    the right side, or the rest of the turn, is not read, or what comes before the loop
 use Rattle.std.proofs.Common.{◌≡◌, ℕ, zero, suc, ◌+◌, ◌<◌, ◌≤◌, max, List, Some, None, refl, ◌∙◌, arith}
 use Rattle.pungi_base.specs.declared.names.Name.{Name}
 use Rattle.pungi_base.specs.declared.pos.Pos.{Pos}

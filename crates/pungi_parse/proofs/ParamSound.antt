@@ -1,5 +1,7 @@
 -- What is read as parameters stands at the front of the tokens.
---   .._gets           what the reader of the same name reads
+--   .._gets, .._get   what the reader of the same name reads
+--   is_named          a word of a number is that word
+--   UnusedFront       `Py_UNUSED (`
 use Rattle.std.proofs.Common.{◌≡◌, ℕ, zero, suc, Bool, true, false, ◌&&◌, inl, inr, List, ◌∷◌, length, Option, Some, None, refl, ◌∙◌, ap, subst, arith}
 use Rattle.std.specs.Prelude.{◌==◌}
 use Rattle.pungi_base.specs.declared.names.Name.{Name}

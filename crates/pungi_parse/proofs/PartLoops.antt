@@ -2,7 +2,7 @@
 --   ArgsTo, DeclrsTo, FieldsTo, SizesTo, ParamsTo    the loop has come behind these parts, whose depth is `deep`
 --   .._begin, .._start    behind the first part, before any
 --   .._turn           one more part
---   .._end            no more part follows
+--   .._end, args_open, params_dots    no more part follows
 --   .._fail, .._first_fail    no part is read where there has to be one
 use Rattle.std.proofs.Common.{◌≡◌, ℕ, suc, ◌<◌, ◌≤◌, max, inl, inr, List, [], ◌∷◌, ◌++◌, length, Option, Some, None, refl, ◌∙◌, ap, subst, arith}
 use Rattle.pungi_base.specs.declared.key.Key.{Key}

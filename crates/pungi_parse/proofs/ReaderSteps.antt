@@ -1,5 +1,5 @@
 -- The readers over each other, one step down.
---   expr_none, spec_none, params_none    where nothing may nest, or no node may stand, nothing is read
+--   expr_none, expr_no_depth, spec_none, params_none    where nothing may nest, or no node may stand, nothing is read
 --   expr_step, spec_step, params_step    the reader over readers of parts
 --   read_comma, read_assign, read_conditional, read_climb, read_unary    the reader of an expression by its level
 use Rattle.std.proofs.Common.{◌≡◌, ℕ, zero, suc, ◌-◌, ◌<◌, ◌≤◌, List, None, refl, arith}

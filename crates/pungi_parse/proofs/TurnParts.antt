@@ -1,7 +1,7 @@
 -- The readers by the parts that the program reads by functions of their own.
 --   turn_call, turn_index, turn_member, turn_none, turn_goes    what stands behind a postfix expression, by its first token
 --   function_by_front    a pointer to a function behind `( * word ) (`
-use Rattle.std.proofs.Common.{◌≡◌, ℕ, Bool, true, false, ◌||◌, List, Option, Some, None, is_some, refl}
+use Rattle.std.proofs.Common.{◌≡◌, ℕ, true, false, ◌||◌, List, Option, Some, None, is_some, refl}
 use Rattle.pungi_base.specs.declared.names.Name.{Name}
 use Rattle.pungi_base.specs.declared.pos.Pos.{Pos}
 use Rattle.pungi_base.specs.declared.punct.Punct.{Punct}
@@ -11,17 +11,13 @@ use Rattle.pungi_parse.specs.ExprReader.{index_at, call_at, postfix_turn}
 use Rattle.pungi_parse.specs.Reading.{Read, ◌>>=◌, chain, on_some}
 use Rattle.pungi_parse.specs.Turns.{goes_on, member_or_step, function_front}
 use Rattle.pungi_parse.specs.TypeReader.{Lower, plain_word, function_rest}
+use Rattle.pungi_parse.proofs.Tools.{or_false}
 use Rattle.pungi_tree.specs.Placed.{Placed}
 use Rattle.pungi_tree.specs.Syntax.{Expr, post, dot, arrow, Declr, declr, function}
 
 none_some : {A : Type 0} (o : Option A) → is_some o ≡ false → o ≡ None
 none_some None h = refl
 none_some (Some x) h = absurd (cc)
-
-or_false : (a b : Bool) → (a || b) ≡ false → (a ≡ false) × (b ≡ false)
-or_false false false h = (refl, refl)
-or_false false true h = absurd (cc)
-or_false true b h = absurd (cc)
 
 module _ (types : List Name) (low : Lower) (p : Pos) (a : Expr) (ts : List Placed) where
   pub turn_call : (o : Pos × List Placed) → eat puncts.LeftParen ts ≡ Some o → postfix_turn types low p a ts ≡ Some (call_at types low p a o.1)

@@ -1,5 +1,7 @@
 -- A type or a declarator that stands at the front of the tokens is read, by what is known of its parts.
---   .._reads, .._read    the reader of the same name reads it
+--   type_name_.., sizes_.., tail_.., declr_.., declrs_.., field_.., fields_.., base_.., spec_..    the reader of the same name reads it
+--   tail_begins, stars_begin, declr_begins    what a declarator begins with stops a type
+--   field_begins      a line of a struct begins with no brace, and takes a token
 use Rattle.std.proofs.Common.{◌≡◌, ℕ, zero, suc, ◌<◌, ◌≤◌, Bool, true, false, ◌&&◌, List, [], ◌∷◌, length, Option, Some, None, refl, sym, ap, subst, arith}
 use Rattle.pungi_base.specs.declared.key.Key.{Key}
 use Rattle.pungi_base.specs.declared.key.Key.TheVariants as keys

@@ -1,4 +1,4 @@
--- What is read as a type, a declarator or parameters stands at the front of the tokens.
+-- What is read as a type or a declarator stands at the front of the tokens.
 --   .._gets           what the reader of the same name reads
 use Rattle.std.proofs.Common.{◌≡◌, ℕ, zero, suc, Bool, true, false, inl, inr, List, ◌∷◌, length, Option, Some, None, refl, ◌∙◌, ap, subst, arith}
 use Rattle.pungi_base.specs.declared.key.Key.{Key}
