@@ -30,6 +30,11 @@ unfolding type_word chain
 other_word types ts w h e =
     not_false _ (none_when (is_type types w.0) w (subst (λ (o : Option (Name × Pos × List Placed)). (o >>= λ (v : Name × Pos × List Placed). when (is_type types v.0) (Some v)) ≡ None) e h))
 
+-- `( * word ) (`, token by token
+function_tokens : (o s c i : Pos × List Placed) (w : Name × Pos × List Placed) (ts : List Placed) → ts ≡ mark_at puncts.LeftParen o.0 ∷ o.1 → o.1 ≡ mark_at puncts.Star s.0 ∷ s.1 → s.1 ≡ word_at w.0 w.1 ∷ w.2 → w.2 ≡ mark_at puncts.RightParen c.0 ∷ c.1 → c.1 ≡ mark_at puncts.LeftParen i.0 ∷ i.1 → ts ≡ mark_at puncts.LeftParen o.0 ∷ mark_at puncts.Star s.0 ∷ word_at w.0 w.1 ∷ mark_at puncts.RightParen c.0 ∷ mark_at puncts.LeftParen i.0 ∷ i.1
+function_tokens o s c i w ts p q r u v =
+    p ∙ ap (λ z. mark_at puncts.LeftParen o.0 ∷ z) (q ∙ ap (λ z. mark_at puncts.Star s.0 ∷ z) (r ∙ ap (λ z. word_at w.0 w.1 ∷ z) (u ∙ ap (λ z. mark_at puncts.RightParen c.0 ∷ z) v)))
+
 module _ (types : List Name) (d : ℕ) (low : Lower) (sound : LowSound types d low) where
   pub type_name_gets : (ts : List Placed) (x : TypeName × List Placed) → type_name_at low ts ≡ Some x → GetsTypeName types d ts x
   unfolding type_name_at
@@ -71,8 +76,7 @@ module _ (types : List Name) (d : ℕ) (low : Lower) (sound : LowSound types d l
       let ps = bind_some _ _ _ i.2 in
       let v = plain_word_sound types s.0.1 w.0 w.1 in
       let g = sound.params i.0.1 ps.0 ps.1 in
-      let e : ts ≡ mark_at puncts.LeftParen o.0.0 ∷ mark_at puncts.Star s.0.0 ∷ word_at w.0.0 w.0.1 ∷ mark_at puncts.RightParen c.0.0 ∷ mark_at puncts.LeftParen i.0.0 ∷ i.0.1
-      = eat_some _ ts o.0 o.1 ∙ ap (λ z. mark_at puncts.LeftParen o.0.0 ∷ z) (eat_some _ o.0.1 s.0 s.1 ∙ ap (λ z. mark_at puncts.Star s.0.0 ∷ z) (v.0 ∙ ap (λ z. word_at w.0.0 w.0.1 ∷ z) (eat_some _ w.0.2 c.0 c.1 ∙ ap (λ z. mark_at puncts.RightParen c.0.0 ∷ z) (eat_some _ c.0.1 i.0 i.1)))) in
+      let e = function_tokens o.0 s.0 c.0 i.0 w.0 ts (eat_some _ ts o.0 o.1) (eat_some _ o.0.1 s.0 s.1) v.0 (eat_some _ w.0.2 c.0 c.1) (eat_some _ c.0.1 i.0 i.1) in
       subst (GetsDeclr types d start) (some_same _ _ ps.2) (record {
         spells = (ts, before, (i.0.1, o.0.0, s.0.0, c.0.0, i.0.0, g.spells.0, e, g.spells.1));
         allowed = and_join _ _ v.1 g.allowed;
