@@ -1,8 +1,3 @@
-pub mod ReaderSteps
-pub mod TurnParts
-pub mod ListLoops
-pub mod PartLoops
-pub mod LeftLoops
 pub mod AllRead
 pub mod TypeExprTheorems
 pub mod TightComplete
