@@ -1,0 +1,9 @@
+pub mod Eat
+pub mod ExprReader
+pub mod Gives
+pub mod Readers
+pub mod Reading
+pub mod StmtReader
+pub mod TypeReader
+pub mod UnitReader
+pub mod Units

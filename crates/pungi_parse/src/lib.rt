@@ -1,0 +1,4 @@
+//! From the tokens of a file to its syntax tree.
+#![tactic(auto)]
+
+mod stop;
