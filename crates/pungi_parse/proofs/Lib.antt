@@ -1,0 +1,2 @@
+mod ExprKinds
+mod StmtKinds
