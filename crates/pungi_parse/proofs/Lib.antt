@@ -1,2 +1,9 @@
-mod ExprKinds
-mod StmtKinds
+pub mod Begins
+pub mod Eaten
+pub mod Ends
+pub mod ExprKinds
+pub mod Readings
+pub mod StmtKinds
+pub mod Tables
+pub mod Tools
+pub mod Words
