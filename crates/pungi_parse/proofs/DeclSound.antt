@@ -9,7 +9,7 @@ use Rattle.pungi_base.specs.declared.punct.Punct.TheVariants as puncts
 use Rattle.pungi_parse.specs.Readers.{readers}
 use Rattle.pungi_parse.specs.StmtReader.{first_value, init_at, var_at, more_vars, vars_at, decl_at, optional, condition, start_at}
 use Rattle.pungi_parse.specs.TypeReader.{keywords}
-use Rattle.pungi_parse.proofs.Tables.{table_sound}
+use Rattle.pungi_parse.proofs.TableTheorems.{table_sound}
 use Rattle.pungi_parse.proofs.Eaten.{eat_some}
 use Rattle.pungi_parse.proofs.Tools.{bind_some, on_some_cases, some_same, when_some, and_join}
 use Rattle.pungi_parse.proofs.ClimbSound.{expr_sound, spec_sound, declr_sound}

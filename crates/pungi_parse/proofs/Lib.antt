@@ -23,7 +23,7 @@ pub mod StmtBegins
 pub mod StmtKinds
 pub mod StmtSound
 pub mod StmtTwins
-pub mod Tables
+pub mod TableTheorems
 pub mod Tools
 pub mod Twins
 pub mod TypeComplete
