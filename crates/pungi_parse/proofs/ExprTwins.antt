@@ -12,7 +12,7 @@ use Rattle.pungi_base.specs.declared.words.TheConstants.{PY_OBJECT_NEW, PY_UNUSE
 use Rattle.pungi_parse.proofs.ExprLikes.{LikeExpr, LikeArgs, LikeTypeName, LikeSpec, LikeBase, LikeField, LikeFields, LikeDeclr, LikeSomeDeclrs, LikeDeclrs, LikeTail, LikeSizes, LikeParams, LikeParamDecl, LikeParamDecls, LikeParamDeclr, void_like}
 use Rattle.pungi_parse.proofs.Tools.{and_true, and_join}
 use Rattle.pungi_parse.proofs.Twins.{Twin, deeper, wider, deeper_two, first_of, two_of, again, ends_with, ends_with_two, same_void, some_place, twin_texts, twin_keys, twin_consts, twin_stars, twin_tag, twin_void, twin_dots}
-use Rattle.pungi_parse.proofs.Shorter.{expr_shorter}
+use Rattle.pungi_parse.proofs.TypeExprTheorems.{expr_shorter}
 use Rattle.pungi_tree.specs.ExprDepth.{expr_depth}
 use Rattle.pungi_tree.specs.ExprFlat.{expr_flat, args_flat, more_args_flat, type_name_flat, spec_flat, base_flat, field_flat, fields_flat, declr_flat, declrs_flat, more_declrs_flat, tail_flat, sizes_flat, params_flat, param_decl_flat, param_decls_flat, more_param_decls_flat, param_declr_flat}
 use Rattle.pungi_tree.specs.ExprLevels.{is_empty, tag_ok, void_ok, expr_at, args_ok, type_name_ok, spec_ok, base_ok, field_ok, fields_ok, declr_ok, some_declrs_ok, declrs_ok, tail_ok, sizes_ok, params_ok, param_decl_ok, param_decls_ok, param_declr_ok}

@@ -15,8 +15,7 @@ use Rattle.pungi_parse.specs.TypeReader.{type_word, begins_type, begins_decl}
 use Rattle.pungi_parse.proofs.DeclFronts.{decl_shorter, optional_no_longer, condition_shorter, start_shorter}
 use Rattle.pungi_parse.proofs.Eaten.{eat_key_some}
 use Rattle.pungi_parse.proofs.Tools.{and_true}
-use Rattle.pungi_parse.proofs.Fronts.{expr_begins, decl_begins}
-use Rattle.pungi_parse.proofs.Shorter.{expr_shorter}
+use Rattle.pungi_parse.proofs.TypeExprTheorems.{expr_begins, decl_begins, expr_shorter}
 use Rattle.pungi_parse.proofs.Words.{no_type_word}
 use Rattle.pungi_tree.specs.ExprLevels.{expr_at, spec_ok}
 use Rattle.pungi_tree.specs.Operators.{is_qualifier, all_keys}

@@ -1,14 +1,14 @@
 -- The tokens of a table are read up to the brace that closes it: a brace that nothing in the table opened.
-use Rattle.std.proofs.Common.{◌≡◌, ◌≤◌, Bool, true, false, ◌⊎◌, inl, inr, List, [], ◌∷◌, ◌++◌, Option, Some, None, refl, sym, ◌∙◌, ap, subst}
+use Rattle.std.proofs.Common.{◌≡◌, Bool, true, inl, inr, List, [], ◌∷◌, ◌++◌, Option, Some, None, refl, ◌∙◌, ap, subst}
 use Rattle.pungi_base.specs.declared.pos.Pos.{Pos}
 use Rattle.pungi_base.specs.declared.punct.Punct.{Punct}
 use Rattle.pungi_base.specs.declared.punct.Punct.TheVariants as puncts
 use Rattle.pungi_parse.specs.Eat.{eat}
-use Rattle.pungi_parse.specs.Reading.{◌>>=◌, chain, on_some}
+use Rattle.pungi_parse.specs.Reading.{chain, on_some}
 use Rattle.pungi_parse.specs.StmtReader.{table_in}
 use Rattle.pungi_parse.proofs.Eaten.{eat_some}
 use Rattle.pungi_parse.proofs.Tools.{bind_some, on_some_cases, some_same}
-use Rattle.pungi_tree.specs.Balanced.{awaited_after, none_awaited, holds_of, closes, is_balanced}
+use Rattle.pungi_tree.specs.Balanced.{awaited_after, holds_of, closes}
 use Rattle.pungi_tree.specs.Placed.{Placed, mark_at}
 
 -- the tokens of a table close the brackets that are awaited, and then comes the brace
