@@ -27,7 +27,7 @@ use Rattle.pungi_tree.specs.StmtLevels.{optional_ok, init_ok, var_ok, vars_ok, s
 use Rattle.pungi_tree.specs.StmtSpells.{SpellsInit, SpellsVar, SpellsMoreVars, SpellsVars, SpellsDecl, SpellsOptional, SpellsCondition, SpellsStart}
 use Rattle.pungi_tree.specs.Syntax.{Expr, Init, value, table, VarDecl, var_decl, Decl, decl, ForStart, start_decl, start_expr}
 
-not_both : false ≡ true → ⊥
+pub not_both : false ≡ true → ⊥
 not_both h = cc
 
 module _ (types : List Name) (n d : ℕ) where
@@ -78,8 +78,8 @@ module _ (types : List Name) (n d : ℕ) where
       let p = and_true _ _ o.1 in
       let q = keywords_complete is_qualifier qs ts s.0 s.3 o.0 (spec_begins types b _ _ s.4 p.0).no_qualifier in
       let r = spec_complete types n d b s.0 s.1 s.4 p.0 (omega arith) (omega (arith, keys_no_longer qs _ _ s.3)) (var_begins v s.1 _ s.5.1) in
-      let vs_ = vars_complete (v ∷ vs) s.2 s.1 rest s.5 p.1 (omega arith) (omega (arith, keys_no_longer qs _ _ s.3, spec_shorter types b _ _ s.4 p.0)) in
-      rw (q, r, vs_) refl
+      let names = vars_complete (v ∷ vs) s.2 s.1 rest s.5 p.1 (omega arith) (omega (arith, keys_no_longer qs _ _ s.3, spec_shorter types b _ _ s.4 p.0)) in
+      rw (q, r, names) refl
 
   pub optional_complete : (m : Punct) (e : Option Expr) (q : Pos) (ts rest : List Placed) → SpellsOptional e ts (mark_at m q ∷ rest) → optional_ok types e ≡ true → optional_depth e ≤ d → length ts ≤ n → ExprEnds 0 (mark_at m q ∷ rest) → is_expr_mark m ≡ false → eat m (mark_at m q ∷ rest) ≡ Some (q, rest) → optional types (readers types n d) m ts ≡ Some (e, rest)
   unfolding optional chain on_some

@@ -13,7 +13,7 @@ use Rattle.pungi_parse.specs.Eat.{eat}
 use Rattle.pungi_parse.specs.Reading.{chain, on_some, when, unless}
 use Rattle.pungi_parse.specs.TypeReader.{plain_word}
 use Rattle.pungi_parse.specs.UnitReader.{deepest, doc_front, doc_at, typedef_at, head_front, function_rest, declared_at, declaration_at, item_at}
-use Rattle.pungi_parse.proofs.DeclComplete.{vars_complete}
+use Rattle.pungi_parse.proofs.DeclComplete.{not_both, vars_complete}
 use Rattle.pungi_parse.proofs.DeclFronts.{VarEnds, decl_shorter, var_begins, more_vars_end}
 use Rattle.pungi_parse.proofs.Ends.{SpecEnds, StarsEnd}
 use Rattle.pungi_parse.proofs.StmtBegins.{stmt_shorter}
@@ -65,9 +65,6 @@ sizes_no_call : (ss : Sizes) (ts rest : List Placed) → SpellsSizes ss ts rest 
 sizes_no_call no_sizes ts rest s e = rw s e
 sizes_no_call (open_and ss) ts rest s e = rw s.3 refl
 sizes_no_call (size_and x ss) ts rest s e = rw s.4 refl
-
-not_both : false ≡ true → ⊥
-not_both h = cc
 
 -- a block begins with its brace
 record BlockBegins (s : Stmt) (ts : List Placed) : Type 0 where

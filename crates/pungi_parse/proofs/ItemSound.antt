@@ -58,14 +58,14 @@ module _ (types : List Name) where
       let c = bind_some _ _ _ w.2 in
       let u = unless_some _ _ _ c.2 in
       let r = bind_some _ _ _ u.1 in
-      let rw_ = plain_word_sound types o.1 w.0 w.1 in
+      let named = plain_word_sound types o.1 w.0 w.1 in
       let ns = texts c.0.1 in
       let at : ts ≡ word_at (named_word PY_DOC_STRVAR) f.0 ∷ mark_at puncts.LeftParen o.0 ∷ word_at w.0.0 w.0.1 ∷ mark_at puncts.Comma c.0.0 ∷ c.0.1
-      = f.1 ∙ ap (λ z. word_at (named_word PY_DOC_STRVAR) f.0 ∷ mark_at puncts.LeftParen o.0 ∷ z) (rw_.0 ∙ ap (λ z. word_at w.0.0 w.0.1 ∷ z) (eat_some puncts.Comma w.0.2 c.0 c.1)) in
+      = f.1 ∙ ap (λ z. word_at (named_word PY_DOC_STRVAR) f.0 ∷ mark_at puncts.LeftParen o.0 ∷ z) (named.0 ∙ ap (λ z. word_at w.0.0 w.0.1 ∷ z) (eat_some puncts.Comma w.0.2 c.0 c.1)) in
       let s : SpellsItem (doc w.0.1 w.0.0 ns.0) ts r.0.1
       = (c.0.1, f.0, o.0, c.0.0, r.0.0, at, subst (λ z. SpellsTexts ns.0 c.0.1 z) (eat_some puncts.RightParen ns.1 r.0 r.1) (texts_sound c.0.1)) in
       subst (ReadsItem types ts) (some_same (doc w.0.1 w.0.0 ns.0, r.0.1) x r.2)
-      (record { spells = s; ok = and_join _ _ f.2 (and_join _ _ rw_.1 (not_false _ u.0)); shallow = omega arith })
+      (record { spells = s; ok = and_join _ _ f.2 (and_join _ _ named.1 (not_false _ u.0)); shallow = omega arith })
 
   -- the stars, the name and the parenthesis of a function
   abbrev Headed : List Placed → List ℕ × Name × Pos × List Placed → Type 0

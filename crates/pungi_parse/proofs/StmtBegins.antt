@@ -1,5 +1,6 @@
 -- How statements begin, and that fewer tokens are left than there were.
 --   StmtBegins ts    tokens with which a statement or a declaration begins: no `else` and no closing brace
+--   under            a statement under another one is allowed, and no declaration
 --   .._begins        how the tokens of a statement begin
 --   no_decl          a statement begins as no declaration does
 --   stmt_shorter, stmts_no_longer    fewer tokens, or no more, are left than there were
@@ -52,6 +53,13 @@ module _ (types : List Name) where
       let o = and_true (all_keys is_qualifier qs) (spec_ok types b && some_vars_ok types vs) ok in
       let r = decl_begins types qs b ts s.0 s.1 s.3 o.0 s.4 (and_true (spec_ok types b) (some_vars_ok types vs) o.1).0 in
       record { no_else = decl_no_else ts r.begins; no_close = r.no_mark puncts.RightBrace }
+
+  -- a statement under a test
+  pub under : (a : Bool) (s : Stmt) → (a && (is_statement s && stmt_ok types s)) ≡ true → (a ≡ true) × (is_statement s ≡ true) × (stmt_ok types s ≡ true)
+  under a s h =
+      let x = and_true a (is_statement s && stmt_ok types s) h in
+      let y = and_true (is_statement s) (stmt_ok types s) x.1 in
+      (x.0, y.0, y.1)
 
   pub stmt_begins : (s : Stmt) (ts rest : List Placed) → SpellsStmt s ts rest → stmt_ok types s ≡ true → StmtBegins ts
   stmt_begins (block p ss q) ts rest s ok = rw s.1 (record { no_else = refl; no_close = refl })

@@ -16,7 +16,7 @@ use Rattle.pungi_parse.specs.TypeReader.{plain_word}
 use Rattle.pungi_parse.proofs.DeclComplete.{decl_complete, optional_complete, condition_complete, start_complete, decl_front}
 use Rattle.pungi_parse.proofs.DeclFronts.{condition_shorter, start_shorter, optional_no_longer}
 use Rattle.pungi_parse.proofs.Ends.{ends_at_paren, ends_at_semicolon, ends_at_colon, ends_at_conditional}
-use Rattle.pungi_parse.proofs.StmtBegins.{stmt_begins, no_decl, stmt_shorter}
+use Rattle.pungi_parse.proofs.StmtBegins.{under, stmt_begins, no_decl, stmt_shorter}
 use Rattle.pungi_parse.proofs.Tools.{some_same, and_true, not_true}
 use Rattle.pungi_parse.proofs.TypeExprTheorems.{expr_no_label, expr_begins, expr_shorter, expr_complete}
 use Rattle.pungi_parse.proofs.Words.{plain_word_complete}
@@ -37,13 +37,6 @@ module _ (types : List Name) (n : ℕ) where
 
   unfoldable pub StmtsFact : Stmts → Type 0
   StmtsFact ss = (d k : ℕ) (q : Pos) (ts rest : List Placed) → stmts_ok types ss ≡ true → stmts_depth ss ≤ d → SpellsStmts ss ts (mark_at puncts.RightBrace q ∷ rest) → length ts ≤ n → length ts < k → stmts_in types (readers types n d) (read_stmt types n d) (element_at types n (read_stmt types n d) d) k ts ≡ Some (ss, mark_at puncts.RightBrace q ∷ rest)
-
-  -- a statement under a test
-  under : (a : Bool) (s : Stmt) → (a && (is_statement s && stmt_ok types s)) ≡ true → (a ≡ true) × (is_statement s ≡ true) × (stmt_ok types s ≡ true)
-  under a s h =
-      let x = and_true a (is_statement s && stmt_ok types s) h in
-      let y = and_true (is_statement s) (stmt_ok types s) x.1 in
-      (x.0, y.0, y.1)
 
   block_read : (p q : Pos) (ss : Stmts) → StmtsFact ss → StmtFact (block p ss q)
   unfolding StmtFact StmtsFact read_stmt stmt_at block_at chain on_some
@@ -80,7 +73,7 @@ module _ (types : List Name) (n : ℕ) where
   unfolding StmtFact read_stmt stmt_at if_at chain on_some
   if_read p e t f zero ts rest ok st deep s h no_else = absurd (omega arith)
   if_read p e t f (suc d) ts rest ok st deep s h no_else =
-      let u = under (expr_at types 0 e) t ok in
+      let u = under types (expr_at types 0 e) t ok in
       let l : length s.0 < n = omega (arith, ap length s.2, h) in
       let c = condition_complete types n d e s.0 s.1 s.3 u.0 (omega arith) (omega arith) in
       let r = f d s.1 rest u.2 u.1 (omega arith) s.4 (omega (arith, condition_shorter types e _ _ s.3 u.0)) (λ _. no_else refl) in
@@ -93,7 +86,7 @@ module _ (types : List Name) (n : ℕ) where
       let a = and_true (expr_at types 0 e) (is_statement t && (stmt_ok types t && (not (open_if t) && (is_statement v && stmt_ok types v)))) ok in
       let b = and_true (is_statement t) (stmt_ok types t && (not (open_if t) && (is_statement v && stmt_ok types v))) a.1 in
       let u = and_true (stmt_ok types t) (not (open_if t) && (is_statement v && stmt_ok types v)) b.1 in
-      let w = under (not (open_if t)) v u.1 in
+      let w = under types (not (open_if t)) v u.1 in
       let l : length s.0 < n = omega (arith, ap length s.4, h) in
       let i = condition_shorter types e _ _ s.5 a.0 in
       let j = stmt_shorter types t _ _ s.6 u.0 in
@@ -109,7 +102,7 @@ module _ (types : List Name) (n : ℕ) where
   unfolding StmtFact read_stmt stmt_at while_at chain on_some
   while_read p e t f zero ts rest ok st deep s h no_else = absurd (omega arith)
   while_read p e t f (suc d) ts rest ok st deep s h no_else =
-      let u = under (expr_at types 0 e) t ok in
+      let u = under types (expr_at types 0 e) t ok in
       let l : length s.0 < n = omega (arith, ap length s.2, h) in
       let c = condition_complete types n d e s.0 s.1 s.3 u.0 (omega arith) (omega arith) in
       let r = f d s.1 rest u.2 u.1 (omega arith) s.4 (omega (arith, condition_shorter types e _ _ s.3 u.0)) no_else in
@@ -132,7 +125,7 @@ module _ (types : List Name) (n : ℕ) where
   for_read p a b c t f (suc d) ts rest ok st deep s h no_else =
       let u = and_true (start_ok types a) (optional_ok types b && (optional_ok types c && (is_statement t && stmt_ok types t))) ok in
       let v = and_true (optional_ok types b) (optional_ok types c && (is_statement t && stmt_ok types t)) u.1 in
-      let w = under (optional_ok types c) t v.1 in
+      let w = under types (optional_ok types c) t v.1 in
       let l : length s.0 < n = omega (arith, ap length s.7, h) in
       let i = start_shorter types a _ _ s.8 u.0 in
       let j = optional_no_longer types b _ _ s.9 v.0 in
@@ -147,7 +140,7 @@ module _ (types : List Name) (n : ℕ) where
   unfolding StmtFact read_stmt stmt_at switch_at chain on_some
   switch_read p e t f zero ts rest ok st deep s h no_else = absurd (omega arith)
   switch_read p e t f (suc d) ts rest ok st deep s h no_else =
-      let u = under (expr_at types 0 e) t ok in
+      let u = under types (expr_at types 0 e) t ok in
       let l : length s.0 < n = omega (arith, ap length s.2, h) in
       let c = condition_complete types n d e s.0 s.1 s.3 u.0 (omega arith) (omega arith) in
       let r = f d s.1 rest u.2 u.1 (omega arith) s.4 (omega (arith, condition_shorter types e _ _ s.3 u.0)) no_else in
@@ -157,7 +150,7 @@ module _ (types : List Name) (n : ℕ) where
   unfolding StmtFact read_stmt stmt_at label_or_jump case_at chain on_some
   case_read p e t f zero ts rest ok st deep s h no_else = absurd (omega arith)
   case_read p e t f (suc d) ts rest ok st deep s h no_else =
-      let u = under (expr_at types 2 e) t ok in
+      let u = under types (expr_at types 2 e) t ok in
       let l : length s.0 < n = omega (arith, ap length s.3, h) in
       let x = expr_complete types n d 2 e s.0 _ s.4 u.0 (omega arith) (omega arith) (ends_at_conditional _ (ends_at_colon s.2 s.1)) (omega arith) in
       let r = f d s.1 rest u.2 u.1 (omega arith) s.5 (omega (arith, expr_shorter types 2 e _ _ s.4 u.0)) no_else in
@@ -175,7 +168,7 @@ module _ (types : List Name) (n : ℕ) where
   unfolding StmtFact read_stmt stmt_at label_or_jump label_front label_at chain on_some
   label_read p w t f zero ts rest ok st deep s h no_else = absurd (omega arith)
   label_read p w t f (suc d) ts rest ok st deep s h no_else =
-      let u = under (is_word types w) t ok in
+      let u = under types (is_word types w) t ok in
       let r = f d s.0 rest u.2 u.1 (omega arith) s.3 (omega (arith, ap length s.2, h)) no_else in
       rw (s.2, plain_word_complete types w p (mark_at puncts.Colon s.1 ∷ s.0) u.0, r) refl
 

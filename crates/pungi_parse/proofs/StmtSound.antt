@@ -61,11 +61,11 @@ module _ (types : List Name) (n d : ℕ) where
   goto_sound p ts inner x front h =
       let w = bind_some _ _ _ h in
       let c = bind_some _ _ _ w.2 in
-      let rw_ = plain_word_sound types inner w.0 w.1 in
+      let named = plain_word_sound types inner w.0 w.1 in
       let s : SpellsStmt (goto p w.0.0 w.0.1) ts c.0.1
-      = (c.0.0, front ∙ ap (λ z. key_at keys.Goto p ∷ z) (rw_.0 ∙ ap (λ z. word_at w.0.0 w.0.1 ∷ z) (eat_some puncts.Semicolon w.0.2 c.0 c.1))) in
+      = (c.0.0, front ∙ ap (λ z. key_at keys.Goto p ∷ z) (named.0 ∙ ap (λ z. word_at w.0.0 w.0.1 ∷ z) (eat_some puncts.Semicolon w.0.2 c.0 c.1))) in
       subst (ReadsStmt types (suc d) ts) (some_same (goto p w.0.0 w.0.1, c.0.1) x c.2)
-      (record { spells = s; ok = rw_.1; statement = refl; shallow = omega arith; no_else = no_if _ })
+      (record { spells = s; ok = named.1; statement = refl; shallow = omega arith; no_else = no_if _ })
 
   return_sound : (p : Pos) (ts inner : List Placed) (x : Stmt × List Placed) → ts ≡ key_at keys.Return p ∷ inner → return_at types (readers types n d) p inner ≡ Some x → ReadsStmt types (suc d) ts x
   unfolding return_at

@@ -2,7 +2,7 @@
 -- there.
 --   LikeDecl, LikeStmt    an allowed tree, as deep as the other, and of the same kind where that counts
 --   twin_decl, twin_stmt  the twin
-use Rattle.std.proofs.Common.{◌≡◌, Bool, true, List, [], ◌∷◌, ◌++◌, Option, Some, None, refl, ◌∙◌, ap}
+use Rattle.std.proofs.Common.{◌≡◌, true, List, [], ◌∷◌, ◌++◌, Option, Some, None, refl, ◌∙◌, ap}
 use Rattle.std.specs.Prelude.{◌&&◌, not}
 use Rattle.pungi_base.specs.declared.key.Key.TheVariants as keys
 use Rattle.pungi_base.specs.declared.kind.Kind.{Kind}
@@ -13,8 +13,9 @@ use Rattle.pungi_base.specs.declared.punct.Punct.TheVariants as puncts
 use Rattle.pungi_parse.proofs.DeclFronts.{decl_shorter, optional_no_longer}
 use Rattle.pungi_parse.proofs.ExprLikes.{LikeExpr}
 use Rattle.pungi_parse.proofs.ExprTwins.{twin_expr, twin_spec, twin_declr}
+use Rattle.pungi_parse.proofs.StmtBegins.{under}
 use Rattle.pungi_parse.proofs.Tools.{and_true, and_join}
-use Rattle.pungi_parse.proofs.Twins.{Twin, Alike, deeper, wider, deeper_two, first_of, two_of, again, ends_with, some_place, twin_keys}
+use Rattle.pungi_parse.proofs.Twins.{same_head, same_tail, Twin, Alike, deeper, wider, deeper_two, first_of, two_of, again, ends_with, some_place, twin_keys}
 use Rattle.pungi_tree.specs.Balanced.{awaited_after, holds_of, closes}
 use Rattle.pungi_tree.specs.ExprFlat.{expr_flat, spec_flat, declr_flat}
 use Rattle.pungi_tree.specs.ExprLevels.{expr_at, spec_ok, declr_ok}
@@ -35,14 +36,8 @@ closes_kinds [] [] awaited h = refl
 closes_kinds [] (j ∷ js) awaited h = absurd (cc)
 closes_kinds (k ∷ ks) [] awaited h = absurd (cc)
 closes_kinds (k ∷ ks) (j ∷ js) awaited h =
-    ap (λ z. holds_of (awaited_after z awaited) (closes ks)) (heads k.0 j.0 (kinds ks) (kinds js) h) ∙ by_what (awaited_after j.0 awaited) (λ after. closes_kinds ks js after (tails k.0 j.0 (kinds ks) (kinds js) h))
+    ap (λ z. holds_of (awaited_after z awaited) (closes ks)) (same_head k.0 j.0 (kinds ks) (kinds js) h) ∙ by_what (awaited_after j.0 awaited) (λ after. closes_kinds ks js after (same_tail k.0 j.0 (kinds ks) (kinds js) h))
   where
-    heads : (a b : Kind) (xs ys : List Kind) → a ∷ xs ≡ b ∷ ys → a ≡ b
-    heads a b xs ys h = cc
-
-    tails : (a b : Kind) (xs ys : List Kind) → a ∷ xs ≡ b ∷ ys → xs ≡ ys
-    tails a b xs ys h = cc
-
     by_what : (o : Option (List Punct)) → ((after : List Punct) → closes ks after ≡ closes js after) → holds_of o (closes ks) ≡ holds_of o (closes js)
     by_what None f = refl
     by_what (Some after) f = f after
@@ -160,12 +155,6 @@ module _ (types : List Name) where
   sub_ok : (s x : Stmt) → is_statement s ≡ true → LikeStmt s x → (is_statement x && stmt_ok types x) ≡ true
   sub_ok s x st l = and_join _ _ (l.statement ∙ st) l.ok
 
-  under : (a : Bool) (s : Stmt) → (a && (is_statement s && stmt_ok types s)) ≡ true → (a ≡ true) × (is_statement s ≡ true) × (stmt_ok types s ≡ true)
-  under a s h =
-      let x = and_true a (is_statement s && stmt_ok types s) h in
-      let y = and_true (is_statement s) (stmt_ok types s) x.1 in
-      (x.0, y.0, y.1)
-
   abbrev TwinStmt : Stmt → List Placed → List Kind → Type 0
   TwinStmt s ts more = Twin Stmt SpellsStmt (LikeStmt s) ts more
 
@@ -186,7 +175,7 @@ module _ (types : List Name) where
         let place = some_place ts c.0 (optional_no_longer types i.twin ts (mark_at puncts.Semicolon c.1 ∷ c.0) c.2 i.alike.ok) in
         record { twin = do_expr place.0 i.twin; rest = c.0; spells = (c.1, place.1, c.2); behind = c.3; alike = record { ok = i.alike.ok; deep = deeper _ _ i.alike.deep; statement = refl; no_if = refl; block = refl } }
     twin_stmt (if_only p e s) ts more h ok =
-        let u = under (expr_at types 0 e) s ok in
+        let u = under types (expr_at types 0 e) s ok in
         let f = first_of ts (key keys.If) (mark puncts.LeftParen ∷ ((expr_flat e ++ (mark puncts.RightParen ∷ stmt_flat s)) ++ more)) h in
         let i = twin_condition e f.0 (stmt_flat s) more f.3 u.0 in
         let j = twin_stmt s i.rest more i.behind u.2 in
@@ -195,7 +184,7 @@ module _ (types : List Name) where
         let a = and_true (expr_at types 0 e) (is_statement s && (stmt_ok types s && (not (open_if s) && (is_statement t && stmt_ok types t)))) ok in
         let b = and_true (is_statement s) (stmt_ok types s && (not (open_if s) && (is_statement t && stmt_ok types t))) a.1 in
         let c = and_true (stmt_ok types s) (not (open_if s) && (is_statement t && stmt_ok types t)) b.1 in
-        let u = under (not (open_if s)) t c.1 in
+        let u = under types (not (open_if s)) t c.1 in
         let tail = stmt_flat s ++ (key keys.Else ∷ stmt_flat t) in
         let f = first_of ts (key keys.If) (mark puncts.LeftParen ∷ ((expr_flat e ++ (mark puncts.RightParen ∷ tail)) ++ more)) h in
         let i = twin_condition e f.0 tail more f.3 a.0 in
@@ -205,7 +194,7 @@ module _ (types : List Name) where
         let closed : not (open_if j.twin) ≡ true = ap (λ z. not z) j.alike.no_if ∙ u.0 in
         record { twin = if_else f.1 i.twin j.twin k.twin; rest = k.rest; spells = (f.0, i.rest, d.0, d.1, f.2, i.spells, d.2, k.spells); behind = k.behind; alike = record { ok = and_join _ _ i.alike.ok (and_join _ _ (j.alike.statement ∙ b.0) (and_join _ _ j.alike.ok (and_join _ _ closed (sub_ok t k.twin u.1 k.alike)))); deep = deeper_two _ _ _ _ i.alike.deep (wider _ _ _ _ j.alike.deep k.alike.deep); statement = refl; no_if = k.alike.no_if; block = refl } }
     twin_stmt (while p e s) ts more h ok =
-        let u = under (expr_at types 0 e) s ok in
+        let u = under types (expr_at types 0 e) s ok in
         let f = first_of ts (key keys.While) (mark puncts.LeftParen ∷ ((expr_flat e ++ (mark puncts.RightParen ∷ stmt_flat s)) ++ more)) h in
         let i = twin_condition e f.0 (stmt_flat s) more f.3 u.0 in
         let j = twin_stmt s i.rest more i.behind u.2 in
@@ -223,7 +212,7 @@ module _ (types : List Name) where
     twin_stmt (for p a b c s) ts more h ok =
         let o = and_true (start_ok types a) (optional_ok types b && (optional_ok types c && (is_statement s && stmt_ok types s))) ok in
         let q = and_true (optional_ok types b) (optional_ok types c && (is_statement s && stmt_ok types s)) o.1 in
-        let u = under (optional_ok types c) s q.1 in
+        let u = under types (optional_ok types c) s q.1 in
         let step = optional_flat c ++ (mark puncts.RightParen ∷ stmt_flat s) in
         let test = optional_flat b ++ (mark puncts.Semicolon ∷ step) in
         let f = two_of ts (key keys.For) (mark puncts.LeftParen) ((for_start_flat a ++ test) ++ more) h in
@@ -235,13 +224,13 @@ module _ (types : List Name) where
         let m = twin_stmt s e.0 more e.3 u.2 in
         record { twin = for f.1 i.twin j.twin k.twin m.twin; rest = m.rest; spells = (f.0, i.rest, d.0, e.0, f.2, d.1, e.1, f.3, i.spells, d.2, e.2, m.spells); behind = m.behind; alike = record { ok = and_join _ _ i.alike.ok (and_join _ _ j.alike.ok (and_join _ _ k.alike.ok (sub_ok s m.twin u.1 m.alike))); deep = deeper_two _ _ _ _ (wider _ _ _ _ i.alike.deep j.alike.deep) (wider _ _ _ _ k.alike.deep m.alike.deep); statement = refl; no_if = m.alike.no_if; block = refl } }
     twin_stmt (switch p e s) ts more h ok =
-        let u = under (expr_at types 0 e) s ok in
+        let u = under types (expr_at types 0 e) s ok in
         let f = first_of ts (key keys.Switch) (mark puncts.LeftParen ∷ ((expr_flat e ++ (mark puncts.RightParen ∷ stmt_flat s)) ++ more)) h in
         let i = twin_condition e f.0 (stmt_flat s) more f.3 u.0 in
         let j = twin_stmt s i.rest more i.behind u.2 in
         record { twin = switch f.1 i.twin j.twin; rest = j.rest; spells = (f.0, i.rest, f.2, i.spells, j.spells); behind = j.behind; alike = record { ok = and_join _ _ i.alike.ok (sub_ok s j.twin u.1 j.alike); deep = deeper_two _ _ _ _ i.alike.deep j.alike.deep; statement = refl; no_if = j.alike.no_if; block = refl } }
     twin_stmt (case p e s) ts more h ok =
-        let u = under (expr_at types 2 e) s ok in
+        let u = under types (expr_at types 2 e) s ok in
         let f = first_of ts (key keys.Case) ((expr_flat e ++ (mark puncts.Colon ∷ stmt_flat s)) ++ more) h in
         let i = twin_expr types 2 e f.0 (mark puncts.Colon ∷ (stmt_flat s ++ more)) (again _ (expr_flat e) (mark puncts.Colon ∷ stmt_flat s) more f.3) u.0 in
         let c = ends_with (mark puncts.Colon) (stmt_flat s ++ more) i in
@@ -253,7 +242,7 @@ module _ (types : List Name) where
         let j = twin_stmt s f.0 more f.4 u.1 in
         record { twin = default f.1 j.twin; rest = j.rest; spells = (f.0, f.2, f.3, j.spells); behind = j.behind; alike = record { ok = sub_ok s j.twin u.0 j.alike; deep = deeper _ _ j.alike.deep; statement = refl; no_if = j.alike.no_if; block = refl } }
     twin_stmt (label p n s) ts more h ok =
-        let u = under (is_word types n) s ok in
+        let u = under types (is_word types n) s ok in
         let f = two_of ts (kind.Word n) (mark puncts.Colon) (stmt_flat s ++ more) h in
         let j = twin_stmt s f.0 more f.4 u.2 in
         record { twin = label f.1 n j.twin; rest = j.rest; spells = (f.0, f.2, f.3, j.spells); behind = j.behind; alike = record { ok = and_join _ _ u.0 (sub_ok s j.twin u.1 j.alike); deep = deeper _ _ j.alike.deep; statement = refl; no_if = j.alike.no_if; block = refl } }

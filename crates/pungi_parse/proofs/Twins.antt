@@ -2,6 +2,7 @@
 --   Twin X spelled like ts more    a tree that stands at the front of the tokens and is like the first one, where these kinds follow
 --   Alike allowed d e    it is allowed, and as deep as the other
 --   deeper, wider, deeper_two    equal depths under a node, side by side, and both
+--   same_head, same_tail    equal lists have equal parts
 --   first_of, two_of    tokens whose kinds begin so
 --   again            the front of lists in a row
 --   twin_texts, twin_keys, twin_consts, twin_stars    what has no places of its own is spelled as it is
@@ -40,15 +41,15 @@ wider a b c d h k = rw (h, k) refl
 pub deeper_two : (a b c d : ℕ) → a ≡ b → c ≡ d → max a c + 1 ≡ max b d + 1
 deeper_two a b c d h k = rw (h, k) refl
 
+pub same_head : (a b : Kind) (xs ys : List Kind) → a ∷ xs ≡ b ∷ ys → a ≡ b
+same_head a b xs ys h = cc
+
+pub same_tail : (a b : Kind) (xs ys : List Kind) → a ∷ xs ≡ b ∷ ys → xs ≡ ys
+same_tail a b xs ys h = cc
+
 pub first_of : (ts : List Placed) (k : Kind) (more : List Kind) → kinds ts ≡ k ∷ more → (us : List Placed) × (p : Pos) × (ts ≡ (k, p) ∷ us) × (kinds us ≡ more)
 first_of [] k more h = absurd (cc)
-first_of (t ∷ ts) k more h = (ts, t.1, ap (λ z. (z, t.1) ∷ ts) (same_first t.0 k (kinds ts) more h), same_rest t.0 k (kinds ts) more h)
-  where
-    same_first : (a b : Kind) (xs ys : List Kind) → a ∷ xs ≡ b ∷ ys → a ≡ b
-    same_first a b xs ys h = cc
-
-    same_rest : (a b : Kind) (xs ys : List Kind) → a ∷ xs ≡ b ∷ ys → xs ≡ ys
-    same_rest a b xs ys h = cc
+first_of (t ∷ ts) k more h = (ts, t.1, ap (λ z. (z, t.1) ∷ ts) (same_head t.0 k (kinds ts) more h), same_tail t.0 k (kinds ts) more h)
 
 pub two_of : (ts : List Placed) (j k : Kind) (more : List Kind) → kinds ts ≡ j ∷ k ∷ more → (us : List Placed) × (p q : Pos) × (ts ≡ (j, p) ∷ (k, q) ∷ us) × (kinds us ≡ more)
 two_of ts j k more h =
