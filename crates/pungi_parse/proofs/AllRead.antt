@@ -1,12 +1,8 @@
 -- Each expression, type, declarator and list of parameters that stands at the front of the tokens is read: one case for each form.
 --   expr_steps .. params_all    the facts of a tree, by those of its parts
-use Rattle.std.proofs.Common.{◌≡◌, ℕ, ℤ, Bool, true, false, List, [], ◌∷◌, Option, Some, None}
-use Rattle.pungi_base.specs.declared.key.Key.{Key}
-use Rattle.pungi_base.specs.declared.kind.Kind.{Kind}
+use Rattle.std.proofs.Common.{true, false, List}
 use Rattle.pungi_base.specs.declared.names.Name.{Name}
-use Rattle.pungi_base.specs.declared.pos.Pos.{Pos}
-use Rattle.pungi_base.specs.declared.punct.Punct.{Punct}
-use Rattle.pungi_parse.proofs.Facts.{ExprReads, SpecReads, ParamsReads, TypeNameReads, BaseReads, FieldReads, FieldsRead, TailReads, DeclrReads, DeclrsRead, MoreDeclrsRead, SizesRead, ParamDeclrReads, ParamDeclReads, MoreParamsRead}
+use Rattle.pungi_parse.proofs.Facts.{SpecReads, ParamsReads, TypeNameReads, BaseReads, FieldReads, FieldsRead, TailReads, DeclrReads, DeclrsRead, MoreDeclrsRead, SizesRead, ParamDeclrReads, ParamDeclReads, MoreParamsRead}
 use Rattle.pungi_parse.proofs.ParamComplete.{param_named, param_bare, param_unused, param_reads, more_params_end, more_params_and, params_void, params_none, params_read}
 use Rattle.pungi_parse.proofs.PostfixComplete.{ArgsRead, MoreArgsRead, more_args_end, more_args_and, args_end, args_and, word_steps, int_steps, float_steps, char_steps, null_steps, text_steps, paren_steps, new_steps, post_steps, call_steps, index_steps, dot_steps, arrow_steps}
 use Rattle.pungi_parse.proofs.Steps.{Steps, whole}

@@ -3,12 +3,11 @@
 --   ExprBegins types ts    tokens with which an expression begins: no declaration, and no keyword or punctuator that begins none
 --   TypeBegins types ts    tokens with which a type begins
 --   DeclBegins types ts    tokens with which a declaration begins
-use Rattle.std.proofs.Common.{◌≡◌, ℕ, Bool, true, false, List, Option, Some, None}
+use Rattle.std.proofs.Common.{◌≡◌, Bool, true, false, List, None}
 use Rattle.std.specs.Prelude.{nat_le}
 use Rattle.pungi_base.specs.declared.key.Key.{Key}
 use Rattle.pungi_base.specs.declared.key.Key.TheVariants as keys
 use Rattle.pungi_base.specs.declared.names.Name.{Name}
-use Rattle.pungi_base.specs.declared.pos.Pos.{Pos}
 use Rattle.pungi_base.specs.declared.punct.Punct.{Punct}
 use Rattle.pungi_base.specs.declared.punct.Punct.TheVariants as puncts
 use Rattle.pungi_parse.specs.Eat.{eat, eat_key, eat_listed}

@@ -4,9 +4,8 @@
 --   postfix_no_prefix a postfix expression begins with no prefix operator
 --   no_cast_front, no_sizeof_front, no_new_front    the tests that a parenthesis before a type would pass
 --   expr_no_label     where an expression begins with a word, no `:` follows it
-use Rattle.std.proofs.Common.{◌≡◌, ℕ, zero, suc, ◌+◌, ◌<◌, ◌≤◌, Bool, true, false, cond, not, ◌&&◌, ◌||◌, List, [], ◌∷◌, Option, Some, None, refl, sym, ◌∙◌, ap, subst, arith}
+use Rattle.std.proofs.Common.{◌≡◌, ℕ, ◌≤◌, Bool, true, false, List, [], ◌∷◌, Option, Some, None, refl, sym, ◌∙◌, subst, arith}
 use Rattle.std.specs.Prelude.{nat_le, ◌==◌}
-use Rattle.pungi_base.specs.declared.key.Key.{Key}
 use Rattle.pungi_base.specs.declared.key.Key.TheVariants as keys
 use Rattle.pungi_base.specs.declared.kind.Kind.{Kind}
 use Rattle.pungi_base.specs.declared.kind.Kind.TheVariants as kind
@@ -17,20 +16,19 @@ use Rattle.pungi_base.specs.declared.punct.Punct.TheVariants as puncts
 use Rattle.pungi_base.specs.declared.words.TheConstants.{PY_OBJECT_NEW}
 use Rattle.pungi_parse.specs.Eat.{eat, eat_key, eat_prefix}
 use Rattle.pungi_parse.specs.ExprReader.{new_front, cast_front}
-use Rattle.pungi_parse.specs.Reading.{◌>>=◌, chain, when, unless}
-use Rattle.pungi_parse.specs.TypeReader.{Lower, plain_word, begins_type}
-use Rattle.pungi_parse.proofs.Eaten.{eat_some}
+use Rattle.pungi_parse.specs.Reading.{◌>>=◌, chain, when}
+use Rattle.pungi_parse.specs.TypeReader.{plain_word, begins_type}
 use Rattle.pungi_parse.proofs.Fronts.{other_mark, expr_begins}
 use Rattle.pungi_parse.proofs.Levels.{at_level, prefix_bound, binary_parts, binary_bounds}
-use Rattle.pungi_parse.proofs.Tools.{and_true, not_true, eq_from, le_true, some_same}
+use Rattle.pungi_parse.proofs.Tools.{and_true, not_true, le_true, some_same}
 use Rattle.pungi_parse.proofs.Words.{plain_word_sound, plain_word_complete}
 use Rattle.pungi_tree.specs.ExprLevels.{expr_at, is_empty}
 use Rattle.pungi_tree.specs.ExprSpells.{Spells, SpellsTexts}
 use Rattle.pungi_tree.specs.Operators.{binary_level, is_assign, is_step, prefix_need, prefix_mark_need, level}
-use Rattle.pungi_tree.specs.Placed.{Placed, mark_at, key_at, word_at, text_at}
+use Rattle.pungi_tree.specs.Placed.{Placed, mark_at, word_at}
 use Rattle.pungi_tree.specs.Syntax.{Expr, word, int, float, char, text, null, paren, unary, post, binary, assign, conditional, comma, cast, size_of_type, call, new, index, dot, arrow}
 use Rattle.pungi_tree.specs.Tokens.{named_word}
-use Rattle.pungi_tree.specs.TypeWords.{is_type, is_word}
+use Rattle.pungi_tree.specs.TypeWords.{is_word}
 
 pub record NoType (types : List Name) (ts : List Placed) : Type 0 where
   pub no_type : (o : Pos × List Placed) → eat puncts.LeftParen ts ≡ Some o → begins_type types o.1 ≡ false
@@ -55,16 +53,16 @@ module _ (types : List Name) (ts : List Placed) (n : NoType types ts) where
       by None e = refl
       by (Some o) e = rw (n.no_type o e) refl
 
-  pub no_cast_front : (low : Lower) (most : ℕ) → cast_front types low most ts ≡ None
+  pub no_cast_front : cast_front types ts ≡ None
   unfolding cast_front
-  no_cast_front low most = by_front (Pos × List Placed) (λ o. Some o)
+  no_cast_front = by_front (Pos × List Placed) (λ o. Some o)
 
   pub no_sizeof_front : (eat puncts.LeftParen ts >>= λ (o : Pos × List Placed). when (begins_type types o.1) (Some o.1)) ≡ None
   no_sizeof_front = by_front (List Placed) (λ o. Some o.1)
 
-  pub no_new_front : (low : Lower) (w : Name) (p : Pos) → is_word types w ≡ true → new_front types low (word_at w p ∷ ts) ≡ None
+  pub no_new_front : (w : Name) (p : Pos) → is_word types w ≡ true → new_front types (word_at w p ∷ ts) ≡ None
   unfolding new_front chain
-  no_new_front low w p h = rw (plain_word_complete types w p ts h, by_front (Pos × List Placed) (λ o. Some (p, o.1))) (when_none (w.0 == PY_OBJECT_NEW))
+  no_new_front w p h = rw (plain_word_complete types w p ts h, by_front (Pos × List Placed) (λ o. Some (p, o.1))) (when_none (w.0 == PY_OBJECT_NEW))
 
 is_prefix : Punct → Bool
 is_prefix m = nat_le (prefix_mark_need m) 14
@@ -100,6 +98,9 @@ module _ (types : List Name) where
   binary_high : (l : ℕ) (p : Pos) (m : Punct) (a b : Expr) → expr_at types l (binary p m a b) ≡ true → binary_level m ≤ 12
   binary_high l p m a b ok = (binary_bounds types m b (binary_parts types l p m a b ok).2).1
 
+  left_high : (e : Expr) → expr_at types 15 e ≡ true → 14 ≤ level e
+  left_high e ok = omega (arith, at_level types 15 e ok)
+
   pub unary_no_type : (l : ℕ) (e : Expr) (ts rest : List Placed) → 14 ≤ level e → expr_at types l e ≡ true → Spells e ts rest → NoType types ts
   unary_no_type l (word p n) ts rest h ok s = no_paren types ts (rw s refl)
   unary_no_type l (int p v b u) ts rest h ok s = no_paren types ts (rw s refl)
@@ -109,18 +110,18 @@ module _ (types : List Name) where
   unary_no_type l (null p) ts rest h ok s = no_paren types ts (rw s refl)
   unary_no_type l (paren p e) ts rest h ok s = subst (NoType types) (sym s.2) (paren_no_type types p s.0 (expr_begins types 0 e s.0 _ s.3 (and_true _ _ ok).1).no_type)
   unary_no_type l (unary p k e) ts rest h ok s = no_paren types ts (subst (λ z. eat puncts.LeftParen z ≡ None) (sym s.1) (kind_no_paren k p s.0 (prefix_bound types k e (and_true _ _ ok).1).1))
-  unary_no_type l (post p m e) ts rest h ok s = let o = (and_true _ _ (and_true _ _ ok).1).1 in unary_no_type 15 e ts _ (omega (arith, at_level types 15 e o)) o s
+  unary_no_type l (post p m e) ts rest h ok s = unary_no_type 15 e ts _ (left_high e (and_true _ _ (and_true _ _ ok).1).1) (and_true _ _ (and_true _ _ ok).1).1 s
   unary_no_type l (binary p m a b) ts rest h ok s = absurd (omega (arith, h, binary_high l p m a b ok))
   unary_no_type l (assign p m a b) ts rest h ok s = absurd (omega (arith, h))
   unary_no_type l (conditional p a b c) ts rest h ok s = absurd (omega (arith, h))
   unary_no_type l (comma p a b) ts rest h ok s = absurd (omega (arith, h))
   unary_no_type l (cast p t e) ts rest h ok s = absurd (omega (arith, h))
   unary_no_type l (size_of_type p t) ts rest h ok s = no_paren types ts (rw s.3 refl)
-  unary_no_type l (call p f es) ts rest h ok s = let o = (and_true _ _ (and_true _ _ ok).1).0 in unary_no_type 15 f ts _ (omega (arith, at_level types 15 f o)) o s.4
+  unary_no_type l (call p f es) ts rest h ok s = unary_no_type 15 f ts _ (left_high f (and_true _ _ (and_true _ _ ok).1).0) (and_true _ _ (and_true _ _ ok).1).0 s.4
   unary_no_type l (new p t e) ts rest h ok s = no_paren types ts (rw s.5 refl)
-  unary_no_type l (index p a b) ts rest h ok s = let o = (and_true _ _ (and_true _ _ ok).1).0 in unary_no_type 15 a ts _ (omega (arith, at_level types 15 a o)) o s.2
-  unary_no_type l (dot p e n) ts rest h ok s = let o = (and_true _ _ (and_true _ _ ok).1).0 in unary_no_type 15 e ts _ (omega (arith, at_level types 15 e o)) o s.1
-  unary_no_type l (arrow p e n) ts rest h ok s = let o = (and_true _ _ (and_true _ _ ok).1).0 in unary_no_type 15 e ts _ (omega (arith, at_level types 15 e o)) o s.1
+  unary_no_type l (index p a b) ts rest h ok s = unary_no_type 15 a ts _ (left_high a (and_true _ _ (and_true _ _ ok).1).0) (and_true _ _ (and_true _ _ ok).1).0 s.2
+  unary_no_type l (dot p e n) ts rest h ok s = unary_no_type 15 e ts _ (left_high e (and_true _ _ (and_true _ _ ok).1).0) (and_true _ _ (and_true _ _ ok).1).0 s.1
+  unary_no_type l (arrow p e n) ts rest h ok s = unary_no_type 15 e ts _ (left_high e (and_true _ _ (and_true _ _ ok).1).0) (and_true _ _ (and_true _ _ ok).1).0 s.1
 
   pub postfix_no_prefix : (l : ℕ) (e : Expr) (ts rest : List Placed) → 15 ≤ level e → expr_at types l e ≡ true → Spells e ts rest → (eat_prefix ts ≡ None) × (eat_key keys.Sizeof ts ≡ None)
   postfix_no_prefix l (word p n) ts rest h ok s = (rw s refl, rw s refl)

@@ -2,22 +2,21 @@
 --   .._gets           what the reader of the same name reads
 --   Climbs            an expression was read so far, and no binary operator that binds tighter stands behind it
 --   readers_sound     the readers give what stands at the front
-use Rattle.std.proofs.Common.{◌≡◌, ℕ, zero, suc, ◌+◌, ◌<◌, ◌≤◌, max, Bool, true, false, cond, not, ◌&&◌, ◌⊎◌, inl, inr, List, [], ◌∷◌, length, Option, Some, None, refl, sym, ◌∙◌, ap, subst, add-one, arith}
+use Rattle.std.proofs.Common.{◌≡◌, ℕ, zero, suc, ◌+◌, ◌<◌, ◌≤◌, Bool, true, false, cond, inl, inr, List, ◌∷◌, Some, None, refl, sym, ◌∙◌, subst, add-one, arith}
 use Rattle.std.specs.Prelude.{nat_le, nat_lt}
 use Rattle.pungi_base.specs.declared.names.Name.{Name}
 use Rattle.pungi_base.specs.declared.pos.Pos.{Pos}
 use Rattle.pungi_base.specs.declared.punct.Punct.{Punct}
 use Rattle.pungi_base.specs.declared.punct.Punct.TheVariants as puncts
-use Rattle.pungi_parse.specs.Eat.{eat, eat_operator, eat_assign}
-use Rattle.pungi_parse.specs.ExprReader.{operations, climb, conditional_rest, conditional_at, assign_rest, assign_at, commas, comma_at, read_at, casted, unary, expr_at as read_expr}
-use Rattle.pungi_parse.specs.Reading.{Read, ◌>>=◌, chain, on_some, when, unless}
-use Rattle.pungi_parse.specs.Readers.{nothing_read, over, readers}
+use Rattle.pungi_parse.specs.Eat.{eat_operator}
+use Rattle.pungi_parse.specs.ExprReader.{operations, climb, conditional_rest, conditional_at, assign_rest, assign_at, commas, comma_at, read_at, unary, expr_at as read_expr}
+use Rattle.pungi_parse.specs.Readers.{readers}
 use Rattle.pungi_parse.specs.TypeReader.{Lower, declr_at}
-use Rattle.pungi_parse.proofs.Eaten.{eat_some, eat_operator_some, eat_marked_some, no_operator_mono, no_operator_above, operator_looser}
+use Rattle.pungi_parse.proofs.Eaten.{eat_some, eat_operator_some, eat_marked_some, no_operator_above, operator_looser}
 use Rattle.pungi_parse.proofs.Ends.{at_least}
 use Rattle.pungi_parse.proofs.ExprSound.{at_least_same, unary_gets, casted_gets, loosen}
 use Rattle.pungi_parse.proofs.Levels.{binary_far, at_level, at_whole, at_join, at_looser}
-use Rattle.pungi_parse.proofs.LowSound.{GetsExpr, GetsDeclr, LowSound}
+use Rattle.pungi_parse.proofs.LowSound.{GetsExpr, LowSound}
 use Rattle.pungi_parse.proofs.ParamSound.{params_get}
 use Rattle.pungi_parse.proofs.Readings.{ReadsExpr, ReadsSpec, ReadsParams, ReadsDeclr}
 use Rattle.pungi_parse.proofs.Tools.{bind_some, on_some_cases, when_some, some_same, and_true, and_join, le_true, le_from, not_le, lt_from}
@@ -27,7 +26,7 @@ use Rattle.pungi_tree.specs.ExprLevels.{expr_at}
 use Rattle.pungi_tree.specs.ExprSpells.{Spells}
 use Rattle.pungi_tree.specs.Operators.{binary_level, is_assign, level}
 use Rattle.pungi_tree.specs.Placed.{Placed, mark_at}
-use Rattle.pungi_tree.specs.Syntax.{Expr, binary, assign, conditional, comma, Spec, Params, Declr}
+use Rattle.pungi_tree.specs.Syntax.{Expr, binary, comma, Spec, Params, Declr}
 
 module _ (types : List Name) (d : ℕ) where
   pub record Climbs (l : ℕ) (start : List Placed) (a : Expr) (ts : List Placed) : Type 0 where

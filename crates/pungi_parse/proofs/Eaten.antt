@@ -4,7 +4,7 @@
 --   Literal           what a constant is as a tree
 --   no_operator_mono, no_operator_above    no operator of a level is one of a higher level, and none has a level above 12
 --   operator_looser, operator_low          an operator that is not eaten is looser, and a looser one is not eaten
-use Rattle.std.proofs.Common.{◌≡◌, ℕ, zero, suc, ◌+◌, ◌<◌, ◌≤◌, Bool, true, false, cond, ◌&&◌, List, [], ◌∷◌, Option, Some, None, refl, sym, ◌∙◌, ap, subst, arith}
+use Rattle.std.proofs.Common.{◌≡◌, ℕ, ◌<◌, ◌≤◌, Bool, true, false, cond, ◌&&◌, List, [], ◌∷◌, Option, Some, None, refl, subst, arith}
 use Rattle.std.specs.Prelude.{nat_le, ◌==◌}
 use Rattle.pungi_base.specs.declared.key.Key.{Key}
 use Rattle.pungi_base.specs.declared.key.Key.TheVariants as keys
@@ -13,7 +13,6 @@ use Rattle.pungi_base.specs.declared.kind.Kind.TheVariants as kind
 use Rattle.pungi_base.specs.declared.names.Name.{Name}
 use Rattle.pungi_base.specs.declared.pos.Pos.{Pos}
 use Rattle.pungi_base.specs.declared.punct.Punct.{Punct}
-use Rattle.pungi_base.specs.declared.punct.Punct.TheVariants as puncts
 use Rattle.pungi_parse.specs.Eat.{punct_number, key_number, mark_here, eat, key_here, eat_key, word_here, eat_word, text_here, eat_text, listed_here, eat_listed, null_here, literal_here, eat_literal, prefix_here, eat_prefix, operator_here, eat_operator, marked_here, eat_marked}
 use Rattle.pungi_parse.proofs.Tools.{guard_some, guard_none, some_same, le_true, le_false, le_from, not_le, eq_from, and_true, and_false, same_mark, same_key}
 use Rattle.pungi_tree.specs.ExprDepth.{expr_depth}

@@ -7,7 +7,7 @@
 --   DeclrEnds rest    nothing goes on with a declarator
 --   ends_at_paren, ends_at_bracket, ends_at_semicolon, ends_at_colon, ends_at_comma    such a mark stops expressions
 --   ends_at_assignment, ends_at_conditional    what stops an expression stops one of level 1 or 2
-use Rattle.std.proofs.Common.{◌≡◌, ℕ, zero, suc, ◌≤◌, ◌<◌, Bool, true, false, List, [], ◌∷◌, Option, Some, None, refl, arith}
+use Rattle.std.proofs.Common.{◌≡◌, ℕ, zero, suc, ◌≤◌, List, ◌∷◌, None, refl, arith}
 use Rattle.pungi_base.specs.declared.key.Key.TheVariants as keys
 use Rattle.pungi_base.specs.declared.pos.Pos.{Pos}
 use Rattle.pungi_base.specs.declared.punct.Punct.TheVariants as puncts

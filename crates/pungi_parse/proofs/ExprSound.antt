@@ -1,33 +1,30 @@
 -- What is read as an expression stands at the front of the tokens: primary, postfix, unary and cast expressions.
 --   .._gets           what the reader of the same name reads
 --   Postfixed         a primary or postfix expression was read so far
-use Rattle.std.proofs.Common.{◌≡◌, ℕ, zero, suc, ◌+◌, ◌<◌, ◌≤◌, max, Bool, true, false, not, ◌&&◌, ◌⊎◌, inl, inr, List, [], ◌∷◌, length, Option, Some, None, refl, sym, ◌∙◌, ap, subst, arith}
-use Rattle.std.specs.Prelude.{nat_le, nat_lt, ◌==◌}
+use Rattle.std.proofs.Common.{◌≡◌, ℕ, zero, suc, ◌≤◌, true, inl, inr, List, ◌∷◌, length, Some, None, refl, sym, ◌∙◌, ap, subst, arith}
 use Rattle.pungi_base.specs.declared.key.Key.TheVariants as keys
-use Rattle.pungi_base.specs.declared.kind.Kind.TheVariants as kind
 use Rattle.pungi_base.specs.declared.names.Name.{Name}
 use Rattle.pungi_base.specs.declared.pos.Pos.{Pos}
-use Rattle.pungi_base.specs.declared.punct.Punct.{Punct}
 use Rattle.pungi_base.specs.declared.punct.Punct.TheVariants as puncts
 use Rattle.pungi_base.specs.declared.words.TheConstants.{PY_OBJECT_NEW}
-use Rattle.pungi_parse.specs.Eat.{eat, eat_key, eat_literal, eat_prefix, eat_step, eat_operator}
+use Rattle.pungi_parse.specs.Eat.{eat_operator}
 use Rattle.pungi_parse.specs.ExprReader.{more_args, some_args, args_at, new_front, new_at, paren_at, text_at, primary, index_at, call_at, postfix_turn, postfixes, postfix, sizeof_at, unary, cast_front, casted}
-use Rattle.pungi_parse.specs.Reading.{Read, ◌>>=◌, chain, on_some, when, unless}
-use Rattle.pungi_parse.specs.TypeReader.{Lower, texts, plain_word, begins_type, type_name_at}
+use Rattle.pungi_parse.specs.Reading.{Read, ◌>>=◌}
+use Rattle.pungi_parse.specs.TypeReader.{Lower, texts, plain_word}
 use Rattle.pungi_parse.proofs.Eaten.{eat_some, eat_key_some, eat_literal_some, eat_prefix_some, eat_marked_some, no_operator_above}
 use Rattle.pungi_parse.proofs.Ends.{at_least}
 use Rattle.pungi_parse.proofs.Levels.{at_looser}
-use Rattle.pungi_parse.proofs.LowSound.{Gets, GetsExpr, GetsTypeName, LowSound}
+use Rattle.pungi_parse.proofs.LowSound.{Gets, GetsExpr, LowSound}
 use Rattle.pungi_parse.proofs.ParamSound.{is_named}
-use Rattle.pungi_parse.proofs.Tools.{bind_some, on_some_cases, when_some, unless_some, some_same, and_true, and_join, not_false, le_true, lt_from}
+use Rattle.pungi_parse.proofs.Tools.{bind_some, on_some_cases, when_some, unless_some, some_same, and_join, not_false, lt_from}
 use Rattle.pungi_parse.proofs.TypeSound.{type_name_gets}
 use Rattle.pungi_parse.proofs.Words.{texts_sound, plain_word_sound}
-use Rattle.pungi_tree.specs.ExprDepth.{expr_depth, exprs_depth, type_name_depth}
-use Rattle.pungi_tree.specs.ExprLevels.{expr_at, args_ok, type_name_ok, is_empty}
+use Rattle.pungi_tree.specs.ExprDepth.{expr_depth, exprs_depth}
+use Rattle.pungi_tree.specs.ExprLevels.{expr_at, args_ok}
 use Rattle.pungi_tree.specs.ExprSpells.{Spells, SpellsArgs, SpellsMoreArgs, SpellsTypeName}
-use Rattle.pungi_tree.specs.Operators.{prefix_mark_need, is_step, level}
+use Rattle.pungi_tree.specs.Operators.{prefix_mark_need, is_step}
 use Rattle.pungi_tree.specs.Placed.{Placed, mark_at, key_at, word_at, first_place}
-use Rattle.pungi_tree.specs.Syntax.{Expr, word, text, paren, unary as prefix, post, cast, size_of_type, call, new, index, dot, arrow, Exprs, no_exprs, expr_and}
+use Rattle.pungi_tree.specs.Syntax.{Expr, post, dot, arrow, Exprs}
 use Rattle.pungi_tree.specs.Tokens.{named_word}
 use Rattle.pungi_tree.specs.TypeWords.{is_word}
 
@@ -46,9 +43,9 @@ pub record NewFront (types : List Name) (ts : List Placed) (n : Pos × List Plac
   pub tokens : ts ≡ word_at (named_word PY_OBJECT_NEW) n.0 ∷ mark_at puncts.LeftParen place ∷ n.1
   pub plain : is_word types (named_word PY_OBJECT_NEW) ≡ true
 
-pub new_front_sound : (types : List Name) (low : Lower) (ts : List Placed) (n : Pos × List Placed) → new_front types low ts ≡ Some n → NewFront types ts n
+pub new_front_sound : (types : List Name) (ts : List Placed) (n : Pos × List Placed) → new_front types ts ≡ Some n → NewFront types ts n
 unfolding new_front
-new_front_sound types low ts n h =
+new_front_sound types ts n h =
     let w = bind_some _ _ _ h in
     let g = when_some _ _ _ w.2 in
     let o = bind_some _ _ _ g.1 in
@@ -138,7 +135,7 @@ module _ (types : List Name) (d : ℕ) (low : Lower) (sound : LowSound types d l
         let l = eat_literal_some ts w.0 w.1 in
         subst (GetsExpr types (suc d) 16 ts) (some_same _ _ w.2) (record { spells = l.spells; allowed = l.allowed types; shallow = omega (arith, l.depth); no_operator = none_so_tight 16 w.0.1 (omega arith) })
     | inr n ↦ elim (on_some_cases _ _ _ _ n.1) [
-      | inl w ↦ new_gets w.0 ts x (new_front_sound types low ts w.0 w.1) w.2
+      | inl w ↦ new_gets w.0 ts x (new_front_sound types ts w.0 w.1) w.2
       | inr n ↦ elim (on_some_cases _ _ _ _ n.1) [
         | inl w ↦
             let v = plain_word_sound types ts w.0 w.1 in

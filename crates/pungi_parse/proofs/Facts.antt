@@ -2,7 +2,7 @@
 --   ParamEnds rest    nothing goes on with a parameter
 --   ExprReads types e, SpecReads types c, ParamsReads types ps    the readers over each other read it
 --   TypeNameReads .. ParamDeclReads    the reader of the same name reads it, by the readers of parts
-use Rattle.std.proofs.Common.{◌≡◌, ℕ, suc, ◌≤◌, ◌<◌, Bool, true, false, List, [], ◌∷◌, length, Option, Some, None, refl}
+use Rattle.std.proofs.Common.{◌≡◌, ℕ, suc, ◌≤◌, ◌<◌, true, List, ◌∷◌, length, Option, Some, None}
 use Rattle.pungi_base.specs.declared.names.Name.{Name}
 use Rattle.pungi_base.specs.declared.pos.Pos.{Pos}
 use Rattle.pungi_base.specs.declared.punct.Punct.TheVariants as puncts

@@ -2,8 +2,8 @@
 --   other_mark, other_key    a token that passes a test is none that does not
 --   expr_begins       the tokens of an expression
 --   spec_begins, decl_begins    the tokens of a type, and of a type behind qualifiers
-use Rattle.std.proofs.Common.{◌≡◌, ℕ, zero, suc, ◌+◌, ◌<◌, ◌≤◌, Bool, true, false, cond, not, ◌&&◌, ◌||◌, List, [], ◌∷◌, Option, Some, None, is_some, refl, sym, ◌∙◌, ap, subst, arith}
-use Rattle.std.specs.Prelude.{nat_le, ◌==◌}
+use Rattle.std.proofs.Common.{◌≡◌, ℕ, ◌≤◌, Bool, true, false, cond, ◌||◌, List, [], ◌∷◌, Option, Some, None, refl, sym, ap, subst, arith}
+use Rattle.std.specs.Prelude.{◌==◌}
 use Rattle.pungi_base.specs.declared.key.Key.{Key}
 use Rattle.pungi_base.specs.declared.key.Key.TheVariants as keys
 use Rattle.pungi_base.specs.declared.kind.Kind.{Kind}
@@ -14,7 +14,7 @@ use Rattle.pungi_base.specs.declared.punct.Punct.{Punct}
 use Rattle.pungi_base.specs.declared.punct.Punct.TheVariants as puncts
 use Rattle.pungi_base.specs.declared.words.TheConstants.{PY_OBJECT_NEW}
 use Rattle.pungi_parse.specs.Eat.{punct_number, key_number, eat, eat_key, eat_listed, eat_word}
-use Rattle.pungi_parse.specs.Reading.{◌>>=◌, chain, when, unless}
+use Rattle.pungi_parse.specs.Reading.{chain, when}
 use Rattle.pungi_parse.specs.TypeReader.{type_word, plain_word, begins_type, begins_decl}
 use Rattle.pungi_parse.proofs.Begins.{is_expr_key, is_expr_mark, ExprBegins, TypeBegins, DeclBegins}
 use Rattle.pungi_parse.proofs.Levels.{prefix_bound, sizeof_need}
@@ -22,7 +22,7 @@ use Rattle.pungi_parse.proofs.Tools.{and_true, not_true, eq_from, le_true, same_
 use Rattle.pungi_parse.proofs.Words.{no_plain_word}
 use Rattle.pungi_tree.specs.ExprLevels.{expr_at, spec_ok, base_ok, is_empty}
 use Rattle.pungi_tree.specs.ExprSpells.{Spells, SpellsSpec, SpellsBase, SpellsKeys, SpellsTexts}
-use Rattle.pungi_tree.specs.Operators.{binary_level, prefix_need, prefix_mark_need, prefix_key_need, is_base_word, is_qualifier, is_aggregate, all_keys}
+use Rattle.pungi_tree.specs.Operators.{binary_level, prefix_need, prefix_mark_need, is_base_word, is_qualifier, is_aggregate, all_keys}
 use Rattle.pungi_tree.specs.Placed.{Placed, mark_at, key_at, word_at, text_at}
 use Rattle.pungi_tree.specs.Syntax.{Expr, word, int, float, char, text, null, paren, unary, post, binary, assign, conditional, comma, cast, size_of_type, call, new, index, dot, arrow, Spec, spec, Base, words, alias, tagged, tagged_fields}
 use Rattle.pungi_tree.specs.Tokens.{named_word}

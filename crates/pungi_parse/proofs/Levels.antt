@@ -5,9 +5,8 @@
 --   level_bound       no allowed expression binds more tightly than a primary one
 --   prefix_bound      a prefix operator that stands in an allowed expression
 --   some_depth        an expression is a node
-use Rattle.std.proofs.Common.{◌≡◌, ℕ, zero, suc, ◌+◌, ◌<◌, ◌≤◌, max, Bool, true, false, ◌&&◌, List, [], ◌∷◌, Option, Some, None, refl, sym, ◌∙◌, ap, subst, arith}
+use Rattle.std.proofs.Common.{◌≡◌, ℕ, ◌+◌, ◌<◌, ◌≤◌, Bool, true, false, ◌&&◌, List, refl, sym, ◌∙◌, arith}
 use Rattle.std.specs.Prelude.{nat_le}
-use Rattle.std.proofs.lemmas.Bool.Decides.{nat_tests}
 use Rattle.pungi_base.specs.declared.key.Key.{Key}
 use Rattle.pungi_base.specs.declared.key.Key.TheVariants as keys
 use Rattle.pungi_base.specs.declared.kind.Kind.{Kind}
@@ -17,7 +16,7 @@ use Rattle.pungi_base.specs.declared.pos.Pos.{Pos}
 use Rattle.pungi_base.specs.declared.punct.Punct.{Punct}
 use Rattle.pungi_base.specs.declared.punct.Punct.TheVariants as puncts
 use Rattle.pungi_parse.proofs.Tools.{le_true, le_from, and_true, and_join}
-use Rattle.pungi_tree.specs.ExprDepth.{expr_depth, exprs_depth, type_name_depth}
+use Rattle.pungi_tree.specs.ExprDepth.{expr_depth}
 use Rattle.pungi_tree.specs.ExprLevels.{expr_at}
 use Rattle.pungi_tree.specs.Operators.{binary_level, prefix_need, prefix_mark_need, prefix_key_need, level}
 use Rattle.pungi_tree.specs.Syntax.{Expr, word, int, float, char, text, null, paren, unary, post, binary, assign, conditional, comma, cast, size_of_type, call, new, index, dot, arrow}

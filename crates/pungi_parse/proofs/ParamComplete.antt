@@ -1,35 +1,33 @@
 -- Parameters that stand at the front of the tokens are read, by what is known of their parts.
 --   .._reads, .._read    the reader of the same name reads it
-use Rattle.std.proofs.Common.{◌≡◌, ℕ, zero, suc, ◌+◌, ◌<◌, ◌≤◌, max, Bool, true, false, not, ◌&&◌, ◌||◌, List, [], ◌∷◌, length, Option, Some, None, is_some, is_none, refl, sym, ◌∙◌, ap, subst, arith}
+use Rattle.std.proofs.Common.{◌≡◌, ℕ, zero, suc, ◌≤◌, Bool, true, false, ◌&&◌, List, ◌∷◌, length, Option, Some, None, refl, sym, ap, subst, arith}
 use Rattle.std.specs.Prelude.{◌==◌}
 use Rattle.pungi_base.specs.declared.key.Key.{Key}
-use Rattle.pungi_base.specs.declared.key.Key.TheVariants as keys
 use Rattle.pungi_base.specs.declared.names.Name.{Name}
 use Rattle.pungi_base.specs.declared.pos.Pos.{Pos}
 use Rattle.pungi_base.specs.declared.punct.Punct.{Punct}
 use Rattle.pungi_base.specs.declared.punct.Punct.TheVariants as puncts
 use Rattle.pungi_base.specs.declared.words.TheConstants.{PY_UNUSED}
-use Rattle.pungi_parse.specs.Eat.{eat, eat_key, eat_word, eat_listed}
-use Rattle.pungi_parse.specs.Reading.{◌>>=◌, chain, on_some, when, unless}
+use Rattle.pungi_parse.specs.Eat.{eat}
+use Rattle.pungi_parse.specs.Reading.{chain, on_some, when, unless}
 use Rattle.pungi_parse.specs.Readers.{readers}
-use Rattle.pungi_parse.specs.TypeReader.{Lower, keywords, stars, plain_word, declr_rest, unused_front, param_rest, begins_name, param_declr_at, param, dots_front, more_params, void_front, some_params, params_at}
-use Rattle.pungi_parse.proofs.Begins.{TypeBegins, DeclBegins}
-use Rattle.pungi_parse.proofs.Ends.{SpecEnds, StarsEnd, DeclrEnds}
-use Rattle.pungi_parse.proofs.Facts.{SpecReads, ParamsReads, TailReads, ParamDeclrReads, ParamDeclReads, MoreParamsRead, ParamEnds, TypeEnds}
+use Rattle.pungi_parse.specs.TypeReader.{plain_word, unused_front, param_rest, begins_name, param_declr_at, param, dots_front, more_params, void_front, some_params, params_at}
+use Rattle.pungi_parse.proofs.Ends.{SpecEnds}
+use Rattle.pungi_parse.proofs.Facts.{SpecReads, ParamsReads, TailReads, ParamDeclrReads, ParamDeclReads, MoreParamsRead, ParamEnds}
 use Rattle.pungi_parse.proofs.Fronts.{spec_begins, decl_begins}
 use Rattle.pungi_parse.proofs.Shorter.{spec_no_longer, param_decl_no_longer}
 use Rattle.pungi_parse.proofs.Tools.{and_true, not_true}
 use Rattle.pungi_parse.proofs.TypeComplete.{tail_begins, stars_begin, declr_begins}
 use Rattle.pungi_parse.proofs.VoidComplete.{no_void_front}
-use Rattle.pungi_parse.proofs.Words.{keywords_complete, stars_complete, plain_word_complete, keys_no_longer, stars_no_longer}
-use Rattle.pungi_tree.specs.ExprDepth.{spec_depth, tail_depth, param_decl_depth, param_decls_depth, param_declr_depth}
-use Rattle.pungi_tree.specs.ExprLevels.{spec_ok, tail_ok, param_decl_ok, param_decls_ok, param_declr_ok, void_ok, is_empty, has_no_params}
-use Rattle.pungi_tree.specs.ExprSpells.{SpellsSpec, SpellsSizes, SpellsTail, SpellsParamDeclr, SpellsParamDecl, SpellsMoreParamDecls, SpellsDots}
+use Rattle.pungi_parse.proofs.Words.{keywords_complete, stars_complete, keys_no_longer, stars_no_longer}
+use Rattle.pungi_tree.specs.ExprDepth.{param_decl_depth, param_decls_depth}
+use Rattle.pungi_tree.specs.ExprLevels.{spec_ok, tail_ok, param_decl_ok, param_decls_ok, param_declr_ok, void_ok}
+use Rattle.pungi_tree.specs.ExprSpells.{SpellsSizes, SpellsTail, SpellsParamDeclr, SpellsParamDecl, SpellsMoreParamDecls, SpellsDots}
 use Rattle.pungi_tree.specs.Operators.{is_qualifier, all_keys}
-use Rattle.pungi_tree.specs.Placed.{Placed, mark_at, key_at, word_at}
-use Rattle.pungi_tree.specs.Syntax.{Spec, Declr, declr, Tail, sizes, function, Sizes, no_sizes, open_and, size_and, Params, params, ParamDecl, param_decl, ParamDecls, no_params, param_and, ParamDeclr, named, bare, unused}
+use Rattle.pungi_tree.specs.Placed.{Placed, mark_at}
+use Rattle.pungi_tree.specs.Syntax.{Spec, declr, Tail, sizes, function, Sizes, no_sizes, open_and, size_and, params, ParamDecl, param_decl, ParamDecls, no_params, param_and, ParamDeclr, named, bare, unused}
 use Rattle.pungi_tree.specs.Tokens.{named_word}
-use Rattle.pungi_tree.specs.TypeWords.{is_type, is_word}
+use Rattle.pungi_tree.specs.TypeWords.{is_word}
 
 when_none : {A : Type 0} (b : Bool) → when {A = A} b None ≡ None
 unfolding when
@@ -58,28 +56,28 @@ param_declr_begins (unused ss n p) ts rest s e = stars_begin ss ts _ s.3 (record
 
 module _ (types : List Name) where
   -- a declared name is no `Py_UNUSED (`
-  tail_no_unused : (low : Lower) (w : Name) (p : Pos) (t : Tail) (ts rest : List Placed) → SpellsTail w p t ts rest → is_word types w ≡ true → ParamEnds rest → unused_front types low ts ≡ None
+  tail_no_unused : (w : Name) (p : Pos) (t : Tail) (ts rest : List Placed) → SpellsTail w p t ts rest → is_word types w ≡ true → ParamEnds rest → unused_front types ts ≡ None
   unfolding unused_front plain_word chain unless
-  tail_no_unused low w p (sizes ss) ts rest s ok e = rw (s.1, not_true _ ok, sizes_no_paren ss s.0 rest s.2 e) (when_none (w.0 == PY_UNUSED))
+  tail_no_unused w p (sizes ss) ts rest s ok e = rw (s.1, not_true _ ok, sizes_no_paren ss s.0 rest s.2 e) (when_none (w.0 == PY_UNUSED))
     where
       sizes_no_paren : (ss : Sizes) (ts rest : List Placed) → SpellsSizes ss ts rest → ParamEnds rest → eat puncts.LeftParen ts ≡ None
       sizes_no_paren no_sizes ts rest s e = rw s e.no_paren
       sizes_no_paren (open_and ss) ts rest s e = rw s.3 refl
       sizes_no_paren (size_and x ss) ts rest s e = rw s.4 refl
-  tail_no_unused low w p (function ps) ts rest s ok e = rw s.6 refl
+  tail_no_unused w p (function ps) ts rest s ok e = rw s.6 refl
 
-  tail_begins_name : (low : Lower) (w : Name) (p : Pos) (t : Tail) (ts rest : List Placed) → SpellsTail w p t ts rest → begins_name types low ts ≡ true
+  tail_begins_name : (w : Name) (p : Pos) (t : Tail) (ts rest : List Placed) → SpellsTail w p t ts rest → begins_name ts ≡ true
   unfolding begins_name
-  tail_begins_name low w p (sizes ss) ts rest s = rw s.1 refl
-  tail_begins_name low w p (function ps) ts rest s = rw s.6 refl
+  tail_begins_name w p (sizes ss) ts rest s = rw s.1 refl
+  tail_begins_name w p (function ps) ts rest s = rw s.6 refl
 
   pub param_named : (ss : List ℕ) (w : Name) (p : Pos) (t : Tail) → TailReads types t → ParamDeclrReads types (named (declr ss w p t))
   unfolding param_declr_at param_rest on_some chain when
   param_named ss w p t f n d ts rest s ok deep long e =
       let a = and_true (is_word types w) (tail_ok types t) ok in
       let c = stars_complete ss ts s.0 s.1 (tail_begins w p t s.0 rest s.2).stars in
-      let b = tail_begins_name (readers types n d) w p t s.0 rest s.2 in
-      let u = tail_no_unused (readers types n d) w p t s.0 rest s.2 a.0 e in
+      let b = tail_begins_name w p t s.0 rest s.2 in
+      let u = tail_no_unused w p t s.0 rest s.2 a.0 e in
       let r = f n d ss w p s.0 rest s.2 a.0 a.1 deep (omega (arith, long, stars_no_longer ss ts s.0 s.1)) e.declr in
       rw (c, b, u, r) refl
 
@@ -159,6 +157,6 @@ module _ (types : List Name) where
       let b = and_true (param_decl_ok types x) (param_decls_ok types ds) a.1 in
       let p : SpellsParamDecl x ts s.3.0 = subst (λ z. SpellsParamDecl x z s.3.0) (sym s.2) s.3.1 in
       let none = param_no_mark puncts.RightParen x ts s.3.0 p b.0 in
-      let v = no_void_front types (readers types n d) x ds dots ts s.3.0 s.1 _ p s.3.2 s.4 b.0 a.0 in
+      let v = no_void_front types x ds dots ts s.3.0 s.1 _ p s.3.2 s.4 b.0 a.0 in
       let r = some_params_read x ds dots n d q ts s.3.0 s.1 rest g f p s.3.2 s.4 b.0 b.1 (omega (arith, deep)) (omega (arith, deep)) (omega (arith, long)) in
       rw (none, v) r

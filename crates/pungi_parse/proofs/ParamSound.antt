@@ -1,27 +1,23 @@
 -- What is read as parameters stands at the front of the tokens.
 --   .._gets           what the reader of the same name reads
-use Rattle.std.proofs.Common.{◌≡◌, ℕ, zero, suc, ◌+◌, ◌<◌, ◌≤◌, max, Bool, true, false, not, ◌&&◌, ◌⊎◌, inl, inr, List, [], ◌∷◌, length, Option, Some, None, refl, sym, ◌∙◌, ap, subst, arith}
+use Rattle.std.proofs.Common.{◌≡◌, ℕ, zero, suc, Bool, true, false, ◌&&◌, inl, inr, List, ◌∷◌, length, Option, Some, None, refl, ◌∙◌, ap, subst, arith}
 use Rattle.std.specs.Prelude.{◌==◌}
-use Rattle.pungi_base.specs.declared.key.Key.{Key}
-use Rattle.pungi_base.specs.declared.key.Key.TheVariants as keys
 use Rattle.pungi_base.specs.declared.names.Name.{Name}
 use Rattle.pungi_base.specs.declared.pos.Pos.{Pos}
 use Rattle.pungi_base.specs.declared.punct.Punct.TheVariants as puncts
 use Rattle.pungi_base.specs.declared.words.TheConstants.{PY_UNUSED}
-use Rattle.pungi_parse.specs.Eat.{eat, eat_key, eat_word, eat_listed}
-use Rattle.pungi_parse.specs.Reading.{◌>>=◌, chain, on_some, when, unless}
-use Rattle.pungi_parse.specs.TypeReader.{Lower, keywords, stars, plain_word, declr_rest, unused_front, param_rest, begins_name, param_declr_at, param, dots_front, more_params, void_front, some_params, params_at}
+use Rattle.pungi_parse.specs.TypeReader.{Lower, keywords, stars, unused_front, param_rest, param_declr_at, param, dots_front, more_params, void_front, some_params, params_at}
 use Rattle.pungi_parse.proofs.Eaten.{eat_some, eat_key_some}
-use Rattle.pungi_parse.proofs.LowSound.{Gets, GetsParamDeclr, GetsParamDecl, GetsMoreParams, GetsParams, LowSound}
-use Rattle.pungi_parse.proofs.Tools.{bind_some, on_some_cases, when_some, unless_some, some_same, and_true, and_join, and_false, not_false, eq_from}
+use Rattle.pungi_parse.proofs.LowSound.{GetsParamDeclr, GetsParamDecl, GetsMoreParams, GetsParams, LowSound}
+use Rattle.pungi_parse.proofs.Tools.{bind_some, on_some_cases, when_some, some_same, and_join, and_false, not_false, eq_from}
 use Rattle.pungi_parse.proofs.TypeSound.{declr_rest_gets}
 use Rattle.pungi_parse.proofs.Void.{lone_front}
 use Rattle.pungi_parse.proofs.Words.{keywords_sound, stars_sound, plain_word_sound}
-use Rattle.pungi_tree.specs.ExprLevels.{is_void_param, is_lone_void, has_no_params, void_ok}
-use Rattle.pungi_tree.specs.ExprSpells.{SpellsParamDecl, SpellsMoreParamDecls, SpellsParamDeclr, SpellsDots, SpellsStars, SpellsParams}
+use Rattle.pungi_tree.specs.ExprLevels.{is_void_param, is_lone_void, void_ok}
+use Rattle.pungi_tree.specs.ExprSpells.{SpellsParamDecl, SpellsMoreParamDecls, SpellsDots, SpellsStars, SpellsParams}
 use Rattle.pungi_tree.specs.Operators.{is_qualifier}
-use Rattle.pungi_tree.specs.Placed.{Placed, mark_at, key_at, word_at}
-use Rattle.pungi_tree.specs.Syntax.{Params, params, ParamDecl, param_decl, ParamDecls, no_params, param_and, ParamDeclr, named, bare, unused}
+use Rattle.pungi_tree.specs.Placed.{Placed, mark_at, word_at}
+use Rattle.pungi_tree.specs.Syntax.{Params, params, ParamDecl, ParamDecls, no_params, param_and, ParamDeclr}
 use Rattle.pungi_tree.specs.Tokens.{named_word}
 use Rattle.pungi_tree.specs.TypeWords.{is_word}
 
@@ -35,9 +31,9 @@ pub record UnusedFront (types : List Name) (ts : List Placed) (u : Name × Pos �
   pub tokens : ts ≡ word_at (named_word PY_UNUSED) place ∷ mark_at puncts.LeftParen u.1 ∷ u.2
   pub plain : is_word types (named_word PY_UNUSED) ≡ true
 
-pub unused_front_sound : (types : List Name) (low : Lower) (ts : List Placed) (u : Name × Pos × List Placed) → unused_front types low ts ≡ Some u → UnusedFront types ts u
+pub unused_front_sound : (types : List Name) (ts : List Placed) (u : Name × Pos × List Placed) → unused_front types ts ≡ Some u → UnusedFront types ts u
 unfolding unused_front
-unused_front_sound types low ts u h =
+unused_front_sound types ts u h =
     let w = bind_some _ _ _ h in
     let g = when_some _ _ _ w.2 in
     let o = bind_some _ _ _ g.1 in
@@ -46,15 +42,15 @@ unused_front_sound types low ts u h =
     let t : ts ≡ word_at (named_word PY_UNUSED) w.0.1 ∷ mark_at puncts.LeftParen o.0.0 ∷ o.0.1 = v.0 ∙ ap (λ z. word_at z w.0.1 ∷ w.0.2) e ∙ ap (λ z. word_at (named_word PY_UNUSED) w.0.1 ∷ z) (eat_some _ w.0.2 o.0 o.1) in
     subst (UnusedFront types ts) (some_same _ _ o.2) (record { place = w.0.1; tokens = t; plain = subst (λ z. is_word types z ≡ true) e v.1 })
 
-not_lone : (types : List Name) (low : Lower) (d : ParamDecl) (ds : ParamDecls) (q : Pos) (ts between after rest : List Placed) → void_front types low ts ≡ None → SpellsParamDecl d ts between → SpellsMoreParamDecls ds between after → after ≡ mark_at puncts.RightParen q ∷ rest → is_lone_void (param_and d ds) ≡ false
-not_lone types low d no_params q ts between after rest h s m e = by (is_void_param d) refl
+not_lone : (d : ParamDecl) (ds : ParamDecls) (q : Pos) (ts between after rest : List Placed) → void_front ts ≡ None → SpellsParamDecl d ts between → SpellsMoreParamDecls ds between after → after ≡ mark_at puncts.RightParen q ∷ rest → is_lone_void (param_and d ds) ≡ false
+not_lone d no_params q ts between after rest h s m e = by (is_void_param d) refl
   where
     by : (b : Bool) → is_void_param d ≡ b → (b && true) ≡ false
     by false v = refl
     by true v =
-        let f : void_front types low ts ≡ Some (q, rest) = lone_front types low d q ts rest v (subst (λ z. SpellsParamDecl d ts z) (m ∙ e) s) in
+        let f : void_front ts ≡ Some (q, rest) = lone_front d q ts rest v (subst (λ z. SpellsParamDecl d ts z) (m ∙ e) s) in
         absurd (cc)
-not_lone types low d (param_and c ds) q ts between after rest h s m e = and_false (is_void_param d)
+not_lone d (param_and c ds) q ts between after rest h s m e = and_false (is_void_param d)
 
 module _ (types : List Name) (d : ℕ) (low : Lower) (sound : LowSound types d low) where
   param_rest_gets : (ss : List ℕ) (start ts : List Placed) (x : ParamDeclr × List Placed) → SpellsStars ss start ts → param_rest types low ss ts ≡ Some x → GetsParamDeclr types d start x
@@ -63,7 +59,7 @@ module _ (types : List Name) (d : ℕ) (low : Lower) (sound : LowSound types d l
     | inl u ↦
         let w = bind_some _ _ _ u.2 in
         let c = bind_some _ _ _ w.2 in
-        let f = unused_front_sound types low ts u.0 u.1 in
+        let f = unused_front_sound types ts u.0 u.1 in
         let v = plain_word_sound types u.0.2 w.0 w.1 in
         let e : ts ≡ word_at (named_word PY_UNUSED) f.place ∷ mark_at puncts.LeftParen u.0.1 ∷ word_at w.0.0 w.0.1 ∷ mark_at puncts.RightParen c.0.0 ∷ c.0.1
         = f.tokens ∙ ap (λ z. word_at (named_word PY_UNUSED) f.place ∷ mark_at puncts.LeftParen u.0.1 ∷ z) (v.0 ∙ ap (λ z. word_at w.0.0 w.0.1 ∷ z) (eat_some _ w.0.2 c.0 c.1)) in
@@ -125,11 +121,11 @@ module _ (types : List Name) (d : ℕ) (low : Lower) (sound : LowSound types d l
     ]
   ]
 
-  void_allowed : (c : ParamDecl) (ds : ParamDecls) (dots : Option Pos) (q : Pos) (ts between after rest : List Placed) → void_front types low ts ≡ None → SpellsParamDecl c ts between → SpellsMoreParamDecls ds between after → SpellsDots dots after (mark_at puncts.RightParen q ∷ rest) → void_ok false (param_and c ds) dots ≡ true
-  void_allowed c ds None q ts between after rest h s m e = not_false _ (not_lone types low c ds q ts between after rest h s m e)
+  void_allowed : (c : ParamDecl) (ds : ParamDecls) (dots : Option Pos) (q : Pos) (ts between after rest : List Placed) → void_front ts ≡ None → SpellsParamDecl c ts between → SpellsMoreParamDecls ds between after → SpellsDots dots after (mark_at puncts.RightParen q ∷ rest) → void_ok false (param_and c ds) dots ≡ true
+  void_allowed c ds None q ts between after rest h s m e = not_false _ (not_lone c ds q ts between after rest h s m e)
   void_allowed c ds (Some p) q ts between after rest h s m e = refl
 
-  some_params_get : (ts : List Placed) (x : Params × List Placed) → void_front types low ts ≡ None → some_params types low ts ≡ Some x → GetsParams types d ts x
+  some_params_get : (ts : List Placed) (x : Params × List Placed) → void_front ts ≡ None → some_params types low ts ≡ Some x → GetsParams types d ts x
   unfolding some_params
   some_params_get ts x none h =
       let p = bind_some _ _ _ h in

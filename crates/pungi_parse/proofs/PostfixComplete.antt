@@ -1,39 +1,35 @@
 -- Primary and postfix expressions that stand at the front of the tokens are read, by what is known of their parts.
 --   ArgsRead, MoreArgsRead    the readers of arguments read them
 --   .._steps          the facts of an expression of this kind
-use Rattle.std.proofs.Common.{◌≡◌, ℕ, ℤ, zero, suc, ◌+◌, ◌<◌, ◌≤◌, max, Bool, true, false, not, ◌&&◌, List, [], ◌∷◌, length, Option, Some, None, refl, sym, ◌∙◌, ap, subst, arith}
-use Rattle.std.specs.Prelude.{nat_le, ◌==◌}
-use Rattle.pungi_base.specs.declared.key.Key.TheVariants as keys
-use Rattle.pungi_base.specs.declared.kind.Kind.TheVariants as kind
+use Rattle.std.proofs.Common.{◌≡◌, ℕ, ℤ, zero, suc, ◌<◌, ◌≤◌, Bool, true, false, not, ◌&&◌, List, [], ◌∷◌, length, Some, None, refl, sym, ◌∙◌, ap, subst, arith}
 use Rattle.pungi_base.specs.declared.names.Name.{Name}
 use Rattle.pungi_base.specs.declared.pos.Pos.{Pos}
 use Rattle.pungi_base.specs.declared.punct.Punct.{Punct}
 use Rattle.pungi_base.specs.declared.punct.Punct.TheVariants as puncts
 use Rattle.pungi_base.specs.declared.words.TheConstants.{PY_OBJECT_NEW}
-use Rattle.pungi_parse.specs.Eat.{eat, eat_literal, eat_text, eat_step}
+use Rattle.pungi_parse.specs.Eat.{eat, eat_literal, eat_text}
 use Rattle.pungi_parse.specs.ExprReader.{more_args, some_args, args_at, new_front, new_at, paren_at, primary, index_at, call_at, postfix_turn}
 use Rattle.pungi_parse.specs.ExprReader as reader
-use Rattle.pungi_parse.specs.Reading.{Read, ◌>>=◌, chain, on_some, when, unless}
+use Rattle.pungi_parse.specs.Reading.{chain, on_some, when, unless}
 use Rattle.pungi_parse.specs.Readers.{readers}
-use Rattle.pungi_parse.specs.TypeReader.{Lower, texts, plain_word, type_word, begins_type, type_name_at}
-use Rattle.pungi_parse.proofs.Begins.{ExprBegins, TypeBegins}
-use Rattle.pungi_parse.proofs.Choices.{NoType, no_paren, paren_no_type, no_new_front}
-use Rattle.pungi_parse.proofs.Ends.{ExprEnds, PostfixEnds, ends_at_paren, ends_at_bracket, ends_at_comma, ends_at_assignment}
-use Rattle.pungi_parse.proofs.Facts.{ExprReads, SpecReads, TypeNameReads, TypeEnds}
+use Rattle.pungi_parse.specs.TypeReader.{Lower, plain_word, type_word, begins_type, type_name_at}
+use Rattle.pungi_parse.proofs.Choices.{no_paren, paren_no_type, no_new_front}
+use Rattle.pungi_parse.proofs.Ends.{ExprEnds, ends_at_paren, ends_at_bracket, ends_at_comma, ends_at_assignment}
+use Rattle.pungi_parse.proofs.Facts.{ExprReads, TypeNameReads, TypeEnds}
 use Rattle.pungi_parse.proofs.Fronts.{other_mark, expr_begins, spec_begins}
 use Rattle.pungi_parse.proofs.Levels.{at_level, at_whole}
 use Rattle.pungi_parse.proofs.Shorter.{expr_no_longer, type_name_no_longer}
-use Rattle.pungi_parse.proofs.Steps.{PostfixComes, PostfixAll, Stands, Steps, from_primary, postfix_next, postfix_steps, whole}
+use Rattle.pungi_parse.proofs.Steps.{PostfixComes, Stands, Steps, from_primary, postfix_next, postfix_steps}
 use Rattle.pungi_parse.proofs.Tools.{and_true, not_true, some_same}
 use Rattle.pungi_parse.proofs.Words.{texts_complete, plain_word_complete}
-use Rattle.pungi_tree.specs.ExprDepth.{expr_depth, exprs_depth, type_name_depth}
+use Rattle.pungi_tree.specs.ExprDepth.{expr_depth, exprs_depth}
 use Rattle.pungi_tree.specs.ExprLevels.{expr_at, args_ok, type_name_ok, is_empty}
 use Rattle.pungi_tree.specs.ExprSpells.{Spells, SpellsArgs, SpellsMoreArgs, SpellsTypeName, SpellsTexts}
 use Rattle.pungi_tree.specs.Operators.{is_step, level}
-use Rattle.pungi_tree.specs.Placed.{Placed, mark_at, key_at, word_at, text_at, first_place}
+use Rattle.pungi_tree.specs.Placed.{Placed, mark_at, word_at, text_at, first_place}
 use Rattle.pungi_tree.specs.Syntax.{Expr, word, int, float, char, text, null, paren, post, call, new, index, dot, arrow, Exprs, no_exprs, expr_and, TypeName, type_name}
 use Rattle.pungi_tree.specs.Tokens.{named_word}
-use Rattle.pungi_tree.specs.TypeWords.{is_type, is_word}
+use Rattle.pungi_tree.specs.TypeWords.{is_word}
 
 pub type_ends_at_paren : (q : Pos) (ts : List Placed) → TypeEnds (mark_at puncts.RightParen q ∷ ts)
 type_ends_at_paren q ts = record { spec = record { no_const = refl; no_base_word = refl; no_brace = refl }; stars = record { no_star = refl; no_const = refl } }
@@ -94,7 +90,7 @@ module _ (types : List Name) where
   unfolding primary on_some chain unless
   word_steps p w = postfix_steps types (word p w) (omega arith) (λ n d q ts rest s place none ends.
       let ok = (and_true true (is_word types w) s.allowed).1 in
-      let front : primary types (readers types n d) (word_at w p ∷ rest) ≡ Some (word p w, rest) = rw (no_new_front types rest ends (readers types n d) w p ok, plain_word_complete types w p rest ok) refl in
+      let front : primary types (readers types n d) (word_at w p ∷ rest) ≡ Some (word p w, rest) = rw (no_new_front types rest ends w p ok, plain_word_complete types w p rest ok) refl in
       from_primary types n d q (word p w) ts rest place (subst (λ z. primary types (readers types n d) z ≡ Some (word p w, rest)) (sym s.spells) front))
 
   literal_steps : (e : Expr) → 15 ≤ level e → ((ts rest : List Placed) → Spells e ts rest → eat_literal ts ≡ Some (e, rest)) → Steps types e

@@ -6,30 +6,30 @@
 --   .._stop           the loop ends
 --   .._up             the fact of a level, by that of the next tighter one
 --   whole             the readers over each other read it
-use Rattle.std.proofs.Common.{◌≡◌, ℕ, zero, suc, ◌+◌, ◌<◌, ◌≤◌, max, Bool, true, false, cond, not, ◌&&◌, List, [], ◌∷◌, length, Option, Some, None, refl, sym, ◌∙◌, ap, subst, arith}
-use Rattle.std.specs.Prelude.{nat_le, nat_lt}
+use Rattle.std.proofs.Common.{◌≡◌, ℕ, zero, suc, ◌+◌, ◌<◌, ◌≤◌, Bool, true, false, cond, List, [], ◌∷◌, length, Some, None, refl, ◌∙◌, subst, arith}
+use Rattle.std.specs.Prelude.{nat_le}
 use Rattle.pungi_base.specs.declared.key.Key.TheVariants as keys
 use Rattle.pungi_base.specs.declared.names.Name.{Name}
 use Rattle.pungi_base.specs.declared.pos.Pos.{Pos}
 use Rattle.pungi_base.specs.declared.punct.Punct.TheVariants as puncts
-use Rattle.pungi_parse.specs.Eat.{eat, eat_key, eat_text, eat_prefix, eat_operator, eat_assign, eat_step}
+use Rattle.pungi_parse.specs.Eat.{eat, eat_key, eat_text, eat_prefix, eat_operator, eat_assign}
 use Rattle.pungi_parse.specs.ExprReader.{primary, postfix_turn, postfixes, postfix, unary, casted, operations, climb, conditional_rest, conditional_at, assign_rest, assign_at, commas, comma_at, read_at, expr_at as read_expr}
-use Rattle.pungi_parse.specs.Reading.{Read, ◌>>=◌, chain, on_some, when, unless}
+use Rattle.pungi_parse.specs.Reading.{Read, chain, on_some, when}
 use Rattle.pungi_parse.specs.Readers.{readers}
 use Rattle.pungi_parse.specs.TypeReader.{Lower}
 use Rattle.pungi_parse.proofs.Choices.{NoType, no_paren, unary_no_type, postfix_no_prefix, no_cast_front}
-use Rattle.pungi_parse.proofs.Eaten.{no_operator_mono, no_operator_above}
-use Rattle.pungi_parse.proofs.Ends.{at_least, PostfixEnds, ExprEnds, ends_at_assignment}
-use Rattle.pungi_parse.proofs.ExprSound.{at_least_same, none_so_tight}
+use Rattle.pungi_parse.proofs.Eaten.{no_operator_mono}
+use Rattle.pungi_parse.proofs.Ends.{PostfixEnds, ExprEnds, ends_at_assignment}
+use Rattle.pungi_parse.proofs.ExprSound.{at_least_same}
 use Rattle.pungi_parse.proofs.Facts.{ExprReads}
 use Rattle.pungi_parse.proofs.Levels.{at_level, at_whole, some_depth}
 use Rattle.pungi_parse.proofs.Shorter.{expr_shorter}
-use Rattle.pungi_parse.proofs.Tools.{lt_true, le_from, not_le}
+use Rattle.pungi_parse.proofs.Tools.{lt_true, le_from}
 use Rattle.pungi_tree.specs.ExprDepth.{expr_depth}
 use Rattle.pungi_tree.specs.ExprLevels.{expr_at}
 use Rattle.pungi_tree.specs.ExprSpells.{Spells}
 use Rattle.pungi_tree.specs.Operators.{level}
-use Rattle.pungi_tree.specs.Placed.{Placed, mark_at, first_place}
+use Rattle.pungi_tree.specs.Placed.{Placed, first_place}
 use Rattle.pungi_tree.specs.Syntax.{Expr}
 
 module _ (types : List Name) where
@@ -126,7 +126,7 @@ module _ (types : List Name) where
 
   from_unary : (n d : ℕ) (e : Expr) (ts rest : List Placed) → NoType types ts → unary types (readers types n d) (suc d) ts ≡ Some (e, rest) → casted types (readers types n d) (suc d) ts ≡ Some (e, rest)
   unfolding casted on_some
-  from_unary n d e ts rest none h = rw (no_cast_front types ts none (readers types n d) (suc d)) h
+  from_unary n d e ts rest none h = rw (no_cast_front types ts none) h
 
   cast_up : (e : Expr) → 14 ≤ level e → UnaryAll e → CastAll e
   cast_up e high f n d ts rest s ends = from_unary n d e ts rest (unary_no_type types 0 e ts rest high s.allowed s.spells) (f n d ts rest s ends)

@@ -2,9 +2,7 @@
 -- their parts.
 --   operator_ends, assign_ends    an operator stops what stands before it
 --   .._steps          the facts of an expression of this kind
-use Rattle.std.proofs.Common.{◌≡◌, ℕ, zero, suc, ◌+◌, ◌<◌, ◌≤◌, max, Bool, true, false, not, ◌&&◌, List, [], ◌∷◌, length, Option, Some, None, refl, sym, ◌∙◌, ap, subst, add-one, arith}
-use Rattle.std.specs.Prelude.{nat_le, nat_lt}
-use Rattle.pungi_base.specs.declared.key.Key.{Key}
+use Rattle.std.proofs.Common.{◌≡◌, ℕ, zero, suc, ◌+◌, ◌<◌, ◌≤◌, true, ◌&&◌, List, ◌∷◌, length, Some, None, refl, sym, ◌∙◌, ap, subst, add-one, arith}
 use Rattle.pungi_base.specs.declared.key.Key.TheVariants as keys
 use Rattle.pungi_base.specs.declared.kind.Kind.{Kind}
 use Rattle.pungi_base.specs.declared.kind.Kind.TheVariants as kind
@@ -12,12 +10,12 @@ use Rattle.pungi_base.specs.declared.names.Name.{Name}
 use Rattle.pungi_base.specs.declared.pos.Pos.{Pos}
 use Rattle.pungi_base.specs.declared.punct.Punct.{Punct}
 use Rattle.pungi_base.specs.declared.punct.Punct.TheVariants as puncts
-use Rattle.pungi_parse.specs.Eat.{eat, eat_key, eat_prefix, eat_operator, eat_assign}
+use Rattle.pungi_parse.specs.Eat.{eat, eat_operator}
 use Rattle.pungi_parse.specs.ExprReader.{sizeof_at, unary, cast_front, casted, operations, climb, conditional_rest, conditional_at, assign_rest, assign_at, commas, comma_at}
-use Rattle.pungi_parse.specs.Reading.{Read, ◌>>=◌, chain, on_some, when, unless}
+use Rattle.pungi_parse.specs.Reading.{◌>>=◌, chain, on_some, when}
 use Rattle.pungi_parse.specs.Readers.{readers}
 use Rattle.pungi_parse.specs.TypeReader.{Lower, begins_type, type_name_at}
-use Rattle.pungi_parse.proofs.Choices.{NoType, unary_no_type, no_sizeof_front}
+use Rattle.pungi_parse.proofs.Choices.{unary_no_type, no_sizeof_front}
 use Rattle.pungi_parse.proofs.Eaten.{no_operator_mono, operator_low}
 use Rattle.pungi_parse.proofs.Ends.{at_least, PostfixEnds, ExprEnds, ends_at_colon, ends_at_comma}
 use Rattle.pungi_parse.proofs.ExprSound.{at_least_same, none_so_tight}
@@ -27,10 +25,9 @@ use Rattle.pungi_parse.proofs.PostfixComplete.{type_ends_at_paren, type_name_beg
 use Rattle.pungi_parse.proofs.Shorter.{expr_no_longer, type_name_no_longer}
 use Rattle.pungi_parse.proofs.Steps.{ClimbComes, CommaComes, Stands, Steps, UnaryAll, ClimbAll, operations_stop, comma_steps, assign_steps, conditional_steps, climb_steps, cast_steps, unary_steps}
 use Rattle.pungi_parse.proofs.Tools.{and_true, le_true, lt_true}
-use Rattle.pungi_tree.specs.ExprDepth.{expr_depth, type_name_depth}
+use Rattle.pungi_tree.specs.ExprDepth.{expr_depth}
 use Rattle.pungi_tree.specs.ExprLevels.{expr_at, type_name_ok}
-use Rattle.pungi_tree.specs.ExprSpells.{Spells, SpellsTypeName}
-use Rattle.pungi_tree.specs.Operators.{binary_level, is_assign, prefix_need, prefix_mark_need, prefix_key_need, level}
+use Rattle.pungi_tree.specs.Operators.{binary_level, is_assign, prefix_mark_need, prefix_key_need, level}
 use Rattle.pungi_tree.specs.Placed.{Placed, mark_at, key_at}
 use Rattle.pungi_tree.specs.Syntax.{Expr, unary as prefix, binary, assign, conditional, comma, cast, size_of_type, TypeName}
 

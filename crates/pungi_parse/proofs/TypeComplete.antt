@@ -1,28 +1,27 @@
 -- A type or a declarator that stands at the front of the tokens is read, by what is known of its parts.
 --   .._reads, .._read    the reader of the same name reads it
-use Rattle.std.proofs.Common.{◌≡◌, ℕ, zero, suc, ◌+◌, ◌<◌, ◌≤◌, max, Bool, true, false, not, ◌&&◌, List, [], ◌∷◌, length, Option, Some, None, is_some, refl, sym, ◌∙◌, ap, subst, arith}
+use Rattle.std.proofs.Common.{◌≡◌, ℕ, zero, suc, ◌<◌, ◌≤◌, Bool, true, false, ◌&&◌, List, [], ◌∷◌, length, Option, Some, None, refl, sym, ap, subst, arith}
 use Rattle.pungi_base.specs.declared.key.Key.{Key}
 use Rattle.pungi_base.specs.declared.key.Key.TheVariants as keys
 use Rattle.pungi_base.specs.declared.names.Name.{Name}
 use Rattle.pungi_base.specs.declared.pos.Pos.{Pos}
 use Rattle.pungi_base.specs.declared.punct.Punct.TheVariants as puncts
-use Rattle.pungi_parse.specs.Eat.{eat, eat_key, eat_word, eat_listed}
-use Rattle.pungi_parse.specs.Reading.{◌>>=◌, chain, on_some, when, unless}
+use Rattle.pungi_parse.specs.Eat.{eat, eat_listed}
+use Rattle.pungi_parse.specs.Reading.{chain, on_some, when, unless}
 use Rattle.pungi_parse.specs.Readers.{readers}
-use Rattle.pungi_parse.specs.TypeReader.{Lower, keywords, consts, stars, type_word, plain_word, sizes_in, sizes_at, function_rest, declr_rest, declr_at, more_declrs, declrs, field, fields, fields_at, aggregate, base_at, spec_at, type_name_at}
-use Rattle.pungi_parse.proofs.Begins.{ExprBegins, TypeBegins, DeclBegins}
-use Rattle.pungi_parse.proofs.Ends.{ExprEnds, SpecEnds, StarsEnd, DeclrEnds, ends_at_bracket}
+use Rattle.pungi_parse.specs.TypeReader.{Lower, stars, type_word, plain_word, sizes_in, sizes_at, function_rest, declr_rest, declr_at, more_declrs, declrs, field, fields, fields_at, aggregate, base_at, spec_at, type_name_at}
+use Rattle.pungi_parse.proofs.Ends.{SpecEnds, DeclrEnds, ends_at_bracket}
 use Rattle.pungi_parse.proofs.Facts.{ExprReads, SpecReads, ParamsReads, TypeNameReads, BaseReads, FieldReads, FieldsRead, TailReads, DeclrReads, DeclrsRead, MoreDeclrsRead, SizesRead, TypeEnds}
 use Rattle.pungi_parse.proofs.Fronts.{expr_begins, spec_begins, decl_begins}
 use Rattle.pungi_parse.proofs.Shorter.{expr_no_longer, spec_shorter, spec_no_longer, declr_no_longer, declrs_no_longer}
 use Rattle.pungi_parse.proofs.Tools.{and_true, not_true}
-use Rattle.pungi_parse.proofs.Words.{keywords_complete, consts_complete, stars_complete, type_word_complete, plain_word_complete, no_type_word, keys_no_longer, stars_no_longer}
-use Rattle.pungi_tree.specs.ExprDepth.{expr_depth, spec_depth, base_depth, field_depth, fields_depth, declr_depth, declrs_depth, sizes_depth, params_depth}
-use Rattle.pungi_tree.specs.ExprLevels.{expr_at, spec_ok, base_ok, tag_ok, field_ok, fields_ok, declr_ok, declrs_ok, some_declrs_ok, sizes_ok, params_ok, is_empty}
-use Rattle.pungi_tree.specs.ExprSpells.{SpellsSpec, SpellsStars, SpellsConsts, SpellsTag, SpellsField, SpellsFields, SpellsDeclr, SpellsDeclrs, SpellsMoreDeclrs, SpellsTail}
+use Rattle.pungi_parse.proofs.Words.{keywords_complete, consts_complete, stars_complete, type_word_complete, plain_word_complete, keys_no_longer, stars_no_longer}
+use Rattle.pungi_tree.specs.ExprDepth.{fields_depth}
+use Rattle.pungi_tree.specs.ExprLevels.{expr_at, spec_ok, field_ok, fields_ok, declr_ok, declrs_ok, some_declrs_ok, sizes_ok}
+use Rattle.pungi_tree.specs.ExprSpells.{SpellsStars, SpellsConsts, SpellsField, SpellsFields, SpellsDeclr, SpellsDeclrs, SpellsMoreDeclrs, SpellsTail}
 use Rattle.pungi_tree.specs.Operators.{is_base_word, is_qualifier, is_aggregate, all_keys}
-use Rattle.pungi_tree.specs.Placed.{Placed, mark_at, key_at, word_at, first_place}
-use Rattle.pungi_tree.specs.Syntax.{Expr, TypeName, type_name, Spec, spec, Base, words, alias, tagged, tagged_fields, Field, empty, members, Fields, no_fields, field_and, Declr, declr, Declrs, no_declrs, declr_and, Tail, sizes, function, Sizes, no_sizes, open_and, size_and, Params}
+use Rattle.pungi_tree.specs.Placed.{Placed, mark_at, word_at}
+use Rattle.pungi_tree.specs.Syntax.{Expr, type_name, Spec, spec, Base, words, alias, tagged, tagged_fields, Field, empty, members, Fields, no_fields, field_and, Declr, declr, Declrs, no_declrs, declr_and, Tail, sizes, function, Sizes, no_sizes, open_and, size_and, Params}
 use Rattle.pungi_tree.specs.TypeWords.{is_type, is_word}
 
 -- what a declared name and what is behind it begin with stops a type and pointers

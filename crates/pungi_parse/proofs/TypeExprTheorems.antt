@@ -5,13 +5,12 @@
 --   .._shorter, .._no_longer    fewer tokens, or no more, are left than there were
 --   .._begins        how the tokens of a tree begin
 --   expr_no_label    where an expression begins with a word, no `:` follows it
-use Rattle.std.proofs.Common.{◌≡◌, ℕ, ◌≤◌, ◌<◌, Bool, true, false, List, ◌∷◌, length, Option, Some, None}
+use Rattle.std.proofs.Common.{◌≡◌, ℕ, ◌≤◌, ◌<◌, Bool, true, List, ◌∷◌, length, Some, None}
 use Rattle.pungi_base.specs.declared.key.Key.{Key}
-use Rattle.pungi_base.specs.declared.key.Key.TheVariants as keys
 use Rattle.pungi_base.specs.declared.names.Name.{Name}
 use Rattle.pungi_base.specs.declared.pos.Pos.{Pos}
 use Rattle.pungi_base.specs.declared.punct.Punct.TheVariants as puncts
-use Rattle.pungi_parse.specs.Eat.{eat, eat_key, eat_text, eat_listed}
+use Rattle.pungi_parse.specs.Eat.{eat, eat_text, eat_listed}
 use Rattle.pungi_parse.specs.Readers.{readers}
 use Rattle.pungi_parse.specs.TypeReader.{keywords, stars, texts, declr_at, plain_word, type_word}
 use Rattle.pungi_parse.proofs.Begins.{ExprBegins, TypeBegins, DeclBegins}

@@ -1,24 +1,22 @@
 -- What is read as a type, a declarator or parameters stands at the front of the tokens.
 --   .._gets           what the reader of the same name reads
-use Rattle.std.proofs.Common.{◌≡◌, ℕ, zero, suc, ◌+◌, ◌<◌, ◌≤◌, max, Bool, true, false, not, ◌&&◌, ◌⊎◌, inl, inr, List, [], ◌∷◌, length, Option, Some, None, refl, sym, ◌∙◌, ap, subst, arith}
+use Rattle.std.proofs.Common.{◌≡◌, ℕ, zero, suc, Bool, true, false, inl, inr, List, ◌∷◌, length, Option, Some, None, refl, ◌∙◌, ap, subst, arith}
 use Rattle.pungi_base.specs.declared.key.Key.{Key}
-use Rattle.pungi_base.specs.declared.key.Key.TheVariants as keys
 use Rattle.pungi_base.specs.declared.names.Name.{Name}
 use Rattle.pungi_base.specs.declared.pos.Pos.{Pos}
 use Rattle.pungi_base.specs.declared.punct.Punct.TheVariants as puncts
-use Rattle.pungi_parse.specs.Eat.{eat, eat_key, eat_word, eat_listed}
-use Rattle.pungi_parse.specs.Reading.{◌>>=◌, chain, on_some, when, unless}
-use Rattle.pungi_parse.specs.TypeReader.{Lower, keywords, consts, stars, type_word, plain_word, sizes_in, sizes_at, function_rest, declr_rest, declr_at, more_declrs, declrs, field, fields, fields_at, aggregate, base_at, spec_at, type_name_at}
+use Rattle.pungi_parse.specs.Eat.{eat_word}
+use Rattle.pungi_parse.specs.Reading.{◌>>=◌, chain, when}
+use Rattle.pungi_parse.specs.TypeReader.{Lower, keywords, stars, type_word, sizes_in, sizes_at, function_rest, declr_rest, declr_at, more_declrs, declrs, field, fields, fields_at, aggregate, base_at, spec_at, type_name_at}
 use Rattle.pungi_parse.proofs.Eaten.{eat_some, eat_word_some, eat_listed_some}
-use Rattle.pungi_parse.proofs.LowSound.{Gets, GetsExpr, GetsTypeName, GetsSpec, GetsBase, GetsField, GetsFields, GetsDeclr, GetsDeclrs, GetsMoreDeclrs, GetsSizes, LowSound}
-use Rattle.pungi_parse.proofs.Tools.{bind_some, on_some_cases, when_some, unless_some, some_same, and_true, and_join, not_false}
+use Rattle.pungi_parse.proofs.LowSound.{GetsTypeName, GetsSpec, GetsBase, GetsField, GetsFields, GetsDeclr, GetsDeclrs, GetsMoreDeclrs, GetsSizes, LowSound}
+use Rattle.pungi_parse.proofs.Tools.{bind_some, on_some_cases, some_same, and_join, not_false}
 use Rattle.pungi_parse.proofs.Words.{keywords_sound, consts_sound, stars_sound, plain_word_sound, type_word_sound}
-use Rattle.pungi_tree.specs.ExprDepth.{expr_depth}
-use Rattle.pungi_tree.specs.ExprLevels.{expr_at, tag_ok}
-use Rattle.pungi_tree.specs.ExprSpells.{Spells, SpellsTypeName, SpellsSpec, SpellsBase, SpellsTag, SpellsField, SpellsFields, SpellsDeclr, SpellsDeclrs, SpellsMoreDeclrs, SpellsSizes, SpellsStars, SpellsTail, SpellsParams}
+use Rattle.pungi_tree.specs.ExprLevels.{tag_ok}
+use Rattle.pungi_tree.specs.ExprSpells.{Spells, SpellsTag, SpellsFields, SpellsDeclrs, SpellsStars}
 use Rattle.pungi_tree.specs.Operators.{is_base_word, is_qualifier, is_aggregate}
-use Rattle.pungi_tree.specs.Placed.{Placed, mark_at, key_at, word_at, first_place}
-use Rattle.pungi_tree.specs.Syntax.{Expr, TypeName, type_name, Spec, spec, Base, words, alias, tagged, tagged_fields, Field, empty, members, Fields, no_fields, field_and, Declr, declr, Declrs, no_declrs, declr_and, Tail, sizes, function, Sizes, no_sizes, open_and, size_and, Params}
+use Rattle.pungi_tree.specs.Placed.{Placed, mark_at, key_at, word_at}
+use Rattle.pungi_tree.specs.Syntax.{TypeName, Spec, Base, Field, Fields, Declr, Declrs, Sizes}
 use Rattle.pungi_tree.specs.TypeWords.{is_type, is_word}
 
 none_when : (b : Bool) (w : Name × Pos × List Placed) → (Some w >>= λ (v : Name × Pos × List Placed). when b (Some v)) ≡ None → b ≡ false

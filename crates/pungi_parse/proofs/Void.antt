@@ -1,18 +1,16 @@
 -- A lone `void` between the parentheses of a function.
 --   lone_param        what a parameter that is a lone `void` is
 --   lone_front        its tokens are a `void` and a closing parenthesis
-use Rattle.std.proofs.Common.{◌≡◌, ℕ, zero, suc, Bool, true, false, ◌&&◌, List, [], ◌∷◌, Option, Some, None, refl, sym, ◌∙◌, ap, ap₂, subst, arith}
+use Rattle.std.proofs.Common.{◌≡◌, true, false, List, [], ◌∷◌, Some, refl, ◌∙◌, ap, ap₂, subst}
 use Rattle.std.specs.Prelude.{◌==◌}
 use Rattle.pungi_base.specs.declared.key.Key.{Key}
 use Rattle.pungi_base.specs.declared.key.Key.TheVariants as keys
-use Rattle.pungi_base.specs.declared.names.Name.{Name}
 use Rattle.pungi_base.specs.declared.pos.Pos.{Pos}
 use Rattle.pungi_base.specs.declared.punct.Punct.TheVariants as puncts
-use Rattle.pungi_parse.specs.Eat.{eat, eat_key}
-use Rattle.pungi_parse.specs.Reading.{◌>>=◌, chain}
-use Rattle.pungi_parse.specs.TypeReader.{Lower, void_front}
+use Rattle.pungi_parse.specs.Reading.{chain}
+use Rattle.pungi_parse.specs.TypeReader.{void_front}
 use Rattle.pungi_parse.proofs.Tools.{and_true, eq_from}
-use Rattle.pungi_tree.specs.ExprLevels.{is_empty, is_void, is_just_void, is_void_base, is_void_spec, is_nothing, is_void_param}
+use Rattle.pungi_tree.specs.ExprLevels.{is_void, is_void_base, is_void_spec, is_nothing, is_void_param}
 use Rattle.pungi_tree.specs.ExprSpells.{SpellsParamDecl}
 use Rattle.pungi_tree.specs.Placed.{Placed, mark_at, key_at}
 use Rattle.pungi_tree.specs.Syntax.{Spec, spec, Base, words, alias, tagged, tagged_fields, ParamDecl, param_decl, ParamDeclr, named, bare, unused}
@@ -54,9 +52,9 @@ void_tokens q ts rest p s =
     (k.1, s.2 ∙ k.2 ∙ ap (λ z. key_at keys.Void k.1 ∷ z) (k.3 ∙ b.3 ∙ s.4))
 
 -- where a lone `void` stands before the closing parenthesis, the reader sees it
-pub lone_front : (types : List Name) (low : Lower) (d : ParamDecl) (q : Pos) (ts rest : List Placed) → is_void_param d ≡ true → SpellsParamDecl d ts (mark_at puncts.RightParen q ∷ rest) → void_front types low ts ≡ Some (q, rest)
+pub lone_front : (d : ParamDecl) (q : Pos) (ts rest : List Placed) → is_void_param d ≡ true → SpellsParamDecl d ts (mark_at puncts.RightParen q ∷ rest) → void_front ts ≡ Some (q, rest)
 unfolding void_front chain
-lone_front types low d q ts rest h s =
+lone_front d q ts rest h s =
     let e = lone_param d h in
     let t = void_tokens q ts rest e.0 (subst (λ z. SpellsParamDecl z ts (mark_at puncts.RightParen q ∷ rest)) e.1 s) in
     rw t.1 refl

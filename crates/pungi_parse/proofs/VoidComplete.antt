@@ -2,25 +2,21 @@
 --   .._at_close       what can stand before a closing parenthesis at once
 --   .._at_void        what can begin with `void` and a closing parenthesis
 --   no_void_front     the tokens of parameters are no `void` and a closing parenthesis
-use Rattle.std.proofs.Common.{◌≡◌, ℕ, zero, suc, Bool, true, false, not, ◌&&◌, List, [], ◌∷◌, Option, Some, None, is_none, refl, sym, ◌∙◌, ap, subst, arith}
-use Rattle.std.specs.Prelude.{◌==◌}
+use Rattle.std.proofs.Common.{◌≡◌, ℕ, zero, suc, true, false, List, [], ◌∷◌, Option, Some, None, refl, sym, ◌∙◌, ap, subst}
 use Rattle.pungi_base.specs.declared.key.Key.{Key}
 use Rattle.pungi_base.specs.declared.key.Key.TheVariants as keys
 use Rattle.pungi_base.specs.declared.kind.Kind.{Kind}
 use Rattle.pungi_base.specs.declared.kind.Kind.TheVariants as kind
 use Rattle.pungi_base.specs.declared.names.Name.{Name}
 use Rattle.pungi_base.specs.declared.pos.Pos.{Pos}
-use Rattle.pungi_base.specs.declared.punct.Punct.{Punct}
 use Rattle.pungi_base.specs.declared.punct.Punct.TheVariants as puncts
-use Rattle.pungi_parse.specs.Eat.{eat, eat_key, eat_word}
-use Rattle.pungi_parse.specs.Reading.{◌>>=◌, chain}
-use Rattle.pungi_parse.specs.TypeReader.{Lower, void_front}
+use Rattle.pungi_parse.specs.TypeReader.{void_front}
 use Rattle.pungi_parse.proofs.Eaten.{eat_some, eat_key_some}
-use Rattle.pungi_parse.proofs.Tools.{bind_some, and_true, not_true}
+use Rattle.pungi_parse.proofs.Tools.{bind_some, and_true}
 use Rattle.pungi_tree.specs.ExprLevels.{base_ok, spec_ok, param_decl_ok, param_declr_ok, is_void_param, is_void_spec, is_void_base, is_nothing, has_no_params, void_ok}
-use Rattle.pungi_tree.specs.ExprSpells.{SpellsKeys, SpellsConsts, SpellsStars, SpellsTag, SpellsBase, SpellsSpec, SpellsTail, SpellsDeclr, SpellsParamDeclr, SpellsParamDecl, SpellsMoreParamDecls, SpellsDots}
-use Rattle.pungi_tree.specs.Operators.{is_base_word, is_qualifier, is_aggregate, all_keys}
-use Rattle.pungi_tree.specs.Placed.{Placed, mark_at, key_at, word_at}
+use Rattle.pungi_tree.specs.ExprSpells.{SpellsKeys, SpellsConsts, SpellsStars, SpellsBase, SpellsSpec, SpellsTail, SpellsDeclr, SpellsParamDeclr, SpellsParamDecl, SpellsMoreParamDecls, SpellsDots}
+use Rattle.pungi_tree.specs.Operators.{is_qualifier, is_aggregate}
+use Rattle.pungi_tree.specs.Placed.{Placed, mark_at, key_at}
 use Rattle.pungi_tree.specs.Syntax.{Spec, spec, Base, words, alias, tagged, tagged_fields, Declr, declr, Tail, sizes, function, ParamDecl, param_decl, ParamDecls, no_params, param_and, ParamDeclr, named, bare, unused}
 
 -- these tokens begin with a closing parenthesis, or with `void` before it
@@ -154,11 +150,11 @@ module _ (types : List Name) where
       let b = dots_at_close dots after rest (subst Closes a.1 o.1) e in
       rw (b, o.0, a.0) refl
 
-  pub no_void_front : (low : Lower) (d : ParamDecl) (ds : ParamDecls) (dots : Option Pos) (ts between after rest : List Placed) → SpellsParamDecl d ts between → SpellsMoreParamDecls ds between after → SpellsDots dots after rest → param_decl_ok types d ≡ true → void_ok false (param_and d ds) dots ≡ true → void_front types low ts ≡ None
+  pub no_void_front : (d : ParamDecl) (ds : ParamDecls) (dots : Option Pos) (ts between after rest : List Placed) → SpellsParamDecl d ts between → SpellsMoreParamDecls ds between after → SpellsDots dots after rest → param_decl_ok types d ≡ true → void_ok false (param_and d ds) dots ≡ true → void_front ts ≡ None
   unfolding void_front
-  no_void_front low d ds dots ts between after rest s m e ok fine = by (void_front types low ts) refl
+  no_void_front d ds dots ts between after rest s m e ok fine = by (void_front ts) refl
     where
-      by : (o : Option (Pos × List Placed)) → void_front types low ts ≡ o → o ≡ None
+      by : (o : Option (Pos × List Placed)) → void_front ts ≡ o → o ≡ None
       by None h = refl
       by (Some x) h =
           let k = bind_some _ _ _ h in

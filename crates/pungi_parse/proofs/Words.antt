@@ -2,21 +2,21 @@
 --   .._gives, .._sound    what is read is spelled
 --   .._complete           what is spelled is read, where no more of it follows
 --   .._no_longer          no more tokens are left than there were
-use Rattle.std.proofs.Common.{◌≡◌, ℕ, zero, suc, ◌+◌, ◌<◌, ◌≤◌, Bool, true, false, not, ◌&&◌, List, [], ◌∷◌, length, Option, Some, None, ◌⊎◌, inl, inr, refl, sym, ◌∙◌, ap, subst, arith}
+use Rattle.std.proofs.Common.{◌≡◌, ℕ, zero, suc, ◌≤◌, Bool, true, List, [], ◌∷◌, length, Some, None, inl, inr, refl, ap, subst, arith}
 use Rattle.pungi_base.specs.declared.key.Key.{Key}
 use Rattle.pungi_base.specs.declared.key.Key.TheVariants as keys
 use Rattle.pungi_base.specs.declared.names.Name.{Name}
 use Rattle.pungi_base.specs.declared.pos.Pos.{Pos}
 use Rattle.pungi_base.specs.declared.punct.Punct.TheVariants as puncts
-use Rattle.pungi_parse.specs.Eat.{eat, eat_key, eat_word, eat_text, eat_listed}
-use Rattle.pungi_parse.specs.Reading.{◌>>=◌, chain, on_some, when, unless}
+use Rattle.pungi_parse.specs.Eat.{eat_key, eat_text, eat_listed}
+use Rattle.pungi_parse.specs.Reading.{chain, on_some, when, unless}
 use Rattle.pungi_parse.specs.TypeReader.{keywords, consts, stars_in, stars, texts, plain_word, type_word}
 use Rattle.pungi_parse.proofs.Eaten.{eat_some, eat_key_some, eat_word_some, eat_text_some, eat_listed_some}
 use Rattle.pungi_parse.proofs.Ends.{StarsEnd}
 use Rattle.pungi_parse.proofs.Tools.{bind_some, on_some_cases, when_some, unless_some, some_same, and_true, and_join, not_true, not_false}
 use Rattle.pungi_tree.specs.ExprSpells.{SpellsKeys, SpellsConsts, SpellsStars, SpellsTexts}
 use Rattle.pungi_tree.specs.Operators.{all_keys}
-use Rattle.pungi_tree.specs.Placed.{Placed, mark_at, key_at, word_at, text_at}
+use Rattle.pungi_tree.specs.Placed.{Placed, word_at}
 use Rattle.pungi_tree.specs.TypeWords.{is_type, is_word}
 
 abbrev Keywords : (Key → Bool) → List Placed → List Key × List Placed → Type 0
