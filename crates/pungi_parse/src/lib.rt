@@ -7,6 +7,7 @@ mod deep;
 mod eat;
 mod fault;
 mod operators;
+mod stmt_nodes;
 mod stop;
 mod table;
 mod type_words;
