@@ -1,2 +1,6 @@
+pub mod Tools
+pub mod Eaten
+pub mod WordLoops
 pub mod Typedefs
 pub mod Tables
+pub mod Vars

@@ -2,14 +2,20 @@
 #![tactic(auto)]
 
 mod awaited;
+mod begins;
 mod closer;
+mod decl;
 mod deep;
 mod eat;
+mod expr_stub;
 mod fault;
+mod nodes;
 mod operators;
+mod parser;
 mod stmt_nodes;
 mod stop;
 mod table;
 mod type_words;
+mod words;
 
 pub use fault::ParseFault;

@@ -1,4 +1,4 @@
-ghost use Rattle.std.specs.Prelude.{◌≡◌, [], IfOk, option_map};
+ghost use Rattle.std.specs.Prelude.{◌≡◌, ◌<◌, [], length, IfOk, IfSome, option_map};
 ghost use Rattle.pungi_parse.specs.Gives.{Gives};
 ghost use Rattle.pungi_parse.specs.StmtReader.{table_in};
 ghost use Rattle.pungi_parse.specs.Table.{closing_here as closing_here_of};
@@ -12,7 +12,8 @@ use std::alloc::Global;
 
 /// The brace that closes a table, at the front of the tokens, and the tokens after it.
 fn closing_here<'a>(awaited: &Awaited, tokens: &'a [Token]) -> Option<(Pos, &'a [Token])>
-    ensures { option_map (λ x. (x.0, placed x.1.now)) result ≡ closing_here_of awaited.now (placed tokens.now) }
+    ensures token { option_map (λ x. (x.0, placed x.1.now)) result ≡ closing_here_of awaited.now (placed tokens.now) }
+    ensures shorter { IfSome result (λ x. length x.1.now < length tokens.now) }
 {
     if awaited.is_empty() {
         eat(Punct::RightBrace, tokens)
@@ -26,7 +27,8 @@ pub(crate) fn table<'a>(
     alloc: Global,
     tokens: &'a [Token],
 ) -> Result<(Vec<(Kind, Pos)>, &'a [Token]), Stop>
-    ensures { Gives (λ x. (x.0.items, placed x.1.now)) result (table_in [] (placed tokens.now)) }
+    ensures tree { Gives (λ x. (x.0.items, placed x.1.now)) result (table_in [] (placed tokens.now)) }
+    ensures shorter { IfOk result (λ x. length x.1.now < length tokens.now) }
 {
     let mut found = Vec::new(alloc);
     let mut awaited = Awaited::new(alloc);
