@@ -90,6 +90,7 @@ impl Parser<'_> {
         requires { self.now.most < 2 ^ 32 - 1 }
         ensures tree { Gives (λ x. (decl_view x.0, placed x.1.now)) result
             (decl_at self.now.types.now (readers self.now.types.now self.now.nest self.now.most) (placed tokens.now)) }
+        ensures shorter { IfOk result (λ x. length x.1.now < length tokens.now) }
     {
         let (quals, after) = qualifiers(self.alloc, tokens)?;
         let (type_name, _, behind) = self.spec(after)?;

@@ -12,6 +12,7 @@ mod fault;
 mod nodes;
 mod operators;
 mod parser;
+mod simple_stmt;
 mod stmt_nodes;
 mod stop;
 mod table;
