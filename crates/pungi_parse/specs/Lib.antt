@@ -1,9 +1,12 @@
+pub mod Awaited
 pub mod Eat
 pub mod ExprReader
 pub mod Gives
 pub mod Readers
 pub mod Reading
 pub mod StmtReader
+pub mod Table
+pub mod TypedefScan
 pub mod TypeReader
 pub mod UnitReader
 pub mod Units

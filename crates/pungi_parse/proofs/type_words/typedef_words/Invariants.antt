@@ -1,0 +1,12 @@
+use Rattle.std.proofs.Common.{◌≡◌, ◌≤◌, ◌+◌, drop}
+use Rattle.pungi_parse.specs.TypedefScan.{scan_gives}
+use Rattle.pungi_tree.specs.Placed.{placed, kinds}
+use Rattle.pungi_tree.specs.TypeWords.{type_words}
+use Rattle.pungi_parse.proofs.type_words.typedef_words.Given as goal
+
+abbrev pub invariant-loop-token : goal.invariant-loop-token
+invariant-loop-token l = record {
+  words : scan_gives l.scan.words.items l.scan.braces l.scan.last l.scan.older l.scan.newer (kinds (placed (drop l.token-index l.tokens))) ≡ type_words (kinds (placed l.tokens));
+  braces : l.scan.braces ≤ l.token-index;
+  waiting : l.scan.older + l.scan.newer ≤ l.token-index;
+}

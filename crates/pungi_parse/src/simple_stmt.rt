@@ -1,0 +1,170 @@
+ghost use Rattle.std.specs.Prelude.{◌≡◌, ◌≤◌, ◌<◌, ◌-◌, ◌^◌, length, option_map, IfOk, IfSome};
+ghost use Rattle.pungi_parse.specs.Gives.{Gives};
+ghost use Rattle.pungi_parse.specs.Readers.{readers};
+ghost use Rattle.pungi_parse.specs.StmtReader.{optional as optional_of, condition as condition_of, declare_at, start_at, expression_at, label_front as label_front_of, goto_at, return_at, jump_or_expression as jump_or_expression_of, read_stmt, read_element};
+ghost use Rattle.pungi_tree.specs.ExprView.{expr_view, optional_view};
+ghost use Rattle.pungi_tree.specs.Placed.{placed};
+ghost use Rattle.pungi_tree.specs.StmtView.{for_start_view, stmt_view};
+
+use crate::begins::{begins_decl, plain_word};
+use crate::decl::Front;
+use crate::eat::{eat, eat_key, first_place};
+use crate::parser::Parser;
+use crate::stmt_nodes;
+use crate::stop::Stop;
+use pungi_base::{Key, Name, Pos, Punct, Token};
+use pungi_tree::{Expr, ForStart, Stmt};
+
+impl Parser<'_> {
+    /// An expression, where one stands there, and the punctuator behind it.
+    #[tactic(auto, unfolding(crate::specs::StmtReader::optional, crate::specs::Reading::chain, crate::specs::Reading::on_some))]
+    pub(crate) fn optional<'t>(&self, mark: Punct, tokens: &'t [Token]) -> Front<'t, Option<Expr>>
+        requires { self.now.most < 2 ^ 32 - 1 }
+        ensures tree { Gives (λ x. (optional_view x.0, placed x.1.now)) result
+            (optional_of self.now.types.now (readers self.now.types.now self.now.nest self.now.most) mark (placed tokens.now)) }
+        ensures shorter { IfOk result (λ x. length x.1.now < length tokens.now) }
+    {
+        if let Some((_, rest)) = eat(mark, tokens) {
+            return Ok((None, rest));
+        }
+        let (e, _, after) = self.expr(0, tokens)?;
+        let Some((_, rest)) = eat(mark, after) else {
+            return Err(Stop::NothingRead);
+        };
+        Ok((Some(e), rest))
+    }
+
+    /// An expression in parentheses.
+    #[tactic(auto, unfolding(crate::specs::StmtReader::condition, crate::specs::Reading::chain))]
+    pub(crate) fn condition<'t>(&self, tokens: &'t [Token]) -> Front<'t, Expr>
+        requires { self.now.most < 2 ^ 32 - 1 }
+        ensures tree { Gives (λ x. (expr_view x.0, placed x.1.now)) result
+            (condition_of self.now.types.now (readers self.now.types.now self.now.nest self.now.most) (placed tokens.now)) }
+        ensures shorter { IfOk result (λ x. length x.1.now < length tokens.now) }
+    {
+        let Some((_, inner)) = eat(Punct::LeftParen, tokens) else {
+            return Err(Stop::NothingRead);
+        };
+        let (e, _, after) = self.expr(0, inner)?;
+        let Some((_, rest)) = eat(Punct::RightParen, after) else {
+            return Err(Stop::NothingRead);
+        };
+        Ok((e, rest))
+    }
+
+    /// A declaration among statements.
+    #[tactic(auto, unfolding(crate::specs::StmtReader::declare_at, crate::specs::Reading::chain))]
+    pub(crate) fn declare<'t>(&self, tokens: &'t [Token]) -> Front<'t, Stmt>
+        requires { self.now.most < 2 ^ 32 - 1 }
+        ensures tree { Gives (λ x. (stmt_view x.0, placed x.1.now)) result
+            (declare_at self.now.types.now (readers self.now.types.now self.now.nest self.now.most) (placed tokens.now)) }
+        ensures shorter { IfOk result (λ x. length x.1.now < length tokens.now) }
+    {
+        let Some(pos) = first_place(tokens) else {
+            return Err(Stop::NothingRead);
+        };
+        let (decl, rest) = self.decl(tokens)?;
+        Ok((stmt_nodes::declare(pos, decl), rest))
+    }
+
+    /// What a `for` begins with.
+    #[tactic(auto, unfolding(crate::specs::StmtReader::start_at, crate::specs::Reading::chain, crate::specs::Reading::on_some, crate::specs::Reading::when))]
+    pub(crate) fn start<'t>(&self, tokens: &'t [Token]) -> Front<'t, ForStart>
+        requires { self.now.most < 2 ^ 32 - 1 }
+        ensures tree { Gives (λ x. (for_start_view x.0, placed x.1.now)) result
+            (start_at self.now.types.now (readers self.now.types.now self.now.nest self.now.most) (placed tokens.now)) }
+        ensures shorter { IfOk result (λ x. length x.1.now < length tokens.now) }
+    {
+        if begins_decl(self.types, tokens) {
+            let (decl, rest) = self.decl(tokens)?;
+            return Ok((ForStart::Decl(decl), rest));
+        }
+        let (e, rest) = self.optional(Punct::Semicolon, tokens)?;
+        Ok((ForStart::Expr(e), rest))
+    }
+
+    /// An expression with its semicolon, or the semicolon alone.
+    #[tactic(auto, unfolding(crate::specs::StmtReader::expression_at, crate::specs::Reading::chain))]
+    fn expression<'t>(&self, tokens: &'t [Token]) -> Front<'t, Stmt>
+        requires { self.now.most < 2 ^ 32 - 1 }
+        ensures tree { Gives (λ x. (stmt_view x.0, placed x.1.now)) result
+            (expression_at self.now.types.now (readers self.now.types.now self.now.nest self.now.most) (placed tokens.now)) }
+        ensures shorter { IfOk result (λ x. length x.1.now < length tokens.now) }
+    {
+        let Some(pos) = first_place(tokens) else {
+            return Err(Stop::NothingRead);
+        };
+        let (e, rest) = self.optional(Punct::Semicolon, tokens)?;
+        Ok((stmt_nodes::expression(pos, e), rest))
+    }
+
+    /// The word of a label with its colon: its name, its place, and the tokens after the colon.
+    #[tactic(auto, unfolding(crate::specs::StmtReader::label_front, crate::specs::Reading::chain))]
+    pub(crate) fn label_front<'t>(&self, tokens: &'t [Token]) -> Option<(Name, Pos, &'t [Token])>
+        ensures token { option_map (λ x. (x.0, x.1, placed x.2.now)) result
+            ≡ label_front_of self.now.types.now (readers self.now.types.now self.now.nest self.now.most) (placed tokens.now) }
+        ensures shorter { IfSome result (λ x. length x.2.now < length tokens.now) }
+    {
+        let (name, pos, after) = plain_word(self.types, tokens)?;
+        let (_, rest) = eat(Punct::Colon, after)?;
+        Some((name, pos, rest))
+    }
+
+    /// What stands behind `goto`.
+    #[tactic(auto, unfolding(crate::specs::StmtReader::goto_at, crate::specs::Reading::chain))]
+    fn goto<'t>(&self, pos: Pos, tokens: &'t [Token]) -> Front<'t, Stmt>
+        requires { self.now.most < 2 ^ 32 - 1 }
+        ensures tree { Gives (λ x. (stmt_view x.0, placed x.1.now)) result
+            (goto_at self.now.types.now (readers self.now.types.now self.now.nest self.now.most) pos (placed tokens.now)) }
+        ensures shorter { IfOk result (λ x. length x.1.now < length tokens.now) }
+    {
+        let Some((name, at, after)) = plain_word(self.types, tokens) else {
+            return Err(Stop::NothingRead);
+        };
+        let Some((_, rest)) = eat(Punct::Semicolon, after) else {
+            return Err(Stop::NothingRead);
+        };
+        Ok((stmt_nodes::goto(pos, name, at), rest))
+    }
+
+    /// What stands behind `return`.
+    #[tactic(auto, unfolding(crate::specs::StmtReader::return_at, crate::specs::Reading::chain))]
+    fn give_back<'t>(&self, pos: Pos, tokens: &'t [Token]) -> Front<'t, Stmt>
+        requires { self.now.most < 2 ^ 32 - 1 }
+        ensures tree { Gives (λ x. (stmt_view x.0, placed x.1.now)) result
+            (return_at self.now.types.now (readers self.now.types.now self.now.nest self.now.most) pos (placed tokens.now)) }
+        ensures shorter { IfOk result (λ x. length x.1.now < length tokens.now) }
+    {
+        let (e, rest) = self.optional(Punct::Semicolon, tokens)?;
+        Ok((stmt_nodes::give_back(pos, e), rest))
+    }
+
+    /// A statement that holds no other one, and is no block.
+    #[tactic(auto, unfolding(crate::specs::StmtReader::jump_or_expression, crate::specs::Reading::chain, crate::specs::Reading::on_some))]
+    pub(crate) fn jump_or_expression<'t>(&self, tokens: &'t [Token]) -> Front<'t, Stmt>
+        requires { self.now.most < 2 ^ 32 - 1 }
+        ensures tree { Gives (λ x. (stmt_view x.0, placed x.1.now)) result
+            (jump_or_expression_of self.now.types.now (readers self.now.types.now self.now.nest self.now.most) (read_stmt self.now.types.now self.now.nest self.now.most) (read_element self.now.types.now self.now.nest self.now.most) (placed tokens.now)) }
+        ensures shorter { IfOk result (λ x. length x.1.now < length tokens.now) }
+    {
+        if let Some((pos, after)) = eat_key(Key::Goto, tokens) {
+            return self.goto(pos, after);
+        }
+        if let Some((pos, after)) = eat_key(Key::Break, tokens) {
+            let Some((_, rest)) = eat(Punct::Semicolon, after) else {
+                return Err(Stop::NothingRead);
+            };
+            return Ok((stmt_nodes::break_out(pos), rest));
+        }
+        if let Some((pos, after)) = eat_key(Key::Continue, tokens) {
+            let Some((_, rest)) = eat(Punct::Semicolon, after) else {
+                return Err(Stop::NothingRead);
+            };
+            return Ok((stmt_nodes::go_on(pos), rest));
+        }
+        if let Some((pos, after)) = eat_key(Key::Return, tokens) {
+            return self.give_back(pos, after);
+        }
+        self.expression(tokens)
+    }
+}
