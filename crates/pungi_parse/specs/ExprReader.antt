@@ -27,6 +27,14 @@ use Rattle.pungi_tree.specs.Operators.{binary_level, prefix_mark_need, level}
 use Rattle.pungi_tree.specs.Placed.{Placed, first_place}
 use Rattle.pungi_tree.specs.Syntax.{Expr, word, text, paren, unary as prefix, post, binary, assign, conditional, comma, cast, size_of_type, call, new, index, dot, arrow, Exprs, no_exprs, expr_and}
 
+module _ (types : List Name) where
+  unfoldable pub new_front : List Placed → Option (Pos × List Placed)
+  new_front ts =
+      plain_word types ts >>= λ w. when (w.0.0 == PY_OBJECT_NEW) (eat puncts.LeftParen w.2 >>= λ o. when (begins_type types o.1) (Some (w.1, o.1)))
+
+  unfoldable pub cast_front : List Placed → Option (Pos × List Placed)
+  cast_front ts = eat puncts.LeftParen ts >>= λ o. when (begins_type types o.1) (Some o)
+
 module _ (types : List Name) (low : Lower) where
   -- further arguments, up to the closing parenthesis, which stays
   unfoldable pub more_args : ℕ → List Placed → Read Exprs
@@ -43,10 +51,6 @@ module _ (types : List Name) (low : Lower) where
   unfoldable pub args_at : List Placed → Read Exprs
   args_at ts = on_some (eat puncts.RightParen ts) (λ c. Some (no_exprs, c.1)) (some_args ts)
 
-  unfoldable pub new_front : List Placed → Option (Pos × List Placed)
-  new_front ts =
-      plain_word types ts >>= λ w. when (w.0.0 == PY_OBJECT_NEW) (eat puncts.LeftParen w.2 >>= λ o. when (begins_type types o.1) (Some (w.1, o.1)))
-
   unfoldable pub new_at : Pos → List Placed → Read Expr
   new_at p ts =
       type_name_at low ts >>= λ t. eat puncts.Comma t.1 >>= λ c. low.expr 1 c.1 >>= λ e. eat puncts.RightParen e.1 >>= λ r.
@@ -61,7 +65,7 @@ module _ (types : List Name) (low : Lower) where
   unfoldable pub primary : List Placed → Read Expr
   primary ts =
       on_some (eat_literal ts) (λ e. Some e)
-      (on_some (new_front ts) (λ n. new_at n.0 n.1)
+      (on_some (new_front types ts) (λ n. new_at n.0 n.1)
       (on_some (plain_word types ts) (λ w. Some (word w.1 w.0, w.2))
       (on_some (eat puncts.LeftParen ts) (λ o. paren_at o.0 o.1) (text_at ts))))
 
@@ -103,12 +107,9 @@ module _ (types : List Name) (low : Lower) where
         on_some (eat_prefix ts) (λ o. low.expr (prefix_mark_need o.0) o.2 >>= λ e. Some (prefix o.1 (kind.Punct o.0) e.0, e.1))
         (on_some (eat_key keys.Sizeof ts) (λ k. sizeof_at k.0 k.1) (postfix ts))
 
-    unfoldable pub cast_front : List Placed → Option (Pos × List Placed)
-    cast_front ts = eat puncts.LeftParen ts >>= λ o. when (begins_type types o.1) (Some o)
-
     unfoldable pub casted : List Placed → Read Expr
     casted ts =
-        on_some (cast_front ts)
+        on_some (cast_front types ts)
         (λ o. type_name_at low o.1 >>= λ t. eat puncts.RightParen t.1 >>= λ c. low.expr 13 c.1 >>= λ e. Some (cast o.0 t.0 e.0, e.1))
         (unary ts)
 

@@ -5,6 +5,8 @@
 --   texts ts          as many texts as stand there
 --   begins_type, begins_decl    a type, or a declaration, begins here
 --   type_word ts, plain_word ts    a type word, a word that is none
+--   unused_front ts   `Py_UNUSED (`
+--   begins_name, dots_front, void_front    a declared name or its parenthesis, `, ...`, and the lone `void` with its parenthesis
 --   declr_rest, declrs, more_declrs    what stands behind the stars of a declarator; declarators with a comma between; further ones
 --   sizes_at, function_rest    the brackets of an array, and a pointer to a function
 --   field, fields     lines of a struct, up to the brace, which stays
@@ -57,6 +59,18 @@ texts (t ∷ ts) = on_some (eat_text (t ∷ ts)) (λ n. let more = texts ts in (
 unfoldable pub type_name_at : Lower → List Placed → Read TypeName
 type_name_at low ts = low.spec ts >>= λ s. let p = stars s.1 in Some (type_name s.0 p.0, p.1)
 
+-- a declared name, or the parenthesis of a pointer to a function
+unfoldable pub begins_name : List Placed → Bool
+begins_name ts = is_some (eat_word ts) || is_some (eat puncts.LeftParen ts)
+
+-- `, ...` and the place of its last token
+unfoldable pub dots_front : List Placed → Option (Pos × List Placed)
+dots_front ts = eat puncts.Comma ts >>= λ c. eat puncts.Ellipsis c.1
+
+-- the lone `void` before the closing parenthesis
+unfoldable pub void_front : List Placed → Option (Pos × List Placed)
+void_front ts = eat_key keys.Void ts >>= λ v. eat puncts.RightParen v.1
+
 module _ (types : List Name) where
   unfoldable pub type_word : List Placed → Option (Name × Pos × List Placed)
   type_word ts = eat_word ts >>= λ w. when (is_type types w.0) (Some w)
@@ -69,6 +83,11 @@ module _ (types : List Name) where
 
   unfoldable pub begins_decl : List Placed → Bool
   begins_decl ts = is_some (eat_listed is_qualifier ts) || begins_type ts
+
+  -- `Py_UNUSED`, the word in its parentheses, and the tokens after them
+  unfoldable pub unused_front : List Placed → Option (Name × Pos × List Placed)
+  unused_front ts =
+      plain_word ts >>= λ u. when (u.0.0 == PY_UNUSED) (eat puncts.LeftParen u.2 >>= λ o. Some (u.0, o.0, o.1))
 
   module _ (low : Lower) where
     -- the brackets of an array, at most `k` of them
@@ -145,20 +164,11 @@ module _ (types : List Name) where
     unfoldable pub spec_at : List Placed → Read Spec
     spec_at ts = first_place ts >>= λ p. base_at ts >>= λ b. let c = consts b.1 in Some (spec p b.0 c.0, c.1)
 
-    -- `Py_UNUSED`, the word in its parentheses, and the tokens after them
-    unfoldable pub unused_front : List Placed → Option (Name × Pos × List Placed)
-    unused_front ts =
-        plain_word ts >>= λ u. when (u.0.0 == PY_UNUSED) (eat puncts.LeftParen u.2 >>= λ o. Some (u.0, o.0, o.1))
-
     unfoldable pub param_rest : List ℕ → List Placed → Read ParamDeclr
     param_rest ss ts =
         on_some (unused_front ts)
         (λ u. plain_word u.2 >>= λ w. eat puncts.RightParen w.2 >>= λ c. Some (unused ss w.0 w.1, c.1))
         (declr_rest ss ts >>= λ d. Some (named d.0, d.1))
-
-    -- a declared name, or the parenthesis of a pointer to a function
-    unfoldable pub begins_name : List Placed → Bool
-    begins_name ts = is_some (eat_word ts) || is_some (eat puncts.LeftParen ts)
 
     unfoldable pub param_declr_at : List Placed → Read ParamDeclr
     param_declr_at ts =
@@ -168,10 +178,6 @@ module _ (types : List Name) where
     unfoldable pub param : List Placed → Read ParamDecl
     param ts = let q = keywords is_qualifier ts in low.spec q.1 >>= λ s. param_declr_at s.1 >>= λ d. Some (param_decl q.0 s.0 d.0, d.1)
 
-    -- `, ...` and the place of its last token
-    unfoldable pub dots_front : List Placed → Option (Pos × List Placed)
-    dots_front ts = eat puncts.Comma ts >>= λ c. eat puncts.Ellipsis c.1
-
     unfoldable pub more_params : ℕ → List Placed → Read (ParamDecls × Option Pos)
     more_params zero ts = None
     more_params (suc k) ts =
@@ -180,10 +186,6 @@ module _ (types : List Name) where
         (on_some (eat puncts.Comma ts)
         (λ c. param c.1 >>= λ p. more_params k p.1 >>= λ ps. Some ((param_and p.0 ps.0.0, ps.0.1), ps.1))
         (Some ((no_params, None), ts)))
-
-    -- the lone `void` before the closing parenthesis
-    unfoldable pub void_front : List Placed → Option (Pos × List Placed)
-    void_front ts = eat_key keys.Void ts >>= λ v. eat puncts.RightParen v.1
 
     unfoldable pub some_params : List Placed → Read Params
     some_params ts =

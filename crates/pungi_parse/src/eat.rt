@@ -1,4 +1,4 @@
-ghost use Rattle.std.specs.Prelude.{◌≡◌, option_map};
+ghost use Rattle.std.specs.Prelude.{◌≡◌, ◌<◌, length, IfSome, option_map};
 ghost use Rattle.pungi_parse.specs.Eat.{eat as eat_of, eat_key as eat_key_of, eat_word as eat_word_of, eat_text as eat_text_of, eat_listed, eat_literal as eat_literal_of, eat_prefix as eat_prefix_of, eat_operator as eat_operator_of, eat_assign as eat_assign_of, eat_step as eat_step_of};
 ghost use Rattle.pungi_tree.specs.ExprView.{expr_view};
 ghost use Rattle.pungi_tree.specs.Operators as operators;
@@ -18,7 +18,8 @@ pub(crate) fn first_place(tokens: &[Token]) -> Option<Pos>
 
 /// A punctuator at the front: its place, and the tokens after it.
 pub(crate) fn eat<'a>(mark: Punct, tokens: &'a [Token]) -> Option<(Pos, &'a [Token])>
-    ensures { option_map (λ x. (x.0, placed x.1.now)) result ≡ eat_of mark (placed tokens.now) }
+    ensures token { option_map (λ x. (x.0, placed x.1.now)) result ≡ eat_of mark (placed tokens.now) }
+    ensures shorter { IfSome result (λ x. length x.1.now < length tokens.now) }
 {
     let (first, rest) = tokens.split_first()?;
     match first.kind {
@@ -35,7 +36,8 @@ pub(crate) fn eat<'a>(mark: Punct, tokens: &'a [Token]) -> Option<(Pos, &'a [Tok
 
 /// A keyword at the front: its place, and the tokens after it.
 pub(crate) fn eat_key<'a>(key: Key, tokens: &'a [Token]) -> Option<(Pos, &'a [Token])>
-    ensures { option_map (λ x. (x.0, placed x.1.now)) result ≡ eat_key_of key (placed tokens.now) }
+    ensures token { option_map (λ x. (x.0, placed x.1.now)) result ≡ eat_key_of key (placed tokens.now) }
+    ensures shorter { IfSome result (λ x. length x.1.now < length tokens.now) }
 {
     let (first, rest) = tokens.split_first()?;
     match first.kind {
@@ -52,7 +54,8 @@ pub(crate) fn eat_key<'a>(key: Key, tokens: &'a [Token]) -> Option<(Pos, &'a [To
 
 /// A word at the front: its name, its place, and the tokens after it.
 pub(crate) fn eat_word(tokens: &[Token]) -> Option<(Name, Pos, &[Token])>
-    ensures { option_map (λ x. (x.0, x.1, placed x.2.now)) result ≡ eat_word_of (placed tokens.now) }
+    ensures token { option_map (λ x. (x.0, x.1, placed x.2.now)) result ≡ eat_word_of (placed tokens.now) }
+    ensures shorter { IfSome result (λ x. length x.2.now < length tokens.now) }
 {
     let (first, rest) = tokens.split_first()?;
     match first.kind {
@@ -63,7 +66,8 @@ pub(crate) fn eat_word(tokens: &[Token]) -> Option<(Name, Pos, &[Token])>
 
 /// A text at the front: its name, its place, and the tokens after it.
 pub(crate) fn eat_text(tokens: &[Token]) -> Option<(Name, Pos, &[Token])>
-    ensures { option_map (λ x. (x.0, x.1, placed x.2.now)) result ≡ eat_text_of (placed tokens.now) }
+    ensures token { option_map (λ x. (x.0, x.1, placed x.2.now)) result ≡ eat_text_of (placed tokens.now) }
+    ensures shorter { IfSome result (λ x. length x.2.now < length tokens.now) }
 {
     let (first, rest) = tokens.split_first()?;
     match first.kind {
@@ -74,8 +78,9 @@ pub(crate) fn eat_text(tokens: &[Token]) -> Option<(Name, Pos, &[Token])>
 
 /// A qualifier at the front, its place, and the tokens after it.
 pub(crate) fn eat_qualifier(tokens: &[Token]) -> Option<(Key, Pos, &[Token])>
-    ensures { option_map (λ x. (x.0, x.1, placed x.2.now)) result
+    ensures token { option_map (λ x. (x.0, x.1, placed x.2.now)) result
         ≡ eat_listed operators.is_qualifier (placed tokens.now) }
+    ensures shorter { IfSome result (λ x. length x.2.now < length tokens.now) }
 {
     let (first, rest) = tokens.split_first()?;
     match first.kind {
@@ -86,8 +91,9 @@ pub(crate) fn eat_qualifier(tokens: &[Token]) -> Option<(Key, Pos, &[Token])>
 
 /// A keyword of a type at the front, its place, and the tokens after it.
 pub(crate) fn eat_base_word(tokens: &[Token]) -> Option<(Key, Pos, &[Token])>
-    ensures { option_map (λ x. (x.0, x.1, placed x.2.now)) result
+    ensures token { option_map (λ x. (x.0, x.1, placed x.2.now)) result
         ≡ eat_listed operators.is_base_word (placed tokens.now) }
+    ensures shorter { IfSome result (λ x. length x.2.now < length tokens.now) }
 {
     let (first, rest) = tokens.split_first()?;
     match first.kind {
@@ -98,8 +104,9 @@ pub(crate) fn eat_base_word(tokens: &[Token]) -> Option<(Key, Pos, &[Token])>
 
 /// `struct` or `union` at the front, its place, and the tokens after it.
 pub(crate) fn eat_aggregate(tokens: &[Token]) -> Option<(Key, Pos, &[Token])>
-    ensures { option_map (λ x. (x.0, x.1, placed x.2.now)) result
+    ensures token { option_map (λ x. (x.0, x.1, placed x.2.now)) result
         ≡ eat_listed operators.is_aggregate (placed tokens.now) }
+    ensures shorter { IfSome result (λ x. length x.2.now < length tokens.now) }
 {
     let (first, rest) = tokens.split_first()?;
     match first.kind {
@@ -110,7 +117,8 @@ pub(crate) fn eat_aggregate(tokens: &[Token]) -> Option<(Key, Pos, &[Token])>
 
 /// A constant or `NULL` at the front, as the expression that it is, and the tokens after it.
 pub(crate) fn eat_literal(tokens: &[Token]) -> Option<(Expr, &[Token])>
-    ensures { option_map (λ x. (expr_view x.0, placed x.1.now)) result ≡ eat_literal_of (placed tokens.now) }
+    ensures token { option_map (λ x. (expr_view x.0, placed x.1.now)) result ≡ eat_literal_of (placed tokens.now) }
+    ensures shorter { IfSome result (λ x. length x.1.now < length tokens.now) }
 {
     let (first, rest) = tokens.split_first()?;
     let node = match first.kind {
@@ -139,7 +147,8 @@ pub(crate) fn eat_literal(tokens: &[Token]) -> Option<(Expr, &[Token])>
 
 /// A prefix operator but `sizeof` at the front, its place, and the tokens after it.
 pub(crate) fn eat_prefix(tokens: &[Token]) -> Option<(Punct, Pos, &[Token])>
-    ensures { option_map (λ x. (x.0, x.1, placed x.2.now)) result ≡ eat_prefix_of (placed tokens.now) }
+    ensures token { option_map (λ x. (x.0, x.1, placed x.2.now)) result ≡ eat_prefix_of (placed tokens.now) }
+    ensures shorter { IfSome result (λ x. length x.2.now < length tokens.now) }
 {
     let (first, rest) = tokens.split_first()?;
     match first.kind {
@@ -156,8 +165,9 @@ pub(crate) fn eat_prefix(tokens: &[Token]) -> Option<(Punct, Pos, &[Token])>
 
 /// A binary operator of at least a level at the front, its place, and the tokens after it.
 pub(crate) fn eat_operator(level: u32, tokens: &[Token]) -> Option<(Punct, Pos, &[Token])>
-    ensures { option_map (λ x. (x.0, x.1, placed x.2.now)) result
+    ensures token { option_map (λ x. (x.0, x.1, placed x.2.now)) result
         ≡ eat_operator_of level (placed tokens.now) }
+    ensures shorter { IfSome result (λ x. length x.2.now < length tokens.now) }
 {
     let (first, rest) = tokens.split_first()?;
     match first.kind {
@@ -175,7 +185,8 @@ pub(crate) fn eat_operator(level: u32, tokens: &[Token]) -> Option<(Punct, Pos, 
 
 /// An operator of assignment at the front, its place, and the tokens after it.
 pub(crate) fn eat_assign(tokens: &[Token]) -> Option<(Punct, Pos, &[Token])>
-    ensures { option_map (λ x. (x.0, x.1, placed x.2.now)) result ≡ eat_assign_of (placed tokens.now) }
+    ensures token { option_map (λ x. (x.0, x.1, placed x.2.now)) result ≡ eat_assign_of (placed tokens.now) }
+    ensures shorter { IfSome result (λ x. length x.2.now < length tokens.now) }
 {
     let (first, rest) = tokens.split_first()?;
     match first.kind {
@@ -186,7 +197,8 @@ pub(crate) fn eat_assign(tokens: &[Token]) -> Option<(Punct, Pos, &[Token])>
 
 /// `++` or `--` at the front, its place, and the tokens after it.
 pub(crate) fn eat_step(tokens: &[Token]) -> Option<(Punct, Pos, &[Token])>
-    ensures { option_map (λ x. (x.0, x.1, placed x.2.now)) result ≡ eat_step_of (placed tokens.now) }
+    ensures token { option_map (λ x. (x.0, x.1, placed x.2.now)) result ≡ eat_step_of (placed tokens.now) }
+    ensures shorter { IfSome result (λ x. length x.2.now < length tokens.now) }
 {
     let (first, rest) = tokens.split_first()?;
     match first.kind {
