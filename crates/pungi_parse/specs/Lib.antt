@@ -4,6 +4,7 @@ pub mod Gives
 pub mod Readers
 pub mod Reading
 pub mod StmtReader
+pub mod Turns
 pub mod TypeReader
 pub mod UnitReader
 pub mod Units

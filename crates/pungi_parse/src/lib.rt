@@ -6,6 +6,8 @@ mod eat;
 mod nodes;
 mod operators;
 mod parser;
+mod simple;
 mod stop;
+mod type_nodes;
 mod type_words;
 mod words;
