@@ -1,3 +1,14 @@
 pub mod Tools
 pub mod Eaten
 pub mod WordLoops
+pub mod ArgLoop
+pub mod ClimbLoop
+pub mod CommaLoop
+pub mod DeclrLoop
+pub mod FieldLoop
+pub mod FunctionRest
+pub mod ListLoop
+pub mod ParamLoop
+pub mod PostfixLoop
+pub mod ReadAt
+pub mod SizeLoop

@@ -5,14 +5,15 @@
 --   function_front types ts    `( * word ) (`: the word, its place, and the tokens behind
 --   goes_on ts            something stands here that goes on with a postfix expression
 --   close_params ds dots ts    the closing parenthesis of these parameters
+--   sizeof_front types ts      the tokens behind a parenthesis before a type
 --   member_or_step types e ts  a member of `e`, or `e` with a step
 use Rattle.std.specs.Prelude.{ℕ, Bool, false, ◌||◌, List, Option, Some, None, is_some}
 use Rattle.pungi_base.specs.declared.names.Name.{Name}
 use Rattle.pungi_base.specs.declared.pos.Pos.{Pos}
 use Rattle.pungi_base.specs.declared.punct.Punct.TheVariants as puncts
 use Rattle.pungi_parse.specs.Eat.{eat, eat_step}
-use Rattle.pungi_parse.specs.Reading.{Read, ◌>>=◌, chain, on_some}
-use Rattle.pungi_parse.specs.TypeReader.{Lower, plain_word}
+use Rattle.pungi_parse.specs.Reading.{Read, ◌>>=◌, chain, on_some, when}
+use Rattle.pungi_parse.specs.TypeReader.{Lower, plain_word, begins_type}
 use Rattle.pungi_tree.specs.ExprDepth.{expr_depth}
 use Rattle.pungi_tree.specs.Placed.{Placed}
 use Rattle.pungi_tree.specs.Syntax.{Expr, post, dot, arrow, Params, params, ParamDecls}
@@ -44,6 +45,9 @@ module _ (types : List Name) where
   function_front ts =
       eat puncts.LeftParen ts >>= λ o. eat puncts.Star o.1 >>= λ s. plain_word types s.1 >>= λ w. eat puncts.RightParen w.2 >>= λ c.
       eat puncts.LeftParen c.1 >>= λ i. Some (w.0, w.1, i.1)
+
+  unfoldable pub sizeof_front : List Placed → Option (List Placed)
+  sizeof_front ts = eat puncts.LeftParen ts >>= λ o. when (begins_type types o.1) (Some o.1)
 
   unfoldable pub member_or_step : Expr → List Placed → Option (Read Expr)
   member_or_step e ts =

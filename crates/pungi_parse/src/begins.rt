@@ -1,6 +1,6 @@
 ghost use Rattle.std.specs.Prelude.{◌≡◌, ◌<◌, length, IfSome, option_map};
 ghost use Rattle.pungi_parse.specs.TypeReader.{type_word as type_word_of, plain_word as plain_word_of, begins_type as begins_type_of, begins_decl as begins_decl_of, begins_name as begins_name_of, dots_front as dots_front_of, void_front as void_front_of, unused_front as unused_front_of};
-ghost use Rattle.pungi_parse.specs.Turns.{function_front as function_front_of, goes_on as goes_on_of};
+ghost use Rattle.pungi_parse.specs.Turns.{function_front as function_front_of, goes_on as goes_on_of, sizeof_front as sizeof_front_of};
 ghost use Rattle.pungi_parse.specs.ExprReader.{new_front as new_front_of, cast_front as cast_front_of};
 ghost use Rattle.pungi_tree.specs.Placed.{placed};
 
@@ -167,4 +167,18 @@ pub(crate) fn goes_on(tokens: &[Token]) -> bool
         || eat(Punct::Dot, tokens).is_some()
         || eat(Punct::Arrow, tokens).is_some()
         || eat_step(tokens).is_some()
+}
+
+/// The tokens behind a parenthesis before a type.
+#[tactic(auto, unfolding(crate::specs::Turns::sizeof_front, crate::specs::Reading::chain, crate::specs::Reading::when))]
+pub(crate) fn sizeof_front<'a>(types: &TypeWords, tokens: &'a [Token]) -> Option<&'a [Token]>
+    ensures token { option_map (λ x. placed x.now) result ≡ sizeof_front_of types.now (placed tokens.now) }
+    ensures shorter { IfSome result (λ x. length x.now < length tokens.now) }
+{
+    let (_, inner) = eat(Punct::LeftParen, tokens)?;
+    if begins_type(types, inner) {
+        Some(inner)
+    } else {
+        None
+    }
 }
