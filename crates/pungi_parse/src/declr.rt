@@ -57,9 +57,10 @@ impl Parser<'_> {
         self.declr_rest(stars, rest)
     }
 
+    /// What stands behind the stars of a declarator.
     #[tactic(auto, unfolding(crate::specs::TypeReader::declr_rest, crate::specs::Reading::chain, crate::specs::Reading::on_some))]
     #[cycle(parts)]
-    fn declr_rest<'t>(&self, stars: Vec<u32>, tokens: &'t [Token]) -> Read<'t, Declr>
+    pub(crate) fn declr_rest<'t>(&self, stars: Vec<u32>, tokens: &'t [Token]) -> Read<'t, Declr>
         ensures tree { Gives (λ x. (declr_view x.0, placed x.2.now)) result
             (declr_rest_of self.now.types.now (readers self.now.types.now self.now.nest self.now.most)
                 stars.items (placed tokens.now)) }
