@@ -2,11 +2,16 @@
 #![tactic(auto)]
 
 mod begins;
+mod declr;
 mod eat;
+mod expr;
 mod nodes;
 mod operators;
+mod params;
 mod parser;
+mod postfix;
 mod simple;
+mod spec;
 mod stop;
 mod type_nodes;
 mod type_words;
