@@ -6,7 +6,8 @@ pub mod Readers
 pub mod Reading
 pub mod StmtReader
 pub mod Table
-pub mod TypedefScan
+pub mod Turns
 pub mod TypeReader
+pub mod TypedefScan
 pub mod UnitReader
 pub mod Units

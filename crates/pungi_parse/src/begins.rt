@@ -1,9 +1,12 @@
 ghost use Rattle.std.specs.Prelude.{◌≡◌, ◌<◌, length, IfSome, option_map};
 ghost use Rattle.pungi_parse.specs.TypeReader.{type_word as type_word_of, plain_word as plain_word_of, begins_type as begins_type_of, begins_decl as begins_decl_of, begins_name as begins_name_of, dots_front as dots_front_of, void_front as void_front_of, unused_front as unused_front_of};
+ghost use Rattle.pungi_parse.specs.Turns.{function_front as function_front_of, goes_on as goes_on_of, sizeof_front as sizeof_front_of};
 ghost use Rattle.pungi_parse.specs.ExprReader.{new_front as new_front_of, cast_front as cast_front_of};
 ghost use Rattle.pungi_tree.specs.Placed.{placed};
 
-use crate::eat::{eat, eat_aggregate, eat_base_word, eat_key, eat_qualifier, eat_word};
+use crate::eat::{
+    eat, eat_aggregate, eat_base_word, eat_key, eat_qualifier, eat_step, eat_word,
+};
 use crate::type_words::TypeWords;
 use pungi_base::words::{PY_OBJECT_NEW, PY_UNUSED};
 use pungi_base::{Key, Name, Pos, Punct, Token};
@@ -135,4 +138,47 @@ pub(crate) fn void_front(tokens: &[Token]) -> Option<(Pos, &[Token])>
 {
     let (_, rest) = eat_key(Key::Void, tokens)?;
     eat(Punct::RightParen, rest)
+}
+
+/// `( * word ) (`, which begins a pointer to a function: the word, its place, and the tokens after it all.
+#[tactic(auto, unfolding(crate::specs::Turns::function_front, crate::specs::Reading::chain))]
+pub(crate) fn function_front<'a>(
+    types: &TypeWords,
+    tokens: &'a [Token],
+) -> Option<(Name, Pos, &'a [Token])>
+    ensures token { option_map (λ x. (x.0, x.1, placed x.2.now)) result ≡ function_front_of types.now (placed tokens.now) }
+    ensures shorter { IfSome result (λ x. length x.2.now < length tokens.now) }
+{
+    let (_, rest) = eat(Punct::LeftParen, tokens)?;
+    let (_, rest) = eat(Punct::Star, rest)?;
+    let (name, pos, rest) = plain_word(types, rest)?;
+    let (_, rest) = eat(Punct::RightParen, rest)?;
+    let (_, inner) = eat(Punct::LeftParen, rest)?;
+    Some((name, pos, inner))
+}
+
+/// Whether something stands here that goes on with a postfix expression.
+#[tactic(auto, unfolding(crate::specs::Turns::goes_on))]
+pub(crate) fn goes_on(tokens: &[Token]) -> bool
+    ensures { result ≡ goes_on_of (placed tokens.now) }
+{
+    eat(Punct::LeftParen, tokens).is_some()
+        || eat(Punct::LeftBracket, tokens).is_some()
+        || eat(Punct::Dot, tokens).is_some()
+        || eat(Punct::Arrow, tokens).is_some()
+        || eat_step(tokens).is_some()
+}
+
+/// The tokens behind a parenthesis before a type.
+#[tactic(auto, unfolding(crate::specs::Turns::sizeof_front, crate::specs::Reading::chain, crate::specs::Reading::when))]
+pub(crate) fn sizeof_front<'a>(types: &TypeWords, tokens: &'a [Token]) -> Option<&'a [Token]>
+    ensures token { option_map (λ x. placed x.now) result ≡ sizeof_front_of types.now (placed tokens.now) }
+    ensures shorter { IfSome result (λ x. length x.now < length tokens.now) }
+{
+    let (_, inner) = eat(Punct::LeftParen, tokens)?;
+    if begins_type(types, inner) {
+        Some(inner)
+    } else {
+        None
+    }
 }

@@ -1,4 +1,3 @@
-//! Expressions from their parts.
 ghost use Rattle.std.specs.Prelude.{◌≡◌, IfOk, map};
 ghost use Rattle.pungi_base.specs.declared.kind.Kind.{Kind};
 ghost use Rattle.pungi_tree.specs.ExprView.{expr_view, exprs_of, type_name_view};

@@ -1,4 +1,4 @@
-ghost use Rattle.std.specs.Prelude.{◌≡◌, ◌≤◌, ◌∷◌, length, IfOk};
+ghost use Rattle.std.specs.Prelude.{◌≡◌, ◌+◌, ◌≤◌, vec_len, ◌∷◌, length, IfOk};
 ghost use Rattle.pungi_parse.specs.TypeReader.{keywords, consts as consts_of, stars as stars_of, texts as texts_of};
 ghost use Rattle.pungi_tree.specs.Operators.{is_base_word, is_qualifier};
 ghost use Rattle.pungi_tree.specs.Placed.{placed};
@@ -89,7 +89,7 @@ pub(crate) fn texts<'a>(
 ) -> Result<(Vec<Name>, &'a [Token]), Memory>
     ensures names { IfOk result (λ x. x.0.items ≡ (texts_of (placed tokens.now)).0) }
     ensures rest { IfOk result (λ x. placed x.1.now ≡ (texts_of (placed tokens.now)).1) }
-    ensures shorter { IfOk result (λ x. length x.1.now ≤ length tokens.now) }
+    ensures shorter { IfOk result (λ x. vec_len x.0 + length x.1.now ≤ length tokens.now) }
 {
     let mut names = Vec::new(alloc);
     let mut rest = tokens;

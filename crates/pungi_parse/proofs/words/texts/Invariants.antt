@@ -1,4 +1,4 @@
-use Rattle.std.proofs.Common.{◌≡◌, ◌∷◌, ◌≤◌, length}
+use Rattle.std.proofs.Common.{◌≡◌, ◌∷◌, ◌+◌, ◌≤◌, length, vec_len}
 use Rattle.pungi_parse.specs.TypeReader.{texts}
 use Rattle.pungi_tree.specs.Placed.{placed}
 use Rattle.pungi_parse.proofs.WordLoops.{ReadTo}
@@ -6,7 +6,7 @@ use Rattle.pungi_parse.proofs.words.texts.Given as goal
 
 abbrev pub invariant-loop-name : goal.invariant-loop-name
 invariant-loop-name l =
-    ReadTo texts (texts (placed l.fn.tokens)).0 (texts (placed l.fn.tokens)).1 l.names.items (placed l.rest) × (length l.rest ≤ length l.fn.tokens)
+    ReadTo texts (texts (placed l.fn.tokens)).0 (texts (placed l.fn.tokens)).1 l.names.items (placed l.rest) × (vec_len l.names + length l.rest ≤ length l.fn.tokens)
 
 abbrev pub decreases-loop-name : goal.decreases-loop-name
 decreases-loop-name l = length l.rest

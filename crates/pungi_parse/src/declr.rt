@@ -1,0 +1,133 @@
+ghost use Rattle.std.specs.Prelude.{◌≡◌, ◌≤◌, ◌<◌, suc, length, map, IfOk};
+ghost use Rattle.pungi_parse.specs.Gives.{Gives};
+ghost use Rattle.pungi_parse.specs.Readers.{readers};
+ghost use Rattle.pungi_parse.specs.Turns.{size_at, size_depth};
+ghost use Rattle.pungi_parse.specs.TypeReader.{declrs as declrs_of_tokens, declr_at, declr_rest as declr_rest_of, function_rest as function_rest_of, sizes_at};
+ghost use Rattle.pungi_tree.specs.ExprDepth.{declr_depth, declrs_depth, sizes_depth};
+ghost use Rattle.pungi_tree.specs.ExprView.{declr_view, declrs_of, sizes_of, optional_view};
+ghost use Rattle.pungi_tree.specs.Placed.{placed};
+
+use crate::begins::{function_front, plain_word};
+use crate::eat::eat;
+use crate::type_nodes;
+use crate::parser::{Parser, Read};
+use crate::stop::Stop;
+use crate::words;
+use pungi_base::{Punct, Token};
+use pungi_tree::{Declr, Expr};
+
+impl Parser<'_> {
+    /// The declarators at the front, with a comma between.
+    #[tactic(auto, unfolding(crate::specs::TypeReader::declrs, crate::specs::Reading::chain))]
+    #[cycle(parts)]
+    pub(crate) fn declrs<'t>(&self, tokens: &'t [Token]) -> Read<'t, Vec<Declr>>
+        ensures tree { Gives (λ x. (declrs_of (map declr_view x.0.items), placed x.2.now)) result
+            (declrs_of_tokens self.now.types.now (readers self.now.types.now self.now.nest self.now.most)
+                (placed tokens.now)) }
+        ensures deep { IfOk result (λ x. x.1 ≡ declrs_depth (declrs_of (map declr_view x.0.items))) }
+        ensures bound { IfOk result (λ x. x.1 ≤ self.now.most) }
+        ensures shorter { IfOk result (λ x. length x.2.now < length tokens.now) }
+    {
+        let mut list = Vec::new(self.alloc);
+        let (first, depth, after) = self.declr(tokens)?;
+        list.push(first)?;
+        let mut deepest = depth;
+        let mut rest = after;
+        while let Some((_, inner)) = eat(Punct::Comma, rest) {
+            let (declr, depth, behind) = self.declr(inner)?;
+            list.push(declr)?;
+            deepest = deepest.max(depth);
+            rest = behind;
+        }
+        Ok((list, deepest, rest))
+    }
+
+    /// The declarator at the front.
+    #[tactic(auto, unfolding(crate::specs::TypeReader::declr_at))]
+    #[cycle(parts)]
+    pub(crate) fn declr<'t>(&self, tokens: &'t [Token]) -> Read<'t, Declr>
+        ensures tree { Gives (λ x. (declr_view x.0, placed x.2.now)) result
+            (declr_at self.now.types.now (readers self.now.types.now self.now.nest self.now.most)
+                (placed tokens.now)) }
+        ensures deep { IfOk result (λ x. x.1 ≡ declr_depth (declr_view x.0)) }
+        ensures bound { IfOk result (λ x. x.1 ≤ self.now.most) }
+        ensures shorter { IfOk result (λ x. length x.2.now < length tokens.now) }
+    {
+        let (stars, rest) = words::stars(self.alloc, tokens)?;
+        self.declr_rest(stars, rest)
+    }
+
+    /// What stands behind the stars of a declarator.
+    #[tactic(auto, unfolding(crate::specs::TypeReader::declr_rest, crate::specs::Reading::chain, crate::specs::Reading::on_some))]
+    #[cycle(parts)]
+    pub(crate) fn declr_rest<'t>(&self, stars: Vec<u32>, tokens: &'t [Token]) -> Read<'t, Declr>
+        ensures tree { Gives (λ x. (declr_view x.0, placed x.2.now)) result
+            (declr_rest_of self.now.types.now (readers self.now.types.now self.now.nest self.now.most)
+                stars.items (placed tokens.now)) }
+        ensures deep { IfOk result (λ x. x.1 ≡ declr_depth (declr_view x.0)) }
+        ensures bound { IfOk result (λ x. x.1 ≤ self.now.most) }
+        ensures shorter { IfOk result (λ x. length x.2.now < length tokens.now) }
+    {
+        let Some((name, pos, rest)) = plain_word(self.types, tokens) else {
+            return self.function_rest(stars, tokens);
+        };
+        let (sizes, depth, rest) = self.sizes(rest)?;
+        Ok((type_nodes::array(stars, name, pos, sizes), depth, rest))
+    }
+
+    #[cycle(parts)]
+    fn function_rest<'t>(&self, stars: Vec<u32>, tokens: &'t [Token]) -> Read<'t, Declr>
+        ensures tree { Gives (λ x. (declr_view x.0, placed x.2.now)) result
+            (function_rest_of self.now.types.now (readers self.now.types.now self.now.nest self.now.most)
+                stars.items (placed tokens.now)) }
+        ensures deep { IfOk result (λ x. x.1 ≡ declr_depth (declr_view x.0)) }
+        ensures bound { IfOk result (λ x. x.1 ≤ self.now.most) }
+        ensures shorter { IfOk result (λ x. length x.2.now < length tokens.now) }
+    {
+        let Some((name, pos, inner)) = function_front(self.types, tokens) else {
+            return Err(Stop::NothingRead);
+        };
+        let (params, depth, rest) = self.params(inner)?;
+        Ok((type_nodes::function(stars, name, pos, params), depth, rest))
+    }
+
+    #[cycle(parts)]
+    fn sizes<'t>(&self, tokens: &'t [Token]) -> Read<'t, Vec<Option<Expr>>>
+        ensures tree { Gives (λ x. (sizes_of (map optional_view x.0.items), placed x.2.now)) result
+            (sizes_at self.now.types.now (readers self.now.types.now self.now.nest self.now.most)
+                (placed tokens.now)) }
+        ensures deep { IfOk result (λ x. x.1 ≡ sizes_depth (sizes_of (map optional_view x.0.items))) }
+        ensures bound { IfOk result (λ x. x.1 ≤ self.now.most) }
+        ensures shorter { IfOk result (λ x. length x.2.now ≤ length tokens.now) }
+    {
+        let mut list = Vec::new(self.alloc);
+        let mut deepest: u32 = 0;
+        let mut rest = tokens;
+        while let Some((_, inner)) = eat(Punct::LeftBracket, rest) {
+            let (size, depth, behind) = self.size(inner)?;
+            list.push(size)?;
+            deepest = deepest.max(depth);
+            rest = behind;
+        }
+        Ok((list, deepest, rest))
+    }
+
+    #[tactic(auto, unfolding(crate::specs::Turns::size_at, crate::specs::Reading::chain, crate::specs::Reading::on_some))]
+    #[cycle(parts)]
+    fn size<'t>(&self, tokens: &'t [Token]) -> Read<'t, Option<Expr>>
+        ensures tree { Gives (λ x. (optional_view x.0, placed x.2.now)) result
+            (size_at (readers self.now.types.now self.now.nest self.now.most) (placed tokens.now)) }
+        ensures deep { IfOk result (λ x. x.1 ≡ size_depth (optional_view x.0)) }
+        ensures bound { IfOk result (λ x. x.1 ≤ self.now.most) }
+        ensures shorter { IfOk result (λ x. length x.2.now < length tokens.now) }
+    {
+        if let Some((_, rest)) = eat(Punct::RightBracket, tokens) {
+            return Ok((None, 0, rest));
+        }
+        let (e, depth, rest) = self.expr(0, tokens)?;
+        let Some((_, rest)) = eat(Punct::RightBracket, rest) else {
+            return Err(Stop::NothingRead);
+        };
+        Ok((Some(e), depth, rest))
+    }
+}

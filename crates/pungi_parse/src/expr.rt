@@ -1,0 +1,186 @@
+ghost use Rattle.std.specs.Prelude.{◌≡◌, ◌≤◌, ◌<◌, ◌-◌, ◌^◌, suc, length, IfOk};
+ghost use Rattle.pungi_parse.specs.ExprReader.{read_at as read_at_of, comma_at, assign_at, assign_rest as assign_rest_of, conditional_at, conditional_rest as conditional_rest_of, climb as climb_of, casted as casted_of};
+ghost use Rattle.pungi_parse.specs.Gives.{Gives};
+ghost use Rattle.pungi_parse.specs.Readers.{readers};
+ghost use Rattle.pungi_tree.specs.ExprDepth.{expr_depth};
+ghost use Rattle.pungi_tree.specs.ExprView.{expr_view};
+ghost use Rattle.pungi_tree.specs.Placed.{placed};
+
+use crate::begins::cast_front;
+use crate::eat::{eat, eat_assign, eat_operator};
+use crate::nodes;
+use crate::operators::{binary_level, level as level_of};
+use crate::parser::{Parser, Read};
+use crate::stop::Stop;
+use pungi_base::{Punct, Token};
+use pungi_tree::Expr;
+
+impl Parser<'_> {
+    /// The expression of a level at the front.
+    #[cycle(parts)]
+    pub(crate) fn expr<'t>(&self, level: u32, tokens: &'t [Token]) -> Read<'t, Expr>
+        ensures tree { Gives (λ x. (expr_view x.0, placed x.2.now)) result
+            ((readers self.now.types.now self.now.nest self.now.most).expr level (placed tokens.now)) }
+        ensures deep { IfOk result (λ x. x.1 ≡ expr_depth (expr_view x.0)) }
+        ensures bound { IfOk result (λ x. x.1 ≤ self.now.most) }
+        ensures shorter { IfOk result (λ x. length x.2.now < length tokens.now) }
+    {
+        if self.nest == 0 {
+            return Err(Stop::NothingRead);
+        }
+        if self.most == 0 {
+            return Err(Stop::NothingRead);
+        }
+        let inner = Parser {
+            alloc: self.alloc,
+            types: self.types,
+            nest: self.nest - 1,
+            most: self.most - 1,
+        };
+        inner.read_at(level, tokens)
+    }
+
+    #[cycle(parts)]
+    fn read_at<'t>(&self, level: u32, tokens: &'t [Token]) -> Read<'t, Expr>
+        requires { self.now.most < 2 ^ 32 - 1 }
+        ensures tree { Gives (λ x. (expr_view x.0, placed x.2.now)) result
+            (read_at_of self.now.types.now (readers self.now.types.now self.now.nest self.now.most)
+                (suc self.now.most) level (placed tokens.now)) }
+        ensures deep { IfOk result (λ x. x.1 ≡ expr_depth (expr_view x.0)) }
+        ensures bound { IfOk result (λ x. x.1 ≤ suc self.now.most) }
+        ensures shorter { IfOk result (λ x. length x.2.now < length tokens.now) }
+    {
+        if level == 0 {
+            self.comma(tokens)
+        } else if level == 1 {
+            self.assign(tokens)
+        } else if level == 2 {
+            self.conditional(tokens)
+        } else if level < 14 {
+            self.climb(level, tokens)
+        } else {
+            self.unary(tokens)
+        }
+    }
+
+    #[tactic(auto, unfolding(crate::specs::ExprReader::comma_at, crate::specs::Reading::chain))]
+    #[cycle(parts)]
+    fn comma<'t>(&self, tokens: &'t [Token]) -> Read<'t, Expr>
+        requires { self.now.most < 2 ^ 32 - 1 }
+        ensures tree { Gives (λ x. (expr_view x.0, placed x.2.now)) result
+            (comma_at self.now.types.now (readers self.now.types.now self.now.nest self.now.most)
+                (suc self.now.most) (placed tokens.now)) }
+        ensures deep { IfOk result (λ x. x.1 ≡ expr_depth (expr_view x.0)) }
+        ensures bound { IfOk result (λ x. x.1 ≤ suc self.now.most) }
+        ensures shorter { IfOk result (λ x. length x.2.now < length tokens.now) }
+    {
+        let (mut left, mut left_depth, mut rest) = self.assign(tokens)?;
+        while let Some((pos, after)) = eat(Punct::Comma, rest) {
+            if left_depth > self.most {
+                return Err(Stop::NothingRead);
+            }
+            let (right, right_depth, behind) = self.expr(1, after)?;
+            left = nodes::comma(self.alloc, pos, left, right)?;
+            left_depth = left_depth.max(right_depth) + 1;
+            rest = behind;
+        }
+        Ok((left, left_depth, rest))
+    }
+
+    #[tactic(auto, unfolding(crate::specs::ExprReader::assign_at, crate::specs::ExprReader::assign_rest, crate::specs::Reading::chain, crate::specs::Reading::on_some, crate::specs::Reading::when))]
+    #[cycle(parts)]
+    fn assign<'t>(&self, tokens: &'t [Token]) -> Read<'t, Expr>
+        requires { self.now.most < 2 ^ 32 - 1 }
+        ensures tree { Gives (λ x. (expr_view x.0, placed x.2.now)) result
+            (assign_at self.now.types.now (readers self.now.types.now self.now.nest self.now.most)
+                (suc self.now.most) (placed tokens.now)) }
+        ensures deep { IfOk result (λ x. x.1 ≡ expr_depth (expr_view x.0)) }
+        ensures bound { IfOk result (λ x. x.1 ≤ suc self.now.most) }
+        ensures shorter { IfOk result (λ x. length x.2.now < length tokens.now) }
+    {
+        let (left, depth, rest) = self.conditional(tokens)?;
+        let Some((operator, pos, after)) = eat_assign(rest) else {
+            return Ok((left, depth, rest));
+        };
+        if level_of(&left) < 14 || depth > self.most {
+            return Err(Stop::NothingRead);
+        }
+        let (right, right_depth, behind) = self.expr(1, after)?;
+        let tree = nodes::assign(self.alloc, pos, operator, left, right)?;
+        Ok((tree, depth.max(right_depth) + 1, behind))
+    }
+
+    #[tactic(auto, unfolding(crate::specs::ExprReader::conditional_at, crate::specs::ExprReader::conditional_rest, crate::specs::Reading::chain, crate::specs::Reading::on_some, crate::specs::Reading::when))]
+    #[cycle(parts)]
+    fn conditional<'t>(&self, tokens: &'t [Token]) -> Read<'t, Expr>
+        requires { self.now.most < 2 ^ 32 - 1 }
+        ensures tree { Gives (λ x. (expr_view x.0, placed x.2.now)) result
+            (conditional_at self.now.types.now (readers self.now.types.now self.now.nest self.now.most)
+                (suc self.now.most) (placed tokens.now)) }
+        ensures deep { IfOk result (λ x. x.1 ≡ expr_depth (expr_view x.0)) }
+        ensures bound { IfOk result (λ x. x.1 ≤ suc self.now.most) }
+        ensures shorter { IfOk result (λ x. length x.2.now < length tokens.now) }
+    {
+        let (test, depth, rest) = self.climb(3, tokens)?;
+        let Some((pos, after)) = eat(Punct::Question, rest) else {
+            return Ok((test, depth, rest));
+        };
+        if depth > self.most {
+            return Err(Stop::NothingRead);
+        }
+        let (yes, yes_depth, colon) = self.expr(0, after)?;
+        let Some((_, after)) = eat(Punct::Colon, colon) else {
+            return Err(Stop::NothingRead);
+        };
+        let (no, no_depth, behind) = self.expr(2, after)?;
+        let tree = nodes::conditional(self.alloc, pos, test, yes, no)?;
+        Ok((tree, depth.max(yes_depth.max(no_depth)) + 1, behind))
+    }
+
+    #[tactic(auto, unfolding(crate::specs::ExprReader::climb, crate::specs::Reading::chain))]
+    #[cycle(parts)]
+    fn climb<'t>(&self, level: u32, tokens: &'t [Token]) -> Read<'t, Expr>
+        requires { self.now.most < 2 ^ 32 - 1 }
+        ensures tree { Gives (λ x. (expr_view x.0, placed x.2.now)) result
+            (climb_of self.now.types.now (readers self.now.types.now self.now.nest self.now.most)
+                (suc self.now.most) level (placed tokens.now)) }
+        ensures deep { IfOk result (λ x. x.1 ≡ expr_depth (expr_view x.0)) }
+        ensures bound { IfOk result (λ x. x.1 ≤ suc self.now.most) }
+        ensures shorter { IfOk result (λ x. length x.2.now < length tokens.now) }
+    {
+        let (mut left, mut left_depth, mut rest) = self.casted(tokens)?;
+        while let Some((operator, pos, after)) = eat_operator(level, rest) {
+            if left_depth > self.most {
+                return Err(Stop::NothingRead);
+            }
+            let (right, right_depth, behind) = self.expr(binary_level(operator) + 1, after)?;
+            left = nodes::binary(self.alloc, pos, operator, left, right)?;
+            left_depth = left_depth.max(right_depth) + 1;
+            rest = behind;
+        }
+        Ok((left, left_depth, rest))
+    }
+
+    #[tactic(auto, unfolding(crate::specs::ExprReader::casted, crate::specs::Reading::chain, crate::specs::Reading::on_some))]
+    #[cycle(parts)]
+    fn casted<'t>(&self, tokens: &'t [Token]) -> Read<'t, Expr>
+        requires { self.now.most < 2 ^ 32 - 1 }
+        ensures tree { Gives (λ x. (expr_view x.0, placed x.2.now)) result
+            (casted_of self.now.types.now (readers self.now.types.now self.now.nest self.now.most)
+                (suc self.now.most) (placed tokens.now)) }
+        ensures deep { IfOk result (λ x. x.1 ≡ expr_depth (expr_view x.0)) }
+        ensures bound { IfOk result (λ x. x.1 ≤ suc self.now.most) }
+        ensures shorter { IfOk result (λ x. length x.2.now < length tokens.now) }
+    {
+        let Some((pos, inner)) = cast_front(self.types, tokens) else {
+            return self.unary(tokens);
+        };
+        let (name, name_depth, after) = self.type_name(inner)?;
+        let Some((_, after)) = eat(Punct::RightParen, after) else {
+            return Err(Stop::NothingRead);
+        };
+        let (operand, depth, behind) = self.expr(13, after)?;
+        let tree = nodes::cast(self.alloc, pos, name, operand)?;
+        Ok((tree, name_depth.max(depth) + 1, behind))
+    }
+}

@@ -1,0 +1,146 @@
+ghost use Rattle.std.specs.Prelude.{◌≡◌, ◌≤◌, ◌<◌, length, IfOk};
+ghost use Rattle.pungi_parse.specs.Gives.{Gives};
+ghost use Rattle.pungi_parse.specs.Readers.{readers};
+ghost use Rattle.pungi_parse.specs.TypeReader.{params_at as params_at_of, some_params as some_params_of, param as param_of, param_declr_at, param_rest as param_rest_of};
+ghost use Rattle.pungi_tree.specs.ExprDepth.{params_depth, param_decl_depth, param_declr_depth};
+ghost use Rattle.pungi_tree.specs.ExprView.{params_view, param_decl_view, param_declr_view};
+ghost use Rattle.pungi_tree.specs.Placed.{placed};
+
+use crate::begins::{begins_name, dots_front, unused_front, plain_word, void_front};
+use crate::eat::eat;
+use crate::type_nodes;
+use crate::parser::{Parser, Read};
+use crate::simple::close_params;
+use crate::stop::Stop;
+use crate::words;
+use pungi_base::{Punct, Token};
+use pungi_tree::{ParamDecl, ParamDeclr, Params};
+
+impl Parser<'_> {
+    /// The parameters at the front, with their closing parenthesis.
+    #[cycle(parts)]
+    pub(crate) fn params<'t>(&self, tokens: &'t [Token]) -> Read<'t, Params>
+        ensures tree { Gives (λ x. (params_view x.0, placed x.2.now)) result
+            ((readers self.now.types.now self.now.nest self.now.most).params (placed tokens.now)) }
+        ensures deep { IfOk result (λ x. x.1 ≡ params_depth (params_view x.0)) }
+        ensures bound { IfOk result (λ x. x.1 ≤ self.now.most) }
+        ensures shorter { IfOk result (λ x. length x.2.now < length tokens.now) }
+    {
+        if self.nest == 0 {
+            return Err(Stop::NothingRead);
+        }
+        let inner = Parser {
+            alloc: self.alloc,
+            types: self.types,
+            nest: self.nest - 1,
+            most: self.most,
+        };
+        inner.params_at(tokens)
+    }
+
+    #[tactic(auto, unfolding(crate::specs::TypeReader::params_at, crate::specs::Reading::on_some))]
+    #[cycle(parts)]
+    fn params_at<'t>(&self, tokens: &'t [Token]) -> Read<'t, Params>
+        ensures tree { Gives (λ x. (params_view x.0, placed x.2.now)) result
+            (params_at_of self.now.types.now (readers self.now.types.now self.now.nest self.now.most)
+                (placed tokens.now)) }
+        ensures deep { IfOk result (λ x. x.1 ≡ params_depth (params_view x.0)) }
+        ensures bound { IfOk result (λ x. x.1 ≤ self.now.most) }
+        ensures shorter { IfOk result (λ x. length x.2.now < length tokens.now) }
+    {
+        if let Some((_, rest)) = eat(Punct::RightParen, tokens) {
+            return Ok((type_nodes::no_params(self.alloc, false), 0, rest));
+        }
+        if let Some((_, rest)) = void_front(tokens) {
+            return Ok((type_nodes::no_params(self.alloc, true), 0, rest));
+        }
+        self.some_params(tokens)
+    }
+
+    #[tactic(auto, unfolding(crate::specs::TypeReader::some_params, crate::specs::Reading::chain))]
+    #[cycle(parts)]
+    fn some_params<'t>(&self, tokens: &'t [Token]) -> Read<'t, Params>
+        ensures tree { Gives (λ x. (params_view x.0, placed x.2.now)) result
+            (some_params_of self.now.types.now (readers self.now.types.now self.now.nest self.now.most)
+                (placed tokens.now)) }
+        ensures deep { IfOk result (λ x. x.1 ≡ params_depth (params_view x.0)) }
+        ensures bound { IfOk result (λ x. x.1 ≤ self.now.most) }
+        ensures shorter { IfOk result (λ x. length x.2.now < length tokens.now) }
+    {
+        let mut list = Vec::new(self.alloc);
+        let (first, depth, after) = self.param(tokens)?;
+        list.push(first)?;
+        let mut deepest = depth;
+        let mut rest = after;
+        'each: loop {
+            if let Some((dots, behind)) = dots_front(rest) {
+                return close_params(list, Some(dots), deepest, behind);
+            }
+            let Some((_, inner)) = eat(Punct::Comma, rest) else {
+                return close_params(list, None, deepest, rest);
+            };
+            let (param, depth, behind) = self.param(inner)?;
+            list.push(param)?;
+            deepest = deepest.max(depth);
+            rest = behind;
+        }
+    }
+
+    #[tactic(auto, unfolding(crate::specs::TypeReader::param, crate::specs::Reading::chain))]
+    #[cycle(parts)]
+    fn param<'t>(&self, tokens: &'t [Token]) -> Read<'t, ParamDecl>
+        ensures tree { Gives (λ x. (param_decl_view x.0, placed x.2.now)) result
+            (param_of self.now.types.now (readers self.now.types.now self.now.nest self.now.most)
+                (placed tokens.now)) }
+        ensures deep { IfOk result (λ x. x.1 ≡ param_decl_depth (param_decl_view x.0)) }
+        ensures bound { IfOk result (λ x. x.1 ≤ self.now.most) }
+        ensures shorter { IfOk result (λ x. length x.2.now < length tokens.now) }
+    {
+        let (quals, rest) = words::qualifiers(self.alloc, tokens)?;
+        let (spec, depth, rest) = self.spec(rest)?;
+        let (declr, declr_depth, rest) = self.param_declr(rest)?;
+        let param = type_nodes::param(quals, spec, declr);
+        Ok((param, depth.max(declr_depth), rest))
+    }
+
+    #[tactic(auto, unfolding(crate::specs::TypeReader::param_declr_at, crate::specs::Reading::on_some, crate::specs::Reading::when))]
+    #[cycle(parts)]
+    fn param_declr<'t>(&self, tokens: &'t [Token]) -> Read<'t, ParamDeclr>
+        ensures tree { Gives (λ x. (param_declr_view x.0, placed x.2.now)) result
+            (param_declr_at self.now.types.now (readers self.now.types.now self.now.nest self.now.most)
+                (placed tokens.now)) }
+        ensures deep { IfOk result (λ x. x.1 ≡ param_declr_depth (param_declr_view x.0)) }
+        ensures bound { IfOk result (λ x. x.1 ≤ self.now.most) }
+        ensures shorter { IfOk result (λ x. length x.2.now ≤ length tokens.now) }
+    {
+        let (stars, rest) = words::stars(self.alloc, tokens)?;
+        if begins_name(rest) {
+            self.param_rest(stars, rest)
+        } else {
+            Ok((ParamDeclr::Bare(stars), 0, rest))
+        }
+    }
+
+    #[tactic(auto, unfolding(crate::specs::TypeReader::param_rest, crate::specs::Reading::chain, crate::specs::Reading::on_some))]
+    #[cycle(parts)]
+    fn param_rest<'t>(&self, stars: Vec<u32>, tokens: &'t [Token]) -> Read<'t, ParamDeclr>
+        ensures tree { Gives (λ x. (param_declr_view x.0, placed x.2.now)) result
+            (param_rest_of self.now.types.now (readers self.now.types.now self.now.nest self.now.most)
+                stars.items (placed tokens.now)) }
+        ensures deep { IfOk result (λ x. x.1 ≡ param_declr_depth (param_declr_view x.0)) }
+        ensures bound { IfOk result (λ x. x.1 ≤ self.now.most) }
+        ensures shorter { IfOk result (λ x. length x.2.now < length tokens.now) }
+    {
+        let Some((_, _, inner)) = unused_front(self.types, tokens) else {
+            let (declr, depth, rest) = self.declr_rest(stars, tokens)?;
+            return Ok((ParamDeclr::Named(declr), depth, rest));
+        };
+        let Some((name, pos, rest)) = plain_word(self.types, inner) else {
+            return Err(Stop::NothingRead);
+        };
+        let Some((_, rest)) = eat(Punct::RightParen, rest) else {
+            return Err(Stop::NothingRead);
+        };
+        Ok((ParamDeclr::Unused { stars, name, pos }, 0, rest))
+    }
+}

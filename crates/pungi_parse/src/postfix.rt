@@ -1,0 +1,277 @@
+ghost use Rattle.std.specs.Prelude.{◌≡◌, ◌≤◌, ◌<◌, ◌-◌, ◌^◌, suc, length, map, IfOk};
+ghost use Rattle.pungi_parse.specs.ExprReader.{unary as unary_of, sizeof_at as sizeof_of, postfix as postfix_of, postfix_turn as postfix_turn_of, call_at, index_at, args_at, primary as primary_of, paren_at, new_at};
+ghost use Rattle.pungi_parse.specs.Gives.{Gives};
+ghost use Rattle.pungi_parse.specs.Readers.{readers};
+ghost use Rattle.pungi_parse.specs.Turns.{joined};
+ghost use Rattle.pungi_tree.specs.ExprDepth.{expr_depth, exprs_depth};
+ghost use Rattle.pungi_tree.specs.ExprView.{expr_view, exprs_of};
+ghost use Rattle.pungi_tree.specs.Placed.{placed};
+
+use crate::begins::{goes_on, new_front, plain_word, sizeof_front};
+use crate::eat::{eat, eat_key, eat_literal, eat_prefix, first_place};
+use crate::nodes;
+use crate::operators::prefix_need;
+use crate::parser::{Parser, Read};
+use crate::stop::Stop;
+use pungi_base::{Key, Kind, Pos, Punct, Token};
+use pungi_tree::{Expr, ExprNode};
+
+impl Parser<'_> {
+    /// The unary expression at the front.
+    #[tactic(auto, unfolding(crate::specs::ExprReader::unary, crate::specs::Reading::chain, crate::specs::Reading::on_some))]
+    #[cycle(parts)]
+    pub(crate) fn unary<'t>(&self, tokens: &'t [Token]) -> Read<'t, Expr>
+        requires { self.now.most < 2 ^ 32 - 1 }
+        ensures tree { Gives (λ x. (expr_view x.0, placed x.2.now)) result
+            (unary_of self.now.types.now (readers self.now.types.now self.now.nest self.now.most)
+                (suc self.now.most) (placed tokens.now)) }
+        ensures deep { IfOk result (λ x. x.1 ≡ expr_depth (expr_view x.0)) }
+        ensures bound { IfOk result (λ x. x.1 ≤ suc self.now.most) }
+        ensures shorter { IfOk result (λ x. length x.2.now < length tokens.now) }
+    {
+        if let Some((operator, pos, after)) = eat_prefix(tokens) {
+            let (operand, depth, rest) = self.expr(prefix_need(operator), after)?;
+            let tree = nodes::unary(self.alloc, pos, Kind::Punct(operator), operand)?;
+            return Ok((tree, depth + 1, rest));
+        }
+        if let Some((pos, after)) = eat_key(Key::Sizeof, tokens) {
+            return self.sizeof_at(pos, after);
+        }
+        self.postfix(tokens)
+    }
+
+    #[tactic(auto, unfolding(crate::specs::ExprReader::sizeof_at, crate::specs::Turns::sizeof_front, crate::specs::Reading::chain, crate::specs::Reading::on_some))]
+    #[cycle(parts)]
+    fn sizeof_at<'t>(&self, pos: Pos, tokens: &'t [Token]) -> Read<'t, Expr>
+        requires { self.now.most < 2 ^ 32 - 1 }
+        ensures tree { Gives (λ x. (expr_view x.0, placed x.2.now)) result
+            (sizeof_of self.now.types.now (readers self.now.types.now self.now.nest self.now.most)
+                (suc self.now.most) pos (placed tokens.now)) }
+        ensures deep { IfOk result (λ x. x.1 ≡ expr_depth (expr_view x.0)) }
+        ensures bound { IfOk result (λ x. x.1 ≤ suc self.now.most) }
+        ensures shorter { IfOk result (λ x. length x.2.now < length tokens.now) }
+    {
+        let Some(inner) = sizeof_front(self.types, tokens) else {
+            let (operand, depth, rest) = self.expr(14, tokens)?;
+            let tree = nodes::unary(self.alloc, pos, Kind::Key(Key::Sizeof), operand)?;
+            return Ok((tree, depth + 1, rest));
+        };
+        let (name, depth, rest) = self.type_name(inner)?;
+        let Some((_, rest)) = eat(Punct::RightParen, rest) else {
+            return Err(Stop::NothingRead);
+        };
+        Ok((nodes::size_of_type(pos, name), depth + 1, rest))
+    }
+
+    #[tactic(auto, unfolding(crate::specs::ExprReader::postfix, crate::specs::Reading::chain))]
+    #[cycle(parts)]
+    fn postfix<'t>(&self, tokens: &'t [Token]) -> Read<'t, Expr>
+        requires { self.now.most < 2 ^ 32 - 1 }
+        ensures tree { Gives (λ x. (expr_view x.0, placed x.2.now)) result
+            (postfix_of self.now.types.now (readers self.now.types.now self.now.nest self.now.most)
+                (suc self.now.most) (placed tokens.now)) }
+        ensures deep { IfOk result (λ x. x.1 ≡ expr_depth (expr_view x.0)) }
+        ensures bound { IfOk result (λ x. x.1 ≤ suc self.now.most) }
+        ensures shorter { IfOk result (λ x. length x.2.now < length tokens.now) }
+    {
+        let Some(start) = first_place(tokens) else {
+            return Err(Stop::NothingRead);
+        };
+        let (mut tree, mut depth, mut rest) = self.primary(tokens)?;
+        'each: loop {
+            if !goes_on(rest) {
+                return Ok((tree, depth, rest));
+            }
+            if depth > self.most {
+                return Err(Stop::NothingRead);
+            }
+            let (longer, longer_depth, behind) = self.postfix_turn(start, tree, depth, rest)?;
+            tree = longer;
+            depth = longer_depth;
+            rest = behind;
+        }
+    }
+
+    /// What goes on with an expression, which has this depth and begins at `start`.
+    #[tactic(auto, unfolding(crate::specs::ExprReader::postfix_turn, crate::specs::Turns::member_or_step, crate::specs::Reading::on_some))]
+    #[cycle(parts)]
+    fn postfix_turn<'t>(
+        &self,
+        start: Pos,
+        tree: Expr,
+        depth: u32,
+        tokens: &'t [Token],
+    ) -> Read<'t, Expr>
+        requires most { self.now.most < 2 ^ 32 - 1 }
+        requires deep { depth ≡ expr_depth (expr_view tree) }
+        requires bound { depth ≤ self.now.most }
+        ensures tree { Gives (λ x. (expr_view x.0, placed x.2.now)) result
+            (joined (postfix_turn_of self.now.types.now (readers self.now.types.now self.now.nest self.now.most)
+                start (expr_view tree) (placed tokens.now))) }
+        ensures deep { IfOk result (λ x. x.1 ≡ expr_depth (expr_view x.0)) }
+        ensures bound { IfOk result (λ x. x.1 ≤ suc self.now.most) }
+        ensures deeper { IfOk result (λ x. depth < x.1) }
+        ensures shorter { IfOk result (λ x. length x.2.now < length tokens.now) }
+    {
+        if let Some((_, inner)) = eat(Punct::LeftParen, tokens) {
+            return self.call(start, tree, depth, inner);
+        }
+        if let Some((pos, inner)) = eat(Punct::LeftBracket, tokens) {
+            return self.index(tree, depth, pos, inner);
+        }
+        self.member_or_step(tree, depth, tokens)
+    }
+
+    #[tactic(auto, unfolding(crate::specs::ExprReader::call_at, crate::specs::Reading::chain))]
+    #[cycle(parts)]
+    fn call<'t>(
+        &self,
+        start: Pos,
+        callee: Expr,
+        depth: u32,
+        tokens: &'t [Token],
+    ) -> Read<'t, Expr>
+        requires most { self.now.most < 2 ^ 32 - 1 }
+        requires deep { depth ≡ expr_depth (expr_view callee) }
+        requires bound { depth ≤ self.now.most }
+        ensures tree { Gives (λ x. (expr_view x.0, placed x.2.now)) result
+            (call_at self.now.types.now (readers self.now.types.now self.now.nest self.now.most)
+                start (expr_view callee) (placed tokens.now)) }
+        ensures deep { IfOk result (λ x. x.1 ≡ expr_depth (expr_view x.0)) }
+        ensures bound { IfOk result (λ x. x.1 ≤ suc self.now.most) }
+        ensures deeper { IfOk result (λ x. depth < x.1) }
+        ensures shorter { IfOk result (λ x. length x.2.now < length tokens.now) }
+    {
+        let (args, args_depth, rest) = self.args(tokens)?;
+        let tree = nodes::call(self.alloc, start, callee, args)?;
+        Ok((tree, depth.max(args_depth) + 1, rest))
+    }
+
+    #[tactic(auto, unfolding(crate::specs::ExprReader::index_at, crate::specs::Reading::chain))]
+    #[cycle(parts)]
+    fn index<'t>(
+        &self,
+        array: Expr,
+        depth: u32,
+        pos: Pos,
+        tokens: &'t [Token],
+    ) -> Read<'t, Expr>
+        requires most { self.now.most < 2 ^ 32 - 1 }
+        requires deep { depth ≡ expr_depth (expr_view array) }
+        requires bound { depth ≤ self.now.most }
+        ensures tree { Gives (λ x. (expr_view x.0, placed x.2.now)) result
+            (index_at self.now.types.now (readers self.now.types.now self.now.nest self.now.most)
+                (expr_view array) pos (placed tokens.now)) }
+        ensures deep { IfOk result (λ x. x.1 ≡ expr_depth (expr_view x.0)) }
+        ensures bound { IfOk result (λ x. x.1 ≤ suc self.now.most) }
+        ensures deeper { IfOk result (λ x. depth < x.1) }
+        ensures shorter { IfOk result (λ x. length x.2.now < length tokens.now) }
+    {
+        let (index, index_depth, rest) = self.expr(0, tokens)?;
+        let Some((_, rest)) = eat(Punct::RightBracket, rest) else {
+            return Err(Stop::NothingRead);
+        };
+        let tree = nodes::index(self.alloc, pos, array, index)?;
+        Ok((tree, depth.max(index_depth) + 1, rest))
+    }
+
+    /// The arguments at the front, with their closing parenthesis.
+    #[tactic(auto, unfolding(crate::specs::ExprReader::args_at, crate::specs::ExprReader::some_args, crate::specs::Reading::chain, crate::specs::Reading::on_some))]
+    #[cycle(parts)]
+    fn args<'t>(&self, tokens: &'t [Token]) -> Read<'t, Vec<Expr>>
+        ensures tree { Gives (λ x. (exprs_of (map expr_view x.0.items), placed x.2.now)) result
+            (args_at self.now.types.now (readers self.now.types.now self.now.nest self.now.most)
+                (placed tokens.now)) }
+        ensures deep { IfOk result (λ x. x.1 ≡ exprs_depth (exprs_of (map expr_view x.0.items))) }
+        ensures bound { IfOk result (λ x. x.1 ≤ self.now.most) }
+        ensures shorter { IfOk result (λ x. length x.2.now < length tokens.now) }
+    {
+        let mut list = Vec::new(self.alloc);
+        if let Some((_, rest)) = eat(Punct::RightParen, tokens) {
+            return Ok((list, 0, rest));
+        }
+        let (first, depth, after) = self.expr(1, tokens)?;
+        list.push(first)?;
+        let mut deepest = depth;
+        let mut rest = after;
+        while let Some((_, inner)) = eat(Punct::Comma, rest) {
+            let (arg, depth, behind) = self.expr(1, inner)?;
+            list.push(arg)?;
+            deepest = deepest.max(depth);
+            rest = behind;
+        }
+        let Some((_, behind)) = eat(Punct::RightParen, rest) else {
+            return Err(Stop::NothingRead);
+        };
+        Ok((list, deepest, behind))
+    }
+
+    #[tactic(auto, unfolding(crate::specs::ExprReader::primary, crate::specs::Reading::chain, crate::specs::Reading::on_some))]
+    #[cycle(parts)]
+    fn primary<'t>(&self, tokens: &'t [Token]) -> Read<'t, Expr>
+        requires { self.now.most < 2 ^ 32 - 1 }
+        ensures tree { Gives (λ x. (expr_view x.0, placed x.2.now)) result
+            (primary_of self.now.types.now (readers self.now.types.now self.now.nest self.now.most)
+                (placed tokens.now)) }
+        ensures deep { IfOk result (λ x. x.1 ≡ expr_depth (expr_view x.0)) }
+        ensures bound { IfOk result (λ x. x.1 ≤ suc self.now.most) }
+        ensures shorter { IfOk result (λ x. length x.2.now < length tokens.now) }
+    {
+        if let Some((tree, rest)) = eat_literal(tokens) {
+            return Ok((tree, 1, rest));
+        }
+        if let Some((pos, inner)) = new_front(self.types, tokens) {
+            return self.new_object(pos, inner);
+        }
+        if let Some((name, pos, rest)) = plain_word(self.types, tokens) {
+            let node = ExprNode::Word(name);
+            return Ok((Expr { pos, node }, 1, rest));
+        }
+        if let Some((pos, inner)) = eat(Punct::LeftParen, tokens) {
+            return self.paren(pos, inner);
+        }
+        self.text(tokens)
+    }
+
+    #[tactic(auto, unfolding(crate::specs::ExprReader::paren_at, crate::specs::Reading::chain))]
+    #[cycle(parts)]
+    fn paren<'t>(&self, pos: Pos, tokens: &'t [Token]) -> Read<'t, Expr>
+        requires { self.now.most < 2 ^ 32 - 1 }
+        ensures tree { Gives (λ x. (expr_view x.0, placed x.2.now)) result
+            (paren_at self.now.types.now (readers self.now.types.now self.now.nest self.now.most)
+                pos (placed tokens.now)) }
+        ensures deep { IfOk result (λ x. x.1 ≡ expr_depth (expr_view x.0)) }
+        ensures bound { IfOk result (λ x. x.1 ≤ suc self.now.most) }
+        ensures shorter { IfOk result (λ x. length x.2.now < length tokens.now) }
+    {
+        let (inner, depth, rest) = self.expr(0, tokens)?;
+        let Some((_, rest)) = eat(Punct::RightParen, rest) else {
+            return Err(Stop::NothingRead);
+        };
+        let tree = nodes::paren(self.alloc, pos, inner)?;
+        Ok((tree, depth + 1, rest))
+    }
+
+    #[tactic(auto, unfolding(crate::specs::ExprReader::new_at, crate::specs::Reading::chain))]
+    #[cycle(parts)]
+    fn new_object<'t>(&self, pos: Pos, tokens: &'t [Token]) -> Read<'t, Expr>
+        requires { self.now.most < 2 ^ 32 - 1 }
+        ensures tree { Gives (λ x. (expr_view x.0, placed x.2.now)) result
+            (new_at self.now.types.now (readers self.now.types.now self.now.nest self.now.most)
+                pos (placed tokens.now)) }
+        ensures deep { IfOk result (λ x. x.1 ≡ expr_depth (expr_view x.0)) }
+        ensures bound { IfOk result (λ x. x.1 ≤ suc self.now.most) }
+        ensures shorter { IfOk result (λ x. length x.2.now < length tokens.now) }
+    {
+        let (name, name_depth, rest) = self.type_name(tokens)?;
+        let Some((_, inner)) = eat(Punct::Comma, rest) else {
+            return Err(Stop::NothingRead);
+        };
+        let (e, depth, rest) = self.expr(1, inner)?;
+        let Some((_, rest)) = eat(Punct::RightParen, rest) else {
+            return Err(Stop::NothingRead);
+        };
+        let tree = nodes::new_object(self.alloc, pos, name, e)?;
+        Ok((tree, name_depth.max(depth) + 1, rest))
+    }
+}

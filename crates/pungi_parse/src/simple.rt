@@ -1,0 +1,93 @@
+ghost use Rattle.std.specs.Prelude.{◌≡◌, ◌≤◌, ◌<◌, ◌-◌, ◌^◌, suc, false, length, map, IfOk};
+ghost use Rattle.pungi_parse.specs.ExprReader.{text_at};
+ghost use Rattle.pungi_parse.specs.Gives.{Gives};
+ghost use Rattle.pungi_parse.specs.Readers.{readers};
+ghost use Rattle.pungi_parse.specs.Turns.{close_params as close_params_of, joined, member_or_step as member_or_step_of};
+ghost use Rattle.pungi_tree.specs.ExprDepth.{expr_depth};
+ghost use Rattle.pungi_tree.specs.ExprView.{expr_view, params_view, param_decl_view, param_decls_of};
+ghost use Rattle.pungi_tree.specs.Syntax as plain;
+ghost use Rattle.pungi_tree.specs.Placed.{placed};
+
+use crate::begins::plain_word;
+use crate::eat::{eat, eat_step, first_place};
+use crate::nodes;
+use crate::parser::{Parser, Read};
+use crate::stop::Stop;
+use crate::type_nodes;
+use crate::words;
+use pungi_base::{Pos, Punct, Token};
+use pungi_tree::{Expr, ExprNode, ParamDecl, Params};
+
+/// Parameters of this depth, with the closing parenthesis at the front.
+#[tactic(auto, unfolding(crate::specs::Turns::close_params, crate::specs::Reading::chain))]
+pub(crate) fn close_params<'t>(
+    list: Vec<ParamDecl>,
+    dots: Option<Pos>,
+    depth: u32,
+    tokens: &'t [Token],
+) -> Read<'t, Params>
+    ensures tree { Gives (λ x. (params_view x.0, placed x.2.now)) result
+        (close_params_of (param_decls_of (map param_decl_view list.items)) dots (placed tokens.now)) }
+    ensures deep { IfOk result (λ x. x.1 ≡ depth) }
+    ensures same { IfOk result (λ x. params_view x.0
+        ≡ plain.params (param_decls_of (map param_decl_view list.items)) false dots) }
+    ensures shorter { IfOk result (λ x. length x.2.now < length tokens.now) }
+{
+    let Some((_, rest)) = eat(Punct::RightParen, tokens) else {
+        return Err(Stop::NothingRead);
+    };
+    Ok((type_nodes::some_params(list, dots), depth, rest))
+}
+
+impl Parser<'_> {
+    /// A string literal, in one or more texts, at the front.
+    #[tactic(auto, unfolding(crate::specs::ExprReader::text_at, crate::specs::Reading::chain, crate::specs::Reading::unless))]
+    pub(crate) fn text<'t>(&self, tokens: &'t [Token]) -> Read<'t, Expr>
+        ensures tree { Gives (λ x. (expr_view x.0, placed x.2.now)) result
+            (text_at self.now.types.now (readers self.now.types.now self.now.nest self.now.most) (placed tokens.now)) }
+        ensures deep { IfOk result (λ x. x.1 ≡ expr_depth (expr_view x.0)) }
+        ensures bound { IfOk result (λ x. x.1 ≤ 1) }
+        ensures shorter { IfOk result (λ x. length x.2.now < length tokens.now) }
+    {
+        let Some(pos) = first_place(tokens) else {
+            return Err(Stop::NothingRead);
+        };
+        let (names, rest) = words::texts(self.alloc, tokens)?;
+        if names.is_empty() {
+            return Err(Stop::NothingRead);
+        }
+        let node = ExprNode::Text(names);
+        Ok((Expr { pos, node }, 1, rest))
+    }
+
+    /// A member of an expression, or a step, of an expression of this depth, by what stands behind it.
+    #[tactic(auto, unfolding(crate::specs::Turns::member_or_step, crate::specs::Reading::chain, crate::specs::Reading::on_some))]
+    pub(crate) fn member_or_step<'t>(&self, tree: Expr, depth: u32, tokens: &'t [Token]) -> Read<'t, Expr>
+        requires most { self.now.most < 2 ^ 32 - 1 }
+        requires deep { depth ≡ expr_depth (expr_view tree) }
+        requires bound { depth ≤ self.now.most }
+        ensures tree { Gives (λ x. (expr_view x.0, placed x.2.now)) result
+            (joined (member_or_step_of self.now.types.now (expr_view tree) (placed tokens.now))) }
+        ensures deep { IfOk result (λ x. x.1 ≡ expr_depth (expr_view x.0)) }
+        ensures bound { IfOk result (λ x. x.1 ≤ suc self.now.most) }
+        ensures deeper { IfOk result (λ x. depth < x.1) }
+        ensures shorter { IfOk result (λ x. length x.2.now < length tokens.now) }
+    {
+        if let Some((pos, after)) = eat(Punct::Dot, tokens) {
+            let Some((name, _, rest)) = plain_word(self.types, after) else {
+                return Err(Stop::NothingRead);
+            };
+            return Ok((nodes::dot(self.alloc, pos, tree, name)?, depth + 1, rest));
+        }
+        if let Some((pos, after)) = eat(Punct::Arrow, tokens) {
+            let Some((name, _, rest)) = plain_word(self.types, after) else {
+                return Err(Stop::NothingRead);
+            };
+            return Ok((nodes::arrow(self.alloc, pos, tree, name)?, depth + 1, rest));
+        }
+        let Some((operator, pos, rest)) = eat_step(tokens) else {
+            return Err(Stop::NothingRead);
+        };
+        Ok((nodes::post(self.alloc, pos, operator, tree)?, depth + 1, rest))
+    }
+}

@@ -1,0 +1,188 @@
+ghost use Rattle.std.specs.Prelude.{◌≡◌, ◌≤◌, ◌<◌, suc, length, map, IfOk};
+ghost use Rattle.pungi_parse.specs.Gives.{Gives};
+ghost use Rattle.pungi_parse.specs.Readers.{readers};
+ghost use Rattle.pungi_parse.specs.TypeReader.{type_name_at, spec_at as spec_at_of, base_at, aggregate as aggregate_of, fields_at as fields_at_of, fields as fields_of_tokens, field as field_of, declrs as declrs_of_tokens};
+ghost use Rattle.pungi_tree.specs.ExprDepth.{type_name_depth, spec_depth, base_depth, field_depth, fields_depth, declrs_depth};
+ghost use Rattle.pungi_tree.specs.ExprView.{type_name_view, spec_view, base_view, field_view, fields_of, declr_view, declrs_of};
+ghost use Rattle.pungi_tree.specs.Placed.{placed};
+
+use crate::begins::type_word;
+use crate::eat::{eat, eat_aggregate, eat_base_word, eat_word, first_place};
+use crate::type_nodes;
+use crate::parser::{Parser, Read};
+use crate::stop::Stop;
+use crate::words;
+use pungi_base::{Key, Name, Pos, Punct, Token};
+use pungi_tree::{Base, Declr, Field, Spec, TypeName};
+
+impl Parser<'_> {
+    /// The type with its pointers at the front.
+    #[tactic(auto, unfolding(crate::specs::TypeReader::type_name_at, crate::specs::Reading::chain))]
+    #[cycle(parts)]
+    pub(crate) fn type_name<'t>(&self, tokens: &'t [Token]) -> Read<'t, TypeName>
+        ensures tree { Gives (λ x. (type_name_view x.0, placed x.2.now)) result
+            (type_name_at (readers self.now.types.now self.now.nest self.now.most) (placed tokens.now)) }
+        ensures deep { IfOk result (λ x. x.1 ≡ type_name_depth (type_name_view x.0)) }
+        ensures bound { IfOk result (λ x. x.1 ≤ self.now.most) }
+        ensures shorter { IfOk result (λ x. length x.2.now < length tokens.now) }
+    {
+        let (spec, depth, rest) = self.spec(tokens)?;
+        let (stars, rest) = words::stars(self.alloc, rest)?;
+        Ok((TypeName { spec, stars }, depth, rest))
+    }
+
+    /// The type without its pointers at the front.
+    #[cycle(parts)]
+    pub(crate) fn spec<'t>(&self, tokens: &'t [Token]) -> Read<'t, Spec>
+        ensures tree { Gives (λ x. (spec_view x.0, placed x.2.now)) result
+            ((readers self.now.types.now self.now.nest self.now.most).spec (placed tokens.now)) }
+        ensures deep { IfOk result (λ x. x.1 ≡ spec_depth (spec_view x.0)) }
+        ensures bound { IfOk result (λ x. x.1 ≤ self.now.most) }
+        ensures shorter { IfOk result (λ x. length x.2.now < length tokens.now) }
+    {
+        if self.nest == 0 {
+            return Err(Stop::NothingRead);
+        }
+        let inner = Parser {
+            alloc: self.alloc,
+            types: self.types,
+            nest: self.nest - 1,
+            most: self.most,
+        };
+        inner.spec_at(tokens)
+    }
+
+    #[tactic(auto, unfolding(crate::specs::TypeReader::spec_at, crate::specs::Reading::chain))]
+    #[cycle(parts)]
+    fn spec_at<'t>(&self, tokens: &'t [Token]) -> Read<'t, Spec>
+        ensures tree { Gives (λ x. (spec_view x.0, placed x.2.now)) result
+            (spec_at_of self.now.types.now (readers self.now.types.now self.now.nest self.now.most)
+                (placed tokens.now)) }
+        ensures deep { IfOk result (λ x. x.1 ≡ spec_depth (spec_view x.0)) }
+        ensures bound { IfOk result (λ x. x.1 ≤ self.now.most) }
+        ensures shorter { IfOk result (λ x. length x.2.now < length tokens.now) }
+    {
+        let Some(pos) = first_place(tokens) else {
+            return Err(Stop::NothingRead);
+        };
+        let (base, depth, rest) = self.base(tokens)?;
+        let (consts, rest) = words::consts(rest)?;
+        Ok((Spec { pos, base, consts }, depth, rest))
+    }
+
+    #[tactic(auto, unfolding(crate::specs::TypeReader::base_at, crate::specs::Reading::chain, crate::specs::Reading::on_some))]
+    #[cycle(parts)]
+    fn base<'t>(&self, tokens: &'t [Token]) -> Read<'t, Base>
+        ensures tree { Gives (λ x. (base_view x.0, placed x.2.now)) result
+            (base_at self.now.types.now (readers self.now.types.now self.now.nest self.now.most)
+                (placed tokens.now)) }
+        ensures deep { IfOk result (λ x. x.1 ≡ base_depth (base_view x.0)) }
+        ensures bound { IfOk result (λ x. x.1 ≤ self.now.most) }
+        ensures shorter { IfOk result (λ x. length x.2.now < length tokens.now) }
+    {
+        if let Some((first, _, rest)) = eat_base_word(tokens) {
+            let (keys, rest) = words::base_words(self.alloc, first, rest)?;
+            return Ok((Base::Words(keys), 0, rest));
+        }
+        if let Some((of, _, rest)) = eat_aggregate(tokens) {
+            return self.aggregate(of, rest);
+        }
+        let Some((name, _, rest)) = type_word(self.types, tokens) else {
+            return Err(Stop::NothingRead);
+        };
+        Ok((Base::Alias(name), 0, rest))
+    }
+
+    #[tactic(auto, unfolding(crate::specs::TypeReader::aggregate, crate::specs::Reading::chain, crate::specs::Reading::on_some))]
+    #[cycle(parts)]
+    fn aggregate<'t>(&self, of: Key, tokens: &'t [Token]) -> Read<'t, Base>
+        ensures tree { Gives (λ x. (base_view x.0, placed x.2.now)) result
+            (aggregate_of self.now.types.now (readers self.now.types.now self.now.nest self.now.most)
+                of (placed tokens.now)) }
+        ensures deep { IfOk result (λ x. x.1 ≡ base_depth (base_view x.0)) }
+        ensures bound { IfOk result (λ x. x.1 ≤ self.now.most) }
+        ensures shorter { IfOk result (λ x. length x.2.now < length tokens.now) }
+    {
+        if let Some((name, pos, rest)) = type_word(self.types, tokens) {
+            return Ok((type_nodes::tagged(of, name, pos), 0, rest));
+        }
+        if let Some((name, pos, rest)) = eat_word(tokens) {
+            let Some((_, inner)) = eat(Punct::LeftBrace, rest) else {
+                return Ok((type_nodes::tagged(of, name, pos), 0, rest));
+            };
+            return self.fields_at(of, Some((name, pos)), inner);
+        }
+        let Some((_, inner)) = eat(Punct::LeftBrace, tokens) else {
+            return Err(Stop::NothingRead);
+        };
+        self.fields_at(of, None, inner)
+    }
+
+    #[tactic(auto, unfolding(crate::specs::TypeReader::fields_at, crate::specs::Reading::chain))]
+    #[cycle(parts)]
+    fn fields_at<'t>(
+        &self,
+        of: Key,
+        tag: Option<(Name, Pos)>,
+        tokens: &'t [Token],
+    ) -> Read<'t, Base>
+        ensures tree { Gives (λ x. (base_view x.0, placed x.2.now)) result
+            (fields_at_of self.now.types.now (readers self.now.types.now self.now.nest self.now.most)
+                of tag (placed tokens.now)) }
+        ensures deep { IfOk result (λ x. x.1 ≡ base_depth (base_view x.0)) }
+        ensures bound { IfOk result (λ x. x.1 ≤ self.now.most) }
+        ensures shorter { IfOk result (λ x. length x.2.now < length tokens.now) }
+    {
+        let (fields, depth, rest) = self.fields(tokens)?;
+        let Some((_, rest)) = eat(Punct::RightBrace, rest) else {
+            return Err(Stop::NothingRead);
+        };
+        Ok((type_nodes::tagged_fields(of, tag, fields), depth, rest))
+    }
+
+    #[cycle(parts)]
+    fn fields<'t>(&self, tokens: &'t [Token]) -> Read<'t, Vec<Field>>
+        ensures tree { Gives (λ x. (fields_of (map field_view x.0.items), placed x.2.now)) result
+            (fields_of_tokens self.now.types.now (readers self.now.types.now self.now.nest self.now.most)
+                (suc (length (placed tokens.now))) (placed tokens.now)) }
+        ensures deep { IfOk result (λ x. x.1 ≡ fields_depth (fields_of (map field_view x.0.items))) }
+        ensures bound { IfOk result (λ x. x.1 ≤ self.now.most) }
+        ensures shorter { IfOk result (λ x. length x.2.now ≤ length tokens.now) }
+    {
+        let mut list = Vec::new(self.alloc);
+        let mut deepest = 0;
+        let mut rest = tokens;
+        'each: loop {
+            if let Some(_) = eat(Punct::RightBrace, rest) {
+                return Ok((list, deepest, rest));
+            }
+            let (field, depth, behind) = self.field(rest)?;
+            list.push(field)?;
+            deepest = deepest.max(depth);
+            rest = behind;
+        }
+    }
+
+    #[tactic(auto, unfolding(crate::specs::TypeReader::field, crate::specs::Reading::chain, crate::specs::Reading::on_some))]
+    #[cycle(parts)]
+    fn field<'t>(&self, tokens: &'t [Token]) -> Read<'t, Field>
+        ensures tree { Gives (λ x. (field_view x.0, placed x.2.now)) result
+            (field_of self.now.types.now (readers self.now.types.now self.now.nest self.now.most)
+                (placed tokens.now)) }
+        ensures deep { IfOk result (λ x. x.1 ≡ field_depth (field_view x.0)) }
+        ensures bound { IfOk result (λ x. x.1 ≤ self.now.most) }
+        ensures shorter { IfOk result (λ x. length x.2.now < length tokens.now) }
+    {
+        if let Some((_, rest)) = eat(Punct::Semicolon, tokens) {
+            return Ok((Field::Empty, 0, rest));
+        }
+        let (quals, rest) = words::qualifiers(self.alloc, tokens)?;
+        let (spec, spec_depth, rest) = self.spec(rest)?;
+        let (declrs, declrs_depth, rest) = self.declrs(rest)?;
+        let Some((_, rest)) = eat(Punct::Semicolon, rest) else {
+            return Err(Stop::NothingRead);
+        };
+        let field = type_nodes::members(quals, spec, declrs);
+        Ok((field, spec_depth.max(declrs_depth), rest))
+    }
+}
