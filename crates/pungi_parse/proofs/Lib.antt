@@ -4,3 +4,4 @@ pub mod WordLoops
 pub mod Typedefs
 pub mod Tables
 pub mod Vars
+pub mod Blocks

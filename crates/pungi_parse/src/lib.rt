@@ -13,6 +13,7 @@ mod nodes;
 mod operators;
 mod parser;
 mod simple_stmt;
+mod stmt;
 mod stmt_nodes;
 mod stop;
 mod table;
