@@ -5,3 +5,4 @@ pub mod Typedefs
 pub mod Tables
 pub mod Vars
 pub mod Blocks
+pub mod GoesOn

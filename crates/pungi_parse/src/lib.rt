@@ -3,6 +3,7 @@
 
 mod awaited;
 mod begins;
+mod begun;
 mod closer;
 mod decl;
 mod deep;
@@ -14,6 +15,7 @@ mod operators;
 mod parser;
 mod simple_stmt;
 mod stmt;
+mod stmt_front;
 mod stmt_nodes;
 mod stop;
 mod table;

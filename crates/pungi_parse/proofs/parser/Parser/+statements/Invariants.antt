@@ -16,37 +16,13 @@ decreases-block l = 8 * l.self.now.most + 2
 abbrev pub decreases-branch : goal.decreases-branch
 decreases-branch l = 8 * l.self.now.most + 1
 
-abbrev pub decreases-while_loop : goal.decreases-while_loop
-decreases-while_loop l = 8 * l.self.now.most + 1
-
-abbrev pub decreases-do_while : goal.decreases-do_while
-decreases-do_while l = 8 * l.self.now.most + 1
-
-abbrev pub decreases-for_loop : goal.decreases-for_loop
-decreases-for_loop l = 8 * l.self.now.most + 1
-
-abbrev pub decreases-switch : goal.decreases-switch
-decreases-switch l = 8 * l.self.now.most + 1
-
-abbrev pub decreases-case : goal.decreases-case
-decreases-case l = 8 * l.self.now.most + 1
-
-abbrev pub decreases-default : goal.decreases-default
-decreases-default l = 8 * l.self.now.most + 1
-
-abbrev pub decreases-label : goal.decreases-label
-decreases-label l = 8 * l.self.now.most + 1
-
-abbrev pub decreases-label_or_jump : goal.decreases-label_or_jump
-decreases-label_or_jump l = 8 * l.self.now.most + 2
-
-abbrev pub decreases-statement : goal.decreases-statement
-decreases-statement l = 8 * l.self.now.most + 3
+abbrev pub decreases-go_on : goal.decreases-go_on
+decreases-go_on l = 8 * l.self.now.most + 3
 
 abbrev pub invariant-block-each : goal.invariant-block-each
 invariant-block-each l = record {
   to : BlockTo l.self.types.now l.self.nest l.self.most (placed l.fn.tokens) l.pos (map stmt_view l.list.items) (placed l.rest);
-  shorter : length l.rest ≤ length l.fn.tokens
+  shorter : length l.rest ≤ length l.fn.tokens;
 }
 
 abbrev pub decreases-block-each : goal.decreases-block-each
