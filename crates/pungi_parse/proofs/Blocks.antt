@@ -60,14 +60,14 @@ unfolding join
 join_all [] = refl
 join_all (s ∷ list) = ap (stmt_and s) (join_all list)
 
-finish_block : Pos → List Stmt → Read Stmts → Read Stmt
+pub finish_block : Pos → List Stmt → Read Stmts → Read Stmt
 finish_block p list read = chain read (λ more. chain (eat puncts.RightBrace more.1) (λ c. Some (block p (join list more.0) c.0, c.1)))
 
 module _ (types : List Name) (n d : ℕ) where
-  some_stmts : ℕ → List Placed → Read Stmts
+  pub some_stmts : ℕ → List Placed → Read Stmts
   some_stmts k ts = stmts_in types (readers types n d) (read_stmt types n d) (read_element types n d) k ts
 
-  pub whole_block : Pos → List Placed → Read Stmt
+  abbrev pub whole_block : Pos → List Placed → Read Stmt
   whole_block p ts = block_at types (readers types n d) (read_stmt types n d) (read_element types n d) p ts
 
   pub record BlockTo (start : List Placed) (p : Pos) (list : List Stmt) (ts : List Placed) : Type 0 where
@@ -76,7 +76,7 @@ module _ (types : List Name) (n d : ℕ) where
     pub goes_on : finish_block p list (some_stmts fuel ts) ≡ whole_block p start
 
   pub block_begin : (start : List Placed) (p : Pos) → BlockTo start p [] start
-  unfolding finish_block some_stmts whole_block block_at join
+  unfolding finish_block some_stmts block_at join
   block_begin start p = record { fuel = suc (length start); enough = omega arith; goes_on = refl }
 
   finish_turn : (p : Pos) (list : List Stmt) (s : Stmt) (read : Read Stmts)

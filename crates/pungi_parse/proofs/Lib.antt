@@ -6,3 +6,4 @@ pub mod Tables
 pub mod Vars
 pub mod Blocks
 pub mod GoesOn
+pub mod StmtSteps

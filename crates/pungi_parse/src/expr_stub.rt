@@ -1,4 +1,4 @@
-ghost use Rattle.std.specs.Prelude.{◌≡◌, ◌≤◌, ◌<◌, ◌-◌, ◌^◌, length, IfOk};
+ghost use Rattle.std.specs.Prelude.{◌≡◌, ◌≤◌, ◌<◌, length, IfOk};
 ghost use Rattle.pungi_parse.specs.Gives.{Gives};
 ghost use Rattle.pungi_parse.specs.Readers.{readers};
 ghost use Rattle.pungi_parse.specs.TypeReader.{declr_at};
@@ -13,9 +13,9 @@ use pungi_tree::{Declr, Expr, Params, Spec};
 
 impl Parser<'_> {
     pub(crate) fn expr<'t>(&self, level: u32, tokens: &'t [Token]) -> Read<'t, Expr>
-        requires { self.now.most < 2 ^ 32 - 1 }
         ensures tree { Gives (λ x. (expr_view x.0, placed x.2.now)) result
             ((readers self.now.types.now self.now.nest self.now.most).expr level (placed tokens.now)) }
+        ensures bound { IfOk result (λ x. x.1 ≤ self.now.most) }
         ensures shorter { IfOk result (λ x. length x.2.now < length tokens.now) }
     {
         if level > self.most || tokens.is_empty() {
@@ -25,9 +25,9 @@ impl Parser<'_> {
     }
 
     pub(crate) fn spec<'t>(&self, tokens: &'t [Token]) -> Read<'t, Spec>
-        requires { self.now.most < 2 ^ 32 - 1 }
         ensures tree { Gives (λ x. (spec_view x.0, placed x.2.now)) result
             ((readers self.now.types.now self.now.nest self.now.most).spec (placed tokens.now)) }
+        ensures bound { IfOk result (λ x. x.1 ≤ self.now.most) }
         ensures shorter { IfOk result (λ x. length x.2.now < length tokens.now) }
     {
         if self.most == 0 || tokens.is_empty() {
@@ -37,9 +37,9 @@ impl Parser<'_> {
     }
 
     pub(crate) fn params<'t>(&self, tokens: &'t [Token]) -> Read<'t, Params>
-        requires { self.now.most < 2 ^ 32 - 1 }
         ensures tree { Gives (λ x. (params_view x.0, placed x.2.now)) result
             ((readers self.now.types.now self.now.nest self.now.most).params (placed tokens.now)) }
+        ensures bound { IfOk result (λ x. x.1 ≤ self.now.most) }
         ensures shorter { IfOk result (λ x. length x.2.now < length tokens.now) }
     {
         if self.most == 0 || tokens.is_empty() {
@@ -49,9 +49,9 @@ impl Parser<'_> {
     }
 
     pub(crate) fn declr<'t>(&self, tokens: &'t [Token]) -> Read<'t, Declr>
-        requires { self.now.most < 2 ^ 32 - 1 }
         ensures tree { Gives (λ x. (declr_view x.0, placed x.2.now)) result
             (declr_at self.now.types.now (readers self.now.types.now self.now.nest self.now.most) (placed tokens.now)) }
+        ensures bound { IfOk result (λ x. x.1 ≤ self.now.most) }
         ensures shorter { IfOk result (λ x. length x.2.now < length tokens.now) }
     {
         if self.most == 0 || tokens.is_empty() {

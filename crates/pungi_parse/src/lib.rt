@@ -10,6 +10,7 @@ mod deep;
 mod eat;
 mod expr_stub;
 mod fault;
+mod item;
 mod nodes;
 mod operators;
 mod parser;

@@ -1,4 +1,4 @@
-ghost use Rattle.std.specs.Prelude.{◌≡◌, ◌≤◌, ◌<◌, ◌-◌, ◌^◌, length, IfOk};
+ghost use Rattle.std.specs.Prelude.{◌≡◌, ◌≤◌, ◌<◌, length, IfOk};
 ghost use Rattle.pungi_parse.specs.Begun.{begun_view, branch_rest as branch_rest_of, go_on as go_on_of};
 ghost use Rattle.pungi_parse.specs.Gives.{Gives};
 ghost use Rattle.pungi_parse.specs.Readers.{readers};
@@ -21,7 +21,6 @@ impl Parser<'_> {
     /// A statement that is no declaration.
     #[cycle(statements)]
     pub(crate) fn stmt<'t>(&self, tokens: &'t [Token]) -> Front<'t, Stmt>
-        requires { self.now.most < 2 ^ 32 - 1 }
         ensures tree { Gives (λ x. (stmt_view x.0, placed x.1.now)) result
             (read_stmt self.now.types.now self.now.nest self.now.most (placed tokens.now)) }
         ensures shorter { IfOk result (λ x. length x.1.now < length tokens.now) }
@@ -43,7 +42,6 @@ impl Parser<'_> {
     #[tactic(auto, unfolding(crate::specs::Reading::chain))]
     #[cycle(statements)]
     fn go_on<'t>(&self, begun: Begun, tokens: &'t [Token]) -> Front<'t, Stmt>
-        requires { self.now.most < 2 ^ 32 - 1 }
         ensures tree { Gives (λ x. (stmt_view x.0, placed x.1.now)) result
             (go_on_of self.now.types.now (readers self.now.types.now self.now.nest self.now.most) (read_stmt self.now.types.now self.now.nest self.now.most) (read_element self.now.types.now self.now.nest self.now.most) (begun_view begun) (placed tokens.now)) }
         ensures shorter { IfOk result (λ x. length x.1.now ≤ length tokens.now) }
@@ -63,17 +61,18 @@ impl Parser<'_> {
     #[tactic(auto, unfolding(crate::specs::Begun::branch_rest, crate::specs::Reading::chain, crate::specs::Reading::on_some))]
     #[cycle(statements)]
     fn branch<'t>(&self, pos: Pos, test: Expr, tokens: &'t [Token]) -> Front<'t, Stmt>
-        requires { self.now.most < 2 ^ 32 - 1 }
         ensures tree { Gives (λ x. (stmt_view x.0, placed x.1.now)) result
             (branch_rest_of self.now.types.now (readers self.now.types.now self.now.nest self.now.most) (read_stmt self.now.types.now self.now.nest self.now.most) (read_element self.now.types.now self.now.nest self.now.most) pos (expr_view test) (placed tokens.now)) }
         ensures shorter { IfOk result (λ x. length x.1.now < length tokens.now) }
     {
         let (yes, rest) = self.stmt(tokens)?;
+        let yes = stmt_nodes::boxed(self.alloc, yes)?;
         match eat_key(Key::Else, rest) {
-            None => Ok((stmt_nodes::if_only(self.alloc, pos, test, yes)?, rest)),
+            None => Ok((stmt_nodes::if_only(pos, test, yes), rest)),
             Some((_, other)) => {
                 let (no, behind) = self.stmt(other)?;
-                Ok((stmt_nodes::if_else(self.alloc, pos, test, yes, no)?, behind))
+                let no = stmt_nodes::boxed(self.alloc, no)?;
+                Ok((stmt_nodes::if_else(pos, test, yes, no), behind))
             }
         }
     }
@@ -81,7 +80,6 @@ impl Parser<'_> {
     /// What stands behind the brace of a block.
     #[cycle(statements)]
     fn block<'t>(&self, pos: Pos, tokens: &'t [Token]) -> Front<'t, Stmt>
-        requires { self.now.most < 2 ^ 32 - 1 }
         ensures tree { Gives (λ x. (stmt_view x.0, placed x.1.now)) result
             (block_at self.now.types.now (readers self.now.types.now self.now.nest self.now.most) (read_stmt self.now.types.now self.now.nest self.now.most) (read_element self.now.types.now self.now.nest self.now.most) pos (placed tokens.now)) }
         ensures shorter { IfOk result (λ x. length x.1.now < length tokens.now) }
@@ -101,7 +99,6 @@ impl Parser<'_> {
     /// A statement or a declaration.
     #[cycle(statements)]
     fn element<'t>(&self, tokens: &'t [Token]) -> Front<'t, Stmt>
-        requires { self.now.most < 2 ^ 32 - 1 }
         ensures tree { Gives (λ x. (stmt_view x.0, placed x.1.now)) result
             (read_element self.now.types.now self.now.nest self.now.most (placed tokens.now)) }
         ensures shorter { IfOk result (λ x. length x.1.now < length tokens.now) }

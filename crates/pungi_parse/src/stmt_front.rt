@@ -1,4 +1,4 @@
-ghost use Rattle.std.specs.Prelude.{◌≡◌, ◌≤◌, ◌<◌, ◌-◌, ◌^◌, length, IfOk};
+ghost use Rattle.std.specs.Prelude.{◌≡◌, ◌≤◌, ◌<◌, length, IfOk};
 ghost use Rattle.pungi_parse.specs.Begun.{head_view, begun_view, branch_front as branch_front_of, while_front as while_front_of, for_front as for_front_of, switch_front as switch_front_of, case_front as case_front_of, default_front as default_front_of, whole_at, label_or_whole as label_or_whole_of, begin_at, do_end as do_end_of, finish_at};
 ghost use Rattle.pungi_parse.specs.Gives.{Gives};
 ghost use Rattle.pungi_parse.specs.Readers.{readers};
@@ -19,7 +19,6 @@ impl Parser<'_> {
     /// What stands behind `if`, up to its first branch.
     #[tactic(auto, unfolding(crate::specs::Begun::branch_front, crate::specs::Reading::chain))]
     fn branch_front<'t>(&self, pos: Pos, tokens: &'t [Token]) -> Front<'t, Begun>
-        requires { self.now.most < 2 ^ 32 - 1 }
         ensures tree { Gives (λ x. (begun_view x.0, placed x.1.now)) result
             (branch_front_of self.now.types.now (readers self.now.types.now self.now.nest self.now.most) pos (placed tokens.now)) }
         ensures shorter { IfOk result (λ x. length x.1.now < length tokens.now) }
@@ -31,7 +30,6 @@ impl Parser<'_> {
     /// What stands behind `while`, up to the body.
     #[tactic(auto, unfolding(crate::specs::Begun::while_front, crate::specs::Reading::chain))]
     fn while_front<'t>(&self, pos: Pos, tokens: &'t [Token]) -> Front<'t, Begun>
-        requires { self.now.most < 2 ^ 32 - 1 }
         ensures tree { Gives (λ x. (begun_view x.0, placed x.1.now)) result
             (while_front_of self.now.types.now (readers self.now.types.now self.now.nest self.now.most) pos (placed tokens.now)) }
         ensures shorter { IfOk result (λ x. length x.1.now < length tokens.now) }
@@ -43,7 +41,6 @@ impl Parser<'_> {
     /// What stands behind `switch`, up to the body.
     #[tactic(auto, unfolding(crate::specs::Begun::switch_front, crate::specs::Reading::chain))]
     fn switch_front<'t>(&self, pos: Pos, tokens: &'t [Token]) -> Front<'t, Begun>
-        requires { self.now.most < 2 ^ 32 - 1 }
         ensures tree { Gives (λ x. (begun_view x.0, placed x.1.now)) result
             (switch_front_of self.now.types.now (readers self.now.types.now self.now.nest self.now.most) pos (placed tokens.now)) }
         ensures shorter { IfOk result (λ x. length x.1.now < length tokens.now) }
@@ -55,7 +52,6 @@ impl Parser<'_> {
     /// What stands behind `for`, up to the body.
     #[tactic(auto, unfolding(crate::specs::Begun::for_front, crate::specs::Reading::chain))]
     fn for_front<'t>(&self, pos: Pos, tokens: &'t [Token]) -> Front<'t, Begun>
-        requires { self.now.most < 2 ^ 32 - 1 }
         ensures tree { Gives (λ x. (begun_view x.0, placed x.1.now)) result
             (for_front_of self.now.types.now (readers self.now.types.now self.now.nest self.now.most) pos (placed tokens.now)) }
         ensures shorter { IfOk result (λ x. length x.1.now < length tokens.now) }
@@ -72,7 +68,6 @@ impl Parser<'_> {
     /// What stands behind `case`, up to the statement.
     #[tactic(auto, unfolding(crate::specs::Begun::case_front, crate::specs::Reading::chain))]
     fn case_front<'t>(&self, pos: Pos, tokens: &'t [Token]) -> Front<'t, Begun>
-        requires { self.now.most < 2 ^ 32 - 1 }
         ensures tree { Gives (λ x. (begun_view x.0, placed x.1.now)) result
             (case_front_of self.now.types.now (readers self.now.types.now self.now.nest self.now.most) pos (placed tokens.now)) }
         ensures shorter { IfOk result (λ x. length x.1.now < length tokens.now) }
@@ -87,7 +82,6 @@ impl Parser<'_> {
     /// What stands behind `default`, up to the statement.
     #[tactic(auto, unfolding(crate::specs::Begun::default_front, crate::specs::Reading::chain))]
     fn default_front<'t>(&self, pos: Pos, tokens: &'t [Token]) -> Front<'t, Begun>
-        requires { self.now.most < 2 ^ 32 - 1 }
         ensures tree { Gives (λ x. (begun_view x.0, placed x.1.now)) result
             (default_front_of self.now.types.now (readers self.now.types.now self.now.nest self.now.most) pos (placed tokens.now)) }
         ensures shorter { IfOk result (λ x. length x.1.now < length tokens.now) }
@@ -101,7 +95,6 @@ impl Parser<'_> {
     /// A whole statement, which holds no other one.
     #[tactic(auto, unfolding(crate::specs::Begun::whole_at, crate::specs::Reading::chain))]
     fn whole<'t>(&self, tokens: &'t [Token]) -> Front<'t, Begun>
-        requires { self.now.most < 2 ^ 32 - 1 }
         ensures tree { Gives (λ x. (begun_view x.0, placed x.1.now)) result
             (whole_at self.now.types.now (readers self.now.types.now self.now.nest self.now.most) (read_stmt self.now.types.now self.now.nest self.now.most) (read_element self.now.types.now self.now.nest self.now.most) (placed tokens.now)) }
         ensures shorter { IfOk result (λ x. length x.1.now < length tokens.now) }
@@ -113,7 +106,6 @@ impl Parser<'_> {
     /// A label, or a whole statement.
     #[tactic(auto, unfolding(crate::specs::Begun::label_or_whole, crate::specs::Reading::on_some))]
     fn label_or_whole<'t>(&self, tokens: &'t [Token]) -> Front<'t, Begun>
-        requires { self.now.most < 2 ^ 32 - 1 }
         ensures tree { Gives (λ x. (begun_view x.0, placed x.1.now)) result
             (label_or_whole_of self.now.types.now (readers self.now.types.now self.now.nest self.now.most) (read_stmt self.now.types.now self.now.nest self.now.most) (read_element self.now.types.now self.now.nest self.now.most) (placed tokens.now)) }
         ensures shorter { IfOk result (λ x. length x.1.now < length tokens.now) }
@@ -133,7 +125,6 @@ impl Parser<'_> {
     /// A statement, up to the first one in it.
     #[tactic(auto, unfolding(crate::specs::Begun::begin_at, crate::specs::Reading::on_some))]
     pub(crate) fn begin<'t>(&self, tokens: &'t [Token]) -> Front<'t, Begun>
-        requires { self.now.most < 2 ^ 32 - 1 }
         ensures tree { Gives (λ x. (begun_view x.0, placed x.1.now)) result
             (begin_at self.now.types.now (readers self.now.types.now self.now.nest self.now.most) (read_stmt self.now.types.now self.now.nest self.now.most) (read_element self.now.types.now self.now.nest self.now.most) (placed tokens.now)) }
         ensures shorter { IfOk result (λ x. length x.1.now < length tokens.now) }
@@ -162,7 +153,6 @@ impl Parser<'_> {
     /// What stands behind the body of a `do`.
     #[tactic(auto, unfolding(crate::specs::Begun::do_end, crate::specs::Reading::chain))]
     fn do_end<'t>(&self, pos: Pos, body: Stmt, tokens: &'t [Token]) -> Front<'t, Stmt>
-        requires { self.now.most < 2 ^ 32 - 1 }
         ensures tree { Gives (λ x. (stmt_view x.0, placed x.1.now)) result
             (do_end_of self.now.types.now (readers self.now.types.now self.now.nest self.now.most) pos (stmt_view body) (placed tokens.now)) }
         ensures shorter { IfOk result (λ x. length x.1.now < length tokens.now) }
@@ -185,7 +175,6 @@ impl Parser<'_> {
         body: Stmt,
         tokens: &'t [Token],
     ) -> Front<'t, Stmt>
-        requires { self.now.most < 2 ^ 32 - 1 }
         ensures tree { Gives (λ x. (stmt_view x.0, placed x.1.now)) result
             (finish_at self.now.types.now (readers self.now.types.now self.now.nest self.now.most) pos (head_view head) (stmt_view body) (placed tokens.now)) }
         ensures shorter { IfOk result (λ x. length x.1.now ≤ length tokens.now) }
