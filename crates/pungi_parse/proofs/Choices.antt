@@ -22,7 +22,7 @@ use Rattle.pungi_parse.specs.TypeReader.{plain_word, begins_type}
 use Rattle.pungi_parse.proofs.Fronts.{other_mark, expr_begins}
 use Rattle.pungi_parse.proofs.Levels.{at_level, prefix_bound, binary_parts, binary_bounds}
 use Rattle.pungi_parse.proofs.Tools.{and_true, not_true, le_true, some_same, when_none}
-use Rattle.pungi_parse.proofs.Words.{plain_word_sound, plain_word_complete}
+use Rattle.pungi_parse.proofs.WordLists.{plain_word_sound, plain_word_complete}
 use Rattle.pungi_tree.specs.ExprLevels.{expr_at, is_empty}
 use Rattle.pungi_tree.specs.ExprSpells.{Spells, SpellsTexts}
 use Rattle.pungi_tree.specs.Operators.{binary_level, is_assign, is_step, prefix_need, prefix_mark_need, level}

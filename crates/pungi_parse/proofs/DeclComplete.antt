@@ -11,13 +11,13 @@ use Rattle.pungi_parse.specs.Reading.{chain, on_some, when}
 use Rattle.pungi_parse.specs.Readers.{readers}
 use Rattle.pungi_parse.specs.StmtReader.{first_value, init_at, var_at, more_vars, vars_at, decl_at, optional, condition, start_at}
 use Rattle.pungi_parse.specs.TypeReader.{type_word, begins_type, begins_decl}
-use Rattle.pungi_parse.proofs.Begins.{is_expr_mark}
+use Rattle.pungi_parse.proofs.Beginnings.{is_expr_mark}
 use Rattle.pungi_parse.proofs.DeclFronts.{VarEnds, more_vars_end, var_begins, no_size_before, var_shorter}
 use Rattle.pungi_parse.proofs.Ends.{ExprEnds, ends_at_paren, ends_at_semicolon}
 use Rattle.pungi_parse.proofs.TableTheorems.{table_complete}
 use Rattle.pungi_parse.proofs.Tools.{and_true}
 use Rattle.pungi_parse.proofs.TypeExprTheorems.{expr_begins, spec_begins, decl_begins, spec_shorter, declr_shorter, expr_complete, spec_complete, declr_complete}
-use Rattle.pungi_parse.proofs.Words.{keywords_complete, keys_no_longer}
+use Rattle.pungi_parse.proofs.WordLists.{keywords_complete, keys_no_longer}
 use Rattle.pungi_tree.specs.ExprDepth.{expr_depth}
 use Rattle.pungi_tree.specs.ExprLevels.{expr_at, spec_ok}
 use Rattle.pungi_tree.specs.Operators.{is_qualifier, all_keys}

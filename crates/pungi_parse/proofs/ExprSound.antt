@@ -20,7 +20,7 @@ use Rattle.pungi_parse.proofs.LowSound.{Gets, GetsExpr, LowSound}
 use Rattle.pungi_parse.proofs.ParamSound.{is_named}
 use Rattle.pungi_parse.proofs.Tools.{bind_some, on_some_cases, when_some, unless_some, some_same, and_join, not_false, lt_from}
 use Rattle.pungi_parse.proofs.TypeSound.{type_name_gets}
-use Rattle.pungi_parse.proofs.Words.{texts_sound, plain_word_sound}
+use Rattle.pungi_parse.proofs.WordLists.{texts_sound, plain_word_sound}
 use Rattle.pungi_tree.specs.ExprDepth.{expr_depth, exprs_depth}
 use Rattle.pungi_tree.specs.ExprLevels.{expr_at, args_ok}
 use Rattle.pungi_tree.specs.ExprSpells.{Spells, SpellsArgs, SpellsMoreArgs, SpellsTypeName}

@@ -1,6 +1,7 @@
 pub mod AllRead
 pub mod ArgLoop
-pub mod Begins
+pub mod Beginnings
+pub mod Blocks
 pub mod Choices
 pub mod ClimbLoop
 pub mod ClimbSound
@@ -19,6 +20,7 @@ pub mod Facts
 pub mod FieldLoop
 pub mod Fronts
 pub mod FunctionRest
+pub mod GoesOn
 pub mod ItemComplete
 pub mod ItemSound
 pub mod Levels
@@ -38,6 +40,7 @@ pub mod StmtBegins
 pub mod StmtComplete
 pub mod StmtKinds
 pub mod StmtSound
+pub mod StmtSteps
 pub mod StmtTwins
 pub mod TableTheorems
 pub mod Tables
@@ -53,5 +56,5 @@ pub mod UnitTwins
 pub mod Vars
 pub mod Void
 pub mod VoidComplete
+pub mod WordLists
 pub mod WordLoops
-pub mod Words

@@ -20,7 +20,7 @@ use Rattle.pungi_parse.proofs.Shorter.{spec_no_longer, param_decl_no_longer}
 use Rattle.pungi_parse.proofs.Tools.{and_true, not_true, when_none}
 use Rattle.pungi_parse.proofs.TypeComplete.{tail_begins, stars_begin, declr_begins}
 use Rattle.pungi_parse.proofs.VoidComplete.{no_void_front}
-use Rattle.pungi_parse.proofs.Words.{keywords_complete, stars_complete, keys_no_longer, stars_no_longer}
+use Rattle.pungi_parse.proofs.WordLists.{keywords_complete, stars_complete, keys_no_longer, stars_no_longer}
 use Rattle.pungi_tree.specs.ExprDepth.{param_decl_depth, param_decls_depth}
 use Rattle.pungi_tree.specs.ExprLevels.{spec_ok, tail_ok, param_decl_ok, param_decls_ok, param_declr_ok, void_ok}
 use Rattle.pungi_tree.specs.ExprSpells.{SpellsSizes, SpellsTail, SpellsParamDeclr, SpellsParamDecl, SpellsMoreParamDecls, SpellsDots}

@@ -14,7 +14,7 @@ use Rattle.pungi_parse.proofs.LowSound.{GetsParamDeclr, GetsParamDecl, GetsMoreP
 use Rattle.pungi_parse.proofs.Tools.{bind_some, on_some_cases, when_some, some_same, and_join, and_false, not_false, eq_from}
 use Rattle.pungi_parse.proofs.TypeSound.{declr_rest_gets}
 use Rattle.pungi_parse.proofs.Void.{lone_front}
-use Rattle.pungi_parse.proofs.Words.{keywords_sound, stars_sound, plain_word_sound}
+use Rattle.pungi_parse.proofs.WordLists.{keywords_sound, stars_sound, plain_word_sound}
 use Rattle.pungi_tree.specs.ExprLevels.{is_void_param, is_lone_void, void_ok}
 use Rattle.pungi_tree.specs.ExprSpells.{SpellsParamDecl, SpellsMoreParamDecls, SpellsDots, SpellsStars, SpellsParams}
 use Rattle.pungi_tree.specs.Operators.{is_qualifier}

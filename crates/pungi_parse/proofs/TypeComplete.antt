@@ -17,7 +17,7 @@ use Rattle.pungi_parse.proofs.Facts.{ExprReads, SpecReads, ParamsReads, TypeName
 use Rattle.pungi_parse.proofs.Fronts.{expr_begins, spec_begins, decl_begins}
 use Rattle.pungi_parse.proofs.Shorter.{expr_no_longer, spec_shorter, spec_no_longer, declr_no_longer, declrs_no_longer}
 use Rattle.pungi_parse.proofs.Tools.{and_true, not_true}
-use Rattle.pungi_parse.proofs.Words.{keywords_complete, consts_complete, stars_complete, type_word_complete, plain_word_complete, keys_no_longer, stars_no_longer}
+use Rattle.pungi_parse.proofs.WordLists.{keywords_complete, consts_complete, stars_complete, type_word_complete, plain_word_complete, keys_no_longer, stars_no_longer}
 use Rattle.pungi_tree.specs.ExprDepth.{fields_depth}
 use Rattle.pungi_tree.specs.ExprLevels.{expr_at, spec_ok, field_ok, fields_ok, declr_ok, declrs_ok, some_declrs_ok, sizes_ok}
 use Rattle.pungi_tree.specs.ExprSpells.{SpellsStars, SpellsConsts, SpellsField, SpellsFields, SpellsDeclr, SpellsDeclrs, SpellsMoreDeclrs, SpellsTail}

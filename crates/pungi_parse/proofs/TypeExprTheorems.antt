@@ -13,7 +13,7 @@ use Rattle.pungi_base.specs.declared.punct.Punct.TheVariants as puncts
 use Rattle.pungi_parse.specs.Eat.{eat, eat_text, eat_listed}
 use Rattle.pungi_parse.specs.Readers.{readers}
 use Rattle.pungi_parse.specs.TypeReader.{keywords, stars, texts, declr_at, plain_word, type_word}
-use Rattle.pungi_parse.proofs.Begins.{ExprBegins, TypeBegins, DeclBegins}
+use Rattle.pungi_parse.proofs.Beginnings.{ExprBegins, TypeBegins, DeclBegins}
 use Rattle.pungi_parse.proofs.Ends.{ExprEnds, SpecEnds, StarsEnd, DeclrEnds}
 use Rattle.pungi_parse.proofs.Readings.{ReadsExpr, ReadsSpec, ReadsParams, ReadsDeclr}
 use Rattle.pungi_parse.proofs.AllRead as all
@@ -22,7 +22,7 @@ use Rattle.pungi_parse.proofs.ClimbSound as sound
 use Rattle.pungi_parse.proofs.Fronts as fronts
 use Rattle.pungi_parse.proofs.Shorter as shorter
 use Rattle.pungi_parse.proofs.Steps.{whole}
-use Rattle.pungi_parse.proofs.Words as texts_read
+use Rattle.pungi_parse.proofs.WordLists as texts_read
 use Rattle.pungi_tree.specs.ExprDepth.{expr_depth, spec_depth, params_depth, declr_depth}
 use Rattle.pungi_tree.specs.ExprLevels.{expr_at, spec_ok, params_ok, declr_ok}
 use Rattle.pungi_tree.specs.ExprSpells.{Spells, SpellsSpec, SpellsParams, SpellsDeclr, SpellsKeys, SpellsStars, SpellsTexts}

@@ -11,7 +11,7 @@ use Rattle.pungi_parse.specs.TypeReader.{Lower, keywords, stars, type_word, size
 use Rattle.pungi_parse.proofs.Eaten.{eat_some, eat_word_some, eat_listed_some}
 use Rattle.pungi_parse.proofs.LowSound.{GetsTypeName, GetsSpec, GetsBase, GetsField, GetsFields, GetsDeclr, GetsDeclrs, GetsMoreDeclrs, GetsSizes, LowSound}
 use Rattle.pungi_parse.proofs.Tools.{bind_some, on_some_cases, some_same, and_join, not_false}
-use Rattle.pungi_parse.proofs.Words.{keywords_sound, consts_sound, stars_sound, plain_word_sound, type_word_sound}
+use Rattle.pungi_parse.proofs.WordLists.{keywords_sound, consts_sound, stars_sound, plain_word_sound, type_word_sound}
 use Rattle.pungi_tree.specs.ExprLevels.{tag_ok}
 use Rattle.pungi_tree.specs.ExprSpells.{Spells, SpellsTag, SpellsFields, SpellsDeclrs, SpellsStars}
 use Rattle.pungi_tree.specs.Operators.{is_base_word, is_qualifier, is_aggregate}

@@ -1,4 +1,5 @@
 pub mod Awaited
+pub mod Begun
 pub mod Eat
 pub mod ExprReader
 pub mod Gives

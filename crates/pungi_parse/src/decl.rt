@@ -1,4 +1,4 @@
-ghost use Rattle.std.specs.Prelude.{◌≡◌, ◌≤◌, ◌<◌, ◌-◌, ◌^◌, length, map, option_map, IfOk};
+ghost use Rattle.std.specs.Prelude.{◌≡◌, ◌≤◌, ◌<◌, length, map, option_map, IfOk};
 ghost use Rattle.pungi_parse.specs.Gives.{Gives};
 ghost use Rattle.pungi_parse.specs.Readers.{readers};
 ghost use Rattle.pungi_parse.specs.StmtReader.{first_value as first_value_of, init_at, var_at, vars_at, decl_at};
@@ -20,7 +20,6 @@ impl Parser<'_> {
     /// The first value of a variable behind its `=`.
     #[tactic(auto, unfolding(crate::specs::StmtReader::first_value, crate::specs::Reading::chain, crate::specs::Reading::on_some))]
     fn first_value<'t>(&self, tokens: &'t [Token]) -> Front<'t, Init>
-        requires { self.now.most < 2 ^ 32 - 1 }
         ensures tree { Gives (λ x. (init_view x.0, placed x.1.now)) result
             (first_value_of self.now.types.now (readers self.now.types.now self.now.nest self.now.most) (placed tokens.now)) }
         ensures shorter { IfOk result (λ x. length x.1.now < length tokens.now) }
@@ -36,7 +35,6 @@ impl Parser<'_> {
     /// The first value of a variable with its `=`, where it has one.
     #[tactic(auto, unfolding(crate::specs::StmtReader::init_at, crate::specs::Reading::chain, crate::specs::Reading::on_some))]
     fn init<'t>(&self, tokens: &'t [Token]) -> Front<'t, Option<Init>>
-        requires { self.now.most < 2 ^ 32 - 1 }
         ensures tree { Gives (λ x. (init_option_view x.0, placed x.1.now)) result
             (init_at self.now.types.now (readers self.now.types.now self.now.nest self.now.most) (placed tokens.now)) }
         ensures shorter { IfOk result (λ x. length x.1.now ≤ length tokens.now) }
@@ -53,7 +51,6 @@ impl Parser<'_> {
     /// A declared variable with its first value.
     #[tactic(auto, unfolding(crate::specs::StmtReader::var_at, crate::specs::Reading::chain))]
     fn var<'t>(&self, tokens: &'t [Token]) -> Front<'t, VarDecl>
-        requires { self.now.most < 2 ^ 32 - 1 }
         ensures tree { Gives (λ x. (var_decl_view x.0, placed x.1.now)) result
             (var_at self.now.types.now (readers self.now.types.now self.now.nest self.now.most) (placed tokens.now)) }
         ensures shorter { IfOk result (λ x. length x.1.now < length tokens.now) }
@@ -65,7 +62,6 @@ impl Parser<'_> {
 
     /// The variables of a declaration, with its semicolon.
     pub(crate) fn vars<'t>(&self, tokens: &'t [Token]) -> Front<'t, Vec<VarDecl>>
-        requires { self.now.most < 2 ^ 32 - 1 }
         ensures tree { Gives (λ x. (map var_decl_view x.0.items, placed x.1.now)) result
             (vars_at self.now.types.now (readers self.now.types.now self.now.nest self.now.most) (placed tokens.now)) }
         ensures shorter { IfOk result (λ x. length x.1.now < length tokens.now) }
@@ -87,7 +83,6 @@ impl Parser<'_> {
     /// A declaration of variables.
     #[tactic(auto, unfolding(crate::specs::StmtReader::decl_at, crate::specs::Reading::chain))]
     pub(crate) fn decl<'t>(&self, tokens: &'t [Token]) -> Front<'t, Decl>
-        requires { self.now.most < 2 ^ 32 - 1 }
         ensures tree { Gives (λ x. (decl_view x.0, placed x.1.now)) result
             (decl_at self.now.types.now (readers self.now.types.now self.now.nest self.now.most) (placed tokens.now)) }
         ensures shorter { IfOk result (λ x. length x.1.now < length tokens.now) }

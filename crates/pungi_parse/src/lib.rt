@@ -3,14 +3,15 @@
 
 mod awaited;
 mod begins;
+mod begun;
 mod closer;
 mod decl;
 mod declr;
 mod deep;
 mod eat;
 mod expr;
-mod expr_stub;
 mod fault;
+mod item;
 mod nodes;
 mod operators;
 mod params;
@@ -19,11 +20,15 @@ mod postfix;
 mod simple;
 mod simple_stmt;
 mod spec;
+mod stmt;
+mod stmt_front;
 mod stmt_nodes;
 mod stop;
 mod table;
 mod type_nodes;
 mod type_words;
+mod unit;
 mod words;
 
 pub use fault::ParseFault;
+pub use unit::parse;

@@ -1,4 +1,4 @@
-ghost use Rattle.std.specs.Prelude.{◌≡◌, ◌≤◌, ◌<◌, ◌-◌, ◌^◌, length, option_map, IfOk, IfSome};
+ghost use Rattle.std.specs.Prelude.{◌≡◌, ◌≤◌, ◌<◌, length, option_map, IfOk, IfSome};
 ghost use Rattle.pungi_parse.specs.Gives.{Gives};
 ghost use Rattle.pungi_parse.specs.Readers.{readers};
 ghost use Rattle.pungi_parse.specs.StmtReader.{optional as optional_of, condition as condition_of, declare_at, start_at, expression_at, label_front as label_front_of, goto_at, return_at, jump_or_expression as jump_or_expression_of, read_stmt, read_element};
@@ -19,7 +19,6 @@ impl Parser<'_> {
     /// An expression, where one stands there, and the punctuator behind it.
     #[tactic(auto, unfolding(crate::specs::StmtReader::optional, crate::specs::Reading::chain, crate::specs::Reading::on_some))]
     pub(crate) fn optional<'t>(&self, mark: Punct, tokens: &'t [Token]) -> Front<'t, Option<Expr>>
-        requires { self.now.most < 2 ^ 32 - 1 }
         ensures tree { Gives (λ x. (optional_view x.0, placed x.1.now)) result
             (optional_of self.now.types.now (readers self.now.types.now self.now.nest self.now.most) mark (placed tokens.now)) }
         ensures shorter { IfOk result (λ x. length x.1.now < length tokens.now) }
@@ -37,7 +36,6 @@ impl Parser<'_> {
     /// An expression in parentheses.
     #[tactic(auto, unfolding(crate::specs::StmtReader::condition, crate::specs::Reading::chain))]
     pub(crate) fn condition<'t>(&self, tokens: &'t [Token]) -> Front<'t, Expr>
-        requires { self.now.most < 2 ^ 32 - 1 }
         ensures tree { Gives (λ x. (expr_view x.0, placed x.1.now)) result
             (condition_of self.now.types.now (readers self.now.types.now self.now.nest self.now.most) (placed tokens.now)) }
         ensures shorter { IfOk result (λ x. length x.1.now < length tokens.now) }
@@ -55,7 +53,6 @@ impl Parser<'_> {
     /// A declaration among statements.
     #[tactic(auto, unfolding(crate::specs::StmtReader::declare_at, crate::specs::Reading::chain))]
     pub(crate) fn declare<'t>(&self, tokens: &'t [Token]) -> Front<'t, Stmt>
-        requires { self.now.most < 2 ^ 32 - 1 }
         ensures tree { Gives (λ x. (stmt_view x.0, placed x.1.now)) result
             (declare_at self.now.types.now (readers self.now.types.now self.now.nest self.now.most) (placed tokens.now)) }
         ensures shorter { IfOk result (λ x. length x.1.now < length tokens.now) }
@@ -70,7 +67,6 @@ impl Parser<'_> {
     /// What a `for` begins with.
     #[tactic(auto, unfolding(crate::specs::StmtReader::start_at, crate::specs::Reading::chain, crate::specs::Reading::on_some, crate::specs::Reading::when))]
     pub(crate) fn start<'t>(&self, tokens: &'t [Token]) -> Front<'t, ForStart>
-        requires { self.now.most < 2 ^ 32 - 1 }
         ensures tree { Gives (λ x. (for_start_view x.0, placed x.1.now)) result
             (start_at self.now.types.now (readers self.now.types.now self.now.nest self.now.most) (placed tokens.now)) }
         ensures shorter { IfOk result (λ x. length x.1.now < length tokens.now) }
@@ -86,7 +82,6 @@ impl Parser<'_> {
     /// An expression with its semicolon, or the semicolon alone.
     #[tactic(auto, unfolding(crate::specs::StmtReader::expression_at, crate::specs::Reading::chain))]
     fn expression<'t>(&self, tokens: &'t [Token]) -> Front<'t, Stmt>
-        requires { self.now.most < 2 ^ 32 - 1 }
         ensures tree { Gives (λ x. (stmt_view x.0, placed x.1.now)) result
             (expression_at self.now.types.now (readers self.now.types.now self.now.nest self.now.most) (placed tokens.now)) }
         ensures shorter { IfOk result (λ x. length x.1.now < length tokens.now) }
@@ -113,7 +108,6 @@ impl Parser<'_> {
     /// What stands behind `goto`.
     #[tactic(auto, unfolding(crate::specs::StmtReader::goto_at, crate::specs::Reading::chain))]
     fn goto<'t>(&self, pos: Pos, tokens: &'t [Token]) -> Front<'t, Stmt>
-        requires { self.now.most < 2 ^ 32 - 1 }
         ensures tree { Gives (λ x. (stmt_view x.0, placed x.1.now)) result
             (goto_at self.now.types.now (readers self.now.types.now self.now.nest self.now.most) pos (placed tokens.now)) }
         ensures shorter { IfOk result (λ x. length x.1.now < length tokens.now) }
@@ -130,7 +124,6 @@ impl Parser<'_> {
     /// What stands behind `return`.
     #[tactic(auto, unfolding(crate::specs::StmtReader::return_at, crate::specs::Reading::chain))]
     fn give_back<'t>(&self, pos: Pos, tokens: &'t [Token]) -> Front<'t, Stmt>
-        requires { self.now.most < 2 ^ 32 - 1 }
         ensures tree { Gives (λ x. (stmt_view x.0, placed x.1.now)) result
             (return_at self.now.types.now (readers self.now.types.now self.now.nest self.now.most) pos (placed tokens.now)) }
         ensures shorter { IfOk result (λ x. length x.1.now < length tokens.now) }
@@ -142,7 +135,6 @@ impl Parser<'_> {
     /// A statement that holds no other one, and is no block.
     #[tactic(auto, unfolding(crate::specs::StmtReader::jump_or_expression, crate::specs::Reading::chain, crate::specs::Reading::on_some))]
     pub(crate) fn jump_or_expression<'t>(&self, tokens: &'t [Token]) -> Front<'t, Stmt>
-        requires { self.now.most < 2 ^ 32 - 1 }
         ensures tree { Gives (λ x. (stmt_view x.0, placed x.1.now)) result
             (jump_or_expression_of self.now.types.now (readers self.now.types.now self.now.nest self.now.most) (read_stmt self.now.types.now self.now.nest self.now.most) (read_element self.now.types.now self.now.nest self.now.most) (placed tokens.now)) }
         ensures shorter { IfOk result (λ x. length x.1.now < length tokens.now) }

@@ -71,26 +71,29 @@ pub(crate) fn give_back(pos: Pos, e: Option<Expr>) -> Stmt
     }
 }
 
-pub(crate) fn if_only(alloc: Global, pos: Pos, test: Expr, yes: Stmt) -> Result<Stmt, Memory>
-    ensures { IfOk result (λ x. stmt_view x ≡ plain.if_only pos (expr_view test) (stmt_view yes)) }
+pub(crate) fn boxed(alloc: Global, stmt: Stmt) -> Result<Box<Stmt>, Memory>
+    ensures { IfOk result (λ b. b.value ≡ stmt) }
 {
-    let node = StmtNode::If(test, Box::new(alloc, yes)?, None);
-    Ok(Stmt { pos, node })
+    Ok(Box::new(alloc, stmt)?)
 }
 
-pub(crate) fn if_else(
-    alloc: Global,
-    pos: Pos,
-    test: Expr,
-    yes: Stmt,
-    no: Stmt,
-) -> Result<Stmt, Memory>
-    ensures { IfOk result (λ x. stmt_view x ≡ plain.if_else pos (expr_view test) (stmt_view yes) (stmt_view no)) }
+pub(crate) fn if_only(pos: Pos, test: Expr, yes: Box<Stmt>) -> Stmt
+    ensures { stmt_view result ≡ plain.if_only pos (expr_view test) (stmt_view yes.value) }
 {
-    let yes = Box::new(alloc, yes)?;
-    let no = Box::new(alloc, no)?;
-    let node = StmtNode::If(test, yes, Some(no));
-    Ok(Stmt { pos, node })
+    Stmt {
+        pos,
+        node: StmtNode::If(test, yes, None),
+    }
+}
+
+pub(crate) fn if_else(pos: Pos, test: Expr, yes: Box<Stmt>, no: Box<Stmt>) -> Stmt
+    ensures { stmt_view result
+        ≡ plain.if_else pos (expr_view test) (stmt_view yes.value) (stmt_view no.value) }
+{
+    Stmt {
+        pos,
+        node: StmtNode::If(test, yes, Some(no)),
+    }
 }
 
 pub(crate) fn while_loop(alloc: Global, pos: Pos, test: Expr, body: Stmt) -> Result<Stmt, Memory>

@@ -2,7 +2,7 @@ use Rattle.std.proofs.Common.{◌≡◌, None, sym, ap, ◌∙◌}
 use Rattle.pungi_tree.specs.ExprView.{expr_view}
 use Rattle.pungi_tree.specs.StmtView.{stmt_view, stmt_node_step, stmt_step, StmtNode}
 use Rattle.pungi_tree.specs.Syntax as plain
-use Rattle.pungi_tree.specs.declared.stmt.Stmt.{Stmt, fold-roll-Stmt}
+use Rattle.pungi_tree.specs.declared.stmt.Stmt.{fold-roll-Stmt}
 use Rattle.pungi_tree.specs.declared.stmt.StmtNode.{fold-StmtNode, fold-roll-StmtNode}
 use Rattle.pungi_tree.specs.declared.stmt.StmtNode.TheOpen.{StmtNode-F}
 use Rattle.pungi_tree.specs.declared.stmt.StmtNode.TheVariants.{If, rolls-If}
@@ -11,8 +11,6 @@ use Rattle.pungi_parse.proofs.stmt_nodes.if_only.Goals as goal
 pub returns : goal.returns
 returns c =
     let e = c.args.test in
-    let yes = c.in_ok-new.field-0 in
-    let same : yes.value ≡ c.args.yes = c.in_ok-new.ensures.ok in
+    let yes = c.args.yes in
     let node : fold-StmtNode StmtNode plain.Stmt stmt_node_step stmt_step (If e yes None) ≡ (λ p. plain.if_only p (expr_view e) (stmt_view yes.value)) = ap (fold-StmtNode StmtNode plain.Stmt stmt_node_step stmt_step) (sym (rolls-If e yes None)) ∙ fold-roll-StmtNode StmtNode plain.Stmt stmt_node_step stmt_step (StmtNode-F.If e yes None) in
     fold-roll-Stmt StmtNode plain.Stmt stmt_node_step stmt_step (record { pos = c.args.pos; node = If e yes None }) ∙ ap (λ (f : StmtNode). f c.args.pos) node
-    ∙ ap (λ (s : Stmt). plain.if_only c.args.pos (expr_view e) (stmt_view s)) same

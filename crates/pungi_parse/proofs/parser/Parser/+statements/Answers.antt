@@ -1,0 +1,83 @@
+use Rattle.std.proofs.Common.{◌≡◌, ◌<◌, ◌++◌, ◌∷◌, [], true, false, length, map, Some, None, sym, arith, rules}
+use Rattle.std.proofs.lemmas.List.{map_push}
+use Rattle.std.proofs.lemmas.Result.{err_from_is_err_and}
+use Rattle.pungi_base.specs.declared.punct.Punct.TheVariants as puncts
+use Rattle.pungi_parse.specs.Begun.{begun_view}
+use Rattle.pungi_parse.specs.Eat.{eat}
+use Rattle.pungi_parse.specs.TypeReader.{begins_decl}
+use Rattle.pungi_parse.proofs.Blocks.{stmt_none, element_none, element_decl, element_stmt, block_begin, block_turn, block_fails, block_end}
+use Rattle.pungi_parse.proofs.StmtSteps.{stmt_fails, stmt_goes}
+use Rattle.pungi_parse.proofs.Vars.{placed_length}
+use Rattle.pungi_tree.specs.Placed.{placed}
+use Rattle.pungi_tree.specs.StmtView.{stmt_view}
+use Rattle.pungi_parse.proofs.parser.Parser.+statements.Goals as goal
+
+pub stmt-returns-then-self-eq0-clause-tree : goal.stmt-returns-then-self-eq0-clause-tree
+stmt-returns-then-self-eq0-clause-tree t c =
+    let s = c.args.self.now in
+    stmt_none s.types.now s.nest s.most (placed c.args.tokens.now) c.if-self-eq0.true
+
+pub stmt-returns-in_err-begun-clause-tree : goal.stmt-returns-in_err-begun-clause-tree
+stmt-returns-in_err-begun-clause-tree t c =
+    let s = c.args.self.now in
+    let p = err_from_is_err_and c.from_residual.result c.from_residual.ensures.1 in
+    rw (p.1, p.2) (stmt_fails s.types.now s.nest s.most (placed c.args.tokens.now) (omega arith) c.in_err-begun.field-0.0 c.in_err-begun.ensures.tree)
+
+pub stmt-returns-clause-tree : goal.stmt-returns-clause-tree
+stmt-returns-clause-tree t c =
+    let s = c.args.self.now in
+    rw (← stmt_goes s.types.now s.nest s.most (placed c.args.tokens.now) (omega arith) (begun_view c.in_ok-begun.begun) (placed c.in_ok-begun.rest.now) c.in_ok-begun.ensures.tree)
+      c.go_on.ensures.tree
+
+pub element-returns-then-self-eq0-clause-tree : goal.element-returns-then-self-eq0-clause-tree
+element-returns-then-self-eq0-clause-tree t c =
+    let s = c.args.self.now in
+    element_none s.types.now s.nest s.most (placed c.args.tokens.now) c.if-self-eq0.true
+
+pub element-returns-then-not-begins_decl-clause-tree : goal.element-returns-then-not-begins_decl-clause-tree
+element-returns-then-not-begins_decl-clause-tree t c =
+    let s = c.args.self.now in
+    let none : begins_decl s.types.now (placed c.args.tokens.now) ≡ false = search rules in
+    rw (← element_stmt s.types.now s.nest s.most (placed c.args.tokens.now) (omega arith) none) c.stmt.ensures.tree
+
+pub element-returns-clause-tree : goal.element-returns-clause-tree
+element-returns-clause-tree t c =
+    let s = c.args.self.now in
+    let one : begins_decl s.types.now (placed c.args.tokens.now) ≡ true = search rules in
+    rw (← element_decl s.types.now s.nest s.most (placed c.args.tokens.now) (omega arith) one) c.declare.ensures.tree
+
+pub block-each-init : goal.block-each-init
+block-each-init t c =
+    let s = c.args.self.now in
+    record {
+      to = rw c.new-list.ensures.items (block_begin s.types.now s.nest s.most (placed c.args.tokens.now) c.args.pos);
+      shorter = omega arith;
+    }
+
+pub block-returns-in_err-more-clause-tree : goal.block-returns-in_err-more-clause-tree
+block-returns-in_err-more-clause-tree t c =
+    let s = c.args.self.now in
+    let p = err_from_is_err_and c.from_residual.result c.from_residual.ensures.1 in
+    let none : eat puncts.RightBrace (placed c.each.rest.now) ≡ None = search rules in
+    rw (p.1, p.2) (block_fails s.types.now s.nest s.most (placed c.args.tokens.now) c.args.pos (map stmt_view c.each.list.items) (placed c.each.rest.now)
+      c.in_err-more.field-0.0 c.each.invariant.to none c.in_err-more.ensures.tree)
+
+pub block-each-preserved : goal.block-each-preserved
+block-each-preserved t c =
+    let s = c.args.self.now in
+    let none : eat puncts.RightBrace (placed c.each.rest.now) ≡ None = search rules in
+    let pushed : c.push.new.self.items ≡ c.each.list.items ++ c.in_ok-more.more ∷ [] = search rules in
+    let items : map stmt_view c.push.new.self.items ≡ map stmt_view c.each.list.items ++ stmt_view c.in_ok-more.more ∷ [] = rw pushed (map_push stmt_view c.each.list.items c.in_ok-more.more) in
+    let shorter : length c.in_ok-more.behind.now < length c.each.rest.now = c.in_ok-more.ensures.shorter in
+    record {
+      to = rw items (block_turn s.types.now s.nest s.most (placed c.args.tokens.now) c.args.pos (map stmt_view c.each.list.items) (placed c.each.rest.now)
+        (stmt_view c.in_ok-more.more) (placed c.in_ok-more.behind.now) c.each.invariant.to none c.in_ok-more.ensures.tree
+        (omega (arith, placed_length c.in_ok-more.behind.now, placed_length c.each.rest.now)));
+      shorter = omega (arith, c.each.invariant.shorter);
+    }
+
+pub block-returns-in-Some-clause-tree : goal.block-returns-in-Some-clause-tree
+block-returns-in-Some-clause-tree t c =
+    let s = c.args.self.now in
+    block_end s.types.now s.nest s.most (placed c.args.tokens.now) c.args.pos (map stmt_view c.each.list.items) (placed c.each.rest.now)
+    c.in-Some.close (placed c.in-Some.behind.now) c.each.invariant.to (sym c.in-Some.ensures.token)

@@ -1,0 +1,120 @@
+ghost use Rattle.std.specs.Prelude.{◌≡◌, ◌≤◌, ◌<◌, length, IfOk};
+ghost use Rattle.pungi_parse.specs.Begun.{begun_view, branch_rest as branch_rest_of, go_on as go_on_of};
+ghost use Rattle.pungi_parse.specs.Gives.{Gives};
+ghost use Rattle.pungi_parse.specs.Readers.{readers};
+ghost use Rattle.pungi_parse.specs.StmtReader.{block_at, read_stmt, read_element};
+ghost use Rattle.pungi_tree.specs.ExprView.{expr_view};
+ghost use Rattle.pungi_tree.specs.Placed.{placed};
+ghost use Rattle.pungi_tree.specs.StmtView.{stmt_view};
+
+use crate::begins::begins_decl;
+use crate::begun::Begun;
+use crate::decl::Front;
+use crate::eat::{eat, eat_key};
+use crate::parser::Parser;
+use crate::stmt_nodes;
+use crate::stop::Stop;
+use pungi_base::{Key, Memory, Pos, Punct, Token};
+use pungi_tree::{Expr, Stmt};
+
+impl Parser<'_> {
+    /// A statement that is no declaration.
+    #[cycle(statements)]
+    pub(crate) fn stmt<'t>(&self, tokens: &'t [Token]) -> Front<'t, Stmt>
+        ensures tree { Gives (λ x. (stmt_view x.0, placed x.1.now)) result
+            (read_stmt self.now.types.now self.now.nest self.now.most (placed tokens.now)) }
+        ensures shorter { IfOk result (λ x. length x.1.now < length tokens.now) }
+    {
+        if self.most == 0 {
+            return Err(Stop::NothingRead);
+        }
+        let inner = Parser {
+            alloc: self.alloc,
+            types: self.types,
+            nest: self.nest,
+            most: self.most - 1,
+        };
+        let (begun, rest) = inner.begin(tokens)?;
+        inner.go_on(begun, rest)
+    }
+
+    /// The rest of a statement, whose parts are read by this parser.
+    #[tactic(auto, unfolding(crate::specs::Reading::chain))]
+    #[cycle(statements)]
+    fn go_on<'t>(&self, begun: Begun, tokens: &'t [Token]) -> Front<'t, Stmt>
+        ensures tree { Gives (λ x. (stmt_view x.0, placed x.1.now)) result
+            (go_on_of self.now.types.now (readers self.now.types.now self.now.nest self.now.most) (read_stmt self.now.types.now self.now.nest self.now.most) (read_element self.now.types.now self.now.nest self.now.most) (begun_view begun) (placed tokens.now)) }
+        ensures shorter { IfOk result (λ x. length x.1.now ≤ length tokens.now) }
+    {
+        match begun {
+            Begun::Whole(stmt) => Ok((stmt, tokens)),
+            Begun::Block(pos) => self.block(pos, tokens),
+            Begun::If(pos, test) => self.branch(pos, test, tokens),
+            Begun::Before(pos, head) => {
+                let (body, rest) = self.stmt(tokens)?;
+                self.finish(pos, head, body, rest)
+            }
+        }
+    }
+
+    /// What stands behind the condition of an `if`. An `else` belongs to the nearest one (C11 6.8.4.1).
+    #[tactic(auto, unfolding(crate::specs::Begun::branch_rest, crate::specs::Reading::chain, crate::specs::Reading::on_some))]
+    #[cycle(statements)]
+    fn branch<'t>(&self, pos: Pos, test: Expr, tokens: &'t [Token]) -> Front<'t, Stmt>
+        ensures tree { Gives (λ x. (stmt_view x.0, placed x.1.now)) result
+            (branch_rest_of self.now.types.now (readers self.now.types.now self.now.nest self.now.most) (read_stmt self.now.types.now self.now.nest self.now.most) (read_element self.now.types.now self.now.nest self.now.most) pos (expr_view test) (placed tokens.now)) }
+        ensures shorter { IfOk result (λ x. length x.1.now < length tokens.now) }
+    {
+        let (yes, rest) = self.stmt(tokens)?;
+        let yes = stmt_nodes::boxed(self.alloc, yes)?;
+        match eat_key(Key::Else, rest) {
+            None => Ok((stmt_nodes::if_only(pos, test, yes), rest)),
+            Some((_, other)) => {
+                let (no, behind) = self.stmt(other)?;
+                let no = stmt_nodes::boxed(self.alloc, no)?;
+                Ok((stmt_nodes::if_else(pos, test, yes, no), behind))
+            }
+        }
+    }
+
+    /// What stands behind the brace of a block.
+    #[cycle(statements)]
+    fn block<'t>(&self, pos: Pos, tokens: &'t [Token]) -> Front<'t, Stmt>
+        ensures tree { Gives (λ x. (stmt_view x.0, placed x.1.now)) result
+            (block_at self.now.types.now (readers self.now.types.now self.now.nest self.now.most) (read_stmt self.now.types.now self.now.nest self.now.most) (read_element self.now.types.now self.now.nest self.now.most) pos (placed tokens.now)) }
+        ensures shorter { IfOk result (λ x. length x.1.now < length tokens.now) }
+    {
+        let mut list = Vec::new(self.alloc);
+        let mut rest = tokens;
+        'each: loop {
+            if let Some((close, behind)) = eat(Punct::RightBrace, rest) {
+                return Ok((stmt_nodes::block(pos, list, close), behind));
+            }
+            let (more, behind) = self.element(rest)?;
+            list.push(more).map_err(Memory::from)?;
+            rest = behind;
+        }
+    }
+
+    /// A statement or a declaration.
+    #[cycle(statements)]
+    fn element<'t>(&self, tokens: &'t [Token]) -> Front<'t, Stmt>
+        ensures tree { Gives (λ x. (stmt_view x.0, placed x.1.now)) result
+            (read_element self.now.types.now self.now.nest self.now.most (placed tokens.now)) }
+        ensures shorter { IfOk result (λ x. length x.1.now < length tokens.now) }
+    {
+        if self.most == 0 {
+            return Err(Stop::NothingRead);
+        }
+        if !begins_decl(self.types, tokens) {
+            return self.stmt(tokens);
+        }
+        let inner = Parser {
+            alloc: self.alloc,
+            types: self.types,
+            nest: self.nest,
+            most: self.most - 1,
+        };
+        inner.declare(tokens)
+    }
+}

@@ -1,0 +1,196 @@
+ghost use Rattle.std.specs.Prelude.{◌≡◌, ◌≤◌, ◌<◌, length, IfOk};
+ghost use Rattle.pungi_parse.specs.Begun.{head_view, begun_view, branch_front as branch_front_of, while_front as while_front_of, for_front as for_front_of, switch_front as switch_front_of, case_front as case_front_of, default_front as default_front_of, whole_at, label_or_whole as label_or_whole_of, begin_at, do_end as do_end_of, finish_at};
+ghost use Rattle.pungi_parse.specs.Gives.{Gives};
+ghost use Rattle.pungi_parse.specs.Readers.{readers};
+ghost use Rattle.pungi_parse.specs.StmtReader.{read_stmt, read_element};
+ghost use Rattle.pungi_tree.specs.Placed.{placed};
+ghost use Rattle.pungi_tree.specs.StmtView.{stmt_view};
+
+use crate::begun::{Begun, StmtHead};
+use crate::decl::Front;
+use crate::eat::{eat, eat_key};
+use crate::parser::Parser;
+use crate::stmt_nodes;
+use crate::stop::Stop;
+use pungi_base::{Key, Pos, Punct, Token};
+use pungi_tree::Stmt;
+
+impl Parser<'_> {
+    /// What stands behind `if`, up to its first branch.
+    #[tactic(auto, unfolding(crate::specs::Begun::branch_front, crate::specs::Reading::chain))]
+    fn branch_front<'t>(&self, pos: Pos, tokens: &'t [Token]) -> Front<'t, Begun>
+        ensures tree { Gives (λ x. (begun_view x.0, placed x.1.now)) result
+            (branch_front_of self.now.types.now (readers self.now.types.now self.now.nest self.now.most) pos (placed tokens.now)) }
+        ensures shorter { IfOk result (λ x. length x.1.now < length tokens.now) }
+    {
+        let (test, rest) = self.condition(tokens)?;
+        Ok((Begun::If(pos, test), rest))
+    }
+
+    /// What stands behind `while`, up to the body.
+    #[tactic(auto, unfolding(crate::specs::Begun::while_front, crate::specs::Reading::chain))]
+    fn while_front<'t>(&self, pos: Pos, tokens: &'t [Token]) -> Front<'t, Begun>
+        ensures tree { Gives (λ x. (begun_view x.0, placed x.1.now)) result
+            (while_front_of self.now.types.now (readers self.now.types.now self.now.nest self.now.most) pos (placed tokens.now)) }
+        ensures shorter { IfOk result (λ x. length x.1.now < length tokens.now) }
+    {
+        let (test, rest) = self.condition(tokens)?;
+        Ok((Begun::Before(pos, StmtHead::While(test)), rest))
+    }
+
+    /// What stands behind `switch`, up to the body.
+    #[tactic(auto, unfolding(crate::specs::Begun::switch_front, crate::specs::Reading::chain))]
+    fn switch_front<'t>(&self, pos: Pos, tokens: &'t [Token]) -> Front<'t, Begun>
+        ensures tree { Gives (λ x. (begun_view x.0, placed x.1.now)) result
+            (switch_front_of self.now.types.now (readers self.now.types.now self.now.nest self.now.most) pos (placed tokens.now)) }
+        ensures shorter { IfOk result (λ x. length x.1.now < length tokens.now) }
+    {
+        let (test, rest) = self.condition(tokens)?;
+        Ok((Begun::Before(pos, StmtHead::Switch(test)), rest))
+    }
+
+    /// What stands behind `for`, up to the body.
+    #[tactic(auto, unfolding(crate::specs::Begun::for_front, crate::specs::Reading::chain))]
+    fn for_front<'t>(&self, pos: Pos, tokens: &'t [Token]) -> Front<'t, Begun>
+        ensures tree { Gives (λ x. (begun_view x.0, placed x.1.now)) result
+            (for_front_of self.now.types.now (readers self.now.types.now self.now.nest self.now.most) pos (placed tokens.now)) }
+        ensures shorter { IfOk result (λ x. length x.1.now < length tokens.now) }
+    {
+        let Some((_, inner)) = eat(Punct::LeftParen, tokens) else {
+            return Err(Stop::NothingRead);
+        };
+        let (start, after) = self.start(inner)?;
+        let (test, behind) = self.optional(Punct::Semicolon, after)?;
+        let (step, rest) = self.optional(Punct::RightParen, behind)?;
+        Ok((Begun::Before(pos, StmtHead::For(start, test, step)), rest))
+    }
+
+    /// What stands behind `case`, up to the statement.
+    #[tactic(auto, unfolding(crate::specs::Begun::case_front, crate::specs::Reading::chain))]
+    fn case_front<'t>(&self, pos: Pos, tokens: &'t [Token]) -> Front<'t, Begun>
+        ensures tree { Gives (λ x. (begun_view x.0, placed x.1.now)) result
+            (case_front_of self.now.types.now (readers self.now.types.now self.now.nest self.now.most) pos (placed tokens.now)) }
+        ensures shorter { IfOk result (λ x. length x.1.now < length tokens.now) }
+    {
+        let (value, _, after) = self.expr(2, tokens)?;
+        let Some((_, rest)) = eat(Punct::Colon, after) else {
+            return Err(Stop::NothingRead);
+        };
+        Ok((Begun::Before(pos, StmtHead::Case(value)), rest))
+    }
+
+    /// What stands behind `default`, up to the statement.
+    #[tactic(auto, unfolding(crate::specs::Begun::default_front, crate::specs::Reading::chain))]
+    fn default_front<'t>(&self, pos: Pos, tokens: &'t [Token]) -> Front<'t, Begun>
+        ensures tree { Gives (λ x. (begun_view x.0, placed x.1.now)) result
+            (default_front_of self.now.types.now (readers self.now.types.now self.now.nest self.now.most) pos (placed tokens.now)) }
+        ensures shorter { IfOk result (λ x. length x.1.now < length tokens.now) }
+    {
+        let Some((_, rest)) = eat(Punct::Colon, tokens) else {
+            return Err(Stop::NothingRead);
+        };
+        Ok((Begun::Before(pos, StmtHead::Default), rest))
+    }
+
+    /// A whole statement, which holds no other one.
+    #[tactic(auto, unfolding(crate::specs::Begun::whole_at, crate::specs::Reading::chain))]
+    fn whole<'t>(&self, tokens: &'t [Token]) -> Front<'t, Begun>
+        ensures tree { Gives (λ x. (begun_view x.0, placed x.1.now)) result
+            (whole_at self.now.types.now (readers self.now.types.now self.now.nest self.now.most) (read_stmt self.now.types.now self.now.nest self.now.most) (read_element self.now.types.now self.now.nest self.now.most) (placed tokens.now)) }
+        ensures shorter { IfOk result (λ x. length x.1.now < length tokens.now) }
+    {
+        let (stmt, rest) = self.jump_or_expression(tokens)?;
+        Ok((Begun::Whole(stmt), rest))
+    }
+
+    /// A label, or a whole statement.
+    #[tactic(auto, unfolding(crate::specs::Begun::label_or_whole, crate::specs::Reading::on_some))]
+    fn label_or_whole<'t>(&self, tokens: &'t [Token]) -> Front<'t, Begun>
+        ensures tree { Gives (λ x. (begun_view x.0, placed x.1.now)) result
+            (label_or_whole_of self.now.types.now (readers self.now.types.now self.now.nest self.now.most) (read_stmt self.now.types.now self.now.nest self.now.most) (read_element self.now.types.now self.now.nest self.now.most) (placed tokens.now)) }
+        ensures shorter { IfOk result (λ x. length x.1.now < length tokens.now) }
+    {
+        if let Some((pos, rest)) = eat_key(Key::Case, tokens) {
+            return self.case_front(pos, rest);
+        }
+        if let Some((pos, rest)) = eat_key(Key::Default, tokens) {
+            return self.default_front(pos, rest);
+        }
+        if let Some((name, pos, rest)) = self.label_front(tokens) {
+            return Ok((Begun::Before(pos, StmtHead::Label(name)), rest));
+        }
+        self.whole(tokens)
+    }
+
+    /// A statement, up to the first one in it.
+    #[tactic(auto, unfolding(crate::specs::Begun::begin_at, crate::specs::Reading::on_some))]
+    pub(crate) fn begin<'t>(&self, tokens: &'t [Token]) -> Front<'t, Begun>
+        ensures tree { Gives (λ x. (begun_view x.0, placed x.1.now)) result
+            (begin_at self.now.types.now (readers self.now.types.now self.now.nest self.now.most) (read_stmt self.now.types.now self.now.nest self.now.most) (read_element self.now.types.now self.now.nest self.now.most) (placed tokens.now)) }
+        ensures shorter { IfOk result (λ x. length x.1.now < length tokens.now) }
+    {
+        if let Some((pos, rest)) = eat(Punct::LeftBrace, tokens) {
+            return Ok((Begun::Block(pos), rest));
+        }
+        if let Some((pos, rest)) = eat_key(Key::If, tokens) {
+            return self.branch_front(pos, rest);
+        }
+        if let Some((pos, rest)) = eat_key(Key::While, tokens) {
+            return self.while_front(pos, rest);
+        }
+        if let Some((pos, rest)) = eat_key(Key::Do, tokens) {
+            return Ok((Begun::Before(pos, StmtHead::Do), rest));
+        }
+        if let Some((pos, rest)) = eat_key(Key::For, tokens) {
+            return self.for_front(pos, rest);
+        }
+        if let Some((pos, rest)) = eat_key(Key::Switch, tokens) {
+            return self.switch_front(pos, rest);
+        }
+        self.label_or_whole(tokens)
+    }
+
+    /// What stands behind the body of a `do`.
+    #[tactic(auto, unfolding(crate::specs::Begun::do_end, crate::specs::Reading::chain))]
+    fn do_end<'t>(&self, pos: Pos, body: Stmt, tokens: &'t [Token]) -> Front<'t, Stmt>
+        ensures tree { Gives (λ x. (stmt_view x.0, placed x.1.now)) result
+            (do_end_of self.now.types.now (readers self.now.types.now self.now.nest self.now.most) pos (stmt_view body) (placed tokens.now)) }
+        ensures shorter { IfOk result (λ x. length x.1.now < length tokens.now) }
+    {
+        let Some((_, after)) = eat_key(Key::While, tokens) else {
+            return Err(Stop::NothingRead);
+        };
+        let (test, behind) = self.condition(after)?;
+        let Some((_, rest)) = eat(Punct::Semicolon, behind) else {
+            return Err(Stop::NothingRead);
+        };
+        Ok((stmt_nodes::do_while(self.alloc, pos, body, test)?, rest))
+    }
+
+    /// A statement with one body, by what stands in front of the body and behind it.
+    pub(crate) fn finish<'t>(
+        &self,
+        pos: Pos,
+        head: StmtHead,
+        body: Stmt,
+        tokens: &'t [Token],
+    ) -> Front<'t, Stmt>
+        ensures tree { Gives (λ x. (stmt_view x.0, placed x.1.now)) result
+            (finish_at self.now.types.now (readers self.now.types.now self.now.nest self.now.most) pos (head_view head) (stmt_view body) (placed tokens.now)) }
+        ensures shorter { IfOk result (λ x. length x.1.now ≤ length tokens.now) }
+    {
+        let alloc = self.alloc;
+        let stmt = match head {
+            StmtHead::Do => return self.do_end(pos, body, tokens),
+            StmtHead::While(test) => stmt_nodes::while_loop(alloc, pos, test, body)?,
+            StmtHead::For(start, test, step) => {
+                stmt_nodes::for_loop(alloc, pos, start, test, step, body)?
+            }
+            StmtHead::Switch(value) => stmt_nodes::switch(alloc, pos, value, body)?,
+            StmtHead::Case(value) => stmt_nodes::case(alloc, pos, value, body)?,
+            StmtHead::Default => stmt_nodes::default(alloc, pos, body)?,
+            StmtHead::Label(name) => stmt_nodes::label(alloc, pos, name, body)?,
+        };
+        Ok((stmt, tokens))
+    }
+}
