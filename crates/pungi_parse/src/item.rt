@@ -36,6 +36,7 @@ struct Signature {
 }
 
 /// What reads the items of a file.
+#[derive(Clone, Copy)]
 pub(crate) struct ItemParser<'a> {
     pub(crate) alloc: Global,
     /// The type words of the file.
