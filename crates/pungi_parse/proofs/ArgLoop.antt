@@ -3,7 +3,7 @@
 --   ArgsTo types low start front ts    these arguments are read, and further ones are read from here
 --   args_begin, args_turn, args_fail, args_open, args_end    the first, one more, a failure, no parenthesis, and the end
 --   args_depth            how deep they are with one more
-use Rattle.std.proofs.Common.{◌≡◌, ℕ, zero, suc, ◌+◌, ◌<◌, ◌≤◌, max, List, [], ◌∷◌, ◌++◌, length, Option, Some, None, refl, sym, ◌∙◌, ap, arith}
+use Rattle.std.proofs.Common.{◌≡◌, ℕ, zero, suc, ◌<◌, max, List, [], ◌∷◌, ◌++◌, length, Some, None, refl, ◌∙◌, ap, arith}
 use Rattle.pungi_base.specs.declared.names.Name.{Name}
 use Rattle.pungi_base.specs.declared.pos.Pos.{Pos}
 use Rattle.pungi_base.specs.declared.punct.Punct.TheVariants as puncts

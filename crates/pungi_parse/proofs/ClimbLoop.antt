@@ -1,14 +1,14 @@
 -- The loop over binary operators (C11 6.5.5 to 6.5.14).
 --   ClimbsTo types low most l start a d ts    reading at the level `l` has come to this tree of this depth, and goes on from it
 --   climb_begins, climb_ends, climb_deep, climb_fails, climb_turns    how it begins, ends, is too deep, fails, and takes one more operator
-use Rattle.std.proofs.Common.{◌≡◌, ℕ, zero, suc, ◌+◌, ◌<◌, ◌≤◌, max, List, Option, Some, None, refl, sym, ◌∙◌, ap, arith}
+use Rattle.std.proofs.Common.{◌≡◌, ℕ, zero, suc, ◌+◌, ◌<◌, ◌≤◌, max, List, Some, None, refl, ◌∙◌, arith}
 use Rattle.pungi_base.specs.declared.names.Name.{Name}
 use Rattle.pungi_base.specs.declared.pos.Pos.{Pos}
 use Rattle.pungi_base.specs.declared.punct.Punct.{Punct}
 use Rattle.pungi_parse.specs.Eat.{eat_operator}
 use Rattle.pungi_parse.specs.ExprReader.{casted, climb, operations}
 use Rattle.pungi_parse.specs.Gives.{Fails}
-use Rattle.pungi_parse.specs.Reading.{◌>>=◌, chain, on_some, when}
+use Rattle.pungi_parse.specs.Reading.{chain, on_some, when}
 use Rattle.pungi_parse.specs.TypeReader.{Lower}
 use Rattle.pungi_parse.specs.declared.stop.Stop.{Stop}
 use Rattle.pungi_parse.specs.declared.stop.Stop.TheVariants as stops

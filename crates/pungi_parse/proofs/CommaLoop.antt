@@ -1,14 +1,14 @@
 -- The loop over commas (C11 6.5.17).
 --   CommasTo types low most start a d ts    reading has come to this tree of this depth, and goes on from it
 --   comma_begins, comma_ends, comma_deep, comma_fails, comma_turns    how it begins, ends, is too deep, fails, and takes one more comma
-use Rattle.std.proofs.Common.{◌≡◌, ℕ, zero, suc, ◌+◌, ◌<◌, ◌≤◌, max, List, Option, Some, None, refl, sym, ◌∙◌, ap, arith}
+use Rattle.std.proofs.Common.{◌≡◌, ℕ, zero, suc, ◌+◌, ◌<◌, ◌≤◌, max, List, Some, None, refl, ◌∙◌, arith}
 use Rattle.pungi_base.specs.declared.names.Name.{Name}
 use Rattle.pungi_base.specs.declared.pos.Pos.{Pos}
 use Rattle.pungi_base.specs.declared.punct.Punct.TheVariants as puncts
 use Rattle.pungi_parse.specs.Eat.{eat}
 use Rattle.pungi_parse.specs.ExprReader.{assign_at, comma_at, commas}
 use Rattle.pungi_parse.specs.Gives.{Fails}
-use Rattle.pungi_parse.specs.Reading.{◌>>=◌, chain, on_some, when}
+use Rattle.pungi_parse.specs.Reading.{chain, on_some, when}
 use Rattle.pungi_parse.specs.TypeReader.{Lower}
 use Rattle.pungi_parse.specs.declared.stop.Stop.{Stop}
 use Rattle.pungi_parse.specs.declared.stop.Stop.TheVariants as stops

@@ -4,7 +4,7 @@
 --   ListTo more build whole front ts    all that is read is what `build front` makes of the rest, which is read with enough fuel
 --   list_turn, list_fail, list_end      one node more, a failure, and the end
 --   placed_shorter        fewer tokens are fewer with their places
-use Rattle.std.proofs.Common.{◌≡◌, ℕ, zero, suc, ◌+◌, ◌<◌, ◌≤◌, List, [], ◌∷◌, ◌++◌, length, Option, Some, None, refl, sym, ◌∙◌, ap, arith}
+use Rattle.std.proofs.Common.{◌≡◌, ℕ, zero, suc, ◌<◌, List, [], ◌∷◌, ◌++◌, length, Option, Some, None, refl, ◌∙◌, ap, arith}
 use Rattle.std.proofs.lemmas.List.{length-map}
 use Rattle.pungi_parse.specs.Reading.{Read, ◌>>=◌, chain}
 use Rattle.pungi_base.specs.declared.token.Token.{Token}

@@ -2,7 +2,7 @@
 --   ParamsTo types low start front ts    these parameters are read, and further ones are read from here
 --   params_begin, params_turn, params_fail, params_dots, params_end    the first, one more, a failure, the end with `, ...`, and without
 --   params_deepest        how deep they are with one more
-use Rattle.std.proofs.Common.{◌≡◌, ℕ, zero, suc, ◌+◌, ◌<◌, ◌≤◌, max, List, [], ◌∷◌, ◌++◌, length, false, Option, Some, None, refl, sym, ◌∙◌, ap, arith}
+use Rattle.std.proofs.Common.{◌≡◌, ℕ, zero, suc, ◌<◌, max, List, [], ◌∷◌, ◌++◌, length, Option, Some, None, refl, ◌∙◌, ap, arith}
 use Rattle.pungi_base.specs.declared.names.Name.{Name}
 use Rattle.pungi_base.specs.declared.pos.Pos.{Pos}
 use Rattle.pungi_base.specs.declared.punct.Punct.TheVariants as puncts
@@ -17,7 +17,7 @@ use Rattle.pungi_parse.proofs.ListLoop.{before, before_push, ListTo, list_turn, 
 use Rattle.pungi_tree.specs.ExprDepth.{param_decl_depth, param_decls_depth}
 use Rattle.pungi_tree.specs.ExprView.{param_decls_of}
 use Rattle.pungi_tree.specs.Placed.{Placed}
-use Rattle.pungi_tree.specs.Syntax.{Params, params, ParamDecl, ParamDecls, no_params, param_and}
+use Rattle.pungi_tree.specs.Syntax.{Params, ParamDecl, ParamDecls, no_params, param_and}
 
 abbrev pub More : Type 0
 More = ParamDecls × Option Pos

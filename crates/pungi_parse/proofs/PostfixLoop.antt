@@ -1,24 +1,23 @@
 -- The loop over what goes on with a primary expression (C11 6.5.2).
 --   PostfixTo types low most start p a d ts    reading has come to this tree of this depth, and goes on from it; `p` is the place of its first token
 --   postfix_begins, postfix_ends, postfix_deep, postfix_fails, postfix_turns    how it begins, ends, is too deep, fails, and goes on
-use Rattle.std.proofs.Common.{◌≡◌, ℕ, zero, suc, ◌+◌, ◌<◌, ◌≤◌, Bool, true, false, ◌||◌, List, Option, Some, None, ◌⊎◌, inl, inr, refl, sym, ◌∙◌, ap, arith}
+use Rattle.std.proofs.Common.{◌≡◌, ℕ, zero, suc, ◌+◌, ◌<◌, ◌≤◌, true, false, ◌||◌, List, Option, Some, None, refl, ◌∙◌, ap, arith}
 use Rattle.std.specs.Prelude.{is_some}
 use Rattle.pungi_base.specs.declared.names.Name.{Name}
 use Rattle.pungi_base.specs.declared.pos.Pos.{Pos}
-use Rattle.pungi_base.specs.declared.punct.Punct.{Punct}
 use Rattle.pungi_base.specs.declared.punct.Punct.TheVariants as puncts
 use Rattle.pungi_parse.specs.Eat.{eat, eat_step}
-use Rattle.pungi_parse.specs.ExprReader.{primary, postfix, postfixes, postfix_turn, call_at, index_at}
+use Rattle.pungi_parse.specs.ExprReader.{primary, postfix, postfixes, postfix_turn}
 use Rattle.pungi_parse.specs.Gives.{Fails}
-use Rattle.pungi_parse.specs.Reading.{Read, ◌>>=◌, chain, on_some, when}
+use Rattle.pungi_parse.specs.Reading.{Read, chain, on_some, when}
 use Rattle.pungi_parse.specs.Turns.{joined, goes_on}
-use Rattle.pungi_parse.specs.TypeReader.{Lower, plain_word}
+use Rattle.pungi_parse.specs.TypeReader.{Lower}
 use Rattle.pungi_parse.specs.declared.stop.Stop.{Stop}
 use Rattle.pungi_parse.specs.declared.stop.Stop.TheVariants as stops
 use Rattle.pungi_parse.proofs.Tools.{lt_true, lt_false}
 use Rattle.pungi_tree.specs.ExprDepth.{expr_depth}
 use Rattle.pungi_tree.specs.Placed.{Placed, first_place}
-use Rattle.pungi_tree.specs.Syntax.{Expr, post, dot, arrow}
+use Rattle.pungi_tree.specs.Syntax.{Expr}
 
 pub record PostfixTo (types : List Name) (low : Lower) (most : ℕ) (start : List Placed) (p : Pos) (a : Expr) (d : ℕ) (ts : List Placed) : Type 0 where
   pub fuel : ℕ

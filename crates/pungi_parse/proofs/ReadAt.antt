@@ -1,7 +1,7 @@
 -- Reading an expression of a level by the case that the level is.
 --   read_at_comma, read_at_assign, read_at_conditional, read_at_climb, read_at_unary    the levels 0, 1, 2, 3 to 13, and from 14 on
 --   expr_none, expr_flat, expr_some, spec_none, spec_some, params_none, params_some    nothing where no node may be nested, else what is read one level in
-use Rattle.std.proofs.Common.{◌≡◌, ℕ, zero, suc, ◌+◌, ◌-◌, ◌<◌, ◌≤◌, List, Option, Some, None, refl, sym, ◌∙◌, ap, sub-one, arith}
+use Rattle.std.proofs.Common.{◌≡◌, ℕ, zero, suc, ◌-◌, ◌<◌, ◌≤◌, List, None, refl, sub-one, arith}
 use Rattle.pungi_base.specs.declared.names.Name.{Name}
 use Rattle.pungi_parse.specs.ExprReader.{read_at, comma_at, assign_at, conditional_at, climb, unary, expr_at}
 use Rattle.pungi_parse.specs.Readers.{readers}

@@ -2,7 +2,7 @@
 --   SizesTo types low start front ts    these brackets are read, and further ones are read from here
 --   sizes_begin, sizes_turn, sizes_fail, sizes_end    before the first, one more, a failure, and the end
 --   sizes_deepest         how deep they are with one more
-use Rattle.std.proofs.Common.{◌≡◌, ℕ, zero, suc, ◌+◌, ◌<◌, ◌≤◌, max, List, [], ◌∷◌, ◌++◌, length, Option, Some, None, refl, sym, ◌∙◌, ap, arith}
+use Rattle.std.proofs.Common.{◌≡◌, ℕ, zero, suc, ◌<◌, max, List, [], ◌∷◌, ◌++◌, length, Option, Some, None, refl, ◌∙◌, ap, arith}
 use Rattle.pungi_base.specs.declared.names.Name.{Name}
 use Rattle.pungi_base.specs.declared.pos.Pos.{Pos}
 use Rattle.pungi_base.specs.declared.punct.Punct.TheVariants as puncts
@@ -15,7 +15,7 @@ use Rattle.pungi_parse.specs.declared.stop.Stop.{Stop}
 use Rattle.pungi_parse.specs.declared.stop.Stop.TheVariants as stops
 use Rattle.pungi_parse.proofs.ListLoop.{before, before_push, ListTo, list_turn, list_fail, list_end}
 use Rattle.pungi_parse.proofs.Tools.{some_same}
-use Rattle.pungi_tree.specs.ExprDepth.{expr_depth, sizes_depth}
+use Rattle.pungi_tree.specs.ExprDepth.{sizes_depth}
 use Rattle.pungi_tree.specs.ExprView.{sizes_of}
 use Rattle.pungi_tree.specs.Placed.{Placed}
 use Rattle.pungi_tree.specs.Syntax.{Expr, Sizes, no_sizes, open_and, size_and}

@@ -14,7 +14,7 @@ use Rattle.pungi_parse.specs.Eat.{eat, eat_key, eat_text, eat_listed}
 use Rattle.pungi_parse.specs.Reading.{on_some}
 use Rattle.pungi_parse.specs.TypeReader.{keywords, consts, stars, stars_in, texts}
 use Rattle.pungi_parse.proofs.Eaten.{eat_some, eat_key_some, eat_text_some, eat_listed_some}
-use Rattle.pungi_tree.specs.Placed.{Placed, mark_at, key_at, text_at}
+use Rattle.pungi_tree.specs.Placed.{Placed}
 
 pub record ReadTo {A : Type 0} (read : List Placed → List A × List Placed) (whole : List A) (last : List Placed) (front : List A) (ts : List Placed) : Type 0 where
   pub items : front ++ (read ts).0 ≡ whole

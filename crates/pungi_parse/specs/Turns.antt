@@ -12,7 +12,7 @@ use Rattle.pungi_base.specs.declared.names.Name.{Name}
 use Rattle.pungi_base.specs.declared.pos.Pos.{Pos}
 use Rattle.pungi_base.specs.declared.punct.Punct.TheVariants as puncts
 use Rattle.pungi_parse.specs.Eat.{eat, eat_step}
-use Rattle.pungi_parse.specs.Reading.{Read, ◌>>=◌, chain, on_some, when}
+use Rattle.pungi_parse.specs.Reading.{Read, ◌>>=◌, on_some, when}
 use Rattle.pungi_parse.specs.TypeReader.{Lower, plain_word, begins_type}
 use Rattle.pungi_tree.specs.ExprDepth.{expr_depth}
 use Rattle.pungi_tree.specs.Placed.{Placed}

@@ -4,9 +4,7 @@ ghost use Rattle.pungi_parse.specs.Turns.{function_front as function_front_of, g
 ghost use Rattle.pungi_parse.specs.ExprReader.{new_front as new_front_of, cast_front as cast_front_of};
 ghost use Rattle.pungi_tree.specs.Placed.{placed};
 
-use crate::eat::{
-    eat, eat_aggregate, eat_base_word, eat_key, eat_qualifier, eat_step, eat_word,
-};
+use crate::eat::{eat, eat_aggregate, eat_base_word, eat_key, eat_qualifier, eat_step, eat_word};
 use crate::type_words::TypeWords;
 use pungi_base::words::{PY_OBJECT_NEW, PY_UNUSED};
 use pungi_base::{Key, Name, Pos, Punct, Token};

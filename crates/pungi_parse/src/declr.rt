@@ -9,21 +9,20 @@ ghost use Rattle.pungi_tree.specs.Placed.{placed};
 
 use crate::begins::{function_front, plain_word};
 use crate::eat::eat;
-use crate::type_nodes;
 use crate::parser::{Parser, Read};
 use crate::stop::Stop;
-use crate::words;
+use crate::{type_nodes, words};
 use pungi_base::{Punct, Token};
 use pungi_tree::{Declr, Expr};
 
 impl Parser<'_> {
-    /// The declarators at the front, with a comma between.
+    /// The declarators at the front, with commas between them (C11 6.7.6).
     #[tactic(auto, unfolding(crate::specs::TypeReader::declrs, crate::specs::Reading::chain))]
     #[cycle(parts)]
     pub(crate) fn declrs<'t>(&self, tokens: &'t [Token]) -> Read<'t, Vec<Declr>>
         ensures tree { Gives (λ x. (declrs_of (map declr_view x.0.items), placed x.2.now)) result
             (declrs_of_tokens self.now.types.now (readers self.now.types.now self.now.nest self.now.most)
-                (placed tokens.now)) }
+            (placed tokens.now)) }
         ensures deep { IfOk result (λ x. x.1 ≡ declrs_depth (declrs_of (map declr_view x.0.items))) }
         ensures bound { IfOk result (λ x. x.1 ≤ self.now.most) }
         ensures shorter { IfOk result (λ x. length x.2.now < length tokens.now) }
@@ -42,13 +41,13 @@ impl Parser<'_> {
         Ok((list, deepest, rest))
     }
 
-    /// The declarator at the front.
+    /// The declarator at the front (C11 6.7.6).
     #[tactic(auto, unfolding(crate::specs::TypeReader::declr_at))]
     #[cycle(parts)]
     pub(crate) fn declr<'t>(&self, tokens: &'t [Token]) -> Read<'t, Declr>
         ensures tree { Gives (λ x. (declr_view x.0, placed x.2.now)) result
             (declr_at self.now.types.now (readers self.now.types.now self.now.nest self.now.most)
-                (placed tokens.now)) }
+            (placed tokens.now)) }
         ensures deep { IfOk result (λ x. x.1 ≡ declr_depth (declr_view x.0)) }
         ensures bound { IfOk result (λ x. x.1 ≤ self.now.most) }
         ensures shorter { IfOk result (λ x. length x.2.now < length tokens.now) }
@@ -57,13 +56,13 @@ impl Parser<'_> {
         self.declr_rest(stars, rest)
     }
 
-    /// What stands behind the stars of a declarator.
+    /// What stands behind the stars of a declarator (C11 6.7.6).
     #[tactic(auto, unfolding(crate::specs::TypeReader::declr_rest, crate::specs::Reading::chain, crate::specs::Reading::on_some))]
     #[cycle(parts)]
     pub(crate) fn declr_rest<'t>(&self, stars: Vec<u32>, tokens: &'t [Token]) -> Read<'t, Declr>
         ensures tree { Gives (λ x. (declr_view x.0, placed x.2.now)) result
             (declr_rest_of self.now.types.now (readers self.now.types.now self.now.nest self.now.most)
-                stars.items (placed tokens.now)) }
+            stars.items (placed tokens.now)) }
         ensures deep { IfOk result (λ x. x.1 ≡ declr_depth (declr_view x.0)) }
         ensures bound { IfOk result (λ x. x.1 ≤ self.now.most) }
         ensures shorter { IfOk result (λ x. length x.2.now < length tokens.now) }
@@ -75,11 +74,12 @@ impl Parser<'_> {
         Ok((type_nodes::array(stars, name, pos, sizes), depth, rest))
     }
 
+    /// A pointer to a function, behind its stars (C11 6.7.6.3).
     #[cycle(parts)]
     fn function_rest<'t>(&self, stars: Vec<u32>, tokens: &'t [Token]) -> Read<'t, Declr>
         ensures tree { Gives (λ x. (declr_view x.0, placed x.2.now)) result
             (function_rest_of self.now.types.now (readers self.now.types.now self.now.nest self.now.most)
-                stars.items (placed tokens.now)) }
+            stars.items (placed tokens.now)) }
         ensures deep { IfOk result (λ x. x.1 ≡ declr_depth (declr_view x.0)) }
         ensures bound { IfOk result (λ x. x.1 ≤ self.now.most) }
         ensures shorter { IfOk result (λ x. length x.2.now < length tokens.now) }
@@ -91,11 +91,12 @@ impl Parser<'_> {
         Ok((type_nodes::function(stars, name, pos, params), depth, rest))
     }
 
+    /// The brackets of an array (C11 6.7.6.2).
     #[cycle(parts)]
     fn sizes<'t>(&self, tokens: &'t [Token]) -> Read<'t, Vec<Option<Expr>>>
         ensures tree { Gives (λ x. (sizes_of (map optional_view x.0.items), placed x.2.now)) result
             (sizes_at self.now.types.now (readers self.now.types.now self.now.nest self.now.most)
-                (placed tokens.now)) }
+            (placed tokens.now)) }
         ensures deep { IfOk result (λ x. x.1 ≡ sizes_depth (sizes_of (map optional_view x.0.items))) }
         ensures bound { IfOk result (λ x. x.1 ≤ self.now.most) }
         ensures shorter { IfOk result (λ x. length x.2.now ≤ length tokens.now) }
@@ -112,6 +113,7 @@ impl Parser<'_> {
         Ok((list, deepest, rest))
     }
 
+    /// What stands between two brackets, with the closing one (C11 6.7.6.2).
     #[tactic(auto, unfolding(crate::specs::Turns::size_at, crate::specs::Reading::chain, crate::specs::Reading::on_some))]
     #[cycle(parts)]
     fn size<'t>(&self, tokens: &'t [Token]) -> Read<'t, Option<Expr>>

@@ -6,18 +6,17 @@ ghost use Rattle.pungi_tree.specs.ExprDepth.{params_depth, param_decl_depth, par
 ghost use Rattle.pungi_tree.specs.ExprView.{params_view, param_decl_view, param_declr_view};
 ghost use Rattle.pungi_tree.specs.Placed.{placed};
 
-use crate::begins::{begins_name, dots_front, unused_front, plain_word, void_front};
+use crate::begins::{begins_name, dots_front, plain_word, unused_front, void_front};
 use crate::eat::eat;
-use crate::type_nodes;
 use crate::parser::{Parser, Read};
 use crate::simple::close_params;
 use crate::stop::Stop;
-use crate::words;
+use crate::{type_nodes, words};
 use pungi_base::{Punct, Token};
 use pungi_tree::{ParamDecl, ParamDeclr, Params};
 
 impl Parser<'_> {
-    /// The parameters at the front, with their closing parenthesis.
+    /// The parameters at the front, with their closing parenthesis (C11 6.7.6.3).
     #[cycle(parts)]
     pub(crate) fn params<'t>(&self, tokens: &'t [Token]) -> Read<'t, Params>
         ensures tree { Gives (λ x. (params_view x.0, placed x.2.now)) result
@@ -38,12 +37,13 @@ impl Parser<'_> {
         inner.params_at(tokens)
     }
 
+    /// Parameters, whose parts may nest as deep as `nest` (C11 6.7.6.3).
     #[tactic(auto, unfolding(crate::specs::TypeReader::params_at, crate::specs::Reading::on_some))]
     #[cycle(parts)]
     fn params_at<'t>(&self, tokens: &'t [Token]) -> Read<'t, Params>
         ensures tree { Gives (λ x. (params_view x.0, placed x.2.now)) result
             (params_at_of self.now.types.now (readers self.now.types.now self.now.nest self.now.most)
-                (placed tokens.now)) }
+            (placed tokens.now)) }
         ensures deep { IfOk result (λ x. x.1 ≡ params_depth (params_view x.0)) }
         ensures bound { IfOk result (λ x. x.1 ≤ self.now.most) }
         ensures shorter { IfOk result (λ x. length x.2.now < length tokens.now) }
@@ -57,12 +57,13 @@ impl Parser<'_> {
         self.some_params(tokens)
     }
 
+    /// At least one parameter, and the closing parenthesis (C11 6.7.6.3).
     #[tactic(auto, unfolding(crate::specs::TypeReader::some_params, crate::specs::Reading::chain))]
     #[cycle(parts)]
     fn some_params<'t>(&self, tokens: &'t [Token]) -> Read<'t, Params>
         ensures tree { Gives (λ x. (params_view x.0, placed x.2.now)) result
             (some_params_of self.now.types.now (readers self.now.types.now self.now.nest self.now.most)
-                (placed tokens.now)) }
+            (placed tokens.now)) }
         ensures deep { IfOk result (λ x. x.1 ≡ params_depth (params_view x.0)) }
         ensures bound { IfOk result (λ x. x.1 ≤ self.now.most) }
         ensures shorter { IfOk result (λ x. length x.2.now < length tokens.now) }
@@ -86,12 +87,13 @@ impl Parser<'_> {
         }
     }
 
+    /// A parameter (C11 6.7.6.3).
     #[tactic(auto, unfolding(crate::specs::TypeReader::param, crate::specs::Reading::chain))]
     #[cycle(parts)]
     fn param<'t>(&self, tokens: &'t [Token]) -> Read<'t, ParamDecl>
         ensures tree { Gives (λ x. (param_decl_view x.0, placed x.2.now)) result
             (param_of self.now.types.now (readers self.now.types.now self.now.nest self.now.most)
-                (placed tokens.now)) }
+            (placed tokens.now)) }
         ensures deep { IfOk result (λ x. x.1 ≡ param_decl_depth (param_decl_view x.0)) }
         ensures bound { IfOk result (λ x. x.1 ≤ self.now.most) }
         ensures shorter { IfOk result (λ x. length x.2.now < length tokens.now) }
@@ -103,12 +105,13 @@ impl Parser<'_> {
         Ok((param, depth.max(declr_depth), rest))
     }
 
+    /// What stands behind the type of a parameter (C11 6.7.6.3).
     #[tactic(auto, unfolding(crate::specs::TypeReader::param_declr_at, crate::specs::Reading::on_some, crate::specs::Reading::when))]
     #[cycle(parts)]
     fn param_declr<'t>(&self, tokens: &'t [Token]) -> Read<'t, ParamDeclr>
         ensures tree { Gives (λ x. (param_declr_view x.0, placed x.2.now)) result
             (param_declr_at self.now.types.now (readers self.now.types.now self.now.nest self.now.most)
-                (placed tokens.now)) }
+            (placed tokens.now)) }
         ensures deep { IfOk result (λ x. x.1 ≡ param_declr_depth (param_declr_view x.0)) }
         ensures bound { IfOk result (λ x. x.1 ≤ self.now.most) }
         ensures shorter { IfOk result (λ x. length x.2.now ≤ length tokens.now) }
@@ -121,12 +124,13 @@ impl Parser<'_> {
         }
     }
 
+    /// A named or an unused parameter, behind its stars (C11 6.7.6.3).
     #[tactic(auto, unfolding(crate::specs::TypeReader::param_rest, crate::specs::Reading::chain, crate::specs::Reading::on_some))]
     #[cycle(parts)]
     fn param_rest<'t>(&self, stars: Vec<u32>, tokens: &'t [Token]) -> Read<'t, ParamDeclr>
         ensures tree { Gives (λ x. (param_declr_view x.0, placed x.2.now)) result
             (param_rest_of self.now.types.now (readers self.now.types.now self.now.nest self.now.most)
-                stars.items (placed tokens.now)) }
+            stars.items (placed tokens.now)) }
         ensures deep { IfOk result (λ x. x.1 ≡ param_declr_depth (param_declr_view x.0)) }
         ensures bound { IfOk result (λ x. x.1 ≤ self.now.most) }
         ensures shorter { IfOk result (λ x. length x.2.now < length tokens.now) }

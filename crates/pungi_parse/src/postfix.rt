@@ -17,14 +17,14 @@ use pungi_base::{Key, Kind, Pos, Punct, Token};
 use pungi_tree::{Expr, ExprNode};
 
 impl Parser<'_> {
-    /// The unary expression at the front.
+    /// The unary expression at the front (C11 6.5.3).
     #[tactic(auto, unfolding(crate::specs::ExprReader::unary, crate::specs::Reading::chain, crate::specs::Reading::on_some))]
     #[cycle(parts)]
     pub(crate) fn unary<'t>(&self, tokens: &'t [Token]) -> Read<'t, Expr>
         requires { self.now.most < 2 ^ 32 - 1 }
         ensures tree { Gives (λ x. (expr_view x.0, placed x.2.now)) result
             (unary_of self.now.types.now (readers self.now.types.now self.now.nest self.now.most)
-                (suc self.now.most) (placed tokens.now)) }
+            (suc self.now.most) (placed tokens.now)) }
         ensures deep { IfOk result (λ x. x.1 ≡ expr_depth (expr_view x.0)) }
         ensures bound { IfOk result (λ x. x.1 ≤ suc self.now.most) }
         ensures shorter { IfOk result (λ x. length x.2.now < length tokens.now) }
@@ -40,13 +40,14 @@ impl Parser<'_> {
         self.postfix(tokens)
     }
 
+    /// What stands behind `sizeof` (C11 6.5.3.4).
     #[tactic(auto, unfolding(crate::specs::ExprReader::sizeof_at, crate::specs::Turns::sizeof_front, crate::specs::Reading::chain, crate::specs::Reading::on_some))]
     #[cycle(parts)]
     fn sizeof_at<'t>(&self, pos: Pos, tokens: &'t [Token]) -> Read<'t, Expr>
         requires { self.now.most < 2 ^ 32 - 1 }
         ensures tree { Gives (λ x. (expr_view x.0, placed x.2.now)) result
             (sizeof_of self.now.types.now (readers self.now.types.now self.now.nest self.now.most)
-                (suc self.now.most) pos (placed tokens.now)) }
+            (suc self.now.most) pos (placed tokens.now)) }
         ensures deep { IfOk result (λ x. x.1 ≡ expr_depth (expr_view x.0)) }
         ensures bound { IfOk result (λ x. x.1 ≤ suc self.now.most) }
         ensures shorter { IfOk result (λ x. length x.2.now < length tokens.now) }
@@ -63,13 +64,14 @@ impl Parser<'_> {
         Ok((nodes::size_of_type(pos, name), depth + 1, rest))
     }
 
+    /// A postfix expression (C11 6.5.2).
     #[tactic(auto, unfolding(crate::specs::ExprReader::postfix, crate::specs::Reading::chain))]
     #[cycle(parts)]
     fn postfix<'t>(&self, tokens: &'t [Token]) -> Read<'t, Expr>
         requires { self.now.most < 2 ^ 32 - 1 }
         ensures tree { Gives (λ x. (expr_view x.0, placed x.2.now)) result
             (postfix_of self.now.types.now (readers self.now.types.now self.now.nest self.now.most)
-                (suc self.now.most) (placed tokens.now)) }
+            (suc self.now.most) (placed tokens.now)) }
         ensures deep { IfOk result (λ x. x.1 ≡ expr_depth (expr_view x.0)) }
         ensures bound { IfOk result (λ x. x.1 ≤ suc self.now.most) }
         ensures shorter { IfOk result (λ x. length x.2.now < length tokens.now) }
@@ -107,7 +109,7 @@ impl Parser<'_> {
         requires bound { depth ≤ self.now.most }
         ensures tree { Gives (λ x. (expr_view x.0, placed x.2.now)) result
             (joined (postfix_turn_of self.now.types.now (readers self.now.types.now self.now.nest self.now.most)
-                start (expr_view tree) (placed tokens.now))) }
+            start (expr_view tree) (placed tokens.now))) }
         ensures deep { IfOk result (λ x. x.1 ≡ expr_depth (expr_view x.0)) }
         ensures bound { IfOk result (λ x. x.1 ≤ suc self.now.most) }
         ensures deeper { IfOk result (λ x. depth < x.1) }
@@ -122,21 +124,16 @@ impl Parser<'_> {
         self.member_or_step(tree, depth, tokens)
     }
 
+    /// A call, behind its parenthesis (C11 6.5.2.2).
     #[tactic(auto, unfolding(crate::specs::ExprReader::call_at, crate::specs::Reading::chain))]
     #[cycle(parts)]
-    fn call<'t>(
-        &self,
-        start: Pos,
-        callee: Expr,
-        depth: u32,
-        tokens: &'t [Token],
-    ) -> Read<'t, Expr>
+    fn call<'t>(&self, start: Pos, callee: Expr, depth: u32, tokens: &'t [Token]) -> Read<'t, Expr>
         requires most { self.now.most < 2 ^ 32 - 1 }
         requires deep { depth ≡ expr_depth (expr_view callee) }
         requires bound { depth ≤ self.now.most }
         ensures tree { Gives (λ x. (expr_view x.0, placed x.2.now)) result
             (call_at self.now.types.now (readers self.now.types.now self.now.nest self.now.most)
-                start (expr_view callee) (placed tokens.now)) }
+            start (expr_view callee) (placed tokens.now)) }
         ensures deep { IfOk result (λ x. x.1 ≡ expr_depth (expr_view x.0)) }
         ensures bound { IfOk result (λ x. x.1 ≤ suc self.now.most) }
         ensures deeper { IfOk result (λ x. depth < x.1) }
@@ -147,21 +144,16 @@ impl Parser<'_> {
         Ok((tree, depth.max(args_depth) + 1, rest))
     }
 
+    /// An element of an array, behind the bracket (C11 6.5.2.1).
     #[tactic(auto, unfolding(crate::specs::ExprReader::index_at, crate::specs::Reading::chain))]
     #[cycle(parts)]
-    fn index<'t>(
-        &self,
-        array: Expr,
-        depth: u32,
-        pos: Pos,
-        tokens: &'t [Token],
-    ) -> Read<'t, Expr>
+    fn index<'t>(&self, array: Expr, depth: u32, pos: Pos, tokens: &'t [Token]) -> Read<'t, Expr>
         requires most { self.now.most < 2 ^ 32 - 1 }
         requires deep { depth ≡ expr_depth (expr_view array) }
         requires bound { depth ≤ self.now.most }
         ensures tree { Gives (λ x. (expr_view x.0, placed x.2.now)) result
             (index_at self.now.types.now (readers self.now.types.now self.now.nest self.now.most)
-                (expr_view array) pos (placed tokens.now)) }
+            (expr_view array) pos (placed tokens.now)) }
         ensures deep { IfOk result (λ x. x.1 ≡ expr_depth (expr_view x.0)) }
         ensures bound { IfOk result (λ x. x.1 ≤ suc self.now.most) }
         ensures deeper { IfOk result (λ x. depth < x.1) }
@@ -175,13 +167,13 @@ impl Parser<'_> {
         Ok((tree, depth.max(index_depth) + 1, rest))
     }
 
-    /// The arguments at the front, with their closing parenthesis.
+    /// The arguments at the front, with their closing parenthesis (C11 6.5.2.2).
     #[tactic(auto, unfolding(crate::specs::ExprReader::args_at, crate::specs::ExprReader::some_args, crate::specs::Reading::chain, crate::specs::Reading::on_some))]
     #[cycle(parts)]
     fn args<'t>(&self, tokens: &'t [Token]) -> Read<'t, Vec<Expr>>
         ensures tree { Gives (λ x. (exprs_of (map expr_view x.0.items), placed x.2.now)) result
             (args_at self.now.types.now (readers self.now.types.now self.now.nest self.now.most)
-                (placed tokens.now)) }
+            (placed tokens.now)) }
         ensures deep { IfOk result (λ x. x.1 ≡ exprs_depth (exprs_of (map expr_view x.0.items))) }
         ensures bound { IfOk result (λ x. x.1 ≤ self.now.most) }
         ensures shorter { IfOk result (λ x. length x.2.now < length tokens.now) }
@@ -206,13 +198,14 @@ impl Parser<'_> {
         Ok((list, deepest, behind))
     }
 
+    /// A primary expression (C11 6.5.1).
     #[tactic(auto, unfolding(crate::specs::ExprReader::primary, crate::specs::Reading::chain, crate::specs::Reading::on_some))]
     #[cycle(parts)]
     fn primary<'t>(&self, tokens: &'t [Token]) -> Read<'t, Expr>
         requires { self.now.most < 2 ^ 32 - 1 }
         ensures tree { Gives (λ x. (expr_view x.0, placed x.2.now)) result
             (primary_of self.now.types.now (readers self.now.types.now self.now.nest self.now.most)
-                (placed tokens.now)) }
+            (placed tokens.now)) }
         ensures deep { IfOk result (λ x. x.1 ≡ expr_depth (expr_view x.0)) }
         ensures bound { IfOk result (λ x. x.1 ≤ suc self.now.most) }
         ensures shorter { IfOk result (λ x. length x.2.now < length tokens.now) }
@@ -233,13 +226,14 @@ impl Parser<'_> {
         self.text(tokens)
     }
 
+    /// An expression in parentheses, behind the first (C11 6.5.1).
     #[tactic(auto, unfolding(crate::specs::ExprReader::paren_at, crate::specs::Reading::chain))]
     #[cycle(parts)]
     fn paren<'t>(&self, pos: Pos, tokens: &'t [Token]) -> Read<'t, Expr>
         requires { self.now.most < 2 ^ 32 - 1 }
         ensures tree { Gives (λ x. (expr_view x.0, placed x.2.now)) result
             (paren_at self.now.types.now (readers self.now.types.now self.now.nest self.now.most)
-                pos (placed tokens.now)) }
+            pos (placed tokens.now)) }
         ensures deep { IfOk result (λ x. x.1 ≡ expr_depth (expr_view x.0)) }
         ensures bound { IfOk result (λ x. x.1 ≤ suc self.now.most) }
         ensures shorter { IfOk result (λ x. length x.2.now < length tokens.now) }
@@ -252,13 +246,14 @@ impl Parser<'_> {
         Ok((tree, depth + 1, rest))
     }
 
+    /// What stands behind `PyObject_New (` (Python/C API Reference Manual 3.11, "Allocating Objects on the Heap").
     #[tactic(auto, unfolding(crate::specs::ExprReader::new_at, crate::specs::Reading::chain))]
     #[cycle(parts)]
     fn new_object<'t>(&self, pos: Pos, tokens: &'t [Token]) -> Read<'t, Expr>
         requires { self.now.most < 2 ^ 32 - 1 }
         ensures tree { Gives (λ x. (expr_view x.0, placed x.2.now)) result
             (new_at self.now.types.now (readers self.now.types.now self.now.nest self.now.most)
-                pos (placed tokens.now)) }
+            pos (placed tokens.now)) }
         ensures deep { IfOk result (λ x. x.1 ≡ expr_depth (expr_view x.0)) }
         ensures bound { IfOk result (λ x. x.1 ≤ suc self.now.most) }
         ensures shorter { IfOk result (λ x. length x.2.now < length tokens.now) }

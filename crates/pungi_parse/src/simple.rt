@@ -10,11 +10,9 @@ ghost use Rattle.pungi_tree.specs.Placed.{placed};
 
 use crate::begins::plain_word;
 use crate::eat::{eat, eat_step, first_place};
-use crate::nodes;
 use crate::parser::{Parser, Read};
 use crate::stop::Stop;
-use crate::type_nodes;
-use crate::words;
+use crate::{nodes, type_nodes, words};
 use pungi_base::{Pos, Punct, Token};
 use pungi_tree::{Expr, ExprNode, ParamDecl, Params};
 
@@ -62,7 +60,12 @@ impl Parser<'_> {
 
     /// A member of an expression, or a step, of an expression of this depth, by what stands behind it.
     #[tactic(auto, unfolding(crate::specs::Turns::member_or_step, crate::specs::Reading::chain, crate::specs::Reading::on_some))]
-    pub(crate) fn member_or_step<'t>(&self, tree: Expr, depth: u32, tokens: &'t [Token]) -> Read<'t, Expr>
+    pub(crate) fn member_or_step<'t>(
+        &self,
+        tree: Expr,
+        depth: u32,
+        tokens: &'t [Token],
+    ) -> Read<'t, Expr>
         requires most { self.now.most < 2 ^ 32 - 1 }
         requires deep { depth ≡ expr_depth (expr_view tree) }
         requires bound { depth ≤ self.now.most }
@@ -88,6 +91,10 @@ impl Parser<'_> {
         let Some((operator, pos, rest)) = eat_step(tokens) else {
             return Err(Stop::NothingRead);
         };
-        Ok((nodes::post(self.alloc, pos, operator, tree)?, depth + 1, rest))
+        Ok((
+            nodes::post(self.alloc, pos, operator, tree)?,
+            depth + 1,
+            rest,
+        ))
     }
 }

@@ -8,15 +8,14 @@ ghost use Rattle.pungi_tree.specs.Placed.{placed};
 
 use crate::begins::type_word;
 use crate::eat::{eat, eat_aggregate, eat_base_word, eat_word, first_place};
-use crate::type_nodes;
 use crate::parser::{Parser, Read};
 use crate::stop::Stop;
-use crate::words;
+use crate::{type_nodes, words};
 use pungi_base::{Key, Name, Pos, Punct, Token};
 use pungi_tree::{Base, Declr, Field, Spec, TypeName};
 
 impl Parser<'_> {
-    /// The type with its pointers at the front.
+    /// The type with its pointers at the front (C11 6.7.7).
     #[tactic(auto, unfolding(crate::specs::TypeReader::type_name_at, crate::specs::Reading::chain))]
     #[cycle(parts)]
     pub(crate) fn type_name<'t>(&self, tokens: &'t [Token]) -> Read<'t, TypeName>
@@ -31,7 +30,7 @@ impl Parser<'_> {
         Ok((TypeName { spec, stars }, depth, rest))
     }
 
-    /// The type without its pointers at the front.
+    /// The type without its pointers at the front (C11 6.7.2).
     #[cycle(parts)]
     pub(crate) fn spec<'t>(&self, tokens: &'t [Token]) -> Read<'t, Spec>
         ensures tree { Gives (λ x. (spec_view x.0, placed x.2.now)) result
@@ -52,12 +51,13 @@ impl Parser<'_> {
         inner.spec_at(tokens)
     }
 
+    /// A type without its pointers, whose parts may nest as deep as `nest` (C11 6.7.2).
     #[tactic(auto, unfolding(crate::specs::TypeReader::spec_at, crate::specs::Reading::chain))]
     #[cycle(parts)]
     fn spec_at<'t>(&self, tokens: &'t [Token]) -> Read<'t, Spec>
         ensures tree { Gives (λ x. (spec_view x.0, placed x.2.now)) result
             (spec_at_of self.now.types.now (readers self.now.types.now self.now.nest self.now.most)
-                (placed tokens.now)) }
+            (placed tokens.now)) }
         ensures deep { IfOk result (λ x. x.1 ≡ spec_depth (spec_view x.0)) }
         ensures bound { IfOk result (λ x. x.1 ≤ self.now.most) }
         ensures shorter { IfOk result (λ x. length x.2.now < length tokens.now) }
@@ -70,12 +70,13 @@ impl Parser<'_> {
         Ok((Spec { pos, base, consts }, depth, rest))
     }
 
+    /// What a type begins with (C11 6.7.2).
     #[tactic(auto, unfolding(crate::specs::TypeReader::base_at, crate::specs::Reading::chain, crate::specs::Reading::on_some))]
     #[cycle(parts)]
     fn base<'t>(&self, tokens: &'t [Token]) -> Read<'t, Base>
         ensures tree { Gives (λ x. (base_view x.0, placed x.2.now)) result
             (base_at self.now.types.now (readers self.now.types.now self.now.nest self.now.most)
-                (placed tokens.now)) }
+            (placed tokens.now)) }
         ensures deep { IfOk result (λ x. x.1 ≡ base_depth (base_view x.0)) }
         ensures bound { IfOk result (λ x. x.1 ≤ self.now.most) }
         ensures shorter { IfOk result (λ x. length x.2.now < length tokens.now) }
@@ -93,12 +94,13 @@ impl Parser<'_> {
         Ok((Base::Alias(name), 0, rest))
     }
 
+    /// A struct or a union, behind its keyword (C11 6.7.2.1).
     #[tactic(auto, unfolding(crate::specs::TypeReader::aggregate, crate::specs::Reading::chain, crate::specs::Reading::on_some))]
     #[cycle(parts)]
     fn aggregate<'t>(&self, of: Key, tokens: &'t [Token]) -> Read<'t, Base>
         ensures tree { Gives (λ x. (base_view x.0, placed x.2.now)) result
             (aggregate_of self.now.types.now (readers self.now.types.now self.now.nest self.now.most)
-                of (placed tokens.now)) }
+            of (placed tokens.now)) }
         ensures deep { IfOk result (λ x. x.1 ≡ base_depth (base_view x.0)) }
         ensures bound { IfOk result (λ x. x.1 ≤ self.now.most) }
         ensures shorter { IfOk result (λ x. length x.2.now < length tokens.now) }
@@ -118,6 +120,7 @@ impl Parser<'_> {
         self.fields_at(of, None, inner)
     }
 
+    /// The fields of a struct or a union, behind the brace (C11 6.7.2.1).
     #[tactic(auto, unfolding(crate::specs::TypeReader::fields_at, crate::specs::Reading::chain))]
     #[cycle(parts)]
     fn fields_at<'t>(
@@ -128,7 +131,7 @@ impl Parser<'_> {
     ) -> Read<'t, Base>
         ensures tree { Gives (λ x. (base_view x.0, placed x.2.now)) result
             (fields_at_of self.now.types.now (readers self.now.types.now self.now.nest self.now.most)
-                of tag (placed tokens.now)) }
+            of tag (placed tokens.now)) }
         ensures deep { IfOk result (λ x. x.1 ≡ base_depth (base_view x.0)) }
         ensures bound { IfOk result (λ x. x.1 ≤ self.now.most) }
         ensures shorter { IfOk result (λ x. length x.2.now < length tokens.now) }
@@ -140,11 +143,12 @@ impl Parser<'_> {
         Ok((type_nodes::tagged_fields(of, tag, fields), depth, rest))
     }
 
+    /// The lines up to the closing brace, which stays (C11 6.7.2.1).
     #[cycle(parts)]
     fn fields<'t>(&self, tokens: &'t [Token]) -> Read<'t, Vec<Field>>
         ensures tree { Gives (λ x. (fields_of (map field_view x.0.items), placed x.2.now)) result
             (fields_of_tokens self.now.types.now (readers self.now.types.now self.now.nest self.now.most)
-                (suc (length (placed tokens.now))) (placed tokens.now)) }
+            (suc (length (placed tokens.now))) (placed tokens.now)) }
         ensures deep { IfOk result (λ x. x.1 ≡ fields_depth (fields_of (map field_view x.0.items))) }
         ensures bound { IfOk result (λ x. x.1 ≤ self.now.most) }
         ensures shorter { IfOk result (λ x. length x.2.now ≤ length tokens.now) }
@@ -163,12 +167,13 @@ impl Parser<'_> {
         }
     }
 
+    /// A line between the braces (C11 6.7.2.1).
     #[tactic(auto, unfolding(crate::specs::TypeReader::field, crate::specs::Reading::chain, crate::specs::Reading::on_some))]
     #[cycle(parts)]
     fn field<'t>(&self, tokens: &'t [Token]) -> Read<'t, Field>
         ensures tree { Gives (λ x. (field_view x.0, placed x.2.now)) result
             (field_of self.now.types.now (readers self.now.types.now self.now.nest self.now.most)
-                (placed tokens.now)) }
+            (placed tokens.now)) }
         ensures deep { IfOk result (λ x. x.1 ≡ field_depth (field_view x.0)) }
         ensures bound { IfOk result (λ x. x.1 ≤ self.now.most) }
         ensures shorter { IfOk result (λ x. length x.2.now < length tokens.now) }

@@ -1,4 +1,4 @@
-use Rattle.std.proofs.Common.{◌≡◌, ◌≤◌, length}
+use Rattle.std.proofs.Common.{◌≤◌, length}
 use Rattle.pungi_parse.specs.TypeReader.{consts}
 use Rattle.pungi_tree.specs.Placed.{placed}
 use Rattle.pungi_parse.proofs.WordLoops.{CountTo}

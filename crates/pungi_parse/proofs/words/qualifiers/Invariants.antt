@@ -1,4 +1,4 @@
-use Rattle.std.proofs.Common.{◌≡◌, ◌∷◌, ◌≤◌, length}
+use Rattle.std.proofs.Common.{◌≤◌, length}
 use Rattle.pungi_parse.specs.TypeReader.{keywords}
 use Rattle.pungi_tree.specs.Operators.{is_qualifier}
 use Rattle.pungi_tree.specs.Placed.{placed}

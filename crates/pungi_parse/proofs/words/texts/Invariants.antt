@@ -1,4 +1,4 @@
-use Rattle.std.proofs.Common.{◌≡◌, ◌∷◌, ◌+◌, ◌≤◌, length, vec_len}
+use Rattle.std.proofs.Common.{◌+◌, ◌≤◌, length, vec_len}
 use Rattle.pungi_parse.specs.TypeReader.{texts}
 use Rattle.pungi_tree.specs.Placed.{placed}
 use Rattle.pungi_parse.proofs.WordLoops.{ReadTo}

@@ -74,7 +74,7 @@ comma-returns-in_err-right-clause-tree t c =
 pub comma-loop-pos-preserved : goal.comma-loop-pos-preserved
 comma-loop-pos-preserved t c = record {
   commas = rw (c.in_ok-left-2.ensures, c.max-left_depth.ensures)
-    (comma_turns _ _ _ _ _ _ _ _ _ _ (c.in-Some.pos, placed c.in-Some.after.now) c.loop-pos.invariant.commas (sym c.in-Some.ensures.token) (omega arith) c.in_ok-right.ensures.tree c.in_ok-right.ensures.deep (omega (arith, c.in_ok-right.ensures.bound)));
+      (comma_turns _ _ _ _ _ _ _ _ _ _ (c.in-Some.pos, placed c.in-Some.after.now) c.loop-pos.invariant.commas (sym c.in-Some.ensures.token) (omega arith) c.in_ok-right.ensures.tree c.in_ok-right.ensures.deep (omega (arith, c.in_ok-right.ensures.bound)));
   shorter = omega (arith, c.in_ok-right.ensures.shorter, c.in-Some.ensures.shorter);
 }
 
@@ -98,7 +98,7 @@ climb-returns-in_err-right-clause-tree t c =
 pub climb-loop-operator-preserved : goal.climb-loop-operator-preserved
 climb-loop-operator-preserved t c = record {
   climbs = rw (c.in_ok-left-2.ensures, c.max-left_depth.ensures)
-    (climb_turns _ _ _ _ _ _ _ _ _ _ _ (c.in-Some.operator, c.in-Some.pos, placed c.in-Some.after.now) c.loop-operator.invariant.climbs (sym c.in-Some.ensures.token) (omega arith) (rw c.binary_level.ensures at c.in_ok-right.ensures.tree) c.in_ok-right.ensures.deep (omega (arith, c.in_ok-right.ensures.bound)));
+      (climb_turns _ _ _ _ _ _ _ _ _ _ _ (c.in-Some.operator, c.in-Some.pos, placed c.in-Some.after.now) c.loop-operator.invariant.climbs (sym c.in-Some.ensures.token) (omega arith) (rw c.binary_level.ensures at c.in_ok-right.ensures.tree) c.in_ok-right.ensures.deep (omega (arith, c.in_ok-right.ensures.bound)));
   shorter = omega (arith, c.in_ok-right.ensures.shorter, c.in-Some.ensures.shorter);
 }
 
@@ -150,10 +150,10 @@ args-loop-inner-init t c =
 pub args-loop-inner-preserved : goal.args-loop-inner-preserved
 args-loop-inner-preserved t c = record {
   reads = rw (c.in_ok-push-2.ensures.items, map_push expr_view c.loop-inner.list.items c.in_ok-arg.arg)
-    (args_turn _ _ _ _ _ _ _ _ c.loop-inner.invariant.reads (sym c.in-Some-eat.ensures.token) c.in_ok-arg.ensures.tree
-    (placed_shorter _ _ (omega (arith, c.in_ok-arg.ensures.shorter, c.in-Some-eat.ensures.shorter))));
+      (args_turn _ _ _ _ _ _ _ _ c.loop-inner.invariant.reads (sym c.in-Some-eat.ensures.token) c.in_ok-arg.ensures.tree
+      (placed_shorter _ _ (omega (arith, c.in_ok-arg.ensures.shorter, c.in-Some-eat.ensures.shorter))));
   deep = rw (c.in_ok-push-2.ensures.items, map_push expr_view c.loop-inner.list.items c.in_ok-arg.arg)
-    (omega (arith, args_depth (map expr_view c.loop-inner.list.items) (expr_view c.in_ok-arg.arg), c.loop-inner.invariant.deep, c.in_ok-arg.ensures.deep));
+      (omega (arith, args_depth (map expr_view c.loop-inner.list.items) (expr_view c.in_ok-arg.arg), c.loop-inner.invariant.deep, c.in_ok-arg.ensures.deep));
   bound = omega (arith, c.in_ok-arg.ensures.bound, c.loop-inner.invariant.bound);
   shorter = omega (arith, c.in_ok-arg.ensures.shorter, c.in-Some-eat.ensures.shorter, c.loop-inner.invariant.shorter);
 }
@@ -187,9 +187,9 @@ fields-each-preserved t c =
     let none : eat puncts.RightBrace (placed c.each.rest.now) ≡ None = search rules in
     record {
       reads = rw (c.in_ok-push.ensures.items, map_push field_view c.each.list.items c.in_ok-field.field)
-        (fields_turn _ _ _ _ _ _ _ c.each.invariant.reads none c.in_ok-field.ensures.tree (placed_shorter _ _ c.in_ok-field.ensures.shorter));
+          (fields_turn _ _ _ _ _ _ _ c.each.invariant.reads none c.in_ok-field.ensures.tree (placed_shorter _ _ c.in_ok-field.ensures.shorter));
       deep = rw (c.in_ok-push.ensures.items, map_push field_view c.each.list.items c.in_ok-field.field)
-        (omega (arith, fields_deepest (map field_view c.each.list.items) (field_view c.in_ok-field.field), c.each.invariant.deep, c.in_ok-field.ensures.deep));
+          (omega (arith, fields_deepest (map field_view c.each.list.items) (field_view c.in_ok-field.field), c.each.invariant.deep, c.in_ok-field.ensures.deep));
       bound = omega (arith, c.in_ok-field.ensures.bound, c.each.invariant.bound);
       shorter = omega (arith, c.in_ok-field.ensures.shorter, c.each.invariant.shorter);
     }
@@ -214,10 +214,10 @@ declrs-loop-inner-init t c = record {
 pub declrs-loop-inner-preserved : goal.declrs-loop-inner-preserved
 declrs-loop-inner-preserved t c = record {
   reads = rw (c.in_ok-push-2.ensures.items, map_push declr_view c.loop-inner.list.items c.in_ok-declr.declr)
-    (declrs_turn _ _ _ _ _ _ _ _ c.loop-inner.invariant.reads (sym c.in-Some.ensures.token) c.in_ok-declr.ensures.tree
-    (placed_shorter _ _ (omega (arith, c.in_ok-declr.ensures.shorter, c.in-Some.ensures.shorter))));
+      (declrs_turn _ _ _ _ _ _ _ _ c.loop-inner.invariant.reads (sym c.in-Some.ensures.token) c.in_ok-declr.ensures.tree
+      (placed_shorter _ _ (omega (arith, c.in_ok-declr.ensures.shorter, c.in-Some.ensures.shorter))));
   deep = rw (c.in_ok-push-2.ensures.items, map_push declr_view c.loop-inner.list.items c.in_ok-declr.declr)
-    (omega (arith, declrs_deepest (map declr_view c.loop-inner.list.items) (declr_view c.in_ok-declr.declr), c.loop-inner.invariant.deep, c.in_ok-declr.ensures.deep));
+      (omega (arith, declrs_deepest (map declr_view c.loop-inner.list.items) (declr_view c.in_ok-declr.declr), c.loop-inner.invariant.deep, c.in_ok-declr.ensures.deep));
   bound = omega (arith, c.in_ok-declr.ensures.bound, c.loop-inner.invariant.bound);
   shorter = omega (arith, c.in_ok-declr.ensures.shorter, c.in-Some.ensures.shorter, c.loop-inner.invariant.shorter);
 }
@@ -256,10 +256,10 @@ sizes-loop-inner-init t c = record {
 pub sizes-loop-inner-preserved : goal.sizes-loop-inner-preserved
 sizes-loop-inner-preserved t c = record {
   reads = rw (c.in_ok-push.ensures.items, map_push optional_view c.loop-inner.list.items c.in_ok-size.size)
-    (sizes_turn _ _ _ _ _ _ _ _ c.loop-inner.invariant.reads (sym c.in-Some.ensures.token) c.in_ok-size.ensures.tree
-    (placed_shorter _ _ (omega (arith, c.in_ok-size.ensures.shorter, c.in-Some.ensures.shorter))));
+      (sizes_turn _ _ _ _ _ _ _ _ c.loop-inner.invariant.reads (sym c.in-Some.ensures.token) c.in_ok-size.ensures.tree
+      (placed_shorter _ _ (omega (arith, c.in_ok-size.ensures.shorter, c.in-Some.ensures.shorter))));
   deep = rw (c.in_ok-push.ensures.items, map_push optional_view c.loop-inner.list.items c.in_ok-size.size)
-    (omega (arith, sizes_deepest (map optional_view c.loop-inner.list.items) (optional_view c.in_ok-size.size), c.loop-inner.invariant.deep, c.in_ok-size.ensures.deep));
+      (omega (arith, sizes_deepest (map optional_view c.loop-inner.list.items) (optional_view c.in_ok-size.size), c.loop-inner.invariant.deep, c.in_ok-size.ensures.deep));
   bound = omega (arith, c.in_ok-size.ensures.bound, c.loop-inner.invariant.bound);
   shorter = omega (arith, c.in_ok-size.ensures.shorter, c.in-Some.ensures.shorter, c.loop-inner.invariant.shorter);
 }
@@ -287,10 +287,10 @@ some_params-each-preserved t c =
     let none : dots_front (placed c.each.rest.now) ≡ None = search rules in
     record {
       reads = rw (c.in_ok-push-2.ensures.items, map_push param_decl_view c.each.list.items c.in_ok-param.param)
-        (params_turn _ _ _ _ _ _ _ _ c.each.invariant.reads none (sym c.in-Some-eat.ensures.token) c.in_ok-param.ensures.tree
-        (placed_shorter _ _ (omega (arith, c.in_ok-param.ensures.shorter, c.in-Some-eat.ensures.shorter))));
+          (params_turn _ _ _ _ _ _ _ _ c.each.invariant.reads none (sym c.in-Some-eat.ensures.token) c.in_ok-param.ensures.tree
+          (placed_shorter _ _ (omega (arith, c.in_ok-param.ensures.shorter, c.in-Some-eat.ensures.shorter))));
       deep = rw (c.in_ok-push-2.ensures.items, map_push param_decl_view c.each.list.items c.in_ok-param.param)
-        (omega (arith, params_deepest (map param_decl_view c.each.list.items) (param_decl_view c.in_ok-param.param), c.each.invariant.deep, c.in_ok-param.ensures.deep));
+          (omega (arith, params_deepest (map param_decl_view c.each.list.items) (param_decl_view c.in_ok-param.param), c.each.invariant.deep, c.in_ok-param.ensures.deep));
       bound = omega (arith, c.in_ok-param.ensures.bound, c.each.invariant.bound);
       shorter = omega (arith, c.in_ok-param.ensures.shorter, c.in-Some-eat.ensures.shorter, c.each.invariant.shorter);
     }
