@@ -27,7 +27,7 @@ pub stmt-returns-clause-tree : goal.stmt-returns-clause-tree
 stmt-returns-clause-tree t c =
     let s = c.args.self.now in
     rw (← stmt_goes s.types.now s.nest s.most (placed c.args.tokens.now) (omega arith) (begun_view c.in_ok-begun.begun) (placed c.in_ok-begun.rest.now) c.in_ok-begun.ensures.tree)
-      c.go_on.ensures.tree
+    c.go_on.ensures.tree
 
 pub element-returns-then-self-eq0-clause-tree : goal.element-returns-then-self-eq0-clause-tree
 element-returns-then-self-eq0-clause-tree t c =
@@ -60,7 +60,7 @@ block-returns-in_err-more-clause-tree t c =
     let p = err_from_is_err_and c.from_residual.result c.from_residual.ensures.1 in
     let none : eat puncts.RightBrace (placed c.each.rest.now) ≡ None = search rules in
     rw (p.1, p.2) (block_fails s.types.now s.nest s.most (placed c.args.tokens.now) c.args.pos (map stmt_view c.each.list.items) (placed c.each.rest.now)
-      c.in_err-more.field-0.0 c.each.invariant.to none c.in_err-more.ensures.tree)
+    c.in_err-more.field-0.0 c.each.invariant.to none c.in_err-more.ensures.tree)
 
 pub block-each-preserved : goal.block-each-preserved
 block-each-preserved t c =
@@ -71,13 +71,13 @@ block-each-preserved t c =
     let shorter : length c.in_ok-more.behind.now < length c.each.rest.now = c.in_ok-more.ensures.shorter in
     record {
       to = rw items (block_turn s.types.now s.nest s.most (placed c.args.tokens.now) c.args.pos (map stmt_view c.each.list.items) (placed c.each.rest.now)
-        (stmt_view c.in_ok-more.more) (placed c.in_ok-more.behind.now) c.each.invariant.to none c.in_ok-more.ensures.tree
-        (omega (arith, placed_length c.in_ok-more.behind.now, placed_length c.each.rest.now)));
+          (stmt_view c.in_ok-more.more) (placed c.in_ok-more.behind.now) c.each.invariant.to none c.in_ok-more.ensures.tree
+          (omega (arith, placed_length c.in_ok-more.behind.now, placed_length c.each.rest.now)));
       shorter = omega (arith, c.each.invariant.shorter);
     }
 
 pub block-returns-in-Some-clause-tree : goal.block-returns-in-Some-clause-tree
 block-returns-in-Some-clause-tree t c =
     let s = c.args.self.now in
-    block_end s.types.now s.nest s.most (placed c.args.tokens.now) c.args.pos (map stmt_view c.each.list.items) (placed c.each.rest.now)
-    c.in-Some.close (placed c.in-Some.behind.now) c.each.invariant.to (sym c.in-Some.ensures.token)
+    rw c.block.ensures (block_end s.types.now s.nest s.most (placed c.args.tokens.now) c.args.pos (map stmt_view c.each.list.items) (placed c.each.rest.now)
+    c.in-Some.close (placed c.in-Some.behind.now) c.each.invariant.to (sym c.in-Some.ensures.token))
