@@ -29,6 +29,7 @@ pub mod LowSound
 pub mod ParamComplete
 pub mod ParamLoop
 pub mod ParamSound
+pub mod Parsed
 pub mod PostfixComplete
 pub mod PostfixLoop
 pub mod ReadAt

@@ -2,6 +2,7 @@ pub mod Awaited
 pub mod Begun
 pub mod Eat
 pub mod ExprReader
+pub mod Faults
 pub mod Gives
 pub mod Readers
 pub mod Reading

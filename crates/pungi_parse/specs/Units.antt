@@ -2,7 +2,6 @@
 --   StandsAt types items ts rest    these items stand at the front of the tokens, are allowed under the type words, and are no deeper than trees may be
 --   IsUnit items ts     the tokens are those of a file of these items, which the grammar allows
 --   StopsAt ts pos      items stand in front of the token at this place, under the type words of all tokens, and none leave less
---   IsLeft ts items rest    these items leave these tokens: none, and they are the unit, or the tokens stop at the first of them
 --   brackets_after n k  how many brackets are open behind a token, where `n` are open before it; a closing one without an opening one changes nothing
 --   too_deep n ts       the place of the first token behind which more than `most_brackets` are open, where `n` are open before
 --   most_brackets       how many brackets may be open at a time
@@ -35,10 +34,6 @@ pub record StopsAt (ts : List Placed) (pos : Pos) : Type 0 where
   pub stands : StandsAt (type_words (kinds ts)) front ts rest
   pub place : first_place rest ≡ Some pos
   pub longest : (items : List Item) (other : List Placed) → StandsAt (type_words (kinds ts)) items ts other → length rest ≤ length other
-
-abbrev pub IsLeft : List Placed → List Item → List Placed → Type 0
-IsLeft ts items [] = IsUnit items ts
-IsLeft ts items (t ∷ rest) = StopsAt ts t.1
 
 abbrev pub most_brackets : ℕ
 most_brackets = 64

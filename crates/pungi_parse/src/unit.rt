@@ -1,83 +1,76 @@
-ghost use Rattle.std.specs.Prelude.{◌≡◌, ◌≤◌, ◌⊎◌, length, map, true, List, None, Some, Err, IfOk, MatchResult};
+ghost use Rattle.std.specs.Prelude.{◌≡◌, ◌≤◌, true, List, map, IfOk, None, Some, Err, MatchResult};
 ghost use Rattle.pungi_base.specs.declared.pos.Pos.{Pos as ThePos};
-ghost use Rattle.pungi_parse.specs.Units.{IsUnit, StopsAt, IsLeft, too_deep};
+ghost use Rattle.pungi_parse.specs.Faults.{HasFault};
 ghost use Rattle.pungi_parse.specs.UnitReader.{deepest};
-ghost use Rattle.pungi_parse.specs.declared.fault.ParseFault.TheVariants as faults;
+ghost use Rattle.pungi_parse.specs.Units.{IsUnit, StopsAt, too_deep};
 ghost use Rattle.pungi_tree.specs.Placed.{placed, kinds};
-ghost use Rattle.pungi_tree.specs.Syntax.{Item as TheItem};
+ghost use Rattle.pungi_tree.specs.Syntax.{Item as PlainItem};
 ghost use Rattle.pungi_tree.specs.TypeWords.{type_words};
 ghost use Rattle.pungi_tree.specs.UnitDepth.{items_depth};
 ghost use Rattle.pungi_tree.specs.UnitFlat.{items_flat};
 ghost use Rattle.pungi_tree.specs.UnitLevels.{is_levelled};
 ghost use Rattle.pungi_tree.specs.UnitView.{item_view, unit_view};
 
-use crate::ParseFault;
 use crate::deep::first_deep;
+use crate::fault::ParseFault;
 use crate::item::ItemParser;
 use crate::stop::Stop;
 use crate::type_words::TypeWords;
-use pungi_base::{Memory, Token};
+use pungi_base::Token;
 use pungi_tree::{Item, Unit};
 use std::alloc::Global;
 
-impl ItemParser<'_> {
-    /// The items of a file, and the tokens behind the last that is whole.
-    fn items<'t>(&self, tokens: &'t [Token]) -> Result<(Vec<Item>, &'t [Token]), Memory>
-        requires enough { length tokens.now ≤ self.now.nest }
-        requires own { self.now.types.now ≡ type_words (kinds (placed tokens.now)) }
-        ensures { IfOk result (λ x. IsLeft (placed tokens.now) (map item_view x.0.items) (placed x.1.now)) }
-    {
-        let mut list = Vec::new(self.alloc);
-        let mut rest = tokens;
-        'each: loop {
-            if rest.is_empty() {
-                return Ok((list, rest));
-            }
-            match self.item(rest) {
-                Ok((item, after)) => {
-                    list.push(item)?;
-                    rest = after;
-                }
-                Err(Stop::Memory) => return Err(Memory),
-                Err(Stop::NothingRead) => return Ok((list, rest)),
-            }
-        }
+/// The one syntax tree of a file with these tokens (C11 6.9), whose expressions and statements have at most 256 nodes on
+/// a path. A token behind which more than 64 brackets are open is looked for first. Where there is no such tree, the
+/// fault is at the first token behind the longest front that is one under the type words of all tokens.
+pub fn parse(alloc: Global, tokens: &[Token]) -> Result<Unit, ParseFault>
+    // What is read is the tokens' file.
+    ensures unit { IfOk result (λ u. IsUnit (unit_view u) (placed tokens.now)) }
+    // A file is read wherever there is one, and there is no other one.
+    ensures only { (items : List PlainItem) → too_deep 0 (placed tokens.now) ≡ None → IsUnit items (placed tokens.now) → MatchResult result (λ u. unit_view u ≡ items) (λ e. e ≡ ParseFault.Memory) }
+    ensures not_a_unit { (p : ThePos) → result ≡ Err (ParseFault.NotAUnit p) → StopsAt (placed tokens.now) p }
+    // Then no tree at all has these kinds of tokens, wherever its tokens stand.
+    ensures no_tree { (p : ThePos) → result ≡ Err (ParseFault.NotAUnit p) → (items : List PlainItem) → items_flat items ≡ kinds (placed tokens.now) → is_levelled items ≡ true → items_depth items ≤ deepest → ⊥ }
+    ensures deep { (p : ThePos) → result ≡ Err (ParseFault.Deep p) → too_deep 0 (placed tokens.now) ≡ Some p }
+    ensures first { (p : ThePos) → too_deep 0 (placed tokens.now) ≡ Some p → result ≡ Err (ParseFault.Deep p) }
+    ensures flat { IfOk result (λ u. items_flat (unit_view u) ≡ kinds (placed tokens.now)) }
+{
+    match first_deep(tokens) {
+        Some(pos) => Err(ParseFault::Deep(pos)),
+        None => unit(alloc, tokens),
     }
 }
 
-/// The items of a file, and the tokens behind the last that is whole.
-fn items(alloc: Global, tokens: &[Token]) -> Result<(Vec<Item>, &[Token]), Memory>
-    ensures { IfOk result (λ x. IsLeft (placed tokens.now) (map item_view x.0.items) (placed x.1.now)) }
+/// The file with these tokens.
+fn unit(alloc: Global, tokens: &[Token]) -> Result<Unit, ParseFault>
+    ensures { MatchResult result (λ u. IsUnit (unit_view u) (placed tokens.now)) (HasFault (placed tokens.now)) }
 {
     let types = TypeWords::new(alloc, tokens)?;
-    let parser = ItemParser {
-        alloc,
-        types: &types,
-        nest: tokens.len(),
-    };
-    parser.items(tokens)
+    let items = items(alloc, &types, tokens)?;
+    Ok(Unit { items })
 }
 
-/// The syntax tree of a file with these tokens (C11 6.9), the one that there is. `Deep` is looked for first.
-pub fn parse(alloc: Global, tokens: &[Token]) -> Result<Unit, ParseFault>
-    // What is read is the tree of the tokens.
-    ensures unit { IfOk result (λ u. IsUnit (unit_view u) (placed tokens.now)) }
-    ensures flat { IfOk result (λ u. items_flat (unit_view u) ≡ kinds (placed tokens.now)) }
-    // A tree is found wherever there is one, unless memory runs out.
-    ensures only { (items : List TheItem) → too_deep 0 (placed tokens.now) ≡ None → IsUnit items (placed tokens.now) → MatchResult result (λ u. unit_view u ≡ items) (λ e. e ≡ faults.Memory) }
-    // The place is that of the first token that no list of whole items reaches, and no tree at all has these tokens.
-    ensures not_a_unit { (at : ThePos) → result ≡ Err (faults.NotAUnit at) → StopsAt (placed tokens.now) at }
-    ensures no_tree { (at : ThePos) (items : List TheItem) → result ≡ Err (faults.NotAUnit at) → items_flat items ≡ kinds (placed tokens.now) → is_levelled items ≡ true → items_depth items ≤ deepest → ⊥ }
-    // Brackets are open too deep exactly where this is told.
-    ensures deep { (at : ThePos) → result ≡ Err (faults.Deep at) → too_deep 0 (placed tokens.now) ≡ Some at }
-    ensures first { (at : ThePos) → too_deep 0 (placed tokens.now) ≡ Some at → MatchResult result (λ u. ⊥) (λ e. (e ≡ faults.Deep at) ⊎ (e ≡ faults.Memory)) }
+/// The items of a file with these tokens, whose type words are these.
+fn items(alloc: Global, types: &TypeWords, tokens: &[Token]) -> Result<Vec<Item>, ParseFault>
+    requires { types.now ≡ type_words (kinds (placed tokens.now)) }
+    ensures { MatchResult result (λ v. IsUnit (map item_view v.items) (placed tokens.now)) (HasFault (placed tokens.now)) }
 {
-    if let Some(at) = first_deep(tokens) {
-        return Err(ParseFault::Deep(at));
+    let parser = ItemParser {
+        alloc,
+        types,
+        nest: tokens.len(),
+    };
+    let mut found = Vec::new(alloc);
+    let mut rest = tokens;
+    'each: while let Some((first, _)) = rest.split_first() {
+        match parser.item(rest) {
+            Ok((item, after)) => {
+                found.push(item)?;
+                rest = after;
+            }
+            Err(Stop::Memory) => return Err(ParseFault::Memory),
+            Err(Stop::NothingRead) => return Err(ParseFault::NotAUnit(first.pos)),
+        }
     }
-    let (items, rest) = items(alloc, tokens)?;
-    match rest.split_first() {
-        None => Ok(Unit { items }),
-        Some((token, _)) => Err(ParseFault::NotAUnit(token.pos)),
-    }
+    Ok(found)
 }
