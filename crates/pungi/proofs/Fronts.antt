@@ -97,6 +97,12 @@ file_unit old new text tokens expanded r names items file =
     let e = same_expansion old new text tokens expanded r names items file in
     (subst (λ (ts : List Token). too_deep 0 (placed ts) ≡ None) e file.shallow, subst (λ (ts : List Token). IsUnit items (placed ts)) e file.unit)
 
+pub err_same : {T : Type 0} (x y : ParseFault) → ◌≡◌ {A = Result T ParseFault} (Err x) (Err y) → x ≡ y
+err_same x y h = cc
+
+pub ok_is_no_err : {T : Type 0} (x : T) (e : ParseFault) → ◌≡◌ {A = Result T ParseFault} (Ok x) (Err e) → ⊥
+ok_is_no_err x e h = cc
+
 -- what the parser says of a fault
 pub record IsParsed (ts : List Placed) (found : ParseFault) : Type 0 where
   pub deep : (p : Pos) → found ≡ parse.Deep p → too_deep 0 ts ≡ Some p

@@ -30,7 +30,7 @@ pub(crate) fn unit_of(alloc: Global, names: &mut Names, text: &[u8]) -> Result<U
         Ok(expanded) => expanded,
         Err(fault) => return Err(FileFault::Macro(fault)),
     };
-    match parse(alloc, names, &expanded) {
+    match parse(alloc, &expanded) {
         Ok(unit) => Ok(unit),
         Err(fault) => Err(FileFault::Parse(fault)),
     }

@@ -1,10 +1,10 @@
-use Rattle.std.proofs.Common.{◌≡◌, List, ℕ, sym, ap, subst, ◌∙◌}
+use Rattle.std.proofs.Common.{◌≡◌, inl, List, ℕ, sym, ap, subst, ◌∙◌}
 use Rattle.std.specs.Prelude.{Err}
 use Rattle.pungi_base.specs.declared.token.Token.{Token}
 use Rattle.pungi_base.specs.declared.kind.Kind.{Kind}
 use Rattle.pungi_lex.specs.Expander.{IsExpanded}
 use Rattle.pungi_lex.specs.Known.{AreKnown}
-use Rattle.pungi.proofs.Fronts.{lexed, ready, lex_refused, macro_refused, parse_refused, is_file, known_kinds}
+use Rattle.pungi.proofs.Fronts.{err_same, ok_is_no_err, lexed, ready, lex_refused, macro_refused, parse_refused, is_file, known_kinds}
 use Rattle.pungi.specs.Front.{AreKnownKinds}
 use Rattle.pungi.proofs.front.unit_of.Goals as goal
 
@@ -20,7 +20,7 @@ pub returns-in-Ok-parse-clause-file : goal.returns-in-Ok-parse-clause-file
 returns-in-Ok-parse-clause-file c =
     let l = lexed c.args.names.now c.lex.new.names c.args.text.now c.deref.result.now c.in-Ok.tokens.items c.requires.words c.deref.ensures.value c.in-Ok.ensures.tokens c.in-Ok.ensures.only in
     let r = ready c.args.names.now c.lex.new.names c.args.text.now c.deref.result.now c.deref-2.result.now c.in-Ok-expand.expanded.items l c.deref-2.ensures.value c.in-Ok-expand.ensures.expanded c.in-Ok-expand.ensures.only in
-    is_file c.args.names.now c.lex.new.names c.args.text.now c.deref.result.now c.deref-2.result.now _ r c.in-Ok-parse.ensures.first c.in-Ok-parse.ensures.unit
+    is_file c.args.names.now c.lex.new.names c.args.text.now c.deref.result.now c.deref-2.result.now _ r (λ at h. ok_is_no_err _ _ (c.in-Ok-parse.ensures.first at h)) c.in-Ok-parse.ensures.unit
 
 pub returns-in-Ok-parse-clause-known : goal.returns-in-Ok-parse-clause-known
 returns-in-Ok-parse-clause-known c =
@@ -35,6 +35,6 @@ returns-clause-fault c =
     (record {
       deep = λ p e. c.in-Err-parse.ensures.deep p (ap Err e);
       not_a_unit = λ p e. c.in-Err-parse.ensures.not_a_unit p (ap Err e);
-      first = c.in-Err-parse.ensures.first;
+      first = λ at h. inl (err_same _ _ (c.in-Err-parse.ensures.first at h));
       only = c.in-Err-parse.ensures.only;
     })
