@@ -1,6 +1,5 @@
 -- What settles a choice of the reader of expressions, by the front of an expression.
 --   NoType types ts   no parenthesis stands here before a type
---   no_paren, paren_no_type    where no parenthesis stands, and before what begins no type
 --   unary_no_type     an expression of unary level or tighter does not begin so
 --   postfix_no_prefix a postfix expression begins with no prefix operator
 --   no_cast_front, no_sizeof_front, no_new_front    the tests that a parenthesis before a type would pass
@@ -21,8 +20,8 @@ use Rattle.pungi_parse.specs.Reading.{◌>>=◌, chain, when}
 use Rattle.pungi_parse.specs.TypeReader.{plain_word, begins_type}
 use Rattle.pungi_parse.proofs.Fronts.{other_mark, expr_begins}
 use Rattle.pungi_parse.proofs.Levels.{at_level, prefix_bound, binary_parts, binary_bounds}
-use Rattle.pungi_parse.proofs.Tools.{and_true, not_true, le_true, some_same, when_none}
-use Rattle.pungi_parse.proofs.WordLists.{plain_word_sound, plain_word_complete}
+use Rattle.pungi_parse.proofs.Tools.{and_true, not_true, le_true, some_same}
+use Rattle.pungi_parse.proofs.WordReadings.{plain_word_sound, plain_word_complete}
 use Rattle.pungi_tree.specs.ExprLevels.{expr_at, is_empty}
 use Rattle.pungi_tree.specs.ExprSpells.{Spells, SpellsTexts}
 use Rattle.pungi_tree.specs.Operators.{binary_level, is_assign, is_step, prefix_need, prefix_mark_need, level}
@@ -39,6 +38,11 @@ no_paren types ts h = record { no_type = λ o e. absurd (cc) }
 
 pub paren_no_type : (types : List Name) (q : Pos) (ts : List Placed) → begins_type types ts ≡ false → NoType types (mark_at puncts.LeftParen q ∷ ts)
 paren_no_type types q ts h = record { no_type = λ o e. let s : (q, ts) ≡ o = some_same _ _ e in subst (λ (z : Pos × List Placed). begins_type types z.1 ≡ false) s h }
+
+when_none : {A : Type 0} (b : Bool) → when {A = A} b None ≡ None
+unfolding when
+when_none true = refl
+when_none false = refl
 
 module _ (types : List Name) (ts : List Placed) (n : NoType types ts) where
   by_front : (A : Type 0) (f : Pos × List Placed → Option A) → (eat puncts.LeftParen ts >>= λ o. when (begins_type types o.1) (f o)) ≡ None

@@ -17,7 +17,7 @@ use Rattle.pungi_parse.proofs.Ends.{ExprEnds, ends_at_paren, ends_at_semicolon}
 use Rattle.pungi_parse.proofs.TableTheorems.{table_complete}
 use Rattle.pungi_parse.proofs.Tools.{and_true}
 use Rattle.pungi_parse.proofs.TypeExprTheorems.{expr_begins, spec_begins, decl_begins, spec_shorter, declr_shorter, expr_complete, spec_complete, declr_complete}
-use Rattle.pungi_parse.proofs.WordLists.{keywords_complete, keys_no_longer}
+use Rattle.pungi_parse.proofs.WordReadings.{keywords_complete, keys_no_longer}
 use Rattle.pungi_tree.specs.ExprDepth.{expr_depth}
 use Rattle.pungi_tree.specs.ExprLevels.{expr_at, spec_ok}
 use Rattle.pungi_tree.specs.Operators.{is_qualifier, all_keys}

@@ -14,7 +14,7 @@ use Rattle.pungi_parse.specs.Eat.{eat}
 use Rattle.pungi_parse.proofs.Ends.{ExprEnds, SpecEnds, DeclrEnds, ends_at_semicolon, ends_at_comma, ends_at_assignment}
 use Rattle.pungi_parse.proofs.Tools.{and_true}
 use Rattle.pungi_parse.proofs.TypeExprTheorems.{expr_shorter, spec_shorter, declr_shorter}
-use Rattle.pungi_parse.proofs.WordLists.{keys_no_longer}
+use Rattle.pungi_parse.proofs.WordReadings.{keys_no_longer}
 use Rattle.pungi_tree.specs.ExprLevels.{expr_at, spec_ok, declr_ok}
 use Rattle.pungi_tree.specs.ExprSpells.{SpellsDeclr}
 use Rattle.pungi_tree.specs.Operators.{is_qualifier, all_keys}

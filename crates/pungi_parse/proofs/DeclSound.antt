@@ -13,7 +13,7 @@ use Rattle.pungi_parse.proofs.TableTheorems.{table_sound}
 use Rattle.pungi_parse.proofs.Eaten.{eat_some}
 use Rattle.pungi_parse.proofs.Tools.{bind_some, on_some_cases, some_same, when_some, and_join}
 use Rattle.pungi_parse.proofs.TypeExprTheorems.{expr_sound, spec_sound, declr_sound}
-use Rattle.pungi_parse.proofs.WordLists.{keywords_sound}
+use Rattle.pungi_parse.proofs.WordReadings.{keywords_sound}
 use Rattle.pungi_tree.specs.ExprDepth.{expr_depth}
 use Rattle.pungi_tree.specs.ExprLevels.{expr_at}
 use Rattle.pungi_tree.specs.ExprSpells.{Spells}

@@ -1,8 +1,6 @@
 -- What is read as an expression stands at the front of the tokens: primary, postfix, unary and cast expressions.
 --   .._gets           what the reader of the same name reads
---   at_least_same, none_so_tight    no binary operator has a level above 12
---   NewFront          `PyObject_New (`
---   loosen            what is read at a level is read at a looser one
+--   Postfixed         a primary or postfix expression was read so far
 use Rattle.std.proofs.Common.{◌≡◌, ℕ, zero, suc, ◌≤◌, true, inl, inr, List, ◌∷◌, length, Some, None, refl, sym, ◌∙◌, ap, subst, arith}
 use Rattle.pungi_base.specs.declared.key.Key.TheVariants as keys
 use Rattle.pungi_base.specs.declared.names.Name.{Name}
@@ -20,7 +18,7 @@ use Rattle.pungi_parse.proofs.LowSound.{Gets, GetsExpr, LowSound}
 use Rattle.pungi_parse.proofs.ParamSound.{is_named}
 use Rattle.pungi_parse.proofs.Tools.{bind_some, on_some_cases, when_some, unless_some, some_same, and_join, not_false, lt_from}
 use Rattle.pungi_parse.proofs.TypeSound.{type_name_gets}
-use Rattle.pungi_parse.proofs.WordLists.{texts_sound, plain_word_sound}
+use Rattle.pungi_parse.proofs.WordReadings.{texts_sound, plain_word_sound}
 use Rattle.pungi_tree.specs.ExprDepth.{expr_depth, exprs_depth}
 use Rattle.pungi_tree.specs.ExprLevels.{expr_at, args_ok}
 use Rattle.pungi_tree.specs.ExprSpells.{Spells, SpellsArgs, SpellsMoreArgs, SpellsTypeName}

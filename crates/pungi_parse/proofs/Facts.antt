@@ -1,5 +1,5 @@
 -- What is to be shown of each tree: where it stands, and the tokens behind it do not go on with it, its reader reads it.
---   TypeEnds rest, ParamEnds rest    nothing goes on with a type and its pointers, with a parameter
+--   ParamEnds rest    nothing goes on with a parameter
 --   ExprReads types e, SpecReads types c, ParamsReads types ps    the readers over each other read it
 --   TypeNameReads .. ParamDeclReads    the reader of the same name reads it, by the readers of parts
 use Rattle.std.proofs.Common.{◌≡◌, ℕ, suc, ◌≤◌, ◌<◌, true, List, ◌∷◌, length, Option, Some, None}

@@ -19,7 +19,7 @@ use Rattle.pungi_parse.specs.TypeReader.{type_word, plain_word, begins_type, beg
 use Rattle.pungi_parse.proofs.Beginnings.{is_expr_key, is_expr_mark, ExprBegins, TypeBegins, DeclBegins}
 use Rattle.pungi_parse.proofs.Levels.{prefix_bound, sizeof_need}
 use Rattle.pungi_parse.proofs.Tools.{and_true, not_true, eq_from, le_true, same_mark, same_key}
-use Rattle.pungi_parse.proofs.WordLists.{no_plain_word}
+use Rattle.pungi_parse.proofs.WordReadings.{no_plain_word}
 use Rattle.pungi_tree.specs.ExprLevels.{expr_at, spec_ok, base_ok, is_empty}
 use Rattle.pungi_tree.specs.ExprSpells.{Spells, SpellsSpec, SpellsBase, SpellsKeys, SpellsTexts}
 use Rattle.pungi_tree.specs.Operators.{binary_level, prefix_need, prefix_mark_need, is_base_word, is_qualifier, is_aggregate, all_keys}

@@ -20,7 +20,7 @@ use Rattle.pungi_parse.proofs.StmtBegins.{stmt_shorter}
 use Rattle.pungi_parse.proofs.StmtComplete.{stmt_complete}
 use Rattle.pungi_parse.proofs.Tools.{and_true, not_true}
 use Rattle.pungi_parse.proofs.TypeExprTheorems.{spec_begins, decl_begins, spec_shorter, params_no_longer, spec_complete, params_complete}
-use Rattle.pungi_parse.proofs.WordLists.{keywords_complete, stars_complete, texts_complete, plain_word_complete, keys_no_longer, stars_no_longer, texts_no_longer}
+use Rattle.pungi_parse.proofs.WordReadings.{keywords_complete, stars_complete, texts_complete, plain_word_complete, keys_no_longer, stars_no_longer, texts_no_longer}
 use Rattle.pungi_tree.specs.ExprDepth.{spec_depth, params_depth}
 use Rattle.pungi_tree.specs.ExprLevels.{is_empty, spec_ok, params_ok, declr_ok, sizes_ok}
 use Rattle.pungi_tree.specs.ExprSpells.{SpellsKeys, SpellsSpec, SpellsStars, SpellsSizes, SpellsDeclr, SpellsParams}

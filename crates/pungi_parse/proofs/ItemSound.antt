@@ -19,7 +19,7 @@ use Rattle.pungi_parse.proofs.Eaten.{eat_some, eat_key_some, eat_word_some}
 use Rattle.pungi_parse.proofs.StmtSound.{stmt_sound}
 use Rattle.pungi_parse.proofs.Tools.{bind_some, on_some_cases, some_same, when_some, unless_some, eq_from, and_join, not_false}
 use Rattle.pungi_parse.proofs.TypeExprTheorems.{spec_sound, params_sound}
-use Rattle.pungi_parse.proofs.WordLists.{keywords_sound, stars_sound, texts_sound, plain_word_sound}
+use Rattle.pungi_parse.proofs.WordReadings.{keywords_sound, stars_sound, texts_sound, plain_word_sound}
 use Rattle.pungi_tree.specs.ExprDepth.{spec_depth}
 use Rattle.pungi_tree.specs.ExprLevels.{spec_ok}
 use Rattle.pungi_tree.specs.ExprSpells.{SpellsKeys, SpellsSpec, SpellsStars, SpellsTexts}

@@ -1,12 +1,9 @@
 -- Levels of expressions.
 --   at_split          an expression is allowed at a level where it binds as tightly and is allowed at all
 --   at_level, at_whole, at_join    the same, in one direction each
---   at_looser         what is allowed at a level is allowed at a looser one
---   binary_far        the level of a punctuator as a binary operator, whatever it is
---   binary_parts      what an allowed binary operator stands between
 --   binary_bounds     the level of a binary operator that stands in an allowed expression
 --   level_bound       no allowed expression binds more tightly than a primary one
---   prefix_bound, sizeof_need    a prefix operator that stands in an allowed expression
+--   prefix_bound      a prefix operator that stands in an allowed expression
 --   some_depth        an expression is a node
 use Rattle.std.proofs.Common.{◌≡◌, ℕ, ◌+◌, ◌<◌, ◌≤◌, Bool, true, false, ◌&&◌, List, refl, sym, ◌∙◌, arith}
 use Rattle.std.specs.Prelude.{nat_le}

@@ -1,7 +1,6 @@
 -- Parameters that stand at the front of the tokens are read, by what is known of their parts.
---   param_.., more_params_.., params_..    the reader of the same name reads it
---   param_ends_at_paren, param_ends_at_comma    such a mark stops a parameter
-use Rattle.std.proofs.Common.{◌≡◌, ℕ, zero, suc, ◌≤◌, true, false, ◌&&◌, List, ◌∷◌, length, Option, Some, None, refl, sym, ap, subst, arith}
+--   .._reads, .._read    the reader of the same name reads it
+use Rattle.std.proofs.Common.{◌≡◌, ℕ, zero, suc, ◌≤◌, Bool, true, false, ◌&&◌, List, ◌∷◌, length, Option, Some, None, refl, sym, ap, subst, arith}
 use Rattle.std.specs.Prelude.{◌==◌}
 use Rattle.pungi_base.specs.declared.key.Key.{Key}
 use Rattle.pungi_base.specs.declared.names.Name.{Name}
@@ -17,10 +16,10 @@ use Rattle.pungi_parse.proofs.Ends.{SpecEnds}
 use Rattle.pungi_parse.proofs.Facts.{SpecReads, ParamsReads, TailReads, ParamDeclrReads, ParamDeclReads, MoreParamsRead, ParamEnds}
 use Rattle.pungi_parse.proofs.Fronts.{spec_begins, decl_begins}
 use Rattle.pungi_parse.proofs.Shorter.{spec_no_longer, param_decl_no_longer}
-use Rattle.pungi_parse.proofs.Tools.{and_true, not_true, when_none}
+use Rattle.pungi_parse.proofs.Tools.{and_true, not_true}
 use Rattle.pungi_parse.proofs.TypeComplete.{tail_begins, stars_begin, declr_begins}
 use Rattle.pungi_parse.proofs.VoidComplete.{no_void_front}
-use Rattle.pungi_parse.proofs.WordLists.{keywords_complete, stars_complete, keys_no_longer, stars_no_longer}
+use Rattle.pungi_parse.proofs.WordReadings.{keywords_complete, stars_complete, keys_no_longer, stars_no_longer}
 use Rattle.pungi_tree.specs.ExprDepth.{param_decl_depth, param_decls_depth}
 use Rattle.pungi_tree.specs.ExprLevels.{spec_ok, tail_ok, param_decl_ok, param_decls_ok, param_declr_ok, void_ok}
 use Rattle.pungi_tree.specs.ExprSpells.{SpellsSizes, SpellsTail, SpellsParamDeclr, SpellsParamDecl, SpellsMoreParamDecls, SpellsDots}
@@ -30,19 +29,24 @@ use Rattle.pungi_tree.specs.Syntax.{Spec, declr, Tail, sizes, function, Sizes, n
 use Rattle.pungi_tree.specs.Tokens.{named_word}
 use Rattle.pungi_tree.specs.TypeWords.{is_word}
 
-pub param_ends_at_paren : (q : Pos) (ts : List Placed) → ParamEnds (mark_at puncts.RightParen q ∷ ts)
-param_ends_at_paren q ts = record { spec = record { no_const = refl; no_base_word = refl; no_brace = refl }; stars = record { no_star = refl; no_const = refl }; declr = record { no_size = refl }; no_word = refl; no_paren = refl }
+when_none : {A : Type 0} (b : Bool) → when {A = A} b None ≡ None
+unfolding when
+when_none true = refl
+when_none false = refl
 
-pub param_ends_at_comma : (q : Pos) (ts : List Placed) → ParamEnds (mark_at puncts.Comma q ∷ ts)
-param_ends_at_comma q ts = record { spec = record { no_const = refl; no_base_word = refl; no_brace = refl }; stars = record { no_star = refl; no_const = refl }; declr = record { no_size = refl }; no_word = refl; no_paren = refl }
+pub ends_at_paren : (q : Pos) (ts : List Placed) → ParamEnds (mark_at puncts.RightParen q ∷ ts)
+ends_at_paren q ts = record { spec = record { no_const = refl; no_base_word = refl; no_brace = refl }; stars = record { no_star = refl; no_const = refl }; declr = record { no_size = refl }; no_word = refl; no_paren = refl }
+
+pub ends_at_comma : (q : Pos) (ts : List Placed) → ParamEnds (mark_at puncts.Comma q ∷ ts)
+ends_at_comma q ts = record { spec = record { no_const = refl; no_base_word = refl; no_brace = refl }; stars = record { no_star = refl; no_const = refl }; declr = record { no_size = refl }; no_word = refl; no_paren = refl }
 
 dots_end : (dots : Option Pos) (q : Pos) (ts rest : List Placed) → SpellsDots dots ts (mark_at puncts.RightParen q ∷ rest) → ParamEnds ts
-dots_end None q ts rest s = subst ParamEnds (sym s) (param_ends_at_paren q rest)
-dots_end (Some p) q ts rest s = subst ParamEnds (sym s.1) (param_ends_at_comma s.0 _)
+dots_end None q ts rest s = subst ParamEnds (sym s) (ends_at_paren q rest)
+dots_end (Some p) q ts rest s = subst ParamEnds (sym s.1) (ends_at_comma s.0 _)
 
 more_end : (ds : ParamDecls) (dots : Option Pos) (q : Pos) (ts after rest : List Placed) → SpellsMoreParamDecls ds ts after → SpellsDots dots after (mark_at puncts.RightParen q ∷ rest) → ParamEnds ts
 more_end no_params dots q ts after rest s e = subst ParamEnds (sym s) (dots_end dots q after rest e)
-more_end (param_and d ds) dots q ts after rest s e = subst ParamEnds (sym s.3) (param_ends_at_comma s.2 s.0)
+more_end (param_and d ds) dots q ts after rest s e = subst ParamEnds (sym s.3) (ends_at_comma s.2 s.0)
 
 -- what a parameter has behind its type stops the type
 param_declr_begins : (d : ParamDeclr) (ts rest : List Placed) → SpellsParamDeclr d ts rest → ParamEnds rest → SpecEnds ts

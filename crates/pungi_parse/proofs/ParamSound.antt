@@ -1,7 +1,5 @@
 -- What is read as parameters stands at the front of the tokens.
---   .._gets, .._get   what the reader of the same name reads
---   is_named          a word of a number is that word
---   UnusedFront       `Py_UNUSED (`
+--   .._gets           what the reader of the same name reads
 use Rattle.std.proofs.Common.{◌≡◌, ℕ, zero, suc, Bool, true, false, ◌&&◌, inl, inr, List, ◌∷◌, length, Option, Some, None, refl, ◌∙◌, ap, subst, arith}
 use Rattle.std.specs.Prelude.{◌==◌}
 use Rattle.pungi_base.specs.declared.names.Name.{Name}
@@ -14,7 +12,7 @@ use Rattle.pungi_parse.proofs.LowSound.{GetsParamDeclr, GetsParamDecl, GetsMoreP
 use Rattle.pungi_parse.proofs.Tools.{bind_some, on_some_cases, when_some, some_same, and_join, and_false, not_false, eq_from}
 use Rattle.pungi_parse.proofs.TypeSound.{declr_rest_gets}
 use Rattle.pungi_parse.proofs.Void.{lone_front}
-use Rattle.pungi_parse.proofs.WordLists.{keywords_sound, stars_sound, plain_word_sound}
+use Rattle.pungi_parse.proofs.WordReadings.{keywords_sound, stars_sound, plain_word_sound}
 use Rattle.pungi_tree.specs.ExprLevels.{is_void_param, is_lone_void, void_ok}
 use Rattle.pungi_tree.specs.ExprSpells.{SpellsParamDecl, SpellsMoreParamDecls, SpellsDots, SpellsStars, SpellsParams}
 use Rattle.pungi_tree.specs.Operators.{is_qualifier}
@@ -86,7 +84,7 @@ module _ (types : List Name) (d : ℕ) (low : Lower) (sound : LowSound types d l
     | inr n ↦ subst (GetsParamDeclr types d ts) (some_same _ _ n.1) (record { spells = stars_sound ts; allowed = refl; shallow = omega arith })
   ]
 
-  pub param_gets : (ts : List Placed) (x : ParamDecl × List Placed) → param types low ts ≡ Some x → GetsParamDecl types d ts x
+  param_gets : (ts : List Placed) (x : ParamDecl × List Placed) → param types low ts ≡ Some x → GetsParamDecl types d ts x
   unfolding param
   param_gets ts x h =
       let q = keywords_sound is_qualifier ts in

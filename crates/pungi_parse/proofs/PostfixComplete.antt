@@ -21,7 +21,7 @@ use Rattle.pungi_parse.proofs.Levels.{at_level, at_whole}
 use Rattle.pungi_parse.proofs.Shorter.{expr_no_longer, type_name_no_longer}
 use Rattle.pungi_parse.proofs.Steps.{PostfixComes, Stands, Steps, from_primary, postfix_next, postfix_steps}
 use Rattle.pungi_parse.proofs.Tools.{and_true, not_true, some_same}
-use Rattle.pungi_parse.proofs.WordLists.{texts_complete, plain_word_complete}
+use Rattle.pungi_parse.proofs.WordReadings.{texts_complete, plain_word_complete}
 use Rattle.pungi_tree.specs.ExprDepth.{expr_depth, exprs_depth}
 use Rattle.pungi_tree.specs.ExprLevels.{expr_at, args_ok, type_name_ok, is_empty}
 use Rattle.pungi_tree.specs.ExprSpells.{Spells, SpellsArgs, SpellsMoreArgs, SpellsTypeName, SpellsTexts}

@@ -5,7 +5,7 @@ use Rattle.std.proofs.Common.{◌≡◌, ℕ, ◌<◌, ◌≤◌, Bool, true, fa
 use Rattle.pungi_base.specs.declared.names.Name.{Name}
 use Rattle.pungi_base.specs.declared.pos.Pos.{Pos}
 use Rattle.pungi_parse.proofs.Tools.{and_true, not_true}
-use Rattle.pungi_parse.proofs.WordLists.{keys_no_longer, consts_no_longer, stars_no_longer, texts_no_longer}
+use Rattle.pungi_parse.proofs.WordReadings.{keys_no_longer, consts_no_longer, stars_no_longer, texts_no_longer}
 use Rattle.pungi_tree.specs.ExprLevels.{expr_at, spec_ok, base_ok, is_empty}
 use Rattle.pungi_tree.specs.ExprSpells.{Spells, SpellsArgs, SpellsMoreArgs, SpellsTypeName, SpellsSpec, SpellsBase, SpellsTag, SpellsField, SpellsFields, SpellsDeclr, SpellsDeclrs, SpellsMoreDeclrs, SpellsTail, SpellsSizes, SpellsParams, SpellsVoid, SpellsDots, SpellsParamDecl, SpellsParamDecls, SpellsMoreParamDecls, SpellsParamDeclr, SpellsTexts}
 use Rattle.pungi_tree.specs.Placed.{Placed}

@@ -17,7 +17,7 @@ use Rattle.pungi_parse.proofs.DeclFronts.{decl_shorter, optional_no_longer, cond
 use Rattle.pungi_parse.proofs.Eaten.{eat_key_some}
 use Rattle.pungi_parse.proofs.Tools.{and_true}
 use Rattle.pungi_parse.proofs.TypeExprTheorems.{expr_begins, decl_begins, expr_shorter}
-use Rattle.pungi_parse.proofs.WordLists.{no_type_word}
+use Rattle.pungi_parse.proofs.WordReadings.{no_type_word}
 use Rattle.pungi_tree.specs.ExprLevels.{expr_at, spec_ok}
 use Rattle.pungi_tree.specs.Operators.{is_qualifier, all_keys}
 use Rattle.pungi_tree.specs.Placed.{Placed, mark_at, key_at}

@@ -19,7 +19,7 @@ use Rattle.pungi_parse.proofs.Ends.{ends_at_paren, ends_at_semicolon, ends_at_co
 use Rattle.pungi_parse.proofs.StmtBegins.{under, stmt_begins, no_decl, stmt_shorter}
 use Rattle.pungi_parse.proofs.Tools.{some_same, and_true, not_true}
 use Rattle.pungi_parse.proofs.TypeExprTheorems.{expr_no_label, expr_begins, expr_shorter, expr_complete}
-use Rattle.pungi_parse.proofs.WordLists.{plain_word_complete}
+use Rattle.pungi_parse.proofs.WordReadings.{plain_word_complete}
 use Rattle.pungi_tree.specs.ExprLevels.{expr_at}
 use Rattle.pungi_tree.specs.Placed.{Placed, mark_at, key_at, word_at, first_place}
 use Rattle.pungi_tree.specs.StmtDepth.{stmt_depth, stmts_depth}

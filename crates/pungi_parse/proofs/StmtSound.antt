@@ -15,7 +15,7 @@ use Rattle.pungi_parse.proofs.DeclSound.{Reads, decl_sound, optional_sound, cond
 use Rattle.pungi_parse.proofs.Eaten.{eat_some, eat_key_some}
 use Rattle.pungi_parse.proofs.Tools.{bind_some, on_some_cases, some_same, when_some, and_join}
 use Rattle.pungi_parse.proofs.TypeExprTheorems.{expr_sound}
-use Rattle.pungi_parse.proofs.WordLists.{plain_word_sound}
+use Rattle.pungi_parse.proofs.WordReadings.{plain_word_sound}
 use Rattle.pungi_tree.specs.ExprSpells.{Spells}
 use Rattle.pungi_tree.specs.Placed.{Placed, mark_at, key_at, word_at}
 use Rattle.pungi_tree.specs.StmtDepth.{stmt_depth, stmts_depth}

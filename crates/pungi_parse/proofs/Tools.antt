@@ -1,9 +1,8 @@
 -- Steps through options, tests and numbers, for any reader.
 --   bind_some, on_some_cases, when_some, unless_some, guard_some, guard_none    what an option that was read says of the options it was read from
 --   some_same         one value only is read
---   when_none         nothing is read where nothing was, whatever the test
---   le_true, le_false, le_from, not_le, lt_true, lt_false, lt_from, eq_from    tests on numbers
---   and_true, and_join, and_false, or_false, not_true, not_false    tests of tests
+--   le_true, le_false, le_from, lt_true, lt_false, lt_from, eq_from    tests on numbers
+--   and_true, and_join, or_true, not_true    tests of tests
 --   same_mark, same_key    a punctuator, or a keyword, is known by its number
 use Rattle.std.proofs.Common.{◌≡◌, ℕ, zero, suc, ◌<◌, ◌≤◌, Bool, true, false, cond, not, ◌&&◌, ◌||◌, List, [], ◌∷◌, Option, Some, None, ◌⊎◌, inl, inr, refl, sym, ◌∙◌, ap, arith}
 use Rattle.std.specs.Prelude.{nat_le, nat_lt, ◌==◌}
@@ -41,11 +40,6 @@ unfolding when
 when_some true o y h = (refl, h)
 when_some false o y h = absurd (cc)
 
-pub when_none : {A : Type 0} (b : Bool) → when {A = A} b None ≡ None
-unfolding when
-when_none true = refl
-when_none false = refl
-
 pub unless_some : {A : Type 0} (b : Bool) (o : Option A) (y : A) → unless b o ≡ Some y → (b ≡ false) × (o ≡ Some y)
 unfolding unless
 unless_some true o y h = absurd (cc)
@@ -74,6 +68,9 @@ lt_from m n h = grind (arith, nat_tests)
 
 pub eq_from : (m n : ℕ) → (m == n) ≡ true → m ≡ n
 eq_from m n h = grind (arith, nat_tests)
+
+pub eq_true : (n : ℕ) → (n == n) ≡ true
+eq_true n = grind (arith, nat_tests)
 
 pub and_true : (a b : Bool) → (a && b) ≡ true → (a ≡ true) × (b ≡ true)
 and_true true true h = (refl, refl)

@@ -1,7 +1,5 @@
 -- A type or a declarator that stands at the front of the tokens is read, by what is known of its parts.
---   type_name_.., sizes_.., tail_.., declr_.., declrs_.., field_.., fields_.., base_.., spec_..    the reader of the same name reads it
---   tail_begins, stars_begin, declr_begins    what a declarator begins with stops a type
---   field_begins      a line of a struct begins with no brace, and takes a token
+--   .._reads, .._read    the reader of the same name reads it
 use Rattle.std.proofs.Common.{◌≡◌, ℕ, zero, suc, ◌<◌, ◌≤◌, Bool, true, false, ◌&&◌, List, [], ◌∷◌, length, Option, Some, None, refl, sym, ap, subst, arith}
 use Rattle.pungi_base.specs.declared.key.Key.{Key}
 use Rattle.pungi_base.specs.declared.key.Key.TheVariants as keys
@@ -17,7 +15,7 @@ use Rattle.pungi_parse.proofs.Facts.{ExprReads, SpecReads, ParamsReads, TypeName
 use Rattle.pungi_parse.proofs.Fronts.{expr_begins, spec_begins, decl_begins}
 use Rattle.pungi_parse.proofs.Shorter.{expr_no_longer, spec_shorter, spec_no_longer, declr_no_longer, declrs_no_longer}
 use Rattle.pungi_parse.proofs.Tools.{and_true, not_true}
-use Rattle.pungi_parse.proofs.WordLists.{keywords_complete, consts_complete, stars_complete, type_word_complete, plain_word_complete, keys_no_longer, stars_no_longer}
+use Rattle.pungi_parse.proofs.WordReadings.{keywords_complete, consts_complete, stars_complete, type_word_complete, plain_word_complete, keys_no_longer, stars_no_longer}
 use Rattle.pungi_tree.specs.ExprDepth.{fields_depth}
 use Rattle.pungi_tree.specs.ExprLevels.{expr_at, spec_ok, field_ok, fields_ok, declr_ok, declrs_ok, some_declrs_ok, sizes_ok}
 use Rattle.pungi_tree.specs.ExprSpells.{SpellsStars, SpellsConsts, SpellsField, SpellsFields, SpellsDeclr, SpellsDeclrs, SpellsMoreDeclrs, SpellsTail}
@@ -158,7 +156,7 @@ module _ (types : List Name) where
   fields_end n d (suc k) q ts rest s ok deep long fuel = rw s refl
 
   -- a line of a struct begins with no brace, and takes a token
-  pub field_begins : (f : Field) (ts rest : List Placed) → SpellsField f ts rest → field_ok types f ≡ true → (eat puncts.RightBrace ts ≡ None) × (length rest < length ts)
+  field_begins : (f : Field) (ts rest : List Placed) → SpellsField f ts rest → field_ok types f ≡ true → (eat puncts.RightBrace ts ≡ None) × (length rest < length ts)
   field_begins empty ts rest s ok = (rw s.1 refl, omega (arith, ap length s.1))
   field_begins (members qs c ds) ts rest s ok =
       let a = and_true (all_keys is_qualifier qs) (spec_ok types c && some_declrs_ok types ds) ok in

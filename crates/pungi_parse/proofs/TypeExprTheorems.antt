@@ -22,7 +22,7 @@ use Rattle.pungi_parse.proofs.ClimbSound as sound
 use Rattle.pungi_parse.proofs.Fronts as fronts
 use Rattle.pungi_parse.proofs.Shorter as shorter
 use Rattle.pungi_parse.proofs.Steps.{whole}
-use Rattle.pungi_parse.proofs.WordLists as texts_read
+use Rattle.pungi_parse.proofs.WordReadings as texts_read
 use Rattle.pungi_tree.specs.ExprDepth.{expr_depth, spec_depth, params_depth, declr_depth}
 use Rattle.pungi_tree.specs.ExprLevels.{expr_at, spec_ok, params_ok, declr_ok}
 use Rattle.pungi_tree.specs.ExprSpells.{Spells, SpellsSpec, SpellsParams, SpellsDeclr, SpellsKeys, SpellsStars, SpellsTexts}

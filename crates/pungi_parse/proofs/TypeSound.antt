@@ -1,4 +1,4 @@
--- What is read as a type or a declarator stands at the front of the tokens.
+-- What is read as a type, a declarator or parameters stands at the front of the tokens.
 --   .._gets           what the reader of the same name reads
 use Rattle.std.proofs.Common.{◌≡◌, ℕ, zero, suc, Bool, true, false, inl, inr, List, ◌∷◌, length, Option, Some, None, refl, ◌∙◌, ap, subst, arith}
 use Rattle.pungi_base.specs.declared.key.Key.{Key}
@@ -11,7 +11,7 @@ use Rattle.pungi_parse.specs.TypeReader.{Lower, keywords, stars, type_word, size
 use Rattle.pungi_parse.proofs.Eaten.{eat_some, eat_word_some, eat_listed_some}
 use Rattle.pungi_parse.proofs.LowSound.{GetsTypeName, GetsSpec, GetsBase, GetsField, GetsFields, GetsDeclr, GetsDeclrs, GetsMoreDeclrs, GetsSizes, LowSound}
 use Rattle.pungi_parse.proofs.Tools.{bind_some, on_some_cases, some_same, and_join, not_false}
-use Rattle.pungi_parse.proofs.WordLists.{keywords_sound, consts_sound, stars_sound, plain_word_sound, type_word_sound}
+use Rattle.pungi_parse.proofs.WordReadings.{keywords_sound, consts_sound, stars_sound, plain_word_sound, type_word_sound}
 use Rattle.pungi_tree.specs.ExprLevels.{tag_ok}
 use Rattle.pungi_tree.specs.ExprSpells.{Spells, SpellsTag, SpellsFields, SpellsDeclrs, SpellsStars}
 use Rattle.pungi_tree.specs.Operators.{is_base_word, is_qualifier, is_aggregate}
@@ -29,11 +29,6 @@ other_word : (types : List Name) (ts : List Placed) (w : Name × Pos × List Pla
 unfolding type_word chain
 other_word types ts w h e =
     not_false _ (none_when (is_type types w.0) w (subst (λ (o : Option (Name × Pos × List Placed)). (o >>= λ (v : Name × Pos × List Placed). when (is_type types v.0) (Some v)) ≡ None) e h))
-
--- `( * word ) (`, token by token
-function_tokens : (o s c i : Pos × List Placed) (w : Name × Pos × List Placed) (ts : List Placed) → ts ≡ mark_at puncts.LeftParen o.0 ∷ o.1 → o.1 ≡ mark_at puncts.Star s.0 ∷ s.1 → s.1 ≡ word_at w.0 w.1 ∷ w.2 → w.2 ≡ mark_at puncts.RightParen c.0 ∷ c.1 → c.1 ≡ mark_at puncts.LeftParen i.0 ∷ i.1 → ts ≡ mark_at puncts.LeftParen o.0 ∷ mark_at puncts.Star s.0 ∷ word_at w.0 w.1 ∷ mark_at puncts.RightParen c.0 ∷ mark_at puncts.LeftParen i.0 ∷ i.1
-function_tokens o s c i w ts p q r u v =
-    p ∙ ap (λ z. mark_at puncts.LeftParen o.0 ∷ z) (q ∙ ap (λ z. mark_at puncts.Star s.0 ∷ z) (r ∙ ap (λ z. word_at w.0 w.1 ∷ z) (u ∙ ap (λ z. mark_at puncts.RightParen c.0 ∷ z) v)))
 
 module _ (types : List Name) (d : ℕ) (low : Lower) (sound : LowSound types d low) where
   pub type_name_gets : (ts : List Placed) (x : TypeName × List Placed) → type_name_at low ts ≡ Some x → GetsTypeName types d ts x
@@ -76,7 +71,8 @@ module _ (types : List Name) (d : ℕ) (low : Lower) (sound : LowSound types d l
       let ps = bind_some _ _ _ i.2 in
       let v = plain_word_sound types s.0.1 w.0 w.1 in
       let g = sound.params i.0.1 ps.0 ps.1 in
-      let e = function_tokens o.0 s.0 c.0 i.0 w.0 ts (eat_some _ ts o.0 o.1) (eat_some _ o.0.1 s.0 s.1) v.0 (eat_some _ w.0.2 c.0 c.1) (eat_some _ c.0.1 i.0 i.1) in
+      let e : ts ≡ mark_at puncts.LeftParen o.0.0 ∷ mark_at puncts.Star s.0.0 ∷ word_at w.0.0 w.0.1 ∷ mark_at puncts.RightParen c.0.0 ∷ mark_at puncts.LeftParen i.0.0 ∷ i.0.1
+      = eat_some _ ts o.0 o.1 ∙ ap (λ z. mark_at puncts.LeftParen o.0.0 ∷ z) (eat_some _ o.0.1 s.0 s.1 ∙ ap (λ z. mark_at puncts.Star s.0.0 ∷ z) (v.0 ∙ ap (λ z. word_at w.0.0 w.0.1 ∷ z) (eat_some _ w.0.2 c.0 c.1 ∙ ap (λ z. mark_at puncts.RightParen c.0.0 ∷ z) (eat_some _ c.0.1 i.0 i.1)))) in
       subst (GetsDeclr types d start) (some_same _ _ ps.2) (record {
         spells = (ts, before, (i.0.1, o.0.0, s.0.0, c.0.0, i.0.0, g.spells.0, e, g.spells.1));
         allowed = and_join _ _ v.1 g.allowed;
@@ -120,7 +116,7 @@ module _ (types : List Name) (d : ℕ) (low : Lower) (sound : LowSound types d l
       let g = more_declrs_get (suc (length e.0.1)) e.0.1 m.0 m.1 in
       subst (GetsDeclrs types d ts) (some_same _ _ m.2) (record { spells = (e.0.1, r.spells, g.spells); allowed = and_join _ _ r.allowed g.allowed; shallow = omega (arith, r.shallow, g.shallow) })
 
-  pub field_gets : (ts : List Placed) (x : Field × List Placed) → field types low ts ≡ Some x → GetsField types d ts x
+  field_gets : (ts : List Placed) (x : Field × List Placed) → field types low ts ≡ Some x → GetsField types d ts x
   unfolding field
   field_gets ts x h = elim (on_some_cases _ _ _ _ h) [
     | inl c ↦ subst (GetsField types d ts) (some_same _ _ c.2) (record { spells = (c.0.0, eat_some _ ts c.0 c.1); allowed = refl; shallow = omega arith })

@@ -8,8 +8,8 @@ pub mod Readers
 pub mod Reading
 pub mod StmtReader
 pub mod Table
-pub mod Turns
-pub mod TypeReader
 pub mod TypedefScan
+pub mod TypeReader
 pub mod UnitReader
 pub mod Units
+pub mod Turns

@@ -32,3 +32,6 @@ mod words;
 
 pub use fault::ParseFault;
 pub use unit::parse;
+
+#[cfg(test)]
+mod tests;

@@ -1,0 +1,322 @@
+use crate::{ParseFault, parse};
+use pungi_base::words::{PY_DOC_STRVAR, PY_OBJECT, PY_OBJECT_NEW, PY_UNUSED};
+use pungi_base::{Key, Kind, Name, Pos, Punct, Token};
+use std::alloc::{AllocError, Global};
+use std::test::Fail;
+
+const LP: Kind = Kind::Punct(Punct::LeftParen);
+
+const RP: Kind = Kind::Punct(Punct::RightParen);
+
+const LB: Kind = Kind::Punct(Punct::LeftBracket);
+
+const RB: Kind = Kind::Punct(Punct::RightBracket);
+
+const LC: Kind = Kind::Punct(Punct::LeftBrace);
+
+const RC: Kind = Kind::Punct(Punct::RightBrace);
+
+const SEMI: Kind = Kind::Punct(Punct::Semicolon);
+
+const COMMA: Kind = Kind::Punct(Punct::Comma);
+
+const DOT: Kind = Kind::Punct(Punct::Dot);
+
+const ARROW: Kind = Kind::Punct(Punct::Arrow);
+
+const STEP: Kind = Kind::Punct(Punct::PlusPlus);
+
+const STAR: Kind = Kind::Punct(Punct::Star);
+
+const LESS: Kind = Kind::Punct(Punct::Less);
+
+const ASK: Kind = Kind::Punct(Punct::Question);
+
+const COLON: Kind = Kind::Punct(Punct::Colon);
+
+const SET: Kind = Kind::Punct(Punct::Assign);
+
+const ADD: Kind = Kind::Punct(Punct::PlusAssign);
+
+const DOTS: Kind = Kind::Punct(Punct::Ellipsis);
+
+const INT: Kind = Kind::Key(Key::Int);
+
+const CHAR: Kind = Kind::Key(Key::Char);
+
+const VOID: Kind = Kind::Key(Key::Void);
+
+const STRUCT: Kind = Kind::Key(Key::Struct);
+
+const UNION: Kind = Kind::Key(Key::Union);
+
+const TYPEDEF: Kind = Kind::Key(Key::Typedef);
+
+const STATIC: Kind = Kind::Key(Key::Static);
+
+const CONST: Kind = Kind::Key(Key::Const);
+
+const IF: Kind = Kind::Key(Key::If);
+
+const ELSE: Kind = Kind::Key(Key::Else);
+
+const WHILE: Kind = Kind::Key(Key::While);
+
+const DO: Kind = Kind::Key(Key::Do);
+
+const FOR: Kind = Kind::Key(Key::For);
+
+const SWITCH: Kind = Kind::Key(Key::Switch);
+
+const CASE: Kind = Kind::Key(Key::Case);
+
+const DEFAULT: Kind = Kind::Key(Key::Default);
+
+const BREAK: Kind = Kind::Key(Key::Break);
+
+const CONTINUE: Kind = Kind::Key(Key::Continue);
+
+const RETURN: Kind = Kind::Key(Key::Return);
+
+const GOTO: Kind = Kind::Key(Key::Goto);
+
+const SIZEOF: Kind = Kind::Key(Key::Sizeof);
+
+const NULL: Kind = Kind::Key(Key::Null);
+
+const WA: Kind = Kind::Word(Name(200));
+
+const WB: Kind = Kind::Word(Name(201));
+
+const WF: Kind = Kind::Word(Name(202));
+
+const WT: Kind = Kind::Word(Name(203));
+
+const OBJECT: Kind = Kind::Word(Name(PY_OBJECT));
+
+const NEW: Kind = Kind::Word(Name(PY_OBJECT_NEW));
+
+const UNUSED: Kind = Kind::Word(Name(PY_UNUSED));
+
+const DOC: Kind = Kind::Word(Name(PY_DOC_STRVAR));
+
+const TEXT: Kind = Kind::Text(Name(300));
+
+const ONE: Kind = Kind::Int {
+    value: 1,
+    long: false,
+    unsigned: false,
+};
+
+const TWO: Kind = Kind::Int {
+    value: 2,
+    long: false,
+    unsigned: false,
+};
+
+const MINUS: Kind = Kind::Punct(Punct::Minus);
+
+const ENUM: Kind = Kind::Key(Key::Enum);
+
+/// More than 64 brackets, told from any column.
+const DEEP: u32 = 100_000;
+
+/// Want of memory, told from any column.
+const MEMORY: u32 = 200_000;
+
+/// The tokens of these kinds, on one line, each a column behind the one before.
+fn placed(alloc: Global, kinds: &[Kind]) -> Result<Vec<Token>, AllocError> {
+    let mut tokens = Vec::new(alloc);
+    let mut col = 0u32;
+    for kind in kinds {
+        col = col.saturating_add(1);
+        tokens.push(Token {
+            kind: *kind,
+            pos: Pos { line: 1, col },
+            first: false,
+            touching: false,
+        })?;
+    }
+    Ok(tokens)
+}
+
+/// 0 where there is a tree, or the column of the fault.
+fn fault(alloc: Global, kinds: &[Kind]) -> Result<u32, AllocError> {
+    let tokens = placed(alloc, kinds)?;
+    Ok(match parse(alloc, &tokens) {
+        Ok(_) => 0,
+        Err(ParseFault::NotAUnit(pos)) => pos.col,
+        Err(ParseFault::Deep(pos)) => pos.col.saturating_add(DEEP),
+        Err(ParseFault::Memory) => MEMORY,
+    })
+}
+
+/// Some kinds, one of them so many times over, and others.
+fn repeated(
+    alloc: Global,
+    front: &[Kind],
+    kind: Kind,
+    count: usize,
+    end: &[Kind],
+) -> Result<Vec<Kind>, AllocError> {
+    let mut kinds = Vec::new(alloc);
+    kinds.extend_from_slice(front)?;
+    for _ in 0..count {
+        kinds.push(kind)?;
+    }
+    kinds.extend_from_slice(end)?;
+    Ok(kinds)
+}
+
+/// The fault in a function with this body, behind the type definition of `T`: 0, or 5 where there is no function.
+fn in_body(alloc: Global, body: &[Kind]) -> Result<u32, AllocError> {
+    let mut kinds = Vec::new(alloc);
+    kinds.extend_from_slice(&[TYPEDEF, INT, WT, SEMI, VOID, WF, LP, VOID, RP, LC])?;
+    kinds.extend_from_slice(body)?;
+    kinds.push(RC)?;
+    fault(alloc, &kinds)
+}
+
+#[test]
+fn files(rt: HostRuntime) -> Result<(), Fail> {
+    let rows: [(&[Kind], u32); 24] = [
+        (&[], 0),
+        (&[INT, WF, LP, LC], 1),
+        (&[SEMI, TYPEDEF, STRUCT, LC], 2),
+        (&[SEMI, SEMI], 0),
+        (&[SEMI, SEMI, INT], 3),
+        (&[INT, WA, SEMI, RP], 4),
+        (&[DOC, LP, WA, COMMA, TEXT, TEXT, RP], 0),
+        (&[DOC, LP, WA, COMMA, RP], 1),
+        (&[WT, WA, SEMI, TYPEDEF, INT, STAR, CONST, WT, SEMI], 0),
+        (&[WT, WA, SEMI, TYPEDEF, INT, WB, SEMI], 1),
+        (&[TYPEDEF, WT, WT, SEMI], 0),
+        (
+            &[
+                STATIC, STRUCT, WA, LC, SEMI, INT, WA, COMMA, STAR, WB, LB, TWO, RB, SEMI, RC, SEMI,
+            ],
+            0,
+        ),
+        (&[UNION, LC, RC, WA, LB, RB, SEMI], 0),
+        (&[ENUM, WA, SEMI], 1),
+        (&[INT, SEMI], 0),
+        (&[INT, WA, COMMA, SEMI], 1),
+        (&[INT, LP, STAR, WF, RP, LP, VOID, RP, SET, NULL, SEMI], 0),
+        (
+            &[INT, WA, SET, LC, LP, RP, LC, COMMA, RC, RC, COMMA, WB, SEMI],
+            0,
+        ),
+        (&[INT, WA, SET, LC, LP, RC, RP, RC, SEMI], 1),
+        (&[INT, WA, SET, LC, LB, RP, RC, SEMI], 1),
+        (&[INT, WF, LP, RP, SEMI, INT, WF, LP, VOID, RP, SEMI], 0),
+        (
+            &[
+                INT, WF, LP, INT, COMMA, CHAR, STAR, UNUSED, LP, WA, RP, COMMA, DOTS, RP, SEMI,
+            ],
+            0,
+        ),
+        (&[INT, WF, LP, DOTS, RP, SEMI], 1),
+        (&[OBJECT, STAR, WF, LP, VOID, RP, LC, RC, SEMI, RC], 10),
+    ];
+    for (kinds, want) in rows {
+        assert_eq!(rt; fault(rt.alloc(), kinds)?, want);
+    }
+    Ok(())
+}
+
+#[test]
+fn statements(rt: HostRuntime) -> Result<(), Fail> {
+    let rows: [(&[Kind], u32); 24] = [
+        (&[IF, LP, WA, RP, SEMI, ELSE, SEMI], 0),
+        (&[IF, LP, WA, RP, SEMI, SEMI, ELSE, SEMI], 5),
+        (&[ELSE, SEMI], 5),
+        (&[WA, COLON, SEMI], 0),
+        (&[WT, COLON, SEMI], 5),
+        (&[WA, COLON], 5),
+        (&[INT, SEMI], 5),
+        (&[CONST, WT, WA, SET, ONE, COMMA, WB, SEMI], 0),
+        (&[IF, LP, WA, RP, INT, WB, SEMI], 5),
+        (&[FOR, LP, SEMI, SEMI, RP, SEMI], 0),
+        (
+            &[
+                FOR, LP, INT, WA, SET, ONE, SEMI, WA, LESS, TWO, SEMI, WA, STEP, RP, LC, RC,
+            ],
+            0,
+        ),
+        (&[FOR, LP, WA, SEMI, WB, RP, SEMI], 5),
+        (
+            &[
+                SWITCH, LP, WA, RP, LC, CASE, ONE, COLON, BREAK, SEMI, DEFAULT, COLON, CONTINUE,
+                SEMI, RC,
+            ],
+            0,
+        ),
+        (&[CASE, ONE, COMMA, TWO, COLON, SEMI], 5),
+        (&[CASE, WA, SET, TWO, COLON, SEMI], 5),
+        (&[CASE, WA, ASK, ONE, COLON, TWO, COLON, SEMI], 0),
+        (&[DO, SEMI, WHILE, LP, WA, RP, SEMI], 0),
+        (&[DO, SEMI, WHILE, LP, WA, RP], 5),
+        (&[WHILE, LP, RP, SEMI], 5),
+        (&[GOTO, WA, SEMI, RETURN, SEMI, RETURN, WA, SEMI], 0),
+        (&[GOTO, WT, SEMI], 5),
+        (&[RETURN, SIZEOF, INT, SEMI], 5),
+        (&[LC, LC, RC, SEMI, RC], 0),
+        (&[LC], 5),
+    ];
+    for (body, want) in rows {
+        assert_eq!(rt; in_body(rt.alloc(), body)?, want);
+    }
+    Ok(())
+}
+
+#[test]
+fn expressions(rt: HostRuntime) -> Result<(), Fail> {
+    let rows: [(&[Kind], u32); 20] = [
+        (&[LP, WT, RP, MINUS, WA, SEMI], 0),
+        (&[LP, WA, RP, MINUS, WB, SEMI], 0),
+        (&[LP, WT, RP, SEMI], 5),
+        (&[LP, WT, STAR, RP, WF, LP, WA, COMMA, WB, RP, SEMI], 0),
+        (&[WT, MINUS, WA, SEMI], 5),
+        (&[WA, SET, WB, ADD, ONE, SEMI], 0),
+        (&[LP, WA, RP, SET, WB, SEMI], 0),
+        (&[WA, MINUS, WB, SET, ONE, SEMI], 5),
+        (&[LP, INT, RP, WA, SET, WB, SEMI], 5),
+        (&[WA, ASK, WB, COMMA, ONE, COLON, TWO, SEMI], 0),
+        (&[WA, ASK, WB, COLON, SEMI], 5),
+        (&[WA, LB, ONE, RB, DOT, WB, ARROW, WB, STEP, SEMI], 0),
+        (&[WA, DOT, WT, SEMI], 5),
+        (
+            &[
+                WF, LP, NEW, LP, WT, COMMA, WA, RP, COMMA, TEXT, TEXT, RP, SEMI,
+            ],
+            0,
+        ),
+        (&[NEW, LP, WT, RP, SEMI], 5),
+        (&[NEW, LP, WA, RP, SEMI], 0),
+        (&[SIZEOF, LP, WT, STAR, RP, SEMI], 0),
+        (&[SIZEOF, LP, WA, RP, MINUS, STAR, WB, SEMI], 0),
+        (&[WF, LP, WA, COMMA, RP, SEMI], 5),
+        (&[CASE, WA, SEMI], 5),
+    ];
+    for (body, want) in rows {
+        assert_eq!(rt; in_body(rt.alloc(), body)?, want);
+    }
+    Ok(())
+}
+
+#[test]
+fn depths(rt: HostRuntime) -> Result<(), Fail> {
+    // The block, `return` and the word are three nodes on the path.
+    let shallow = repeated(rt.alloc(), &[RETURN], MINUS, 253, &[WA, SEMI])?;
+    assert_eq!(rt; in_body(rt.alloc(), &shallow)?, 0);
+    let deep = repeated(rt.alloc(), &[RETURN], MINUS, 254, &[WA, SEMI])?;
+    assert_eq!(rt; in_body(rt.alloc(), &deep)?, 5);
+    let most = repeated(rt.alloc(), &[INT], LP, 64, &[])?;
+    assert_eq!(rt; fault(rt.alloc(), &most)?, 1);
+    let more = repeated(rt.alloc(), &[INT], LP, 65, &[])?;
+    assert_eq!(rt; fault(rt.alloc(), &more)?, 66 + DEEP);
+    let blocks = repeated(rt.alloc(), &[VOID, WF, LP, RP], LC, 64, &[])?;
+    let closed = repeated(rt.alloc(), &blocks, RC, 64, &[])?;
+    assert_eq!(rt; fault(rt.alloc(), &closed)?, 0);
+    Ok(())
+}
