@@ -86,12 +86,10 @@ fn heads(alloc: Global, report: &[u8]) -> Result<Vec<u8>, Memory> {
     Ok(heads)
 }
 
-fn is_told(rt: &HostRuntime, text: &str, status: u8, lines: &str) -> Result<(), Fail> {
-    let (found, report) = told(rt.alloc(), text.as_bytes())?;
-    let heads = heads(rt.alloc(), &report)?;
-    assert_eq!(rt; found, status, "at {text}");
-    assert_eq!(rt; heads.as_slice(), lines.as_bytes(), "at {text}");
-    Ok(())
+fn is_told(alloc: Global, text: &str, status: u8, lines: &str) -> Result<bool, Memory> {
+    let (found, report) = told(alloc, text.as_bytes())?;
+    let heads = heads(alloc, &report)?;
+    Ok(found == status && heads.as_slice() == lines.as_bytes())
 }
 
 /// Files with a line for each function. What is no function is passed over.
@@ -153,7 +151,7 @@ fn reports(rt: HostRuntime) -> Result<(), Fail> {
         ),
     ];
     for (text, status, lines) in rows {
-        is_told(&rt, text, status, lines)?;
+        assert!(rt; is_told(rt.alloc(), text, status, lines)?, "at {text}");
     }
     Ok(())
 }
