@@ -24,6 +24,8 @@ use std::io::ErrorKind;
 use std::process::ExitCode;
 
 #[cfg(test)]
+mod parse_tests;
+#[cfg(test)]
 mod test_modules;
 #[cfg(test)]
 mod tests;

@@ -32,6 +32,3 @@ mod words;
 
 pub use fault::ParseFault;
 pub use unit::parse;
-
-#[cfg(test)]
-mod tests;

@@ -1,6 +1,8 @@
-use crate::{ParseFault, parse};
+//! Tokens that are a file, and those that are none: a row for each production of the grammar and each near miss.
+
 use pungi_base::words::{PY_DOC_STRVAR, PY_OBJECT, PY_OBJECT_NEW, PY_UNUSED};
 use pungi_base::{Key, Kind, Name, Pos, Punct, Token};
+use pungi_parse::{ParseFault, parse};
 use std::alloc::{AllocError, Global};
 use std::test::Fail;
 
