@@ -45,7 +45,6 @@ IsParseFault ts (parse.Deep at) = too_deep 0 ts ≡ Some at
 IsParseFault ts (parse.NotAUnit at) = (too_deep 0 ts ≡ None) × StopsAt ts at
 
 abbrev pub IsFaultOf : List ℕ → FileFault → Type 0
-IsFaultOf text fault.Memory = ⊥
 IsFaultOf text (fault.Lex found) = HasFault text found
 IsFaultOf text (fault.Macro found) = (names : List (List ℕ)) × (tokens : List Token) × AreTokensOf builtin_words names text tokens × HasMacroFault (length names) tokens found
 IsFaultOf text (fault.Parse found) = (names : List (List ℕ)) × (tokens expanded : List Token) × AreTokensOf builtin_words names text tokens
@@ -74,7 +73,6 @@ told_of_parse (parse.Deep at) = Some (at, codes "nested over 64")
 told_of_parse (parse.NotAUnit at) = Some (at, codes "not a unit")
 
 abbrev pub told_of : FileFault → Option (Pos × List ℕ)
-told_of fault.Memory = None
 told_of (fault.Lex found) = told_of_lex found
 told_of (fault.Macro found) = told_of_macro found
 told_of (fault.Parse found) = told_of_parse found

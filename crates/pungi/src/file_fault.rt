@@ -2,12 +2,9 @@ use pungi_lex::{LexFault, MacroFault};
 use pungi_parse::ParseFault;
 use thiserror::Error;
 
-/// Why the text of a file is refused.
+/// Why the text of a file is refused, or that memory ran out in one of its parts.
 #[derive(Debug, Drop, Error)]
 pub enum FileFault {
-    /// Memory ran out.
-    #[error("out of memory")]
-    Memory,
     /// It has no tokens.
     #[error("{0}")]
     Lex(LexFault),

@@ -1,4 +1,4 @@
-ghost use Rattle.std.specs.Prelude.{None};
+ghost use Rattle.std.specs.Prelude.{◌≡◌, None};
 
 use pungi_base::{Failed, OpenFault, Shelf};
 use std::alloc::Global;
@@ -14,7 +14,11 @@ pub struct FolderShelf<'a> {
 }
 
 impl<'a> FolderShelf<'a> {
-    pub fn new(files: &'a HostRuntime) -> FolderShelf<'a> {
+    /// A shelf that opened no file yet, and where no call failed.
+    pub fn new(files: &'a HostRuntime) -> FolderShelf<'a>
+        ensures opened { result.opened ≡ None }
+        ensures faults { result.faults ≡ 0 }
+    {
         FolderShelf {
             files,
             opened: None,

@@ -1,4 +1,4 @@
-ghost use Rattle.std.specs.Prelude.{None};
+ghost use Rattle.std.specs.Prelude.{◌≡◌, None};
 
 use pungi_base::{Failed, Sink};
 use std::io::{Stdout, Write};
@@ -11,7 +11,10 @@ pub struct OutSink {
 }
 
 impl OutSink {
-    pub fn new(out: Stdout) -> OutSink {
+    /// A sink where no call failed yet.
+    pub fn new(out: Stdout) -> OutSink
+        ensures { result.faults ≡ 0 }
+    {
         OutSink { out, faults: 0 }
     }
 }

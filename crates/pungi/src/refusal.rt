@@ -49,7 +49,6 @@ fn told(fault: &FileFault) -> Option<(Pos, &'static str)>
     ensures { option_map (λ x. (x.0, x.1.now)) result ≡ told_of fault.now }
 {
     match fault {
-        FileFault::Memory => None,
         FileFault::Lex(fault) => told_by_lex(fault),
         FileFault::Macro(fault) => told_by_expand(fault),
         FileFault::Parse(fault) => told_by_parse(fault),

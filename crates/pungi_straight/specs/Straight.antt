@@ -10,7 +10,7 @@
 --   variable_of, local_of             the name of a local variable without a first value
 --   are_none              no arguments
 --   number_of, argument_of, only_argument    an integer constant of type `int`, and the one argument of a call
---   named_call, call_of, source_of    a call by a name with one argument; what is assigned or returned
+--   named_call, source_of    a call by a name with one argument; what is assigned or returned
 --   assignment_of, expression_of, returned_of, statement_of    a statement
 --   locals_of ss          the local variables that a block begins with, and the statements behind them
 --   statements_of         statements
@@ -107,10 +107,6 @@ only_argument (expr_and e es) = if are_none es then argument_of e else None
 abbrev pub named_call : Expr → Exprs → Option Call
 named_call (word q n) es = only_argument es >>= λ a. Some (record { pos = q; name = n; args = a ∷ [] })
 named_call _ es = None
-
-abbrev pub call_of : Expr → Option Call
-call_of (call p f es) = named_call f es
-call_of _ = None
 
 abbrev pub source_of : Expr → Option Source
 source_of (word p n) = Some (source.Word n)
