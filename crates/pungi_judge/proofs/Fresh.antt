@@ -18,7 +18,7 @@ use Rattle.pungi_world.specs.declared.content.Content.TheVariants.{Unset}
 use Rattle.pungi_world.specs.declared.world.World.{World}
 use Rattle.pungi_world.specs.declared.slot.SlotState.{SlotState}
 use Rattle.pungi_world.specs.World.{untouched, account_of, world_at}
-use Rattle.pungi_world.specs.Escapes.{is_object, is_returned, holds_object, held_now, held_at_entry, IsLevel, IsBalanced}
+use Rattle.pungi_world.specs.Escapes.{is_this_object, is_returned, holds_object, held_now, held_at_entry, IsLevel, IsBalanced}
 use Rattle.pungi_judge.specs.Meaning.{Ending, Returned, Stopped, NeedsChoice, run_of, moment_at, passed, EndsBalanced, IsEntry, IsPointer, IsClean}
 use Rattle.pungi_straight.specs.declared.function.Function.{Function}
 use Rattle.pungi_base.specs.declared.words.TheConstants.{STATICS}
@@ -46,11 +46,11 @@ total_returned : (names : List ℕ) (fresh : World) (returned fresh_returned : O
 total_returned names fresh None None o e same h = total_none names fresh.accounts o h
 total_returned names fresh (Some y) None o e same h = absurd same
 total_returned names fresh None (Some x) o e same h = absurd same
-total_returned names fresh (Some y) (Some value.Null) o e same h = total_none names fresh.accounts o h ∙ ap (λ (v : Value). one_if (is_object v o)) (sym same.1)
-total_returned names fresh (Some y) (Some (value.Int n)) o e same h = total_none names fresh.accounts o h ∙ ap (λ (v : Value). one_if (is_object v o)) (sym same.1)
-total_returned names fresh (Some y) (Some value.Text) o e same h = total_none names fresh.accounts o h ∙ ap (λ (v : Value). one_if (is_object v o)) (sym same.1)
+total_returned names fresh (Some y) (Some value.Null) o e same h = total_none names fresh.accounts o h ∙ ap (λ (v : Value). one_if (is_this_object v o)) (sym same.1)
+total_returned names fresh (Some y) (Some (value.Int n)) o e same h = total_none names fresh.accounts o h ∙ ap (λ (v : Value). one_if (is_this_object v o)) (sym same.1)
+total_returned names fresh (Some y) (Some value.Text) o e same h = total_none names fresh.accounts o h ∙ ap (λ (v : Value). one_if (is_this_object v o)) (sym same.1)
 total_returned names fresh (Some y) (Some (value.Object t)) o e same h =
-    total_one names fresh.accounts t o e (omega (arith, same.0, e)) h ∙ one_at (get_or names t 0) o (get_or names t 0 == o) ∙ ap (λ (v : Value). one_if (is_object v o)) (sym same.1)
+    total_one names fresh.accounts t o e (omega (arith, same.0, e)) h ∙ one_at (get_or names t 0) o (get_or names t 0 == o) ∙ ap (λ (v : Value). one_if (is_this_object v o)) (sym same.1)
 
 -- where the run with different objects is balanced, the other is
 pub balanced_same : (names : List ℕ) (fresh world : World) (fresh_returned returned : Option Value) → AreSameWorlds names fresh world → SameReturned names fresh_returned returned → IsBalanced fresh fresh_returned → IsBalanced world returned

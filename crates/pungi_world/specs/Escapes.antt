@@ -1,6 +1,6 @@
 -- The references that escaped in a run, and when a return is balanced (Li and Tan, ECOOP 2014; the list of escapes is
 -- this project's own).
---   is_object value object          a value is this object
+--   is_this_object value object          a value is this object
 --   is_returned value object        it is what a function returns
 --   holds_object content object     it is what a variable or slot holds
 --   held_now, held_at_entry         how many touched slots hold the object now, and held it at entry
@@ -16,19 +16,19 @@ use Rattle.pungi_world.specs.declared.content.Content.TheVariants.{Unset, Holds}
 use Rattle.pungi_world.specs.declared.world.World.{World}
 use Rattle.pungi_world.specs.World.{account_of}
 
-abbrev pub is_object : Value → ℕ → Bool
-is_object (Object k) object = k == object
-is_object Null object = false
-is_object (Int n) object = false
-is_object Text object = false
+abbrev pub is_this_object : Value → ℕ → Bool
+is_this_object (Object k) object = k == object
+is_this_object Null object = false
+is_this_object (Int n) object = false
+is_this_object Text object = false
 
 abbrev pub is_returned : Option Value → ℕ → Bool
 is_returned None object = false
-is_returned (Some value) object = is_object value object
+is_returned (Some value) object = is_this_object value object
 
 abbrev pub holds_object : Content → ℕ → Bool
 holds_object Unset object = false
-holds_object (Holds value) object = is_object value object
+holds_object (Holds value) object = is_this_object value object
 
 abbrev pub held_now : World → ℕ → ℕ
 held_now w object = count_by (λ s. holds_object s.held object) w.slots

@@ -1,11 +1,11 @@
 ghost use Rattle.std.specs.Prelude.{◌≡◌, ℕ, ◌<◌, ◌≤◌, ◌-◌, ◌^◌, pos, negsuc, ◌≤ℤ◌, ◌+ℤ◌, ◌-ℤ◌, if◌then◌else◌, length, count_by, IsTrue, ◌↔◌, IfNone, IfSome};
-ghost use Rattle.pungi_world.specs.Escapes.{is_object, is_returned, holds_object, escaped_of, IsLevel, IsBalanced, IsCountable};
+ghost use Rattle.pungi_world.specs.Escapes.{is_this_object, is_returned, holds_object, escaped_of, IsLevel, IsBalanced, IsCountable};
 
 use crate::{Account, Content, SlotState, World};
 use pungi_base::Value;
 
 fn is_value_object(value: &Value, object: u32) -> bool
-    ensures { result ≡ is_object value.now object }
+    ensures { result ≡ is_this_object value.now object }
 {
     match value {
         Value::Object(k) => *k == object,

@@ -1,4 +1,5 @@
 ghost use Rattle.std.specs.Prelude.{◌≡◌, IfOk};
+ghost use Rattle.pungi_world.specs.Counts.{AreWithin};
 ghost use Rattle.pungi_world.specs.World.{world_at};
 
 use crate::{Account, SlotState};
@@ -15,7 +16,8 @@ pub struct World {
 impl World {
     /// The world at the start of a run: every object is there, none is changed, and no slot was touched.
     pub fn start(alloc: Global, entry: &Entry) -> Result<World, Memory>
-        ensures { IfOk result (λ world. world ≡ world_at entry.now) }
+        ensures world { IfOk result (λ world. world ≡ world_at entry.now) }
+        ensures within { IfOk result (λ world. AreWithin 0 world) }
     {
         let untouched = Account {
             change: 0,
