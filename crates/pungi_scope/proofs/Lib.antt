@@ -1,0 +1,4 @@
+pub mod DropLemmas
+pub mod FrameLemmas
+pub mod ScopeLemmas
+pub mod StmtViews

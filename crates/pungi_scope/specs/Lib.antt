@@ -1,0 +1,4 @@
+pub mod LocalLog
+pub mod ScopeEnv
+pub mod Frames
+pub mod CasesView

@@ -1,0 +1,22 @@
+//! What a function's statements make of the rules: the names in force at each place, labels, cases, and the sizes of a
+//! function.
+#![tactic(auto)]
+
+mod cases;
+mod decl;
+mod expr_nodes;
+mod function;
+mod labels;
+mod local_names;
+mod nodes;
+mod params;
+mod scope;
+mod steps;
+mod stmt;
+mod walk;
+mod words;
+
+pub use cases::constant;
+pub use function::refusal;
+pub use local_names::LocalNames;
+pub use scope::Scope;

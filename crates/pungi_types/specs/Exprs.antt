@@ -1,0 +1,464 @@
+-- The kind of an expression, and where each rule holds in it (C11 6.5; Python/C API Reference Manual 3.11).
+--   meaning_kind, is_slot, is_place env e    the kind of a word; what may be assigned to
+--   names_type_object, names_module, is_address, is_module_address    what stands behind an `&`
+--   kind_want, param_want, answer_kind, param_kind, param_wants, params_wants, special_kind    what arguments are to be, and what calls answer
+--   Callee              what stands before the parenthesis of a call
+--   value_or_none, row_or, defined_or, local_called_or, callee_of, callee env f    how it is found
+--   row_wants, wants env c, row_kind, is_refused, result_kind env c, takes_arguments    what a callee takes and answers
+--   want_met, is_word, wants_module, other_wants, is_done, first_met    an argument is what it is to be
+--   is_bad_int, int_kind, step_kind, unary_kind, binary_kind, assign_kind, cond_kind, cast_kind    the kind of an expression from those of its operands
+--   kind_of env e, are_met env ws es    the kind of an expression; as many arguments as are wanted, and each fits
+--   void_call, when_some, used env e    the value of a Void call is used
+--   type_name_pos t     where a type's name begins
+--   n1 n2 n3 n4 n5 n9 n10 n12 n13 n14    where a rule holds in the expression's own node
+--   is_left_out, is_function_meaning, crosses, is_unknown, is_unknown_call, is_value_called, unary_wrong, binary_wrong, assign_wrong, cond_wrong, cast_wrong,
+--   is_step_or_sign     what the rules ask
+--   node_findings, expr_findings env e, args_findings, arg_findings, called_findings, cast_findings    where a rule holds in an expression, and in its parts
+use Rattle.std.specs.Prelude.{ℕ, ℤ, pos, int_lt, ◌==◌, Bool, true, false, ◌&&◌, ◌||◌, not, List, [], ◌∷◌, length, map, Option, Some, None, is_some, is_none, if◌then◌else◌}
+use Rattle.pungi_base.specs.declared.pos.Pos.{Pos}
+use Rattle.pungi_base.specs.declared.punct.Punct.{Punct}
+use Rattle.pungi_tree.specs.Syntax.{Expr, word, int, float, char, text, null, paren, unary, post, binary, assign, conditional, comma, cast, size_of_type, call, new, index, dot, arrow, Exprs, no_exprs, expr_and, TypeName, type_name, Spec, spec, Params, params, param_decl, ParamDecls, no_params, param_and, ParamDeclr, named, bare, unused, Item}
+use Rattle.pungi_api.specs.declared.param.Param.{Param}
+use Rattle.pungi_api.specs.declared.param.Param.TheVariants as takes
+use Rattle.pungi_api.specs.declared.answer.Answer.{Answer}
+use Rattle.pungi_api.specs.declared.answer.Answer.TheVariants as answers
+use Rattle.pungi_api.specs.declared.row.Form.{Form}
+use Rattle.pungi_api.specs.declared.row.Form.TheVariants as forms
+use Rattle.pungi_api.specs.declared.special.Special.{Special}
+use Rattle.pungi_api.specs.declared.special.Special.TheVariants as specials
+use Rattle.pungi_api.specs.declared.row.Row.{Row}
+use Rattle.pungi_api.specs.Rows.{row_in}
+use Rattle.pungi_types.specs.Files.{Definition, definitions, definition_in}
+use Rattle.pungi_types.specs.Kinds.{type_kind, not_void, declared_kind, type_name_kind, field_kind, spec_base}
+use Rattle.pungi_types.specs.Names.{Env, Meaning, a_local, a_function, a_global, a_static, unknown, meaning_of, local_in, is_among, is_type_object, is_module, global_kind, is_plain_static}
+use Rattle.pungi_types.specs.declared.local.Local.{Local}
+use Rattle.pungi_types.specs.Findings.{Findings, nothing_found, ◌and◌, when}
+use Rattle.pungi_types.specs.Operators.{is_bits, is_arithmetic, is_order, is_equality, is_bits_assign, is_arithmetic_assign, prefix_of, on_pointers, assigns_pointers, is_integer, is_pointer, is_void, wider, fits, comparable, joinable, joined, both_known}
+use Rattle.pungi_types.specs.declared.lookup.Want.{Want}
+use Rattle.pungi_types.specs.declared.operator.Prefix.{Prefix}
+use Rattle.pungi_types.specs.declared.operator.Prefix.TheVariants as prefixes
+use Rattle.pungi_types.specs.declared.lookup.Want.TheVariants as wanted
+use Rattle.pungi_types.specs.declared.kind.ValueKind.{ValueKind}
+use Rattle.pungi_types.specs.declared.kind.ValueKind.TheVariants as kinds
+
+-- .. words
+abbrev pub meaning_kind : Meaning → Option ValueKind
+meaning_kind (a_local l) = l.kind
+meaning_kind (a_global k) = Some k
+meaning_kind (a_static n) = Some (kinds.Object None)
+meaning_kind _ = None
+
+abbrev pub is_slot : Meaning → Bool
+is_slot (a_local l) = true
+is_slot (a_global k) = true
+is_slot _ = false
+
+-- what may be assigned to: a local, a global of a kind, or a field
+abbrev pub is_place : Env → Expr → Bool
+is_place env (word p n) = is_slot (meaning_of env n.0)
+is_place env (arrow p e n) = true
+is_place env _ = false
+
+-- a type object, behind an `&`
+abbrev pub names_type_object : Env → Expr → Bool
+names_type_object env (word p n) = is_none (local_in env.locals n.0) && is_type_object env.file n.0
+names_type_object env _ = false
+
+-- `&` of a module table
+abbrev pub names_module : Env → Expr → Bool
+names_module env (word p n) = is_none (local_in env.locals n.0) && is_module env.file n.0
+names_module env _ = false
+
+abbrev pub is_address : Prefix → Bool
+is_address prefixes.Address = true
+is_address _ = false
+
+abbrev pub is_module_address : Env → Expr → Bool
+is_module_address env (unary p k e) = is_address (prefix_of k) && names_module env e
+is_module_address env _ = false
+
+-- .. calls
+abbrev pub kind_want : Option ValueKind → Want
+kind_want None = wanted.Anything
+kind_want (Some k) = wanted.OfKind k
+
+abbrev pub param_want : Param → Want
+param_want takes.Object = wanted.OfKind (kinds.Object None)
+param_want takes.ObjectOrNull = wanted.OfKind (kinds.Object None)
+param_want takes.Int = wanted.OfKind kinds.Int
+param_want takes.Long = wanted.OfKind kinds.Long
+param_want takes.Size = wanted.OfKind kinds.Size
+param_want takes.Text = wanted.OfKind kinds.Text
+param_want takes.TextOrNull = wanted.OfKind kinds.Text
+param_want takes.ModuleDef = wanted.ModuleTable
+
+abbrev pub answer_kind : Answer → ValueKind
+answer_kind answers.New = kinds.Object None
+answer_kind answers.Borrowed = kinds.Object None
+answer_kind answers.BorrowedSure = kinds.Object None
+answer_kind answers.Status = kinds.Int
+answer_kind answers.Truth = kinds.Int
+answer_kind answers.Size = kinds.Size
+answer_kind answers.Int = kinds.Int
+answer_kind answers.Long = kinds.Long
+answer_kind answers.Text = kinds.Text
+answer_kind answers.Void = kinds.Void
+answer_kind answers.Null = kinds.Object None
+
+abbrev pub param_kind : List Item → Spec → ParamDeclr → Option ValueKind
+param_kind file s (named d) = declared_kind file s d
+param_kind file s (bare stars) = not_void (type_kind file (spec_base s) (length stars))
+param_kind file s (unused stars n p) = not_void (type_kind file (spec_base s) (length stars))
+
+abbrev pub param_wants : List Item → ParamDecls → List Want
+param_wants file no_params = []
+param_wants file (param_and (param_decl qs s d) ds) = kind_want (param_kind file s d) ∷ param_wants file ds
+
+abbrev pub params_wants : List Item → Params → List Want
+params_wants file (params ds v dots) = param_wants file ds
+
+abbrev pub special_kind : Special → ValueKind
+special_kind specials.NewRef = kinds.Object None
+special_kind specials.XNewRef = kinds.Object None
+special_kind _ = kinds.Void
+
+-- what stands before the parenthesis of a call
+pub data Callee : Type 0 where
+  no_word : Callee
+  a_value : Callee
+  defined : Definition → Callee
+  a_row : Row → Callee
+  no_function : Callee
+
+abbrev pub value_or_none : List Item → ℕ → Callee
+value_or_none file w = (if is_some (global_kind file w) || is_plain_static w then a_value else no_function)
+
+abbrev pub row_or : List Item → ℕ → Option Row → Callee
+row_or file w (Some r) = a_row r
+row_or file w None = value_or_none file w
+
+abbrev pub defined_or : Env → ℕ → Option Definition → Callee
+defined_or env w (Some d) = defined d
+defined_or env w None = row_or env.file w (row_in env.table w)
+
+abbrev pub local_called_or : Env → ℕ → Option Local → Callee
+local_called_or env w (Some l) = a_value
+local_called_or env w None = defined_or env w (definition_in (definitions env.file) w)
+
+abbrev pub callee_of : Env → ℕ → Callee
+callee_of env w = local_called_or env w (local_in env.locals w)
+
+abbrev pub callee : Env → Expr → Callee
+callee env (word p n) = callee_of env n.0
+callee env _ = no_word
+
+abbrev pub row_wants : Form → List Param → List Want
+row_wants forms.Plain ps = map param_want ps
+row_wants (forms.Special s) ps = wanted.OfKind (kinds.Object None) ∷ []
+
+abbrev pub wants : Env → Callee → List Want
+wants env (defined d) = params_wants env.file d.params
+wants env (a_row r) = row_wants r.form r.params
+wants env _ = []
+
+abbrev pub row_kind : Form → Answer → ValueKind
+row_kind forms.Plain a = answer_kind a
+row_kind (forms.Special s) a = special_kind s
+
+-- another function that is itself refused
+abbrev pub is_refused : Env → Definition → Bool
+is_refused env d = not (d.name.0 == env.self) && is_among env.refused d.name.0
+
+abbrev pub result_kind : Env → Callee → Option ValueKind
+result_kind env (defined d) = (if is_refused env d then None else type_kind env.file (spec_base d.result) d.stars)
+result_kind env (a_row r) = Some (row_kind r.form r.answer)
+result_kind env _ = None
+
+abbrev pub takes_arguments : Callee → Bool
+takes_arguments (defined d) = true
+takes_arguments (a_row r) = true
+takes_arguments _ = false
+
+-- an argument of a kind is no Void, and fits
+abbrev pub want_met : Want → Bool → Option ValueKind → Bool
+want_met wanted.Anything m k = not (is_void k)
+want_met (wanted.OfKind w) m k = is_none k || fits (Some w) k
+want_met wanted.ModuleTable m k = m || is_none k
+
+abbrev pub is_word : Expr → Bool
+is_word (word p n) = true
+is_word _ = false
+
+abbrev pub wants_module : List Want → Bool
+wants_module (wanted.ModuleTable ∷ ws) = true
+wants_module _ = false
+
+abbrev pub other_wants : List Want → List Want
+other_wants [] = []
+other_wants (w ∷ ws) = ws
+
+abbrev pub is_done : List Want → Bool
+is_done [] = true
+is_done (w ∷ ws) = false
+
+abbrev pub first_met : List Want → Bool → Option ValueKind → Bool
+first_met [] m k = false
+first_met (w ∷ ws) m k = want_met w m k
+
+-- .. the kind of an expression, from the kinds of its operands; none where a rule holds in its own node
+-- marked unsigned, too large, or below 0, which no text spells
+abbrev pub is_bad_int : ℤ → Bool → Bool
+is_bad_int v u = u || (int_lt v (pos 0) || int_lt (pos 9223372036854775807) v)
+
+abbrev pub int_kind : ℤ → Bool → Bool → Option ValueKind
+int_kind v l u = (if is_bad_int v u then None else (if l then Some kinds.Long else Some kinds.Int))
+
+abbrev pub step_kind : Bool → Option ValueKind → Option ValueKind
+step_kind place k = (if place && is_integer k then k else None)
+
+abbrev pub unary_kind : Prefix → Bool → Bool → Option ValueKind → Option ValueKind
+unary_kind prefixes.Address type_object place k = (if type_object then Some (kinds.Object None) else None)
+unary_kind prefixes.Step type_object place k = step_kind place k
+unary_kind prefixes.Sign type_object place k = (if is_integer k then Some (wider k k) else None)
+unary_kind prefixes.Negation type_object place k = (if is_integer k || is_pointer k then Some kinds.Int else None)
+unary_kind prefixes.LeftOut type_object place k = None
+
+abbrev pub binary_kind : Punct → Option ValueKind → Option ValueKind → Option ValueKind
+binary_kind m a b =
+    (if is_bits m then None else
+    (if is_arithmetic m then (if is_integer a && is_integer b then Some (wider a b) else None) else
+    (if is_order m then (if is_integer a && is_integer b then Some kinds.Int else None) else
+    (if is_equality m then (if comparable a b then Some kinds.Int else None) else
+    (if (is_integer a || is_pointer a) && (is_integer b || is_pointer b) then Some kinds.Int else None)))))
+
+abbrev pub assign_kind : Punct → Bool → Option ValueKind → Option ValueKind → Option ValueKind
+assign_kind m place a b =
+    (if is_bits_assign m then None else
+    (if is_arithmetic_assign m then (if place && (is_integer a && is_integer b) then a else None) else
+    (if place && fits a b then a else None)))
+
+abbrev pub cond_kind : Option ValueKind → Option ValueKind → Option ValueKind → Option ValueKind
+cond_kind c a b = (if not (is_void c) && (both_known a b && joinable a b) then joined a b else None)
+
+-- a cast to `void` takes wanted.Anything
+abbrev pub cast_kind : Option ValueKind → Option ValueKind → Option ValueKind
+cast_kind to k = (if is_void to || fits to k then to else None)
+
+abbrev mutual
+  pub kind_of : Env → Expr → Option ValueKind
+  kind_of env (word p n) = meaning_kind (meaning_of env n.0)
+  kind_of env (int p v l u) = int_kind v l u
+  kind_of env (float p) = None
+  kind_of env (char p c) = Some kinds.Int
+  kind_of env (text p ns) = Some kinds.Text
+  kind_of env (null p) = Some kinds.Null
+  kind_of env (paren p e) = kind_of env e
+  kind_of env (unary p k e) = unary_kind (prefix_of k) (names_type_object env e) (is_place env e) (kind_of env e)
+  kind_of env (post p m e) = step_kind (is_place env e) (kind_of env e)
+  kind_of env (binary p m a b) = binary_kind m (kind_of env a) (kind_of env b)
+  kind_of env (assign p m a b) = assign_kind m (is_place env a) (kind_of env a) (kind_of env b)
+  kind_of env (conditional p c a b) = cond_kind (kind_of env c) (kind_of env a) (kind_of env b)
+  kind_of env (comma p a b) = None
+  kind_of env (cast p t e) = cast_kind (type_name_kind env.file t) (kind_of env e)
+  kind_of env (size_of_type p t) = None
+  kind_of env (call p f es) = (if is_word f && are_met env (wants env (callee env f)) es then result_kind env (callee env f) else None)
+  kind_of env (new p t e) = None
+  kind_of env (index p a b) = None
+  kind_of env (dot p e n) = None
+  kind_of env (arrow p e n) = field_kind env.file (kind_of env e) n.0
+
+  -- as many arguments as are wanted, and each fits
+  pub are_met : Env → List Want → Exprs → Bool
+  are_met env ws no_exprs = is_done ws
+  are_met env ws (expr_and e es) = first_met ws (is_module_address env e) (kind_of env e) && are_met env (other_wants ws) es
+
+-- .. where the rules hold
+-- the place of a call, also in parentheses
+abbrev pub void_call : Expr → Option Pos
+void_call (paren p e) = void_call e
+void_call (call p f es) = Some p
+void_call _ = None
+
+abbrev pub when_some : Bool → Option Pos → ℕ → Findings
+when_some b None n = nothing_found
+when_some b (Some p) n = when b p n
+
+-- N10: the value of a Void call is used
+abbrev pub used : Env → Expr → Findings
+used env e = when_some (is_void (kind_of env e)) (void_call e) 10
+
+abbrev pub type_name_pos : TypeName → Pos
+type_name_pos (type_name (spec p b c) stars) = p
+
+-- N1: a cast to a type of no kind
+abbrev pub n1 : Env → Expr → Findings
+n1 env (cast p t e) = when (is_none (type_name_kind env.file t)) (type_name_pos t) 1
+n1 env _ = nothing_found
+
+abbrev pub is_left_out : Prefix → Bool
+is_left_out prefixes.LeftOut = true
+is_left_out _ = false
+
+-- N2: an operator or constant that the subset leaves out
+abbrev pub n2 : Env → Expr → Findings
+n2 env (float p) = when true p 2
+n2 env (unary p k e) = when (is_left_out (prefix_of k)) p 2
+n2 env (binary p m a b) = when (is_bits m) p 2
+n2 env (assign p m a b) = when (is_bits_assign m) p 2
+n2 env (comma p a b) = when true p 2
+n2 env (size_of_type p t) = when true p 2
+n2 env (index p a b) = when true p 2
+n2 env (dot p e n) = when true p 2
+n2 env _ = nothing_found
+
+abbrev pub is_function_meaning : Meaning → Bool
+is_function_meaning a_function = true
+is_function_meaning _ = false
+
+-- N3: a call of what is no word, and a function's name that isn't called
+abbrev pub n3 : Env → Expr → Findings
+n3 env (call p f es) = when (not (is_word f)) p 3
+n3 env (word p n) = when (is_function_meaning (meaning_of env n.0)) p 3
+n3 env _ = nothing_found
+
+-- N4: a cast between an integer and a pointer
+abbrev pub crosses : Option ValueKind → Option ValueKind → Bool
+crosses a b = (is_integer a && is_pointer b) || (is_pointer a && is_integer b)
+
+abbrev pub n4 : Env → Expr → Findings
+n4 env (cast p t e) = when (crosses (type_name_kind env.file t) (kind_of env e)) p 4
+n4 env _ = nothing_found
+
+-- N5: an address of what is no static type object (output arguments and module tables are no expressions of their own)
+abbrev pub n5 : Env → Expr → Findings
+n5 env (unary p k e) = when (is_address (prefix_of k) && not (names_type_object env e)) p 5
+n5 env _ = nothing_found
+
+abbrev pub is_unknown : Meaning → Bool
+is_unknown unknown = true
+is_unknown _ = false
+
+abbrev pub is_unknown_call : Env → Callee → Bool
+is_unknown_call env no_function = true
+is_unknown_call env (defined d) = is_refused env d
+is_unknown_call env _ = false
+
+-- N9: a name that is none of those that may be used, and a call of another function that is refused
+abbrev pub n9 : Env → Expr → Findings
+n9 env (word p n) = when (is_unknown (meaning_of env n.0)) p 9
+n9 env (call p f es) = when (is_unknown_call env (callee env f)) p 9
+n9 env (new p t e) = when true p 9
+n9 env _ = nothing_found
+
+abbrev pub is_value_called : Callee → Bool
+is_value_called a_value = true
+is_value_called _ = false
+
+abbrev pub unary_wrong : Prefix → Bool → Option ValueKind → Bool
+unary_wrong prefixes.Step place k = is_void k || (is_integer k && not place)
+unary_wrong prefixes.Sign place k = is_void k
+unary_wrong prefixes.Negation place k = is_void k
+unary_wrong _ place k = false
+
+abbrev pub binary_wrong : Punct → Option ValueKind → Option ValueKind → Bool
+binary_wrong m a b =
+    not (is_bits m) && (is_void a || (is_void b ||
+    ((is_order m && (is_pointer a || is_pointer b)) || (is_equality m && (both_known a b && not (comparable a b))))))
+
+-- of a pointer operand of `+=` and its kin only N13 is asked
+abbrev pub assign_wrong : Punct → Bool → Option ValueKind → Option ValueKind → Bool
+assign_wrong m place a b =
+    not (is_bits_assign m) && ((is_some a && (not place && not (is_arithmetic_assign m && is_pointer a))) || (is_void b ||
+    (not (is_arithmetic_assign m) && (place && (both_known a b && not (fits a b))))))
+
+abbrev pub cond_wrong : Option ValueKind → Option ValueKind → Option ValueKind → Bool
+cond_wrong c a b = is_void c || (is_void a || (is_void b || (both_known a b && not (joinable a b))))
+
+abbrev pub cast_wrong : Option ValueKind → Option ValueKind → Bool
+cast_wrong to k = is_some to && (not (is_void to) && (is_void k || (is_some k && (not (crosses to k) && not (fits to k)))))
+
+-- N10: a wrong kind or number of operands or arguments, at the node; and a used value of a Void call, at that call
+abbrev pub n10 : Env → Expr → Findings
+n10 env (unary p k e) = when (unary_wrong (prefix_of k) (is_place env e) (kind_of env e)) p 10 and used env e
+n10 env (post p m e) = when (unary_wrong prefixes.Step (is_place env e) (kind_of env e)) p 10 and used env e
+n10 env (binary p m a b) = when (binary_wrong m (kind_of env a) (kind_of env b)) p 10 and (used env a and used env b)
+n10 env (assign p m a b) = when (assign_wrong m (is_place env a) (kind_of env a) (kind_of env b)) p 10 and (used env a and used env b)
+n10 env (conditional p c a b) = when (cond_wrong (kind_of env c) (kind_of env a) (kind_of env b)) p 10 and (used env c and (used env a and used env b))
+n10 env (cast p t e) =
+    when (cast_wrong (type_name_kind env.file t) (kind_of env e)) p 10 and (if is_void (type_name_kind env.file t) then nothing_found else used env e)
+n10 env (call p f es) =
+    when (is_value_called (callee env f) || (takes_arguments (callee env f) && not (are_met env (wants env (callee env f)) es))) p 10
+n10 env (index p a b) = used env a and used env b
+n10 env (dot p e n) = used env e
+n10 env (arrow p e n) = used env e
+n10 env _ = nothing_found
+
+-- N12: a field that isn't there or has no kind, or a base that is no pointer to an object struct
+abbrev pub n12 : Env → Expr → Findings
+n12 env (arrow p e n) = when (is_none (field_kind env.file (kind_of env e) n.0)) p 12
+n12 env _ = nothing_found
+
+abbrev pub is_step_or_sign : Prefix → Bool
+is_step_or_sign prefixes.Step = true
+is_step_or_sign prefixes.Sign = true
+is_step_or_sign _ = false
+
+-- N13: arithmetic on a pointer
+abbrev pub n13 : Env → Expr → Findings
+n13 env (unary p k e) = when (is_step_or_sign (prefix_of k) && is_pointer (kind_of env e)) p 13
+n13 env (post p m e) = when (is_pointer (kind_of env e)) p 13
+n13 env (binary p m a b) = when (on_pointers m (kind_of env a) (kind_of env b)) p 13
+n13 env (assign p m a b) = when (assigns_pointers m (kind_of env a) (kind_of env b)) p 13
+n13 env _ = nothing_found
+
+-- N14: a constant that is marked unsigned or that no long holds
+abbrev pub n14 : Env → Expr → Findings
+n14 env (int p v l u) = when (is_bad_int v u) p 14
+n14 env _ = nothing_found
+
+-- where a rule holds in the expression's own node
+abbrev pub node_findings : Env → Expr → Findings
+node_findings env e = n1 env e and (n2 env e and (n3 env e and (n4 env e and (n5 env e and (n9 env e and (n10 env e and (n12 env e and (n13 env e and n14 env e))))))))
+
+abbrev mutual
+  -- where a rule holds in an expression; a word that is called is looked at by the call alone
+  pub expr_findings : Env → Expr → Findings
+  expr_findings env (word p n) = node_findings env (word p n)
+  expr_findings env (int p v l u) = node_findings env (int p v l u)
+  expr_findings env (float p) = node_findings env (float p)
+  expr_findings env (char p c) = nothing_found
+  expr_findings env (text p ns) = nothing_found
+  expr_findings env (null p) = nothing_found
+  expr_findings env (paren p e) = expr_findings env e
+  expr_findings env (unary p k e) = (if is_address (prefix_of k) && names_type_object env e then nothing_found else expr_findings env e) and node_findings env (unary p k e)
+  expr_findings env (post p m e) = expr_findings env e and node_findings env (post p m e)
+  expr_findings env (binary p m a b) = expr_findings env a and (expr_findings env b and node_findings env (binary p m a b))
+  expr_findings env (assign p m a b) = expr_findings env a and (expr_findings env b and node_findings env (assign p m a b))
+  expr_findings env (conditional p c a b) = expr_findings env c and (expr_findings env a and (expr_findings env b and node_findings env (conditional p c a b)))
+  expr_findings env (comma p a b) = expr_findings env a and (expr_findings env b and node_findings env (comma p a b))
+  expr_findings env (cast p t e) = expr_findings env e and node_findings env (cast p t e)
+  expr_findings env (size_of_type p t) = node_findings env (size_of_type p t)
+  expr_findings env (call p f es) = args_findings env (wants env (callee env f)) es and ((if is_word f then nothing_found else expr_findings env f) and node_findings env (call p f es))
+  expr_findings env (new p t e) = expr_findings env e and node_findings env (new p t e)
+  expr_findings env (index p a b) = expr_findings env a and (expr_findings env b and node_findings env (index p a b))
+  expr_findings env (dot p e n) = expr_findings env e and node_findings env (dot p e n)
+  expr_findings env (arrow p e n) = expr_findings env e and node_findings env (arrow p e n)
+
+  -- the address of a module table is looked at by its call alone
+  pub args_findings : Env → List Want → Exprs → Findings
+  args_findings env ws no_exprs = nothing_found
+  args_findings env ws (expr_and e es) =
+      (if wants_module ws && is_module_address env e then nothing_found else expr_findings env e and used env e) and args_findings env (other_wants ws) es
+
+-- where a rule holds in an argument
+abbrev pub arg_findings : Bool → Env → Expr → Findings
+arg_findings skipped env e = (if skipped then nothing_found else expr_findings env e and used env e)
+
+abbrev pub called_findings : Env → Expr → Findings
+called_findings env f = (if is_word f then nothing_found else expr_findings env f)
+
+-- where a rule holds in the node of a cast to this kind, over an operand of this kind
+abbrev pub cast_findings : Option ValueKind → Pos → TypeName → Option ValueKind → Expr → Findings
+cast_findings to p t k e =
+    when (is_none to) (type_name_pos t) 1 and (when (crosses to k) p 4 and (when (cast_wrong to k) p 10 and
+    (if is_void to then nothing_found else when_some (is_void k) (void_call e) 10)))

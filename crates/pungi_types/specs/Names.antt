@@ -1,0 +1,138 @@
+-- What a word means at its place in a function (C11 6.2.1, 6.2.2).
+--   Env                 where an expression stands: the file, the rows, the function's name, the refused functions, and the locals, the innermost and latest first
+--   is_among ws w, with_word ws w    a word is among these; these, with one more at the end where it wasn't among them
+--   is_table_type, is_table_core, is_core, is_no_function, is_table file v, is_single file w v    a variable without stars of one of the five table types
+--   global_in, global_kind file w    the kind of the first variable of this name that is no table
+--   type_objects_in, type_objects file    the names of the file's static type objects, each once, by first declaration
+--   module_in, is_module file w    a table of type `PyModuleDef`
+--   is_some_definition, is_function file w    a function, defined or only declared
+--   is_plain_static w, is_type_object file w, is_static file w    an object that is there before any run; one that is used with `&`; either
+--   place_among ws w, static_number file w    the number of a static's object
+--   local_in ls w       the latest local of a name
+--   Meaning             what a word that stands as a value is
+--   static_or_unknown, global_or, local_or, meaning_of env w    what it is: a local, else a function, else a global of a kind, else a static
+use Rattle.std.specs.Prelude.{ℕ, ◌+◌, ◌-◌, ◌==◌, nat_le, Bool, true, false, ◌&&◌, ◌||◌, not, List, [], ◌∷◌, ◌++◌, Option, Some, None, if◌then◌else◌}
+use Rattle.std.specs.List.{list_any}
+use Rattle.pungi_tree.specs.Syntax.{Tail, sizes, function, Item}
+use Rattle.pungi_base.specs.declared.words.TheConstants.{PY_TYPE_OBJECT}
+use Rattle.pungi_types.specs.declared.type_words.TheConstants.{PY_METHOD_DEF, PY_MODULE_DEF, PY_MEMBER_DEF, PY_GET_SET_DEF, FIRST_STATIC, FIRST_TYPE_OBJECT, STATICS_END}
+use Rattle.pungi_api.specs.declared.row.Row.{Row}
+use Rattle.pungi_types.specs.Files.{Variable, variables_of, definitions, definition_in, prototypes, is_place_in, declr_name, declr_stars, declr_tail, is_plain_tail, Definition}
+use Rattle.pungi_types.specs.Kinds.{Core, builtin, core_of, spec_base, declared_kind}
+use Rattle.pungi_types.specs.declared.kind.ValueKind.{ValueKind}
+use Rattle.pungi_types.specs.declared.local.Local.{Local}
+
+-- where an expression stands: locals with the innermost and latest first
+pub record Env : Type 0 where
+  pub file : List Item
+  pub table : List (ℕ × Row)
+  pub self : ℕ
+  pub refused : List ℕ
+  pub locals : List Local
+
+abbrev pub is_among : List ℕ → ℕ → Bool
+is_among ws w = list_any (λ x. w == x) ws
+
+-- these words, with one more at the end where it wasn't among them
+abbrev pub with_word : List ℕ → ℕ → List ℕ
+with_word ws w = (if is_among ws w then ws else ws ++ w ∷ [])
+
+abbrev pub is_table_type : ℕ → Bool
+is_table_type w = w == PY_TYPE_OBJECT || (w == PY_METHOD_DEF || (w == PY_MODULE_DEF || (w == PY_MEMBER_DEF || w == PY_GET_SET_DEF)))
+
+abbrev pub is_table_core : Core → Bool
+is_table_core (builtin n) = is_table_type n.0
+is_table_core _ = false
+
+abbrev pub is_core : ℕ → Core → Bool
+is_core w (builtin n) = n.0 == w
+is_core w _ = false
+
+abbrev pub is_no_function : Tail → Bool
+is_no_function (sizes ss) = true
+is_no_function (function ps) = false
+
+-- a table: a variable without stars of one of the five table types
+abbrev pub is_table : List Item → Variable → Bool
+is_table file v = is_no_function (declr_tail v.declr) && (((core_of file (spec_base v.spec)).stars + declr_stars v.declr) == 0 && is_table_core (core_of file (spec_base v.spec)).core)
+
+-- a table of this type that is no array
+abbrev pub is_single : List Item → ℕ → Variable → Bool
+is_single file w v = is_table file v && (is_plain_tail (declr_tail v.declr) && is_core w (core_of file (spec_base v.spec)).core)
+
+-- the first variable of this name that is no table
+abbrev pub global_in : List Item → List Variable → ℕ → Option ValueKind
+global_in file [] w = None
+global_in file (v ∷ vs) w = (if (declr_name v.declr).0 == w && not (is_table file v) then declared_kind file v.spec v.declr else global_in file vs w)
+
+abbrev pub global_kind : List Item → ℕ → Option ValueKind
+global_kind file w = global_in file (variables_of file) w
+
+-- the names of the file's static type objects, each once, by first declaration
+abbrev pub type_objects_in : List Item → List ℕ → List Variable → List ℕ
+type_objects_in file seen [] = seen
+type_objects_in file seen (v ∷ vs) =
+    type_objects_in file (if is_single file PY_TYPE_OBJECT v then with_word seen (declr_name v.declr).0 else seen) vs
+
+abbrev pub type_objects : List Item → List ℕ
+type_objects file = type_objects_in file [] (variables_of file)
+
+abbrev pub module_in : List Item → List Variable → ℕ → Bool
+module_in file [] w = false
+module_in file (v ∷ vs) w = ((declr_name v.declr).0 == w && is_single file PY_MODULE_DEF v) || module_in file vs w
+
+abbrev pub is_module : List Item → ℕ → Bool
+is_module file w = module_in file (variables_of file) w
+
+-- a function, defined or only declared
+abbrev pub is_some_definition : Option Definition → Bool
+is_some_definition None = false
+is_some_definition (Some d) = true
+
+abbrev pub is_function : List Item → ℕ → Bool
+is_function file w = is_some_definition (definition_in (definitions file) w) || is_place_in (prototypes file) w
+
+abbrev pub is_plain_static : ℕ → Bool
+is_plain_static w = nat_le FIRST_STATIC w && not (nat_le FIRST_TYPE_OBJECT w)
+
+-- a type object, which is used with `&`
+abbrev pub is_type_object : List Item → ℕ → Bool
+is_type_object file w = (nat_le FIRST_TYPE_OBJECT w && not (nat_le STATICS_END w)) || is_among (type_objects file) w
+
+abbrev pub is_static : List Item → ℕ → Bool
+is_static file w = is_plain_static w || is_type_object file w
+
+abbrev pub place_among : List ℕ → ℕ → ℕ
+place_among [] w = 0
+place_among (x ∷ xs) w = (if x == w then 0 else place_among xs w + 1)
+
+-- the number of a static's object
+abbrev pub static_number : List Item → ℕ → ℕ
+static_number file w =
+    (if nat_le FIRST_STATIC w && not (nat_le STATICS_END w) then w - FIRST_STATIC else place_among (type_objects file) w + 24)
+
+abbrev pub local_in : List Local → ℕ → Option Local
+local_in [] w = None
+local_in (l ∷ ls) w = (if l.name.0 == w then Some l else local_in ls w)
+
+-- what a word that stands as a value is
+pub data Meaning : Type 0 where
+  a_local : Local → Meaning
+  a_function : Meaning
+  a_global : ValueKind → Meaning
+  a_static : ℕ → Meaning
+  unknown : Meaning
+
+abbrev pub static_or_unknown : List Item → ℕ → Meaning
+static_or_unknown file w = (if is_plain_static w && not (is_among (type_objects file) w) then a_static (static_number file w) else unknown)
+
+abbrev pub global_or : List Item → ℕ → Option ValueKind → Meaning
+global_or file w None = static_or_unknown file w
+global_or file w (Some k) = a_global k
+
+abbrev pub local_or : List Item → ℕ → Option Local → Meaning
+local_or file w (Some l) = a_local l
+local_or file w None = (if is_function file w then a_function else global_or file w (global_kind file w))
+
+abbrev pub meaning_of : Env → ℕ → Meaning
+meaning_of env w = local_or env.file w (local_in env.locals w)

@@ -1,0 +1,200 @@
+-- What an expression of a checked function does: names resolved, conversions written out. One node for each node of the text.
+--   Value, Values, Place    what an expression does, arguments, and what can be read and assigned to
+--   is_same_kind, convert_some, convert p to from v    a conversion between two integer kinds that differ
+--   want_kind, expr_pos    the kind of a wanted argument, and where an expression stands
+--   read_as, word_place, word_value, int_value, field_of, or_int, binary_value, assign_value, cast_value, call_value, callee_name, static_behind, module_behind, post_kind,
+--   unary_value         a node from what is known of its parts
+--   resolve env e, place_of env e, resolve_all env ws es    an expression, as a place, and arguments
+use Rattle.std.specs.Prelude.{ℕ, ℤ, pos, Bool, true, false, ◌&&◌, ◌||◌, not, List, ◌∷◌, Option, Some, None, if◌then◌else◌}
+use Rattle.pungi_base.specs.declared.kind.Kind.{Kind}
+use Rattle.pungi_base.specs.declared.kind.Kind.TheVariants as tokens
+use Rattle.pungi_base.specs.declared.names.Name.{Name}
+use Rattle.pungi_base.specs.declared.pos.Pos.{Pos}
+use Rattle.pungi_base.specs.declared.punct.Punct.{Punct}
+use Rattle.pungi_tree.specs.Syntax.{Expr, word, int, float, char, text, null, paren, unary, post, binary, assign, conditional, comma, cast, size_of_type, call, new, index, dot, arrow, Exprs, no_exprs, expr_and}
+use Rattle.pungi_api.specs.declared.row.Row.{Row}
+use Rattle.pungi_types.specs.Kinds.{type_name_kind}
+use Rattle.pungi_types.specs.Names.{Env, Meaning, a_local, a_global, a_static, meaning_of, static_number}
+use Rattle.pungi_types.specs.Operators.{prefix_of, is_arithmetic, is_order, is_equality, is_arithmetic_assign, is_integer, is_int, is_void, wider, struct_part}
+use Rattle.pungi_types.specs.Exprs.{int_kind, kind_of, is_module_address, wants, wants_module, other_wants, callee, Callee, defined, a_row}
+use Rattle.pungi_types.specs.declared.lookup.Want.{Want}
+use Rattle.pungi_types.specs.declared.lookup.Want.TheVariants as wanted
+use Rattle.pungi_types.specs.declared.operator.Prefix.{Prefix}
+use Rattle.pungi_types.specs.declared.operator.Prefix.TheVariants as prefixes
+use Rattle.pungi_types.specs.declared.kind.ValueKind.{ValueKind}
+use Rattle.pungi_types.specs.declared.kind.ValueKind.TheVariants as kinds
+
+mutual
+  pub data Value : Type 0 where
+    constant : Pos → ℤ → Value
+    text_of : Pos → List Name → Value
+    null_of : Pos → Value
+    static_of : Pos → ℕ → Value  -- a static object, by its number
+    module_of : Pos → Name → Value  -- `&` of a module table
+    read : Pos → ValueKind → Place → Value
+    inner : Pos → Value → Value  -- a parenthesis
+    signed : Pos → Kind → ValueKind → Value → Value  -- `+` and `-`: the kind of the result
+    negated : Pos → Value → Value  -- `!`
+    stepped : Pos → Bool → Kind → ValueKind → Place → Value  -- `++` and `--`, true behind the operand
+    computed : Pos → Punct → ValueKind → Value → Value → Value
+    compared : Pos → Punct → Value → Value → Value
+    joined_by : Pos → Punct → Value → Value → Value  -- `&&` and `||`
+    stored : Pos → ValueKind → Place → Value → Value  -- the kind of the place
+    updated : Pos → Punct → ValueKind → ValueKind → Place → Value → Value  -- `+=` and its kin: the kind of the arithmetic, and that of the place
+    chosen : Pos → Value → Value → Value → Value  -- `?:`
+    converted : Pos → ValueKind → Value → Value  -- to another integer kind; stops at this place where it doesn't fit
+    cast_of : Pos → Value → Value  -- a cast that converts nothing
+    dropped : Pos → Value → Value  -- a cast to void
+    called : Pos → Name → Values → Value  -- a function of the file
+    called_row : Pos → Name → Row → Values → Value
+    nonsense : Pos → Value  -- no checked function has this
+
+  pub data Values : Type 0 where
+    no_values : Values
+    value_and : Value → Values → Values
+
+  -- what can be read and assigned to
+  pub data Place : Type 0 where
+    local_place : Pos → ℕ → Place  -- the place of the word
+    global_place : Pos → Name → Place
+    field_place : Pos → Value → Name → Name → Place  -- the place of `->`, the base, its struct and the field
+    no_place : Place
+
+-- .. conversions
+abbrev pub is_same_kind : Option ValueKind → Option ValueKind → Bool
+is_same_kind (Some kinds.Int) (Some kinds.Int) = true
+is_same_kind (Some kinds.Long) (Some kinds.Long) = true
+is_same_kind (Some kinds.Size) (Some kinds.Size) = true
+is_same_kind _ _ = false
+
+abbrev pub convert_some : Pos → Option ValueKind → Value → Value
+convert_some p None v = v
+convert_some p (Some k) v = converted p k v
+
+-- to this kind from that: only between two integer kinds that differ
+abbrev pub convert : Pos → Option ValueKind → Option ValueKind → Value → Value
+convert p to from v = (if is_integer to && (is_integer from && not (is_same_kind to from)) then convert_some p to v else v)
+
+abbrev pub want_kind : List Want → Option ValueKind
+want_kind (wanted.OfKind k ∷ ws) = Some k
+want_kind _ = None
+
+abbrev pub expr_pos : Expr → Pos
+expr_pos (word p n) = p
+expr_pos (int p v l u) = p
+expr_pos (float p) = p
+expr_pos (char p c) = p
+expr_pos (text p ns) = p
+expr_pos (null p) = p
+expr_pos (paren p e) = p
+expr_pos (unary p k e) = p
+expr_pos (post p m e) = p
+expr_pos (binary p m a b) = p
+expr_pos (assign p m a b) = p
+expr_pos (conditional p c a b) = p
+expr_pos (comma p a b) = p
+expr_pos (cast p t e) = p
+expr_pos (size_of_type p t) = p
+expr_pos (call p f es) = p
+expr_pos (new p t e) = p
+expr_pos (index p a b) = p
+expr_pos (dot p e n) = p
+expr_pos (arrow p e n) = p
+
+-- .. by the kinds and meanings that were found
+abbrev pub read_as : Pos → Option ValueKind → Place → Value
+read_as p None s = nonsense p
+read_as p (Some k) s = read p k s
+
+abbrev pub word_place : Pos → Meaning → Name → Place
+word_place p (a_local l) n = local_place p l.number
+word_place p (a_global k) n = global_place p n
+word_place p _ n = no_place
+
+abbrev pub word_value : Pos → Name → Meaning → Option ValueKind → Value
+word_value p n (a_static i) k = static_of p i
+word_value p n m k = read_as p k (word_place p m n)
+
+-- a constant of no kind is refused
+abbrev pub int_value : Pos → Option ValueKind → ℤ → Value
+int_value p None v = nonsense p
+int_value p (Some k) v = constant p v
+
+abbrev pub field_of : Pos → Value → Option Name → Name → Place
+field_of p base None n = no_place
+field_of p base (Some s) n = field_place p base s n
+
+abbrev pub or_int : Option ValueKind → ValueKind
+or_int None = kinds.Int
+or_int (Some k) = k
+
+abbrev pub binary_value : Pos → Punct → Option ValueKind → Value → Value → Value
+binary_value p m k a b = (if is_arithmetic m then computed p m (or_int k) a b else (if is_order m || is_equality m then compared p m a b else joined_by p m a b))
+
+abbrev pub assign_value : Pos → Punct → Option ValueKind → Option ValueKind → Place → Value → Value
+assign_value p m k from s v = (if is_arithmetic_assign m then updated p m (wider k from) (or_int k) s v else stored p (or_int k) s (convert p k from v))
+
+abbrev pub cast_value : Pos → Option ValueKind → Option ValueKind → Value → Value
+cast_value p to from v = (if is_void to then dropped p v else (if is_integer to && not (is_same_kind to from) then convert_some p to v else cast_of p v))
+
+abbrev pub call_value : Pos → Callee → Name → Values → Value
+call_value p (defined d) n vs = called p n vs
+call_value p (a_row r) n vs = called_row p n r vs
+call_value p _ n vs = nonsense p
+
+abbrev pub callee_name : Expr → Name
+callee_name (word p n) = n
+callee_name _ = record { 0 = 0 }
+
+abbrev pub static_behind : Env → Pos → Expr → Value
+static_behind env p (word q n) = static_of p (static_number env.file n.0)
+static_behind env p _ = nonsense p
+
+abbrev pub module_behind : Expr → Value
+module_behind (unary p k (word q n)) = module_of p n
+module_behind e = nonsense (expr_pos e)
+
+abbrev pub post_kind : Punct → Kind
+post_kind m = tokens.Punct m
+
+abbrev pub unary_value : Env → Pos → Kind → Expr → Prefix → Value → Place → Value
+unary_value env p k e prefixes.Address v s = static_behind env p e
+unary_value env p k e prefixes.Step v s = stepped p false k (or_int (kind_of env e)) s
+unary_value env p k e prefixes.Sign v s = signed p k (if is_int (kind_of env e) then kinds.Int else kinds.Long) v
+unary_value env p k e prefixes.Negation v s = negated p v
+unary_value env p k e prefixes.LeftOut v s = nonsense p
+
+abbrev mutual
+  pub resolve : Env → Expr → Value
+  resolve env (word p n) = word_value p n (meaning_of env n.0) (kind_of env (word p n))
+  resolve env (int p v l u) = int_value p (int_kind v l u) v
+  resolve env (char p c) = constant p (pos c)
+  resolve env (text p ns) = text_of p ns
+  resolve env (null p) = null_of p
+  resolve env (paren p e) = inner p (resolve env e)
+  resolve env (unary p k e) = unary_value env p k e (prefix_of k) (resolve env e) (place_of env e)
+  resolve env (post p m e) = stepped p true (post_kind m) (or_int (kind_of env e)) (place_of env e)
+  resolve env (binary p m a b) = binary_value p m (kind_of env (binary p m a b)) (resolve env a) (resolve env b)
+  resolve env (assign p m a b) = assign_value p m (kind_of env a) (kind_of env b) (place_of env a) (resolve env b)
+  resolve env (conditional p c a b) = chosen p (resolve env c) (resolve env a) (resolve env b)
+  resolve env (cast p t e) = cast_value p (type_name_kind env.file t) (kind_of env e) (resolve env e)
+  resolve env (call p f es) = call_value p (callee env f) (callee_name f) (resolve_all env (wants env (callee env f)) es)
+  resolve env (arrow p e n) = read_as p (kind_of env (arrow p e n)) (field_of p (resolve env e) (struct_part (kind_of env e)) n)
+  resolve env (float p) = nonsense p
+  resolve env (comma p a b) = nonsense p
+  resolve env (size_of_type p t) = nonsense p
+  resolve env (new p t e) = nonsense p
+  resolve env (index p a b) = nonsense p
+  resolve env (dot p e n) = nonsense p
+
+  pub place_of : Env → Expr → Place
+  place_of env (word p n) = word_place p (meaning_of env n.0) n
+  place_of env (arrow p e n) = field_of p (resolve env e) (struct_part (kind_of env e)) n
+  place_of env _ = no_place
+
+  -- a conversion in passing stops at its argument
+  pub resolve_all : Env → List Want → Exprs → Values
+  resolve_all env ws no_exprs = no_values
+  resolve_all env ws (expr_and e es) =
+      value_and (if wants_module ws && is_module_address env e then module_behind e else convert (expr_pos e) (want_kind ws) (kind_of env e) (resolve env e))
+      (resolve_all env (other_wants ws) es)

@@ -1,0 +1,201 @@
+-- What a statement of a checked function does: locals by number, conversions written out.
+--   Reached             a local as it is reached
+--   Action, Actions     what statements do
+--   Site                where a statement stands
+--   with_var, with_vars, with_decl, with_start    a site behind variables, a declaration, and what begins a `for`
+--   past, after, with_param, with_params, params_site    a site behind a part, a statement of a block, a parameter, and all of them
+--   initial, var_pos, var_kind, reached, start_reached    declared locals
+--   option_value, start_value, returned, case_value    the values of a statement
+--   action f s, actions f ss    a statement and statements
+--   body_action p f s   a body, of a function at p
+--   param_kinds, params_kinds    the kinds of parameters
+--   first_site env d    where the first parameter stands
+--   ResolvedFunction, resolved_in env d, resolved file rows refused d    a function
+use Rattle.std.specs.Prelude.{ℕ, ℤ, ◌+◌, pos, List, [], ◌∷◌, Option, Some, None}
+use Rattle.pungi_base.specs.declared.names.Name.{Name}
+use Rattle.pungi_base.specs.declared.pos.Pos.{Pos}
+use Rattle.pungi_tree.specs.Syntax.{Expr, Spec, value, table, VarDecl, var_decl, Decl, decl, ForStart, start_decl, start_expr, Stmt, block, declare, do_expr, if_only, if_else, while, do_while, for, switch, case, default, label, goto, break, continue, return, Stmts, no_stmts, stmt_and, Item, Params, params, ParamDecl, ParamDecls, no_params, param_and, param_decl, named, bare, unused}
+use Rattle.pungi_api.specs.declared.row.Row.{Row}
+use Rattle.pungi_types.specs.Files.{Definition, declr_name, declr_pos}
+use Rattle.pungi_types.specs.Names.{Env}
+use Rattle.pungi_types.specs.Kinds.{declared_kind}
+use Rattle.pungi_types.specs.Exprs.{kind_of, param_kind}
+use Rattle.pungi_types.specs.Labels.{constant_of, stmt_locals, stmts_locals}
+use Rattle.pungi_types.specs.Resolved.{Value, convert, resolve}
+use Rattle.pungi_types.specs.Stmts.{with_local}
+use Rattle.pungi_types.specs.Functions.{file_env, result_kind}
+use Rattle.pungi_types.specs.declared.kind.ValueKind.{ValueKind}
+
+-- a local as it is reached: its number and place, and its value, if it has one; without one it becomes unset
+pub record Reached : Type 0 where
+  pub number : ℕ
+  pub at : Pos
+  pub kind : Option ValueKind
+  pub value : Option Value
+
+mutual
+  pub data Action : Type 0 where
+    block_of : Pos → ℕ → ℕ → Actions → Pos → Action  -- its locals from this number on, so many, are unset as it is entered
+    reach : Pos → List Reached → Action
+    evaluate : Pos → Option Value → Action
+    test : Pos → Value → Action → Action
+    test_else : Pos → Value → Action → Action → Action
+    repeat_while : Pos → Value → Action → Action
+    repeat_until : Pos → Action → Value → Action
+    repeat_for : Pos → List Reached → Option Value → Option Value → Option Value → Action → Action
+    switch_on : Pos → Value → Action → Action
+    at_case : Pos → ℤ → Action → Action
+    at_default : Pos → Action → Action
+    at_label : Pos → Name → Action → Action
+    jump : Pos → Name → Action
+    leave : Pos → Action
+    next_turn : Pos → Action
+    give : Pos → Option Value → Action
+
+  pub data Actions : Type 0 where
+    no_actions : Actions
+    action_and : Action → Actions → Actions
+
+-- where a statement stands: the names in force, the number of the next local, and the kind of the function's result
+pub record Site : Type 0 where
+  pub env : Env
+  pub next : ℕ
+  pub result : Option ValueKind
+
+-- .. the sites behind what declares
+abbrev pub with_var : Site → Spec → VarDecl → Site
+with_var f s (var_decl d v) =
+    record f { env = with_local f.env (record { name = declr_name d; number = f.next; kind = declared_kind f.env.file s d }); next = f.next + 1 }
+
+abbrev pub with_vars : Site → Spec → List VarDecl → Site
+with_vars f s [] = f
+with_vars f s (v ∷ vs) = with_vars (with_var f s v) s vs
+
+abbrev pub with_decl : Site → Decl → Site
+with_decl f (decl qs s vs) = with_vars f s vs
+
+abbrev pub with_start : Site → ForStart → Site
+with_start f (start_decl d) = with_decl f d
+with_start f (start_expr e) = f
+
+-- what a part declares goes out of force behind it
+abbrev pub past : Site → Stmt → Site
+past f s = record f { next = f.next + stmt_locals s }
+
+abbrev pub after : Site → Stmt → Site
+after f (declare p d) = with_decl f d
+after f s = past f s
+
+-- only a parameter that is written plainly has a name in the body; the others are locals without one
+abbrev pub with_param : Site → ParamDecl → Site
+with_param f (param_decl qs s (named d)) =
+    record f { env = with_local f.env (record { name = declr_name d; number = f.next; kind = param_kind f.env.file s (named d) }); next = f.next + 1 }
+with_param f (param_decl qs s (bare stars)) = record f { next = f.next + 1 }
+with_param f (param_decl qs s (unused stars n p)) = record f { next = f.next + 1 }
+
+abbrev pub with_params : Site → ParamDecls → Site
+with_params f no_params = f
+with_params f (param_and d ds) = with_params (with_param f d) ds
+
+abbrev pub params_site : Site → Params → Site
+params_site f (params ds v dots) = with_params f ds
+
+-- .. declared locals, and the values of a statement
+-- a variable is in scope from its own first value on
+abbrev pub initial : Site → Spec → VarDecl → Option Value
+initial f s (var_decl d None) = None
+initial f s (var_decl d (Some (table ts))) = None
+initial f s (var_decl d (Some (value e))) =
+    Some (convert (declr_pos d) (declared_kind f.env.file s d) (kind_of (with_var f s (var_decl d None)).env e) (resolve (with_var f s (var_decl d None)).env e))
+
+abbrev pub var_pos : VarDecl → Pos
+var_pos (var_decl d v) = declr_pos d
+
+abbrev pub var_kind : Site → Spec → VarDecl → Option ValueKind
+var_kind f s (var_decl d v) = declared_kind f.env.file s d
+
+abbrev pub reached : Site → Spec → List VarDecl → List Reached
+reached f s [] = []
+reached f s (v ∷ vs) = record { number = f.next; at = var_pos v; kind = var_kind f s v; value = initial f s v } ∷ reached (with_var f s v) s vs
+
+abbrev pub start_reached : Site → ForStart → List Reached
+start_reached f (start_decl (decl qs s vs)) = reached f s vs
+start_reached f (start_expr e) = []
+
+abbrev pub option_value : Env → Option Expr → Option Value
+option_value env None = None
+option_value env (Some e) = Some (resolve env e)
+
+abbrev pub start_value : Env → ForStart → Option Value
+start_value env (start_decl d) = None
+start_value env (start_expr e) = option_value env e
+
+-- a conversion in returning stops at the `return`
+abbrev pub returned : Site → Pos → Option Expr → Option Value
+returned f p None = None
+returned f p (Some e) = Some (convert p f.result (kind_of f.env e) (resolve f.env e))
+
+abbrev pub case_value : Option ℤ → ℤ
+case_value None = pos 0
+case_value (Some v) = v
+
+-- .. statements
+abbrev mutual
+  pub action : Site → Stmt → Action
+  action f (block p ss q) = block_of p f.next (stmts_locals ss) (actions f ss) q
+  action f (declare p (decl qs s vs)) = reach p (reached f s vs)
+  action f (do_expr p e) = evaluate p (option_value f.env e)
+  action f (if_only p e s) = test p (resolve f.env e) (action f s)
+  action f (if_else p e s t) = test_else p (resolve f.env e) (action f s) (action (past f s) t)
+  action f (while p e s) = repeat_while p (resolve f.env e) (action f s)
+  action f (do_while p s e) = repeat_until p (action f s) (resolve f.env e)
+  action f (for p a b c s) =
+      repeat_for p (start_reached f a) (start_value f.env a) (option_value (with_start f a).env b) (option_value (with_start f a).env c) (action (with_start f a) s)
+  action f (switch p e s) = switch_on p (resolve f.env e) (action f s)
+  action f (case p e s) = at_case p (case_value (constant_of e)) (action f s)
+  action f (default p s) = at_default p (action f s)
+  action f (label p n s) = at_label p n (action f s)
+  action f (goto p n q) = jump p n
+  action f (break p) = leave p
+  action f (continue p) = next_turn p
+  action f (return p e) = give p (returned f p e)
+
+  pub actions : Site → Stmts → Actions
+  actions f no_stmts = no_actions
+  actions f (stmt_and s ss) = action_and (action f s) (actions (after f s) ss)
+
+-- a body is a block
+abbrev pub body_action : Pos → Site → Stmt → Action
+body_action p f (block q ss r) = action f (block q ss r)
+body_action p f _ = block_of p f.next 0 no_actions p
+
+-- .. functions
+abbrev pub param_kinds : List Item → ParamDecls → List (Option ValueKind)
+param_kinds file no_params = []
+param_kinds file (param_and (param_decl qs s d) ds) = param_kind file s d ∷ param_kinds file ds
+
+abbrev pub params_kinds : List Item → Params → List (Option ValueKind)
+params_kinds file (params ds v dots) = param_kinds file ds
+
+abbrev pub first_site : Env → Definition → Site
+first_site env d = record { env = env; next = 0; result = result_kind env d }
+
+-- a function with its names resolved: the parameters are the first locals
+pub record ResolvedFunction : Type 0 where
+  pub name : Name
+  pub pos : Pos
+  pub params : List (Option ValueKind)
+  pub result : Option ValueKind
+  pub body : Action
+
+abbrev pub resolved_in : Env → Definition → ResolvedFunction
+resolved_in env d = record {
+  name = d.name;
+  pos = d.pos;
+  params = params_kinds env.file d.params;
+  result = result_kind env d;
+  body = body_action d.pos (params_site (first_site env d) d.params) d.body;
+}
+
+abbrev pub resolved : List Item → List (ℕ × Row) → List ℕ → Definition → ResolvedFunction
+resolved file rows refused d = resolved_in (file_env file rows refused d.name.0) d

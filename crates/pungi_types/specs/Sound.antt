@@ -1,0 +1,72 @@
+-- A resolved tree in which every name and operator has a meaning.
+--   is_sound, are_sound, is_sound_place, is_sound_option, are_sound_locals    values, places and locals
+--   is_sound_action, are_sound_actions    statements
+use Rattle.std.specs.Prelude.{Bool, true, false, ◌&&◌, List, [], ◌∷◌, Option, Some, None}
+use Rattle.pungi_types.specs.Resolved.{Value, constant, text_of, null_of, static_of, module_of, read, inner, signed, negated, stepped, computed, compared, joined_by, stored, updated, chosen, converted, cast_of, dropped, called, called_row, nonsense, Values, no_values, value_and, Place, local_place, global_place, field_place, no_place}
+use Rattle.pungi_types.specs.ResolvedStmts.{Reached, Action, block_of, reach, evaluate, test, test_else, repeat_while, repeat_until, repeat_for, switch_on, at_case, at_default, at_label, jump, leave, next_turn, give, Actions, no_actions, action_and}
+
+abbrev mutual
+  pub is_sound : Value → Bool
+  is_sound (constant p v) = true
+  is_sound (text_of p ns) = true
+  is_sound (null_of p) = true
+  is_sound (static_of p n) = true
+  is_sound (module_of p n) = true
+  is_sound (read p k s) = is_sound_place s
+  is_sound (inner p v) = is_sound v
+  is_sound (signed p o k v) = is_sound v
+  is_sound (negated p v) = is_sound v
+  is_sound (stepped p b o k s) = is_sound_place s
+  is_sound (computed p m k a b) = is_sound a && is_sound b
+  is_sound (compared p m a b) = is_sound a && is_sound b
+  is_sound (joined_by p m a b) = is_sound a && is_sound b
+  is_sound (stored p k s v) = is_sound_place s && is_sound v
+  is_sound (updated p m j k s v) = is_sound_place s && is_sound v
+  is_sound (chosen p c a b) = is_sound c && (is_sound a && is_sound b)
+  is_sound (converted p k v) = is_sound v
+  is_sound (cast_of p v) = is_sound v
+  is_sound (dropped p v) = is_sound v
+  is_sound (called p n vs) = are_sound vs
+  is_sound (called_row p n r vs) = are_sound vs
+  is_sound (nonsense p) = false
+
+  pub are_sound : Values → Bool
+  are_sound no_values = true
+  are_sound (value_and v vs) = is_sound v && are_sound vs
+
+  pub is_sound_place : Place → Bool
+  is_sound_place (local_place p n) = true
+  is_sound_place (global_place p n) = true
+  is_sound_place (field_place p v s n) = is_sound v
+  is_sound_place no_place = false
+
+abbrev pub is_sound_option : Option Value → Bool
+is_sound_option None = true
+is_sound_option (Some v) = is_sound v
+
+abbrev pub are_sound_locals : List Reached → Bool
+are_sound_locals [] = true
+are_sound_locals (r ∷ rs) = is_sound_option r.value && are_sound_locals rs
+
+abbrev mutual
+  pub is_sound_action : Action → Bool
+  is_sound_action (block_of p n m ss q) = are_sound_actions ss
+  is_sound_action (reach p rs) = are_sound_locals rs
+  is_sound_action (evaluate p v) = is_sound_option v
+  is_sound_action (test p v a) = is_sound v && is_sound_action a
+  is_sound_action (test_else p v a b) = is_sound v && (is_sound_action a && is_sound_action b)
+  is_sound_action (repeat_while p v a) = is_sound v && is_sound_action a
+  is_sound_action (repeat_until p a v) = is_sound_action a && is_sound v
+  is_sound_action (repeat_for p rs u v w a) = are_sound_locals rs && (is_sound_option u && (is_sound_option v && (is_sound_option w && is_sound_action a)))
+  is_sound_action (switch_on p v a) = is_sound v && is_sound_action a
+  is_sound_action (at_case p v a) = is_sound_action a
+  is_sound_action (at_default p a) = is_sound_action a
+  is_sound_action (at_label p n a) = is_sound_action a
+  is_sound_action (jump p n) = true
+  is_sound_action (leave p) = true
+  is_sound_action (next_turn p) = true
+  is_sound_action (give p v) = is_sound_option v
+
+  pub are_sound_actions : Actions → Bool
+  are_sound_actions no_actions = true
+  are_sound_actions (action_and a as') = is_sound_action a && are_sound_actions as'

@@ -1,0 +1,296 @@
+//! The kind of an expression, and where rules hold in it.
+ghost use Rattle.std.specs.Prelude.{◌≡◌, ◌&&◌, ◌||◌, not, map, None, if◌then◌else◌};
+ghost use Rattle.pungi_types.specs.Findings.{least_from};
+ghost use Rattle.pungi_types.specs.Exprs.{is_place as is_place_of, names_type_object as names_type_object_of, is_module_address as is_module_address_of, kind_of, expr_findings, args_findings, arg_findings, are_met, first_met as first_met_of, wants_module as wants_module_of, is_word as is_word_of, called_findings, cast_findings, cast_kind as cast_kind_of, callee, wants, is_unknown_call, result_kind, is_value_called, takes_arguments};
+ghost use Rattle.pungi_types.specs.Kinds.{type_name_kind};
+ghost use Rattle.pungi_tree.specs.Syntax as plain;
+ghost use Rattle.pungi_tree.specs.ExprView.{expr_view, exprs_of, type_name_view};
+
+use crate::findings::{note, note_used};
+use crate::lookup::{Lookup, Want};
+use crate::operator::{
+    Prefix, assign_kind, assign_wrong, assigns_pointers, binary_kind, binary_wrong, cast_kind,
+    cast_wrong, cond_kind, cond_wrong, crosses, first_met, int_kind, is_bad_int, is_bits,
+    is_bits_assign, is_pointer, is_void, on_pointers, other_wants, prefix_of, step_kind,
+    steps_pointer, unary_kind, unary_wrong, wants_module,
+};
+use crate::{Finding, ValueKind};
+use pungi_base::{Kind, Pos, Punct};
+use pungi_tree::{Expr, ExprNode, TypeName};
+
+type Known = Option<ValueKind>;
+
+/// Whether an expression may be assigned to (C11 6.5.16).
+pub fn is_place<N: Lookup>(names: &N, e: &Expr) -> bool
+    ensures { result ≡ is_place_of (N.env names.now) (expr_view e.now) }
+{
+    match &e.node {
+        ExprNode::Word(name) => names.is_slot(name.0),
+        ExprNode::Arrow(_, _) => true,
+        _ => false,
+    }
+}
+
+/// Whether an expression is the name of a type object.
+pub fn names_type_object<N: Lookup>(names: &N, e: &Expr) -> bool
+    ensures { result ≡ names_type_object_of (N.env names.now) (expr_view e.now) }
+{
+    match &e.node {
+        ExprNode::Word(name) => names.is_type_object(name.0),
+        _ => false,
+    }
+}
+
+/// Whether an expression is `&` of a module table.
+pub fn is_module_address<N: Lookup>(names: &N, e: &Expr) -> bool
+    ensures { result ≡ is_module_address_of (N.env names.now) (expr_view e.now) }
+{
+    match &e.node {
+        ExprNode::Unary(Kind::Punct(Punct::And), a) => match &a.node {
+            ExprNode::Word(name) => names.is_module(name.0),
+            _ => false,
+        },
+        _ => false,
+    }
+}
+
+/// The kind of an expression, and where rules hold in it.
+#[cycle(expr)]
+pub fn check_expr<N: Lookup>(names: &N, first: &mut Option<Finding>, e: &Expr) -> Known
+    ensures kind { result ≡ kind_of (N.env names.now) (expr_view e.now) }
+    ensures found { first.new ≡ least_from first.old (expr_findings (N.env names.now) (expr_view e.now)) }
+{
+    match &e.node {
+        ExprNode::Word(name) => {
+            note(first, names.is_function(name.0), e.pos, 3);
+            note(first, names.is_unknown(name.0), e.pos, 9);
+            names.word_kind(name.0)
+        }
+        ExprNode::Int {
+            value,
+            long,
+            unsigned,
+        } => {
+            note(first, is_bad_int(*value, *unsigned), e.pos, 14);
+            int_kind(*value, *long, *unsigned)
+        }
+        ExprNode::Float | ExprNode::SizeOfType(_) => {
+            note(first, true, e.pos, 2);
+            None
+        }
+        ExprNode::Char(_) => Some(ValueKind::Int),
+        ExprNode::Text(_) => Some(ValueKind::Text),
+        ExprNode::Null => Some(ValueKind::Null),
+        ExprNode::Paren(a) => check_expr(names, first, a),
+        ExprNode::Unary(op, a) => unary(names, first, e.pos, *op, a),
+        ExprNode::Post(_, a) => {
+            let kind = check_expr(names, first, a);
+            let place = is_place(names, a);
+            note(first, unary_wrong(Prefix::Step, place, kind), e.pos, 10);
+            note_used(first, kind, a);
+            note(first, is_pointer(kind), e.pos, 13);
+            step_kind(place, kind)
+        }
+        ExprNode::Binary(m, a, b) => {
+            let left = check_expr(names, first, a);
+            let right = check_expr(names, first, b);
+            note(first, is_bits(*m), e.pos, 2);
+            note(first, binary_wrong(*m, left, right), e.pos, 10);
+            note_used(first, left, a);
+            note_used(first, right, b);
+            note(first, on_pointers(*m, left, right), e.pos, 13);
+            binary_kind(*m, left, right)
+        }
+        ExprNode::Assign(m, a, b) => {
+            let left = check_expr(names, first, a);
+            let right = check_expr(names, first, b);
+            let place = is_place(names, a);
+            note(first, is_bits_assign(*m), e.pos, 2);
+            note(first, assign_wrong(*m, place, left, right), e.pos, 10);
+            note_used(first, left, a);
+            note_used(first, right, b);
+            note(first, assigns_pointers(*m, left, right), e.pos, 13);
+            assign_kind(*m, place, left, right)
+        }
+        ExprNode::Cond(c, a, b) => {
+            let test = check_expr(names, first, c);
+            let left = check_expr(names, first, a);
+            let right = check_expr(names, first, b);
+            note(first, cond_wrong(test, left, right), e.pos, 10);
+            note_used(first, test, c);
+            note_used(first, left, a);
+            note_used(first, right, b);
+            cond_kind(test, left, right)
+        }
+        ExprNode::Comma(a, b) => {
+            check_expr(names, first, a);
+            check_expr(names, first, b);
+            note(first, true, e.pos, 2);
+            None
+        }
+        ExprNode::Cast(name, a) => {
+            let kind = check_expr(names, first, a);
+            cast(names, first, e.pos, name, kind, a)
+        }
+        ExprNode::Call(f, list) => {
+            let met = args(names, first, callee_wants(names, f), list);
+            called(names, first, f);
+            note(first, !is_word(f), e.pos, 3);
+            note(first, is_unknown_callee(names, f), e.pos, 9);
+            note(first, is_wrong_call(names, f, met), e.pos, 10);
+            call_kind(names, f, met)
+        }
+        ExprNode::New(_, a) => {
+            check_expr(names, first, a);
+            note(first, true, e.pos, 9);
+            None
+        }
+        ExprNode::Index(a, b) => {
+            let left = check_expr(names, first, a);
+            let right = check_expr(names, first, b);
+            note(first, true, e.pos, 2);
+            note_used(first, left, a);
+            note_used(first, right, b);
+            None
+        }
+        ExprNode::Dot(a, _) => {
+            let kind = check_expr(names, first, a);
+            note(first, true, e.pos, 2);
+            note_used(first, kind, a);
+            None
+        }
+        ExprNode::Arrow(a, name) => {
+            let kind = check_expr(names, first, a);
+            let field = names.field_kind(kind, name.0);
+            note_used(first, kind, a);
+            note(first, field.is_none(), e.pos, 12);
+            field
+        }
+    }
+}
+
+#[cycle(expr)]
+fn unary<N: Lookup>(names: &N, first: &mut Option<Finding>, pos: Pos, op: Kind, a: &Expr) -> Known
+    ensures kind { result ≡ kind_of (N.env names.now) (plain.unary pos op (expr_view a.now)) }
+    ensures found { first.new ≡ least_from first.old (expr_findings (N.env names.now) (plain.unary pos op (expr_view a.now))) }
+{
+    let prefix = prefix_of(op);
+    let type_object = names_type_object(names, a);
+    if matches!(prefix, Prefix::Address) && type_object {
+        return Some(ValueKind::Object(None));
+    }
+    let kind = check_expr(names, first, a);
+    let place = is_place(names, a);
+    note(first, matches!(prefix, Prefix::LeftOut), pos, 2);
+    note(first, matches!(prefix, Prefix::Address), pos, 5);
+    note(first, unary_wrong(prefix, place, kind), pos, 10);
+    note_used(first, kind, a);
+    note(first, steps_pointer(prefix, kind), pos, 13);
+    unary_kind(prefix, type_object, place, kind)
+}
+
+// A word that is called is looked at by the call alone.
+#[cycle(expr)]
+fn called<N: Lookup>(names: &N, first: &mut Option<Finding>, f: &Expr)
+    ensures { first.new ≡ least_from first.old (called_findings (N.env names.now) (expr_view f.now)) }
+{
+    if !is_word(f) {
+        check_expr(names, first, f);
+    }
+}
+
+#[cycle(expr)]
+fn args<N: Lookup>(names: &N, first: &mut Option<Finding>, wants: &[Want], list: &Vec<Expr>) -> bool
+    ensures met { result ≡ are_met (N.env names.now) wants.now (exprs_of (map expr_view list.now.items)) }
+    ensures found { first.new ≡ least_from first.old (args_findings (N.env names.now) wants.now (exprs_of (map expr_view list.now.items))) }
+{
+    let mut met = true;
+    let mut rest = wants;
+    for e in list {
+        let fits = arg(names, first, rest, e);
+        met = met && fits;
+        rest = other_wants(rest);
+    }
+    met && rest.is_empty()
+}
+
+#[cycle(expr)]
+fn arg<N: Lookup>(names: &N, first: &mut Option<Finding>, wants: &[Want], e: &Expr) -> bool
+    ensures met { result ≡ first_met_of wants.now (is_module_address_of (N.env names.now) (expr_view e.now)) (kind_of (N.env names.now) (expr_view e.now)) }
+    ensures found { first.new ≡ least_from first.old (arg_findings (wants_module_of wants.now && is_module_address_of (N.env names.now) (expr_view e.now)) (N.env names.now) (expr_view e.now)) }
+{
+    let is_module = is_module_address(names, e);
+    if wants_module(wants) && is_module {
+        return true;
+    }
+    let kind = check_expr(names, first, e);
+    note_used(first, kind, e);
+    first_met(wants, is_module, kind)
+}
+
+fn cast<N: Lookup>(
+    names: &N,
+    first: &mut Option<Finding>,
+    pos: Pos,
+    name: &TypeName,
+    kind: Known,
+    a: &Expr,
+) -> Known
+    ensures kind { result ≡ cast_kind_of (type_name_kind (N.env names.now).file (type_name_view name.now)) kind }
+    ensures found { first.new ≡ least_from first.old (cast_findings (type_name_kind (N.env names.now).file (type_name_view name.now)) pos (type_name_view name.now) kind (expr_view a.now)) }
+{
+    let to = names.type_kind(&name.spec, name.stars.len());
+    note(first, to.is_none(), name.spec.pos, 1);
+    note(first, crosses(to, kind), pos, 4);
+    note(first, cast_wrong(to, kind), pos, 10);
+    if !is_void(to) {
+        note_used(first, kind, a);
+    }
+    cast_kind(to, kind)
+}
+
+fn is_word(e: &Expr) -> bool
+    ensures { result ≡ is_word_of (expr_view e.now) }
+{
+    matches!(&e.node, ExprNode::Word(_))
+}
+
+/// What the arguments of a called expression are to be.
+pub fn callee_wants<'a, N: Lookup>(names: &'a N, f: &Expr) -> &'a [Want]
+    ensures { result.now ≡ wants (N.env names.now) (callee (N.env names.now) (expr_view f.now)) }
+{
+    match &f.node {
+        ExprNode::Word(name) => names.wants(name.0),
+        _ => &[],
+    }
+}
+
+fn is_unknown_callee<N: Lookup>(names: &N, f: &Expr) -> bool
+    ensures { result ≡ is_unknown_call (N.env names.now) (callee (N.env names.now) (expr_view f.now)) }
+{
+    match &f.node {
+        ExprNode::Word(name) => names.is_unknown_call(name.0),
+        _ => false,
+    }
+}
+
+fn is_wrong_call<N: Lookup>(names: &N, f: &Expr, met: bool) -> bool
+    ensures { result ≡ (is_value_called (callee (N.env names.now) (expr_view f.now)) || (takes_arguments (callee (N.env names.now) (expr_view f.now)) && not met)) }
+{
+    match &f.node {
+        ExprNode::Word(name) => {
+            names.is_value_called(name.0) || (names.takes_arguments(name.0) && !met)
+        }
+        _ => false,
+    }
+}
+
+/// The kind of a call, whose arguments are met or not.
+pub fn call_kind<N: Lookup>(names: &N, f: &Expr, met: bool) -> Known
+    ensures { result ≡ (if is_word_of (expr_view f.now) && met then result_kind (N.env names.now) (callee (N.env names.now) (expr_view f.now)) else None) }
+{
+    match &f.node {
+        ExprNode::Word(name) if met => names.result_kind(name.0),
+        _ => None,
+    }
+}

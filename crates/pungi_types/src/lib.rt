@@ -1,0 +1,29 @@
+//! Kinds of values, and the rules that a function must keep to be judged.
+#![tactic(auto)]
+
+mod decl;
+mod expr;
+mod finding;
+mod findings;
+mod kind;
+mod local;
+mod lookup;
+pub mod operator;
+mod standing;
+pub mod type_words;
+mod types;
+
+pub use decl::{
+    condition, declared_kind, initial, note_declared, param_kind, return_value, switched,
+};
+pub use expr::{
+    call_kind, callee_wants, check_expr, is_module_address, is_place, names_type_object,
+};
+pub use finding::Finding;
+pub use findings::{note, note_used};
+pub use kind::ValueKind;
+pub use local::Local;
+pub use lookup::{Lookup, Want};
+pub use operator::{Prefix, is_void};
+pub use standing::Standing;
+pub use types::{Core, Typedef};

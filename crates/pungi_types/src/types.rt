@@ -1,0 +1,115 @@
+// What a type is once typedefs are followed.
+ghost use Rattle.std.specs.Prelude.{◌≡◌, map};
+ghost use Rattle.pungi_types.specs.Kinds.{words_kind as words_kind_of, listed_kind as listed_kind_of, only as only_of, both as both_of, is_int_key, is_long_key, is_char_key, is_void_key, not_void as not_void_of, is_listed_type as is_listed_type_of};
+ghost use Rattle.pungi_types.specs.TypesView.{core_view, typedef_view, IsTypedef};
+ghost use Rattle.pungi_types.specs.Kinds.{tagged_core as tagged_core_of, written_core as written_core_of, typedef_in as typedef_in_of};
+ghost use Rattle.pungi_tree.specs.ExprView.{base_view};
+
+use crate::ValueKind;
+use crate::type_words::{FIRST_TYPE, PY_MODULE_DEF, TYPES_END};
+use pungi_base::words::{PY_OBJECT, PY_SSIZE_T, PY_TYPE_OBJECT};
+use pungi_base::{Key, Name, Pos};
+use pungi_tree::{Base, Spec};
+
+type Known = Option<ValueKind>;
+
+/// A type without its stars.
+#[derive(Clone, Copy, Debug)]
+pub enum Core<'a> {
+    Words(&'a [Key]),
+    Listed(Name),
+    Struct(Name),
+    Other,
+}
+
+/// A typedef of the file.
+#[derive(Clone, Copy, Debug)]
+pub struct Typedef<'a> {
+    pub name: Name,
+    pub pos: Pos,
+    pub spec: &'a Spec,
+    pub stars: usize,
+}
+
+/// The kind of base words with so many stars.
+pub fn words_kind(keys: &[Key], stars: usize) -> Known
+    ensures { result ≡ words_kind_of keys.now stars }
+{
+    match (keys, stars) {
+        ([Key::Int], 0) => Some(ValueKind::Int),
+        ([Key::Long], 0) | ([Key::Long, Key::Int], 0) => Some(ValueKind::Long),
+        ([Key::Void], 0) => Some(ValueKind::Void),
+        ([Key::Char], 1) => Some(ValueKind::Text),
+        _ => None,
+    }
+}
+
+pub fn listed_kind(word: u32, stars: usize) -> Known
+    ensures { result ≡ listed_kind_of word stars }
+{
+    if stars == 0 && word == PY_SSIZE_T {
+        Some(ValueKind::Size)
+    } else if stars == 1 && (word == PY_OBJECT || word == PY_TYPE_OBJECT) {
+        Some(ValueKind::Object(None))
+    } else {
+        None
+    }
+}
+
+pub fn not_void(kind: Known) -> Known
+    ensures { result ≡ not_void_of kind }
+{
+    match kind {
+        Some(ValueKind::Void) => None,
+        other => other,
+    }
+}
+
+pub fn is_listed_type(word: u32) -> bool
+    ensures { result ≡ is_listed_type_of word }
+{
+    FIRST_TYPE <= word && !(TYPES_END <= word)
+}
+
+fn tagged_core(of: Key, name: Name) -> Core<'static>
+    ensures { core_view result ≡ tagged_core_of of name }
+{
+    match of {
+        Key::Struct if name.0 == PY_MODULE_DEF => Core::Listed(name),
+        Key::Struct => Core::Struct(name),
+        _ => Core::Other,
+    }
+}
+
+pub fn written_core(base: &Base) -> Core<'_>
+    ensures { core_view result ≡ written_core_of (base_view base.now) }
+{
+    match base {
+        Base::Words(keys) => Core::Words(keys.as_slice()),
+        Base::Alias(name) => {
+            if is_listed_type(name.0) {
+                Core::Listed(*name)
+            } else {
+                Core::Other
+            }
+        }
+        Base::Tagged {
+            of,
+            tag: Some((name, _)),
+            ..
+        } => tagged_core(*of, *name),
+        Base::Tagged { tag: None, .. } => Core::Other,
+    }
+}
+
+/// The first typedef of this word.
+pub fn typedef_in<'a>(typedefs: &[Typedef<'a>], word: u32) -> Option<Typedef<'a>>
+    ensures { IsTypedef result (typedef_in_of (map typedef_view typedefs.now) word) }
+{
+    for t in typedefs {
+        if t.name.0 == word {
+            return Some(*t);
+        }
+    }
+    None
+}
