@@ -1,0 +1,3 @@
+pub mod UsesView
+pub mod SeenNames
+pub mod SeenView

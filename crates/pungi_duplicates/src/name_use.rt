@@ -1,0 +1,17 @@
+use pungi_base::{Name, Pos};
+
+/// What a name outside functions stands for.
+#[derive(Clone, Copy, Debug)]
+pub enum Use {
+    Function,
+    Variable,
+    Table,
+}
+
+/// A name outside functions, where it stands, and what for (C11 6.9).
+#[derive(Clone, Copy, Debug)]
+pub struct NameUse {
+    pub name: Name,
+    pub pos: Pos,
+    pub as_what: Use,
+}

@@ -1,0 +1,21 @@
+//! Words that are kept to be found again.
+ghost use Rattle.std.specs.Prelude.{◌≡◌, OnOk};
+ghost use Rattle.pungi_types.specs.Names.{is_among, with_word};
+
+use indexmap::IndexSet;
+use pungi_base::Memory;
+
+/// Whether a word is among these.
+pub(crate) fn is_kept(words: &IndexSet<u32>, word: u32) -> bool
+    ensures { result ≡ is_among words.now.keys word }
+{
+    words.contains(&word)
+}
+
+/// Keeps a word.
+pub(crate) fn keep(words: &mut IndexSet<u32>, word: u32) -> Result<(), Memory>
+    ensures { OnOk result (words.new.keys ≡ with_word words.old.keys word) }
+{
+    words.insert(word)?;
+    Ok(())
+}

@@ -1,0 +1,9 @@
+pub mod CoresLemmas
+pub mod DepthLemmas
+pub mod ListLemmas
+pub mod PlaceLemmas
+pub mod SeenLemmas
+pub mod SpecLemmas
+pub mod StepLemmas
+pub mod StructLemmas
+pub mod WalkLemmas

@@ -1,0 +1,95 @@
+-- What is asked of a callee, by what is seen of it.
+use Rattle.std.proofs.Common.{◌≡◌, ℕ, Option, None, Some, option_map, is_some, refl, ap, List}
+use Rattle.pungi_api.specs.declared.row.Row.{Row}
+use Rattle.pungi_tree.specs.Syntax.{Item}
+use Rattle.pungi_types.specs.Exprs.{Callee, no_word, a_value, defined, a_row, no_function, wants, result_kind, is_value_called, takes_arguments, is_unknown_call, row_or, value_or_none, defined_or}
+use Rattle.pungi_types.specs.Files.{Definition}
+use Rattle.pungi_types.specs.Names.{Env, is_some_definition}
+use Rattle.pungi_types.specs.Standing.{row_called, is_defined}
+use Rattle.pungi_types.specs.declared.kind.ValueKind.{ValueKind}
+use Rattle.pungi_types.specs.declared.lookup.Want.{Want}
+use Rattle.pungi_names.specs.CallsView.{signature_of}
+use Rattle.pungi_names.specs.RowsView.{row_seen}
+use Rattle.pungi_names.specs.SeenCalls as s
+use Rattle.pungi_names.specs.SeenCalls.{Seen, seen, defined_called}
+
+module _ (env : Env) where
+  pub wants-seen : (c : Callee) → s.wants_seen (seen env.file c) ≡ wants env c
+  wants-seen no_word = refl
+  wants-seen a_value = refl
+  wants-seen (defined d) = refl
+  wants-seen (a_row r) = refl
+  wants-seen no_function = refl
+
+  pub result-seen : (c : Callee) → s.result_seen env.self env.refused (seen env.file c) ≡ result_kind env c
+  result-seen no_word = refl
+  result-seen a_value = refl
+  result-seen (defined d) = refl
+  result-seen (a_row r) = refl
+  result-seen no_function = refl
+
+  pub value-seen : (c : Callee) → s.is_value_seen (seen env.file c) ≡ is_value_called c
+  value-seen no_word = refl
+  value-seen a_value = refl
+  value-seen (defined d) = refl
+  value-seen (a_row r) = refl
+  value-seen no_function = refl
+
+  pub takes-seen : (c : Callee) → s.takes_seen (seen env.file c) ≡ takes_arguments c
+  takes-seen no_word = refl
+  takes-seen a_value = refl
+  takes-seen (defined d) = refl
+  takes-seen (a_row r) = refl
+  takes-seen no_function = refl
+
+  pub unknown-seen : (c : Callee) → s.is_unknown_seen env.self env.refused (seen env.file c) ≡ is_unknown_call env c
+  unknown-seen no_word = refl
+  unknown-seen a_value = refl
+  unknown-seen (defined d) = refl
+  unknown-seen (a_row r) = refl
+  unknown-seen no_function = refl
+
+  pub row-seen : (c : Callee) → s.row_of_seen (seen env.file c) ≡ row_called c
+  row-seen no_word = refl
+  row-seen a_value = refl
+  row-seen (defined d) = refl
+  row-seen (a_row r) = refl
+  row-seen no_function = refl
+
+  pub defined-seen : (c : Callee) → s.is_defined_seen (seen env.file c) ≡ is_defined c
+  defined-seen no_word = refl
+  defined-seen a_value = refl
+  defined-seen (defined d) = refl
+  defined-seen (a_row r) = refl
+  defined-seen no_function = refl
+
+pub none-seen : {A B C : Type 0} (f : A → C) (g : B → C) (o : Option A) (p : Option B) → option_map f o ≡ option_map g p → is_some o ≡ is_some p
+none-seen f g None None e = refl
+none-seen f g (Some x) (Some y) e = refl
+none-seen f g None (Some y) e = absurd cc
+none-seen f g (Some x) None e = absurd cc
+
+pub same-definition : (o : Option Definition) → is_some o ≡ is_some_definition o
+same-definition None = refl
+same-definition (Some d) = refl
+
+-- what is seen where a row is looked for
+pub row-there : (file : List Item) (w : ℕ) (r : Row) (ws : List Want) (o : Option Row) → Some (r, ws) ≡ option_map row_seen o
+    → s.row_called r ws ≡ seen file (row_or file w o)
+row-there file w r ws (Some q) e = let same : (r, ws) ≡ row_seen q = cc in ap (λ p. s.row_called p.0 p.1) same
+row-there file w r ws None e = absurd cc
+
+pub row-missing : (file : List Item) (w : ℕ) (o : Option Row) → None ≡ option_map row_seen o → seen file (value_or_none file w) ≡ seen file (row_or file w o)
+row-missing file w None e = refl
+row-missing file w (Some q) e = absurd cc
+
+-- and where a function is
+pub definition-there : (env : Env) (w : ℕ) (x : ℕ × (List Want × Option ValueKind)) (o : Option Definition) → Some x ≡ option_map (signature_of env.file) o
+    → defined_called x ≡ seen env.file (defined_or env w o)
+definition-there env w x (Some d) e = let same : x ≡ signature_of env.file d = cc in ap defined_called same
+definition-there env w x None e = absurd cc
+
+pub definition-missing : (env : Env) (w : ℕ) (o : Option Definition) → None ≡ option_map (signature_of env.file) o
+    → seen env.file (defined_or env w None) ≡ seen env.file (defined_or env w o)
+definition-missing env w None e = refl
+definition-missing env w (Some d) e = absurd cc

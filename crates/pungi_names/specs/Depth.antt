@@ -1,0 +1,67 @@
+-- How far typedefs lead (C11 6.7.8).
+--   Reached            what the word of a typedef stands for, and how many typedefs lead there
+--   nowhere            no type
+--   with_stars c n     a type with so many stars; those of no type count nothing
+--   known f            a type, where the stars of no type count nothing
+--   behind k f         the same behind a typedef with so many stars
+--   word_base w        the type that a word names
+--   known_at file n w  what a word names, where typedefs are followed at most so many times
+--   reached_within r n what is reached within so many typedefs
+--   found_within o n    the same, where something is found
+--   Reaches step w r   followed any number of times, the word is what is reached within so many
+--   Leads step w k v   the word is another with so many stars more
+--   alias_of b         the word that a type is
+--   own_core tag n b   the type that a typedef of a word writes itself; tag tells whether the word is also the tag of a struct
+use Rattle.std.specs.Prelude.{◌≡◌, ℕ, zero, suc, ◌+◌, nat_le, Bool, ◌&&◌, not, Option, Some, None, List, if◌then◌else◌}
+use Rattle.pungi_base.specs.declared.names.Name.{Name}
+use Rattle.pungi_tree.specs.Syntax.{Base, alias, tagged_fields, Item}
+use Rattle.pungi_types.specs.Kinds.{Core, base_words, builtin, struct_of, no_core, Followed, core_alone, core_at, written_core, is_struct}
+
+pub record Reached : Type 0 where
+  pub depth : ℕ
+  pub at : Followed
+
+abbrev pub nowhere : Followed
+nowhere = core_alone no_core
+
+abbrev pub with_stars : Core → ℕ → Followed
+with_stars (base_words ks) n = record { core = base_words ks; stars = n }
+with_stars (builtin w) n = record { core = builtin w; stars = n }
+with_stars (struct_of w) n = record { core = struct_of w; stars = n }
+with_stars no_core n = nowhere
+
+abbrev pub known : Followed → Followed
+known f = with_stars f.core f.stars
+
+abbrev pub behind : ℕ → Followed → Followed
+behind k f = with_stars f.core (f.stars + k)
+
+abbrev pub word_base : ℕ → Base
+word_base w = alias (record { 0 = w })
+
+abbrev pub known_at : List Item → ℕ → ℕ → Followed
+known_at file n w = known (core_at n file (word_base w))
+
+abbrev pub reached_within : Reached → ℕ → Followed
+reached_within r n = (if nat_le r.depth n then known r.at else nowhere)
+
+abbrev pub found_within : Option Reached → ℕ → Followed
+found_within None n = nowhere
+found_within (Some r) n = reached_within r n
+
+-- `step n w` is what the word is when typedefs are followed at most n times
+abbrev pub Reaches : (ℕ → ℕ → Followed) → ℕ → Reached → Type 0
+Reaches step w r = (n : ℕ) → step n w ≡ reached_within r n
+
+-- one typedef more: nothing at first, then what the word behind it is
+pub record Leads (step : ℕ → ℕ → Followed) (w k v : ℕ) : Type 0 where
+  pub first : step zero w ≡ nowhere
+  pub later : (n : ℕ) → step (suc n) w ≡ behind k (step n v)
+
+abbrev pub alias_of : Base → Option Name
+alias_of (alias n) = Some n
+alias_of _ = None
+
+abbrev pub own_core : Bool → Name → Base → Core
+own_core tag n (tagged_fields of None fs) = (if is_struct of && not tag then struct_of n else no_core)
+own_core tag n b = written_core b

@@ -1,0 +1,15 @@
+pub mod CalledView
+pub mod CallsView
+pub mod CoresView
+pub mod Depth
+pub mod FieldsView
+pub mod Finds
+pub mod First
+pub mod GlobalsView
+pub mod MeaningView
+pub mod NamesView
+pub mod RowsView
+pub mod SeenCalls
+pub mod StructsView
+pub mod Walk
+pub mod WalkView

@@ -1,0 +1,83 @@
+// Types with their typedefs followed.
+ghost use Rattle.std.specs.Prelude.{◌≡◌, ℕ, nat_eq, option_map, false};
+ghost use Rattle.indexmap.specs.IndexMap.{get};
+ghost use Rattle.pungi_names.specs.Depth.{known, word_base, found_within, reached_within};
+ghost use Rattle.pungi_names.specs.Finds.{reached_view};
+ghost use Rattle.pungi_tree.specs.UnitView.{unit_view};
+ghost use Rattle.pungi_types.specs.Kinds.{is_listed_type as is_listed_type_of, core_of as core_of_base};
+
+use crate::step::Reached;
+use crate::written::{alias_of, is_listed_type, written_core};
+use indexmap::IndexMap;
+use pungi_base::Name;
+use pungi_tree::{Base, Unit};
+use pungi_types::Core;
+
+/// A type once typedefs are followed.
+#[derive(Clone, Copy, Debug)]
+pub(crate) struct Followed<'u> {
+    pub(crate) core: Core<'u>,
+    pub(crate) stars: usize,
+}
+
+/// The typedefs of a file, each followed to its end.
+#[derive(Drop)]
+pub(crate) struct Cores<'u> {
+    pub(crate) unit: &'u Unit,
+    pub(crate) reached: IndexMap<u32, Reached<'u>>,
+    /// How many typedefs the file has.
+    pub(crate) count: usize,
+    pub(crate) ghost followed: { (w : ℕ) → is_listed_type_of w ≡ false → found_within (option_map reached_view (get nat_eq reached w)) count ≡ known (core_of_base (unit_view unit.now) (word_base w)) },
+}
+
+impl<'u> Cores<'u> {
+    ghost use Rattle.pungi_tree.specs.ExprView.{base_view};
+    ghost use Rattle.pungi_names.specs.CoresView.{followed_view};
+
+    fn word_core(&self, word: Name) -> Followed<'_>
+        ensures { known (followed_view result) ≡ known (core_of_base (unit_view self.now.unit.now) (word_base word.0)) }
+    {
+        if is_listed_type(word.0) {
+            return Followed {
+                core: Core::Listed(word),
+                stars: 0,
+            };
+        }
+        match self.reached.get(&word.0) {
+            Some(reached) => self.within(reached),
+            None => Followed {
+                core: Core::Other,
+                stars: 0,
+            },
+        }
+    }
+
+    fn within<'a>(&self, reached: &Reached<'a>) -> Followed<'a>
+        ensures { known (followed_view result) ≡ reached_within (reached_view reached.now) self.now.count }
+    {
+        if reached.depth <= self.count {
+            Followed {
+                core: reached.core,
+                stars: reached.stars,
+            }
+        } else {
+            Followed {
+                core: Core::Other,
+                stars: 0,
+            }
+        }
+    }
+
+    /// What a type is once typedefs are followed.
+    pub(crate) fn core_of<'a>(&'a self, base: &'a Base) -> Followed<'a>
+        ensures { known (followed_view result) ≡ known (core_of_base (unit_view self.now.unit.now) (base_view base.now)) }
+    {
+        match alias_of(base) {
+            Some(word) => self.word_core(word),
+            None => Followed {
+                core: written_core(base),
+                stars: 0,
+            },
+        }
+    }
+}

@@ -1,0 +1,133 @@
+// The names of a file.
+ghost use Rattle.std.specs.Prelude.{◌≡◌, ℕ, nat_eq, option_map};
+ghost use Rattle.indexmap.specs.IndexMap.{get};
+ghost use Rattle.indexmap.specs.IndexSet.{contains};
+ghost use Rattle.pungi_api.specs.Rows.{row_in};
+ghost use Rattle.pungi_names.specs.CallsView.{signature_view, signature_of};
+ghost use Rattle.pungi_names.specs.RowsView.{call_view, row_seen};
+ghost use Rattle.pungi_tree.specs.UnitView.{unit_view};
+ghost use Rattle.pungi_types.specs.Files.{definitions as definitions_of, definition_in, prototypes as prototypes_of, is_place_in};
+
+use crate::called::Called;
+use crate::meaning::Meaning;
+use crate::rows::RowCall;
+use crate::signature::Signature;
+use crate::tables::is_table;
+use crate::values::{Values, is_plain_static};
+use indexmap::{IndexMap, IndexSet};
+use pungi_api::Table;
+use pungi_tree::{Declr, Spec};
+
+/// The names that a file declares, and the rows of the API, each found at once.
+#[derive(Drop)]
+pub struct UnitNames<'u> {
+    pub(crate) values: Values<'u>,
+    pub(crate) rows: &'u Table,
+    pub(crate) prototypes: IndexSet<u32>,
+    pub(crate) signatures: IndexMap<u32, Signature>,
+    pub(crate) calls: IndexMap<u32, RowCall<'u>>,
+    pub(crate) ghost prototypes_found: { (w : ℕ) → contains nat_eq prototypes w ≡ is_place_in (prototypes_of (unit_view values.kinds.cores.unit.now)) w },
+    pub(crate) ghost signatures_found: { (w : ℕ) → option_map signature_view (get nat_eq signatures w) ≡ option_map (signature_of (unit_view values.kinds.cores.unit.now)) (definition_in (definitions_of (unit_view values.kinds.cores.unit.now)) w) },
+    pub(crate) ghost calls_found: { (w : ℕ) → option_map call_view (get nat_eq calls w) ≡ option_map row_seen (row_in rows.now w) },
+}
+
+impl<'u> UnitNames<'u> {
+    ghost use Rattle.std.specs.Prelude.{is_some, length, None};
+    ghost use Rattle.pungi_names.specs.CalledView.{called_view};
+    ghost use Rattle.pungi_names.specs.MeaningView.{meaning_view};
+    ghost use Rattle.pungi_names.specs.NamesView.{file_of, rows_of, file_callee};
+    ghost use Rattle.pungi_names.specs.SeenCalls.{seen};
+    ghost use Rattle.pungi_tree.specs.ExprView.{spec_view, declr_view};
+    ghost use Rattle.pungi_types.specs.Exprs.{row_or, value_or_none};
+    ghost use Rattle.pungi_types.specs.Names.{is_table as is_table_of, is_static as is_static_of, type_objects as type_objects_of, is_function as is_function_of, global_kind, global_or, local_or};
+
+    /// Whether what is declared is a table.
+    pub fn is_table(&self, spec: &Spec, declr: &Declr) -> bool
+        ensures { result ≡ is_table_of (file_of self.now) (record { spec = spec_view spec.now; declr = declr_view declr.now }) }
+    {
+        is_table(&self.values.kinds.cores, spec, declr)
+    }
+
+    /// Whether a word names a static object.
+    pub fn is_static(&self, word: u32) -> bool
+        ensures { result ≡ is_static_of (file_of self.now) word }
+    {
+        self.values.is_static(word)
+    }
+
+    /// Whether a word names a row.
+    pub fn is_row(&self, word: u32) -> bool
+        ensures { result ≡ is_some (row_in (rows_of self.now) word) }
+    {
+        self.calls.contains_key(&word)
+    }
+
+    /// How many type objects the file has.
+    pub fn type_objects(&self) -> u32
+        ensures { result ≡ length (type_objects_of (file_of self.now)) }
+    {
+        self.values.type_object_count()
+    }
+
+    fn is_defined(&self, word: u32) -> bool
+        ensures { result ≡ is_some (definition_in (definitions_of (file_of self.now)) word) }
+    {
+        self.signatures.contains_key(&word)
+    }
+
+    /// Whether a word names a function of the file.
+    pub(crate) fn is_function(&self, word: u32) -> bool
+        ensures { result ≡ is_function_of (file_of self.now) word }
+    {
+        self.is_defined(word) || self.prototypes.contains(&word)
+    }
+
+    fn variable_meaning(&self, word: u32) -> Meaning
+        ensures { meaning_view result ≡ global_or (file_of self.now) word (global_kind (file_of self.now) word) }
+    {
+        match self.values.global_kind(word) {
+            Some(kind) => Meaning::Global(kind),
+            None => self.values.static_meaning(word),
+        }
+    }
+
+    /// What a word of the file is where it stands as a value.
+    pub(crate) fn meaning(&self, word: u32) -> Meaning
+        ensures { meaning_view result ≡ local_or (file_of self.now) word None }
+    {
+        if self.is_function(word) {
+            Meaning::Function
+        } else {
+            self.variable_meaning(word)
+        }
+    }
+
+    fn value_called(&self, word: u32) -> Called<'_>
+        ensures { called_view result ≡ seen (file_of self.now) (value_or_none (file_of self.now) word) }
+    {
+        if self.values.global_kind(word).is_some() || is_plain_static(word) {
+            Called::Value
+        } else {
+            Called::Nothing
+        }
+    }
+
+    fn row_called(&self, word: u32) -> Called<'_>
+        ensures { called_view result ≡ seen (file_of self.now) (row_or (file_of self.now) word (row_in (rows_of self.now) word)) }
+    {
+        match self.calls.get(&word) {
+            Some(call) => Called::Row(call.row, call.wants.as_slice()),
+            None => self.value_called(word),
+        }
+    }
+
+    /// What a word of the file is where it is called.
+    pub(crate) fn called(&self, word: u32) -> Called<'_>
+        ensures { called_view result ≡ seen (file_of self.now) (file_callee (file_of self.now) (rows_of self.now) word) }
+    {
+        match self.signatures.get(&word) {
+            Some(signature) => Called::Defined(signature),
+            None => self.row_called(word),
+        }
+    }
+}

@@ -1,0 +1,160 @@
+// The values that stand outside functions, and the fields of structs.
+ghost use Rattle.std.specs.Prelude.{◌≡◌, ◌+◌, ◌<◌, ◌^◌, ◌&&◌, not, nat_le, ℕ, nat_eq, option_map, None, length};
+ghost use Rattle.indexmap.specs.IndexMap.{get};
+ghost use Rattle.indexmap.specs.IndexSet.{contains};
+ghost use Rattle.pungi_names.specs.FieldsView.{kind_in};
+ghost use Rattle.pungi_names.specs.StructsView.{kept_or};
+ghost use Rattle.pungi_tree.specs.UnitView.{unit_view};
+ghost use Rattle.pungi_types.specs.Kinds.{field_in_some, struct_fields};
+ghost use Rattle.pungi_types.specs.Names.{global_kind as global_kind_of, is_module as is_module_of, type_objects as type_objects_of, is_plain_static as is_plain_static_of};
+
+use crate::kinds::Kinds;
+use crate::meaning::Meaning;
+use indexmap::{IndexMap, IndexSet};
+use pungi_types::ValueKind;
+use pungi_types::type_words::{FIRST_STATIC, FIRST_TYPE_OBJECT, STATICS_END};
+
+/// The variables of a file, its tables, and the fields of its structs.
+#[derive(Drop)]
+pub(crate) struct Values<'u> {
+    pub(crate) kinds: Kinds<'u>,
+    pub(crate) fields: IndexMap<u32, IndexMap<u32, Option<ValueKind>>>,
+    pub(crate) globals: IndexMap<u32, Option<ValueKind>>,
+    pub(crate) modules: IndexSet<u32>,
+    pub(crate) type_objects: IndexSet<u32>,
+    pub(crate) ghost fields_found: { (s : ℕ) (w : ℕ) → kept_or (option_map (kind_in w) (get nat_eq fields s)) None ≡ field_in_some (unit_view kinds.cores.unit.now) (struct_fields (unit_view kinds.cores.unit.now) s) w },
+    pub(crate) ghost globals_found: { (w : ℕ) → kept_or (get nat_eq globals w) None ≡ global_kind_of (unit_view kinds.cores.unit.now) w },
+    pub(crate) ghost modules_found: { (w : ℕ) → contains nat_eq modules w ≡ is_module_of (unit_view kinds.cores.unit.now) w },
+    pub(crate) ghost type_objects_found: { type_objects.keys ≡ type_objects_of (unit_view kinds.cores.unit.now) },
+    pub(crate) ghost few: { length type_objects.keys + 24 < 2 ^ 32 },
+}
+
+/// A static that is used without `&`.
+pub(crate) fn is_plain_static(word: u32) -> bool
+    ensures { result ≡ is_plain_static_of word }
+{
+    FIRST_STATIC <= word && !(FIRST_TYPE_OBJECT <= word)
+}
+
+fn is_built_in_type_object(word: u32) -> bool
+    ensures { result ≡ (nat_le FIRST_TYPE_OBJECT word && not (nat_le STATICS_END word)) }
+{
+    FIRST_TYPE_OBJECT <= word && !(STATICS_END <= word)
+}
+
+fn kind_of_field(fields: &IndexMap<u32, Option<ValueKind>>, word: u32) -> Option<ValueKind>
+    ensures { result ≡ kind_in word fields.now }
+{
+    match fields.get(&word) {
+        Some(kind) => *kind,
+        None => None,
+    }
+}
+
+impl<'u> Values<'u> {
+    ghost use Rattle.pungi_names.specs.MeaningView.{meaning_view};
+    ghost use Rattle.pungi_types.specs.Kinds.{field_kind as field_kind_of};
+    ghost use Rattle.pungi_types.specs.Names.{is_among, is_type_object as is_type_object_of, is_static as is_static_of, static_number as static_number_of, static_or_unknown, place_among};
+
+    fn field_of_struct(&self, name: u32, word: u32) -> Option<ValueKind>
+        ensures { result ≡ field_in_some (unit_view self.now.kinds.cores.unit.now) (struct_fields (unit_view self.now.kinds.cores.unit.now) name) word }
+    {
+        match self.fields.get(&name) {
+            Some(fields) => kind_of_field(fields, word),
+            None => None,
+        }
+    }
+
+    /// The kind of a field of the struct of a pointer.
+    pub(crate) fn field_kind(&self, base: Option<ValueKind>, word: u32) -> Option<ValueKind>
+        ensures { result ≡ field_kind_of (unit_view self.now.kinds.cores.unit.now) base word }
+    {
+        match base {
+            Some(ValueKind::Object(Some(name))) => self.field_of_struct(name.0, word),
+            Some(ValueKind::Object(None)) => None,
+            Some(ValueKind::Int) => None,
+            Some(ValueKind::Long) => None,
+            Some(ValueKind::Size) => None,
+            Some(ValueKind::Text) => None,
+            Some(ValueKind::Null) => None,
+            Some(ValueKind::Void) => None,
+            None => None,
+        }
+    }
+
+    /// The kind of a variable.
+    pub(crate) fn global_kind(&self, word: u32) -> Option<ValueKind>
+        ensures { result ≡ global_kind_of (unit_view self.now.kinds.cores.unit.now) word }
+    {
+        match self.globals.get(&word) {
+            Some(kind) => *kind,
+            None => None,
+        }
+    }
+
+    /// Whether a word names a table of type `PyModuleDef`.
+    pub(crate) fn is_module(&self, word: u32) -> bool
+        ensures { result ≡ is_module_of (unit_view self.now.kinds.cores.unit.now) word }
+    {
+        self.modules.contains(&word)
+    }
+
+    fn has_type_object(&self, word: u32) -> bool
+        ensures { result ≡ is_among (type_objects_of (unit_view self.now.kinds.cores.unit.now)) word }
+    {
+        self.type_objects.contains(&word)
+    }
+
+    /// Whether a word names a type object.
+    pub(crate) fn is_type_object(&self, word: u32) -> bool
+        ensures { result ≡ is_type_object_of (unit_view self.now.kinds.cores.unit.now) word }
+    {
+        is_built_in_type_object(word) || self.has_type_object(word)
+    }
+
+    /// Whether a word names a static object.
+    pub(crate) fn is_static(&self, word: u32) -> bool
+        ensures { result ≡ is_static_of (unit_view self.now.kinds.cores.unit.now) word }
+    {
+        is_plain_static(word) || self.is_type_object(word)
+    }
+
+    /// How many type objects the file has.
+    pub(crate) fn type_object_count(&self) -> u32
+        ensures { result ≡ length (type_objects_of (unit_view self.now.kinds.cores.unit.now)) }
+    {
+        self.type_objects.len() as u32
+    }
+
+    fn place_of(&self, word: u32) -> u32
+        ensures place { result ≡ place_among (type_objects_of (unit_view self.now.kinds.cores.unit.now)) word }
+        ensures few { result + 24 < 2 ^ 32 }
+    {
+        match self.type_objects.get_index_of(&word) {
+            Some(place) => place as u32,
+            None => self.type_objects.len() as u32,
+        }
+    }
+
+    /// The number of a static's object.
+    pub(crate) fn static_number(&self, word: u32) -> u32
+        ensures { result ≡ static_number_of (unit_view self.now.kinds.cores.unit.now) word }
+    {
+        if FIRST_STATIC <= word && !(STATICS_END <= word) {
+            word - FIRST_STATIC
+        } else {
+            self.place_of(word) + 24
+        }
+    }
+
+    /// What a word is that names neither a function nor a variable.
+    pub(crate) fn static_meaning(&self, word: u32) -> Meaning
+        ensures { meaning_view result ≡ static_or_unknown (unit_view self.now.kinds.cores.unit.now) word }
+    {
+        if is_plain_static(word) && !self.has_type_object(word) {
+            Meaning::Static(self.static_number(word))
+        } else {
+            Meaning::Unknown
+        }
+    }
+}

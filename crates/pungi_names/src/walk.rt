@@ -1,0 +1,143 @@
+// A chain of typedefs is followed to its end.
+ghost use Rattle.std.specs.Prelude.{◌≡◌, ℕ, ◌+◌, nat_eq, reverse, option_map, IfOk, OnOk};
+ghost use Rattle.indexmap.specs.IndexMap.{get};
+ghost use Rattle.indexmap.specs.IndexSet.{contains};
+ghost use Rattle.pungi_names.specs.Depth.{known_at, Reaches};
+ghost use Rattle.pungi_names.specs.Finds.{FindsTypedefs, FindsTags, reached_view};
+ghost use Rattle.pungi_names.specs.Walk.{AllReach, IsPath};
+ghost use Rattle.pungi_names.specs.WalkView.{IsWalk, one_behind};
+ghost use Rattle.pungi_tree.specs.UnitView.{unit_view};
+
+use crate::step::{Reached, Step, next_step};
+use indexmap::{IndexMap, IndexSet};
+use pungi_base::Memory;
+use pungi_tree::Unit;
+use pungi_types::{Core, Typedef};
+use std::alloc::Global;
+
+/// The words that a walk came by, each with the stars that its typedef adds, the word where it ends, and what that word
+/// reaches. Where the walk came by that word before, it reaches nothing.
+#[derive(Drop)]
+pub(crate) struct Walk<'u> {
+    pub(crate) path: Vec<(u32, usize)>,
+    pub(crate) at: u32,
+    pub(crate) end: Option<Reached<'u>>,
+}
+
+/// Walks from a word to one whose end is known, or in a circle.
+fn walk_from<'u>(
+    alloc: Global,
+    unit: &Unit,
+    typedefs: &IndexMap<u32, Typedef<'u>>,
+    tags: &IndexSet<u32>,
+    done: &IndexMap<u32, Reached<'u>>,
+    start: u32,
+) -> Result<Walk<'u>, Memory>
+    requires typedefs { FindsTypedefs (get nat_eq typedefs.now) (unit_view unit.now) }
+    requires tags { FindsTags (contains nat_eq tags.now) (unit_view unit.now) }
+    requires done { AllReach (known_at (unit_view unit.now)) (λ w. option_map reached_view (get nat_eq done.now w)) }
+    ensures { IfOk result (λ walk. IsWalk (known_at (unit_view unit.now)) start walk) }
+{
+    let mut path: Vec<(u32, usize)> = Vec::new(alloc);
+    let mut seen: IndexSet<u32> = IndexSet::new(alloc);
+    let mut at = start;
+    'words: loop {
+        if let Some(found) = done.get(&at) {
+            let end = Some(*found);
+            return Ok(Walk { path, at, end });
+        }
+        if seen.contains(&at) {
+            return Ok(Walk {
+                path,
+                at,
+                end: None,
+            });
+        }
+        match next_step(unit, typedefs, tags, at) {
+            Step::Ends(reached) => {
+                let end = Some(reached);
+                return Ok(Walk { path, at, end });
+            }
+            Step::Leads(stars, next) => {
+                seen.insert(at)?;
+                path.push((at, stars))?;
+                at = next;
+            }
+        }
+    }
+}
+
+/// What stands behind one typedef more.
+fn one_more(stars: usize, reached: Reached) -> Result<Reached, Memory>
+    ensures { IfOk result (λ more. reached_view more ≡ one_behind stars (reached_view reached.entry)) }
+{
+    let Some(all_stars) = reached.stars.checked_add(stars) else {
+        return Err(Memory);
+    };
+    let Some(depth) = reached.depth.checked_add(1) else {
+        return Err(Memory);
+    };
+    Ok(Reached {
+        core: reached.core,
+        stars: all_stars,
+        depth,
+    })
+}
+
+/// Goes back along a walk that began at a word, and keeps what each word on it reaches.
+fn go_back<'u>(
+    unit: &Unit,
+    done: &mut IndexMap<u32, Reached<'u>>,
+    start: u32,
+    walked: Vec<(u32, usize)>,
+    end: u32,
+    end_reached: Reached<'u>,
+) -> Result<Reached<'u>, Memory>
+    requires path { IsPath (known_at (unit_view unit.now)) start (reverse walked.items) end }
+    requires end { Reaches (known_at (unit_view unit.now)) end (reached_view end_reached) }
+    requires done { AllReach (known_at (unit_view unit.now)) (λ w. option_map reached_view (get nat_eq done.old w)) }
+    ensures done { OnOk result (AllReach (known_at (unit_view unit.now)) (λ w. option_map reached_view (get nat_eq done.new w))) }
+    ensures reached { IfOk result (λ reached. Reaches (known_at (unit_view unit.now)) start (reached_view reached)) }
+{
+    let _ = unit;
+    let _ = start;
+    let mut path = walked;
+    let mut at = end;
+    let mut reached = end_reached;
+    while let Some((word, stars)) = path.pop() {
+        reached = one_more(stars, reached)?;
+        done.insert(word, reached)?;
+        at = word;
+    }
+    let _ = at;
+    Ok(reached)
+}
+
+/// What a word reaches. What is found on the way is kept.
+pub(crate) fn follow<'u>(
+    alloc: Global,
+    unit: &Unit,
+    typedefs: &IndexMap<u32, Typedef<'u>>,
+    tags: &IndexSet<u32>,
+    done: &mut IndexMap<u32, Reached<'u>>,
+    start: u32,
+) -> Result<Reached<'u>, Memory>
+    requires typedefs { FindsTypedefs (get nat_eq typedefs.now) (unit_view unit.now) }
+    requires tags { FindsTags (contains nat_eq tags.now) (unit_view unit.now) }
+    requires done { AllReach (known_at (unit_view unit.now)) (λ w. option_map reached_view (get nat_eq done.old w)) }
+    ensures done { OnOk result (AllReach (known_at (unit_view unit.now)) (λ w. option_map reached_view (get nat_eq done.new w))) }
+    ensures reached { IfOk result (λ reached. Reaches (known_at (unit_view unit.now)) start (reached_view reached)) }
+{
+    let walked = walk_from(alloc, unit, typedefs, tags, done, start)?;
+    match walked.end {
+        Some(reached) => go_back(unit, done, start, walked.path, walked.at, reached),
+        None => {
+            let nowhere = Reached {
+                core: Core::Other,
+                stars: 0,
+                depth: 0,
+            };
+            go_back(unit, done, start, walked.path, walked.at, nowhere)
+        }
+    }
+}
