@@ -7,12 +7,11 @@ ghost use Rattle.pungi_types.specs.Duplicates.{is_taken as is_taken_of, is_varia
 ghost use Rattle.pungi_types.specs.Findings.{least_from};
 
 use crate::name_use::{NameUse, Use};
-use crate::words::{is_kept, keep};
 use indexmap::IndexSet;
 use pungi_base::Memory;
 use pungi_names::UnitNames;
 use pungi_tree::FunctionDef;
-use pungi_types::{Finding, note};
+use pungi_types::{Finding, is_kept, keep, note};
 use std::alloc::Global;
 
 /// How many functions a file may define.

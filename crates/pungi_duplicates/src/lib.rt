@@ -8,6 +8,5 @@ mod seen_tags;
 mod seen_uses;
 mod typedef_words;
 mod unit_uses;
-mod words;
 
 pub use file_faults::faults;

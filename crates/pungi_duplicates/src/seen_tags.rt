@@ -7,11 +7,10 @@ ghost use Rattle.pungi_types.specs.Findings.{least_from};
 ghost use Rattle.pungi_types.specs.Kinds.{is_struct as is_struct_of};
 ghost use Rattle.pungi_types.specs.Names.{is_among};
 
-use crate::words::{is_kept, keep};
 use indexmap::IndexSet;
 use pungi_base::{Key, Memory, Name, Pos};
 use pungi_declared::Tag;
-use pungi_types::{Finding, note};
+use pungi_types::{Finding, is_kept, keep, note};
 use std::alloc::Global;
 
 /// The tags of structs and of unions that were seen.

@@ -6,10 +6,9 @@ ghost use Rattle.pungi_duplicates.specs.UsesView.{use_view, name_use_view};
 ghost use Rattle.pungi_types.specs.Findings.{least_from, when};
 
 use crate::name_use::{NameUse, Use};
-use crate::words::{is_kept, keep};
 use indexmap::IndexSet;
 use pungi_base::Memory;
-use pungi_types::{Finding, note};
+use pungi_types::{Finding, is_kept, keep, note};
 use std::alloc::Global;
 
 /// The words that were seen as names of functions, variables and tables.

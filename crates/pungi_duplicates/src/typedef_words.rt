@@ -2,22 +2,12 @@
 ghost use Rattle.std.specs.Prelude.{◌≡◌, [], OnOk, map};
 ghost use Rattle.pungi_types.specs.Duplicates.{typedef_faults};
 ghost use Rattle.pungi_types.specs.Findings.{least_from};
-ghost use Rattle.pungi_types.specs.Kinds.{is_listed_type as is_listed_type_of};
 ghost use Rattle.pungi_types.specs.TypesView.{typedef_view};
 
-use crate::words::{is_kept, keep};
 use indexmap::IndexSet;
 use pungi_base::Memory;
-use pungi_types::type_words::{FIRST_TYPE, TYPES_END};
-use pungi_types::{Finding, Typedef, note};
+use pungi_types::{Finding, Typedef, is_kept, is_listed_type, keep, note};
 use std::alloc::Global;
-
-/// Whether a word is a type word that is known before a text is read.
-fn is_listed_type(word: u32) -> bool
-    ensures { result ≡ is_listed_type_of word }
-{
-    FIRST_TYPE <= word && !(TYPES_END <= word)
-}
 
 /// Notes the type words that are defined twice, or that are known before a text is read.
 pub(crate) fn note_typedefs(

@@ -1,6 +1,7 @@
 -- A walk along typedefs.
 --   on_path ps w        a word is among those that were walked by, the latest first
 --   IsPath step s ps v  from s by these words to v, each with the stars that its typedef adds
+--   ReachesSome step w o    what may be found under a word is what it reaches
 --   AllReach step find  what is found under a word is what it reaches
 --   EndsAt step ps v o  where a walk ends: at what the word reaches, or at a word that was walked by
 use Rattle.std.specs.Prelude.{◌≡◌, ℕ, ◌==◌, Bool, false, ◌||◌, List, [], ◌∷◌, Option, Some, None, IsTrue}

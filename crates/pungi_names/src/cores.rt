@@ -7,11 +7,11 @@ ghost use Rattle.pungi_tree.specs.UnitView.{unit_view};
 ghost use Rattle.pungi_types.specs.Kinds.{is_listed_type as is_listed_type_of, core_of as core_of_base};
 
 use crate::step::Reached;
-use crate::written::{alias_of, is_listed_type, written_core};
+use crate::written::alias_of;
 use indexmap::IndexMap;
 use pungi_base::Name;
 use pungi_tree::{Base, Unit};
-use pungi_types::Core;
+use pungi_types::{Core, is_listed_type, written_core};
 
 /// A type once typedefs are followed.
 #[derive(Clone, Copy, Debug)]

@@ -13,7 +13,6 @@ mod heads;
 mod kinds;
 mod meaning;
 mod names;
-mod plain_kinds;
 mod rows;
 mod signature;
 mod step;

@@ -9,11 +9,11 @@ ghost use Rattle.pungi_types.specs.Files.{typedefs as typedefs_of};
 ghost use Rattle.pungi_types.specs.Kinds.{typedef_in, is_listed_type as is_listed_type_of};
 ghost use Rattle.pungi_types.specs.TypesView.{typedef_view};
 
-use crate::written::{alias_of, is_listed_type, own_core};
+use crate::written::{alias_of, own_core};
 use indexmap::{IndexMap, IndexSet};
 use pungi_base::Name;
 use pungi_tree::Unit;
-use pungi_types::{Core, Typedef};
+use pungi_types::{Core, Typedef, is_listed_type};
 
 /// What the word of a typedef stands for, and how many typedefs lead there.
 #[derive(Clone, Copy, Debug)]

@@ -2,52 +2,12 @@
 ghost use Rattle.std.specs.Prelude.{◌≡◌, ◌&&◌, not, if◌then◌else◌};
 ghost use Rattle.pungi_names.specs.Depth.{alias_of as alias_of_base, own_core as own_core_of};
 ghost use Rattle.pungi_tree.specs.ExprView.{base_view};
-ghost use Rattle.pungi_types.specs.Kinds.{is_struct, struct_of, no_core, is_listed_type as is_listed_type_of, tagged_core as tagged_core_of, written_core as written_core_of};
+ghost use Rattle.pungi_types.specs.Kinds.{is_struct, struct_of, no_core};
 ghost use Rattle.pungi_types.specs.TypesView.{core_view};
 
 use pungi_base::{Key, Name};
 use pungi_tree::Base;
-use pungi_types::Core;
-use pungi_types::type_words::{FIRST_TYPE, PY_MODULE_DEF, TYPES_END};
-
-/// Whether a word is the name of a type that is known before a text is read.
-pub(crate) fn is_listed_type(word: u32) -> bool
-    ensures { result ≡ is_listed_type_of word }
-{
-    FIRST_TYPE <= word && !(TYPES_END <= word)
-}
-
-fn tagged_core(of: Key, name: Name) -> Core<'static>
-    ensures { core_view result ≡ tagged_core_of of name }
-{
-    match of {
-        Key::Struct if name.0 == PY_MODULE_DEF => Core::Listed(name),
-        Key::Struct => Core::Struct(name),
-        _ => Core::Other,
-    }
-}
-
-/// The type that is written, where no typedef is followed.
-pub(crate) fn written_core(base: &Base) -> Core<'_>
-    ensures { core_view result ≡ written_core_of (base_view base.now) }
-{
-    match base {
-        Base::Words(keys) => Core::Words(keys.as_slice()),
-        Base::Alias(name) => {
-            if is_listed_type(name.0) {
-                Core::Listed(*name)
-            } else {
-                Core::Other
-            }
-        }
-        Base::Tagged {
-            of,
-            tag: Some((name, _)),
-            ..
-        } => tagged_core(*of, *name),
-        Base::Tagged { tag: None, .. } => Core::Other,
-    }
-}
+use pungi_types::{Core, written_core};
 
 /// The word that a type is.
 pub(crate) fn alias_of(base: &Base) -> Option<Name>
@@ -87,24 +47,8 @@ pub(crate) fn own_core(is_tag: bool, name: Name, base: &Base) -> Core<'_>
             tag: None,
             fields: None,
             ..
-        } => Core::Other,
-        Base::Tagged {
-            of,
-            tag: Some((tag, _)),
-            fields: None,
-        } => tagged_core(*of, *tag),
-        Base::Tagged {
-            of,
-            tag: Some((tag, _)),
-            fields: Some(_),
-        } => tagged_core(*of, *tag),
-        Base::Words(keys) => Core::Words(keys.as_slice()),
-        Base::Alias(word) => {
-            if is_listed_type(word.0) {
-                Core::Listed(*word)
-            } else {
-                Core::Other
-            }
-        }
+        } => written_core(base),
+        Base::Tagged { tag: Some(_), .. } => written_core(base),
+        Base::Words(_) | Base::Alias(_) => written_core(base),
     }
 }

@@ -1,4 +1,5 @@
 -- The call graph of a file, and the functions from which a call leads to a refused one.
+--   alone_in o, callees_in o    the parts of a function that may be missing
 --   is_alone fs i           a rule holds in function i where no other is refused
 --   is_call fs i j          function i calls function j
 --   Reaches fs i            from function i calls lead to one in which a rule holds alone, or it is one

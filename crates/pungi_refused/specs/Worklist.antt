@@ -1,5 +1,7 @@
 -- The worklist over calls: functions are marked as refused, and those whose callers are still to be marked wait.
+--   items_in o              the numbers of a list that may be missing
 --   callers_at cs j         the callers of function j
+--   NoCallers n cs          so many functions, none of which has a caller
 --   AreCallers fs cs        the lists are those of the callers of each function
 --   Added old new i js      the lists, with i as a caller of each of these
 --   is_marked marks i       function i is marked

@@ -10,11 +10,12 @@ ghost use Rattle.pungi_tree.specs.StmtView.{init_option_view, var_decl_view, dec
 
 use crate::Scope;
 use crate::walk::{Around, Walk};
-use crate::words::{is_kept, keep};
 use indexmap::IndexSet;
 use pungi_base::{Key, Memory, Name, Pos};
 use pungi_tree::{Decl, Declr, Init, Spec, VarDecl};
-use pungi_types::{Finding, Lookup, ValueKind, declared_kind, initial, note, note_declared};
+use pungi_types::{
+    Finding, Lookup, ValueKind, declared_kind, initial, is_kept, keep, note, note_declared,
+};
 
 /// What holds at the name of a local that is declared: it stands twice in one block, or is that of a function, row or
 /// static.

@@ -6,11 +6,10 @@ ghost use Rattle.pungi_types.specs.Findings.{least_from};
 ghost use Rattle.pungi_scope.specs.Frames.{labels_of};
 ghost use Rattle.pungi_tree.specs.StmtView.{stmt_view, stmts_of};
 
-use crate::words::{is_kept, keep};
 use indexmap::IndexSet;
 use pungi_base::Memory;
 use pungi_tree::{Stmt, StmtNode};
-use pungi_types::{Finding, note};
+use pungi_types::{Finding, is_kept, keep, note};
 use std::alloc::Global;
 
 /// The labels of the blocks around a place, the innermost block first.

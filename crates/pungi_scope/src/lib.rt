@@ -14,7 +14,6 @@ mod scope;
 mod steps;
 mod stmt;
 mod walk;
-mod words;
 
 pub use cases::constant;
 pub use function::refusal;

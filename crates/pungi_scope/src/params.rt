@@ -13,11 +13,10 @@ use crate::Scope;
 use crate::decl::note_name;
 use crate::steps::note_at;
 use crate::walk::{Around, Walk};
-use crate::words::keep;
 use indexmap::IndexSet;
 use pungi_base::{Key, Memory};
 use pungi_tree::{ParamDecl, ParamDeclr, Params, Spec};
-use pungi_types::{Lookup, ValueKind, note_declared, param_kind};
+use pungi_types::{Lookup, ValueKind, keep, note_declared, param_kind};
 
 /// What holds at the type of a parameter, and its kind.
 fn check_type<N: Lookup>(

@@ -1,8 +1,8 @@
 -- What the program's types stand for.
 --   core_view core           a type without its stars
---   typedef_view t           a typedef; IsTypedef says it of one that may be missing
+--   typedef_view t           a typedef
 --   definition_view f        a function
-use Rattle.std.specs.Prelude.{◌≡◌, length, Option, Some, None}
+use Rattle.std.specs.Prelude.{length}
 use Rattle.pungi_tree.specs.ExprView.{spec_view, params_view}
 use Rattle.pungi_tree.specs.StmtView.{stmt_view}
 use Rattle.pungi_tree.specs.declared.item.FunctionDef.{FunctionDef}
@@ -20,10 +20,6 @@ core_view cores.Other = plain.no_core
 
 abbrev pub typedef_view : Typedef → files.Typedef
 typedef_view t = record { name = t.name; pos = t.pos; spec = spec_view t.spec.now; stars = t.stars }
-
-abbrev pub IsTypedef : Option Typedef → Option files.Typedef → Type 0
-IsTypedef None o = o ≡ None
-IsTypedef (Some t) o = o ≡ Some (typedef_view t)
 
 abbrev pub definition_view : FunctionDef → files.Definition
 definition_view f = record {

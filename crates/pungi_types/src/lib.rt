@@ -12,6 +12,7 @@ pub mod operator;
 mod standing;
 pub mod type_words;
 mod types;
+mod words;
 
 pub use decl::{
     condition, declared_kind, initial, note_declared, param_kind, return_value, switched,
@@ -26,4 +27,5 @@ pub use local::Local;
 pub use lookup::{Lookup, Want};
 pub use operator::{Prefix, is_void};
 pub use standing::Standing;
-pub use types::{Core, Typedef};
+pub use types::{Core, Typedef, is_listed_type, listed_kind, not_void, words_kind, written_core};
+pub use words::{is_kept, keep};

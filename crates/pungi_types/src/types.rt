@@ -1,8 +1,8 @@
 // What a type is once typedefs are followed.
-ghost use Rattle.std.specs.Prelude.{◌≡◌, map};
+ghost use Rattle.std.specs.Prelude.{◌≡◌};
 ghost use Rattle.pungi_types.specs.Kinds.{words_kind as words_kind_of, listed_kind as listed_kind_of, only as only_of, both as both_of, is_int_key, is_long_key, is_char_key, is_void_key, not_void as not_void_of, is_listed_type as is_listed_type_of};
-ghost use Rattle.pungi_types.specs.TypesView.{core_view, typedef_view, IsTypedef};
-ghost use Rattle.pungi_types.specs.Kinds.{tagged_core as tagged_core_of, written_core as written_core_of, typedef_in as typedef_in_of};
+ghost use Rattle.pungi_types.specs.TypesView.{core_view};
+ghost use Rattle.pungi_types.specs.Kinds.{tagged_core as tagged_core_of, written_core as written_core_of};
 ghost use Rattle.pungi_tree.specs.ExprView.{base_view};
 
 use crate::ValueKind;
@@ -44,6 +44,7 @@ pub fn words_kind(keys: &[Key], stars: usize) -> Known
     }
 }
 
+/// The kind of a type that is known before a text is read, with so many stars.
 pub fn listed_kind(word: u32, stars: usize) -> Known
     ensures { result ≡ listed_kind_of word stars }
 {
@@ -56,6 +57,7 @@ pub fn listed_kind(word: u32, stars: usize) -> Known
     }
 }
 
+/// The kind of what is declared: only a result or a cast may be of kind `Void`.
 pub fn not_void(kind: Known) -> Known
     ensures { result ≡ not_void_of kind }
 {
@@ -65,6 +67,7 @@ pub fn not_void(kind: Known) -> Known
     }
 }
 
+/// Whether a word is the name of a type that is known before a text is read.
 pub fn is_listed_type(word: u32) -> bool
     ensures { result ≡ is_listed_type_of word }
 {
@@ -81,6 +84,7 @@ fn tagged_core(of: Key, name: Name) -> Core<'static>
     }
 }
 
+/// The type that is written, where no typedef is followed.
 pub fn written_core(base: &Base) -> Core<'_>
     ensures { core_view result ≡ written_core_of (base_view base.now) }
 {
@@ -100,16 +104,4 @@ pub fn written_core(base: &Base) -> Core<'_>
         } => tagged_core(*of, *name),
         Base::Tagged { tag: None, .. } => Core::Other,
     }
-}
-
-/// The first typedef of this word.
-pub fn typedef_in<'a>(typedefs: &[Typedef<'a>], word: u32) -> Option<Typedef<'a>>
-    ensures { IsTypedef result (typedef_in_of (map typedef_view typedefs.now) word) }
-{
-    for t in typedefs {
-        if t.name.0 == word {
-            return Some(*t);
-        }
-    }
-    None
 }

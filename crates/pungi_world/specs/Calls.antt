@@ -2,6 +2,7 @@
 --   lacks p x                   an argument is NULL where the parameter may not be
 --   stops params args           so is some argument
 --   answered answer w value     the world after the answer: the count of a new reference rises
+--   is_zero x, is_object x      a value is 0; it is an object
 --   is_success answer value     the answer says that the call succeeded
 --   is_taken success t          the call takes over the argument of such a parameter
 --   taken_at success takes i    it takes over the argument at this place
@@ -12,7 +13,7 @@
 --   counting w p by x value     the count of an argument changes, and this is the answer
 --   is_told s                   the effect of a row of its own is told here
 --   is_told_form f              so is that of a row of this form
---   special_effect, row_effect  what a call of a row of its own does; of any row
+--   special_effect, form_effect what a call of a row of its own does; of any row
 --   call_effect                 what a call of the API does
 use Rattle.std.specs.Prelude.{ℕ, ℤ, pos, negsuc, Bool, true, false, List, [], ◌∷◌, length, get_or, Option, None, Some, Result, Ok, Err, if◌then◌else◌}
 use Rattle.std.specs.List.{list_any, zip}

@@ -1,15 +1,21 @@
 -- Loads and stores (C11 6.5.16, 6.3.2.1). The first touch of a slot tells what it held at entry.
 --   is_same s t                 two slots are one
 --   place_of slots s            the place of a slot among those that were touched
+--   no_slot                     what stands where no slot is
 --   slot_at w i                 the touched slot at a place
 --   is_made w object            an object was made in this run
 --   is_fresh w s                a slot belongs to a made object, and held nothing at entry
 --   is_old w c                  a choice is an object that wasn't made in this run, or the next one
 --   is_content w kind c         a choice may be what a slot of this kind held at entry
+--   found w kind choices        what the next choice says that a slot held at entry
 --   entered w s kind choices    what a slot held at entry, and how many choices that uses
+--   with_content w x, with_slot w s x    the world with an object of this content, and with a slot that held it at entry
 --   first_touch w s kind choices the first touch of a slot, and the world after it
+--   touched_at w s kind choices place    the touch of a slot that stands at this place, or at none
 --   touched w s kind choices    the touch of a slot, and the world after it
 --   GivesTouch result w meant   these are those that are meant; want of memory may always come
+--   loaded x used w             what a load of this content answers
+--   stored w i x                the world after a store at a touched place
 --   load_effect, store_effect   what a load does; what a store does
 use Rattle.std.specs.Prelude.{◌≡◌, ℕ, ◌==◌, ◌-◌, ◌^◌, pos, negsuc, nat_le, Bool, true, false, ◌&&◌, ◌||◌, not, List, [], ◌∷◌, ◌++◌, length, get_or, slice_set, position, Option, None, Some, Result, Ok, Err, if◌then◌else◌}
 use Rattle.pungi_base.specs.declared.names.Name.{Name}

@@ -6,14 +6,14 @@ use indexmap::IndexSet;
 use pungi_base::Memory;
 
 /// Whether a word is among these.
-pub(crate) fn is_kept(words: &IndexSet<u32>, word: u32) -> bool
+pub fn is_kept(words: &IndexSet<u32>, word: u32) -> bool
     ensures { result ≡ is_among words.now.keys word }
 {
     words.contains(&word)
 }
 
 /// Keeps a word.
-pub(crate) fn keep(words: &mut IndexSet<u32>, word: u32) -> Result<(), Memory>
+pub fn keep(words: &mut IndexSet<u32>, word: u32) -> Result<(), Memory>
     ensures { OnOk result (words.new.keys ≡ with_word words.old.keys word) }
 {
     words.insert(word)?;
