@@ -5,16 +5,14 @@ use Rattle.pungi_base.specs.declared.key.Key.{Key}
 use Rattle.pungi_base.specs.declared.names.Name.{Name}
 use Rattle.pungi_base.specs.declared.pos.Pos.{Pos}
 use Rattle.pungi_types.specs.Kinds.{spec_base}
-use Rattle.pungi_types.specs.Files.{declr_name, declr_stars, declr_tail}
+use Rattle.pungi_types.specs.Files.{declr_name, declr_stars}
 use Rattle.pungi_tree.specs.Syntax as plain
-use Rattle.pungi_tree.specs.ExprView.{spec_view, base_view, declr_view, tail_view, field_view, sizes_of, declrs_of, fields_of, optional_view}
-use Rattle.pungi_tree.specs.declared.declr.Tail.TheVariants.{Sizes}
+use Rattle.pungi_tree.specs.ExprView.{spec_view, base_view, declr_view, field_view, declrs_of, fields_of}
 use Rattle.pungi_tree.specs.declared.spec.Base.TheVariants.{Tagged}
 use Rattle.pungi_tree.specs.declared.spec.Field.TheVariants.{Members}
 use Rattle.pungi_tree.specs.declared.declr.Tail.TheViews.{the_lemmas}
 use Rattle.pungi_tree.specs.declared.declr.Tail.TheFolds.{fold_out-Spec, fold_out-Declr, fold_out-Tail, fold_out-Base, fold_out-Field}
 use Rattle.pungi_tree.specs.declared.declr.Declr.{Declr}
-use Rattle.pungi_tree.specs.declared.expr.Expr.{Expr}
 use Rattle.pungi_tree.specs.declared.spec.Field.{Field}
 use Rattle.pungi_tree.specs.declared.spec.Spec.{Spec}
 
@@ -26,12 +24,6 @@ declr_name-view d = search (rules, the_lemmas, fold_out-Declr)
 
 pub declr_stars-view : (d : Declr) → declr_stars (declr_view d) ≡ length d.stars.items
 declr_stars-view d = search (rules, the_lemmas, fold_out-Declr)
-
-pub declr_tail-view : (d : Declr) → declr_tail (declr_view d) ≡ tail_view d.tail
-declr_tail-view d = search (rules, the_lemmas, fold_out-Declr, fold_out-Tail)
-
-pub tail_view-sizes : (v : Vec (Option Expr) Global) → tail_view (Sizes v) ≡ plain.sizes (sizes_of (map optional_view v.items))
-tail_view-sizes v = search (rules, the_lemmas, fold_out-Declr, fold_out-Tail)
 
 pub field_view-members : (qs : Vec Key Global) (s : Spec) (ds : Vec Declr Global)
     → field_view (Members qs s ds) ≡ plain.members qs.items (spec_view s) (declrs_of (map declr_view ds.items))

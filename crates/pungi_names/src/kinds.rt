@@ -6,10 +6,9 @@ ghost use Rattle.pungi_tree.specs.UnitView.{unit_view};
 ghost use Rattle.pungi_types.specs.Kinds.{is_object_struct as is_object_struct_of};
 
 use crate::cores::{Cores, Followed};
-use crate::tail::is_plain;
 use indexmap::IndexMap;
 use pungi_tree::{Declr, ParamDeclr, Spec};
-use pungi_types::{Core, ValueKind, listed_kind, not_void, words_kind};
+use pungi_types::{Core, ValueKind, is_plain, listed_kind, not_void, words_kind};
 
 type Known = Option<ValueKind>;
 

@@ -17,7 +17,6 @@ mod rows;
 mod signature;
 mod step;
 mod tables;
-mod tail;
 mod typedefs;
 mod values;
 mod walk;

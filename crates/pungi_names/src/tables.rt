@@ -7,11 +7,10 @@ ghost use Rattle.pungi_types.specs.Names.{is_table as is_table_of, is_single as 
 ghost use Rattle.pungi_types.specs.TypesView.{core_view};
 
 use crate::cores::Cores;
-use crate::tail::{is_no_function, is_plain};
 use pungi_base::words::{OB_BASE, PY_OBJECT, PY_TYPE_OBJECT, PY_VAR_OBJECT};
 use pungi_tree::{Base, Declr, Spec};
-use pungi_types::Core;
 use pungi_types::type_words::{PY_GET_SET_DEF, PY_MEMBER_DEF, PY_METHOD_DEF, PY_MODULE_DEF};
+use pungi_types::{Core, is_no_function, is_plain};
 
 fn is_table_type(word: u32) -> bool
     ensures { result ≡ is_table_type_of word }

@@ -1,13 +1,11 @@
 // Where rules hold in declarations.
-ghost use Rattle.std.specs.Prelude.{◌≡◌, ◌||◌, ◌&&◌, not, is_some, is_none, map};
+ghost use Rattle.std.specs.Prelude.{◌≡◌, ◌||◌, ◌&&◌, not, is_some, is_none};
 ghost use Rattle.pungi_types.specs.Findings.{least_from};
 ghost use Rattle.pungi_types.specs.Stmts.{has_file_storage as has_file_storage_of, declared_n1, initial_findings, condition_findings, return_findings, switched_findings};
 ghost use Rattle.pungi_types.specs.Operators.{is_void as is_void_of, is_integer as is_integer_of, fits as fits_of, both_known};
-ghost use Rattle.pungi_types.specs.Files.{is_no_array as is_no_array_of, is_plain_tail, declr_tail};
 ghost use Rattle.pungi_types.specs.Kinds.{declared_kind as declared_kind_of};
 ghost use Rattle.pungi_types.specs.Exprs.{param_kind as param_kind_of};
 ghost use Rattle.pungi_tree.specs.ExprView.{expr_view, spec_view, declr_view, param_declr_view};
-ghost use Rattle.pungi_tree.specs.ExprView.{sizes_of};
 ghost use Rattle.pungi_tree.specs.StmtView.{init_option_view};
 ghost use Rattle.pungi_tree.specs.ExprView.{optional_view};
 
@@ -15,10 +13,11 @@ use crate::expr::check_expr;
 use crate::findings::{note, note_used};
 use crate::lookup::Lookup;
 use crate::operator::{fits, is_integer, is_void};
+use crate::tail::is_plain;
 use crate::types::not_void;
 use crate::{Finding, ValueKind};
 use pungi_base::{Key, Pos};
-use pungi_tree::{Declr, Expr, Init, ParamDeclr, Spec, Tail};
+use pungi_tree::{Declr, Expr, Init, ParamDeclr, Spec};
 
 type Known = Option<ValueKind>;
 
@@ -43,25 +42,6 @@ pub fn note_declared(first: &mut Option<Finding>, quals: &Vec<Key>, spec: &Spec,
         spec.pos,
         1,
     );
-}
-
-fn is_no_array(sizes: &Vec<Option<Expr>>) -> bool
-    ensures { result ≡ is_no_array_of (sizes_of (map optional_view sizes.now.items)) }
-{
-    match sizes.as_slice() {
-        [] => true,
-        [None, ..] => false,
-        [Some(_), ..] => false,
-    }
-}
-
-fn is_plain(declr: &Declr) -> bool
-    ensures { result ≡ is_plain_tail (declr_tail (declr_view declr.now)) }
-{
-    match &declr.tail {
-        Tail::Sizes(sizes) => is_no_array(sizes),
-        Tail::Function(_) => false,
-    }
 }
 
 /// The kind of what is declared. An array, a pointer to a function and `void` have none.

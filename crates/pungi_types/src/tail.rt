@@ -17,7 +17,7 @@ fn is_no_array(sizes: &Vec<Option<Expr>>) -> bool
 }
 
 /// Neither an array nor a pointer to a function.
-pub(crate) fn is_plain(declr: &Declr) -> bool
+pub fn is_plain(declr: &Declr) -> bool
     ensures { result ≡ is_plain_tail (declr_tail (declr_view declr.now)) }
 {
     match &declr.tail {
@@ -27,7 +27,7 @@ pub(crate) fn is_plain(declr: &Declr) -> bool
 }
 
 /// No pointer to a function.
-pub(crate) fn is_no_function(declr: &Declr) -> bool
+pub fn is_no_function(declr: &Declr) -> bool
     ensures { result ≡ is_no_function_of (declr_tail (declr_view declr.now)) }
 {
     match &declr.tail {
