@@ -15,13 +15,20 @@ use Rattle.pungi_lex.specs.Expander.{IsExpanded, HasMacroFault, HasNoExpansion}
 use Rattle.pungi_lex.specs.Known.{IsKnown, AreKnown}
 use Rattle.pungi_lex.specs.MacroFault.{is_want_of_memory}
 use Rattle.pungi_lex.specs.Tokens.{AreTokensOf, HasFault, HasNoTokens, is_memory}
+use Rattle.pungi_api.specs.Rows.{builtin_rows}
+use Rattle.pungi_check.specs.Faults.{told as found_at, IsFaultOf as IsFaultOfUnit}
+use Rattle.pungi_check.specs.declared.fault.UnitFault.{UnitFault}
+use Rattle.pungi_check.specs.declared.fault.UnitFault.TheVariants as unit
 use Rattle.pungi_parse.specs.declared.fault.ParseFault.{ParseFault}
 use Rattle.pungi_parse.specs.declared.fault.ParseFault.TheVariants as parse
 use Rattle.pungi_parse.specs.Units.{IsUnit, StopsAt, too_deep}
 use Rattle.pungi_tree.specs.Placed.{Placed, placed, kinds}
 use Rattle.pungi_tree.specs.Syntax.{Item}
+use Rattle.pungi_types.specs.Duplicates.{faults}
+use Rattle.pungi_types.specs.Findings.{least}
+use Rattle.pungi.specs.declared.file_fault.FileFault.{FileFault}
 use Rattle.pungi.specs.declared.file_fault.FileFault.TheVariants as fault
-use Rattle.pungi.specs.Front.{IsFile, IsNoFile, IsParseFault, IsFaultOf, AreKnownKinds, told_of_lex, told_of_macro, told_of_parse, told_of}
+use Rattle.pungi.specs.Front.{IsUnitOf, IsNoUnit, IsFile, IsNoFile, IsUnitFault, IsParseFault, IsFaultOf, AreKnownKinds, told_of_lex, told_of_macro, told_of_parse, told_of_unit, told_of}
 
 told_lex : (found : LexFault) (told : Pos × List ℕ) → told_of_lex found ≡ Some told → is_memory found ≡ false
 told_lex lex.Memory told h = absurd (cc)
@@ -31,7 +38,7 @@ told_lex (lex.OpenText at) told h = refl
 told_lex (lex.Number at) told h = refl
 
 pub lex_refused : (old : List (List ℕ)) (bytes : List ℕ) (found : LexFault) → old ≡ builtin_words → (is_memory found ≡ false → HasFault bytes found) → (is_memory found ≡ false → HasNoTokens old bytes)
-    → (told : Pos × List ℕ) → told_of (fault.Lex found) ≡ Some told → IsFaultOf bytes (fault.Lex found) × IsNoFile bytes
+    → (told : Pos × List ℕ) → told_of (fault.Lex found) ≡ Some told → IsFaultOf bytes (fault.Lex found) × IsNoUnit bytes
 lex_refused old bytes found is holds none told h =
     let m = told_lex found told h in
     (holds m, λ names items file. none m names file.tokens (subst (λ (words : List (List ℕ)). AreTokensOf words names bytes file.tokens) (sym is) file.cut))
@@ -58,12 +65,12 @@ own_cut : (old new : List (List ℕ)) (text : List ℕ) (tokens : List Token) �
 own_cut old new text tokens l = subst (λ (words : List (List ℕ)). AreTokensOf words new text tokens) l.builtin l.cut
 
 -- a file's tokens are these, and so are its names
-same_lexed : (old new : List (List ℕ)) (text : List ℕ) (tokens : List Token) → IsLexed old new text tokens → (names : List (List ℕ)) (items : List Item) (file : IsFile text names items)
+same_lexed : (old new : List (List ℕ)) (text : List ℕ) (tokens : List Token) → IsLexed old new text tokens → (names : List (List ℕ)) (items : List Item) (file : IsUnitOf text names items)
     → (names ≡ new) × (file.tokens ≡ tokens)
 same_lexed old new text tokens l names items file = l.only names file.tokens (subst (λ (words : List (List ℕ)). AreTokensOf words names text file.tokens) (sym l.builtin) file.cut)
 
 -- its expansion is one of these tokens
-expansion_of : (old new : List (List ℕ)) (text : List ℕ) (tokens : List Token) → IsLexed old new text tokens → (names : List (List ℕ)) (items : List Item) (file : IsFile text names items)
+expansion_of : (old new : List (List ℕ)) (text : List ℕ) (tokens : List Token) → IsLexed old new text tokens → (names : List (List ℕ)) (items : List Item) (file : IsUnitOf text names items)
     → IsExpanded (length new) tokens file.expanded
 expansion_of old new text tokens l names items file =
     let s = same_lexed old new text tokens l names items file in
@@ -71,7 +78,7 @@ expansion_of old new text tokens l names items file =
 
 pub macro_refused : (old new : List (List ℕ)) (text : List ℕ) (tokens : List Token) (found : MacroFault) → IsLexed old new text tokens
     → (is_want_of_memory found ≡ false → HasMacroFault (length new) tokens found) → (is_want_of_memory found ≡ false → HasNoExpansion (length new) tokens)
-    → (told : Pos × List ℕ) → told_of (fault.Macro found) ≡ Some told → IsFaultOf text (fault.Macro found) × IsNoFile text
+    → (told : Pos × List ℕ) → told_of (fault.Macro found) ≡ Some told → IsFaultOf text (fault.Macro found) × IsNoUnit text
 macro_refused old new text tokens found l holds none told h =
     let m = told_macro found told h in
     ((new, tokens, own_cut old new text tokens l, holds m), λ names items file. none m file.expanded (expansion_of old new text tokens l names items file))
@@ -87,11 +94,11 @@ pub ready : (old new : List (List ℕ)) (text : List ℕ) (tokens shown expanded
 ready old new text tokens shown expanded l same replaced only =
     subst (λ (ts : List Token). IsReady old new text tokens ts) (sym same) (record { lexed = l; replaced = replaced; only = only })
 
-same_expansion : (old new : List (List ℕ)) (text : List ℕ) (tokens expanded : List Token) → IsReady old new text tokens expanded → (names : List (List ℕ)) (items : List Item) (file : IsFile text names items)
+same_expansion : (old new : List (List ℕ)) (text : List ℕ) (tokens expanded : List Token) → IsReady old new text tokens expanded → (names : List (List ℕ)) (items : List Item) (file : IsUnitOf text names items)
     → file.expanded ≡ expanded
 same_expansion old new text tokens expanded r names items file = r.only file.expanded (expansion_of old new text tokens r.lexed names items file)
 
-file_unit : (old new : List (List ℕ)) (text : List ℕ) (tokens expanded : List Token) → IsReady old new text tokens expanded → (names : List (List ℕ)) (items : List Item) (file : IsFile text names items)
+file_unit : (old new : List (List ℕ)) (text : List ℕ) (tokens expanded : List Token) → IsReady old new text tokens expanded → (names : List (List ℕ)) (items : List Item) (file : IsUnitOf text names items)
     → (too_deep 0 (placed expanded) ≡ None) × IsUnit items (placed expanded)
 file_unit old new text tokens expanded r names items file =
     let e = same_expansion old new text tokens expanded r names items file in
@@ -121,7 +128,7 @@ parse_fault ts (parse.Deep p) told h a = (a.deep p refl, λ items n u. let d = a
 parse_fault ts (parse.NotAUnit p) told h a = ((no_depth ts p (too_deep 0 ts) refl a, a.not_a_unit p refl), λ items n u. let m = a.only items n u in cc)
 
 pub parse_refused : (old new : List (List ℕ)) (text : List ℕ) (tokens expanded : List Token) (found : ParseFault) → IsReady old new text tokens expanded → IsParsed (placed expanded) found
-    → (told : Pos × List ℕ) → told_of (fault.Parse found) ≡ Some told → IsFaultOf text (fault.Parse found) × IsNoFile text
+    → (told : Pos × List ℕ) → told_of (fault.Parse found) ≡ Some told → IsFaultOf text (fault.Parse found) × IsNoUnit text
 parse_refused old new text tokens expanded found r a told h =
     let f = parse_fault (placed expanded) found told h a in (
       (new, tokens, expanded, own_cut old new text tokens r.lexed, r.replaced, f.0),
@@ -132,9 +139,9 @@ not_deep : (ts : List Placed) (o : Option Pos) → too_deep 0 ts ≡ o → ((p :
 not_deep ts None h a = h
 not_deep ts (Some p) h a = absurd (a p h)
 
-pub is_file : (old new : List (List ℕ)) (text : List ℕ) (tokens expanded : List Token) (items : List Item) → IsReady old new text tokens expanded
-    → ((p : Pos) → too_deep 0 (placed expanded) ≡ Some p → ⊥) → IsUnit items (placed expanded) → IsFile text new items
-is_file old new text tokens expanded items r shallow unit = record {
+pub is_unit : (old new : List (List ℕ)) (text : List ℕ) (tokens expanded : List Token) (items : List Item) → IsReady old new text tokens expanded
+    → ((p : Pos) → too_deep 0 (placed expanded) ≡ Some p → ⊥) → IsUnit items (placed expanded) → IsUnitOf text new items
+is_unit old new text tokens expanded items r shallow unit = record {
   tokens = tokens;
   expanded = expanded;
   cut = own_cut old new text tokens r.lexed;
@@ -150,3 +157,33 @@ known_kinds n (t ∷ tokens) a = All-cons (λ (k : Kind). IsKnown n k) t.kind (k
 pub kinds_length : (tokens : List Token) → length (kinds (placed tokens)) ≡ length tokens
 kinds_length [] = refl
 kinds_length (t ∷ tokens) = rw (kinds_length tokens) refl
+
+-- the items of a text are these alone
+pub only_items : (old new : List (List ℕ)) (text : List ℕ) (tokens expanded : List Token) (items : List Item) → IsReady old new text tokens expanded
+    → ((others : List Item) → too_deep 0 (placed expanded) ≡ None → IsUnit others (placed expanded) → items ≡ others)
+    → (names : List (List ℕ)) (others : List Item) → IsUnitOf text names others → others ≡ items
+only_items old new text tokens expanded items r only names others file =
+    let u = file_unit old new text tokens expanded r names others file in sym (only others u.0 u.1)
+
+no_unit_no_file : (text : List ℕ) → IsNoUnit text → IsNoFile text
+no_unit_no_file text none names items file = none names items file.spelled
+
+-- a text that spells nothing is no file
+pub no_file : (text : List ℕ) (found : FileFault) → ((told : Pos × List ℕ) → told_of found ≡ Some told → IsFaultOf text found × IsNoUnit text)
+    → (told : Pos × List ℕ) → told_of found ≡ Some told → IsFaultOf text found × IsNoFile text
+no_file text found none told h = let n = none told h in (n.0, no_unit_no_file text n.1)
+
+unit_fault : (items : List Item) (found : UnitFault) (told : Pos × List ℕ) → told_of_unit found ≡ Some told → IsFaultOfUnit items builtin_rows found
+    → IsUnitFault items found × (least (faults items builtin_rows) ≡ None → ⊥)
+unit_fault items unit.Memory told h a = absurd (cc)
+unit_fault items (unit.DuplicateName at) told h a = (a, λ n. let b = a in cc)
+unit_fault items (unit.TooManyFunctions at) told h a = (a, λ n. let b = a in cc)
+
+pub unit_refused : (text : List ℕ) (names : List (List ℕ)) (items : List Item) (found : UnitFault) → IsUnitOf text names items
+    → ((others : List (List ℕ)) (more : List Item) → IsUnitOf text others more → more ≡ items) → IsFaultOfUnit items builtin_rows found
+    → (told : Pos × List ℕ) → told_of (fault.Unit found) ≡ Some told → IsFaultOf text (fault.Unit found) × IsNoFile text
+unit_refused text names items found spelled only holds told h =
+    let f = unit_fault items found told h holds in (
+      (names, items, spelled, f.0),
+      λ others more file. f.1 (subst (λ (is : List Item). least (faults is builtin_rows) ≡ None) (only others more file.spelled) file.distinct),
+    )

@@ -18,7 +18,8 @@ use Rattle.pungi_tree.specs.Syntax.{Stmt, Head, head, Item, nothing, doc, typede
 use Rattle.pungi_tree.specs.Tokens.{mark, keys_flat, stars_flat}
 use Rattle.pungi_tree.specs.UnitFlat.{signature_flat, item_flat, items_flat}
 use Rattle.pungi_report.specs.Text.{IsLine}
-use Rattle.pungi.specs.Examine.{IsVerdict, IsJudged}
+use Rattle.pungi_types.specs.declared.finding.Finding.{Finding}
+use Rattle.pungi.specs.Examine.{IsVerdict, IsJudged, pairs, tellings}
 use Rattle.pungi.specs.Front.{AreKnownKinds}
 
 -- the words of tokens, one after another
@@ -60,25 +61,33 @@ all_named n earlier (function_def h b ∷ items) a =
     (all_named n (with_name earlier d.name) items (known_behind n (item_flat (function_def h b)) (items_flat items) a))
 
 -- the lines of judged functions may be printed
-printable : (names : List (List ℕ)) (d : Definition) (o : Option Function) (line : Name × Verdict) → d.name.0 < length names → line.0 ≡ d.name → IsVerdict d.pos o line.1 → IsLine names line
-printable names d (Some f) (n, verdict.Clean) known is judged = (subst (λ (m : Name). m.0 < length names) (sym is) known, tt)
-printable names d (Some f) (n, verdict.Faulty fault) known is judged = (subst (λ (m : Name). m.0 < length names) (sym is) known, judged.all_used)
-printable names d (Some f) (n, verdict.Unknown why) known is judged = absurd judged
-printable names d (Some f) (n, verdict.Refused at rule) known is judged = absurd judged
-printable names d None (n, verdict.Clean) known is judged = absurd (cc)
-printable names d None (n, verdict.Faulty fault) known is judged = absurd (cc)
-printable names d None (n, verdict.Unknown why) known is judged = absurd (cc)
-printable names d None (n, verdict.Refused at rule) known is judged = (subst (λ (m : Name). m.0 < length names) (sym is) known, tt)
+printable : (names : List (List ℕ)) (d : Definition) (t : Option Finding) (o : Option Function) (line : Name × Verdict) → d.name.0 < length names → line.0 ≡ d.name
+    → IsVerdict t d.pos o line.1 → IsLine names line
+printable names d None (Some f) (n, verdict.Clean) known is judged = (subst (λ (m : Name). m.0 < length names) (sym is) known, tt)
+printable names d None (Some f) (n, verdict.Faulty fault) known is judged = (subst (λ (m : Name). m.0 < length names) (sym is) known, judged.all_used)
+printable names d None (Some f) (n, verdict.Unknown why) known is judged = absurd judged
+printable names d None (Some f) (n, verdict.Refused at rule) known is judged = absurd judged
+printable names d None None (n, verdict.Clean) known is judged = absurd (cc)
+printable names d None None (n, verdict.Faulty fault) known is judged = absurd (cc)
+printable names d None None (n, verdict.Unknown why) known is judged = absurd (cc)
+printable names d None None (n, verdict.Refused at rule) known is judged = (subst (λ (m : Name). m.0 < length names) (sym is) known, tt)
+printable names d (Some found) o (n, verdict.Clean) known is judged = absurd (cc)
+printable names d (Some found) o (n, verdict.Faulty fault) known is judged = absurd (cc)
+printable names d (Some found) o (n, verdict.Unknown why) known is judged = absurd (cc)
+printable names d (Some found) o (n, verdict.Refused at rule) known is judged = (subst (λ (m : Name). m.0 < length names) (sym is) known, tt)
 
-lines_printable : (names : List (List ℕ)) (ds : List Definition) (lines : List (Name × Verdict)) → All (IsNamed (length names)) ds → AllZip IsJudged ds lines → All (IsLine names) lines
-lines_printable names [] [] known judged = All-nil (IsLine names)
-lines_printable names [] (line ∷ lines) known judged = absurd judged
-lines_printable names (d ∷ ds) [] known judged = absurd judged
-lines_printable names (d ∷ ds) (line ∷ lines) known judged =
-    All-cons (IsLine names) line lines (printable names d d.straight line (known 0 d (omega arith)) judged.0.0 judged.0.1)
-    (lines_printable names ds lines (λ k e lt. known (suc k) e (omega (arith, lt))) judged.1)
+lines_printable : (names : List (List ℕ)) (ds : List Definition) (ts : List (Option Finding)) (lines : List (Name × Verdict)) → All (IsNamed (length names)) ds
+    → AllZip IsJudged (pairs ds ts) lines → All (IsLine names) lines
+lines_printable names [] ts [] known judged = All-nil (IsLine names)
+lines_printable names [] ts (line ∷ lines) known judged = absurd judged
+lines_printable names (d ∷ ds) [] [] known judged = All-nil (IsLine names)
+lines_printable names (d ∷ ds) [] (line ∷ lines) known judged = absurd judged
+lines_printable names (d ∷ ds) (t ∷ ts) [] known judged = absurd judged
+lines_printable names (d ∷ ds) (t ∷ ts) (line ∷ lines) known judged =
+    All-cons (IsLine names) line lines (printable names d t d.straight line (known 0 d (omega arith)) judged.0.0 judged.0.1)
+    (lines_printable names ds ts lines (λ k e lt. known (suc k) e (omega (arith, lt))) judged.1)
 
-pub all_printable : (names : List (List ℕ)) (items : List Item) (lines : List (Name × Verdict)) → AreKnownKinds (length names) (items_flat items)
-    → AllZip IsJudged (definitions_of [] items) lines → All (IsLine names) lines
-all_printable names items lines known judged =
-    lines_printable names (definitions_of [] items) lines (all_named (length names) [] items (known_of (length names) (items_flat items) known)) judged
+pub all_printable : (names : List (List ℕ)) (items : List Item) (refused : List ℕ) (lines : List (Name × Verdict)) → AreKnownKinds (length names) (items_flat items)
+    → AllZip IsJudged (pairs (definitions_of [] items) (tellings items refused)) lines → All (IsLine names) lines
+all_printable names items refused lines known judged =
+    lines_printable names (definitions_of [] items) (tellings items refused) lines (all_named (length names) [] items (known_of (length names) (items_flat items) known)) judged

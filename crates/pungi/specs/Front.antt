@@ -1,10 +1,13 @@
 -- The front end: from the text of a file to what the file consists of, or to why the text is refused.
---   IsFile text names items   the text is a file of these items, and these are its names: its tokens, their macros replaced, are the unit
+--   IsUnitOf text names items the text spells these items, and these are its names: its tokens, their macros replaced, are the unit
+--   IsNoUnit text             it spells none
+--   IsFile text names items   a file: a text that spells these items, in which no name is used twice and no function is one too many
 --   IsNoFile text             it is none
 --   IsParseFault ts fault     why tokens have no tree
---   IsFaultOf text fault      why a text is refused, by its tokens, by its macros, or by its grammar
+--   IsUnitFault items fault   why items are no file
+--   IsFaultOf text fault      why a text is refused, by its tokens, by its macros, by its grammar, or by its names
 --   AreKnownKinds names ks    the words and texts of tokens are among so many names
---   told_of_lex, told_of_macro, told_of_parse, told_of    the place of a fault and its reason, unless it is want of memory
+--   told_of_lex, told_of_macro, told_of_parse, told_of_unit, told_of    the place of a fault and its reason, unless it is want of memory
 --   refused_text at reason    the line of a refusal
 use Rattle.std.specs.Prelude.{◌≡◌, ℕ, List, [], ◌++◌, length, Option, Some, None, codes}
 use Rattle.std.specs.List.{All}
@@ -13,6 +16,10 @@ use Rattle.pungi_base.specs.declared.pos.Pos.{Pos}
 use Rattle.pungi_base.specs.declared.token.Token.{Token}
 use Rattle.pungi_base.specs.Witness.{place_text, line_end}
 use Rattle.pungi_base.specs.Words.{builtin_words}
+use Rattle.pungi_api.specs.Rows.{builtin_rows}
+use Rattle.pungi_check.specs.Faults.{told}
+use Rattle.pungi_check.specs.declared.fault.UnitFault.{UnitFault}
+use Rattle.pungi_check.specs.declared.fault.UnitFault.TheVariants as unit
 use Rattle.pungi_lex.specs.declared.lex_fault.LexFault.{LexFault}
 use Rattle.pungi_lex.specs.declared.lex_fault.LexFault.TheVariants as lex
 use Rattle.pungi_lex.specs.declared.macro_fault.MacroFault.{MacroFault}
@@ -25,16 +32,25 @@ use Rattle.pungi_parse.specs.declared.fault.ParseFault.TheVariants as parse
 use Rattle.pungi_parse.specs.Units.{IsUnit, StopsAt, too_deep}
 use Rattle.pungi_tree.specs.Placed.{Placed, placed}
 use Rattle.pungi_tree.specs.Syntax.{Item}
+use Rattle.pungi_types.specs.Duplicates.{faults}
+use Rattle.pungi_types.specs.Findings.{least}
 use Rattle.pungi.specs.declared.file_fault.FileFault.{FileFault}
 use Rattle.pungi.specs.declared.file_fault.FileFault.TheVariants as fault
 
-pub record IsFile (text : List ℕ) (names : List (List ℕ)) (items : List Item) : Type 0 where
+pub record IsUnitOf (text : List ℕ) (names : List (List ℕ)) (items : List Item) : Type 0 where
   pub tokens : List Token
   pub expanded : List Token
   pub cut : AreTokensOf builtin_words names text tokens
   pub replaced : IsExpanded (length names) tokens expanded
   pub shallow : too_deep 0 (placed expanded) ≡ None
   pub unit : IsUnit items (placed expanded)
+
+abbrev pub IsNoUnit : List ℕ → Type 0
+IsNoUnit text = (names : List (List ℕ)) → (items : List Item) → IsUnitOf text names items → ⊥
+
+pub record IsFile (text : List ℕ) (names : List (List ℕ)) (items : List Item) : Type 0 where
+  pub spelled : IsUnitOf text names items
+  pub distinct : least (faults items builtin_rows) ≡ None
 
 abbrev pub IsNoFile : List ℕ → Type 0
 IsNoFile text = (names : List (List ℕ)) → (items : List Item) → IsFile text names items → ⊥
@@ -44,11 +60,17 @@ IsParseFault ts parse.Memory = ⊥
 IsParseFault ts (parse.Deep at) = too_deep 0 ts ≡ Some at
 IsParseFault ts (parse.NotAUnit at) = (too_deep 0 ts ≡ None) × StopsAt ts at
 
+abbrev pub IsUnitFault : List Item → UnitFault → Type 0
+IsUnitFault items unit.Memory = ⊥
+IsUnitFault items (unit.DuplicateName at) = least (faults items builtin_rows) ≡ told at 1
+IsUnitFault items (unit.TooManyFunctions at) = least (faults items builtin_rows) ≡ told at 2
+
 abbrev pub IsFaultOf : List ℕ → FileFault → Type 0
 IsFaultOf text (fault.Lex found) = HasFault text found
 IsFaultOf text (fault.Macro found) = (names : List (List ℕ)) × (tokens : List Token) × AreTokensOf builtin_words names text tokens × HasMacroFault (length names) tokens found
 IsFaultOf text (fault.Parse found) = (names : List (List ℕ)) × (tokens expanded : List Token) × AreTokensOf builtin_words names text tokens
     × IsExpanded (length names) tokens expanded × IsParseFault (placed expanded) found
+IsFaultOf text (fault.Unit found) = (names : List (List ℕ)) × (items : List Item) × IsUnitOf text names items × IsUnitFault items found
 
 abbrev pub AreKnownKinds : ℕ → List Kind → Type 0
 AreKnownKinds names ks = All (λ k. IsKnown names k) ks
@@ -72,10 +94,16 @@ told_of_parse parse.Memory = None
 told_of_parse (parse.Deep at) = Some (at, codes "nested over 64")
 told_of_parse (parse.NotAUnit at) = Some (at, codes "not a unit")
 
+abbrev pub told_of_unit : UnitFault → Option (Pos × List ℕ)
+told_of_unit unit.Memory = None
+told_of_unit (unit.DuplicateName at) = Some (at, codes "duplicate name")
+told_of_unit (unit.TooManyFunctions at) = Some (at, codes "too many functions")
+
 abbrev pub told_of : FileFault → Option (Pos × List ℕ)
 told_of (fault.Lex found) = told_of_lex found
 told_of (fault.Macro found) = told_of_macro found
 told_of (fault.Parse found) = told_of_parse found
+told_of (fault.Unit found) = told_of_unit found
 
 abbrev pub refused_text : Pos → List ℕ → List ℕ
 refused_text at reason = (codes "file refused " ++ place_text at ++ codes " ") ++ (reason ++ line_end)

@@ -1,3 +1,4 @@
+use pungi_check::UnitFault;
 use pungi_lex::{LexFault, MacroFault};
 use pungi_parse::ParseFault;
 use thiserror::Error;
@@ -14,4 +15,7 @@ pub enum FileFault {
     /// Its tokens are no unit.
     #[error("{0}")]
     Parse(ParseFault),
+    /// Its names or functions are refused.
+    #[error("{0}")]
+    Unit(UnitFault),
 }

@@ -1,11 +1,12 @@
 ghost use Rattle.std.specs.Prelude.{◌≡◌, IfOk, option_map, List, ℕ, Some};
 ghost use Rattle.pungi_base.specs.declared.pos.Pos.{Pos as ThePos};
-ghost use Rattle.pungi.specs.Front.{told_of_lex, told_of_macro, told_of_parse, told_of, refused_text};
+ghost use Rattle.pungi.specs.Front.{told_of_lex, told_of_macro, told_of_parse, told_of_unit, told_of, refused_text};
 
 use crate::answer::Answer;
 use crate::file_fault::FileFault;
 use crate::status::FILE_REFUSED;
 use pungi_base::{Memory, Pos};
+use pungi_check::UnitFault;
 use pungi_lex::{LexFault, MacroFault};
 use pungi_parse::ParseFault;
 use std::alloc::Global;
@@ -44,6 +45,16 @@ fn told_by_parse(fault: &ParseFault) -> Option<(Pos, &'static str)>
     }
 }
 
+fn told_by_check(fault: &UnitFault) -> Option<(Pos, &'static str)>
+    ensures { option_map (λ x. (x.0, x.1.now)) result ≡ told_of_unit fault.now }
+{
+    match fault {
+        UnitFault::Memory => None,
+        UnitFault::DuplicateName(at) => Some((*at, "duplicate name")),
+        UnitFault::TooManyFunctions(at) => Some((*at, "too many functions")),
+    }
+}
+
 /// The place of a fault and its reason. None for want of memory.
 fn told(fault: &FileFault) -> Option<(Pos, &'static str)>
     ensures { option_map (λ x. (x.0, x.1.now)) result ≡ told_of fault.now }
@@ -52,6 +63,7 @@ fn told(fault: &FileFault) -> Option<(Pos, &'static str)>
         FileFault::Lex(fault) => told_by_lex(fault),
         FileFault::Macro(fault) => told_by_expand(fault),
         FileFault::Parse(fault) => told_by_parse(fault),
+        FileFault::Unit(fault) => told_by_check(fault),
     }
 }
 

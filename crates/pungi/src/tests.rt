@@ -113,7 +113,17 @@ fn reports(rt: HostRuntime) -> Result<(), Fail> {
             1,
             "clean keep\nfaulty lose 2:61 object\n",
         ),
-        ("void f(void) { g(); }", 2, "refused f 1:6 N0\n"),
+        (
+            "int g(double d) { return 1; }\nint f(void) { return g(1); }",
+            2,
+            "refused g 1:7 N1\nrefused f 2:22 N9\n",
+        ),
+        (
+            "int f(int a) { goto in; { in: return a; } }",
+            2,
+            "refused f 1:21 N6\n",
+        ),
+        ("void f(void) { g(); }", 2, "refused f 1:16 N9\n"),
         (
             "int f(int a, int b, int c) { return a - b - c; }",
             2,
@@ -137,7 +147,7 @@ fn reports(rt: HostRuntime) -> Result<(), Fail> {
         (
             PAIR,
             2,
-            "refused Pair_first 13:1 N0\nrefused Pair_put 22:1 N0\nrefused Pair_twice 35:1 N0\nrefused Pair_new 45:1 N0\nrefused PyInit_pair 71:1 N0\n",
+            "refused Pair_first 13:1 N0\nrefused Pair_put 25:10 N9\nrefused Pair_twice 35:1 N0\nrefused Pair_new 47:12 N3\nrefused PyInit_pair 71:1 N0\n",
         ),
         (
             HELPERS,
@@ -147,7 +157,7 @@ fn reports(rt: HostRuntime) -> Result<(), Fail> {
         (
             POOL,
             1,
-            "clean hold\nfaulty release 26:1 object\nrefused pool_size 29:1 N0\n",
+            "clean hold\nfaulty release 26:1 object\nrefused pool_size 29:30 N1\n",
         ),
     ];
     for (text, status, lines) in rows {
@@ -175,6 +185,10 @@ fn refusals(rt: HostRuntime) -> Result<(), Fail> {
         ("int a = \"x", "file refused 1:9 open text\n"),
         ("int a = 08;", "file refused 1:9 number\n"),
         ("#define F(x) x", "file refused 1:9 function macro\n"),
+        (
+            "void f(void) { }\nvoid f(void) { }",
+            "file refused 2:6 duplicate name\n",
+        ),
         ("#define A 1\n#define A 2", "file refused 2:9 redefined\n"),
         (
             "((((((((((((((((((((((((((((((((((((((((((((((((((((((((((((((((((",

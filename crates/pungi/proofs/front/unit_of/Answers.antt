@@ -4,7 +4,7 @@ use Rattle.pungi_base.specs.declared.token.Token.{Token}
 use Rattle.pungi_base.specs.declared.kind.Kind.{Kind}
 use Rattle.pungi_lex.specs.Expander.{IsExpanded}
 use Rattle.pungi_lex.specs.Known.{AreKnown}
-use Rattle.pungi.proofs.Fronts.{err_same, ok_is_no_err, lexed, ready, lex_refused, macro_refused, parse_refused, is_file, known_kinds}
+use Rattle.pungi.proofs.Fronts.{err_same, ok_is_no_err, lexed, ready, lex_refused, macro_refused, parse_refused, is_unit, known_kinds, only_items}
 use Rattle.pungi.specs.Front.{AreKnownKinds}
 use Rattle.pungi.proofs.front.unit_of.Goals as goal
 
@@ -16,11 +16,17 @@ returns-in-Err-expand-clause-fault c =
     let l = lexed c.args.names.now c.lex.new.names c.args.text.now c.deref.result.now c.in-Ok.tokens.items c.requires.words c.deref.ensures.value c.in-Ok.ensures.tokens c.in-Ok.ensures.only in
     macro_refused c.args.names.now c.lex.new.names c.args.text.now c.deref.result.now c.in-Err-expand.fault l c.in-Err-expand.ensures.fault c.in-Err-expand.ensures.none
 
-pub returns-in-Ok-parse-clause-file : goal.returns-in-Ok-parse-clause-file
-returns-in-Ok-parse-clause-file c =
+pub returns-in-Ok-parse-clause-unit : goal.returns-in-Ok-parse-clause-unit
+returns-in-Ok-parse-clause-unit c =
     let l = lexed c.args.names.now c.lex.new.names c.args.text.now c.deref.result.now c.in-Ok.tokens.items c.requires.words c.deref.ensures.value c.in-Ok.ensures.tokens c.in-Ok.ensures.only in
     let r = ready c.args.names.now c.lex.new.names c.args.text.now c.deref.result.now c.deref-2.result.now c.in-Ok-expand.expanded.items l c.deref-2.ensures.value c.in-Ok-expand.ensures.expanded c.in-Ok-expand.ensures.only in
-    is_file c.args.names.now c.lex.new.names c.args.text.now c.deref.result.now c.deref-2.result.now _ r (λ at h. ok_is_no_err _ _ (c.in-Ok-parse.ensures.first at h)) c.in-Ok-parse.ensures.unit
+    is_unit c.args.names.now c.lex.new.names c.args.text.now c.deref.result.now c.deref-2.result.now _ r (λ at h. ok_is_no_err _ _ (c.in-Ok-parse.ensures.first at h)) c.in-Ok-parse.ensures.unit
+
+pub returns-in-Ok-parse-clause-only : goal.returns-in-Ok-parse-clause-only
+returns-in-Ok-parse-clause-only c =
+    let l = lexed c.args.names.now c.lex.new.names c.args.text.now c.deref.result.now c.in-Ok.tokens.items c.requires.words c.deref.ensures.value c.in-Ok.ensures.tokens c.in-Ok.ensures.only in
+    let r = ready c.args.names.now c.lex.new.names c.args.text.now c.deref.result.now c.deref-2.result.now c.in-Ok-expand.expanded.items l c.deref-2.ensures.value c.in-Ok-expand.ensures.expanded c.in-Ok-expand.ensures.only in
+    only_items c.args.names.now c.lex.new.names c.args.text.now c.deref.result.now c.deref-2.result.now _ r (λ others n u. c.in-Ok-parse.ensures.only others n u)
 
 pub returns-in-Ok-parse-clause-known : goal.returns-in-Ok-parse-clause-known
 returns-in-Ok-parse-clause-known c =

@@ -1,0 +1,47 @@
+-- The call graph of a file's functions, by their numbers.
+--   number_in i ds w    the number of the first function of a name, where the first of these has number i
+--   found o             what is found, as a list
+--   callees find ws     the numbers of those words that have one
+--   Node, node_view     a function of the graph: whether it is refused alone, and what it calls
+--   node_of file rows find d    that of a definition
+--   graph_of file rows  that of each function of a file
+--   gathered ws ds marks    these words, with the names of the marked definitions
+use Rattle.std.specs.Prelude.{ℕ, ◌+◌, ◌==◌, Bool, true, false, List, [], ◌∷◌, ◌++◌, map, Option, Some, None, is_some, if◌then◌else◌}
+use Rattle.pungi_tree.specs.Syntax.{Item}
+use Rattle.pungi_api.specs.declared.row.Row.{Row}
+use Rattle.pungi_types.specs.Files.{Definition, definitions}
+use Rattle.pungi_types.specs.Names.{with_word}
+use Rattle.pungi_types.specs.Functions.{refusal}
+use Rattle.pungi_refused.specs.Calls.{called_words}
+use Rattle.pungi_refused.specs.declared.function.Function.{Function}
+
+abbrev pub number_in : ℕ → List Definition → ℕ → Option ℕ
+number_in i [] w = None
+number_in i (d ∷ ds) w = (if d.name.0 == w then Some i else number_in (i + 1) ds w)
+
+abbrev pub found : Option ℕ → List ℕ
+found None = []
+found (Some j) = j ∷ []
+
+abbrev pub callees : (ℕ → Option ℕ) → List ℕ → List ℕ
+callees find [] = []
+callees find (w ∷ ws) = found (find w) ++ callees find ws
+
+pub record Node : Type 0 where
+  pub alone : Bool
+  pub calls : List ℕ
+
+abbrev pub node_view : Function → Node
+node_view f = record { alone = f.refused_alone; calls = f.callees.items }
+
+abbrev pub node_of : List Item → List (ℕ × Row) → (ℕ → Option ℕ) → Definition → Node
+node_of file rows find d = record { alone = is_some (refusal file rows [] d); calls = callees find (called_words d) }
+
+abbrev pub graph_of : List Item → List (ℕ × Row) → List Node
+graph_of file rows = map (node_of file rows (number_in 0 (definitions file))) (definitions file)
+
+abbrev pub gathered : List ℕ → List Definition → List Bool → List ℕ
+gathered ws [] marks = ws
+gathered ws (d ∷ ds) [] = ws
+gathered ws (d ∷ ds) (true ∷ marks) = gathered (with_word ws d.name.0) ds marks
+gathered ws (d ∷ ds) (false ∷ marks) = gathered ws ds marks

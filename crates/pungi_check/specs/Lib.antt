@@ -1,0 +1,5 @@
+pub mod CheckedFile
+pub mod CheckedView
+pub mod Distinct
+pub mod Faults
+pub mod Graph

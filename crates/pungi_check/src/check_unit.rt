@@ -1,0 +1,135 @@
+//! A unit is looked at once as a whole, and function by function.
+ghost use Rattle.std.specs.Prelude.{◌≡◌, ◌+◌, [], None, length, IfOk, IfErr, IsTrue, map};
+ghost use Rattle.pungi_check.specs.CheckedFile.{IsAccepted, function_places};
+ghost use Rattle.pungi_check.specs.CheckedView.{checked_view, texts_of};
+ghost use Rattle.pungi_check.specs.Distinct.{are_new};
+ghost use Rattle.pungi_check.specs.Faults.{IsFaultOf};
+ghost use Rattle.pungi_check.specs.declared.fault.UnitFault.TheVariants.{DuplicateName, TooManyFunctions};
+ghost use Rattle.pungi_declared.specs.DeclaredView.{function_view};
+ghost use Rattle.pungi_names.specs.NamesView.{file_of, rows_of};
+ghost use Rattle.pungi_tree.specs.UnitView.{unit_view};
+ghost use Rattle.pungi_types.specs.Duplicates.{faults as faults_of};
+ghost use Rattle.pungi_types.specs.Files.{definitions as definitions_of};
+ghost use Rattle.pungi_types.specs.Findings.{least};
+ghost use Rattle.pungi_types.specs.Functions.{refusal};
+ghost use Rattle.pungi_types.specs.Names.{type_objects};
+ghost use Rattle.pungi_types.specs.Refused.{IsRefusedSet};
+
+use crate::graph::graph;
+use crate::numbers::numbers;
+use crate::refusals::refusals;
+use crate::refused_words::refused_words;
+use crate::{Checked, UnitFault};
+use indexmap::IndexSet;
+use pungi_api::Table;
+use pungi_base::{Memory, Name, Names, Rule};
+use pungi_declared::definitions;
+use pungi_duplicates::faults;
+use pungi_names::{UnitNames, unit_names};
+use pungi_refused::least_set;
+use pungi_tree::{FunctionDef, Item, Unit};
+use pungi_types::Finding;
+use std::alloc::Global;
+
+/// Where the functions of a unit stand among its items.
+fn function_places_of(alloc: Global, unit: &Unit) -> Result<Vec<usize>, Memory>
+    ensures { IfOk result (λ places. places.items ≡ function_places 0 (unit_view unit.now)) }
+{
+    let mut places = Vec::new(alloc);
+    for (place, item) in unit.items.iter().enumerate() {
+        if let Item::Function(_) = item {
+            places.push(place)?;
+        }
+    }
+    Ok(places)
+}
+
+/// The texts of names.
+fn texts(alloc: Global, names: &Names) -> Result<Vec<Vec<u8>>, Memory>
+    ensures { IfOk result (λ ts. map (λ t. t.items) ts.items ≡ names.now) }
+{
+    let mut texts = Vec::new(alloc);
+    for number in 0..names.len() {
+        let Ok(word) = u32::try_from(number) else {
+            return Err(Memory);
+        };
+        texts.push(Vec::from_slice(alloc, names.text(Name(word)))?)?;
+    }
+    Ok(texts)
+}
+
+/// The fault that a finding stands for.
+fn fault(found: Finding) -> UnitFault
+    ensures one { found.rule.0 ≡ 1 → result ≡ DuplicateName found.pos }
+    ensures two { found.rule.0 ≡ 2 → result ≡ TooManyFunctions found.pos }
+{
+    match found.rule {
+        Rule(1) => UnitFault::DuplicateName(found.pos),
+        _ => UnitFault::TooManyFunctions(found.pos),
+    }
+}
+
+/// What is told of the functions of a unit.
+#[derive(Drop)]
+struct Told {
+    refused: IndexSet<u32>,
+    refusals: Vec<Option<Finding>>,
+    statics: u32,
+}
+
+/// Looks at each function.
+fn tell(alloc: Global, names: &UnitNames<'_>, list: &[&FunctionDef]) -> Result<Told, Memory>
+    requires listed { map function_view list.now ≡ definitions_of (file_of names.now) }
+    requires distinct { IsTrue (are_new [] (definitions_of (file_of names.now))) }
+    ensures least { IfOk result (λ t. IsRefusedSet (file_of names.now) (rows_of names.now) t.refused.keys) }
+    ensures told { IfOk result (λ t. t.refusals.items ≡ map (refusal (file_of names.now) (rows_of names.now) t.refused.keys) (definitions_of (file_of names.now))) }
+    ensures counted { IfOk result (λ t. t.statics ≡ 24 + length (type_objects (file_of names.now))) }
+{
+    let numbers = numbers(alloc, list)?;
+    let graph = graph(alloc, names, &numbers, list)?;
+    let marks = least_set(alloc, &graph)?;
+    let refused = refused_words(alloc, list, &marks)?;
+    let refusals = refusals(alloc, names, &refused, list)?;
+    let statics = names.type_objects().checked_add(24).ok_or(Memory)?;
+    Ok(Told {
+        refused,
+        refusals,
+        statics,
+    })
+}
+
+/// What is told of a unit and its functions.
+fn look(alloc: Global, unit: &Unit, rows: &Table) -> Result<Told, UnitFault>
+    ensures distinct { IfOk result (λ t. least (faults_of (unit_view unit.now) rows.now) ≡ None) }
+    ensures least { IfOk result (λ t. IsRefusedSet (unit_view unit.now) rows.now t.refused.keys) }
+    ensures told { IfOk result (λ t. t.refusals.items ≡ map (refusal (unit_view unit.now) rows.now t.refused.keys) (definitions_of (unit_view unit.now))) }
+    ensures counted { IfOk result (λ t. t.statics ≡ 24 + length (type_objects (unit_view unit.now))) }
+    ensures fault { IfErr result (λ e. IsFaultOf (unit_view unit.now) rows.now e) }
+{
+    let names = unit_names(alloc, unit, rows)?;
+    if let Some(found) = faults(alloc, &names, unit)? {
+        return Err(fault(found));
+    }
+    let list = definitions(alloc, unit)?;
+    Ok(tell(alloc, &names, &list)?)
+}
+
+/// Looks at each function of a unit.
+pub fn check(alloc: Global, names: &Names, unit: Unit, rows: Table) -> Result<Checked, UnitFault>
+    ensures checked { IfOk result (λ c. IsAccepted (unit_view unit) rows (checked_view c)) }
+    ensures texts { IfOk result (λ c. texts_of c ≡ names.now) }
+    ensures fault { IfErr result (λ e. IsFaultOf (unit_view unit) rows e) }
+{
+    let told = look(alloc, &unit, &rows)?;
+    let places = function_places_of(alloc, &unit)?;
+    let texts = texts(alloc, names)?;
+    Ok(Checked {
+        unit,
+        rows,
+        refused: told.refused,
+        refusals: told.refusals,
+        places,
+        statics: told.statics,
+        texts,
+    })
+}
