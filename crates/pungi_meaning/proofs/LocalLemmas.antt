@@ -1,0 +1,38 @@
+-- Locals that are unset one after another, and parameters that are looked at so.
+use Rattle.std.proofs.Common.{◌≡◌, ◌≢◌, ℕ, suc, ◌+◌, ◌-◌, ◌<◌, ◌≤◌, Bool, true, false, ◌&&◌, List, [], ◌∷◌, length, drop, get_or, slice_set, Option, refl, ap, ◌∙◌, arith}
+use Rattle.std.proofs.lemmas.List.{drop_all}
+use Rattle.std.proofs.Math.Seq.{drop-cons}
+use Rattle.pungi_base.specs.declared.value.Value.{Value}
+use Rattle.pungi_types.specs.declared.kind.ValueKind.{ValueKind}
+use Rattle.pungi_world.specs.declared.content.Content.{Content}
+use Rattle.pungi_world.specs.declared.content.Content.TheVariants.{Unset}
+use Rattle.pungi_meaning.specs.Entries.{fits_param, fit_params}
+use Rattle.pungi_meaning.specs.Work.{unset}
+
+pub unset_step : (first n i : ℕ) (locals : List Content) → i < n → unset (first + i) (n - i) locals ≡ unset (first + (i + 1)) (n - (i + 1)) (slice_set locals (first + i) Unset)
+unset_step first n i locals h =
+    let e : n - i ≡ suc (n - (i + 1)) = omega arith in
+    let f : first + i + 1 ≡ first + (i + 1) = omega arith in
+    ap (λ m. unset (first + i) m locals) e ∙ ap (λ m. unset m (n - (i + 1)) (slice_set locals (first + i) Unset)) f
+
+pub fit_step : (objects i : ℕ) (ks : List (Option ValueKind)) (vs : List Value) (k : Option ValueKind) (v : Value) → i < length ks → i < length vs → fit_params objects (drop i ks) (drop i vs) ≡ (fits_param objects (get_or ks i k) (get_or vs i v) && fit_params objects (drop (i + 1) ks) (drop (i + 1) vs))
+fit_step objects i ks vs k v a b =
+    let f : suc i ≡ i + 1 = omega arith in
+    ap (λ x. fit_params objects x (drop i vs)) (drop-cons ks i k a)
+    ∙ ap (λ y. fit_params objects (get_or ks i k ∷ drop (suc i) ks) y) (drop-cons vs i v b)
+    ∙ ap (λ n. fits_param objects (get_or ks i k) (get_or vs i v) && fit_params objects (drop n ks) (drop n vs)) f
+
+-- each parameter has a value, and each value a parameter
+pub fit_lengths : (objects : ℕ) (ks : List (Option ValueKind)) (vs : List Value) → length ks ≢ length vs → fit_params objects ks vs ≡ false
+fit_lengths objects [] [] h = absurd (h refl)
+fit_lengths objects [] (v ∷ vs) h = refl
+fit_lengths objects (k ∷ ks) [] h = refl
+fit_lengths objects (k ∷ ks) (v ∷ vs) h =
+    ap (λ b. fits_param objects k v && b) (fit_lengths objects ks vs (λ e. h (ap suc e))) ∙ and_false (fits_param objects k v)
+  where
+    and_false : (b : Bool) → (b && false) ≡ false
+    and_false true = refl
+    and_false false = refl
+
+pub fit_end : (objects i : ℕ) (ks : List (Option ValueKind)) (vs : List Value) → length ks ≤ i → length vs ≤ i → fit_params objects (drop i ks) (drop i vs) ≡ true
+fit_end objects i ks vs a b = ap (λ x. fit_params objects x (drop i vs)) (drop_all i ks a) ∙ ap (λ y. fit_params objects [] y) (drop_all i vs b)

@@ -1,0 +1,11 @@
+use Rattle.std.proofs.Common.{◌∷◌, map, sym, ap, ◌∙◌}
+use Rattle.pungi_resolved.specs.ActionView.{action_view}
+use Rattle.pungi_meaning.specs.Machine.{todos}
+use Rattle.pungi_meaning.specs.Todo.{ToRest}
+use Rattle.pungi_meaning.proofs.ListLemmas.{actions_listed}
+use Rattle.pungi_meaning.proofs.stmt.all_of.Goals as goal
+
+pub returns-clause-todos : goal.returns-clause-todos
+returns-clause-todos c =
+    c.in_ok-later.ensures.todos
+    ∙ ap (λ l. ToRest l 0 ∷ todos c.args.m.now.tasks.items) (sym (actions_listed (map action_view c.args.list.now)))

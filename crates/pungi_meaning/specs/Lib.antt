@@ -1,0 +1,11 @@
+pub mod Values
+pub mod Todo
+pub mod Work
+pub mod Exprs
+pub mod Jumps
+pub mod Stmts
+pub mod Run
+pub mod Entries
+pub mod Machine
+pub mod Outcomes
+pub mod Counted

@@ -1,0 +1,26 @@
+-- The outcomes of the executor as the ends of the meaning.
+--   end_of o      what an outcome stands for
+--   end_at e m    how a run ends that stands so and ends for this reason
+--   IsCounted o   the world that a run returns can be counted
+use Rattle.pungi_world.specs.Escapes.{IsCountable}
+use Rattle.pungi_meaning.specs.declared.machine.Machine.{Machine}
+use Rattle.pungi_meaning.specs.declared.machine.Ending.{Ending}
+use Rattle.pungi_meaning.specs.declared.machine.Ending.TheVariants as endings
+use Rattle.pungi_meaning.specs.declared.outcome.Outcome.{Outcome}
+use Rattle.pungi_meaning.specs.declared.outcome.Outcome.TheVariants as outcomes
+use Rattle.pungi_meaning.specs.Run.{End, Returned, Stopped, NeedsChoice, OutOfFuel}
+
+abbrev pub end_of : Outcome → End
+end_of (outcomes.Returned w v p used) = Returned w v p used.items
+end_of (outcomes.Stopped p) = Stopped p
+end_of outcomes.NeedsChoice = NeedsChoice
+end_of outcomes.OutOfFuel = OutOfFuel
+
+abbrev pub end_at : Ending → Machine → End
+end_at (endings.Leave p v) m = Returned m.world v p m.used.items
+end_at (endings.Stop p) m = Stopped p
+end_at endings.Want m = NeedsChoice
+
+abbrev pub IsCounted : Outcome → Type 0
+IsCounted (outcomes.Returned w v p used) = IsCountable w
+IsCounted o = Unit {0}

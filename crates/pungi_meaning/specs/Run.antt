@@ -1,0 +1,119 @@
+-- A run of a function: its steps, one after another, as long as there is fuel.
+--   nowhere                       no place of a text
+--   at_end                        the end of a function: one that is not void stops there
+--   act choices k s               one step: the first thing that remains is done, or leaves its parts and its remainder
+--   End                           how a run ends
+--   Run                           a run: how it ends, and what it does before, in order
+--   over, noted, after            a run that ends at once; with operations before it; what a step makes of the rest
+--   run_from choices fuel k s     a run of at most so many steps
+--   closing, locals_of body       the closing brace of a function's body, and how many locals it has with its parameters
+--   start, body_of                where the run of a function begins
+--   run_of f entry choices fuel   the run of a function from an entry
+use Rattle.std.specs.Prelude.{ℕ, zero, suc, ◌+◌, ◌-◌, Bool, true, false, not, List, [], ◌∷◌, ◌++◌, length, map, replicate, slice_get, Option, Some, None, if◌then◌else◌}
+use Rattle.pungi_base.specs.declared.choice.Choice.{Choice}
+use Rattle.pungi_base.specs.declared.entry.Entry.{Entry}
+use Rattle.pungi_base.specs.declared.pos.Pos.{Pos}
+use Rattle.pungi_base.specs.declared.value.Value.{Value}
+use Rattle.pungi_types.specs.ResolvedStmts as stmt
+use Rattle.pungi_types.specs.Operators.{is_void}
+use Rattle.pungi_world.specs.declared.content.Content.TheVariants.{Unset, Holds}
+use Rattle.pungi_world.specs.declared.world.World.{World}
+use Rattle.pungi_world.specs.World.{world_at}
+use Rattle.pungi_meaning.specs.Values.{number_of, is_true, truth}
+use Rattle.pungi_meaning.specs.Todo.{Operation, Todo, ToEval, ToLoad, ToOld, ToKeep, ToStep, ToMinus, ToCompute, ToFit, ToCompare, ToNot, ToRight, ToTruth, ToPick, ToStore, ToPop, ToArgs, ToExec, ToForget, ToReach, ToBind, ToChoose, ToJoin, ToRest, ToTest, ToTurn, ToAgain, ToBack, ToSwitch, ToSwitchEnd, ToReturn, ToEnd, State, Step, Goes, Returns, Stops, Wants}
+use Rattle.pungi_meaning.specs.Work.{top, below, left, taken, for_two}
+use Rattle.pungi_meaning.specs.Exprs.{evaluate, load_field, old, keep, step_one, minus, compute, fit, compare, right, store, next_arg}
+use Rattle.pungi_meaning.specs.Stmts.{execute, reach_next, bind, others, tested, turn, started, switch, next_stmt}
+
+abbrev pub nowhere : Pos
+nowhere = record { line = 0; col = 0 }
+
+abbrev pub at_end : Pos → Bool → State → Step
+at_end p true s = Returns s.world None p s.used
+at_end p false s = Stops p
+
+abbrev pub act : List Choice → List Todo → State → Step
+act choices [] s = Stops nowhere
+act choices (ToEval v ∷ k) s = evaluate choices v k s
+act choices (ToLoad p kind tag field ∷ k) s = load_field choices p kind (top s.values) tag field k (record s { values = below s.values })
+act choices (ToOld kind place ∷ k) s = old choices kind place k s
+act choices (ToKeep place ∷ k) s = left k (record s { values = keep place s.values })
+act choices (ToStep p o kind ∷ k) s = step_one p o kind (number_of (top s.values)) k s
+act choices (ToMinus p kind ∷ k) s = minus p kind (number_of (top s.values)) k s
+act choices (ToCompute p o kind ∷ k) s = compute p o kind (number_of (top (below s.values))) (number_of (top s.values)) k s
+act choices (ToFit p kind ∷ k) s = fit p kind (number_of (top s.values)) k s
+act choices (ToCompare p c ∷ k) s = compare p c (top (below s.values)) (top s.values) k s
+act choices (ToNot ∷ k) s = for_two [] (truth (not (is_true (top s.values)))) k s
+act choices (ToRight on b ∷ k) s = right on (top s.values) b k s
+act choices (ToTruth ∷ k) s = for_two [] (truth (is_true (top s.values))) k s
+act choices (ToPick a b ∷ k) s = taken (ToEval (if is_true (top s.values) then a else b) ∷ ToJoin ∷ k) s
+act choices (ToStore kind place ∷ k) s = store choices kind place k s
+act choices (ToPop ∷ k) s = taken k s
+act choices (ToArgs p row args i ∷ k) s = next_arg choices p row args i (slice_get args i) k s
+act choices (ToExec a ∷ k) s = execute a k s
+act choices (ToForget ∷ k) s = left k (record s { values = [] })
+act choices (ToReach rs ∷ k) s = reach_next rs k s
+act choices (ToBind x ∷ k) s = bind x k s
+act choices (ToChoose a b ∷ k) s = taken (if is_true (top s.values) then ToExec a ∷ ToJoin ∷ k else others b (ToJoin ∷ k)) s
+act choices (ToJoin ∷ k) s = left k s
+act choices (ToRest list i ∷ k) s = next_stmt list i (slice_get list i) k s
+act choices (ToTest loop ∷ k) s = left (tested loop k) s
+act choices (ToTurn loop ∷ k) s = taken (turn (is_true (top s.values)) loop k) s
+act choices (ToAgain loop ∷ k) s = left (started loop.behind (ToBack loop ∷ k)) s
+act choices (ToBack loop ∷ k) s = left (tested loop k) s
+act choices (ToSwitch p a ∷ k) s = switch p (number_of (top s.values)) a k s
+act choices (ToSwitchEnd ∷ k) s = left k s
+act choices (ToReturn p ∷ k) s = Returns s.world (Some (top s.values)) p s.used
+act choices (ToEnd p v ∷ k) s = at_end p v s
+
+-- ---- runs
+
+pub data End : Type 0 where
+  Returned : World → Option Value → Pos → List Pos → End
+  Stopped : Pos → End
+  NeedsChoice : End
+  OutOfFuel : End
+
+pub record Run : Type 0 where
+  pub end : End
+  pub ops : List Operation
+
+abbrev pub over : End → Run
+over e = record { end = e; ops = [] }
+
+abbrev pub noted : List Operation → Run → Run
+noted os r = record { end = r.end; ops = os ++ r.ops }
+
+abbrev pub after : (List Todo → State → Run) → Step → Run
+after go (Goes os k s) = noted os (go k s)
+after go (Returns w v p used) = over (Returned w v p used)
+after go (Stops p) = over (Stopped p)
+after go Wants = over NeedsChoice
+
+abbrev pub run_from : List Choice → ℕ → List Todo → State → Run
+run_from choices zero k s = over OutOfFuel
+run_from choices (suc fuel) k s = after (run_from choices fuel) (act choices k s)
+
+-- ---- functions
+
+abbrev pub closing : stmt.Action → Pos
+closing (stmt.block_of p first count ss q) = q
+closing a = nowhere
+
+abbrev pub locals_of : stmt.Action → ℕ
+locals_of (stmt.block_of p first count ss q) = first + count
+locals_of a = 0
+
+abbrev pub start : stmt.ResolvedFunction → Entry → State
+start f entry = record {
+  world = world_at entry;
+  used = [];
+  locals = map Holds entry.args ++ replicate (locals_of f.body - length entry.args) Unset;
+  values = [];
+}
+
+abbrev pub body_of : stmt.ResolvedFunction → List Todo
+body_of f = ToExec f.body ∷ ToEnd (closing f.body) (is_void f.result) ∷ []
+
+abbrev pub run_of : stmt.ResolvedFunction → Entry → List Choice → ℕ → Run
+run_of f entry choices fuel = run_from choices fuel (body_of f) (start f entry)

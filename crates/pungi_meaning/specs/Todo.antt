@@ -1,0 +1,92 @@
+-- What remains to be done in a run, and where a run stands.
+--   Loop                a loop's test, what it does behind its body, and its body
+--   Operation           what a step does that can be told from outside: arithmetic and conversions with their operands,
+--                       comparisons, loads and stores of slots, calls of the API; each with its place in the text
+--   Todo                a node that is to be done, or the remainder of a node
+--   State               the world, the places of the choices that were used, the locals, and the values that wait for their
+--                       operator, the newest first
+--   Step                a step goes on, returns, stops at a place, or wants a choice that isn't there or isn't accepted
+--   listed, listed_values    the statements of a block, the arguments of a call
+use Rattle.std.specs.Prelude.{ℕ, ℤ, Bool, List, [], ◌∷◌, Option}
+use Rattle.pungi_base.specs.declared.names.Name.{Name}
+use Rattle.pungi_base.specs.declared.pos.Pos.{Pos}
+use Rattle.pungi_base.specs.declared.value.Value.{Value}
+use Rattle.pungi_api.specs.declared.row.Row.{Row}
+use Rattle.pungi_api.specs.declared.shape.Shape.{Shape}
+use Rattle.pungi_types.specs.Resolved as expr
+use Rattle.pungi_types.specs.ResolvedStmts as stmt
+use Rattle.pungi_types.specs.declared.kind.ValueKind.{ValueKind}
+use Rattle.pungi_world.specs.declared.content.Content.{Content}
+use Rattle.pungi_world.specs.declared.effect.Effect.{Effect}
+use Rattle.pungi_world.specs.declared.slot.Slot.{Slot}
+use Rattle.pungi_world.specs.declared.world.World.{World}
+use Rattle.pungi_meaning.specs.declared.op.Op.{Op}
+use Rattle.pungi_meaning.specs.declared.cmp.Cmp.{Cmp}
+
+pub record Loop : Type 0 where
+  pub test : Option expr.Value  -- none holds always
+  pub behind : Option expr.Value
+  pub body : stmt.Action
+
+pub data Operation : Type 0 where
+  Computed : Pos → Op → ValueKind → ℤ → ℤ → Operation
+  Fitted : Pos → ValueKind → ℤ → Operation
+  Compared : Pos → Cmp → Value → Value → Operation
+  Loaded : Pos → Slot → Option Value → Operation
+  Stored : Pos → Slot → Value → Operation
+  Called : Pos → Shape → List Value → Effect → Operation
+
+pub data Todo : Type 0 where
+  -- expressions
+  ToEval : expr.Value → Todo
+  ToLoad : Pos → ValueKind → Name → Name → Todo  -- of `->`: its base waits
+  ToOld : ValueKind → expr.Place → Todo  -- what a place that is written afterwards holds; the base of a field waits and stays
+  ToKeep : expr.Place → Todo  -- of `++` and `--` behind their operand: the old content is the value
+  ToStep : Pos → Op → ValueKind → Todo  -- of `++` and `--`
+  ToMinus : Pos → ValueKind → Todo
+  ToCompute : Pos → Op → ValueKind → Todo
+  ToFit : Pos → ValueKind → Todo
+  ToCompare : Pos → Cmp → Todo
+  ToNot : Todo
+  ToRight : Bool → expr.Value → Todo  -- of `&&` and `||`: the right side is wanted where the left is so
+  ToTruth : Todo
+  ToPick : expr.Value → expr.Value → Todo
+  ToStore : ValueKind → expr.Place → Todo
+  ToPop : Todo
+  ToArgs : Pos → Row → List expr.Value → ℕ → Todo  -- of a call: all arguments, and the place of the next one
+  -- statements
+  ToExec : stmt.Action → Todo
+  ToForget : Todo
+  ToReach : List stmt.Reached → Todo  -- of a declaration: the variables that are left
+  ToBind : ℕ → Todo
+  ToChoose : stmt.Action → Option stmt.Action → Todo
+  ToJoin : Todo
+  ToRest : List stmt.Action → ℕ → Todo  -- of a block: all statements, and the place of the next one
+  ToTest : Loop → Todo  -- in front of the first turn
+  ToTurn : Loop → Todo  -- after the test
+  ToAgain : Loop → Todo  -- after the body
+  ToBack : Loop → Todo  -- in front of a further turn
+  ToSwitch : Pos → stmt.Action → Todo
+  ToSwitchEnd : Todo
+  ToReturn : Pos → Todo
+  ToEnd : Pos → Bool → Todo  -- the closing brace of a function, which is void or not
+
+pub record State : Type 0 where
+  pub world : World
+  pub used : List Pos
+  pub locals : List Content
+  pub values : List Value
+
+pub data Step : Type 0 where
+  Goes : List Operation → List Todo → State → Step
+  Returns : World → Option Value → Pos → List Pos → Step
+  Stops : Pos → Step
+  Wants : Step
+
+abbrev pub listed : stmt.Actions → List stmt.Action
+listed stmt.no_actions = []
+listed (stmt.action_and a rest) = a ∷ listed rest
+
+abbrev pub listed_values : expr.Values → List expr.Value
+listed_values expr.no_values = []
+listed_values (expr.value_and v rest) = v ∷ listed_values rest

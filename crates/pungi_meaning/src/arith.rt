@@ -1,0 +1,161 @@
+// Arithmetic, comparisons and truth.
+ghost use Rattle.std.specs.Prelude.{◌≡◌, [], not, reverse, IfOk, OnOk, None};
+ghost use Rattle.pungi_resolved.specs.ValueView.{value_view, place_view};
+ghost use Rattle.pungi_meaning.specs.Exprs.{keep as kept, minus as minus_step, step_one as one_step, compute as compute_step, compare as compare_step, fit as fit_step, right as right_step, is_wanted as is_wanted_side};
+ghost use Rattle.pungi_meaning.specs.Machine.{todos, state_of, Tells};
+ghost use Rattle.pungi_meaning.specs.Values.{arithmetic as arithmetic_result, number_of as value_number, truth as truth_value, is_true as is_true_value};
+ghost use Rattle.pungi_meaning.specs.Work.{top, below, for_two};
+
+use crate::cmp::number_of;
+use crate::machine::{Ending, Machine};
+use crate::stack::take;
+use crate::task::Task;
+use crate::{Cmp, Op, arithmetic, fits, is_true, truth};
+use pungi_base::{Memory, Pos, Value};
+use pungi_resolved::{Place, Value as Node};
+use pungi_types::ValueKind;
+
+/// The newest value as a number, taken off.
+fn take_number(values: &mut Vec<Value>) -> i64
+    ensures value { result ≡ value_number (top (reverse values.old.items)) }
+    ensures rest { reverse values.new.items ≡ below (reverse values.old.items) }
+{
+    number_of(take(values))
+}
+
+/// What an operator gives on the two newest values, which are taken off.
+fn combine(values: &mut Vec<Value>, op: Op, kind: ValueKind) -> Option<i64>
+    ensures value { result ≡ arithmetic_result op kind (value_number (top (below (reverse values.old.items)))) (value_number (top (reverse values.old.items))) }
+    ensures rest { reverse values.new.items ≡ below (below (reverse values.old.items)) }
+{
+    let right = take_number(values);
+    let left = take_number(values);
+    arithmetic(op, kind, left, right)
+}
+
+/// An operator on the two newest values.
+pub fn compute(m: &mut Machine, pos: Pos, op: Op, kind: ValueKind) -> Result<Option<Ending>, Memory>
+    ensures { IfOk result (λ halt. Tells (compute_step pos op kind (value_number (top (below (reverse m.old.values.items)))) (value_number (top (reverse m.old.values.items))) (todos m.old.tasks.items) (state_of m.old)) halt m.new) }
+{
+    match combine(&mut m.values, op, kind) {
+        Some(n) => {
+            m.values.push(Value::Int(n))?;
+            Ok(None)
+        }
+        None => Ok(Some(Ending::Stop(pos))),
+    }
+}
+
+/// The newest value plus or minus 1.
+pub fn step_one(
+    m: &mut Machine,
+    pos: Pos,
+    op: Op,
+    kind: ValueKind,
+) -> Result<Option<Ending>, Memory>
+    ensures { IfOk result (λ halt. Tells (one_step pos op kind (value_number (top (reverse m.old.values.items))) (todos m.old.tasks.items) (state_of m.old)) halt m.new) }
+{
+    let left = take_number(&mut m.values);
+    match arithmetic(op, kind, left, 1) {
+        Some(n) => {
+            m.values.push(Value::Int(n))?;
+            Ok(None)
+        }
+        None => Ok(Some(Ending::Stop(pos))),
+    }
+}
+
+/// The newest value with the other sign.
+pub fn minus(m: &mut Machine, pos: Pos, kind: ValueKind) -> Result<Option<Ending>, Memory>
+    ensures { IfOk result (λ halt. Tells (minus_step pos kind (value_number (top (reverse m.old.values.items))) (todos m.old.tasks.items) (state_of m.old)) halt m.new) }
+{
+    let right = take_number(&mut m.values);
+    match arithmetic(Op::Sub, kind, 0, right) {
+        Some(n) => {
+            m.values.push(Value::Int(n))?;
+            Ok(None)
+        }
+        None => Ok(Some(Ending::Stop(pos))),
+    }
+}
+
+/// The newest value in another kind.
+pub fn fit(m: &mut Machine, pos: Pos, kind: ValueKind) -> Result<Option<Ending>, Memory>
+    ensures { IfOk result (λ halt. Tells (fit_step pos kind (value_number (top (reverse m.old.values.items))) (todos m.old.tasks.items) (state_of m.old)) halt m.new) }
+{
+    let n = take_number(&mut m.values);
+    if fits(kind, n) {
+        m.values.push(Value::Int(n))?;
+        Ok(None)
+    } else {
+        Ok(Some(Ending::Stop(pos)))
+    }
+}
+
+/// A comparison of the two newest values.
+pub fn compare(m: &mut Machine, pos: Pos, cmp: Cmp) -> Result<(), Memory>
+    ensures { OnOk result (Tells (compare_step pos cmp (top (below (reverse m.old.values.items))) (top (reverse m.old.values.items)) (todos m.old.tasks.items) (state_of m.old)) None m.new) }
+{
+    let right = take(&mut m.values);
+    let left = take(&mut m.values);
+    m.values.push(truth(cmp.holds(left, right)))?;
+    Ok(())
+}
+
+/// The newest value is false, in place of the two newest.
+pub fn negate(m: &mut Machine) -> Result<(), Memory>
+    ensures { OnOk result (Tells (for_two [] (truth_value (not (is_true_value (top (reverse m.old.values.items))))) (todos m.old.tasks.items) (state_of m.old)) None m.new) }
+{
+    let value = take(&mut m.values);
+    take(&mut m.values);
+    m.values.push(truth(!is_true(value)))?;
+    Ok(())
+}
+
+/// The newest value is true, in place of the two newest.
+pub fn to_truth(m: &mut Machine) -> Result<(), Memory>
+    ensures { OnOk result (Tells (for_two [] (truth_value (is_true_value (top (reverse m.old.values.items)))) (todos m.old.tasks.items) (state_of m.old)) None m.new) }
+{
+    let value = take(&mut m.values);
+    take(&mut m.values);
+    m.values.push(truth(is_true(value)))?;
+    Ok(())
+}
+
+fn is_wanted(on: bool, left: bool) -> bool
+    ensures { result ≡ is_wanted_side on left }
+{
+    if on { left } else { !left }
+}
+
+/// The right side of `&&` or `||`, where it is wanted.
+pub fn right<'a>(m: &mut Machine<'a>, on: bool, part: &'a Node) -> Result<(), Memory>
+    ensures { OnOk result (Tells (right_step on (top (reverse m.old.values.items)) (value_view part.now) (todos m.old.tasks.items) (state_of m.old)) None m.new) }
+{
+    if is_wanted(on, is_true(take(&mut m.values))) {
+        m.tasks.push(Task::Truth)?;
+        m.tasks.push(Task::Eval(part))?;
+    }
+    Ok(())
+}
+
+/// The old content goes to where the value of `++` or `--` behind its operand waits.
+pub fn keep(values: &mut Vec<Value>, place: &Place) -> Result<(), Memory>
+    ensures { OnOk result (reverse values.new.items ≡ kept (place_view place.now) (reverse values.old.items)) }
+{
+    let old = take(values);
+    match place {
+        Place::Field(_, _, _, _) => {
+            let base = take(values);
+            take(values);
+            values.push(old)?;
+            values.push(base)?;
+        }
+        _ => {
+            take(values);
+            values.push(old)?;
+        }
+    }
+    values.push(old)?;
+    Ok(())
+}

@@ -1,0 +1,138 @@
+// Calls of the API.
+ghost use Rattle.std.specs.Prelude.{◌≡◌, ◌<◌, [], drop, length, map, reverse, slice_get, IfOk, OnOk, MatchOption, None, Some};
+ghost use Rattle.pungi_resolved.specs.ValueView.{value_view};
+ghost use Rattle.pungi_world.specs.Calls.{is_told_form};
+ghost use Rattle.pungi_meaning.specs.Exprs.{call as call_step, next_arg as next_arg_step};
+ghost use Rattle.pungi_meaning.specs.Machine.{todos, state_of, Tells};
+ghost use Rattle.pungi_meaning.specs.Work.{newest};
+
+use crate::expr::one;
+use crate::machine::{Ending, Machine};
+use crate::stack::{note_used, unused};
+use crate::task::Task;
+use pungi_api::{Form, Shape, Special};
+use pungi_base::{Choice, Memory, Pos, Value};
+use pungi_resolved::Value as Node;
+use pungi_world::{ApiCall, Halt};
+use std::alloc::Global;
+
+/// Whether the effect of a row of this form is told.
+fn is_told(form: Form) -> bool
+    ensures { result ≡ is_told_form form }
+{
+    match form {
+        Form::Plain => true,
+        Form::Special(special) => match special {
+            Special::IncRef
+            | Special::DecRef
+            | Special::XIncRef
+            | Special::XDecRef
+            | Special::NewRef
+            | Special::XNewRef => true,
+            _ => false,
+        },
+    }
+}
+
+/// The newest values, taken off. The oldest of them comes first.
+#[tactic(auto, using(crate::proofs::NewestLemmas::newest_range, crate::proofs::NewestLemmas::newest_left))]
+fn take_newest(alloc: Global, values: &mut Vec<Value>, count: usize) -> Result<Vec<Value>, Memory>
+    ensures taken { IfOk result (λ taken. taken.items ≡ newest count (reverse values.old.items)) }
+    ensures rest { OnOk result (reverse values.new.items ≡ drop count (reverse values.old.items)) }
+{
+    let place = values.len().saturating_sub(count);
+    let taken = Vec::from_slice(alloc, &values[place..])?;
+    values.truncate(place);
+    Ok(taken)
+}
+
+/// A call of the API with the newest values.
+fn call(
+    m: &mut Machine,
+    alloc: Global,
+    choices: &[Choice],
+    pos: Pos,
+    shape: &Shape,
+    count: usize,
+) -> Result<Option<Ending>, Memory>
+    ensures { IfOk result (λ halt. Tells (call_step choices.now pos shape.now.row count (todos m.old.tasks.items) (state_of m.old)) halt m.new) }
+{
+    if !is_told(shape.row.form) {
+        return Ok(Some(Ending::Stop(pos)));
+    }
+    let args = take_newest(alloc, &mut m.values, count)?;
+    let rest = unused(choices, m.used.len());
+    let api = ApiCall { shape, args: &args };
+    match m.world.apply(alloc, &api, rest) {
+        Ok(effect) => {
+            note_used(&mut m.used, pos, effect.used)?;
+            if let Some(value) = effect.value {
+                m.values.push(value)?;
+            }
+            Ok(None)
+        }
+        Err(Halt::Stopped) => Ok(Some(Ending::Stop(pos))),
+        Err(Halt::NeedsChoice) => Ok(Some(Ending::Want)),
+        Err(Halt::Memory) => Err(Memory),
+    }
+}
+
+/// The argument at this place, if there is one.
+fn arg_at<'a>(args: &'a [Node], i: usize) -> Option<&'a Node>
+    ensures { MatchOption result (slice_get args.now i ≡ None) (λ a. (slice_get args.now i ≡ Some a.now) × (i < length args.now)) }
+{
+    if i < args.len() { Some(&args[i]) } else { None }
+}
+
+/// An argument of a call, and then the next one.
+fn go_on<'a>(
+    m: &mut Machine<'a>,
+    pos: Pos,
+    shape: &'a Shape,
+    args: &'a [Node],
+    i: usize,
+    arg: &'a Node,
+) -> Result<(), Memory>
+    requires { i < length args.now }
+    ensures { OnOk result (Tells (next_arg_step [] pos shape.now.row (map value_view args.now) i (Some (value_view arg.now)) (todos m.old.tasks.items) (state_of m.old)) None m.new) }
+{
+    one(m, Task::Args(pos, shape, args, i + 1), arg)?;
+    Ok(())
+}
+
+/// The call, once its arguments are known.
+fn call_with(
+    m: &mut Machine,
+    alloc: Global,
+    choices: &[Choice],
+    pos: Pos,
+    shape: &Shape,
+    args: &[Node],
+    i: usize,
+) -> Result<Option<Ending>, Memory>
+    ensures { IfOk result (λ halt. Tells (next_arg_step choices.now pos shape.now.row (map value_view args.now) i None (todos m.old.tasks.items) (state_of m.old)) halt m.new) }
+{
+    Ok(call(m, alloc, choices, pos, shape, args.len())?)
+}
+
+/// The next argument of a call, or the call.
+#[tactic(auto, using(crate::proofs::ListLemmas::mapped_get))]
+pub fn next_arg<'a>(
+    m: &mut Machine<'a>,
+    alloc: Global,
+    choices: &[Choice],
+    pos: Pos,
+    shape: &'a Shape,
+    args: &'a [Node],
+    i: usize,
+) -> Result<Option<Ending>, Memory>
+    ensures { IfOk result (λ halt. Tells (next_arg_step choices.now pos shape.now.row (map value_view args.now) i (slice_get (map value_view args.now) i) (todos m.old.tasks.items) (state_of m.old)) halt m.new) }
+{
+    match arg_at(args, i) {
+        Some(arg) => {
+            go_on(m, pos, shape, args, i, arg)?;
+            Ok(None)
+        }
+        None => Ok(call_with(m, alloc, choices, pos, shape, args, i)?),
+    }
+}

@@ -1,0 +1,129 @@
+// The run of a function.
+ghost use Rattle.std.specs.Prelude.{◌≡◌, ◌+◌, ◌++◌, IfOk, OnOk, map, replicate};
+ghost use Rattle.pungi_resolved.specs.ActionView.{action_view, function_view};
+ghost use Rattle.pungi_types.specs.Operators.{is_void as is_void_kind};
+ghost use Rattle.pungi_world.specs.declared.content.Content.TheVariants.{Unset as UnsetContent, Holds as HoldsContent};
+ghost use Rattle.pungi_meaning.specs.Machine.{todos, state_of};
+ghost use Rattle.pungi_meaning.specs.Outcomes.{end_of, end_at, IsCounted};
+ghost use Rattle.pungi_meaning.specs.Run.{closing as closing_of, locals_of, start, body_of, run_of};
+
+use crate::Outcome;
+use crate::counted_world::CountedWorld;
+use crate::machine::{Ending, Machine};
+use crate::step::step;
+use crate::task::Task;
+use pungi_base::{Choice, Entry, Memory, Pos, Value};
+use pungi_resolved::{Action, ActionNode, Function};
+use pungi_types::ValueKind;
+use pungi_world::Content;
+use std::alloc::Global;
+
+fn is_void(kind: Option<ValueKind>) -> bool
+    ensures { result ≡ is_void_kind kind }
+{
+    match kind {
+        Some(ValueKind::Void) => true,
+        _ => false,
+    }
+}
+
+/// The closing brace of a function's body.
+fn closing(body: &Action) -> Pos
+    ensures { result ≡ closing_of (action_view body.now) }
+{
+    match &body.node {
+        ActionNode::Block(_, _, _, brace) => *brace,
+        _ => Pos { line: 0, col: 0 },
+    }
+}
+
+/// How many locals a function's body has with its parameters.
+fn count_locals(body: &Action) -> usize
+    ensures { result ≡ locals_of (action_view body.now) }
+{
+    match &body.node {
+        ActionNode::Block(first, count, _, _) => *first as usize + *count as usize,
+        _ => 0,
+    }
+}
+
+/// The parameters hold the arguments.
+fn held(alloc: Global, args: &[Value]) -> Result<Vec<Content>, Memory>
+    ensures { IfOk result (λ locals. locals.items ≡ map HoldsContent args.now) }
+{
+    let mut locals = Vec::new(alloc);
+    for arg in args {
+        locals.push(Content::Holds(*arg))?;
+    }
+    Ok(locals)
+}
+
+/// So many more locals, which hold nothing.
+#[tactic(auto, using(crate::proofs::ListLemmas::replicate_step))]
+fn add_unset(locals: &mut Vec<Content>, count: usize) -> Result<(), Memory>
+    ensures { OnOk result (locals.new.items ≡ locals.old.items ++ replicate count UnsetContent) }
+{
+    for i in 0..count {
+        locals.push(Content::Unset)?;
+    }
+    Ok(())
+}
+
+/// The run of a function before its first step.
+fn begin<'a>(alloc: Global, f: &'a Function, entry: &Entry) -> Result<Machine<'a>, Memory>
+    ensures todos { IfOk result (λ m. todos m.tasks.items ≡ body_of (function_view f.now)) }
+    ensures state { IfOk result (λ m. state_of m ≡ start (function_view f.now) entry.now) }
+{
+    let world = CountedWorld::start(alloc, entry)?;
+    let mut locals = held(alloc, entry.args.as_slice())?;
+    let unset = count_locals(&f.body).saturating_sub(entry.args.len());
+    add_unset(&mut locals, unset)?;
+    let mut tasks = Vec::new(alloc);
+    tasks.push(Task::End(closing(&f.body), is_void(f.result)))?;
+    tasks.push(Task::Exec(&f.body))?;
+    Ok(Machine {
+        world,
+        used: Vec::new(alloc),
+        locals,
+        values: Vec::new(alloc),
+        tasks,
+    })
+}
+
+/// The outcome of a run that ends here.
+fn ended(m: Machine, ending: Ending) -> Outcome
+    ensures end { end_of result ≡ end_at ending m.entry }
+    ensures counted { IsCounted result }
+{
+    match ending {
+        Ending::Leave(pos, value) => Outcome::Returned {
+            world: m.world.into_world(),
+            value,
+            pos,
+            used: m.used,
+        },
+        Ending::Stop(pos) => Outcome::Stopped(pos),
+        Ending::Want => Outcome::NeedsChoice,
+    }
+}
+
+/// Runs a function from an entry, for at most `fuel` steps, with these answers of the outside (C11 5.1.2.3, 6.5, 6.8). The
+/// world that it returns can be counted.
+pub fn run(
+    alloc: Global,
+    f: &Function,
+    entry: &Entry,
+    choices: &[Choice],
+    fuel: u32,
+) -> Result<Outcome, Memory>
+    ensures end { IfOk result (λ outcome. end_of outcome ≡ (run_of (function_view f.now) entry.now choices.now fuel).end) }
+    ensures counted { IfOk result (λ outcome. IsCounted outcome) }
+{
+    let mut m = begin(alloc, f, entry)?;
+    for i in 0..fuel {
+        if let Some(ending) = step(&mut m, alloc, choices)? {
+            return Ok(ended(m, ending));
+        }
+    }
+    Ok(Outcome::OutOfFuel)
+}

@@ -1,0 +1,34 @@
+//! The meaning of checked functions: what each does, step by step.
+#![tactic(auto)]
+
+mod arith;
+mod call;
+mod cmp;
+mod condition;
+mod counted_world;
+mod entry;
+mod execution;
+mod expr;
+mod machine;
+mod number;
+mod op;
+mod outcome;
+mod slot;
+mod stack;
+mod step;
+mod stmt;
+mod task;
+mod unwind;
+
+pub use cmp::Cmp;
+pub use condition::{is_true, truth};
+pub use entry::entry_ok;
+pub use execution::run;
+pub use number::{arithmetic, fits, wide};
+pub use op::Op;
+pub use outcome::Outcome;
+
+#[cfg(test)]
+mod test_functions;
+#[cfg(test)]
+mod tests;

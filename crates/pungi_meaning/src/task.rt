@@ -1,0 +1,50 @@
+use crate::{Cmp, Op};
+use pungi_api::Shape;
+use pungi_base::{Name, Pos};
+use pungi_resolved::{Action, Place, Reached, Value};
+use pungi_types::ValueKind;
+
+/// A loop by its parts. A loop without a test goes on for ever.
+#[derive(Clone, Copy)]
+pub struct Turns<'a> {
+    pub test: Option<&'a Value>,
+    /// What it does behind its body.
+    pub behind: Option<&'a Value>,
+    pub body: &'a Action,
+}
+
+/// A node that is to be done, or what remains of one.
+#[derive(Clone, Copy)]
+pub enum Task<'a> {
+    Eval(&'a Value),
+    Load(Pos, ValueKind, Name, Name),
+    Old(ValueKind, &'a Place),
+    Keep(&'a Place),
+    Step(Pos, Op, ValueKind),
+    Minus(Pos, ValueKind),
+    Compute(Pos, Op, ValueKind),
+    Fit(Pos, ValueKind),
+    Compare(Pos, Cmp),
+    Negate,
+    Right(bool, &'a Value),
+    Truth,
+    Pick(&'a Value, &'a Value),
+    Store(ValueKind, &'a Place),
+    Pop,
+    Args(Pos, &'a Shape, &'a [Value], usize),
+    Exec(&'a Action),
+    Forget,
+    Reach(&'a [Reached]),
+    Bind(usize),
+    Choose(&'a Action, Option<&'a Action>),
+    Join,
+    Rest(&'a [Action], usize),
+    Test(Turns<'a>),
+    Turn(Turns<'a>),
+    Again(Turns<'a>),
+    Back(Turns<'a>),
+    Switch(Pos, &'a Action),
+    SwitchEnd,
+    Return(Pos),
+    End(Pos, bool),
+}

@@ -1,0 +1,142 @@
+use crate::test_functions::{BOX, FIRST, at, one, setting, summing};
+use crate::{Outcome, entry_ok, run};
+use pungi_base::{Choice, Entry, Memory, Pos, Seq, Value};
+use pungi_resolved::Function;
+use pungi_world::{Account, Content, Slot, World};
+use std::alloc::Global;
+use std::test::Fail;
+
+/// What a run shows: the value, where it returned, and where the choices were used that it used; or why it didn't return.
+#[derive(Clone, Copy)]
+enum Shown<'a> {
+    Returns(Option<Value>, Pos, &'a [Pos]),
+    Wants,
+    Goes,
+}
+
+/// A run of a function: how many objects there are, the arguments, the choices, the fuel, and what it shows.
+#[derive(Clone, Copy)]
+struct Told<'a>(u32, &'a [Value], &'a [Choice], u32, Shown<'a>);
+
+const NULL: Value = Value::Null;
+
+fn entry_of(alloc: Global, told: Told) -> Result<Entry, Memory> {
+    Ok(Entry {
+        objects: told.0,
+        args: Seq::new(Vec::from_slice(alloc, told.1)?),
+    })
+}
+
+fn shows(outcome: &Outcome, shown: Shown) -> bool {
+    match (outcome, shown) {
+        (
+            Outcome::Returned {
+                value,
+                pos,
+                used,
+                ..
+            },
+            Shown::Returns(wanted, place, places),
+        ) => { *value == wanted && *pos == place && used.as_slice() == places }
+        (Outcome::NeedsChoice, Shown::Wants) | (Outcome::OutOfFuel, Shown::Goes) => true,
+        _ => false,
+    }
+}
+
+fn runs(alloc: Global, f: &Function, told: Told) -> Result<bool, Memory> {
+    let entry = entry_of(alloc, told)?;
+    let outcome = run(alloc, f, &entry, told.2, told.3)?;
+    Ok(entry_ok(f, 24, &entry) && shows(&outcome, told.4))
+}
+
+#[test]
+fn a_loop_ends_or_uses_its_fuel(rt: HostRuntime) -> Result<(), Fail> {
+    let f = summing(rt.alloc())?;
+    let six = Shown::Returns(Some(Value::Int(6)), at(63), &[]);
+    assert!(rt; runs(rt.alloc(), &f, Told(24, &[Value::Int(3)], &[], 1000, six))?);
+    assert!(rt;
+        runs(
+            rt.alloc(),
+            &f,
+            Told(24, &[Value::Int(-1)], &[], 1000, Shown::Goes)
+        )?
+    );
+    Ok(())
+}
+
+#[test]
+fn a_call_uses_a_choice(rt: HostRuntime) -> Result<(), Fail> {
+    let f = one(rt.alloc())?;
+    let null = Shown::Returns(Some(NULL), at(48), &[at(55)]);
+    let rows = [
+        Told(24, &[NULL, NULL], &[], 100, Shown::Wants),
+        Told(24, &[NULL, NULL], &[Choice::Null], 100, null),
+        Told(24, &[NULL, NULL], &[Choice::Null], 0, Shown::Goes),
+    ];
+    for row in rows {
+        assert!(rt; runs(rt.alloc(), &f, row)?);
+    }
+    Ok(())
+}
+
+/// Whether one field was touched, which held `NULL` and holds an object now, whose count rose by one.
+fn is_set(world: &World) -> bool {
+    let raised = Account {
+        change: 1,
+        handed: 0,
+        made: false,
+    };
+    let slot = Slot::Field {
+        object: 24,
+        tag: BOX,
+        field: FIRST,
+    };
+    match world.slots.as_slice() {
+        [state] => {
+            state.slot == slot
+                && state.at_entry == Content::Holds(NULL)
+                && state.held == Content::Holds(Value::Object(25))
+                && world.accounts.len() == 26
+                && world.accounts.as_slice()[25] == raised
+        }
+        _ => false,
+    }
+}
+
+#[test]
+fn a_field_is_replaced(rt: HostRuntime) -> Result<(), Fail> {
+    let f = setting(rt.alloc())?;
+    let args = [Value::Object(24), Value::Object(25)];
+    let told = Told(
+        26,
+        &args,
+        &[Choice::Null],
+        100,
+        Shown::Returns(None, at(111), &[at(54)]),
+    );
+    let entry = entry_of(rt.alloc(), told)?;
+    let outcome = run(rt.alloc(), &f, &entry, told.2, told.3)?;
+    assert!(rt; shows(&outcome, told.4));
+    if let Outcome::Returned { world, value, .. } = outcome {
+        assert!(rt; is_set(&world));
+        assert_eq!(rt; world.unbalanced(value), None);
+    }
+    Ok(())
+}
+
+#[test]
+fn entries_fit_a_function(rt: HostRuntime) -> Result<(), Fail> {
+    let f = summing(rt.alloc())?;
+    let rows: [(u32, &[Value], bool); 5] = [
+        (24, &[Value::Int(2147483647)], true),
+        (24, &[Value::Int(2147483648)], false),
+        (23, &[Value::Int(0)], false),
+        (24, &[], false),
+        (24, &[NULL], false),
+    ];
+    for (objects, args, fits) in rows {
+        let entry = entry_of(rt.alloc(), Told(objects, args, &[], 0, Shown::Goes))?;
+        assert_eq!(rt; entry_ok(&f, 24, &entry), fits);
+    }
+    Ok(())
+}

@@ -1,0 +1,152 @@
+// Where `goto`, `break` and `continue` lead.
+ghost use Rattle.std.specs.Prelude.{◌≡◌, ◌∷◌, IfOk, OnOk, is_some, map};
+ghost use Rattle.pungi_resolved.specs.ActionView.{action_view};
+ghost use Rattle.pungi_meaning.specs.Machine.{todo_of, todos};
+ghost use Rattle.pungi_meaning.specs.Jumps.{entered, entered_among, found_or, from_label, after_break, after_continue};
+
+use crate::stmt::unboxed;
+use crate::task::{Task, Turns};
+use pungi_base::{Memory, Name};
+use pungi_resolved::{Action, ActionNode};
+
+/// What remains of a part from a label on, in front of what follows the part.
+#[cycle(entering)]
+fn enter_before<'a>(
+    tasks: &mut Vec<Task<'a>>,
+    label: Name,
+    part: &'a Action,
+    then: Task<'a>,
+) -> Result<bool, Memory>
+    ensures found { IfOk result (λ found. found ≡ is_some (entered label (action_view part.now) (todo_of then.entry ∷ todos tasks.old.items))) }
+    ensures tasks { OnOk result (todos tasks.new.items ≡ found_or (entered label (action_view part.now) (todo_of then.entry ∷ todos tasks.old.items)) (todos tasks.old.items)) }
+{
+    tasks.push(then)?;
+    let found = enter(tasks, label, part)?;
+    if !found {
+        tasks.pop();
+    }
+    Ok(found)
+}
+
+/// What remains of a statement from a label on. A label in an inner block isn't found.
+#[cycle(entering)]
+fn enter<'a>(tasks: &mut Vec<Task<'a>>, label: Name, action: &'a Action) -> Result<bool, Memory>
+    ensures found { IfOk result (λ found. found ≡ is_some (entered label (action_view action.now) (todos tasks.old.items))) }
+    ensures tasks { OnOk result (todos tasks.new.items ≡ found_or (entered label (action_view action.now) (todos tasks.old.items)) (todos tasks.old.items)) }
+{
+    match &action.node {
+        ActionNode::AtLabel(name, part) => {
+            if name.0 == label.0 {
+                tasks.push(Task::Exec(part))?;
+                return Ok(true);
+            }
+            Ok(enter(tasks, label, part)?)
+        }
+        ActionNode::AtCase(_, part) => Ok(enter(tasks, label, part)?),
+        ActionNode::AtDefault(part) => Ok(enter(tasks, label, part)?),
+        ActionNode::Test(_, part) => Ok(enter_before(tasks, label, part, Task::Join)?),
+        ActionNode::TestElse(_, part, other) => {
+            if enter_before(tasks, label, part, Task::Join)? {
+                return Ok(true);
+            }
+            Ok(enter_before(tasks, label, other, Task::Join)?)
+        }
+        ActionNode::RepeatWhile(test, body) => {
+            let again = Task::Again(Turns {
+                test: Some(&**test),
+                behind: None,
+                body,
+            });
+            Ok(enter_before(tasks, label, body, again)?)
+        }
+        ActionNode::RepeatUntil(body, test) => {
+            let again = Task::Again(Turns {
+                test: Some(&**test),
+                behind: None,
+                body,
+            });
+            Ok(enter_before(tasks, label, body, again)?)
+        }
+        ActionNode::RepeatFor(_, _, test, behind, body) => {
+            let again = Task::Again(Turns {
+                test: unboxed(test),
+                behind: unboxed(behind),
+                body,
+            });
+            Ok(enter_before(tasks, label, body, again)?)
+        }
+        ActionNode::SwitchOn(_, body) => Ok(enter_before(tasks, label, body, Task::SwitchEnd)?),
+        _ => Ok(false),
+    }
+}
+
+/// What remains of a block's statements from a label on.
+fn enter_block<'a>(
+    tasks: &mut Vec<Task<'a>>,
+    label: Name,
+    block: &'a [Action],
+) -> Result<bool, Memory>
+    ensures found { IfOk result (λ found. found ≡ is_some (entered_among label (map action_view block.now) 0 (map action_view block.now) (todos tasks.old.items))) }
+    ensures tasks { OnOk result (todos tasks.new.items ≡ found_or (entered_among label (map action_view block.now) 0 (map action_view block.now) (todos tasks.old.items)) (todos tasks.old.items)) }
+{
+    for (i, action) in block.iter().enumerate() {
+        if enter_before(tasks, label, action, Task::Rest(block, i + 1))? {
+            return Ok(true);
+        }
+    }
+    Ok(false)
+}
+
+/// What remains from a label on.
+pub fn jump(tasks: &mut Vec<Task>, label: Name) -> Result<(), Memory>
+    ensures { OnOk result (todos tasks.new.items ≡ from_label label (todos tasks.old.items)) }
+{
+    while let Some(task) = tasks.pop() {
+        match task {
+            Task::End(_, _) => {
+                tasks.push(task)?;
+                return Ok(());
+            }
+            Task::Rest(block, _) => {
+                if enter_block(tasks, label, block)? {
+                    return Ok(());
+                }
+            }
+            _ => {}
+        }
+    }
+    Ok(())
+}
+
+/// What remains behind the innermost loop or `switch`.
+pub fn leave(tasks: &mut Vec<Task>) -> Result<(), Memory>
+    ensures { OnOk result (todos tasks.new.items ≡ after_break (todos tasks.old.items)) }
+{
+    while let Some(task) = tasks.pop() {
+        match task {
+            Task::End(_, _) => {
+                tasks.push(task)?;
+                return Ok(());
+            }
+            Task::Again(_) | Task::SwitchEnd => return Ok(()),
+            _ => {}
+        }
+    }
+    Ok(())
+}
+
+/// What remains from the next turn of the innermost loop on.
+pub fn next_turn(tasks: &mut Vec<Task>) -> Result<(), Memory>
+    ensures { OnOk result (todos tasks.new.items ≡ after_continue (todos tasks.old.items)) }
+{
+    while let Some(task) = tasks.pop() {
+        match task {
+            Task::End(_, _) | Task::Again(_) => {
+                tasks.push(task)?;
+                return Ok(());
+            }
+            _ => {}
+        }
+    }
+    Ok(())
+}

@@ -1,0 +1,2 @@
+pub mod ValueView
+pub mod ActionView

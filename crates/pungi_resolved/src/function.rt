@@ -1,0 +1,13 @@
+use crate::Action;
+use pungi_base::{Name, Pos, Seq};
+use pungi_types::ValueKind;
+
+/// A function of which no rule is told. The parameters are the first of its locals.
+#[derive(Drop)]
+pub struct Function {
+    pub name: Name,
+    pub pos: Pos,
+    pub params: Seq<Option<ValueKind>>,
+    pub result: Option<ValueKind>,
+    pub body: Action,
+}

@@ -1,0 +1,10 @@
+//! Functions with their names resolved and their conversions written out.
+#![tactic(auto)]
+
+mod action;
+mod function;
+mod value;
+
+pub use action::{Action, ActionNode, Reached};
+pub use function::Function;
+pub use value::{Place, Value, ValueNode};

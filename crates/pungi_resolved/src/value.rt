@@ -1,0 +1,65 @@
+use pungi_api::Shape;
+use pungi_base::{Kind, Name, Pos, Punct};
+use pungi_types::ValueKind;
+
+/// What an expression of a checked function does (C11 6.5), one node for each node of the text and one for each
+/// conversion. Its place is that of the node in the text.
+#[derive(Drop)]
+#[cycle(values)]
+pub struct Value {
+    pub pos: Pos,
+    pub node: ValueNode,
+}
+
+/// What a value is made of. A kind is that of the result, except where something else is said.
+#[derive(Drop)]
+#[cycle(values)]
+pub enum ValueNode {
+    Constant(i64),
+    Text(Vec<Name>),
+    Null,
+    /// A static object, by its number.
+    Static(u32),
+    /// `&` of a module table.
+    Module(Name),
+    Read(ValueKind, Place),
+    /// A parenthesis.
+    Inner(Box<Value>),
+    /// `+` and `-`.
+    Signed(Kind, ValueKind, Box<Value>),
+    /// `!`.
+    Negated(Box<Value>),
+    /// `++` and `--`, behind the operand where true.
+    Stepped(bool, Kind, ValueKind, Place),
+    Computed(Punct, ValueKind, Box<Value>, Box<Value>),
+    Compared(Punct, Box<Value>, Box<Value>),
+    /// `&&` and `||`.
+    Joined(Punct, Box<Value>, Box<Value>),
+    /// `=`, with the kind of the place.
+    Stored(ValueKind, Place, Box<Value>),
+    /// `+=` and its kin: the kind of the arithmetic, and that of the place.
+    Updated(Punct, ValueKind, ValueKind, Place, Box<Value>),
+    /// `?:`.
+    Chosen(Box<Value>, Box<Value>, Box<Value>),
+    /// A conversion to another integer kind.
+    Converted(ValueKind, Box<Value>),
+    /// A cast that converts nothing.
+    Cast(Box<Value>),
+    /// A cast to `void`.
+    Dropped(Box<Value>),
+    /// A call of a function of the file.
+    Called(Name, Vec<Value>),
+    /// A call of the API.
+    CalledRow(Name, Box<Shape>, Vec<Value>),
+}
+
+/// What can be read and assigned to.
+#[derive(Drop)]
+#[cycle(values)]
+pub enum Place {
+    /// A local, by its number.
+    Local(Pos, usize),
+    Global(Pos, Name),
+    /// The place of `->`, the base, the name of its struct and the field.
+    Field(Pos, Box<Value>, Name, Name),
+}
