@@ -152,7 +152,7 @@ fn reports(rt: HostRuntime) -> Result<(), Fail> {
         (
             HELPERS,
             1,
-            "clean same\nrefused answer 26:1 N0\nclean number\nfaulty twice 45:5 object\nclean nothing\nrefused cache_size 55:1 N0\n",
+            "clean same\nrefused answer 26:1 N0\nclean number\nfaulty twice 45:5 object\nclean nothing\nrefused cache_size 57:26 N9\n",
         ),
         (
             POOL,

@@ -1,5 +1,5 @@
 -- The findings of a file's faults are of rule 1 or 2.
-use Rattle.std.proofs.Common.{◌≡◌, ◌⊎◌, ℕ, Bool, true, false, List, [], ◌∷◌, Option, Some, None, refl, subst, arith}
+use Rattle.std.proofs.Common.{◌≡◌, ◌⊎◌, ⊎_elim, ℕ, Bool, true, false, List, [], ◌∷◌, Option, Some, None, refl, sym, ap, subst, ◌∙◌, arith}
 use Rattle.std.specs.Prelude.{◌==◌, ◌&&◌, ◌||◌, slice_get, if◌then◌else◌}
 use Rattle.std.proofs.lemmas.Bool.Decides.{nat_tests}
 use Rattle.pungi_base.specs.declared.names.Name.{Name}
@@ -12,6 +12,9 @@ use Rattle.pungi_types.specs.Names.{is_among, with_word}
 use Rattle.pungi_types.specs.Tags.{Tag, tags}
 use Rattle.pungi_types.specs.Duplicates.{NameUse, uses, used_otherwise, use_faults, is_variable_use, is_taken, variable_faults, definition_faults, typedef_faults, tag_seen, one_tag_fault, tag_faults, count_faults, faults}
 use Rattle.pungi_types.specs.declared.finding.Finding.{Finding}
+use Rattle.pungi_check.specs.Faults.{told, IsFaultOf}
+use Rattle.pungi_check.specs.declared.fault.UnitFault.{UnitFault}
+use Rattle.pungi_check.specs.declared.fault.UnitFault.TheVariants as why
 
 abbrev is_fault_rule : ℕ → Bool
 is_fault_rule n = n == 1 || n == 2
@@ -95,3 +98,16 @@ one-or-two n h = grind (arith, nat_tests)
 -- the fault that is told of a file is of rule 1 or 2
 pub fault-rule : (file : List Item) (rows : List (ℕ × Row)) (f : Finding) → least (faults file rows) ≡ Some f → (f.rule.0 ≡ 1) ⊎ (f.rule.0 ≡ 2)
 fault-rule file rows f e = one-or-two f.rule.0 (subst IsFault e (least-fault None (faults file rows) tt (of-file file rows)))
+
+-- the fault that is told for the first finding of a file
+pub fault-of : (file : List Item) (rows : List (ℕ × Row)) (f : Finding) (u : UnitFault) → Some f ≡ least (faults file rows)
+    → (f.rule.0 ≡ 1 → u ≡ why.DuplicateName f.pos) → (f.rule.0 ≡ 2 → u ≡ why.TooManyFunctions f.pos) → IsFaultOf file rows u
+fault-of file rows f u is one two = ⊎_elim
+    (λ (e : f.rule.0 ≡ 1). subst (λ (v : UnitFault). IsFaultOf file rows v) (sym (one e)) (sym is ∙ ap (λ (n : ℕ). told f.pos n) e))
+    (λ (e : f.rule.0 ≡ 2). subst (λ (v : UnitFault). IsFaultOf file rows v) (sym (two e)) (sym is ∙ ap (λ (n : ℕ). told f.pos n) e))
+    (fault-rule file rows f (sym is))
+
+-- what holds of a file holds of the file that it is
+pub of-file-seen : (P : List Item → List (ℕ × Row) → Type 0) (file seen : List Item) (rows others : List (ℕ × Row)) → (seen ≡ file) × (others ≡ rows) → P seen others → P file rows
+of-file-seen P file seen rows others same p =
+    subst (λ (xs : List Item). P xs rows) same.0 (subst (λ (ys : List (ℕ × Row)). P seen ys) same.1 p)

@@ -1,18 +1,17 @@
 -- The graph that is made of a file's functions is their call graph.
-use Rattle.std.proofs.Common.{◌≡◌, ◌≤◌, ℕ, zero, suc, ◌+◌, Bool, true, false, List, [], ◌∷◌, ◌++◌, length, map, Option, Some, None, refl, sym, ap, subst, ◌∙◌, arith}
-use Rattle.std.specs.Prelude.{◌==◌, ◌||◌, is_some, slice_get, option_map, if◌then◌else◌}
+use Rattle.std.proofs.Common.{◌≡◌, ◌≤◌, ℕ, zero, suc, ◌+◌, Bool, true, false, List, [], ◌∷◌, length, map, Option, Some, None, refl, sym, ap, subst, ◌∙◌, arith}
+use Rattle.std.specs.Prelude.{◌==◌, ◌||◌, slice_get, option_map, if◌then◌else◌}
 use Rattle.std.proofs.lemmas.Bool.Decides.{nat_tests}
 use Rattle.pungi_tree.specs.Syntax.{Item}
 use Rattle.pungi_api.specs.declared.row.Row.{Row}
 use Rattle.pungi_types.specs.Files.{Definition, definitions}
 use Rattle.pungi_types.specs.Names.{is_among, with_word}
-use Rattle.pungi_types.specs.Functions.{refusal}
 use Rattle.pungi_refused.specs.Calls.{called_words}
-use Rattle.pungi_refused.specs.CallGraph.{alone_in, callees_in, is_alone, is_call, IsCallGraph}
+use Rattle.pungi_refused.specs.CallGraph.{alone_in, callees_in, IsCallGraph}
 use Rattle.pungi_refused.specs.declared.function.Function.{Function}
 use Rattle.pungi_check.specs.Distinct.{are_new}
 use Rattle.pungi_check.specs.Graph.{number_in, found, callees, Node, node_view, node_of, graph_of}
-use Rattle.pungi_check.proofs.DistinctLemmas.{any-append, and-left, and-right, kept, later-new, not-both, is-false, or-false, is_word}
+use Rattle.pungi_check.proofs.DistinctLemmas.{any-append, and-right, kept, later-new, not-both, is-false, or-false, is_word}
 
 number-from : (i : ℕ) (ds : List Definition) (w k : ℕ) → number_in i ds w ≡ Some k → i ≤ k
 number-from i [] w k h = absurd (cc)

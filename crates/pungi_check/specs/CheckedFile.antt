@@ -5,7 +5,7 @@
 --   IsPassed c i f           the function of this place, in which no rule holds
 --   IsRefusal c i e          the finding that is told of the function of this place
 --   function_places n is     where the functions of these items stand, the first item being the n-th
-use Rattle.std.specs.Prelude.{◌≡◌, ℕ, ◌+◌, List, [], ◌∷◌, Option, Some, None, slice_get}
+use Rattle.std.specs.Prelude.{◌≡◌, ℕ, ◌+◌, List, [], ◌∷◌, Some, None, slice_get}
 use Rattle.pungi_tree.specs.Syntax.{Item, function_def}
 use Rattle.pungi_api.specs.declared.row.Row.{Row}
 use Rattle.pungi_types.specs.Files.{Definition, definitions}

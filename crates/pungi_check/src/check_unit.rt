@@ -1,5 +1,5 @@
 //! A unit is looked at once as a whole, and function by function.
-ghost use Rattle.std.specs.Prelude.{◌≡◌, ◌+◌, [], None, length, IfOk, IfErr, IsTrue, map};
+ghost use Rattle.std.specs.Prelude.{◌≡◌, ◌+◌, [], None, length, IfOk, IfErr, OnOk, IsTrue, map};
 ghost use Rattle.pungi_check.specs.CheckedFile.{IsAccepted, function_places};
 ghost use Rattle.pungi_check.specs.CheckedView.{checked_view, texts_of};
 ghost use Rattle.pungi_check.specs.Distinct.{are_new};
@@ -98,20 +98,44 @@ fn tell(alloc: Global, names: &UnitNames<'_>, list: &[&FunctionDef]) -> Result<T
     })
 }
 
+/// Goes on where no name of a file is used twice and no function is one too many.
+fn refuse_fault(alloc: Global, names: &UnitNames<'_>, unit: &Unit) -> Result<(), UnitFault>
+    requires { unit_view unit.now ≡ file_of names.now }
+    ensures none { OnOk result (least (faults_of (file_of names.now) (rows_of names.now)) ≡ None) }
+    ensures fault { IfErr result (λ e. IsFaultOf (file_of names.now) (rows_of names.now) e) }
+{
+    match faults(alloc, names, unit) {
+        Ok(None) => Ok(()),
+        Ok(Some(found)) => Err(fault(found)),
+        Err(Memory) => Err(UnitFault::Memory),
+    }
+}
+
+/// What is told of the functions of a unit with these names.
+fn look_at(alloc: Global, names: &UnitNames<'_>, unit: &Unit) -> Result<Told, UnitFault>
+    requires { unit_view unit.now ≡ file_of names.now }
+    ensures none { IfOk result (λ t. least (faults_of (file_of names.now) (rows_of names.now)) ≡ None) }
+    ensures least { IfOk result (λ t. IsRefusedSet (file_of names.now) (rows_of names.now) t.refused.keys) }
+    ensures told { IfOk result (λ t. t.refusals.items ≡ map (refusal (file_of names.now) (rows_of names.now) t.refused.keys) (definitions_of (file_of names.now))) }
+    ensures counted { IfOk result (λ t. t.statics ≡ 24 + length (type_objects (file_of names.now))) }
+    ensures fault { IfErr result (λ e. IsFaultOf (file_of names.now) (rows_of names.now) e) }
+{
+    refuse_fault(alloc, names, unit)?;
+    let list = definitions(alloc, unit)?;
+    let told = tell(alloc, names, list.as_slice())?;
+    Ok(told)
+}
+
 /// What is told of a unit and its functions.
 fn look(alloc: Global, unit: &Unit, rows: &Table) -> Result<Told, UnitFault>
-    ensures distinct { IfOk result (λ t. least (faults_of (unit_view unit.now) rows.now) ≡ None) }
+    ensures none { IfOk result (λ t. least (faults_of (unit_view unit.now) rows.now) ≡ None) }
     ensures least { IfOk result (λ t. IsRefusedSet (unit_view unit.now) rows.now t.refused.keys) }
     ensures told { IfOk result (λ t. t.refusals.items ≡ map (refusal (unit_view unit.now) rows.now t.refused.keys) (definitions_of (unit_view unit.now))) }
     ensures counted { IfOk result (λ t. t.statics ≡ 24 + length (type_objects (unit_view unit.now))) }
     ensures fault { IfErr result (λ e. IsFaultOf (unit_view unit.now) rows.now e) }
 {
     let names = unit_names(alloc, unit, rows)?;
-    if let Some(found) = faults(alloc, &names, unit)? {
-        return Err(fault(found));
-    }
-    let list = definitions(alloc, unit)?;
-    Ok(tell(alloc, &names, &list)?)
+    look_at(alloc, &names, unit)
 }
 
 /// Looks at each function of a unit.

@@ -1,17 +1,18 @@
 //! The call graph of a file's functions.
-ghost use Rattle.std.specs.Prelude.{◌≡◌, ℕ, [], IfOk, map, nat_eq};
+ghost use Rattle.std.specs.Prelude.{◌≡◌, ℕ, [], is_some, IfOk, map, nat_eq};
 ghost use Rattle.indexmap.specs.IndexMap.{get};
 ghost use Rattle.pungi_declared.specs.DeclaredView.{function_view};
 ghost use Rattle.pungi_names.specs.NamesView.{file_of, rows_of};
 ghost use Rattle.pungi_refused.specs.Calls.{called_words as called_words_of};
+ghost use Rattle.pungi_types.specs.Functions.{refusal};
 ghost use Rattle.pungi_types.specs.TypesView.{definition_view};
 ghost use Rattle.pungi_check.specs.Graph.{callees as callees_of, node_view, node_of};
 
+use crate::refusals::told;
 use indexmap::{IndexMap, IndexSet};
 use pungi_base::Memory;
-use pungi_names::{FileNames, UnitNames};
+use pungi_names::UnitNames;
 use pungi_refused::{Function, called_words};
-use pungi_scope::refusal;
 use pungi_tree::FunctionDef;
 use std::alloc::Global;
 
@@ -32,6 +33,28 @@ fn callees(
     Ok(callees)
 }
 
+/// Whether a rule holds in a function where no other one is refused.
+fn is_refused_alone(alloc: Global, names: &UnitNames<'_>, f: &FunctionDef) -> Result<bool, Memory>
+    ensures { IfOk result (λ b. b ≡ is_some (refusal (file_of names.now) (rows_of names.now) [] (definition_view f.now))) }
+{
+    let none = IndexSet::new(alloc);
+    let found = told(alloc, names, &none, f)?;
+    Ok(found.is_some())
+}
+
+/// The numbers of the functions that a function calls.
+fn called(
+    alloc: Global,
+    numbers: &IndexMap<u32, usize>,
+    f: &FunctionDef,
+) -> Result<Vec<usize>, Memory>
+    ensures { IfOk result (λ js. js.items ≡ callees_of (λ (w : ℕ). get nat_eq numbers.now w) (called_words_of (definition_view f.now))) }
+{
+    let words = called_words(alloc, &f.body)?;
+    let callees = callees(alloc, numbers, words.as_slice())?;
+    Ok(callees)
+}
+
 /// Whether a rule holds in a function where no other one is refused, and what it calls.
 fn node(
     alloc: Global,
@@ -41,17 +64,11 @@ fn node(
 ) -> Result<Function, Memory>
     ensures { IfOk result (λ n. node_view n ≡ node_of (file_of names.now) (rows_of names.now) (λ (w : ℕ). get nat_eq numbers.now w) (definition_view f.now)) }
 {
-    let none = IndexSet::new(alloc);
-    let here = FileNames {
-        names,
-        refused: &none,
-        own: f.name.0,
-    };
-    let told = refusal(alloc, &here, f)?;
-    let words = called_words(alloc, &f.body)?;
+    let refused_alone = is_refused_alone(alloc, names, f)?;
+    let callees = called(alloc, numbers, f)?;
     Ok(Function {
-        refused_alone: told.is_some(),
-        callees: callees(alloc, numbers, &words)?,
+        refused_alone,
+        callees,
     })
 }
 

@@ -13,7 +13,8 @@ use pungi_tree::FunctionDef;
 use pungi_types::Finding;
 use std::alloc::Global;
 
-fn told(
+/// What is told of a function where these are refused.
+pub(crate) fn told(
     alloc: Global,
     names: &UnitNames<'_>,
     refused: &IndexSet<u32>,

@@ -38,7 +38,11 @@ fn number(alloc: Global, col: u32, n: i64) -> Result<Box<Value>, Memory> {
 /// An `int` local gets a value.
 fn set(alloc: Global, col: u32, number: usize, of: Box<Value>) -> Result<Action, Memory> {
     let place = Place::Local(at(col), number);
-    let stored = value(alloc, col + 2, ValueNode::Stored(ValueKind::Int, place, of))?;
+    let stored = value(
+        alloc,
+        col.saturating_add(2),
+        ValueNode::Stored(ValueKind::Int, place, of),
+    )?;
     Ok(Action {
         pos: at(col),
         node: ActionNode::Evaluate(Some(stored)),
@@ -188,7 +192,12 @@ pub(crate) fn one(alloc: Global) -> Result<Function, Memory> {
 
 /// `self->first` with its arrow at this column.
 fn first(alloc: Global, col: u32) -> Result<Place, Memory> {
-    let base = local(alloc, col - 4, ValueKind::Object(Some(BOX)), 0)?;
+    let base = local(
+        alloc,
+        col.saturating_sub(4),
+        ValueKind::Object(Some(BOX)),
+        0,
+    )?;
     Ok(Place::Field(at(col), base, BOX, FIRST))
 }
 

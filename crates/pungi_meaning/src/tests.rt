@@ -1,3 +1,5 @@
+ghost use Rattle.pungi_meaning.specs.Outcomes.{IsCounted};
+
 use crate::test_functions::{BOX, FIRST, at, one, setting, summing};
 use crate::{Outcome, entry_ok, run};
 use pungi_base::{Choice, Entry, Memory, Pos, Seq, Value};
@@ -103,6 +105,18 @@ fn is_set(world: &World) -> bool {
     }
 }
 
+/// Whether a run returned with the field set, and no reference is lost or given away twice.
+fn replaces(outcome: &Outcome) -> bool
+    requires { IsCounted outcome.now }
+{
+    match outcome {
+        Outcome::Returned { world, value, .. } => {
+            is_set(world) && world.unbalanced(*value).is_none()
+        }
+        _ => false,
+    }
+}
+
 #[test]
 fn a_field_is_replaced(rt: HostRuntime) -> Result<(), Fail> {
     let f = setting(rt.alloc())?;
@@ -117,10 +131,7 @@ fn a_field_is_replaced(rt: HostRuntime) -> Result<(), Fail> {
     let entry = entry_of(rt.alloc(), told)?;
     let outcome = run(rt.alloc(), &f, &entry, told.2, told.3)?;
     assert!(rt; shows(&outcome, told.4));
-    if let Outcome::Returned { world, value, .. } = outcome {
-        assert!(rt; is_set(&world));
-        assert_eq!(rt; world.unbalanced(value), None);
-    }
+    assert!(rt; replaces(&outcome));
     Ok(())
 }
 

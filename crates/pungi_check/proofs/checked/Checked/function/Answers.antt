@@ -1,4 +1,4 @@
-use Rattle.std.proofs.Common.{◌∙◌, sym, Option, Some, None}
+use Rattle.std.proofs.Common.{◌∙◌}
 use Rattle.pungi_tree.specs.UnitView.{unit_view}
 use Rattle.pungi_types.specs.Files.{definitions as definitions_of}
 use Rattle.pungi_types.specs.Functions.{refusal}
