@@ -86,7 +86,8 @@ fn heads(alloc: Global, report: &[u8]) -> Result<Vec<u8>, Memory> {
     Ok(heads)
 }
 
-fn is_told(alloc: Global, text: &str, status: u8, lines: &str) -> Result<bool, Memory> {
+/// Whether a file has this status and these first lines of verdicts.
+pub(crate) fn is_told(alloc: Global, text: &str, status: u8, lines: &str) -> Result<bool, Memory> {
     let (found, report) = told(alloc, text.as_bytes())?;
     let heads = heads(alloc, &report)?;
     Ok(found == status && heads.as_slice() == lines.as_bytes())
