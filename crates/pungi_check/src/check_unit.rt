@@ -115,6 +115,7 @@ fn refuse_fault(alloc: Global, names: &UnitNames<'_>, unit: &Unit) -> Result<(),
 fn look_at(alloc: Global, names: &UnitNames<'_>, unit: &Unit) -> Result<Told, UnitFault>
     requires { unit_view unit.now ≡ file_of names.now }
     ensures none { IfOk result (λ t. least (faults_of (file_of names.now) (rows_of names.now)) ≡ None) }
+    ensures distinct { IfOk result (λ t. IsTrue (are_new [] (definitions_of (file_of names.now)))) }
     ensures least { IfOk result (λ t. IsRefusedSet (file_of names.now) (rows_of names.now) t.refused.keys) }
     ensures told { IfOk result (λ t. t.refusals.items ≡ map (refusal (file_of names.now) (rows_of names.now) t.refused.keys) (definitions_of (file_of names.now))) }
     ensures counted { IfOk result (λ t. t.statics ≡ 24 + length (type_objects (file_of names.now))) }
@@ -129,6 +130,7 @@ fn look_at(alloc: Global, names: &UnitNames<'_>, unit: &Unit) -> Result<Told, Un
 /// What is told of a unit and its functions.
 fn look(alloc: Global, unit: &Unit, rows: &Table) -> Result<Told, UnitFault>
     ensures none { IfOk result (λ t. least (faults_of (unit_view unit.now) rows.now) ≡ None) }
+    ensures distinct { IfOk result (λ t. IsTrue (are_new [] (definitions_of (unit_view unit.now)))) }
     ensures least { IfOk result (λ t. IsRefusedSet (unit_view unit.now) rows.now t.refused.keys) }
     ensures told { IfOk result (λ t. t.refusals.items ≡ map (refusal (unit_view unit.now) rows.now t.refused.keys) (definitions_of (unit_view unit.now))) }
     ensures counted { IfOk result (λ t. t.statics ≡ 24 + length (type_objects (unit_view unit.now))) }

@@ -1,5 +1,6 @@
-ghost use Rattle.std.specs.Prelude.{◌≡◌, ◌+◌, map, length};
+ghost use Rattle.std.specs.Prelude.{◌≡◌, ◌+◌, [], map, length, IsTrue};
 ghost use Rattle.pungi_check.specs.CheckedFile.{function_places};
+ghost use Rattle.pungi_check.specs.Distinct.{are_new};
 ghost use Rattle.pungi_tree.specs.UnitView.{unit_view};
 ghost use Rattle.pungi_types.specs.Files.{definitions as definitions_of};
 ghost use Rattle.pungi_types.specs.Functions.{refusal};
@@ -26,6 +27,7 @@ pub struct Checked {
     pub(crate) statics: u32,
     /// The texts of names.
     pub(crate) texts: Vec<Vec<u8>>,
+    ghost distinct: { IsTrue (are_new [] (definitions_of (unit_view unit))) },
     ghost least: { IsRefusedSet (unit_view unit) rows refused.keys },
     ghost told: { refusals.items ≡ map (refusal (unit_view unit) rows refused.keys) (definitions_of (unit_view unit)) },
     ghost stand: { places.items ≡ function_places 0 (unit_view unit) },
@@ -33,7 +35,8 @@ pub struct Checked {
 }
 
 impl Checked {
-    ghost use Rattle.std.specs.Prelude.{◌≡◌, ◌<◌, ◌+◌, None, Some, slice_get, option_map, length, map, MatchResult};
+    ghost use Rattle.std.specs.Prelude.{◌≡◌, ◌<◌, ◌+◌, [], None, Some, slice_get, option_map, length, map, IsTrue, MatchResult};
+    ghost use Rattle.pungi_check.specs.Distinct.{are_new};
     ghost use Rattle.pungi_check.specs.CheckedFile.{IsPassed, IsRefusal};
     ghost use Rattle.pungi_check.specs.CheckedView.{checked_view, texts_of};
     ghost use Rattle.pungi_types.specs.TypesView.{definition_view};
@@ -81,6 +84,14 @@ impl Checked {
         ensures told { result.now ≡ map (refusal (checked_view self.now).file (checked_view self.now).rows (checked_view self.now).refused) (definitions_of (checked_view self.now).file) }
     {
         self.refusals.as_slice()
+    }
+
+    /// The names of the refused functions. No two functions of the unit have one name.
+    pub fn refused(&self) -> &IndexSet<u32>
+        ensures names { result.now.keys ≡ (checked_view self.now).refused }
+        ensures distinct { IsTrue (are_new [] (definitions_of (checked_view self.now).file)) }
+    {
+        &self.refused
     }
 
     /// The unit.

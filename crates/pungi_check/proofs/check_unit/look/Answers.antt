@@ -1,4 +1,4 @@
-use Rattle.std.proofs.Common.{◌≡◌, ◌+◌, ℕ, List, length, map, None, IfOk, IfErr}
+use Rattle.std.proofs.Common.{◌≡◌, ◌+◌, ℕ, List, length, map, None, IfOk, IfErr, [], true}
 use Rattle.pungi_tree.specs.Syntax.{Item}
 use Rattle.pungi_tree.specs.UnitView.{unit_view}
 use Rattle.pungi_api.specs.declared.row.Row.{Row}
@@ -9,6 +9,7 @@ use Rattle.pungi_types.specs.Findings.{least}
 use Rattle.pungi_types.specs.Functions.{refusal}
 use Rattle.pungi_types.specs.Names.{type_objects}
 use Rattle.pungi_types.specs.Refused.{IsRefusedSet}
+use Rattle.pungi_check.specs.Distinct.{are_new}
 use Rattle.pungi_check.specs.Faults.{IsFaultOf}
 use Rattle.pungi_check.proofs.FaultRules.{of-file-seen}
 use Rattle.pungi_check.proofs.check_unit.look.Goals as goal
@@ -17,6 +18,11 @@ pub returns-clause-none : goal.returns-clause-none
 returns-clause-none c =
     of-file-seen (λ (file : List Item) (rows : List (ℕ × Row)). IfOk c.look_at.result (λ t. least (faults file rows) ≡ None))
     (unit_view c.args.unit.now) (file_of c.in_ok-names.names) c.args.rows.now (rows_of c.in_ok-names.names) c.in_ok-names.ensures c.look_at.ensures.none
+
+pub returns-clause-distinct : goal.returns-clause-distinct
+returns-clause-distinct c =
+    of-file-seen (λ (file : List Item) (rows : List (ℕ × Row)). IfOk c.look_at.result (λ t. are_new [] (definitions file) ≡ true))
+    (unit_view c.args.unit.now) (file_of c.in_ok-names.names) c.args.rows.now (rows_of c.in_ok-names.names) c.in_ok-names.ensures c.look_at.ensures.distinct
 
 pub returns-clause-least : goal.returns-clause-least
 returns-clause-least c =
