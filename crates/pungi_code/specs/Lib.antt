@@ -1,0 +1,5 @@
+pub mod Registers
+pub mod Perform
+pub mod Run
+pub mod Machine
+pub mod Alike
