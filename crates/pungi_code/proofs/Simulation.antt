@@ -19,7 +19,7 @@ abbrev pub ahead : ℕ → ℕ → ℕ
 ahead zero j = j
 ahead (suc i) j = suc (ahead i j)
 
-ahead_is : (i j : ℕ) → ahead i j ≡ i + j
+pub ahead_is : (i j : ℕ) → ahead i j ≡ i + j
 ahead_is zero j = omega arith
 ahead_is (suc i) j = omega (arith, ahead_is i j)
 

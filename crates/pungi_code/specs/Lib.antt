@@ -3,3 +3,5 @@ pub mod Perform
 pub mod Run
 pub mod Machine
 pub mod Alike
+pub mod Entries
+pub mod WellFormed
