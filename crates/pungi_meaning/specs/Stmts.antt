@@ -5,26 +5,27 @@
 --   tested_by, tested loop k    a loop's test, or its body where it has none
 --   turn                    the body of a loop, where its test holds
 --   started u k             what is done first, if anything
---   bears_case n a, is_default a     a statement stands behind the case of this number; behind `default`
+--   bears_case v a, is_default a     a statement stands behind the case of this value; behind `default`
 --   cases_of a              the numbers of the cases that a statement stands behind
 --   block_cases list        those of a block, in order
---   looked_at p n cs        the comparisons of a `switch`, until one case is equal
+--   looked_at p v cs        the comparisons of a `switch`, until one case is equal
 --   first_from p i list     the place of the first statement of this kind, where the first of these stands at a place
---   target n list           the place in the block where a `switch` goes on
+--   target v list           the place in the block where a `switch` goes on
 --   enter_at                a `switch` goes on there, or past it
---   switch                  a `switch`, once its number is known
+--   switch                  a `switch`, once its value is known
 --   returning               a `return`
 --   next_stmt               the next statement of a block
 --   execute                 a statement
 -- Entering a block makes its locals unset, and so does entering a `for` with those that it declares (C11 6.2.4, 6.8.5).
 use Rattle.std.specs.Prelude.{ℕ, ◌+◌, ℤ, Bool, true, false, List, [], ◌∷◌, ◌++◌, Option, Some, None, if◌then◌else◌}
-use Rattle.std.specs.Ordering.{int_eq}
 use Rattle.pungi_base.specs.declared.pos.Pos.{Pos}
+use Rattle.pungi_base.specs.declared.value.Value.{Value}
 use Rattle.pungi_base.specs.declared.value.Value.TheVariants as value
 use Rattle.pungi_types.specs.Resolved as expr
 use Rattle.pungi_types.specs.ResolvedStmts as stmt
 use Rattle.pungi_world.specs.declared.content.Content.TheVariants.{Unset, Holds}
 use Rattle.pungi_meaning.specs.declared.cmp.Cmp.TheVariants as cmps
+use Rattle.pungi_meaning.specs.Values.{is_equal}
 use Rattle.pungi_meaning.specs.Todo.{Loop, Operation, Compared, Todo, ToEval, ToExec, ToForget, ToReach, ToBind, ToChoose, ToRest, ToTest, ToTurn, ToAgain, ToSwitch, ToSwitchEnd, ToReturn, State, Step, Goes, Returns, listed}
 use Rattle.pungi_meaning.specs.Work.{top, below, left, taken, with_local, unset, unset_reached, or_else}
 use Rattle.pungi_meaning.specs.Jumps.{a_loop, from_label, after_break, after_continue}
@@ -63,11 +64,11 @@ turn false loop k = k
 
 -- ---- switch
 
-abbrev pub bears_case : ℤ → stmt.Action → Bool
-bears_case n (stmt.at_case p m a) = if int_eq m n then true else bears_case n a
-bears_case n (stmt.at_default p a) = bears_case n a
-bears_case n (stmt.at_label p l a) = bears_case n a
-bears_case n a = false
+abbrev pub bears_case : Value → stmt.Action → Bool
+bears_case v (stmt.at_case p m a) = if is_equal v (value.Int m) then true else bears_case v a
+bears_case v (stmt.at_default p a) = bears_case v a
+bears_case v (stmt.at_label p l a) = bears_case v a
+bears_case v a = false
 
 abbrev pub is_default : stmt.Action → Bool
 is_default (stmt.at_default p a) = true
@@ -85,26 +86,26 @@ abbrev pub block_cases : List stmt.Action → List ℤ
 block_cases [] = []
 block_cases (a ∷ rest) = cases_of a ++ block_cases rest
 
-abbrev pub looked_at : Pos → ℤ → List ℤ → List Operation
-looked_at p n [] = []
-looked_at p n (c ∷ cs) = Compared p cmps.Equal (value.Int n) (value.Int c) ∷ (if int_eq n c then [] else looked_at p n cs)
+abbrev pub looked_at : Pos → Value → List ℤ → List Operation
+looked_at p v [] = []
+looked_at p v (c ∷ cs) = Compared p cmps.Equal v (value.Int c) ∷ (if is_equal v (value.Int c) then [] else looked_at p v cs)
 
 abbrev pub first_from : (stmt.Action → Bool) → ℕ → List stmt.Action → Option ℕ
 first_from p i [] = None
 first_from p i (a ∷ rest) = if p a then Some i else first_from p (i + 1) rest
 
-abbrev pub target : ℤ → List stmt.Action → Option ℕ
-target n list = or_else (first_from (bears_case n) 0 list) (first_from is_default 0 list)
+abbrev pub target : Value → List stmt.Action → Option ℕ
+target v list = or_else (first_from (bears_case v) 0 list) (first_from is_default 0 list)
 
 abbrev pub enter_at : List stmt.Action → Option ℕ → List Todo → List Todo
 enter_at list None k = k
 enter_at list (Some i) k = ToRest list i ∷ ToSwitchEnd ∷ k
 
 -- a case stands directly in the block of a `switch`; without a block there is none
-abbrev pub switch : Pos → ℤ → stmt.Action → List Todo → State → Step
-switch p n (stmt.block_of q first count ss r) k s =
-    Goes (looked_at p n (block_cases (listed ss))) (enter_at (listed ss) (target n (listed ss)) k) (record s { locals = unset first count s.locals; values = below s.values })
-switch p n a k s = taken k s
+abbrev pub switch : Pos → Value → stmt.Action → List Todo → State → Step
+switch p v (stmt.block_of q first count ss r) k s =
+    Goes (looked_at p v (block_cases (listed ss))) (enter_at (listed ss) (target v (listed ss)) k) (record s { locals = unset first count s.locals; values = below s.values })
+switch p v a k s = taken k s
 
 -- ---- a node
 

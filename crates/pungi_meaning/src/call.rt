@@ -17,7 +17,7 @@ use pungi_world::{ApiCall, Halt};
 use std::alloc::Global;
 
 /// Whether the effect of a row of this form is told.
-fn is_told(form: Form) -> bool
+pub fn is_told(form: Form) -> bool
     ensures { result ≡ is_told_form form }
 {
     match form {

@@ -56,6 +56,7 @@ fn is_equal(left: Value, right: Value) -> bool
     }
 }
 
+/// A value as a number. A pointer is none, and counts as 0.
 pub fn number_of(value: Value) -> i64
     ensures { result ≡ value_number value }
 {

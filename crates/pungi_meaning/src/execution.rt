@@ -48,7 +48,7 @@ fn count_locals(body: &Action) -> usize
 }
 
 /// The parameters hold the arguments.
-fn held(alloc: Global, args: &[Value]) -> Result<Vec<Content>, Memory>
+pub fn held(alloc: Global, args: &[Value]) -> Result<Vec<Content>, Memory>
     ensures { IfOk result (λ locals. locals.items ≡ map HoldsContent args.now) }
 {
     let mut locals = Vec::new(alloc);
@@ -60,7 +60,7 @@ fn held(alloc: Global, args: &[Value]) -> Result<Vec<Content>, Memory>
 
 /// So many more locals, which hold nothing.
 #[tactic(auto, using(crate::proofs::ListLemmas::replicate_step))]
-fn add_unset(locals: &mut Vec<Content>, count: usize) -> Result<(), Memory>
+pub fn add_unset(locals: &mut Vec<Content>, count: usize) -> Result<(), Memory>
     ensures { OnOk result (locals.new.items ≡ locals.old.items ++ replicate count UnsetContent) }
 {
     for i in 0..count {

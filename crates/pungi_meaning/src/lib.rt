@@ -20,13 +20,16 @@ mod stmt;
 mod task;
 mod unwind;
 
-pub use cmp::Cmp;
+pub use call::is_told;
+pub use cmp::{Cmp, number_of};
 pub use condition::{is_true, truth};
+pub use counted_world::CountedWorld;
 pub use entry::entry_ok;
-pub use execution::run;
+pub use execution::{add_unset, held, run};
 pub use number::{arithmetic, fits, wide};
 pub use op::Op;
 pub use outcome::Outcome;
+pub use stack::{content_at, note_used, put, unused};
 
 #[cfg(test)]
 mod test_functions;

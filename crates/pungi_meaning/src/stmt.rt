@@ -5,10 +5,9 @@ ghost use Rattle.pungi_resolved.specs.ActionView.{action_view, actions_of, reach
 ghost use Rattle.pungi_meaning.specs.Machine.{loop_of, todo_of, todos, state_of, Tells};
 ghost use Rattle.pungi_meaning.specs.Stmts.{started, tested as tested_loop, reach_next as reached_next, bears_case as bears_this_case, is_default as is_default_action, first_from, target as target_of, enter_at as entered_at, switch as switched, execute as executed};
 ghost use Rattle.pungi_meaning.specs.Todo.{ToReach, ToRest, ToTest, listed};
-ghost use Rattle.pungi_meaning.specs.Values.{number_of as value_number};
 ghost use Rattle.pungi_meaning.specs.Work.{below, unset, unset_reached};
 
-use crate::cmp::number_of;
+use crate::Cmp;
 use crate::expr::{later, one};
 use crate::machine::{Ending, Machine};
 use crate::stack::{put, take};
@@ -95,14 +94,16 @@ pub fn reach_next<'a>(m: &mut Machine<'a>, list: &'a [Reached]) -> Result<(), Me
     Ok(())
 }
 
-/// A statement stands behind the case of this number.
-fn bears_case(number: i64, action: &Action) -> bool
-    ensures { result ≡ bears_this_case number (action_view action.now) }
+/// A statement stands behind the case of this value.
+fn bears_case(value: Value, action: &Action) -> bool
+    ensures { result ≡ bears_this_case value (action_view action.now) }
 {
     match &action.node {
-        ActionNode::AtCase(case, part) => *case == number || bears_case(number, part),
-        ActionNode::AtDefault(part) => bears_case(number, part),
-        ActionNode::AtLabel(_, part) => bears_case(number, part),
+        ActionNode::AtCase(case, part) => {
+            Cmp::Equal.holds(value, Value::Int(*case)) || bears_case(value, part)
+        }
+        ActionNode::AtDefault(part) => bears_case(value, part),
+        ActionNode::AtLabel(_, part) => bears_case(value, part),
         _ => false,
     }
 }
@@ -119,12 +120,12 @@ fn is_default(action: &Action) -> bool
     }
 }
 
-/// The place of the first statement behind the case of this number.
-fn case_place(number: i64, block: &[Action]) -> Option<usize>
-    ensures { result ≡ first_from (bears_this_case number) 0 (map action_view block.now) }
+/// The place of the first statement behind the case of this value.
+fn case_place(value: Value, block: &[Action]) -> Option<usize>
+    ensures { result ≡ first_from (bears_this_case value) 0 (map action_view block.now) }
 {
     for (i, action) in block.iter().enumerate() {
-        if bears_case(number, action) {
+        if bears_case(value, action) {
             return Some(i);
         }
     }
@@ -145,9 +146,9 @@ fn default_place(block: &[Action]) -> Option<usize>
 
 /// The place in a block where a `switch` goes on.
 fn target(value: Value, block: &[Action]) -> Option<usize>
-    ensures { result ≡ target_of (value_number value) (map action_view block.now) }
+    ensures { result ≡ target_of value (map action_view block.now) }
 {
-    match case_place(number_of(value), block) {
+    match case_place(value, block) {
         Some(place) => Some(place),
         None => default_place(block),
     }
@@ -167,7 +168,7 @@ fn enter_at<'a>(m: &mut Machine<'a>, list: &'a [Action], place: Option<usize>) -
 
 /// A `switch` of this value goes on in a block.
 fn to_case<'a>(m: &mut Machine<'a>, value: Value, list: &'a [Action]) -> Result<(), Memory>
-    ensures todos { OnOk result (todos m.new.tasks.items ≡ entered_at (map action_view list.now) (target_of (value_number value) (map action_view list.now)) (todos m.old.tasks.items)) }
+    ensures todos { OnOk result (todos m.new.tasks.items ≡ entered_at (map action_view list.now) (target_of value (map action_view list.now)) (todos m.old.tasks.items)) }
     ensures state { OnOk result (state_of m.new ≡ state_of m.old) }
 {
     enter_at(m, list, target(value, list))?;
@@ -176,7 +177,7 @@ fn to_case<'a>(m: &mut Machine<'a>, value: Value, list: &'a [Action]) -> Result<
 
 /// The same of the block as the definition lists it.
 fn to_listed<'a>(m: &mut Machine<'a>, value: Value, list: &'a [Action]) -> Result<(), Memory>
-    ensures todos { OnOk result (todos m.new.tasks.items ≡ entered_at (listed (actions_of (map action_view list.now))) (target_of (value_number value) (listed (actions_of (map action_view list.now)))) (todos m.old.tasks.items)) }
+    ensures todos { OnOk result (todos m.new.tasks.items ≡ entered_at (listed (actions_of (map action_view list.now))) (target_of value (listed (actions_of (map action_view list.now)))) (todos m.old.tasks.items)) }
     ensures state { OnOk result (state_of m.new ≡ state_of m.old) }
 {
     to_case(m, value, list)?;
@@ -191,7 +192,7 @@ fn switch_block<'a>(
     count: u32,
     list: &'a [Action],
 ) -> Result<(), Memory>
-    ensures todos { OnOk result (todos m.new.tasks.items ≡ entered_at (listed (actions_of (map action_view list.now))) (target_of (value_number value) (listed (actions_of (map action_view list.now)))) (todos m.old.tasks.items)) }
+    ensures todos { OnOk result (todos m.new.tasks.items ≡ entered_at (listed (actions_of (map action_view list.now))) (target_of value (listed (actions_of (map action_view list.now)))) (todos m.old.tasks.items)) }
     ensures state { OnOk result (state_of m.new ≡ record (state_of m.old) { locals = unset first count (state_of m.old).locals; values = below (state_of m.old).values }) }
 {
     take(&mut m.values);
@@ -207,7 +208,7 @@ pub fn switch<'a>(
     value: Value,
     body: &'a Action,
 ) -> Result<(), Memory>
-    ensures { OnOk result (Tells (switched pos (value_number value) (action_view body.now) (todos m.old.tasks.items) (state_of m.old)) None m.new) }
+    ensures { OnOk result (Tells (switched pos value (action_view body.now) (todos m.old.tasks.items) (state_of m.old)) None m.new) }
 {
     match &body.node {
         ActionNode::Block(first, count, list, _) => {

@@ -1,0 +1,6 @@
+mod Worked
+pub mod OutputLemmas
+pub mod ValueLemmas
+pub mod RunLemmas
+pub mod Longer
+pub mod Simulation

@@ -1,0 +1,7 @@
+pub mod Registers
+pub mod Perform
+pub mod Run
+pub mod Machine
+pub mod Alike
+pub mod Entries
+pub mod WellFormed

@@ -1,0 +1,34 @@
+-- The executor's machine as what the meaning holds.
+--   regs_of m             what a machine holds
+--   next_place after      the place of the next instruction, where the run goes on
+--   end_at after m        how a run ends that goes no further
+--   Reaches next after m  the run goes on from here so
+--   Does told after m    what an instruction did is what is told of it, however the run goes on
+use Rattle.std.specs.Prelude.{◌≡◌, ℕ, Option, Some, None}
+use Rattle.pungi_meaning.specs.Run.{Run, End, over, Returned, Stopped, NeedsChoice, OutOfFuel}
+use Rattle.pungi_code.specs.declared.registers.Registers.{Registers}
+use Rattle.pungi_code.specs.declared.registers.After.{After}
+use Rattle.pungi_code.specs.declared.registers.After.TheVariants as after
+use Rattle.pungi_code.specs.Registers.{Regs, Next}
+
+abbrev pub regs_of : Registers → Regs
+regs_of m = record { world = m.world; used = m.used.items; vars = m.vars.items }
+
+abbrev pub Reaches : Next → After → Regs → Run
+Reaches next (after.Goes pc) m = next pc m
+Reaches next (after.Leaves p v) m = over (Returned m.world v p m.used)
+Reaches next (after.Stops p) m = over (Stopped p)
+Reaches next after.Wants m = over NeedsChoice
+
+abbrev pub next_place : After → Option ℕ
+next_place (after.Goes pc) = Some pc
+next_place a = None
+
+abbrev pub end_at : After → Registers → End
+end_at (after.Goes pc) m = OutOfFuel
+end_at (after.Leaves p v) m = Returned m.world v p m.used.items
+end_at (after.Stops p) m = Stopped p
+end_at after.Wants m = NeedsChoice
+
+abbrev pub Does : (Next → Run) → After → Registers → Type 0
+Does told after m = (next : Next) → (told next).end ≡ (Reaches next after (regs_of m)).end

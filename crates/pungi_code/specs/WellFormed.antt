@@ -1,0 +1,177 @@
+-- Codes whose instructions name what is there, and of the kind that they need.
+--   var_kind vars x                 what a variable holds
+--   is_integer, is_object, is_text k    kinds of numbers, objects and texts
+--   is_wide a b                     each value of the first kind is one of the second
+--   atom_is vars k a                an atom is a value of this kind
+--   is_number, is_condition vars a  an atom is a number; it is a number or a pointer
+--   are_alike vars a b              two atoms may be compared for being equal
+--   is_order c                      a comparison that only numbers have
+--   counts_in k x                   a variable of a parameter's kind counts in a kind of integers
+--   is_place vars place             a place is a slot of a kind, of an object
+--   is_argument vars p a, are_arguments    an atom may be passed for a parameter
+--   is_sound code i                 an instruction names variables, labels and kinds that are there
+--   leads_on i                      the instruction behind this one may come next
+--   targets i                       the labels that an instruction names
+--   goes_back heads place i         each label that leads back is a loop's head
+--   IsWellFormed code               so are all instructions of a code, and the sizes are within the limits
+use Rattle.std.specs.Prelude.{◌≡◌, ℕ, ◌+◌, ◌<◌, ◌≤◌, ◌^◌, ◌-◌, nat_lt, nat_le, ℤ, pos, negsuc, int_le, Bool, true, false, ◌&&◌, ◌||◌, not, List, [], ◌∷◌, length, get_or, slice_get, Option, Some, None, if◌then◌else◌}
+use Rattle.std.specs.List.{list_any, list_all}
+use Rattle.pungi_api.specs.declared.param.Param.{Param}
+use Rattle.pungi_api.specs.declared.param.Param.TheVariants as param
+use Rattle.pungi_types.specs.declared.kind.ValueKind.{ValueKind}
+use Rattle.pungi_types.specs.declared.kind.ValueKind.TheVariants as kinds
+use Rattle.pungi_meaning.specs.declared.cmp.Cmp.{Cmp}
+use Rattle.pungi_meaning.specs.declared.cmp.Cmp.TheVariants as cmps
+use Rattle.pungi_meaning.specs.Values.{fits}
+use Rattle.pungi_code.specs.declared.atom.Atom.{Atom}
+use Rattle.pungi_code.specs.declared.atom.Atom.TheVariants as atom
+use Rattle.pungi_code.specs.declared.atom.Var.{Var}
+use Rattle.pungi_code.specs.declared.code.Code.{Code}
+use Rattle.pungi_code.specs.declared.code.Head.{Head}
+use Rattle.pungi_code.specs.declared.code.Line.{Line}
+use Rattle.pungi_code.specs.declared.instr.Instr.{Instr}
+use Rattle.pungi_code.specs.declared.instr.Instr.TheVariants.{Set, Arith, Fit, Compare, Load, Store, Api, Call, Unset, Jump, Branch, Return, Fall}
+use Rattle.pungi_code.specs.declared.instr.Label.{Label}
+use Rattle.pungi_code.specs.declared.place.Place.{Place}
+use Rattle.pungi_code.specs.declared.place.Place.TheVariants.{Global, Field}
+
+-- ---- kinds
+
+abbrev pub var_kind : List Param → Var → Param
+var_kind vars x = get_or vars x.0 param.ModuleDef
+
+abbrev pub is_integer : Param → Bool
+is_integer param.Int = true
+is_integer param.Long = true
+is_integer param.Size = true
+is_integer k = false
+
+abbrev pub is_object : Param → Bool
+is_object param.ObjectOrNull = true
+is_object k = false
+
+abbrev pub is_text : Param → Bool
+is_text param.TextOrNull = true
+is_text k = false
+
+abbrev pub is_wide : Param → Param → Bool
+is_wide param.Int b = is_integer b
+is_wide a param.Int = false
+is_wide a b = (is_integer a && is_integer b) || ((is_object a && is_object b) || (is_text a && is_text b))
+
+abbrev pub number_fits : Param → ℤ → Bool
+number_fits param.Int n = fits kinds.Int n
+number_fits param.Long n = fits kinds.Long n
+number_fits param.Size n = fits kinds.Size n
+number_fits k n = false
+
+abbrev pub atom_is : List Param → Param → Atom → Bool
+atom_is vars k (atom.Var x) = nat_lt x.0 (length vars) && is_wide (var_kind vars x) k
+atom_is vars k (atom.Int n) = number_fits k n
+atom_is vars k atom.Null = is_object k || is_text k
+atom_is vars k atom.Text = is_text k
+atom_is vars k (atom.Static n) = is_object k
+
+abbrev pub is_number : List Param → Atom → Bool
+is_number vars a = atom_is vars param.Long a
+
+abbrev pub is_condition : List Param → Atom → Bool
+is_condition vars a = is_number vars a || (atom_is vars param.ObjectOrNull a || atom_is vars param.TextOrNull a)
+
+abbrev pub are_alike : List Param → Atom → Atom → Bool
+are_alike vars a b =
+    (is_number vars a && is_number vars b) || ((atom_is vars param.ObjectOrNull a && atom_is vars param.ObjectOrNull b) || (atom_is vars param.TextOrNull a && atom_is vars param.TextOrNull b))
+
+abbrev pub is_order : Cmp → Bool
+is_order cmps.Equal = false
+is_order cmps.Other = false
+is_order c = true
+
+abbrev pub counts_in : ValueKind → Param → Bool
+counts_in kinds.Int param.Int = true
+counts_in kinds.Int param.Long = true
+counts_in kinds.Int param.Size = true
+counts_in kinds.Long k = is_integer k && not (is_wide k param.Int)
+counts_in kinds.Size k = is_integer k && not (is_wide k param.Int)
+counts_in v k = false
+
+-- ---- instructions
+
+abbrev pub is_var : List Param → Var → Bool
+is_var vars x = nat_lt x.0 (length vars)
+
+abbrev pub is_slot_kind : Param → Bool
+is_slot_kind k = is_integer k || (is_object k || is_text k)
+
+abbrev pub is_place : List Param → Place → Param → Bool
+is_place vars (Global n k) kind = is_slot_kind k && (is_wide k kind && is_wide kind k)
+is_place vars (Field base tag field k) kind = atom_is vars param.ObjectOrNull base && (is_slot_kind k && (is_wide k kind && is_wide kind k))
+
+abbrev pub place_kind : Place → Param
+place_kind (Global n k) = k
+place_kind (Field base tag field k) = k
+
+abbrev pub is_argument : List Param → Param → Atom → Bool
+is_argument vars param.Object a = atom_is vars param.ObjectOrNull a
+is_argument vars param.Text a = atom_is vars param.TextOrNull a
+is_argument vars param.ModuleDef a = atom_is vars param.TextOrNull a
+is_argument vars k a = atom_is vars k a
+
+abbrev pub are_arguments : List Param → List Param → List Atom → Bool
+are_arguments vars [] [] = true
+are_arguments vars [] (a ∷ as') = false
+are_arguments vars (p ∷ ps) [] = false
+are_arguments vars (p ∷ ps) (a ∷ as') = is_argument vars p a && are_arguments vars ps as'
+
+abbrev pub is_answer : List Param → Option Var → Bool
+is_answer vars None = true
+is_answer vars (Some x) = is_var vars x
+
+abbrev pub is_label : Code → Label → Bool
+is_label code l = nat_lt l.0 (length code.instrs)
+
+abbrev pub is_sound : Code → Instr → Bool
+is_sound code (Set x a) = is_var code.vars x && atom_is code.vars (var_kind code.vars x) a
+is_sound code (Arith x kind o a b) = is_var code.vars x && (counts_in kind (var_kind code.vars x) && (is_number code.vars a && is_number code.vars b))
+is_sound code (Fit x kind a) = is_var code.vars x && (counts_in kind (var_kind code.vars x) && is_number code.vars a)
+is_sound code (Compare x c a b) = is_var code.vars x && (is_integer (var_kind code.vars x) && (if is_order c then is_number code.vars a && is_number code.vars b else are_alike code.vars a b))
+is_sound code (Load x place) = is_var code.vars x && (is_place code.vars place (place_kind place) && is_wide (place_kind place) (var_kind code.vars x))
+is_sound code (Store place a) = is_place code.vars place (place_kind place) && atom_is code.vars (place_kind place) a
+is_sound code (Api x shape as' outs) = is_answer code.vars x && (list_all (λ o. is_answer code.vars o) outs && nat_le (length as') (2 ^ 14))
+is_sound code (Call x f as') = false
+is_sound code (Unset x) = is_var code.vars x
+is_sound code (Jump to) = is_label code to
+is_sound code (Branch a this other) = is_condition code.vars a && (is_label code this && is_label code other)
+is_sound code (Return None) = true
+is_sound code (Return (Some a)) = is_condition code.vars a
+is_sound code Fall = true
+
+abbrev pub leads_on : Instr → Bool
+leads_on (Jump to) = false
+leads_on (Branch a this other) = false
+leads_on (Return a) = false
+leads_on Fall = false
+leads_on i = true
+
+abbrev pub targets : Instr → List Label
+targets (Jump to) = to ∷ []
+targets (Branch a this other) = this ∷ other ∷ []
+targets i = []
+
+abbrev pub is_head : List Head → Label → Bool
+is_head heads l = list_any (λ h. nat_le h.label.0 l.0 && nat_le l.0 h.label.0) heads
+
+abbrev pub goes_back : List Head → ℕ → Instr → Bool
+goes_back heads place i = list_all (λ l. nat_lt place l.0 || is_head heads l) (targets i)
+
+-- ---- codes
+
+pub record IsWellFormed (code : Code) : Type 0 where
+  pub params : code.params ≤ 32
+  pub among : code.params ≤ code.locals
+  pub locals : code.locals ≤ length code.vars
+  pub vars : length code.vars ≤ 2 ^ 16
+  pub few : length code.instrs ≤ 2 ^ 14
+  pub sound : (place : ℕ) (line : Line) → slice_get code.instrs place ≡ Some line → is_sound code line.instr ≡ true
+  pub last : (place : ℕ) (line : Line) → slice_get code.instrs place ≡ Some line → leads_on line.instr ≡ true → place + 1 < length code.instrs
+  pub back : (place : ℕ) (line : Line) → slice_get code.instrs place ≡ Some line → goes_back code.heads place line.instr ≡ true

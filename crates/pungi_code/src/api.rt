@@ -1,0 +1,68 @@
+// Calls of the API.
+ghost use Rattle.std.specs.Prelude.{◌≡◌, ◌<◌, ◌^◌, IfOk};
+ghost use Rattle.pungi_code.specs.Machine.{regs_of, Does};
+ghost use Rattle.pungi_code.specs.Perform.{call as calling};
+ghost use Rattle.pungi_code.specs.Registers.{all_values, with_values};
+
+use crate::registers::{After, Registers, answer, write_outputs};
+use crate::values::values_of;
+use crate::{Atom, Var};
+use pungi_api::Shape;
+use pungi_base::{Choice, Memory, Pos, Value};
+use pungi_meaning::{is_told, note_used, unused};
+use pungi_world::{ApiCall, Halt};
+use std::alloc::Global;
+
+/// A call of the API with these values.
+fn call(
+    m: &mut Registers,
+    alloc: Global,
+    choices: &[Choice],
+    x: Option<Var>,
+    shape: &Shape,
+    outs: &[Option<Var>],
+    pos: Pos,
+    pc: usize,
+    args: &[Value],
+) -> Result<After, Memory>
+    requires { pc < 2 ^ 63 }
+    ensures { IfOk result (λ after. Does (λ next. calling choices.now x shape.now outs.now pos next pc (regs_of m.old) args.now) after m.new) }
+{
+    if !is_told(shape.row.form) {
+        return Ok(After::Stops(pos));
+    }
+    let rest = unused(choices, m.used.len());
+    let api = ApiCall { shape, args };
+    match m.world.apply(alloc, &api, rest) {
+        Ok(effect) => {
+            note_used(&mut m.used, pos, effect.used)?;
+            answer(m, x, effect.value);
+            write_outputs(m, outs, effect.outputs.as_slice());
+            Ok(After::Goes(pc + 1))
+        }
+        Err(Halt::Stopped) => Ok(After::Stops(pos)),
+        Err(Halt::NeedsChoice) => Ok(After::Wants),
+        Err(Halt::Memory) => Err(Memory),
+    }
+}
+
+/// A call of the API.
+pub fn call_api(
+    m: &mut Registers,
+    alloc: Global,
+    choices: &[Choice],
+    x: Option<Var>,
+    shape: &Shape,
+    args: &[Atom],
+    outs: &[Option<Var>],
+    pos: Pos,
+    pc: usize,
+) -> Result<After, Memory>
+    requires { pc < 2 ^ 63 }
+    ensures { IfOk result (λ after. Does (λ next. with_values (all_values args.now (regs_of m.old).vars) pos (calling choices.now x shape.now outs.now pos next pc (regs_of m.old))) after m.new) }
+{
+    match values_of(alloc, args, &m.vars)? {
+        Some(values) => Ok(call(m, alloc, choices, x, shape, outs, pos, pc, &values)?),
+        None => Ok(After::Stops(pos)),
+    }
+}

@@ -1,0 +1,9 @@
+pub mod Parts
+pub mod Sizes
+pub mod Temporaries
+pub mod ExprCode
+pub mod Scopes
+pub mod StmtCode
+pub mod Weights
+pub mod Sound
+pub mod Correct

@@ -1,0 +1,76 @@
+-- The variables behind the locals: one for each kind that a value has and each number of values that wait below it. So a
+-- variable has one kind, and an expression uses none that a value waits in.
+--   column kind             which of five a value of this kind has
+--   temp nl d c             the variable of a value that has d values below it
+--   joined_column a b       the column of `?:`
+--   answer_column, form_column    of a call's answer
+--   value_column v          of an expression
+--   temp_of nl d v          the variable of its value
+--   arg_vars nl d vs        the variables of the arguments of a call, in order
+use Rattle.std.specs.Prelude.{ℕ, ◌+◌, ◌*◌, ◌==◌, nat_le, ◌&&◌, List, [], ◌∷◌, if◌then◌else◌}
+use Rattle.pungi_api.specs.declared.answer.Answer.{Answer}
+use Rattle.pungi_api.specs.declared.answer.Answer.TheVariants as answer
+use Rattle.pungi_api.specs.declared.row.Form.{Form}
+use Rattle.pungi_api.specs.declared.row.Form.TheVariants as form
+use Rattle.pungi_types.specs.declared.kind.ValueKind.{ValueKind}
+use Rattle.pungi_types.specs.declared.kind.ValueKind.TheVariants as kinds
+use Rattle.pungi_types.specs.Resolved as expr
+use Rattle.pungi_meaning.specs.Values.{fits}
+
+abbrev pub column : ValueKind → ℕ
+column kinds.Int = 0
+column kinds.Long = 1
+column kinds.Size = 2
+column kinds.Text = 3
+column k = 4
+
+abbrev pub temp : ℕ → ℕ → ℕ → ℕ
+temp nl d c = nl + 5 * d + c
+
+-- two integers are joined as `+` joins them; beside a NULL stands a pointer of any kind
+abbrev pub joined_column : ℕ → ℕ → ℕ
+joined_column a b = if nat_le a 2 && nat_le b 2 then (if a + b == 0 then 0 else 1) else (if nat_le a b then a else b)
+
+abbrev pub answer_column : Answer → ℕ
+answer_column answer.Status = 0
+answer_column answer.Truth = 0
+answer_column answer.Int = 0
+answer_column answer.Long = 1
+answer_column answer.Size = 2
+answer_column answer.Text = 3
+answer_column a = 4
+
+abbrev pub form_column : Form → Answer → ℕ
+form_column form.Plain a = answer_column a
+form_column (form.Special s) a = 4
+
+abbrev pub value_column : expr.Value → ℕ
+value_column (expr.constant p n) = if fits kinds.Int n then 0 else 1
+value_column (expr.text_of p ns) = 3
+value_column (expr.null_of p) = 4
+value_column (expr.static_of p n) = 4
+value_column (expr.module_of p n) = 3
+value_column (expr.read p kind place) = column kind
+value_column (expr.inner p v) = value_column v
+value_column (expr.signed p m kind v) = column kind
+value_column (expr.negated p v) = 0
+value_column (expr.stepped p behind m kind place) = column kind
+value_column (expr.computed p m kind a b) = column kind
+value_column (expr.compared p m a b) = 0
+value_column (expr.joined_by p m a b) = 0
+value_column (expr.stored p kind place v) = column kind
+value_column (expr.updated p m counted kind place v) = column kind
+value_column (expr.chosen p c a b) = joined_column (value_column a) (value_column b)
+value_column (expr.converted p kind v) = column kind
+value_column (expr.cast_of p v) = value_column v
+value_column (expr.dropped p v) = value_column v
+value_column (expr.called p n vs) = 0
+value_column (expr.called_row p n row vs) = form_column row.form row.answer
+value_column (expr.nonsense p) = 0
+
+abbrev pub temp_of : ℕ → ℕ → expr.Value → ℕ
+temp_of nl d v = temp nl d (value_column v)
+
+abbrev pub arg_vars : ℕ → ℕ → List expr.Value → List ℕ
+arg_vars nl d [] = []
+arg_vars nl d (v ∷ vs) = temp_of nl d v ∷ arg_vars nl (d + 1) vs
