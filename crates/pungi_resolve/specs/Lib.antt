@@ -1,0 +1,4 @@
+pub mod Arguments
+pub mod Passed
+pub mod Sites
+pub mod SoundActions
