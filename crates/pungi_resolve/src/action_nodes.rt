@@ -8,11 +8,24 @@ use pungi_base::{Memory, Name, Pos};
 use pungi_resolved::{Action, ActionNode, Reached, Value};
 use std::alloc::Global;
 
-pub(crate) fn block_of(pos: Pos, first: usize, count: usize, list: Vec<Action>, end: Pos) -> Action
-    ensures { action_view result ≡ plain.block_of pos first count (actions_of (map action_view list.items)) end }
+/// A number of locals. A function has few, so that each is small.
+fn small(number: usize) -> Result<u32, Memory>
+    ensures { IfOk result (λ n. n ≡ number) }
 {
-    let node = ActionNode::Block(first, count, list, end);
-    Action { pos, node }
+    u32::try_from(number).map_err(|_| Memory)
+}
+
+pub(crate) fn block_of(
+    pos: Pos,
+    first: usize,
+    count: usize,
+    list: Vec<Action>,
+    end: Pos,
+) -> Result<Action, Memory>
+    ensures { IfOk result (λ x. action_view x ≡ plain.block_of pos first count (actions_of (map action_view list.items)) end) }
+{
+    let node = ActionNode::Block(small(first)?, small(count)?, list, end);
+    Ok(Action { pos, node })
 }
 
 pub(crate) fn reach(pos: Pos, locals: Vec<Reached>) -> Action
@@ -87,10 +100,17 @@ pub(crate) fn switch_on(alloc: Global, pos: Pos, v: Value, body: Action) -> Resu
     Ok(Action { pos, node })
 }
 
+/// The constant of a case, which is that of an integer kind.
+fn case_number(case: i128) -> Result<i64, Memory>
+    ensures { IfOk result (λ n. n ≡ case) }
+{
+    i64::try_from(case).map_err(|_| Memory)
+}
+
 pub(crate) fn at_case(alloc: Global, pos: Pos, case: i128, a: Action) -> Result<Action, Memory>
     ensures { IfOk result (λ x. action_view x ≡ plain.at_case pos case (action_view a)) }
 {
-    let node = ActionNode::AtCase(case, Box::new(alloc, a)?);
+    let node = ActionNode::AtCase(case_number(case)?, Box::new(alloc, a)?);
     Ok(Action { pos, node })
 }
 

@@ -33,7 +33,7 @@ fn resolve_body<N: Lookup>(
 {
     match &body.node {
         StmtNode::Block(_, _) => Ok(resolve_stmt(names, around, walk, body)?),
-        _ => Ok(block_of(pos, walk.next, 0, Vec::new(around.alloc), pos)),
+        _ => Ok(block_of(pos, walk.next, 0, Vec::new(around.alloc), pos)?),
     }
 }
 

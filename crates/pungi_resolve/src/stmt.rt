@@ -233,7 +233,7 @@ fn resolve_block<N: Lookup>(
     let found = resolve_list(names, around, walk, list)?;
     walk.leave(kept);
     let count = walk.next.saturating_sub(first);
-    Ok(nodes::block_of(pos, first, count, found, end))
+    Ok(nodes::block_of(pos, first, count, found, end)?)
 }
 
 /// What statements of a block do, one after another.

@@ -1,6 +1,8 @@
+use borrow.Author.Rules.{get_or_read}
 use Rattle.std.proofs.Common.{◌≡◌, ◌∙◌, ◌<◌, ◌≤◌, ◌+◌, ◌&&◌, true, false, List, [], ◌∷◌, ◌++◌, length, get_or, drop, map, sym, ap, subst, arith, rules}
 use Rattle.std.proofs.lemmas.List.{drop_all}
 use Rattle.pungi_tree.specs.ExprView.{expr_view, exprs_of}
+use Rattle.pungi_tree.specs.declared.declr.Tail.TheFolds.{the_lemmas}
 use Rattle.pungi_tree.specs.declared.expr.Expr.{Expr}
 use Rattle.pungi_types.specs.Exprs.{is_module_address, wants_module, other_wants, kind_of}
 use Rattle.pungi_types.specs.Resolved.{Values, no_values, value_and, resolve, place_of, resolve_all, convert, want_kind, expr_pos}
@@ -19,7 +21,7 @@ resolve_expr-resolve_expr-requires-in-Binary g t c κs within =
     let P : Expr → Type 0 = λ x. is_sound (resolve env (expr_view x)) ≡ true in
     let k = binary-operands env c.args.e.now c.in-Binary.operator c.in-Binary.a c.in-Binary.b c.in-Binary.is c.requires in
     let h : is_sound (resolve env (expr_view c.deref-in-Binary.result.now)) ≡ true = subst P (sym c.deref-in-Binary.ensures) k.first in
-    search rules
+    (search (rules, the_lemmas), (search rules, h))
 
 pub resolve_expr-resolve_expr-requires-in-Binary-2 : goal.resolve_expr-resolve_expr-requires-in-Binary-2
 resolve_expr-resolve_expr-requires-in-Binary-2 g t c κs within =
@@ -27,7 +29,7 @@ resolve_expr-resolve_expr-requires-in-Binary-2 g t c κs within =
     let P : Expr → Type 0 = λ x. is_sound (resolve env (expr_view x)) ≡ true in
     let k = binary-operands env c.args.e.now c.in-Binary.operator c.in-Binary.a c.in-Binary.b c.in-Binary.is c.requires in
     let h : is_sound (resolve env (expr_view c.deref-in-Binary-2.result.now)) ≡ true = subst P (sym c.deref-in-Binary-2.ensures) k.second in
-    search rules
+    (search (rules, the_lemmas), (search rules, h))
 
 pub resolve_expr-resolve_place-requires-in-Assign : goal.resolve_expr-resolve_place-requires-in-Assign
 resolve_expr-resolve_place-requires-in-Assign g t c κs within =
@@ -35,7 +37,7 @@ resolve_expr-resolve_place-requires-in-Assign g t c κs within =
     let P : Expr → Type 0 = λ x. is_sound_place (place_of env (expr_view x)) ≡ true in
     let k = assign-sides env c.args.e.now c.in-Assign.operator c.in-Assign.a c.in-Assign.b c.in-Assign.is c.requires in
     let h : is_sound_place (place_of env (expr_view c.deref-in-Assign-2.result.now)) ≡ true = subst P (sym c.deref-in-Assign-2.ensures) k.place in
-    search rules
+    (search (rules, the_lemmas), (search rules, h))
 
 pub resolve_expr-resolve_expr-requires-in-Assign : goal.resolve_expr-resolve_expr-requires-in-Assign
 resolve_expr-resolve_expr-requires-in-Assign g t c κs within =
@@ -43,7 +45,7 @@ resolve_expr-resolve_expr-requires-in-Assign g t c κs within =
     let P : Expr → Type 0 = λ x. is_sound (resolve env (expr_view x)) ≡ true in
     let k = assign-sides env c.args.e.now c.in-Assign.operator c.in-Assign.a c.in-Assign.b c.in-Assign.is c.requires in
     let h : is_sound (resolve env (expr_view c.deref-in-Assign-3.result.now)) ≡ true = subst P (sym c.deref-in-Assign-3.ensures) k.value in
-    search rules
+    (search (rules, the_lemmas), (search rules, h))
 
 pub resolve_expr-resolve_expr-requires-in-Cond : goal.resolve_expr-resolve_expr-requires-in-Cond
 resolve_expr-resolve_expr-requires-in-Cond g t c κs within =
@@ -51,7 +53,7 @@ resolve_expr-resolve_expr-requires-in-Cond g t c κs within =
     let P : Expr → Type 0 = λ x. is_sound (resolve env (expr_view x)) ≡ true in
     let k = cond-choices env c.args.e.now c.in-Cond.test c.in-Cond.yes c.in-Cond.no c.in-Cond.is c.requires in
     let h : is_sound (resolve env (expr_view c.deref-in-Cond.result.now)) ≡ true = subst P (sym c.deref-in-Cond.ensures) k.test in
-    search rules
+    (search (rules, the_lemmas), (search rules, h))
 
 pub resolve_expr-resolve_expr-requires-in-Cond-2 : goal.resolve_expr-resolve_expr-requires-in-Cond-2
 resolve_expr-resolve_expr-requires-in-Cond-2 g t c κs within =
@@ -59,7 +61,7 @@ resolve_expr-resolve_expr-requires-in-Cond-2 g t c κs within =
     let P : Expr → Type 0 = λ x. is_sound (resolve env (expr_view x)) ≡ true in
     let k = cond-choices env c.args.e.now c.in-Cond.test c.in-Cond.yes c.in-Cond.no c.in-Cond.is c.requires in
     let h : is_sound (resolve env (expr_view c.deref-in-Cond-2.result.now)) ≡ true = subst P (sym c.deref-in-Cond-2.ensures) k.yes in
-    search rules
+    (search (rules, the_lemmas), (search rules, h))
 
 pub resolve_expr-resolve_expr-requires-in-Cond-3 : goal.resolve_expr-resolve_expr-requires-in-Cond-3
 resolve_expr-resolve_expr-requires-in-Cond-3 g t c κs within =
@@ -67,7 +69,7 @@ resolve_expr-resolve_expr-requires-in-Cond-3 g t c κs within =
     let P : Expr → Type 0 = λ x. is_sound (resolve env (expr_view x)) ≡ true in
     let k = cond-choices env c.args.e.now c.in-Cond.test c.in-Cond.yes c.in-Cond.no c.in-Cond.is c.requires in
     let h : is_sound (resolve env (expr_view c.deref-in-Cond-3.result.now)) ≡ true = subst P (sym c.deref-in-Cond-3.ensures) k.no in
-    search rules
+    (search (rules, the_lemmas), (search rules, h))
 
 pub resolve_expr-resolve_expr-requires-in-Cast : goal.resolve_expr-resolve_expr-requires-in-Cast
 resolve_expr-resolve_expr-requires-in-Cast g t c κs within =
@@ -75,7 +77,7 @@ resolve_expr-resolve_expr-requires-in-Cast g t c κs within =
     let P : Expr → Type 0 = λ x. is_sound (resolve env (expr_view x)) ≡ true in
     let k = cast-operand env c.args.e.now c.in-Cast.name c.in-Cast.a c.in-Cast.is c.requires in
     let h : is_sound (resolve env (expr_view c.deref-in-Cast.result.now)) ≡ true = subst P (sym c.deref-in-Cast.ensures) k in
-    search rules
+    (search (rules, the_lemmas), (search rules, h))
 
 pub resolve_arg-resolve_expr-requires : goal.resolve_arg-resolve_expr-requires
 resolve_arg-resolve_expr-requires g t c κs within =
@@ -87,7 +89,7 @@ resolve_arg-resolve_expr-requires g t c κs within =
       | resolve_arg-else-wants_module-via-else-wants_module w ↦ neither-left _ _ (sym c.wants_module.ensures ∙ w.if-wants_module.false)
     ] in
     let h : is_sound (resolve env e) ≡ true = argument-operand env ws e f c.requires in
-    search rules
+    (search (rules, the_lemmas), (search rules, h))
 
 pub resolve_arg-returns-clause-value : goal.resolve_arg-returns-clause-value
 resolve_arg-returns-clause-value g t c =
@@ -115,7 +117,7 @@ resolve_args-resolve_arg-requires g t c κs within =
     let d = next_one xs i c.e-item.result s r in
     let P : List Expr → Type 0 = λ ys. are_sound (resolve_all env c.loop-e.rest.now (exprs_of (map expr_view ys))) ≡ true in
     let h : is_sound (argument_in env c.loop-e.rest.now (expr_view c.e-item.result)) ≡ true = and_left _ _ (subst P d c.loop-e.invariant.sound) in
-    search rules
+    (search (rules, the_lemmas, get_or_read), (search rules, h))
 
 pub resolve_args-returns-clause-values : goal.resolve_args-returns-clause-values
 resolve_args-returns-clause-values g t c =
