@@ -18,3 +18,6 @@ mod walk;
 mod word;
 
 pub use function::resolve;
+
+#[cfg(test)]
+mod tests;
