@@ -12,3 +12,4 @@ pub mod OperandLemmas
 pub mod SoundActionLemmas
 pub mod ForLemmas
 pub mod VarLemmas
+pub mod WholeFunctions

@@ -33,7 +33,21 @@ fn resolve_body<N: Lookup>(
 {
     match &body.node {
         StmtNode::Block(_, _) => Ok(resolve_stmt(names, around, walk, body)?),
-        _ => Ok(block_of(pos, walk.next, 0, Vec::new(around.alloc), pos)?),
+        StmtNode::Declare(_)
+        | StmtNode::Do(_)
+        | StmtNode::If(_, _, None)
+        | StmtNode::If(_, _, Some(_))
+        | StmtNode::While(_, _)
+        | StmtNode::DoWhile(_, _)
+        | StmtNode::For(_, _, _, _)
+        | StmtNode::Switch(_, _)
+        | StmtNode::Case(_, _)
+        | StmtNode::Default(_)
+        | StmtNode::Label(_, _)
+        | StmtNode::Goto(_, _)
+        | StmtNode::Break
+        | StmtNode::Continue
+        | StmtNode::Return(_) => Ok(block_of(pos, walk.next, 0, Vec::new(around.alloc), pos)?),
     }
 }
 
