@@ -11,5 +11,4 @@ pub mod SiteLemmas
 pub mod OperandLemmas
 pub mod SoundActionLemmas
 pub mod ForLemmas
-pub mod VarLemmas
 pub mod WholeFunctions
