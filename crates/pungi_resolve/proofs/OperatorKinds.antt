@@ -63,10 +63,10 @@ pub binary-kept : (bits sums order equal : Bool) (a b : Option ValueKind) → is
     → (not bits && (is_void a || (is_void b || ((order && (is_pointer a || is_pointer b)) || (equal && (both_known a b && not (comparable a b))))))) ≡ false
     → (sums && (is_pointer a || is_pointer b)) ≡ false
     → is_some (if bits then None else
-      (if sums then (if is_integer a && is_integer b then Some (wider a b) else None) else
-      (if order then (if is_integer a && is_integer b then Some kinds.Int else None) else
-      (if equal then (if comparable a b then Some kinds.Int else None) else
-      (if (is_integer a || is_pointer a) && (is_integer b || is_pointer b) then Some kinds.Int else None))))) ≡ true
+    (if sums then (if is_integer a && is_integer b then Some (wider a b) else None) else
+    (if order then (if is_integer a && is_integer b then Some kinds.Int else None) else
+    (if equal then (if comparable a b then Some kinds.Int else None) else
+    (if (is_integer a || is_pointer a) && (is_integer b || is_pointer b) then Some kinds.Int else None))))) ≡ true
 binary-kept true sums order equal a b s t e w p = absurd (cc)
 binary-kept false true order equal a b s t e w p =
     let va = or_left (is_void a) _ w in

@@ -23,9 +23,13 @@ mutual
   action-holds (repeat_for p rs u v w a) h =
       let r1 = and_right (are_sound_locals rs) _ h in
       let r2 = and_right (is_sound_option u) _ r1 in
-      let r3 = and_right (is_sound_option v) _ r2 in
-      (locals-hold rs (and_left (are_sound_locals rs) _ h), and_left (is_sound_option u) _ r1, and_left (is_sound_option v) _ r2, and_left (is_sound_option w) _ r3,
-      action-holds a (and_right (is_sound_option w) _ r3))
+      let r3 = and_right (is_sound_option v) _ r2 in (
+        locals-hold rs (and_left (are_sound_locals rs) _ h),
+        and_left (is_sound_option u) _ r1,
+        and_left (is_sound_option v) _ r2,
+        and_left (is_sound_option w) _ r3,
+        action-holds a (and_right (is_sound_option w) _ r3),
+      )
   action-holds (switch_on p v a) h = (and_left _ _ h, action-holds a (and_right (is_sound v) _ h))
   action-holds (at_case p v a) h = action-holds a h
   action-holds (at_default p a) h = action-holds a h

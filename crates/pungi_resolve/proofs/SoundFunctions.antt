@@ -95,9 +95,9 @@ listed : (ds : List Definition) (w : ℕ) (d : Definition) → definition_in ds 
 listed [] w d e = absurd (cc)
 listed (x ∷ ds) w d e = elim (x.name.0 == w) as (λ b. ((x.name.0 == w) ≡ b) → (if b then Some x else definition_in ds w) ≡ Some d → Listed (x ∷ ds) w d) [
   | true ↦ λ t k.
-    let same : x ≡ d = cc in
-    let P : Definition → Type 0 = λ y. Listed (x ∷ ds) w y in
-    subst P same (record { place = 0; there = refl; named = t })
+      let same : x ≡ d = cc in
+      let P : Definition → Type 0 = λ y. Listed (x ∷ ds) w y in
+      subst P same (record { place = 0; there = refl; named = t })
   | false ↦ λ t k. let l = listed ds w d k in record { place = suc l.place; there = l.there; named = l.named }
 ] refl e
 

@@ -64,14 +64,24 @@ pub(crate) fn test_else(
     Ok(Action { pos, node })
 }
 
-pub(crate) fn repeat_while(alloc: Global, pos: Pos, v: Value, body: Action) -> Result<Action, Memory>
+pub(crate) fn repeat_while(
+    alloc: Global,
+    pos: Pos,
+    v: Value,
+    body: Action,
+) -> Result<Action, Memory>
     ensures { IfOk result (λ x. action_view x ≡ plain.repeat_while pos (value_view v) (action_view body)) }
 {
     let node = ActionNode::RepeatWhile(Box::new(alloc, v)?, Box::new(alloc, body)?);
     Ok(Action { pos, node })
 }
 
-pub(crate) fn repeat_until(alloc: Global, pos: Pos, body: Action, v: Value) -> Result<Action, Memory>
+pub(crate) fn repeat_until(
+    alloc: Global,
+    pos: Pos,
+    body: Action,
+    v: Value,
+) -> Result<Action, Memory>
     ensures { IfOk result (λ x. action_view x ≡ plain.repeat_until pos (action_view body) (value_view v)) }
 {
     let node = ActionNode::RepeatUntil(Box::new(alloc, body)?, Box::new(alloc, v)?);

@@ -13,9 +13,7 @@ ghost use Rattle.pungi_resolve.specs.Arguments.{argument_in};
 use crate::call::call;
 use crate::convert::convert;
 use crate::nodes;
-use crate::operators::{
-    assign, binary, cast, conditional, negation, paren, post, sign, step,
-};
+use crate::operators::{assign, binary, cast, conditional, negation, paren, post, sign, step};
 use crate::place::{field_of, read_as, word_place};
 use crate::typed::{Argument, Arguments, Typed, TypedPlace};
 use crate::word::{address, int, module_behind, word};

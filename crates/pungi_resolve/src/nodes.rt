@@ -79,7 +79,13 @@ pub(crate) fn negated(alloc: Global, pos: Pos, v: Value) -> Result<Value, Memory
     Ok(Value { pos, node })
 }
 
-pub(crate) fn stepped(pos: Pos, behind: bool, operator: Kind, kind: ValueKind, place: Place) -> Value
+pub(crate) fn stepped(
+    pos: Pos,
+    behind: bool,
+    operator: Kind,
+    kind: ValueKind,
+    place: Place,
+) -> Value
     ensures { value_view result ≡ plain.stepped pos behind operator kind (place_view place) }
 {
     let node = ValueNode::Stepped(behind, operator, kind, place);
