@@ -1,6 +1,6 @@
 -- Names under which each local and each call has a kind.
 use Rattle.std.proofs.Common.{◌≡◌, ℕ, Bool, true, false, List, [], ◌∷◌, Option, Some, None, refl}
-use Rattle.std.specs.Prelude.{◌==◌, ◌&&◌, ◌||◌, not, is_some, is_none, if◌then◌else◌}
+use Rattle.std.specs.Prelude.{◌==◌, ◌&&◌, ◌||◌, not, is_some, if◌then◌else◌}
 use Rattle.pungi_tree.specs.Syntax.{Expr, word, arrow, Spec, Declr, Fields, no_fields, field_and, empty, members, Item}
 use Rattle.pungi_types.specs.declared.kind.ValueKind.{ValueKind}
 use Rattle.pungi_types.specs.declared.kind.ValueKind.TheVariants as kinds
@@ -9,8 +9,8 @@ use Rattle.pungi_api.specs.Rows.{row_in}
 use Rattle.pungi_types.specs.Operators.{is_void}
 use Rattle.pungi_types.specs.Files.{Definition, definitions, definition_in, Variable, variables_of, declr_name, declr_tail, declr_stars, is_plain_tail}
 use Rattle.pungi_types.specs.Kinds.{type_kind, not_void, spec_base, declared_kind, declr_named, member_kind, field_in, field_in_some, field_kind, struct_fields}
-use Rattle.pungi_types.specs.Names.{Env, Meaning, a_static, a_function, unknown, meaning_of, local_in, local_or, global_or, static_or_unknown, global_in, global_kind, is_table, is_function, is_plain_static, is_among, type_objects, static_number}
-use Rattle.pungi_types.specs.Exprs.{Callee, no_word, a_value, no_function, defined, a_row, callee_of, local_called_or, defined_or, row_or, is_refused, meaning_kind, is_place, kind_of}
+use Rattle.pungi_types.specs.Names.{Env, a_static, a_function, unknown, local_in, local_or, global_or, global_in, global_kind, is_table, is_function, is_plain_static, is_among, type_objects, static_number}
+use Rattle.pungi_types.specs.Exprs.{Callee, defined, callee_of, local_called_or, defined_or, row_or, is_refused, meaning_kind, is_place, kind_of}
 use Rattle.pungi_types.specs.Stmts.{with_local}
 
 -- a kind that a value may be kept in

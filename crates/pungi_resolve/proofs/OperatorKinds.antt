@@ -1,12 +1,12 @@
 -- The kind of an expression in whose node no rule holds, from the kinds of its operands.
 use Rattle.std.proofs.Common.{◌≡◌, Bool, true, false, Option, Some, None, refl}
-use Rattle.std.specs.Prelude.{◌&&◌, ◌||◌, not, is_some, is_none, if◌then◌else◌}
+use Rattle.std.specs.Prelude.{◌&&◌, ◌||◌, not, is_some, if◌then◌else◌}
 use Rattle.pungi_types.specs.declared.kind.ValueKind.{ValueKind}
 use Rattle.pungi_types.specs.declared.kind.ValueKind.TheVariants as kinds
 use Rattle.pungi_types.specs.declared.operator.Prefix.TheVariants as prefixes
 use Rattle.pungi_types.specs.Operators.{is_integer, is_pointer, is_void, is_null, is_text, has_same, struct_part, wider, fits, comparable, joinable, joined, both_known}
 use Rattle.pungi_types.specs.Exprs.{step_kind, unary_wrong, cond_kind, cond_wrong, cast_kind, cast_wrong, crosses}
-use Rattle.pungi_resolve.proofs.Clean.{or_left, or_right, and_true, not_false}
+use Rattle.pungi_resolve.proofs.Clean.{or_left, or_right, and_true}
 
 -- neither Void nor a pointer
 integer-left : (k : Option ValueKind) → is_some k ≡ true → is_void k ≡ false → is_pointer k ≡ false → is_integer k ≡ true

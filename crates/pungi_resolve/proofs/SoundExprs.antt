@@ -1,6 +1,6 @@
 -- An expression in which no rule holds has a kind, and is sound once it is resolved.
 use Rattle.std.proofs.Common.{◌≡◌, ◌∙◌, Bool, true, false, List, Option, Some, None, refl}
-use Rattle.std.specs.Prelude.{ℤ, ◌&&◌, not, is_some, is_none, if◌then◌else◌}
+use Rattle.std.specs.Prelude.{ℤ, ◌&&◌, not, is_some, if◌then◌else◌}
 use Rattle.pungi_base.specs.declared.kind.Kind.{Kind}
 use Rattle.pungi_base.specs.declared.names.Name.{Name}
 use Rattle.pungi_base.specs.declared.pos.Pos.{Pos}
@@ -12,15 +12,15 @@ use Rattle.pungi_types.specs.declared.operator.Prefix.{Prefix}
 use Rattle.pungi_types.specs.declared.operator.Prefix.TheVariants as prefixes
 use Rattle.pungi_types.specs.Names.{Env, meaning_of, local_in}
 use Rattle.pungi_types.specs.Kinds.{type_name_kind, field_kind}
-use Rattle.pungi_types.specs.Findings.{Findings, nothing_found, ◌and◌, when}
-use Rattle.pungi_types.specs.Operators.{prefix_of, is_bits, is_arithmetic, is_order, is_equality, is_bits_assign, is_arithmetic_assign, is_pointer, is_void, struct_part}
+use Rattle.pungi_types.specs.Findings.{Findings, nothing_found, ◌and◌}
+use Rattle.pungi_types.specs.Operators.{prefix_of, is_bits, is_arithmetic, is_order, is_equality, is_bits_assign, is_arithmetic_assign, is_pointer, struct_part}
 use Rattle.pungi_types.specs.Exprs.{kind_of, is_place, is_address, is_left_out, is_step_or_sign, names_type_object, is_module_address, callee, wants, wants_module, other_wants, are_met, is_word, unary_kind, unary_wrong, int_kind, is_bad_int, result_kind, used, n1, n2, n3, n4, n5, n9, n10, n12, n13, n14, node_findings, expr_findings, args_findings}
-use Rattle.pungi_types.specs.Resolved.{Value, Place, Values, word_value, resolve, place_of, resolve_all, unary_value, int_value, convert, want_kind, expr_pos, module_behind, callee_name}
+use Rattle.pungi_types.specs.Resolved.{resolve, place_of, resolve_all, unary_value, int_value, convert, want_kind, expr_pos, module_behind, callee_name}
 use Rattle.pungi_types.specs.Sound.{is_sound, are_sound, is_sound_place}
-use Rattle.pungi_resolve.proofs.Clean.{Clean, is_found, left, right, not_when, not_false, is_there, and_true, and_right}
+use Rattle.pungi_resolve.proofs.Clean.{Clean, left, right, not_when, not_false, is_there, and_true, and_right}
 use Rattle.pungi_resolve.proofs.Known.{HasKinds, answers, place-not_void}
-use Rattle.pungi_resolve.proofs.OperatorKinds.{step-kept, sign-kept, negation-kept, binary-kept, Assigned, assign-kept, cond-kept, cast-kept}
-use Rattle.pungi_resolve.proofs.SoundParts.{convert-same, cast-same, binary-same, assign-same, read-sound, field-sound, has_struct, slot-sound, WordHolds, word-holds, static-sound, module-sound, word-callable, CallHolds, call-holds}
+use Rattle.pungi_resolve.proofs.OperatorKinds.{step-kept, sign-kept, negation-kept, binary-kept, assign-kept, cond-kept, cast-kept}
+use Rattle.pungi_resolve.proofs.SoundParts.{convert-same, cast-same, binary-same, assign-same, read-sound, field-sound, has_struct, slot-sound, word-holds, static-sound, module-sound, word-callable, call-holds}
 
 -- an expression with a kind, that is sound, also as a place
 pub record Good (env : Env) (e : Expr) : Type 0 where

@@ -1,25 +1,22 @@
 -- A function of which no rule is told is sound once it is resolved.
 use Rattle.std.proofs.Common.{◌≡◌, ◌∙◌, ℕ, suc, arith, Bool, true, false, List, [], ◌∷◌, Option, Some, None, refl, sym, ap, subst}
-use Rattle.std.specs.Prelude.{IsTrue, ◌==◌, ◌+◌, ◌&&◌, ◌||◌, not, is_some, is_none, slice_get, if◌then◌else◌}
+use Rattle.std.specs.Prelude.{IsTrue, ◌==◌, ◌&&◌, ◌||◌, not, is_some, is_none, slice_get, if◌then◌else◌}
 use Rattle.std.proofs.lemmas.Bool.Decides.{nat_tests}
 use Rattle.pungi_base.specs.declared.key.Key.{Key}
 use Rattle.pungi_base.specs.declared.pos.Pos.{Pos}
 use Rattle.pungi_tree.specs.Syntax.{Spec, Params, params, ParamDecl, param_decl, ParamDecls, no_params, param_and, ParamDeclr, named, bare, unused, Stmt, block, Item}
 use Rattle.pungi_api.specs.Rows.{row_in}
 use Rattle.pungi_api.specs.declared.row.Row.{Row}
-use Rattle.pungi_types.specs.declared.kind.ValueKind.{ValueKind}
 use Rattle.pungi_types.specs.declared.finding.Finding.{Finding}
-use Rattle.pungi_types.specs.declared.local.Local.{Local}
 use Rattle.pungi_types.specs.Files.{Definition, definitions, definition_in, declr_name}
-use Rattle.pungi_types.specs.Kinds.{type_kind, spec_base, declared_kind}
+use Rattle.pungi_types.specs.Kinds.{type_kind, spec_base}
 use Rattle.pungi_types.specs.Names.{Env, is_among, local_in, global_kind, is_plain_static}
 use Rattle.pungi_types.specs.Findings.{Findings, least}
 use Rattle.pungi_types.specs.Operators.{is_void}
-use Rattle.pungi_types.specs.Exprs.{Callee, param_kind, is_refused, callee_of, local_called_or, defined_or, row_or, a_value, no_function}
-use Rattle.pungi_types.specs.Functions.{file_env, result_kind, first_frame, after_param, after_params, params_frame, name_findings, param_findings, params_findings, dots_findings, body_findings, result_findings, parts_findings, text_findings, or_sizes, size_findings, refusal_in, refusal}
+use Rattle.pungi_types.specs.Exprs.{param_kind, defined_or, row_or, a_value, no_function}
+use Rattle.pungi_types.specs.Functions.{file_env, result_kind, first_frame, after_param, after_params, params_frame, name_findings, param_findings, params_findings, dots_findings, body_findings, result_findings, parts_findings, text_findings, or_sizes, refusal_in, refusal}
 use Rattle.pungi_types.specs.Labels.{label_findings}
-use Rattle.pungi_types.specs.Refused.{Holds}
-use Rattle.pungi_types.specs.ResolvedStmts.{Site, with_param, with_params, params_site, first_site, body_action, action, resolved_in}
+use Rattle.pungi_types.specs.ResolvedStmts.{Site, with_param, with_params, params_site, body_action, resolved_in}
 use Rattle.pungi_types.specs.Sound.{is_sound_action}
 use Rattle.pungi_types.specs.Stmts.{Frame, spec_pos, has_file_storage, declared_n1, in_block}
 use Rattle.pungi_resolve.specs.Passed.{IsPassed}

@@ -1,6 +1,6 @@
 -- What is sound of a node, and of its parts.
 use Rattle.std.proofs.Common.{◌≡◌, ℕ, Bool, true, false, List, Option, Some, None, refl}
-use Rattle.std.specs.Prelude.{◌&&◌, ◌||◌, not, is_some, is_none, if◌then◌else◌}
+use Rattle.std.specs.Prelude.{◌&&◌, ◌||◌, not, is_some, if◌then◌else◌}
 use Rattle.pungi_base.specs.declared.kind.Kind.{Kind}
 use Rattle.pungi_base.specs.declared.names.Name.{Name}
 use Rattle.pungi_base.specs.declared.pos.Pos.{Pos}
@@ -18,7 +18,7 @@ use Rattle.pungi_types.specs.Operators.{prefix_of, is_integer, is_void, is_order
 use Rattle.pungi_types.specs.Exprs.{Callee, no_word, a_value, defined, a_row, no_function, callee, local_called_or, defined_or, row_or, is_refused, result_kind, is_unknown_call, is_value_called, takes_arguments, is_function_meaning, is_unknown, is_slot, meaning_kind, is_word, is_address, names_type_object, names_module, is_module_address}
 use Rattle.pungi_types.specs.Resolved.{Value, Values, Place, computed, compared, joined_by, updated, stored, convert, convert_some, is_same_kind, cast_value, dropped, cast_of, read_as, field_of, word_place, word_value, or_int, binary_value, assign_value, call_value, static_behind, module_behind}
 use Rattle.pungi_types.specs.Sound.{is_sound, are_sound, is_sound_place}
-use Rattle.pungi_resolve.proofs.Clean.{and_true, and_left, and_right, or_left, or_right}
+use Rattle.pungi_resolve.proofs.Clean.{and_right}
 use Rattle.pungi_resolve.proofs.Known.{answers, is_known_local, is_value_kind}
 
 -- .. conversions

@@ -1,5 +1,5 @@
 -- A statement in which no rule holds is sound once it is resolved.
-use Rattle.std.proofs.Common.{◌≡◌, ◌∙◌, Bool, true, false, List, [], ◌∷◌, Option, Some, None, refl, subst}
+use Rattle.std.proofs.Common.{◌≡◌, ◌∙◌, true, false, List, [], ◌∷◌, Option, Some, None, refl, subst}
 use Rattle.std.specs.Prelude.{◌&&◌, is_none}
 use Rattle.pungi_base.specs.declared.key.Key.{Key}
 use Rattle.pungi_base.specs.declared.pos.Pos.{Pos}
@@ -11,7 +11,7 @@ use Rattle.pungi_types.specs.Names.{Env}
 use Rattle.pungi_types.specs.Operators.{is_void}
 use Rattle.pungi_types.specs.Exprs.{kind_of, expr_findings}
 use Rattle.pungi_types.specs.Labels.{switch_findings}
-use Rattle.pungi_types.specs.Resolved.{resolve, convert}
+use Rattle.pungi_types.specs.Resolved.{resolve}
 use Rattle.pungi_types.specs.ResolvedStmts.{Site, with_vars, with_start, after, initial, reached, start_reached, start_value, option_value, returned, action, actions}
 use Rattle.pungi_types.specs.Sound.{is_sound, is_sound_option, are_sound_locals, is_sound_action, are_sound_actions}
 use Rattle.pungi_types.specs.Stmts.{Frame, spec_pos, has_file_storage, declared_n1, declared_n8, initial_findings, after_var, after_vars, var_findings, vars_findings, condition_findings, option_findings, option_condition, return_findings, switched_findings, inside, in_loop, in_switch, in_block, labelled, start_frame, behind, after_stmt, start_findings, stmt_findings, stmts_findings}

@@ -1,14 +1,13 @@
 -- What the program asks of a word, and what the word is as a value, as a place and in a call.
-use Rattle.std.proofs.Common.{◌≡◌, ℕ, Bool, true, false, Option, Some, None, refl, ap}
+use Rattle.std.proofs.Common.{◌≡◌, ℕ, true, false, Option, Some, None, refl, ap}
 use Rattle.pungi_base.specs.declared.names.Name.{Name}
 use Rattle.pungi_base.specs.declared.pos.Pos.{Pos}
 use Rattle.pungi_api.specs.declared.row.Row.{Row}
 use Rattle.pungi_types.specs.declared.kind.ValueKind.{ValueKind}
-use Rattle.pungi_types.specs.declared.standing.Standing.{Standing}
 use Rattle.pungi_types.specs.declared.standing.Standing.TheVariants as stands
 use Rattle.pungi_types.specs.Names.{Meaning, a_local, a_global, a_function, a_static, unknown}
 use Rattle.pungi_types.specs.Exprs.{Callee, no_word, a_value, defined, a_row, no_function}
-use Rattle.pungi_types.specs.Resolved.{Value, Values, called, called_row, local_place, global_place, static_of, no_place, read_as, word_place, word_value, call_value}
+use Rattle.pungi_types.specs.Resolved.{Values, called, called_row, local_place, global_place, static_of, no_place, read_as, word_place, word_value, call_value}
 use Rattle.pungi_types.specs.Sound.{is_sound, is_sound_place}
 use Rattle.pungi_types.specs.Standing.{standing_of, row_called, is_defined}
 

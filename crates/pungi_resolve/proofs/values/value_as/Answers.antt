@@ -1,4 +1,4 @@
-use Rattle.std.proofs.Common.{◌≡◌, ◌∙◌, sym}
+use Rattle.std.proofs.Common.{◌∙◌, sym}
 use Rattle.pungi_tree.specs.ExprView.{expr_view}
 use Rattle.pungi_types.specs.Exprs.{kind_of}
 use Rattle.pungi_types.specs.Resolved.{resolve}
