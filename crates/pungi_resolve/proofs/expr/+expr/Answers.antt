@@ -141,7 +141,7 @@ resolve_args-loop-e-preserved g t c =
     let d = next_one xs i c.e-item.result s r in
     let P : List Expr → Type 0 = λ ys. are_sound (resolve_all env rest (exprs_of (map expr_view ys))) ≡ true in
     let left = exprs_of (map expr_view (drop (i + 1) xs)) in
-    let more : are_sound (resolve_all env (other_wants rest) left) ≡ true = and_right _ _ (subst P d c.loop-e.invariant.sound) in
+    let more : are_sound (resolve_all env (other_wants rest) left) ≡ true = and_right (is_sound (argument_in env rest (expr_view c.e-item.result))) (are_sound (resolve_all env (other_wants rest) left)) (subst P d c.loop-e.invariant.sound) in
     let done = c.loop-e.values.items in
     let others : c.other_wants-rest.result.now ≡ other_wants rest = c.other_wants-rest.ensures in
     record {
