@@ -1,0 +1,15 @@
+pub mod Clean
+pub mod Known
+pub mod OperatorKinds
+pub mod SoundParts
+pub mod SoundExprs
+pub mod SoundStmts
+pub mod SoundFunctions
+pub mod WordLemmas
+pub mod ListLemmas
+pub mod SiteLemmas
+pub mod OperandLemmas
+pub mod SoundActionLemmas
+pub mod ForLemmas
+pub mod WholeFunctions
+mod ToldAt

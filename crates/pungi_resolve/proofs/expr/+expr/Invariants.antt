@@ -1,0 +1,19 @@
+use Rattle.std.proofs.Common.{◌≡◌, ◌&&◌, true, drop, map}
+use Rattle.pungi_tree.specs.ExprView.{expr_view, exprs_of}
+use Rattle.pungi_types.specs.Exprs.{are_met}
+use Rattle.pungi_types.specs.Resolved.{resolve_all}
+use Rattle.pungi_types.specs.Sound.{are_sound}
+use Rattle.pungi_resolved.specs.ValueView.{value_view}
+use Rattle.pungi_resolve.proofs.ListLemmas.{values_before}
+use Rattle.pungi_resolve.proofs.expr.+expr.Given as goal
+
+abbrev pub invariant-resolve_args-loop-e : goal.invariant-resolve_args-loop-e
+invariant-resolve_args-loop-e g l = record {
+  values :
+      values_before (map value_view l.values.items) (resolve_all (g.N.Lookup.env l.names) l.rest (exprs_of (map expr_view (drop l.e-index l.list.items))))
+      ≡ resolve_all (g.N.Lookup.env l.names) l.wants (exprs_of (map expr_view l.list.items));
+  met :
+      (l.met && are_met (g.N.Lookup.env l.names) l.rest (exprs_of (map expr_view (drop l.e-index l.list.items))))
+      ≡ are_met (g.N.Lookup.env l.names) l.wants (exprs_of (map expr_view l.list.items));
+  sound : are_sound (resolve_all (g.N.Lookup.env l.names) l.rest (exprs_of (map expr_view (drop l.e-index l.list.items)))) ≡ true;
+}

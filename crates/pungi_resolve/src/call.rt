@@ -1,0 +1,89 @@
+//! Calls of functions and of the API (C11 6.5.2.2).
+ghost use Rattle.std.specs.Prelude.{◌≡◌, IfOk, map, true, false};
+ghost use Rattle.pungi_types.specs.Standing.{is_defined};
+ghost use Rattle.pungi_types.specs.Exprs.{callee, callee_of};
+ghost use Rattle.pungi_types.specs.Resolved.{call_value, callee_name};
+ghost use Rattle.pungi_types.specs.Sound.{is_sound};
+ghost use Rattle.pungi_tree.specs.ExprView.{expr_view};
+ghost use Rattle.pungi_resolved.specs.ValueView.{value_view, values_of};
+
+use crate::nodes;
+use pungi_api::{Row, Shape};
+use pungi_base::{Memory, Name, Pos};
+use pungi_resolved::Value;
+use pungi_tree::{Expr, ExprNode};
+use pungi_types::Lookup;
+use std::alloc::Global;
+
+/// The shape of a call of a row without a format.
+fn shape_of(alloc: Global, row: &Row) -> Result<Shape, Memory>
+    ensures { IfOk result (λ s. s.row ≡ row.now) }
+{
+    let row = Row {
+        form: row.form,
+        params: row.params.copy(alloc)?,
+        takes: row.takes.copy(alloc)?,
+        answer: row.answer,
+    };
+    Ok(Shape {
+        row,
+        units_in: None,
+        units_out: None,
+        least: 0,
+        outputs: 0,
+    })
+}
+
+fn call_row<N: Lookup>(
+    alloc: Global,
+    names: &N,
+    pos: Pos,
+    name: Name,
+    args: Vec<Value>,
+) -> Result<Value, Memory>
+    requires other { is_defined (callee_of (N.env names.now) name.0) ≡ false }
+    requires sound { is_sound (call_value pos (callee_of (N.env names.now) name.0) name (values_of (map value_view args.items))) ≡ true }
+    ensures { IfOk result (λ x. value_view x ≡ call_value pos (callee_of (N.env names.now) name.0) name (values_of (map value_view args.items))) }
+{
+    match names.row(name.0) {
+        None => unreachable!(),
+        Some(row) => {
+            let shape = shape_of(alloc, row)?;
+            Ok(nodes::called_row(alloc, pos, name, shape, args)?)
+        }
+    }
+}
+
+fn call_word<N: Lookup>(
+    alloc: Global,
+    names: &N,
+    pos: Pos,
+    name: Name,
+    args: Vec<Value>,
+) -> Result<Value, Memory>
+    requires { is_sound (call_value pos (callee_of (N.env names.now) name.0) name (values_of (map value_view args.items))) ≡ true }
+    ensures { IfOk result (λ x. value_view x ≡ call_value pos (callee_of (N.env names.now) name.0) name (values_of (map value_view args.items))) }
+{
+    if names.is_defined_call(name.0) {
+        Ok(nodes::called(pos, name, args))
+    } else {
+        Ok(call_row(alloc, names, pos, name, args)?)
+    }
+}
+
+/// A call with these arguments.
+pub(crate) fn call<N: Lookup>(
+    alloc: Global,
+    names: &N,
+    pos: Pos,
+    f: &Expr,
+    args: Vec<Value>,
+) -> Result<Value, Memory>
+    requires { is_sound (call_value pos (callee (N.env names.now) (expr_view f.now)) (callee_name (expr_view f.now)) (values_of (map value_view args.items))) ≡ true }
+    ensures { IfOk result (λ x. value_view x ≡ call_value pos (callee (N.env names.now) (expr_view f.now)) (callee_name (expr_view f.now)) (values_of (map value_view args.items))) }
+{
+    match &f.node {
+        ExprNode::Word(name) => Ok(call_word(alloc, names, pos, *name, args)?),
+        _ => unreachable!(),
+    }
+}

@@ -1,0 +1,52 @@
+//! Conversions between integer kinds (C11 6.3.1.3).
+ghost use Rattle.std.specs.Prelude.{◌≡◌, IfOk};
+ghost use Rattle.pungi_types.specs.Resolved.{is_same_kind as is_same_kind_of, convert_some as convert_some_of, convert as convert_of};
+ghost use Rattle.pungi_resolved.specs.ValueView.{value_view};
+
+use crate::nodes;
+use pungi_base::{Memory, Pos};
+use pungi_resolved::Value;
+use pungi_types::ValueKind;
+use pungi_types::operator::is_integer;
+use std::alloc::Global;
+
+type Known = Option<ValueKind>;
+
+/// Both are the same kind of integers.
+pub(crate) fn is_same_kind(a: Known, b: Known) -> bool
+    ensures { result ≡ is_same_kind_of a b }
+{
+    match (a, b) {
+        (Some(ValueKind::Int), Some(ValueKind::Int)) => true,
+        (Some(ValueKind::Long), Some(ValueKind::Long)) => true,
+        (Some(ValueKind::Size), Some(ValueKind::Size)) => true,
+        _ => false,
+    }
+}
+
+/// A value as one of this kind, if there is one.
+pub(crate) fn convert_some(alloc: Global, pos: Pos, to: Known, v: Value) -> Result<Value, Memory>
+    ensures { IfOk result (λ x. value_view x ≡ convert_some_of pos to (value_view v)) }
+{
+    match to {
+        None => Ok(v),
+        Some(kind) => Ok(nodes::converted(alloc, pos, kind, v)?),
+    }
+}
+
+/// A value of the second kind as one of the first. It is written out only between two integer kinds that differ.
+pub(crate) fn convert(
+    alloc: Global,
+    pos: Pos,
+    to: Known,
+    from: Known,
+    v: Value,
+) -> Result<Value, Memory>
+    ensures { IfOk result (λ x. value_view x ≡ convert_of pos to from (value_view v)) }
+{
+    if is_integer(to) && (is_integer(from) && !is_same_kind(to, from)) {
+        Ok(convert_some(alloc, pos, to, v)?)
+    } else {
+        Ok(v)
+    }
+}

@@ -1,0 +1,262 @@
+//! What expressions do (C11 6.5).
+ghost use Rattle.std.specs.Prelude.{◌≡◌, IfOk, map, true};
+ghost use Rattle.pungi_types.specs.Operators.{struct_part};
+ghost use Rattle.pungi_types.specs.Kinds.{field_kind};
+ghost use Rattle.pungi_types.specs.Exprs.{kind_of, are_met, first_met as first_met_of, is_module_address as is_module_address_of};
+ghost use Rattle.pungi_types.specs.Resolved.{resolve as resolve_of, expr_pos, want_kind, place_of, resolve_all, field_of as field_of_of};
+ghost use Rattle.pungi_types.specs.Sound.{is_sound, are_sound, is_sound_place};
+ghost use Rattle.pungi_tree.specs.Syntax as plain;
+ghost use Rattle.pungi_tree.specs.ExprView.{expr_view, exprs_of};
+ghost use Rattle.pungi_resolved.specs.ValueView.{value_view, values_of, place_view};
+ghost use Rattle.pungi_resolve.specs.Arguments.{argument_in};
+
+use crate::call::call;
+use crate::convert::convert;
+use crate::nodes;
+use crate::operators::{assign, binary, cast, conditional, negation, paren, post, sign, step};
+use crate::place::{field_of, read_as, word_place};
+use crate::typed::{Argument, Arguments, Typed, TypedPlace};
+use crate::word::{address, int, module_behind, word};
+use pungi_base::{Kind, Memory, Name, Pos};
+use pungi_tree::{Expr, ExprNode};
+use pungi_types::operator::{first_met, other_wants, prefix_of, wants_module};
+use pungi_types::{
+    Lookup, Prefix, ValueKind, Want, call_kind, callee_wants, is_module_address, is_place,
+};
+use std::alloc::Global;
+
+fn wanted_kind(wants: &[Want]) -> Option<ValueKind>
+    ensures { result ≡ want_kind wants.now }
+{
+    match wants {
+        [Want::OfKind(kind), ..] => Some(*kind),
+        _ => None,
+    }
+}
+
+/// The place of an expression, whatever it is.
+fn pos_of(e: &Expr) -> Pos
+    ensures { result ≡ expr_pos (expr_view e.now) }
+{
+    match &e.node {
+        ExprNode::Word(_)
+        | ExprNode::Int { .. }
+        | ExprNode::Float
+        | ExprNode::Char(_)
+        | ExprNode::Text(_)
+        | ExprNode::Null
+        | ExprNode::Paren(_)
+        | ExprNode::Unary(_, _)
+        | ExprNode::Post(_, _)
+        | ExprNode::Binary(_, _, _)
+        | ExprNode::Assign(_, _, _)
+        | ExprNode::Cond(_, _, _)
+        | ExprNode::Comma(_, _)
+        | ExprNode::Cast(_, _)
+        | ExprNode::SizeOfType(_)
+        | ExprNode::Call(_, _)
+        | ExprNode::New(_, _)
+        | ExprNode::Index(_, _)
+        | ExprNode::Dot(_, _)
+        | ExprNode::Arrow(_, _) => e.pos,
+    }
+}
+
+/// What an expression does.
+#[cycle(expr)]
+pub(crate) fn resolve_expr<N: Lookup>(alloc: Global, names: &N, e: &Expr) -> Result<Typed, Memory>
+    requires { is_sound (resolve_of (N.env names.now) (expr_view e.now)) ≡ true }
+    ensures value { IfOk result (λ x. value_view x.value ≡ resolve_of (N.env names.now) (expr_view e.now)) }
+    ensures kind { IfOk result (λ x. x.kind ≡ kind_of (N.env names.now) (expr_view e.now)) }
+{
+    match &e.node {
+        ExprNode::Word(name) => Ok(word(names, e.pos, *name)),
+        ExprNode::Int {
+            value,
+            long,
+            unsigned,
+        } => Ok(int(e.pos, *value, *long, *unsigned)),
+        ExprNode::Char(code) => Ok(Typed {
+            value: nodes::constant(e.pos, i64::from(*code)),
+            kind: Some(ValueKind::Int),
+        }),
+        ExprNode::Text(parts) => {
+            let value = nodes::text(alloc, e.pos, parts)?;
+            Ok(Typed {
+                value,
+                kind: Some(ValueKind::Text),
+            })
+        }
+        ExprNode::Null => Ok(Typed {
+            value: nodes::null(e.pos),
+            kind: Some(ValueKind::Null),
+        }),
+        ExprNode::Paren(a) => {
+            let a = resolve_expr(alloc, names, a)?;
+            Ok(paren(alloc, e.pos, a)?)
+        }
+        ExprNode::Unary(operator, a) => Ok(resolve_unary(alloc, names, e.pos, *operator, a)?),
+        ExprNode::Post(operator, a) => {
+            let is_place = is_place(names, a);
+            let a = resolve_place(alloc, names, a)?;
+            Ok(post(e.pos, *operator, is_place, a))
+        }
+        ExprNode::Binary(operator, a, b) => {
+            let a = resolve_expr(alloc, names, a)?;
+            let b = resolve_expr(alloc, names, b)?;
+            Ok(binary(alloc, e.pos, *operator, a, b)?)
+        }
+        ExprNode::Assign(operator, a, b) => {
+            let is_place = is_place(names, a);
+            let a = resolve_place(alloc, names, a)?;
+            let b = resolve_expr(alloc, names, b)?;
+            Ok(assign(alloc, e.pos, *operator, is_place, a, b)?)
+        }
+        ExprNode::Cond(test, yes, no) => {
+            let test = resolve_expr(alloc, names, test)?;
+            let yes = resolve_expr(alloc, names, yes)?;
+            let no = resolve_expr(alloc, names, no)?;
+            Ok(conditional(alloc, e.pos, test, yes, no)?)
+        }
+        ExprNode::Cast(name, a) => {
+            let to = names.type_kind(&name.spec, name.stars.len());
+            let a = resolve_expr(alloc, names, a)?;
+            Ok(cast(alloc, e.pos, to, a)?)
+        }
+        ExprNode::Call(f, list) => {
+            let args = resolve_args(alloc, names, callee_wants(names, f), list)?;
+            let kind = call_kind(names, f, args.met);
+            let value = call(alloc, names, e.pos, f, args.values)?;
+            Ok(Typed { value, kind })
+        }
+        ExprNode::Arrow(a, name) => {
+            let field = resolve_field(alloc, names, e.pos, a, *name)?;
+            Ok(Typed {
+                value: read_as(e.pos, field.kind, field.place),
+                kind: field.kind,
+            })
+        }
+        ExprNode::Float
+        | ExprNode::Comma(_, _)
+        | ExprNode::SizeOfType(_)
+        | ExprNode::New(_, _)
+        | ExprNode::Index(_, _)
+        | ExprNode::Dot(_, _) => unreachable!(),
+    }
+}
+
+#[cycle(expr)]
+fn resolve_unary<N: Lookup>(
+    alloc: Global,
+    names: &N,
+    pos: Pos,
+    operator: Kind,
+    a: &Expr,
+) -> Result<Typed, Memory>
+    requires { is_sound (resolve_of (N.env names.now) (plain.unary pos operator (expr_view a.now))) ≡ true }
+    ensures value { IfOk result (λ x. value_view x.value ≡ resolve_of (N.env names.now) (plain.unary pos operator (expr_view a.now))) }
+    ensures kind { IfOk result (λ x. x.kind ≡ kind_of (N.env names.now) (plain.unary pos operator (expr_view a.now))) }
+{
+    match prefix_of(operator) {
+        Prefix::Address => Ok(address(names, pos, a)),
+        Prefix::Step => {
+            let is_place = is_place(names, a);
+            let a = resolve_place(alloc, names, a)?;
+            Ok(step(pos, operator, is_place, a))
+        }
+        Prefix::Sign => {
+            let a = resolve_expr(alloc, names, a)?;
+            Ok(sign(alloc, pos, operator, a)?)
+        }
+        Prefix::Negation => {
+            let a = resolve_expr(alloc, names, a)?;
+            Ok(negation(alloc, pos, a)?)
+        }
+        Prefix::LeftOut => unreachable!(),
+    }
+}
+
+/// What an expression is as a place.
+#[cycle(expr)]
+fn resolve_place<N: Lookup>(alloc: Global, names: &N, e: &Expr) -> Result<TypedPlace, Memory>
+    requires { is_sound_place (place_of (N.env names.now) (expr_view e.now)) ≡ true }
+    ensures place { IfOk result (λ x. place_view x.place ≡ place_of (N.env names.now) (expr_view e.now)) }
+    ensures kind { IfOk result (λ x. x.kind ≡ kind_of (N.env names.now) (expr_view e.now)) }
+{
+    match &e.node {
+        ExprNode::Word(name) => Ok(TypedPlace {
+            place: word_place(names, e.pos, *name),
+            kind: names.word_kind(name.0),
+        }),
+        ExprNode::Arrow(a, name) => Ok(resolve_field(alloc, names, e.pos, a, *name)?),
+        _ => unreachable!(),
+    }
+}
+
+/// The field of this name behind a pointer.
+#[cycle(expr)]
+fn resolve_field<N: Lookup>(
+    alloc: Global,
+    names: &N,
+    pos: Pos,
+    a: &Expr,
+    name: Name,
+) -> Result<TypedPlace, Memory>
+    requires { is_sound_place (field_of_of pos (resolve_of (N.env names.now) (expr_view a.now)) (struct_part (kind_of (N.env names.now) (expr_view a.now))) name) ≡ true }
+    ensures place { IfOk result (λ x. place_view x.place ≡ field_of_of pos (resolve_of (N.env names.now) (expr_view a.now)) (struct_part (kind_of (N.env names.now) (expr_view a.now))) name) }
+    ensures kind { IfOk result (λ x. x.kind ≡ field_kind (N.env names.now).file (kind_of (N.env names.now) (expr_view a.now)) name.0) }
+{
+    let base = resolve_expr(alloc, names, a)?;
+    let kind = names.field_kind(base.kind, name.0);
+    let place = field_of(alloc, pos, base, name)?;
+    Ok(TypedPlace { place, kind })
+}
+
+#[cycle(expr)]
+fn resolve_args<N: Lookup>(
+    alloc: Global,
+    names: &N,
+    wants: &[Want],
+    list: &Vec<Expr>,
+) -> Result<Arguments, Memory>
+    requires { are_sound (resolve_all (N.env names.now) wants.now (exprs_of (map expr_view list.now.items))) ≡ true }
+    ensures values { IfOk result (λ x. values_of (map value_view x.values.items) ≡ resolve_all (N.env names.now) wants.now (exprs_of (map expr_view list.now.items))) }
+    ensures met { IfOk result (λ x. x.met ≡ are_met (N.env names.now) wants.now (exprs_of (map expr_view list.now.items))) }
+{
+    let mut values = Vec::new(alloc);
+    let mut met = true;
+    let mut rest = wants;
+    for e in list {
+        let arg = resolve_arg(alloc, names, rest, e)?;
+        met = met && arg.met;
+        values.push(arg.value)?;
+        rest = other_wants(rest);
+    }
+    Ok(Arguments {
+        values,
+        met: met && rest.is_empty(),
+    })
+}
+
+#[cycle(expr)]
+fn resolve_arg<N: Lookup>(
+    alloc: Global,
+    names: &N,
+    wants: &[Want],
+    e: &Expr,
+) -> Result<Argument, Memory>
+    requires { is_sound (argument_in (N.env names.now) wants.now (expr_view e.now)) ≡ true }
+    ensures value { IfOk result (λ x. value_view x.value ≡ argument_in (N.env names.now) wants.now (expr_view e.now)) }
+    ensures met { IfOk result (λ x. x.met ≡ first_met_of wants.now (is_module_address_of (N.env names.now) (expr_view e.now)) (kind_of (N.env names.now) (expr_view e.now))) }
+{
+    let is_module = is_module_address(names, e);
+    if wants_module(wants) && is_module {
+        let value = module_behind(e);
+        return Ok(Argument { value, met: true });
+    }
+    let a = resolve_expr(alloc, names, e)?;
+    let met = first_met(wants, is_module, a.kind);
+    let pos = pos_of(e);
+    let value = convert(alloc, pos, wanted_kind(wants), a.kind, a.value)?;
+    Ok(Argument { value, met })
+}

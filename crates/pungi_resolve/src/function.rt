@@ -1,0 +1,79 @@
+//! What a function does (C11 6.9.1).
+ghost use Rattle.std.specs.Prelude.{◌≡◌, IfOk, true};
+ghost use Rattle.pungi_types.specs.ResolvedStmts.{body_action, resolved_in};
+ghost use Rattle.pungi_types.specs.Sound.{is_sound_action};
+ghost use Rattle.pungi_types.specs.TypesView.{definition_view};
+ghost use Rattle.pungi_tree.specs.StmtView.{stmt_view};
+ghost use Rattle.pungi_resolved.specs.ActionView.{action_view, function_view};
+ghost use Rattle.pungi_resolve.specs.Passed.{IsPassed};
+ghost use Rattle.pungi_resolve.specs.Sites.{site_of};
+ghost use Rattle.pungi_resolve.specs.SoundActions.{IsSoundAction};
+
+use crate::action_nodes::block_of;
+use crate::params::resolve_params;
+use crate::stmt::resolve_stmt;
+use crate::walk::{Around, Walk};
+use pungi_base::{Memory, Pos, Seq};
+use pungi_resolved::{Action, Function};
+use pungi_scope::LocalNames;
+use pungi_tree::{FunctionDef, Stmt, StmtNode};
+use pungi_types::Lookup;
+use std::alloc::Global;
+
+/// What the body of a function at this place does.
+fn resolve_body<N: Lookup>(
+    names: &N,
+    around: Around,
+    walk: &mut Walk,
+    pos: Pos,
+    body: &Stmt,
+) -> Result<Action, Memory>
+    requires { IsSoundAction (body_action pos (site_of (N.env names.now) walk.old around.result) (stmt_view body.now)) }
+    ensures { IfOk result (λ x. action_view x ≡ body_action pos (site_of (N.env names.now) walk.old around.result) (stmt_view body.now)) }
+{
+    match &body.node {
+        StmtNode::Block(_, _) => Ok(resolve_stmt(names, around, walk, body)?),
+        StmtNode::Declare(_)
+        | StmtNode::Do(_)
+        | StmtNode::If(_, _, None)
+        | StmtNode::If(_, _, Some(_))
+        | StmtNode::While(_, _)
+        | StmtNode::DoWhile(_, _)
+        | StmtNode::For(_, _, _, _)
+        | StmtNode::Switch(_, _)
+        | StmtNode::Case(_, _)
+        | StmtNode::Default(_)
+        | StmtNode::Label(_, _)
+        | StmtNode::Goto(_, _)
+        | StmtNode::Break
+        | StmtNode::Continue
+        | StmtNode::Return(_) => Ok(block_of(pos, walk.next, 0, Vec::new(around.alloc), pos)?),
+    }
+}
+
+/// What a function does of which no rule is told, where the names of its file are in force. Each word and operator in it
+/// has a meaning.
+pub fn resolve<N: Lookup>(alloc: Global, names: &N, f: &FunctionDef) -> Result<Function, Memory>
+    requires { IsPassed (N.env names.now) (definition_view f.now) }
+    ensures function { IfOk result (λ x. function_view x ≡ resolved_in (N.env names.now) (definition_view f.now)) }
+    ensures sound { IfOk result (λ x. is_sound_action (function_view x).body ≡ true) }
+{
+    let result_kind = names.type_kind(&f.result, f.stars.len());
+    let around = Around {
+        alloc,
+        result: result_kind,
+    };
+    let mut walk = Walk {
+        locals: LocalNames::new(alloc),
+        next: 0,
+    };
+    let params = resolve_params(names, around, &mut walk, &f.params)?;
+    let body = resolve_body(names, around, &mut walk, f.pos, &f.body)?;
+    Ok(Function {
+        name: f.name,
+        pos: f.pos,
+        params: Seq::new(params),
+        result: result_kind,
+        body,
+    })
+}

@@ -1,0 +1,25 @@
+//! What a function does of which no rule is told: names resolved to locals by number, and conversions written out.
+#![tactic(auto)]
+
+mod action_nodes;
+mod call;
+mod convert;
+mod decl;
+mod expr;
+mod function;
+mod nodes;
+mod operators;
+mod params;
+mod place;
+mod stmt;
+mod typed;
+mod unit;
+mod values;
+mod walk;
+mod word;
+
+pub use function::resolve;
+pub use unit::resolve_unit;
+
+#[cfg(test)]
+mod tests;

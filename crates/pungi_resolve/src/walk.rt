@@ -1,0 +1,50 @@
+ghost use Rattle.std.specs.Prelude.{◌≡◌, ◌∷◌, ◌+◌, ◌-◌, length, drop, OnOk};
+
+use pungi_base::{Memory, Name};
+use pungi_scope::LocalNames;
+use pungi_types::{Local, ValueKind};
+use std::alloc::Global;
+
+/// What is the same at each place of a function.
+#[derive(Clone, Copy)]
+pub(crate) struct Around {
+    pub(crate) alloc: Global,
+    /// The kind of the function's result.
+    pub(crate) result: Option<ValueKind>,
+}
+
+/// What is known at a place of a walk through a function.
+#[derive(Drop)]
+pub(crate) struct Walk {
+    /// The locals in force.
+    pub(crate) locals: LocalNames,
+    /// The number of the next local.
+    pub(crate) next: usize,
+}
+
+impl Walk {
+    /// A local comes into force.
+    pub(crate) fn declare(&mut self, name: Name, kind: Option<ValueKind>) -> Result<(), Memory>
+        ensures { OnOk result (self.new ≡ record self.old { locals = record { name = name; number = self.old.next; kind = kind } ∷ self.old.locals; next = self.old.next + 1 }) }
+    {
+        let number = self.next;
+        self.locals.push(Local { name, number, kind })?;
+        self.next = number.checked_add(1).ok_or(Memory)?;
+        Ok(())
+    }
+
+    /// A local without a name is counted.
+    pub(crate) fn skip(&mut self) -> Result<(), Memory>
+        ensures { OnOk result (self.new ≡ record self.old { next = self.old.next + 1 }) }
+    {
+        self.next = self.next.checked_add(1).ok_or(Memory)?;
+        Ok(())
+    }
+
+    /// The latest locals go out of force, until no more than so many are left.
+    pub(crate) fn leave(&mut self, count: usize)
+        ensures { self.new ≡ record self.old { locals = drop (length self.old.locals - count) self.old.locals } }
+    {
+        self.locals.truncate(count);
+    }
+}
