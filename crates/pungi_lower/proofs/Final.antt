@@ -71,19 +71,24 @@ module _ (f : ResolvedFunction) (most : ℕ) (s : IsStmtSound (locals_of f.body)
       let h = has_all code [] in
       let g = has_cut code 0 size body (end_code (closing f.body) (is_void f.result)) (stmt_long f.body nl (everywhere size) 0 s) h in
       let z : 0 + size ≡ size = omega arith in
-      let e : size ≡ 0 + size = omega arith in
-      (everywhere size, [],
-      (refl, stmt_placed code nl room f.body (everywhere size) 0 (omega arith) s g.0,
-      (refl, e, e, λ l. e, end_placed (is_void f.result) code nl room (0 + size) (closing f.body) g.1)),
-      record {
-        world = refl;
-        used = refl;
-        locals = λ x lt. same_behind (map Holds entry.args) (room - length entry.args) (nl - length entry.args) x;
-        stack = tt;
-        long = vars_long entry.args room (omega (arith, le));
-        few = vars_long entry.args nl le;
-        enough = omega arith;
-      })
+      let e : size ≡ 0 + size = omega arith in (
+        everywhere size,
+        [],
+        (
+          refl,
+          stmt_placed code nl room f.body (everywhere size) 0 (omega arith) s g.0,
+          (refl, e, e, λ l. e, end_placed (is_void f.result) code nl room (0 + size) (closing f.body) g.1),
+        ),
+        record {
+          world = refl;
+          used = refl;
+          locals = λ x lt. same_behind (map Holds entry.args) (room - length entry.args) (nl - length entry.args) x;
+          stack = tt;
+          long = vars_long entry.args room (omega (arith, le));
+          few = vars_long entry.args nl le;
+          enough = omega arith;
+        },
+      )
 
   pub behaves : Behaves f (body_code f) (locals_of f.body + temps_of f) most
   behaves = record {

@@ -114,10 +114,14 @@ module _ (choices : List Choice) (code : List Line) (nl room : ℕ) where
       let le2 : suc i ≤ length args = next_within args i v (same ∙ ne) in
       let h' = subst (λ x. Stands code nl room x p (Api (answer_var (gives_answer row) t) (shape_of row) (map var (reverse_aux (vars_of (take i ks)) (t0 ∷ ts))) [])) q h in
       let is' = subst (λ x. IsAt code nl room env k (x + 1) (pushed_if (gives_answer row) t (drop i ks))) q is in
-      still choices code nl room (ToEval v ∷ ToArgs p row args (i + 1) ∷ k) s pc m env ks
-      (t0, at'.1, at'.2, subst (λ b. IsAt code nl room env (ToArgs p row args (i + 1) ∷ k) (pc + expr_size v) (pushed_if b t0 ks)) (sym at'.0)
-      (subst (λ n. IsAt code nl room env (ToArgs p row args n ∷ k) (pc + expr_size v) (w t0 ∷ ks)) ei
-      (ts, t, le2, omega (arith, le'), at'.3, tmp, h', is'))) ma
+      still choices code nl room (ToEval v ∷ ToArgs p row args (i + 1) ∷ k) s pc m env ks (
+        t0,
+        at'.1,
+        at'.2,
+        subst (λ b. IsAt code nl room env (ToArgs p row args (i + 1) ∷ k) (pc + expr_size v) (pushed_if b t0 ks)) (sym at'.0)
+            (subst (λ n. IsAt code nl room env (ToArgs p row args n ∷ k) (pc + expr_size v) (w t0 ∷ ks)) ei
+            (ts, t, le2, omega (arith, le'), at'.3, tmp, h', is')),
+      ) ma
     where
       next_within : {A : Type 0} (xs : List A) (i : ℕ) (x : A) → drop i xs ≡ x ∷ drop (suc i) xs → suc i ≤ length xs
       next_within [] zero x e = absurd (cc)

@@ -223,9 +223,13 @@ module _ (choices : List Choice) (code : List Line) (nl room : ℕ) where
       still choices code nl room (before place (ToOld kind place ∷ ToEval v ∷ compute)) s pc m env ks
       (base_at place (ToOld kind place ∷ ToEval v ∷ compute) env pc h.2.0 ks h.2.4
       (old_at kind place (ToEval v ∷ compute) env at h.2.0 h.2.1 ks h.2.5 h.2.6
-      (over_old place v compute env (at + 1) h.2.0 h.2.1 h.2.2 ks h.2.7 h.2.8 h.2.9
-      (h.2.3, tt, subst (λ d. IsTemp code nl room d h.2.3) (based_long place h.2.0 ks) h.2.11.1, h.2.10,
-      put_at p kind counted place k env (at + 1 + expr_size v + 1) h.2.0 h.2.3 h.0 ks h.1 h.2.11 (moved choices code nl room env k _ _ (w h.0 ∷ ks) (update_sum pc (place_size place) (expr_size v) (fit_size kind counted) (store_size place)) h.3))))) ma
+      (over_old place v compute env (at + 1) h.2.0 h.2.1 h.2.2 ks h.2.7 h.2.8 h.2.9 (
+        h.2.3,
+        tt,
+        subst (λ d. IsTemp code nl room d h.2.3) (based_long place h.2.0 ks) h.2.11.1,
+        h.2.10,
+        put_at p kind counted place k env (at + 1 + expr_size v + 1) h.2.0 h.2.3 h.0 ks h.1 h.2.11 (moved choices code nl room env k _ _ (w h.0 ∷ ks) (update_sum pc (place_size place) (expr_size v) (fit_size kind counted) (store_size place)) h.3),
+      )))) ma
   evaluate_sim (expr.chosen p c a b) k s env pc ks m h ma =
       let e : pc + (expr_size c + 1 + expr_size a + 1 + expr_size b) ≡ pc + expr_size c + 1 + expr_size a + 1 + expr_size b = omega arith in
       still choices code nl room (ToEval c ∷ ToPick a b ∷ k) s pc m env ks
@@ -241,8 +245,14 @@ module _ (choices : List Choice) (code : List Line) (nl room : ℕ) where
   evaluate_sim (expr.called_row p n row vs) k s env pc ks m h ma =
       let q = args_long vs in
       let e : pc + (values_size vs + 1) ≡ pc + args_size (listed_values vs) + 1 = omega (arith, q) in
-      still choices code nl room (ToArgs p row (listed_values vs) 0 ∷ k) s pc m env ks
-      (h.2.0, h.0, omega arith, omega arith, args_listed vs (length ks) h.2.0 pc h.2.1, h.1,
-      subst (λ x. Stands code nl room (pc + x) p (Api (answer_var (gives_answer row) h.0) (shape_of row) (map var h.2.0) [])) q h.2.2,
-      moved choices code nl room env k _ _ (pushed_if (gives_answer row) h.0 ks) e h.3) ma
+      still choices code nl room (ToArgs p row (listed_values vs) 0 ∷ k) s pc m env ks (
+        h.2.0,
+        h.0,
+        omega arith,
+        omega arith,
+        args_listed vs (length ks) h.2.0 pc h.2.1,
+        h.1,
+        subst (λ x. Stands code nl room (pc + x) p (Api (answer_var (gives_answer row) h.0) (shape_of row) (map var h.2.0) [])) q h.2.2,
+        moved choices code nl room env k _ _ (pushed_if (gives_answer row) h.0 ks) e h.3,
+      ) ma
   evaluate_sim (expr.nonsense p) k s env pc ks m h ma = (1, first choices code nl room pc p Fall m h.2 0)

@@ -162,18 +162,24 @@ module _ (choices : List Choice) (code : List Line) (nl room : ℕ) where
       (λ j. step (suc j) ∙ ap (noted (Stored p (slot.Field o tag field) y ∷ [])) (set_step choices code nl room (pc + 1) t (var a.var) q y d ey j))
       (moved choices code nl room env k (pc + 2) (pc + 1 + 1) (w t ∷ ks) (sym q2) is)
       (pushed code nl room ls (record s { world = x.1; used = s.used ++ replicate x.0.used p }) q others ks t y at (reacted code nl room ls s m x.1 x.0.used p ma) sk))
-  stored_field (value.Int n) p kind tag field b t y others k s env pc a ks ls m e ey h d at is ma sk =
-      (1, first choices code nl room pc p (Store (Field (var b) tag field (slot_kind kind)) (var a.var)) m h 0
-      ∙ with_it choices code nl room (content_of (var a.var) m.vars) y p (λ z. does.with_slot (does.slot_of (Field (var b) tag field (slot_kind kind)) m.vars) p (does.store choices p (exec choices code 0) pc m z)) ey
-      ∙ field_by b (value.Int n) tag field (slot_kind kind) p m (does.store choices p (exec choices code 0) pc m y) e)
-  stored_field value.Null p kind tag field b t y others k s env pc a ks ls m e ey h d at is ma sk =
-      (1, first choices code nl room pc p (Store (Field (var b) tag field (slot_kind kind)) (var a.var)) m h 0
-      ∙ with_it choices code nl room (content_of (var a.var) m.vars) y p (λ z. does.with_slot (does.slot_of (Field (var b) tag field (slot_kind kind)) m.vars) p (does.store choices p (exec choices code 0) pc m z)) ey
-      ∙ field_by b value.Null tag field (slot_kind kind) p m (does.store choices p (exec choices code 0) pc m y) e)
-  stored_field value.Text p kind tag field b t y others k s env pc a ks ls m e ey h d at is ma sk =
-      (1, first choices code nl room pc p (Store (Field (var b) tag field (slot_kind kind)) (var a.var)) m h 0
-      ∙ with_it choices code nl room (content_of (var a.var) m.vars) y p (λ z. does.with_slot (does.slot_of (Field (var b) tag field (slot_kind kind)) m.vars) p (does.store choices p (exec choices code 0) pc m z)) ey
-      ∙ field_by b value.Text tag field (slot_kind kind) p m (does.store choices p (exec choices code 0) pc m y) e)
+  stored_field (value.Int n) p kind tag field b t y others k s env pc a ks ls m e ey h d at is ma sk = (
+    1,
+    first choices code nl room pc p (Store (Field (var b) tag field (slot_kind kind)) (var a.var)) m h 0
+        ∙ with_it choices code nl room (content_of (var a.var) m.vars) y p (λ z. does.with_slot (does.slot_of (Field (var b) tag field (slot_kind kind)) m.vars) p (does.store choices p (exec choices code 0) pc m z)) ey
+        ∙ field_by b (value.Int n) tag field (slot_kind kind) p m (does.store choices p (exec choices code 0) pc m y) e,
+  )
+  stored_field value.Null p kind tag field b t y others k s env pc a ks ls m e ey h d at is ma sk = (
+    1,
+    first choices code nl room pc p (Store (Field (var b) tag field (slot_kind kind)) (var a.var)) m h 0
+        ∙ with_it choices code nl room (content_of (var a.var) m.vars) y p (λ z. does.with_slot (does.slot_of (Field (var b) tag field (slot_kind kind)) m.vars) p (does.store choices p (exec choices code 0) pc m z)) ey
+        ∙ field_by b value.Null tag field (slot_kind kind) p m (does.store choices p (exec choices code 0) pc m y) e,
+  )
+  stored_field value.Text p kind tag field b t y others k s env pc a ks ls m e ey h d at is ma sk = (
+    1,
+    first choices code nl room pc p (Store (Field (var b) tag field (slot_kind kind)) (var a.var)) m h 0
+        ∙ with_it choices code nl room (content_of (var a.var) m.vars) y p (λ z. does.with_slot (does.slot_of (Field (var b) tag field (slot_kind kind)) m.vars) p (does.store choices p (exec choices code 0) pc m z)) ey
+        ∙ field_by b value.Text tag field (slot_kind kind) p m (does.store choices p (exec choices code 0) pc m y) e,
+  )
 
   -- the value stays where it was
   same_var : (x : World) (u : List Pos) (l : List Content) (y : Value) (vs : List Value) (a : Waiting) (t : ℕ) (ks : List Waiting) (m : Regs) → a.var ≡ t → Match code nl room (a ∷ ks) (st x u l (y ∷ vs)) m → Match code nl room (w t ∷ ks) (st x u l (y ∷ vs)) m

@@ -80,9 +80,11 @@ module _ (choices : List Choice) (code : List Line) (nl room : ℕ) where
   tested_at : (test behind : Option expr.Value) (body : stmt.Action) (k : List Todo) (env : Env) (head : ℕ) → LoopAt code nl room env head (a_loop test behind body) → IsAt code nl room env k (loop_end head test body behind) [] → (e : Env) × IsAt code nl room e (tested_by test (a_loop test behind body) k) head []
   tested_at None behind body k env head h is =
       let e : head + 0 ≡ head = omega arith in
-      let inner = in_loop env (loop_again head None body) (loop_end head None body behind) in
-      (inner, moved choices code nl room inner (ToExec body ∷ ToAgain (a_loop None behind body) ∷ k) _ _ [] e
-      (refl, h.1, (env, head, refl, h, refl, refl, refl, λ l. refl, is)))
+      let inner = in_loop env (loop_again head None body) (loop_end head None body behind) in (
+        inner,
+        moved choices code nl room inner (ToExec body ∷ ToAgain (a_loop None behind body) ∷ k) _ _ [] e
+            (refl, h.1, (env, head, refl, h, refl, refl, refl, λ l. refl, is)),
+      )
   tested_at (Some c) behind body k env head h is =
       (env, eval_at choices code nl room c (ToTurn (a_loop (Some c) behind body) ∷ k) env head h.0.0 [] h.0.1 h.0.2 h.0.3 (head, tt, refl, h.0.4, h, is))
 
@@ -206,10 +208,12 @@ module _ (choices : List Choice) (code : List Line) (nl room : ℕ) where
   pub return_sim : (p : Pos) (k : List Todo) (x : World) (u : List Pos) (l : List Content) (vs : List Value) (env : Env) (pc : ℕ) (ks : List Waiting) (m : Regs) → IsAt code nl room env (ToReturn p ∷ k) pc ks → Match code nl room ks (st x u l vs) m → IsDone choices code nl room (act choices (ToReturn p ∷ k) (st x u l vs)) 0 pc m
   return_sim p k x u l vs env pc [] m h ma = absurd h.0
   return_sim p k x u l [] env pc (q ∷ ks) m h ma = absurd ma.stack
-  return_sim p k x u l (v ∷ vs) env pc (q ∷ ks) m h ma =
-      (1, first choices code nl room pc p (instr.Return (Some (var q.var))) m h.1 0
-      ∙ with_it choices code nl room (content_of (var q.var) m.vars) v p (λ y. over (Returned m.world (Some y) p m.used)) ma.stack.0
-      ∙ returns_so x u (Some v) p m ma.world ma.used)
+  return_sim p k x u l (v ∷ vs) env pc (q ∷ ks) m h ma = (
+    1,
+    first choices code nl room pc p (instr.Return (Some (var q.var))) m h.1 0
+        ∙ with_it choices code nl room (content_of (var q.var) m.vars) v p (λ y. over (Returned m.world (Some y) p m.used)) ma.stack.0
+        ∙ returns_so x u (Some v) p m ma.world ma.used,
+  )
 
   pub end_sim : (p : Pos) (v : Bool) (k : List Todo) (s : State) (env : Env) (pc : ℕ) (ks : List Waiting) (m : Regs) → IsAt code nl room env (ToEnd p v ∷ k) pc ks → Match code nl room ks s m → IsDone choices code nl room (act choices (ToEnd p v ∷ k) s) 0 pc m
   end_sim p true k s env pc ks m h ma = (1, first choices code nl room pc p (instr.Return None) m h.4 0 ∙ returns_so s.world s.used None p m ma.world ma.used)

@@ -139,9 +139,10 @@ module _ (choices : List Choice) (code : List Line) (nl room : ℕ) where
   -- where a `switch` goes on
   entered_at : (o : Option ℕ) (k : List Todo) (env : Env) (list : List stmt.Action) (first n end : ℕ) → Found (in_block (in_switch env end) first list) list end o n end → ListAt code nl room (in_block (in_switch env end) first list) first list end → IsAt code nl room env k end [] → (e : Env) × IsAt code nl room e (enter_at list o k) n []
   entered_at None k env list first n end f h is = (env, moved choices code nl room env k end n [] (sym f) is)
-  entered_at (Some j) k env list first n end f h is =
-      (in_block (in_switch env end) first list,
-      (in_switch env end, end, refl, f, record { first = first; list = h; breaks = refl; continues = refl; labels = λ l. refl }, (env, refl, refl, refl, λ l. refl, is)))
+  entered_at (Some j) k env list first n end f h is = (
+    in_block (in_switch env end) first list,
+    (in_switch env end, end, refl, f, record { first = first; list = h; breaks = refl; continues = refl; labels = λ l. refl }, (env, refl, refl, refl, λ l. refl, is)),
+  )
 
   ahead_sum : (a b j : ℕ) → ahead (a + b) j ≡ ahead a (ahead b j)
   ahead_sum a b j = ahead_is (a + b) j ∙ both ∙ sym (ahead_is a (ahead b j))

@@ -14,5 +14,4 @@ pub fn layout_is_alike(f: &Function)
     requires sound { IsStmtSound (locals_of (function_view f.now).body) (function_view f.now).body }
     requires nodes { 5 * stmt_nodes (function_view f.now).body ≤ 65536 }
     ensures { Behaves (function_view f.now) (body_code (function_view f.now)) (locals_of (function_view f.now).body + temps_of (function_view f.now)) 65536 }
-{
-}
+{}

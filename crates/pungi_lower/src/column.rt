@@ -66,13 +66,7 @@ pub fn value_column(node: &Node) -> u32
     ensures low { result < 5 }
 {
     match &node.node {
-        ValueNode::Constant(n) => {
-            if fits(ValueKind::Int, *n) {
-                0
-            } else {
-                1
-            }
-        }
+        ValueNode::Constant(n) => { if fits(ValueKind::Int, *n) { 0 } else { 1 } }
         ValueNode::Text(_) | ValueNode::Module(_) => 3,
         ValueNode::Null | ValueNode::Static(_) => 4,
         ValueNode::Read(kind, _) => column(*kind),

@@ -67,14 +67,14 @@ pub fn value_size(node: &Node) -> u32
         ValueNode::Computed(_, _, a, b) => value_size(a) + value_size(b) + 1,
         ValueNode::Compared(_, a, b) => value_size(a) + value_size(b) + 1,
         ValueNode::Joined(_, a, b) => 1 + value_size(a) + 1 + value_size(b) + 2,
-        ValueNode::Stored(_, place, part) => place_size(place) + value_size(part) + store_size(place),
+        ValueNode::Stored(_, place, part) => place_size(place)
+            + value_size(part)
+            + store_size(place),
         ValueNode::Updated(_, counted, kind, place, part) => {
             let fit = fit_size(*kind, *counted);
             place_size(place) + 1 + value_size(part) + 1 + fit + store_size(place)
         }
-        ValueNode::Chosen(c, a, b) => {
-            value_size(c) + 1 + value_size(a) + 1 + value_size(b)
-        }
+        ValueNode::Chosen(c, a, b) => { value_size(c) + 1 + value_size(a) + 1 + value_size(b) }
         ValueNode::Converted(_, part) => value_size(part) + 1,
         ValueNode::Cast(part) => value_size(part),
         ValueNode::Dropped(part) => value_size(part),
