@@ -6,6 +6,7 @@ mod Euclid
 mod Exact
 mod Extends
 mod Fills
+mod Images
 mod Insert
 mod Large
 mod LargeRows

@@ -7,6 +7,8 @@ pub mod WideForms
 pub mod Mixes
 pub mod Meets
 pub mod States
+pub mod SpanLaws
 pub mod Adds
 pub mod Sums
 pub mod Units
+pub mod Images

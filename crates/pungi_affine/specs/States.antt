@@ -1,5 +1,6 @@
 -- What contracts see of a span: its width, the scale, and the scaled rows with their pivots.
 --   SpanState            these three
+--   span_rank s          how many rows it has
 --   SpanMember s v       v is a vector of the span
 --   IsKept w d ls        the rows are the reduced form with the least scale, in the order of the pivots; there are at most 256
 --                        coordinates, not fewer than rows, and no entry is over 2^31 in absolute value
@@ -12,6 +13,9 @@ pub record SpanState : Type 0 where
   pub width : ℕ
   pub scale : ℤ
   pub lines : List Line
+
+abbrev pub span_rank : SpanState → ℕ
+span_rank s = length s.lines
 
 abbrev pub SpanMember : SpanState → Vector → Type 0
 SpanMember s v = InSpan s.width (vectors s.lines) v

@@ -6,6 +6,7 @@ mod add;
 mod divisor;
 mod extend;
 mod form;
+mod image;
 mod meet;
 mod part;
 mod reduce;

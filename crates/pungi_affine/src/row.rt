@@ -12,7 +12,7 @@ pub(crate) struct Row {
 }
 
 /// A coefficient times an entry.
-fn product(a: i64, b: i64) -> i128
+pub(crate) fn product(a: i64, b: i64) -> i128
     requires { IsBox b }
     ensures value { result ≡ a *ℤ b }
     ensures within { IsWithin (2 ^ 94) result }

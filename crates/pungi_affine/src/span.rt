@@ -4,14 +4,17 @@ ghost use Rattle.pungi_domain.specs.Domain.{RangeIs};
 ghost use Rattle.pungi_domain.specs.Spans.{Never, Plus, LargeSum, LargeFree, LargeMeet, LargeGrow};
 ghost use Rattle.pungi_affine.specs.Spans.{IsDimension, SameMembers};
 ghost use Rattle.pungi_affine.specs.Forms.{lines, WithinBox, line_of};
-ghost use Rattle.pungi_affine.specs.States.{SpanMember};
+ghost use Rattle.pungi_affine.specs.States.{SpanMember, span_rank};
+ghost use Rattle.pungi_affine.specs.SpanLaws.{span_same, span_zero, span_sum};
+ghost use Rattle.std.proofs.Common.{refl};
 
 use crate::add::with_vector;
+use crate::image::mapped;
 use crate::meet::met;
 use crate::row::{Row, rows_meet};
 use crate::sum::{Grown, with_span};
 use crate::unit::{freed, whole};
-use pungi_domain::{DomainFault, Equation};
+use pungi_domain::{Domain, DomainFault, Equation, LeastDomain, Matrix};
 use std::alloc::Global;
 use std::marker::Model;
 
@@ -125,11 +128,12 @@ impl Span {
         ensures taken { OnOk result ((v : Vector) → SpanMember from.now v → SpanMember self.new v) }
         ensures unchanged { result ≡ Ok false → self.new ≡ self.old }
         ensures rose { result ≡ Ok true → length self.old.lines < length self.new.lines }
+        ensures bounded { length self.new.lines ≤ self.new.width }
         ensures least { OnOk result (Follows self.old.width (Either (SpanMember self.old) (SpanMember from.now)) (SpanMember self.new)) }
         ensures range { RangeIs true (LargeGrow self.old.width (SpanMember self.old) (SpanMember from.now)) result }
         ensures err { OnErr result (self.new ≡ self.old) }
     {
-        prove!(from.width <= 256);
+        prove!(self.width <= 256 && from.width <= 256);
         let Grown { span, changed } = with_span(alloc, self, from)?;
         *self = span;
         Ok(changed)
@@ -168,4 +172,58 @@ impl Span {
     {
         rows_meet(self.rows.as_slice(), equation.coefficients.as_slice())
     }
+}
+
+impl Domain for Span {
+    ghost least = { true };
+
+    ghost width_of = { λ s. s.width };
+
+    ghost member = { SpanMember };
+
+    ghost rank = { span_rank };
+
+    fn none(alloc: Global, width: u32) -> Result<Span, DomainFault> {
+        let span = Span::none(alloc, width)?;
+        Ok(span)
+    }
+
+    fn any(alloc: Global, width: u32) -> Result<Span, DomainFault> {
+        Span::any(alloc, width)
+    }
+
+    fn copy(&self, alloc: Global) -> Result<Span, DomainFault> {
+        Span::copy(self, alloc)
+    }
+
+    fn grow(&mut self, alloc: Global, from: &Span) -> Result<bool, DomainFault> {
+        Span::grow(self, alloc, from)
+    }
+
+    fn map(&self, alloc: Global, matrix: &Matrix) -> Result<Span, DomainFault> {
+        mapped(alloc, self, matrix)
+    }
+
+    fn free(&self, alloc: Global, coordinate: u32) -> Result<Span, DomainFault> {
+        Span::free(self, alloc, coordinate)
+    }
+
+    fn meet(&self, alloc: Global, equation: &Equation) -> Result<Span, DomainFault> {
+        let span = Span::meet(self, alloc, equation)?;
+        Ok(span)
+    }
+
+    fn holds(&self, equation: &Equation) -> bool {
+        Span::holds(self, equation)
+    }
+
+    ghost same = { span_same };
+
+    ghost zero = { span_zero };
+
+    ghost sum = { span_sum };
+}
+
+impl LeastDomain for Span {
+    ghost is_least = { refl };
 }
