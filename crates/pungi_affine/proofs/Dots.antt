@@ -1,9 +1,9 @@
 -- Sums of coefficients times coordinates.
-use Rattle.std.proofs.Common.{inl, inr, ◌≡◌, ◌∙◌, ◌≤◌, ℕ, zero, suc, ◌+◌, ◌<◌, ℤ, pos, ◌+ℤ◌, ◌*ℤ◌, List, [], ◌∷◌, length, take, refl, ap, arith}
+use Rattle.std.proofs.Common.{inl, inr, ◌≡◌, ◌∙◌, ◌≤◌, ℕ, zero, suc, ◌+◌, ◌*◌, ◌<◌, ◌^◌, ℤ, pos, ◌+ℤ◌, ◌*ℤ◌, List, [], ◌∷◌, length, take, refl, sym, ap, subst, arith}
 use Rattle.std.proofs.lemmas.Int.{ints}
 use Rattle.std.specs.List.{All}
 use Rattle.std.proofs.lemmas.List.Elements.{All-drop}
-use Rattle.pungi_domain.specs.Vectors.{Vector, at, dot}
+use Rattle.pungi_domain.specs.Vectors.{Vector, at, dot, IsWithin}
 use Rattle.pungi_affine.specs.Spans.{comb, InSpan}
 use Rattle.pungi_domain.specs.Ring.{mul_comm, mul_add, mul_swap, mul_zero, product_zero}
 
@@ -34,7 +34,7 @@ dot_sum (c ∷ e) a b u v =
 zero_mul : (a : ℤ) → pos 0 *ℤ a ≡ pos 0
 zero_mul a = mul_comm (pos 0) a ∙ mul_zero a
 
-dot_zero : (es : List ℤ) → dot es (λ i. pos 0) ≡ pos 0
+pub dot_zero : (es : List ℤ) → dot es (λ i. pos 0) ≡ pos 0
 dot_zero [] = refl
 dot_zero (e ∷ es) = (let h = dot_zero es in let z = mul_zero e in omega (arith, ints, h, z))
 
@@ -57,3 +57,11 @@ member_meets w es vs v le h p =
     let z = zero_mul (dot es v) in
     let e : p.times *ℤ dot es v ≡ pos 0 = omega (arith, ints, a, b, c, z) in
     elim (product_zero p.times (dot es v) e) [ inl y ↦ absurd (p.not_zero y) | inr y ↦ y ]
+
+-- one more coordinate, of which only the leading one has a large coefficient
+tight_sum : (e : List ℤ) (v : Vector) (i : ℕ) (sum term : ℤ) → sum ≡ dot (take i e) v → IsWithin (2 ^ 94 + i * 2 ^ 51) sum → IsWithin (2 ^ 94) term → (0 < i → IsWithin (2 ^ 51) term) → IsWithin (2 ^ 94 + (i + 1) * 2 ^ 51) (sum +ℤ term)
+tight_sum e v zero sum term is s t n = (let a = t.0 in omega (arith, ints, is, a), let b = t.1 in omega (arith, ints, is, b))
+tight_sum e v (suc i) sum term is s t n = (let a = s.0 in let b = (n (omega arith)).0 in omega (arith, ints, a, b), let a = s.1 in let b = (n (omega arith)).1 in omega (arith, ints, a, b))
+
+pub tight_more : (e : List ℤ) (v : Vector) (i : ℕ) (sum term z : ℤ) → sum ≡ dot (take i e) v → IsWithin (2 ^ 94 + i * 2 ^ 51) sum → IsWithin (2 ^ 94) term → (0 < i → IsWithin (2 ^ 51) term) → z ≡ sum +ℤ term → IsWithin (2 ^ 94 + (i + 1) * 2 ^ 51) z
+tight_more e v i sum term z is s t n same = subst (λ (y : ℤ). IsWithin (2 ^ 94 + (i + 1) * 2 ^ 51) y) (sym same) (tight_sum e v i sum term is s t n)

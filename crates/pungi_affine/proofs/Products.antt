@@ -1,10 +1,12 @@
 -- How large products are.
-use Rattle.std.proofs.Common.{ℕ, ◌*◌, ◌≤◌, ◌^◌, ℤ, pos, negsuc, ◌*ℤ◌, arith}
+use Rattle.std.proofs.Common.{ℕ, ◌*◌, ◌<◌, ◌≤◌, ◌^◌, ℤ, pos, negsuc, ◌*ℤ◌, arith}
 use Rattle.std.proofs.lemmas.Int.{ints, unsigned_abs-mul}
 use Rattle.std.specs.Int.RustNames.{unsigned_abs}
 use mir.Syntax.{w64, w128}
 use mir.Val.{SFits}
 use Rattle.pungi_domain.specs.Vectors.{IsWithin}
+use Rattle.pungi_affine.specs.Forms.{IsBox}
+use Rattle.pungi_affine.specs.Parts.{IsLong}
 
 pub abs_bound : (k : ℕ) (z : ℤ) → IsWithin k z → unsigned_abs z ≤ k
 abs_bound k (pos n) h = (let a = h.0 in omega (arith, ints, a))
@@ -28,3 +30,12 @@ wide a h = grind (arith, ints, h)
 
 pub within_fits : (a : ℤ) → IsWithin (2 ^ 94) a → SFits w128 a
 within_fits a h = grind (arith, ints, h)
+
+pub long_fits : (z : ℤ) → IsLong z → SFits w128 z
+long_fits z h = grind (arith, ints, h)
+
+pub fits_of : (n : ℕ) (z : ℤ) → n < 2 ^ 127 → IsWithin n z → SFits w128 z
+fits_of n z lt h = (let a = h.0 in let b = h.1 in grind (arith, ints, lt, a, b))
+
+pub box_fits : (z : ℤ) → IsBox z → SFits w64 z
+box_fits z h = (let a = h.0 in let b = h.1 in grind (arith, ints, a, b))

@@ -18,7 +18,7 @@ zero_mul a = mul_comm (pos 0) a ∙ mul_zero a
 pub neg_mul : (a b : ℤ) → neg_ℤ a *ℤ b ≡ neg_ℤ (a *ℤ b)
 neg_mul a b = (let e = sub_mul (pos 0) a b in let z = zero_mul b in let f : (pos 0 -ℤ a) *ℤ b ≡ neg_ℤ a *ℤ b = ap (λ y. y *ℤ b) (omega (arith, ints)) in omega (arith, ints, e, z, f))
 
-divides_le : (d e c : ℤ) → pos 0 <ℤ d → pos 0 <ℤ e → e ≡ d *ℤ c → d ≤ℤ e
+pub divides_le : (d e c : ℤ) → pos 0 <ℤ d → pos 0 <ℤ e → e ≡ d *ℤ c → d ≤ℤ e
 divides_le (negsuc n) e c p q h = absurd (omega (arith, ints, p))
 divides_le (pos m) e (negsuc k) p q h = absurd (omega (arith, ints, p, q, h))
 divides_le (pos m) e (pos zero) p q h = absurd (omega (arith, ints, q, h))

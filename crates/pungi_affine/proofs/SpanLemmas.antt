@@ -20,6 +20,7 @@ none_kept w le = record {
     others = λ j k lt. absurd (omega (arith, lt));
     before = λ k i lt. absurd (omega (arith, lt));
   };
+  order = λ j k lt k_lt. absurd (omega (arith, k_lt));
   coprime = λ m e h all. record { by = h.by; is = (let x = h.is in omega (arith, ints, x)) };
   scale = (omega (arith, ints), omega (arith, ints));
   widths = λ k lt. absurd (omega (arith, lt));

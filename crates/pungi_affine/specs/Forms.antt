@@ -5,6 +5,7 @@
 --   vectors ls          their entries
 --   fill v ls i         what the rows make of v's entries at the pivots
 --   IsForm w d ls       each row is d at its own pivot, and 0 at the others and before its own
+--   IsOrdered ls        the pivots ascend
 --   IsCoprime w d ls    what divides the e-fold of d and of all entries divides e
 --   line_of r, lines rs the kept rows as lines
 --   IsBox z             z is at most 2^31 in absolute value
@@ -38,6 +39,9 @@ pub record IsForm (w : ℕ) (d : ℤ) (ls : List Line) : Type 0 where
   pub own : (k : ℕ) → k < length ls → at (line ls k).entries (line ls k).pivot ≡ d
   pub others : (j k : ℕ) → j < length ls → k < length ls → (j ≡ k → ⊥) → at (line ls k).entries (line ls j).pivot ≡ pos 0
   pub before : (k i : ℕ) → k < length ls → i < (line ls k).pivot → at (line ls k).entries i ≡ pos 0
+
+abbrev pub IsOrdered : List Line → Type 0
+IsOrdered ls = (j k : ℕ) → j < k → k < length ls → (line ls j).pivot < (line ls k).pivot
 
 abbrev pub IsCoprime : ℕ → ℤ → List Line → Type 0
 IsCoprime w d ls = (m e : ℤ) → Divides m (e *ℤ d) → ((k i : ℕ) → k < length ls → i < w → Divides m (e *ℤ at (line ls k).entries i)) → Divides m e

@@ -1,3 +1,14 @@
 pub mod Spans
 pub mod Forms
+pub mod Steps
+pub mod Divisors
+pub mod Parts
+pub mod WideForms
+pub mod Mixes
+pub mod Meets
 pub mod States
+pub mod SpanLaws
+pub mod Adds
+pub mod Sums
+pub mod Units
+pub mod Images

@@ -2,6 +2,7 @@
 ghost use Rattle.std.specs.Prelude.{◌≡◌, ℕ, ◌<◌, ◌≤◌, ◌^◌, ℤ, pos, ◌*ℤ◌, true, false, length};
 ghost use Rattle.pungi_domain.specs.Vectors.{at, dot, IsWithin};
 ghost use Rattle.pungi_affine.specs.Forms.{line, lines, IsBox, WithinBox};
+ghost use Rattle.pungi_affine.specs.Mixes.{IsNarrow, IsWide};
 
 /// A kept row, with its pivot.
 #[derive(Debug, Drop)]
@@ -11,7 +12,7 @@ pub(crate) struct Row {
 }
 
 /// A coefficient times an entry.
-fn product(a: i64, b: i64) -> i128
+pub(crate) fn product(a: i64, b: i64) -> i128
     requires { IsBox b }
     ensures value { result ≡ a *ℤ b }
     ensures within { IsWithin (2 ^ 94) result }
@@ -30,11 +31,12 @@ fn term(entries: &[i64], coefficients: &[i64], i: usize) -> i128
 }
 
 /// The coefficients times the entries, summed up.
-fn dot_product(entries: &[i64], coefficients: &[i64]) -> i128
+pub(crate) fn dot_product(entries: &[i64], coefficients: &[i64]) -> i128
     requires width { length coefficients.now ≡ length entries.now }
     requires narrow { length entries.now ≤ 256 }
     requires small { WithinBox entries.now }
-    ensures { result ≡ dot coefficients.now (at entries.now) }
+    ensures value { result ≡ dot coefficients.now (at entries.now) }
+    ensures wide { IsNarrow coefficients.now → IsWide result }
 {
     let mut sum = 0i128;
     for i in 0..entries.len() {

@@ -1,0 +1,96 @@
+//! What is left of a vector without the rows of a span.
+ghost use Rattle.std.specs.Prelude.{◌≡◌, ℕ, ◌<◌, ◌≤◌, ◌^◌, ℤ, pos, ◌*ℤ◌, length, IfOk};
+ghost use Rattle.pungi_domain.specs.Vectors.{at, IsWithin};
+ghost use Rattle.pungi_affine.specs.Forms.{line, lines, fill, IsBox, WithinBox};
+ghost use Rattle.pungi_affine.specs.Steps.{residual};
+ghost use Rattle.pungi_affine.specs.Mixes.{IsResidual};
+
+use crate::row::Row;
+use std::alloc::{AllocError, Global};
+
+/// A product of numbers up to 2^31.
+fn small_product(a: i64, b: i64) -> i128
+    requires a { IsBox a }
+    requires b { IsBox b }
+    ensures value { result ≡ a *ℤ b }
+    ensures within { IsWithin (2 ^ 62) result }
+{
+    i128::from(a) * i128::from(b)
+}
+
+/// What a row adds at a coordinate.
+fn share(v: &[i64], row: &Row, i: usize) -> i128
+    requires within { (row.now.pivot < length v.now) × (i < length row.now.entries.items) }
+    requires v { IsBox (at v.now row.now.pivot) }
+    requires row { IsBox (at row.now.entries.items i) }
+    ensures value { result ≡ at v.now row.now.pivot *ℤ at row.now.entries.items i }
+    ensures within { IsWithin (2 ^ 62) result }
+{
+    small_product(v[row.pivot as usize], row.entries[i])
+}
+
+/// What the rows make of v's entries at the pivots, at a coordinate.
+fn filled(rows: &[Row], v: &[i64], i: usize) -> i128
+    requires few { length rows.now ≤ 256 }
+    requires i { i < length v.now }
+    requires v { WithinBox v.now }
+    requires pivots { (k : ℕ) → k < length (lines rows.now) → (line (lines rows.now) k).pivot < length v.now }
+    requires widths { (k : ℕ) → k < length (lines rows.now) → length (line (lines rows.now) k).entries ≡ length v.now }
+    requires rows { (k : ℕ) → k < length (lines rows.now) → WithinBox (line (lines rows.now) k).entries }
+    ensures value { result ≡ fill (at v.now) (lines rows.now) i }
+    ensures within { IsWithin (2 ^ 70) result }
+{
+    let mut sum = 0i128;
+    for row in rows {
+        sum += share(v, row, i);
+    }
+    sum
+}
+
+/// The d-fold of v's entry at a coordinate.
+fn scaled(d: i64, v: &[i64], i: usize) -> i128
+    requires within { i < length v.now }
+    requires d { IsBox d }
+    requires v { IsBox (at v.now i) }
+    ensures value { result ≡ d *ℤ at v.now i }
+    ensures within { IsWithin (2 ^ 62) result }
+{
+    small_product(d, v[i])
+}
+
+/// What is left of the d-fold of v without the rows, at a coordinate.
+fn residual_entry(d: i64, rows: &[Row], v: &[i64], i: usize) -> i128
+    requires d { IsBox d }
+    requires few { length rows.now ≤ 256 }
+    requires i { i < length v.now }
+    requires v { WithinBox v.now }
+    requires pivots { (k : ℕ) → k < length (lines rows.now) → (line (lines rows.now) k).pivot < length v.now }
+    requires widths { (k : ℕ) → k < length (lines rows.now) → length (line (lines rows.now) k).entries ≡ length v.now }
+    requires rows { (k : ℕ) → k < length (lines rows.now) → WithinBox (line (lines rows.now) k).entries }
+    ensures value { result ≡ residual d (lines rows.now) (at v.now) i }
+    ensures within { IsWithin (2 ^ 71) result }
+{
+    scaled(d, v, i) - filled(rows, v, i)
+}
+
+/// What is left of the d-fold of v without the rows.
+pub(crate) fn left_over(
+    alloc: Global,
+    d: i64,
+    rows: &[Row],
+    v: &[i64],
+) -> Result<Vec<i128>, AllocError>
+    requires d { IsBox d }
+    requires few { length rows.now ≤ 256 }
+    requires v { WithinBox v.now }
+    requires pivots { (k : ℕ) → k < length (lines rows.now) → (line (lines rows.now) k).pivot < length v.now }
+    requires widths { (k : ℕ) → k < length (lines rows.now) → length (line (lines rows.now) k).entries ≡ length v.now }
+    requires rows { (k : ℕ) → k < length (lines rows.now) → WithinBox (line (lines rows.now) k).entries }
+    ensures { IfOk result (λ u. IsResidual d (lines rows.now) v.now u.items) }
+{
+    let mut left = Vec::with_capacity(alloc, v.len())?;
+    for i in 0..v.len() {
+        left.push(residual_entry(d, rows, v, i))?;
+    }
+    Ok(left)
+}

@@ -1,0 +1,93 @@
+//! Adding vectors to a span, one after the other.
+ghost use Rattle.std.specs.Prelude.{◌≡◌, ℕ, ◌<◌, ◌^◌, ℤ, length, map, true, false, IfOk};
+ghost use Rattle.pungi_domain.specs.Vectors.{at, IsWithin};
+ghost use Rattle.pungi_domain.specs.Spans.{LargeSum, LargeSums, LargeGrow};
+ghost use Rattle.pungi_domain.specs.Domain.{RangeIs};
+ghost use Rattle.pungi_affine.specs.Forms.{lines};
+ghost use Rattle.pungi_affine.specs.States.{SpanMember};
+ghost use Rattle.pungi_affine.specs.Sums.{IsStep, IsSum, row_vectors, given_vectors, given_at};
+
+use crate::Span;
+use crate::add::with_vector;
+use crate::row::Row;
+use pungi_domain::DomainFault;
+use std::alloc::{AllocError, Global};
+
+/// A vector to be added.
+#[derive(Debug, Drop)]
+pub(crate) struct Given {
+    pub(crate) entries: Vec<i128>,
+}
+
+/// A span to which vectors were added, and whether that changed it.
+#[derive(Debug, Drop)]
+pub(crate) struct Grown {
+    pub(crate) span: Span,
+    pub(crate) changed: bool,
+}
+
+fn step(alloc: Global, grown: Grown, vector: &Given) -> Result<Grown, DomainFault>
+    requires width { length vector.now.entries.items ≡ grown.span.width }
+    requires within { (i : ℕ) → i < length vector.now.entries.items → IsWithin (2 ^ 126) (at vector.now.entries.items i) }
+    ensures step { IfOk result (λ g. IsStep grown.span grown.changed (at vector.now.entries.items) g.span g.changed) }
+    ensures range { RangeIs true (LargeSum grown.span.width (SpanMember grown.span) (at vector.now.entries.items)) result }
+{
+    let more = with_vector(alloc, &grown.span, vector.entries.as_slice())?;
+    let Some(span) = more else {
+        return Ok(grown);
+    };
+    Ok(Grown {
+        span,
+        changed: true,
+    })
+}
+
+/// The span with the vectors added in order.
+pub(crate) fn with_all(alloc: Global, span: Span, vectors: &[Given]) -> Result<Grown, DomainFault>
+    requires widths { (k : ℕ) → k < length vectors.now → length (given_at vectors.now k) ≡ span.width }
+    requires within { (k : ℕ) → k < length vectors.now → (i : ℕ) → i < length (given_at vectors.now k) → IsWithin (2 ^ 126) (at (given_at vectors.now k) i) }
+    ensures sum { IfOk result (λ g. IsSum span (given_vectors vectors.now) g.span g.changed) }
+    ensures range { RangeIs true (LargeSums span.width (SpanMember span) (given_vectors vectors.now)) result }
+{
+    let mut grown = Grown {
+        span,
+        changed: false,
+    };
+    for vector in vectors {
+        grown = step(alloc, grown, vector)?;
+    }
+    Ok(grown)
+}
+
+pub(crate) fn widened(alloc: Global, row: &Row) -> Result<Given, AllocError>
+    ensures { IfOk result (λ g. g.entries.items ≡ row.now.entries.items) }
+{
+    let mut entries = Vec::with_capacity(alloc, row.entries.len())?;
+    let kept = row.entries.as_slice();
+    for i in 0..kept.len() {
+        entries.push(i128::from(kept[i]))?;
+    }
+    Ok(Given { entries })
+}
+
+/// The rows of a span as vectors to be added.
+pub(crate) fn widened_rows(alloc: Global, rows: &[Row]) -> Result<Vec<Given>, AllocError>
+    ensures { IfOk result (λ v. map (λ g. g.entries.items) v.items ≡ map (λ l. l.entries) (lines rows.now)) }
+{
+    let mut given = Vec::new(alloc);
+    for row in rows {
+        given.push(widened(alloc, row)?)?;
+    }
+    Ok(given)
+}
+
+/// The span with the rows of another one.
+pub(crate) fn with_span(alloc: Global, span: &Span, from: &Span) -> Result<Grown, DomainFault>
+    requires { from.now.width ≡ span.now.width }
+    ensures sum { IfOk result (λ g. IsSum span.now (row_vectors from.now.lines) g.span g.changed) }
+    ensures range { RangeIs true (LargeGrow span.now.width (SpanMember span.now) (SpanMember from.now)) result }
+{
+    let vectors = widened_rows(alloc, from.rows.as_slice())?;
+    let start = span.copy(alloc)?;
+    with_all(alloc, start, vectors.as_slice())
+}
