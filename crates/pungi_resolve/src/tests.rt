@@ -2,7 +2,7 @@ use crate::action_nodes::{at_case, block_of, leave};
 use crate::resolve_unit;
 use pungi_api::Table;
 use pungi_base::{Key, Memory, Name, Names, Pos};
-use pungi_check::{UnitFault, check};
+use pungi_check::{Checked, UnitFault, check};
 use pungi_resolved::{Action, ActionNode, Function};
 use pungi_tree::{Base, FunctionDef, Item, Params, Spec, Stmt, StmtNode, Unit};
 use std::alloc::Global;
@@ -45,15 +45,20 @@ fn a_case_is_made_of_any_constant_of_a_kind(rt: HostRuntime) -> Result<(), Fail>
     Ok(())
 }
 
-/// `void NAME(void) STATEMENT`.
-fn void_function(alloc: Global, name: u32, node: StmtNode) -> Result<FunctionDef, Memory> {
-    Ok(FunctionDef {
+fn void_spec(alloc: Global) -> Result<Spec, Memory> {
+    let words = vec![in alloc; Key::Void]?;
+    Ok(Spec {
+        pos: HERE,
+        base: Base::Words(words),
+        consts: 0,
+    })
+}
+
+/// `void NAME(void) { }`.
+fn empty_function(alloc: Global, spec: Spec, name: u32) -> FunctionDef {
+    FunctionDef {
         quals: Vec::new(alloc),
-        result: Spec {
-            pos: HERE,
-            base: Base::Words(vec![in alloc; Key::Void]?),
-            consts: 0,
-        },
+        result: spec,
         stars: Vec::new(alloc),
         name: Name(name),
         pos: HERE,
@@ -62,25 +67,29 @@ fn void_function(alloc: Global, name: u32, node: StmtNode) -> Result<FunctionDef
             void: true,
             dots: None,
         },
-        body: Stmt { pos: HERE, node },
-    })
+        body: Stmt {
+            pos: HERE,
+            node: StmtNode::Block(Vec::new(alloc), HERE),
+        },
+    }
 }
 
-/// What the functions of a unit do: `void NAME(void) { }`, and one of the next name that breaks out of nothing.
-fn resolved(alloc: Global, name: u32) -> Result<Vec<Option<Function>>, UnitFault> {
-    let names = Names::builtin(alloc)?;
-    let stop = Stmt {
-        pos: HERE,
-        node: StmtNode::Break,
-    };
-    let breaking = StmtNode::Block(vec![in alloc; stop]?, HERE);
-    let second = void_function(alloc, name.saturating_add(1), breaking)?;
-    let first = void_function(alloc, name, StmtNode::Block(Vec::new(alloc), HERE))?;
+fn unit_of(alloc: Global, f: FunctionDef) -> Result<Unit, Memory> {
     let mut items = Vec::new(alloc);
-    items.push(Item::Function(first))?;
-    items.push(Item::Function(second))?;
-    let checked = check(alloc, &names, Unit { items }, Table::builtin(alloc)?)?;
-    Ok(resolve_unit(alloc, &checked)?)
+    items.push(Item::Function(f))?;
+    Ok(Unit { items })
+}
+
+fn unit(alloc: Global, name: u32) -> Result<Unit, Memory> {
+    let spec = void_spec(alloc)?;
+    Ok(unit_of(alloc, empty_function(alloc, spec, name))?)
+}
+
+fn checked(alloc: Global, name: u32) -> Result<Checked, UnitFault> {
+    let names = Names::builtin(alloc)?;
+    let rows = Table::builtin(alloc)?;
+    let unit = unit(alloc, name)?;
+    Ok(check(alloc, &names, unit, rows)?)
 }
 
 fn is_resolved(function: &Option<Function>, name: u32) -> bool {
@@ -90,13 +99,17 @@ fn is_resolved(function: &Option<Function>, name: u32) -> bool {
     }
 }
 
+/// Whether the one function of a unit is resolved.
+fn resolves(alloc: Global, checked: &Checked, name: u32) -> Result<bool, Memory> {
+    let functions = resolve_unit(alloc, checked)?;
+    Ok(functions.len() == 1 && is_resolved(&functions[0], name))
+}
+
 #[test]
 fn what_is_not_refused_is_resolved(rt: HostRuntime) -> Result<(), Fail> {
-    match resolved(rt.alloc(), 5000) {
-        Ok(functions) => {
-            assert!(rt; functions.len() == 2);
-            assert!(rt; is_resolved(&functions[0], 5000));
-            assert!(rt; functions[1].is_none());
+    match checked(rt.alloc(), 5000) {
+        Ok(checked) => {
+            assert!(rt; resolves(rt.alloc(), &checked, 5000)?);
         }
         Err(_) => panic!(rt; "the unit is refused"),
     }
