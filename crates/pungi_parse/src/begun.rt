@@ -1,14 +1,22 @@
 use pungi_base::{Name, Pos};
 use pungi_tree::{Expr, ForStart, Stmt};
 
+/// What stands between the parentheses of a `for`.
+#[derive(Drop)]
+pub(crate) struct ForHead {
+    pub(crate) start: ForStart,
+    pub(crate) test: Option<Box<Expr>>,
+    pub(crate) step: Option<Box<Expr>>,
+}
+
 /// What stands in front of the one statement that is the body of another one.
 #[derive(Drop)]
 pub(crate) enum StmtHead {
-    While(Expr),
+    While(Box<Expr>),
     Do,
-    For(ForStart, Option<Expr>, Option<Expr>),
-    Switch(Expr),
-    Case(Expr),
+    For(Box<ForHead>),
+    Switch(Box<Expr>),
+    Case(Box<Expr>),
     Default,
     Label(Name),
 }
@@ -17,8 +25,8 @@ pub(crate) enum StmtHead {
 #[derive(Drop)]
 pub(crate) enum Begun {
     /// One that holds no other one.
-    Whole(Stmt),
+    Whole(Box<Stmt>),
     Block(Pos),
-    If(Pos, Expr),
+    If(Pos, Box<Expr>),
     Before(Pos, StmtHead),
 }

@@ -29,7 +29,7 @@ impl Parser<'_> {
             return Ok((Init::Table(found), rest));
         }
         let (e, _, rest) = self.expr(1, tokens)?;
-        Ok((Init::Value(e), rest))
+        Ok((Init::Value(Box::into_inner(e)), rest))
     }
 
     /// The first value of a variable with its `=`, where it has one.

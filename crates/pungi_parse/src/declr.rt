@@ -130,6 +130,6 @@ impl Parser<'_> {
         let Some((_, rest)) = eat(Punct::RightBracket, rest) else {
             return Err(Stop::NothingRead);
         };
-        Ok((Some(e), depth, rest))
+        Ok((Some(Box::into_inner(e)), depth, rest))
     }
 }

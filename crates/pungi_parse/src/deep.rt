@@ -5,10 +5,10 @@ ghost use Rattle.pungi_tree.specs.Placed.{placed};
 use pungi_base::{Kind, Pos, Punct, Token};
 
 /// How many brackets may be open at a time.
-const MOST_BRACKETS: usize = 64;
+pub(crate) const MOST_BRACKETS: usize = 64;
 
 /// How many brackets are open behind a token. One that closes without one that opened changes nothing.
-fn brackets_after(before: usize, kind: Kind) -> usize
+pub(crate) fn brackets_after(before: usize, kind: Kind) -> usize
     requires { before < 2 ^ 32 }
     ensures { result ≡ brackets_after_of before kind }
 {

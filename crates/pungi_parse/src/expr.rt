@@ -18,10 +18,10 @@ use pungi_tree::Expr;
 impl Parser<'_> {
     /// The expression of a level at the front (C11 6.5).
     #[cycle(parts)]
-    pub(crate) fn expr<'t>(&self, level: u32, tokens: &'t [Token]) -> Read<'t, Expr>
-        ensures tree { Gives (λ x. (expr_view x.0, placed x.2.now)) result
+    pub(crate) fn expr<'t>(&self, level: u32, tokens: &'t [Token]) -> Read<'t, Box<Expr>>
+        ensures tree { Gives (λ x. (expr_view x.0.value, placed x.2.now)) result
             ((readers self.now.types.now self.now.nest self.now.most).expr level (placed tokens.now)) }
-        ensures deep { IfOk result (λ x. x.1 ≡ expr_depth (expr_view x.0)) }
+        ensures deep { IfOk result (λ x. x.1 ≡ expr_depth (expr_view x.0.value)) }
         ensures bound { IfOk result (λ x. x.1 ≤ self.now.most) }
         ensures shorter { IfOk result (λ x. length x.2.now < length tokens.now) }
     {
@@ -42,12 +42,12 @@ impl Parser<'_> {
 
     /// The expression of a level at the front, whose parts may have `most` nodes on a path (C11 6.5).
     #[cycle(parts)]
-    fn read_at<'t>(&self, level: u32, tokens: &'t [Token]) -> Read<'t, Expr>
+    fn read_at<'t>(&self, level: u32, tokens: &'t [Token]) -> Read<'t, Box<Expr>>
         requires { self.now.most < 2 ^ 32 - 1 }
-        ensures tree { Gives (λ x. (expr_view x.0, placed x.2.now)) result
+        ensures tree { Gives (λ x. (expr_view x.0.value, placed x.2.now)) result
             (read_at_of self.now.types.now (readers self.now.types.now self.now.nest self.now.most)
             (suc self.now.most) level (placed tokens.now)) }
-        ensures deep { IfOk result (λ x. x.1 ≡ expr_depth (expr_view x.0)) }
+        ensures deep { IfOk result (λ x. x.1 ≡ expr_depth (expr_view x.0.value)) }
         ensures bound { IfOk result (λ x. x.1 ≤ suc self.now.most) }
         ensures shorter { IfOk result (λ x. length x.2.now < length tokens.now) }
     {
@@ -67,12 +67,12 @@ impl Parser<'_> {
     /// Expressions with commas between them (C11 6.5.17).
     #[tactic(auto, unfolding(crate::specs::ExprReader::comma_at, crate::specs::Reading::chain))]
     #[cycle(parts)]
-    fn comma<'t>(&self, tokens: &'t [Token]) -> Read<'t, Expr>
+    fn comma<'t>(&self, tokens: &'t [Token]) -> Read<'t, Box<Expr>>
         requires { self.now.most < 2 ^ 32 - 1 }
-        ensures tree { Gives (λ x. (expr_view x.0, placed x.2.now)) result
+        ensures tree { Gives (λ x. (expr_view x.0.value, placed x.2.now)) result
             (comma_at self.now.types.now (readers self.now.types.now self.now.nest self.now.most)
             (suc self.now.most) (placed tokens.now)) }
-        ensures deep { IfOk result (λ x. x.1 ≡ expr_depth (expr_view x.0)) }
+        ensures deep { IfOk result (λ x. x.1 ≡ expr_depth (expr_view x.0.value)) }
         ensures bound { IfOk result (λ x. x.1 ≤ suc self.now.most) }
         ensures shorter { IfOk result (λ x. length x.2.now < length tokens.now) }
     {
@@ -92,12 +92,12 @@ impl Parser<'_> {
     /// An assignment, or what binds tighter (C11 6.5.16).
     #[tactic(auto, unfolding(crate::specs::ExprReader::assign_at, crate::specs::ExprReader::assign_rest, crate::specs::Reading::chain, crate::specs::Reading::on_some, crate::specs::Reading::when))]
     #[cycle(parts)]
-    fn assign<'t>(&self, tokens: &'t [Token]) -> Read<'t, Expr>
+    fn assign<'t>(&self, tokens: &'t [Token]) -> Read<'t, Box<Expr>>
         requires { self.now.most < 2 ^ 32 - 1 }
-        ensures tree { Gives (λ x. (expr_view x.0, placed x.2.now)) result
+        ensures tree { Gives (λ x. (expr_view x.0.value, placed x.2.now)) result
             (assign_at self.now.types.now (readers self.now.types.now self.now.nest self.now.most)
             (suc self.now.most) (placed tokens.now)) }
-        ensures deep { IfOk result (λ x. x.1 ≡ expr_depth (expr_view x.0)) }
+        ensures deep { IfOk result (λ x. x.1 ≡ expr_depth (expr_view x.0.value)) }
         ensures bound { IfOk result (λ x. x.1 ≤ suc self.now.most) }
         ensures shorter { IfOk result (λ x. length x.2.now < length tokens.now) }
     {
@@ -116,12 +116,12 @@ impl Parser<'_> {
     /// A conditional expression, or what binds tighter (C11 6.5.15).
     #[tactic(auto, unfolding(crate::specs::ExprReader::conditional_at, crate::specs::ExprReader::conditional_rest, crate::specs::Reading::chain, crate::specs::Reading::on_some, crate::specs::Reading::when))]
     #[cycle(parts)]
-    fn conditional<'t>(&self, tokens: &'t [Token]) -> Read<'t, Expr>
+    fn conditional<'t>(&self, tokens: &'t [Token]) -> Read<'t, Box<Expr>>
         requires { self.now.most < 2 ^ 32 - 1 }
-        ensures tree { Gives (λ x. (expr_view x.0, placed x.2.now)) result
+        ensures tree { Gives (λ x. (expr_view x.0.value, placed x.2.now)) result
             (conditional_at self.now.types.now (readers self.now.types.now self.now.nest self.now.most)
             (suc self.now.most) (placed tokens.now)) }
-        ensures deep { IfOk result (λ x. x.1 ≡ expr_depth (expr_view x.0)) }
+        ensures deep { IfOk result (λ x. x.1 ≡ expr_depth (expr_view x.0.value)) }
         ensures bound { IfOk result (λ x. x.1 ≤ suc self.now.most) }
         ensures shorter { IfOk result (λ x. length x.2.now < length tokens.now) }
     {
@@ -144,12 +144,12 @@ impl Parser<'_> {
     /// Binary operators of a level and tighter ones, all to the left (C11 6.5.5 to 6.5.14).
     #[tactic(auto, unfolding(crate::specs::ExprReader::climb, crate::specs::Reading::chain))]
     #[cycle(parts)]
-    fn climb<'t>(&self, level: u32, tokens: &'t [Token]) -> Read<'t, Expr>
+    fn climb<'t>(&self, level: u32, tokens: &'t [Token]) -> Read<'t, Box<Expr>>
         requires { self.now.most < 2 ^ 32 - 1 }
-        ensures tree { Gives (λ x. (expr_view x.0, placed x.2.now)) result
+        ensures tree { Gives (λ x. (expr_view x.0.value, placed x.2.now)) result
             (climb_of self.now.types.now (readers self.now.types.now self.now.nest self.now.most)
             (suc self.now.most) level (placed tokens.now)) }
-        ensures deep { IfOk result (λ x. x.1 ≡ expr_depth (expr_view x.0)) }
+        ensures deep { IfOk result (λ x. x.1 ≡ expr_depth (expr_view x.0.value)) }
         ensures bound { IfOk result (λ x. x.1 ≤ suc self.now.most) }
         ensures shorter { IfOk result (λ x. length x.2.now < length tokens.now) }
     {
@@ -169,12 +169,12 @@ impl Parser<'_> {
     /// A cast, or what binds tighter (C11 6.5.4).
     #[tactic(auto, unfolding(crate::specs::ExprReader::casted, crate::specs::Reading::chain, crate::specs::Reading::on_some))]
     #[cycle(parts)]
-    fn casted<'t>(&self, tokens: &'t [Token]) -> Read<'t, Expr>
+    fn casted<'t>(&self, tokens: &'t [Token]) -> Read<'t, Box<Expr>>
         requires { self.now.most < 2 ^ 32 - 1 }
-        ensures tree { Gives (λ x. (expr_view x.0, placed x.2.now)) result
+        ensures tree { Gives (λ x. (expr_view x.0.value, placed x.2.now)) result
             (casted_of self.now.types.now (readers self.now.types.now self.now.nest self.now.most)
             (suc self.now.most) (placed tokens.now)) }
-        ensures deep { IfOk result (λ x. x.1 ≡ expr_depth (expr_view x.0)) }
+        ensures deep { IfOk result (λ x. x.1 ≡ expr_depth (expr_view x.0.value)) }
         ensures bound { IfOk result (λ x. x.1 ≤ suc self.now.most) }
         ensures shorter { IfOk result (λ x. length x.2.now < length tokens.now) }
     {

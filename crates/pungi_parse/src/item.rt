@@ -179,7 +179,7 @@ impl ItemParser<'_> {
             name,
             pos,
             params,
-            body,
+            body: Box::into_inner(body),
         };
         Ok((Item::Function(function), rest))
     }

@@ -17,6 +17,7 @@ mod operators;
 mod params;
 mod parser;
 mod postfix;
+mod scan;
 mod simple;
 mod simple_stmt;
 mod spec;

@@ -8,24 +8,24 @@ ghost use Rattle.pungi_tree.specs.ExprView.{expr_view, exprs_of};
 ghost use Rattle.pungi_tree.specs.Placed.{placed};
 
 use crate::begins::{goes_on, new_front, plain_word, sizeof_front};
-use crate::eat::{eat, eat_key, eat_literal, eat_prefix, first_place};
+use crate::eat::{eat, eat_key, eat_prefix, first_place};
 use crate::nodes;
 use crate::operators::prefix_need;
 use crate::parser::{Parser, Read};
 use crate::stop::Stop;
 use pungi_base::{Key, Kind, Pos, Punct, Token};
-use pungi_tree::{Expr, ExprNode};
+use pungi_tree::Expr;
 
 impl Parser<'_> {
     /// The unary expression at the front (C11 6.5.3).
     #[tactic(auto, unfolding(crate::specs::ExprReader::unary, crate::specs::Reading::chain, crate::specs::Reading::on_some))]
     #[cycle(parts)]
-    pub(crate) fn unary<'t>(&self, tokens: &'t [Token]) -> Read<'t, Expr>
+    pub(crate) fn unary<'t>(&self, tokens: &'t [Token]) -> Read<'t, Box<Expr>>
         requires { self.now.most < 2 ^ 32 - 1 }
-        ensures tree { Gives (λ x. (expr_view x.0, placed x.2.now)) result
+        ensures tree { Gives (λ x. (expr_view x.0.value, placed x.2.now)) result
             (unary_of self.now.types.now (readers self.now.types.now self.now.nest self.now.most)
             (suc self.now.most) (placed tokens.now)) }
-        ensures deep { IfOk result (λ x. x.1 ≡ expr_depth (expr_view x.0)) }
+        ensures deep { IfOk result (λ x. x.1 ≡ expr_depth (expr_view x.0.value)) }
         ensures bound { IfOk result (λ x. x.1 ≤ suc self.now.most) }
         ensures shorter { IfOk result (λ x. length x.2.now < length tokens.now) }
     {
@@ -43,12 +43,12 @@ impl Parser<'_> {
     /// What stands behind `sizeof` (C11 6.5.3.4).
     #[tactic(auto, unfolding(crate::specs::ExprReader::sizeof_at, crate::specs::Turns::sizeof_front, crate::specs::Reading::chain, crate::specs::Reading::on_some))]
     #[cycle(parts)]
-    fn sizeof_at<'t>(&self, pos: Pos, tokens: &'t [Token]) -> Read<'t, Expr>
+    fn sizeof_at<'t>(&self, pos: Pos, tokens: &'t [Token]) -> Read<'t, Box<Expr>>
         requires { self.now.most < 2 ^ 32 - 1 }
-        ensures tree { Gives (λ x. (expr_view x.0, placed x.2.now)) result
+        ensures tree { Gives (λ x. (expr_view x.0.value, placed x.2.now)) result
             (sizeof_of self.now.types.now (readers self.now.types.now self.now.nest self.now.most)
             (suc self.now.most) pos (placed tokens.now)) }
-        ensures deep { IfOk result (λ x. x.1 ≡ expr_depth (expr_view x.0)) }
+        ensures deep { IfOk result (λ x. x.1 ≡ expr_depth (expr_view x.0.value)) }
         ensures bound { IfOk result (λ x. x.1 ≤ suc self.now.most) }
         ensures shorter { IfOk result (λ x. length x.2.now < length tokens.now) }
     {
@@ -61,18 +61,18 @@ impl Parser<'_> {
         let Some((_, rest)) = eat(Punct::RightParen, rest) else {
             return Err(Stop::NothingRead);
         };
-        Ok((nodes::size_of_type(pos, name), depth + 1, rest))
+        Ok((nodes::size_of_type(self.alloc, pos, name)?, depth + 1, rest))
     }
 
     /// A postfix expression (C11 6.5.2).
     #[tactic(auto, unfolding(crate::specs::ExprReader::postfix, crate::specs::Reading::chain))]
     #[cycle(parts)]
-    fn postfix<'t>(&self, tokens: &'t [Token]) -> Read<'t, Expr>
+    fn postfix<'t>(&self, tokens: &'t [Token]) -> Read<'t, Box<Expr>>
         requires { self.now.most < 2 ^ 32 - 1 }
-        ensures tree { Gives (λ x. (expr_view x.0, placed x.2.now)) result
+        ensures tree { Gives (λ x. (expr_view x.0.value, placed x.2.now)) result
             (postfix_of self.now.types.now (readers self.now.types.now self.now.nest self.now.most)
             (suc self.now.most) (placed tokens.now)) }
-        ensures deep { IfOk result (λ x. x.1 ≡ expr_depth (expr_view x.0)) }
+        ensures deep { IfOk result (λ x. x.1 ≡ expr_depth (expr_view x.0.value)) }
         ensures bound { IfOk result (λ x. x.1 ≤ suc self.now.most) }
         ensures shorter { IfOk result (λ x. length x.2.now < length tokens.now) }
     {
@@ -100,17 +100,17 @@ impl Parser<'_> {
     fn postfix_turn<'t>(
         &self,
         start: Pos,
-        tree: Expr,
+        tree: Box<Expr>,
         depth: u32,
         tokens: &'t [Token],
-    ) -> Read<'t, Expr>
+    ) -> Read<'t, Box<Expr>>
         requires most { self.now.most < 2 ^ 32 - 1 }
-        requires deep { depth ≡ expr_depth (expr_view tree) }
+        requires deep { depth ≡ expr_depth (expr_view tree.value) }
         requires bound { depth ≤ self.now.most }
-        ensures tree { Gives (λ x. (expr_view x.0, placed x.2.now)) result
+        ensures tree { Gives (λ x. (expr_view x.0.value, placed x.2.now)) result
             (joined (postfix_turn_of self.now.types.now (readers self.now.types.now self.now.nest self.now.most)
-            start (expr_view tree) (placed tokens.now))) }
-        ensures deep { IfOk result (λ x. x.1 ≡ expr_depth (expr_view x.0)) }
+            start (expr_view tree.value) (placed tokens.now))) }
+        ensures deep { IfOk result (λ x. x.1 ≡ expr_depth (expr_view x.0.value)) }
         ensures bound { IfOk result (λ x. x.1 ≤ suc self.now.most) }
         ensures deeper { IfOk result (λ x. depth < x.1) }
         ensures shorter { IfOk result (λ x. length x.2.now < length tokens.now) }
@@ -127,14 +127,20 @@ impl Parser<'_> {
     /// A call, behind its parenthesis (C11 6.5.2.2).
     #[tactic(auto, unfolding(crate::specs::ExprReader::call_at, crate::specs::Reading::chain))]
     #[cycle(parts)]
-    fn call<'t>(&self, start: Pos, callee: Expr, depth: u32, tokens: &'t [Token]) -> Read<'t, Expr>
+    fn call<'t>(
+        &self,
+        start: Pos,
+        callee: Box<Expr>,
+        depth: u32,
+        tokens: &'t [Token],
+    ) -> Read<'t, Box<Expr>>
         requires most { self.now.most < 2 ^ 32 - 1 }
-        requires deep { depth ≡ expr_depth (expr_view callee) }
+        requires deep { depth ≡ expr_depth (expr_view callee.value) }
         requires bound { depth ≤ self.now.most }
-        ensures tree { Gives (λ x. (expr_view x.0, placed x.2.now)) result
+        ensures tree { Gives (λ x. (expr_view x.0.value, placed x.2.now)) result
             (call_at self.now.types.now (readers self.now.types.now self.now.nest self.now.most)
-            start (expr_view callee) (placed tokens.now)) }
-        ensures deep { IfOk result (λ x. x.1 ≡ expr_depth (expr_view x.0)) }
+            start (expr_view callee.value) (placed tokens.now)) }
+        ensures deep { IfOk result (λ x. x.1 ≡ expr_depth (expr_view x.0.value)) }
         ensures bound { IfOk result (λ x. x.1 ≤ suc self.now.most) }
         ensures deeper { IfOk result (λ x. depth < x.1) }
         ensures shorter { IfOk result (λ x. length x.2.now < length tokens.now) }
@@ -147,14 +153,20 @@ impl Parser<'_> {
     /// An element of an array, behind the bracket (C11 6.5.2.1).
     #[tactic(auto, unfolding(crate::specs::ExprReader::index_at, crate::specs::Reading::chain))]
     #[cycle(parts)]
-    fn index<'t>(&self, array: Expr, depth: u32, pos: Pos, tokens: &'t [Token]) -> Read<'t, Expr>
+    fn index<'t>(
+        &self,
+        array: Box<Expr>,
+        depth: u32,
+        pos: Pos,
+        tokens: &'t [Token],
+    ) -> Read<'t, Box<Expr>>
         requires most { self.now.most < 2 ^ 32 - 1 }
-        requires deep { depth ≡ expr_depth (expr_view array) }
+        requires deep { depth ≡ expr_depth (expr_view array.value) }
         requires bound { depth ≤ self.now.most }
-        ensures tree { Gives (λ x. (expr_view x.0, placed x.2.now)) result
+        ensures tree { Gives (λ x. (expr_view x.0.value, placed x.2.now)) result
             (index_at self.now.types.now (readers self.now.types.now self.now.nest self.now.most)
-            (expr_view array) pos (placed tokens.now)) }
-        ensures deep { IfOk result (λ x. x.1 ≡ expr_depth (expr_view x.0)) }
+            (expr_view array.value) pos (placed tokens.now)) }
+        ensures deep { IfOk result (λ x. x.1 ≡ expr_depth (expr_view x.0.value)) }
         ensures bound { IfOk result (λ x. x.1 ≤ suc self.now.most) }
         ensures deeper { IfOk result (λ x. depth < x.1) }
         ensures shorter { IfOk result (λ x. length x.2.now < length tokens.now) }
@@ -183,12 +195,12 @@ impl Parser<'_> {
             return Ok((list, 0, rest));
         }
         let (first, depth, after) = self.expr(1, tokens)?;
-        list.push(first)?;
+        nodes::push(&mut list, first)?;
         let mut deepest = depth;
         let mut rest = after;
         while let Some((_, inner)) = eat(Punct::Comma, rest) {
             let (arg, depth, behind) = self.expr(1, inner)?;
-            list.push(arg)?;
+            nodes::push(&mut list, arg)?;
             deepest = deepest.max(depth);
             rest = behind;
         }
@@ -201,24 +213,23 @@ impl Parser<'_> {
     /// A primary expression (C11 6.5.1).
     #[tactic(auto, unfolding(crate::specs::ExprReader::primary, crate::specs::Reading::chain, crate::specs::Reading::on_some))]
     #[cycle(parts)]
-    fn primary<'t>(&self, tokens: &'t [Token]) -> Read<'t, Expr>
+    fn primary<'t>(&self, tokens: &'t [Token]) -> Read<'t, Box<Expr>>
         requires { self.now.most < 2 ^ 32 - 1 }
-        ensures tree { Gives (λ x. (expr_view x.0, placed x.2.now)) result
+        ensures tree { Gives (λ x. (expr_view x.0.value, placed x.2.now)) result
             (primary_of self.now.types.now (readers self.now.types.now self.now.nest self.now.most)
             (placed tokens.now)) }
-        ensures deep { IfOk result (λ x. x.1 ≡ expr_depth (expr_view x.0)) }
+        ensures deep { IfOk result (λ x. x.1 ≡ expr_depth (expr_view x.0.value)) }
         ensures bound { IfOk result (λ x. x.1 ≤ suc self.now.most) }
         ensures shorter { IfOk result (λ x. length x.2.now < length tokens.now) }
     {
-        if let Some((tree, rest)) = eat_literal(tokens) {
+        if let Some((tree, rest)) = self.literal(tokens)? {
             return Ok((tree, 1, rest));
         }
         if let Some((pos, inner)) = new_front(self.types, tokens) {
             return self.new_object(pos, inner);
         }
         if let Some((name, pos, rest)) = plain_word(self.types, tokens) {
-            let node = ExprNode::Word(name);
-            return Ok((Expr { pos, node }, 1, rest));
+            return Ok((nodes::word(self.alloc, pos, name)?, 1, rest));
         }
         if let Some((pos, inner)) = eat(Punct::LeftParen, tokens) {
             return self.paren(pos, inner);
@@ -229,12 +240,12 @@ impl Parser<'_> {
     /// An expression in parentheses, behind the first (C11 6.5.1).
     #[tactic(auto, unfolding(crate::specs::ExprReader::paren_at, crate::specs::Reading::chain))]
     #[cycle(parts)]
-    fn paren<'t>(&self, pos: Pos, tokens: &'t [Token]) -> Read<'t, Expr>
+    fn paren<'t>(&self, pos: Pos, tokens: &'t [Token]) -> Read<'t, Box<Expr>>
         requires { self.now.most < 2 ^ 32 - 1 }
-        ensures tree { Gives (λ x. (expr_view x.0, placed x.2.now)) result
+        ensures tree { Gives (λ x. (expr_view x.0.value, placed x.2.now)) result
             (paren_at self.now.types.now (readers self.now.types.now self.now.nest self.now.most)
             pos (placed tokens.now)) }
-        ensures deep { IfOk result (λ x. x.1 ≡ expr_depth (expr_view x.0)) }
+        ensures deep { IfOk result (λ x. x.1 ≡ expr_depth (expr_view x.0.value)) }
         ensures bound { IfOk result (λ x. x.1 ≤ suc self.now.most) }
         ensures shorter { IfOk result (λ x. length x.2.now < length tokens.now) }
     {
@@ -249,12 +260,12 @@ impl Parser<'_> {
     /// What stands behind `PyObject_New (` (Python/C API Reference Manual 3.11, "Allocating Objects on the Heap").
     #[tactic(auto, unfolding(crate::specs::ExprReader::new_at, crate::specs::Reading::chain))]
     #[cycle(parts)]
-    fn new_object<'t>(&self, pos: Pos, tokens: &'t [Token]) -> Read<'t, Expr>
+    fn new_object<'t>(&self, pos: Pos, tokens: &'t [Token]) -> Read<'t, Box<Expr>>
         requires { self.now.most < 2 ^ 32 - 1 }
-        ensures tree { Gives (λ x. (expr_view x.0, placed x.2.now)) result
+        ensures tree { Gives (λ x. (expr_view x.0.value, placed x.2.now)) result
             (new_at self.now.types.now (readers self.now.types.now self.now.nest self.now.most)
             pos (placed tokens.now)) }
-        ensures deep { IfOk result (λ x. x.1 ≡ expr_depth (expr_view x.0)) }
+        ensures deep { IfOk result (λ x. x.1 ≡ expr_depth (expr_view x.0.value)) }
         ensures bound { IfOk result (λ x. x.1 ≤ suc self.now.most) }
         ensures shorter { IfOk result (λ x. length x.2.now < length tokens.now) }
     {

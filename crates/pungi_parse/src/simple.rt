@@ -1,4 +1,5 @@
-ghost use Rattle.std.specs.Prelude.{◌≡◌, ◌≤◌, ◌<◌, ◌-◌, ◌^◌, suc, false, length, map, IfOk};
+ghost use Rattle.std.specs.Prelude.{◌≡◌, ◌≤◌, ◌<◌, ◌-◌, ◌^◌, suc, false, length, map, option_map, IfOk, IfSome};
+ghost use Rattle.pungi_parse.specs.Eat.{eat_literal as eat_literal_of};
 ghost use Rattle.pungi_parse.specs.ExprReader.{text_at};
 ghost use Rattle.pungi_parse.specs.Gives.{Gives};
 ghost use Rattle.pungi_parse.specs.Readers.{readers};
@@ -9,12 +10,12 @@ ghost use Rattle.pungi_tree.specs.Syntax as plain;
 ghost use Rattle.pungi_tree.specs.Placed.{placed};
 
 use crate::begins::plain_word;
-use crate::eat::{eat, eat_step, first_place};
+use crate::eat::{eat, eat_literal, eat_step, first_place};
 use crate::parser::{Parser, Read};
 use crate::stop::Stop;
 use crate::{nodes, type_nodes, words};
-use pungi_base::{Pos, Punct, Token};
-use pungi_tree::{Expr, ExprNode, ParamDecl, Params};
+use pungi_base::{Memory, Pos, Punct, Token};
+use pungi_tree::{Expr, ParamDecl, Params};
 
 /// Parameters of this depth, with the closing parenthesis at the front.
 #[tactic(auto, unfolding(crate::specs::Turns::close_params, crate::specs::Reading::chain))]
@@ -38,12 +39,26 @@ pub(crate) fn close_params<'t>(
 }
 
 impl Parser<'_> {
+    /// A constant or `NULL` at the front, and the tokens after it.
+    pub(crate) fn literal<'t>(
+        &self,
+        tokens: &'t [Token],
+    ) -> Result<Option<(Box<Expr>, &'t [Token])>, Memory>
+        ensures token { IfOk result (λ o. option_map (λ x. (expr_view x.0.value, placed x.1.now)) o ≡ eat_literal_of (placed tokens.now)) }
+        ensures shorter { IfOk result (λ o. IfSome o (λ x. length x.1.now < length tokens.now)) }
+    {
+        let Some((tree, rest)) = eat_literal(tokens) else {
+            return Ok(None);
+        };
+        Ok(Some((Box::new(self.alloc, tree)?, rest)))
+    }
+
     /// A string literal, in one or more texts, at the front.
     #[tactic(auto, unfolding(crate::specs::ExprReader::text_at, crate::specs::Reading::chain, crate::specs::Reading::unless))]
-    pub(crate) fn text<'t>(&self, tokens: &'t [Token]) -> Read<'t, Expr>
-        ensures tree { Gives (λ x. (expr_view x.0, placed x.2.now)) result
+    pub(crate) fn text<'t>(&self, tokens: &'t [Token]) -> Read<'t, Box<Expr>>
+        ensures tree { Gives (λ x. (expr_view x.0.value, placed x.2.now)) result
             (text_at self.now.types.now (readers self.now.types.now self.now.nest self.now.most) (placed tokens.now)) }
-        ensures deep { IfOk result (λ x. x.1 ≡ expr_depth (expr_view x.0)) }
+        ensures deep { IfOk result (λ x. x.1 ≡ expr_depth (expr_view x.0.value)) }
         ensures bound { IfOk result (λ x. x.1 ≤ 1) }
         ensures shorter { IfOk result (λ x. length x.2.now < length tokens.now) }
     {
@@ -54,24 +69,23 @@ impl Parser<'_> {
         if names.is_empty() {
             return Err(Stop::NothingRead);
         }
-        let node = ExprNode::Text(names);
-        Ok((Expr { pos, node }, 1, rest))
+        Ok((nodes::text(self.alloc, pos, names)?, 1, rest))
     }
 
     /// A member of an expression, or a step, of an expression of this depth, by what stands behind it.
     #[tactic(auto, unfolding(crate::specs::Turns::member_or_step, crate::specs::Reading::chain, crate::specs::Reading::on_some))]
     pub(crate) fn member_or_step<'t>(
         &self,
-        tree: Expr,
+        tree: Box<Expr>,
         depth: u32,
         tokens: &'t [Token],
-    ) -> Read<'t, Expr>
+    ) -> Read<'t, Box<Expr>>
         requires most { self.now.most < 2 ^ 32 - 1 }
-        requires deep { depth ≡ expr_depth (expr_view tree) }
+        requires deep { depth ≡ expr_depth (expr_view tree.value) }
         requires bound { depth ≤ self.now.most }
-        ensures tree { Gives (λ x. (expr_view x.0, placed x.2.now)) result
-            (joined (member_or_step_of self.now.types.now (expr_view tree) (placed tokens.now))) }
-        ensures deep { IfOk result (λ x. x.1 ≡ expr_depth (expr_view x.0)) }
+        ensures tree { Gives (λ x. (expr_view x.0.value, placed x.2.now)) result
+            (joined (member_or_step_of self.now.types.now (expr_view tree.value) (placed tokens.now))) }
+        ensures deep { IfOk result (λ x. x.1 ≡ expr_depth (expr_view x.0.value)) }
         ensures bound { IfOk result (λ x. x.1 ≤ suc self.now.most) }
         ensures deeper { IfOk result (λ x. depth < x.1) }
         ensures shorter { IfOk result (λ x. length x.2.now < length tokens.now) }

@@ -2,7 +2,8 @@ ghost use Rattle.std.specs.Prelude.{◌≡◌, ◌≤◌, ◌<◌, length, optio
 ghost use Rattle.pungi_parse.specs.Gives.{Gives};
 ghost use Rattle.pungi_parse.specs.Readers.{readers};
 ghost use Rattle.pungi_parse.specs.StmtReader.{optional as optional_of, condition as condition_of, declare_at, start_at, expression_at, label_front as label_front_of, goto_at, return_at, jump_or_expression as jump_or_expression_of, read_stmt, read_element};
-ghost use Rattle.pungi_tree.specs.ExprView.{expr_view, optional_view};
+ghost use Rattle.pungi_parse.specs.Begun.{boxed_view};
+ghost use Rattle.pungi_tree.specs.ExprView.{expr_view};
 ghost use Rattle.pungi_tree.specs.Placed.{placed};
 ghost use Rattle.pungi_tree.specs.StmtView.{for_start_view, stmt_view};
 
@@ -18,8 +19,12 @@ use pungi_tree::{Expr, ForStart, Stmt};
 impl Parser<'_> {
     /// An expression, where one stands there, and the punctuator behind it.
     #[tactic(auto, unfolding(crate::specs::StmtReader::optional, crate::specs::Reading::chain, crate::specs::Reading::on_some))]
-    pub(crate) fn optional<'t>(&self, mark: Punct, tokens: &'t [Token]) -> Front<'t, Option<Expr>>
-        ensures tree { Gives (λ x. (optional_view x.0, placed x.1.now)) result
+    pub(crate) fn optional<'t>(
+        &self,
+        mark: Punct,
+        tokens: &'t [Token],
+    ) -> Front<'t, Option<Box<Expr>>>
+        ensures tree { Gives (λ x. (boxed_view x.0, placed x.1.now)) result
             (optional_of self.now.types.now (readers self.now.types.now self.now.nest self.now.most) mark (placed tokens.now)) }
         ensures shorter { IfOk result (λ x. length x.1.now < length tokens.now) }
     {
@@ -35,8 +40,8 @@ impl Parser<'_> {
 
     /// An expression in parentheses.
     #[tactic(auto, unfolding(crate::specs::StmtReader::condition, crate::specs::Reading::chain))]
-    pub(crate) fn condition<'t>(&self, tokens: &'t [Token]) -> Front<'t, Expr>
-        ensures tree { Gives (λ x. (expr_view x.0, placed x.1.now)) result
+    pub(crate) fn condition<'t>(&self, tokens: &'t [Token]) -> Front<'t, Box<Expr>>
+        ensures tree { Gives (λ x. (expr_view x.0.value, placed x.1.now)) result
             (condition_of self.now.types.now (readers self.now.types.now self.now.nest self.now.most) (placed tokens.now)) }
         ensures shorter { IfOk result (λ x. length x.1.now < length tokens.now) }
     {
@@ -52,8 +57,8 @@ impl Parser<'_> {
 
     /// A declaration among statements.
     #[tactic(auto, unfolding(crate::specs::StmtReader::declare_at, crate::specs::Reading::chain))]
-    pub(crate) fn declare<'t>(&self, tokens: &'t [Token]) -> Front<'t, Stmt>
-        ensures tree { Gives (λ x. (stmt_view x.0, placed x.1.now)) result
+    pub(crate) fn declare<'t>(&self, tokens: &'t [Token]) -> Front<'t, Box<Stmt>>
+        ensures tree { Gives (λ x. (stmt_view x.0.value, placed x.1.now)) result
             (declare_at self.now.types.now (readers self.now.types.now self.now.nest self.now.most) (placed tokens.now)) }
         ensures shorter { IfOk result (λ x. length x.1.now < length tokens.now) }
     {
@@ -61,7 +66,7 @@ impl Parser<'_> {
             return Err(Stop::NothingRead);
         };
         let (decl, rest) = self.decl(tokens)?;
-        Ok((stmt_nodes::declare(pos, decl), rest))
+        Ok((stmt_nodes::declare(self.alloc, pos, decl)?, rest))
     }
 
     /// What a `for` begins with.
@@ -76,13 +81,13 @@ impl Parser<'_> {
             return Ok((ForStart::Decl(decl), rest));
         }
         let (e, rest) = self.optional(Punct::Semicolon, tokens)?;
-        Ok((ForStart::Expr(e), rest))
+        Ok((ForStart::Expr(stmt_nodes::opened(e)), rest))
     }
 
     /// An expression with its semicolon, or the semicolon alone.
     #[tactic(auto, unfolding(crate::specs::StmtReader::expression_at, crate::specs::Reading::chain))]
-    fn expression<'t>(&self, tokens: &'t [Token]) -> Front<'t, Stmt>
-        ensures tree { Gives (λ x. (stmt_view x.0, placed x.1.now)) result
+    fn expression<'t>(&self, tokens: &'t [Token]) -> Front<'t, Box<Stmt>>
+        ensures tree { Gives (λ x. (stmt_view x.0.value, placed x.1.now)) result
             (expression_at self.now.types.now (readers self.now.types.now self.now.nest self.now.most) (placed tokens.now)) }
         ensures shorter { IfOk result (λ x. length x.1.now < length tokens.now) }
     {
@@ -90,7 +95,7 @@ impl Parser<'_> {
             return Err(Stop::NothingRead);
         };
         let (e, rest) = self.optional(Punct::Semicolon, tokens)?;
-        Ok((stmt_nodes::expression(pos, e), rest))
+        Ok((stmt_nodes::expression(self.alloc, pos, e)?, rest))
     }
 
     /// The word of a label with its colon: its name, its place, and the tokens after the colon.
@@ -107,8 +112,8 @@ impl Parser<'_> {
 
     /// What stands behind `goto`.
     #[tactic(auto, unfolding(crate::specs::StmtReader::goto_at, crate::specs::Reading::chain))]
-    fn goto<'t>(&self, pos: Pos, tokens: &'t [Token]) -> Front<'t, Stmt>
-        ensures tree { Gives (λ x. (stmt_view x.0, placed x.1.now)) result
+    fn goto<'t>(&self, pos: Pos, tokens: &'t [Token]) -> Front<'t, Box<Stmt>>
+        ensures tree { Gives (λ x. (stmt_view x.0.value, placed x.1.now)) result
             (goto_at self.now.types.now (readers self.now.types.now self.now.nest self.now.most) pos (placed tokens.now)) }
         ensures shorter { IfOk result (λ x. length x.1.now < length tokens.now) }
     {
@@ -118,24 +123,24 @@ impl Parser<'_> {
         let Some((_, rest)) = eat(Punct::Semicolon, after) else {
             return Err(Stop::NothingRead);
         };
-        Ok((stmt_nodes::goto(pos, name, at), rest))
+        Ok((stmt_nodes::goto(self.alloc, pos, name, at)?, rest))
     }
 
     /// What stands behind `return`.
     #[tactic(auto, unfolding(crate::specs::StmtReader::return_at, crate::specs::Reading::chain))]
-    fn give_back<'t>(&self, pos: Pos, tokens: &'t [Token]) -> Front<'t, Stmt>
-        ensures tree { Gives (λ x. (stmt_view x.0, placed x.1.now)) result
+    fn give_back<'t>(&self, pos: Pos, tokens: &'t [Token]) -> Front<'t, Box<Stmt>>
+        ensures tree { Gives (λ x. (stmt_view x.0.value, placed x.1.now)) result
             (return_at self.now.types.now (readers self.now.types.now self.now.nest self.now.most) pos (placed tokens.now)) }
         ensures shorter { IfOk result (λ x. length x.1.now < length tokens.now) }
     {
         let (e, rest) = self.optional(Punct::Semicolon, tokens)?;
-        Ok((stmt_nodes::give_back(pos, e), rest))
+        Ok((stmt_nodes::give_back(self.alloc, pos, e)?, rest))
     }
 
     /// A statement that holds no other one, and is no block.
     #[tactic(auto, unfolding(crate::specs::StmtReader::jump_or_expression, crate::specs::Reading::chain, crate::specs::Reading::on_some))]
-    pub(crate) fn jump_or_expression<'t>(&self, tokens: &'t [Token]) -> Front<'t, Stmt>
-        ensures tree { Gives (λ x. (stmt_view x.0, placed x.1.now)) result
+    pub(crate) fn jump_or_expression<'t>(&self, tokens: &'t [Token]) -> Front<'t, Box<Stmt>>
+        ensures tree { Gives (λ x. (stmt_view x.0.value, placed x.1.now)) result
             (jump_or_expression_of self.now.types.now (readers self.now.types.now self.now.nest self.now.most) (read_stmt self.now.types.now self.now.nest self.now.most) (read_element self.now.types.now self.now.nest self.now.most) (placed tokens.now)) }
         ensures shorter { IfOk result (λ x. length x.1.now < length tokens.now) }
     {
@@ -146,13 +151,13 @@ impl Parser<'_> {
             let Some((_, rest)) = eat(Punct::Semicolon, after) else {
                 return Err(Stop::NothingRead);
             };
-            return Ok((stmt_nodes::break_out(pos), rest));
+            return Ok((stmt_nodes::break_out(self.alloc, pos)?, rest));
         }
         if let Some((pos, after)) = eat_key(Key::Continue, tokens) {
             let Some((_, rest)) = eat(Punct::Semicolon, after) else {
                 return Err(Stop::NothingRead);
             };
-            return Ok((stmt_nodes::go_on(pos), rest));
+            return Ok((stmt_nodes::go_on(self.alloc, pos)?, rest));
         }
         if let Some((pos, after)) = eat_key(Key::Return, tokens) {
             return self.give_back(pos, after);

@@ -14,14 +14,14 @@ use crate::eat::{eat, eat_key};
 use crate::parser::Parser;
 use crate::stmt_nodes;
 use crate::stop::Stop;
-use pungi_base::{Key, Memory, Pos, Punct, Token};
+use pungi_base::{Key, Pos, Punct, Token};
 use pungi_tree::{Expr, Stmt};
 
 impl Parser<'_> {
     /// A statement that is no declaration.
     #[cycle(statements)]
-    pub(crate) fn stmt<'t>(&self, tokens: &'t [Token]) -> Front<'t, Stmt>
-        ensures tree { Gives (λ x. (stmt_view x.0, placed x.1.now)) result
+    pub(crate) fn stmt<'t>(&self, tokens: &'t [Token]) -> Front<'t, Box<Stmt>>
+        ensures tree { Gives (λ x. (stmt_view x.0.value, placed x.1.now)) result
             (read_stmt self.now.types.now self.now.nest self.now.most (placed tokens.now)) }
         ensures shorter { IfOk result (λ x. length x.1.now < length tokens.now) }
     {
@@ -41,8 +41,8 @@ impl Parser<'_> {
     /// The rest of a statement, whose parts are read by this parser.
     #[tactic(auto, unfolding(crate::specs::Reading::chain))]
     #[cycle(statements)]
-    fn go_on<'t>(&self, begun: Begun, tokens: &'t [Token]) -> Front<'t, Stmt>
-        ensures tree { Gives (λ x. (stmt_view x.0, placed x.1.now)) result
+    fn go_on<'t>(&self, begun: Begun, tokens: &'t [Token]) -> Front<'t, Box<Stmt>>
+        ensures tree { Gives (λ x. (stmt_view x.0.value, placed x.1.now)) result
             (go_on_of self.now.types.now (readers self.now.types.now self.now.nest self.now.most) (read_stmt self.now.types.now self.now.nest self.now.most) (read_element self.now.types.now self.now.nest self.now.most) (begun_view begun) (placed tokens.now)) }
         ensures shorter { IfOk result (λ x. length x.1.now ≤ length tokens.now) }
     {
@@ -60,27 +60,25 @@ impl Parser<'_> {
     /// What stands behind the condition of an `if`. An `else` belongs to the nearest one (C11 6.8.4.1).
     #[tactic(auto, unfolding(crate::specs::Begun::branch_rest, crate::specs::Reading::chain, crate::specs::Reading::on_some))]
     #[cycle(statements)]
-    fn branch<'t>(&self, pos: Pos, test: Expr, tokens: &'t [Token]) -> Front<'t, Stmt>
-        ensures tree { Gives (λ x. (stmt_view x.0, placed x.1.now)) result
-            (branch_rest_of self.now.types.now (readers self.now.types.now self.now.nest self.now.most) (read_stmt self.now.types.now self.now.nest self.now.most) (read_element self.now.types.now self.now.nest self.now.most) pos (expr_view test) (placed tokens.now)) }
+    fn branch<'t>(&self, pos: Pos, test: Box<Expr>, tokens: &'t [Token]) -> Front<'t, Box<Stmt>>
+        ensures tree { Gives (λ x. (stmt_view x.0.value, placed x.1.now)) result
+            (branch_rest_of self.now.types.now (readers self.now.types.now self.now.nest self.now.most) (read_stmt self.now.types.now self.now.nest self.now.most) (read_element self.now.types.now self.now.nest self.now.most) pos (expr_view test.value) (placed tokens.now)) }
         ensures shorter { IfOk result (λ x. length x.1.now < length tokens.now) }
     {
         let (yes, rest) = self.stmt(tokens)?;
-        let yes = stmt_nodes::boxed(self.alloc, yes)?;
         match eat_key(Key::Else, rest) {
-            None => Ok((stmt_nodes::if_only(pos, test, yes), rest)),
+            None => Ok((stmt_nodes::if_only(self.alloc, pos, test, yes)?, rest)),
             Some((_, other)) => {
                 let (no, behind) = self.stmt(other)?;
-                let no = stmt_nodes::boxed(self.alloc, no)?;
-                Ok((stmt_nodes::if_else(pos, test, yes, no), behind))
+                Ok((stmt_nodes::if_else(self.alloc, pos, test, yes, no)?, behind))
             }
         }
     }
 
     /// What stands behind the brace of a block.
     #[cycle(statements)]
-    fn block<'t>(&self, pos: Pos, tokens: &'t [Token]) -> Front<'t, Stmt>
-        ensures tree { Gives (λ x. (stmt_view x.0, placed x.1.now)) result
+    fn block<'t>(&self, pos: Pos, tokens: &'t [Token]) -> Front<'t, Box<Stmt>>
+        ensures tree { Gives (λ x. (stmt_view x.0.value, placed x.1.now)) result
             (block_at self.now.types.now (readers self.now.types.now self.now.nest self.now.most) (read_stmt self.now.types.now self.now.nest self.now.most) (read_element self.now.types.now self.now.nest self.now.most) pos (placed tokens.now)) }
         ensures shorter { IfOk result (λ x. length x.1.now < length tokens.now) }
     {
@@ -88,18 +86,18 @@ impl Parser<'_> {
         let mut rest = tokens;
         'each: loop {
             if let Some((close, behind)) = eat(Punct::RightBrace, rest) {
-                return Ok((stmt_nodes::block(pos, list, close), behind));
+                return Ok((stmt_nodes::block(self.alloc, pos, list, close)?, behind));
             }
             let (more, behind) = self.element(rest)?;
-            list.push(more).map_err(Memory::from)?;
+            stmt_nodes::push(&mut list, more)?;
             rest = behind;
         }
     }
 
     /// A statement or a declaration.
     #[cycle(statements)]
-    fn element<'t>(&self, tokens: &'t [Token]) -> Front<'t, Stmt>
-        ensures tree { Gives (λ x. (stmt_view x.0, placed x.1.now)) result
+    fn element<'t>(&self, tokens: &'t [Token]) -> Front<'t, Box<Stmt>>
+        ensures tree { Gives (λ x. (stmt_view x.0.value, placed x.1.now)) result
             (read_element self.now.types.now self.now.nest self.now.most (placed tokens.now)) }
         ensures shorter { IfOk result (λ x. length x.1.now < length tokens.now) }
     {

@@ -6,7 +6,7 @@ ghost use Rattle.pungi_parse.specs.StmtReader.{read_stmt, read_element};
 ghost use Rattle.pungi_tree.specs.Placed.{placed};
 ghost use Rattle.pungi_tree.specs.StmtView.{stmt_view};
 
-use crate::begun::{Begun, StmtHead};
+use crate::begun::{Begun, ForHead, StmtHead};
 use crate::decl::Front;
 use crate::eat::{eat, eat_key};
 use crate::parser::Parser;
@@ -62,7 +62,8 @@ impl Parser<'_> {
         let (start, after) = self.start(inner)?;
         let (test, behind) = self.optional(Punct::Semicolon, after)?;
         let (step, rest) = self.optional(Punct::RightParen, behind)?;
-        Ok((Begun::Before(pos, StmtHead::For(start, test, step)), rest))
+        let head = Box::new(self.alloc, ForHead { start, test, step })?;
+        Ok((Begun::Before(pos, StmtHead::For(head)), rest))
     }
 
     /// What stands behind `case`, up to the statement.
@@ -152,9 +153,9 @@ impl Parser<'_> {
 
     /// What stands behind the body of a `do`.
     #[tactic(auto, unfolding(crate::specs::Begun::do_end, crate::specs::Reading::chain))]
-    fn do_end<'t>(&self, pos: Pos, body: Stmt, tokens: &'t [Token]) -> Front<'t, Stmt>
-        ensures tree { Gives (λ x. (stmt_view x.0, placed x.1.now)) result
-            (do_end_of self.now.types.now (readers self.now.types.now self.now.nest self.now.most) pos (stmt_view body) (placed tokens.now)) }
+    fn do_end<'t>(&self, pos: Pos, body: Box<Stmt>, tokens: &'t [Token]) -> Front<'t, Box<Stmt>>
+        ensures tree { Gives (λ x. (stmt_view x.0.value, placed x.1.now)) result
+            (do_end_of self.now.types.now (readers self.now.types.now self.now.nest self.now.most) pos (stmt_view body.value) (placed tokens.now)) }
         ensures shorter { IfOk result (λ x. length x.1.now < length tokens.now) }
     {
         let Some((_, after)) = eat_key(Key::While, tokens) else {
@@ -172,18 +173,19 @@ impl Parser<'_> {
         &self,
         pos: Pos,
         head: StmtHead,
-        body: Stmt,
+        body: Box<Stmt>,
         tokens: &'t [Token],
-    ) -> Front<'t, Stmt>
-        ensures tree { Gives (λ x. (stmt_view x.0, placed x.1.now)) result
-            (finish_at self.now.types.now (readers self.now.types.now self.now.nest self.now.most) pos (head_view head) (stmt_view body) (placed tokens.now)) }
+    ) -> Front<'t, Box<Stmt>>
+        ensures tree { Gives (λ x. (stmt_view x.0.value, placed x.1.now)) result
+            (finish_at self.now.types.now (readers self.now.types.now self.now.nest self.now.most) pos (head_view head) (stmt_view body.value) (placed tokens.now)) }
         ensures shorter { IfOk result (λ x. length x.1.now ≤ length tokens.now) }
     {
         let alloc = self.alloc;
         let stmt = match head {
             StmtHead::Do => return self.do_end(pos, body, tokens),
             StmtHead::While(test) => stmt_nodes::while_loop(alloc, pos, test, body)?,
-            StmtHead::For(start, test, step) => {
+            StmtHead::For(head) => {
+                let ForHead { start, test, step } = Box::into_inner(head);
                 stmt_nodes::for_loop(alloc, pos, start, test, step, body)?
             }
             StmtHead::Switch(value) => stmt_nodes::switch(alloc, pos, value, body)?,

@@ -11,12 +11,12 @@ ghost use Rattle.pungi_tree.specs.UnitFlat.{items_flat};
 ghost use Rattle.pungi_tree.specs.UnitLevels.{is_levelled};
 ghost use Rattle.pungi_tree.specs.UnitView.{item_view, unit_view};
 
-use crate::deep::first_deep;
 use crate::fault::ParseFault;
 use crate::item::ItemParser;
+use crate::scan::scan;
 use crate::stop::Stop;
 use crate::type_words::TypeWords;
-use pungi_base::Token;
+use pungi_base::{Memory, Name, Token};
 use pungi_tree::{Item, Unit};
 use std::alloc::Global;
 
@@ -35,17 +35,23 @@ pub fn parse(alloc: Global, tokens: &[Token]) -> Result<Unit, ParseFault>
     ensures first { (p : ThePos) → too_deep 0 (placed tokens.now) ≡ Some p → result ≡ Err (ParseFault.Deep p) }
     ensures flat { IfOk result (λ u. items_flat (unit_view u) ≡ kinds (placed tokens.now)) }
 {
-    match first_deep(tokens) {
+    let (deep, words) = scan(alloc, tokens);
+    match deep {
         Some(pos) => Err(ParseFault::Deep(pos)),
-        None => unit(alloc, tokens),
+        None => unit(alloc, words, tokens),
     }
 }
 
-/// The file with these tokens.
-fn unit(alloc: Global, tokens: &[Token]) -> Result<Unit, ParseFault>
+/// The file with these tokens, whose type words are these.
+fn unit(
+    alloc: Global,
+    words: Result<Vec<Name>, Memory>,
+    tokens: &[Token],
+) -> Result<Unit, ParseFault>
+    requires { IfOk words (λ w. w.items ≡ type_words (kinds (placed tokens.now))) }
     ensures { MatchResult result (λ u. IsUnit (unit_view u) (placed tokens.now)) (HasFault (placed tokens.now)) }
 {
-    let types = TypeWords::new(alloc, tokens)?;
+    let types = TypeWords::new(alloc, words?)?;
     let items = items(alloc, &types, tokens)?;
     Ok(Unit { items })
 }

@@ -141,19 +141,19 @@ pub args-loop-inner-init : goal.args-loop-inner-init
 args-loop-inner-init t c =
     let none : eat puncts.RightParen (placed c.args.tokens.now) ≡ None = search rules in
     record {
-      reads = rw (c.in_ok-push.ensures.items, c.new-list.ensures.items) (args_begin _ _ _ _ _ none c.in_ok-first.ensures.tree);
-      deep = rw (c.in_ok-push.ensures.items, c.new-list.ensures.items) (omega (arith, c.in_ok-first.ensures.deep));
+      reads = rw (c.in_ok-push.ensures, c.new-list.ensures.items) (args_begin _ _ _ _ _ none c.in_ok-first.ensures.tree);
+      deep = rw (c.in_ok-push.ensures, c.new-list.ensures.items) (omega (arith, c.in_ok-first.ensures.deep));
       bound = c.in_ok-first.ensures.bound;
       shorter = c.in_ok-first.ensures.shorter;
     }
 
 pub args-loop-inner-preserved : goal.args-loop-inner-preserved
 args-loop-inner-preserved t c = record {
-  reads = rw (c.in_ok-push-2.ensures.items, map_push expr_view c.loop-inner.list.items c.in_ok-arg.arg)
+  reads = rw (c.in_ok-push-2.ensures, map_push expr_view c.loop-inner.list.items c.in_ok-arg.arg.value)
       (args_turn _ _ _ _ _ _ _ _ c.loop-inner.invariant.reads (sym c.in-Some-eat.ensures.token) c.in_ok-arg.ensures.tree
       (placed_shorter _ _ (omega (arith, c.in_ok-arg.ensures.shorter, c.in-Some-eat.ensures.shorter))));
-  deep = rw (c.in_ok-push-2.ensures.items, map_push expr_view c.loop-inner.list.items c.in_ok-arg.arg)
-      (omega (arith, args_depth (map expr_view c.loop-inner.list.items) (expr_view c.in_ok-arg.arg), c.loop-inner.invariant.deep, c.in_ok-arg.ensures.deep));
+  deep = rw (c.in_ok-push-2.ensures, map_push expr_view c.loop-inner.list.items c.in_ok-arg.arg.value)
+      (omega (arith, args_depth (map expr_view c.loop-inner.list.items) (expr_view c.in_ok-arg.arg.value), c.loop-inner.invariant.deep, c.in_ok-arg.ensures.deep));
   bound = omega (arith, c.in_ok-arg.ensures.bound, c.loop-inner.invariant.bound);
   shorter = omega (arith, c.in_ok-arg.ensures.shorter, c.in-Some-eat.ensures.shorter, c.loop-inner.invariant.shorter);
 }

@@ -126,7 +126,7 @@ decreases-param_rest l = 64 * l.self.now.nest + 16
 
 abbrev pub invariant-comma-loop-pos : goal.invariant-comma-loop-pos
 invariant-comma-loop-pos l = record {
-  commas : CommasTo l.self.types.now (readers l.self.types.now l.self.nest l.self.most) (suc l.self.most) (placed l.fn.tokens) (expr_view l.left) l.left_depth (placed l.rest);
+  commas : CommasTo l.self.types.now (readers l.self.types.now l.self.nest l.self.most) (suc l.self.most) (placed l.fn.tokens) (expr_view l.left.value) l.left_depth (placed l.rest);
   shorter : length l.rest < length l.fn.tokens;
 }
 
@@ -135,7 +135,7 @@ decreases-comma-loop-pos l = length l.rest
 
 abbrev pub invariant-climb-loop-operator : goal.invariant-climb-loop-operator
 invariant-climb-loop-operator l = record {
-  climbs : ClimbsTo l.self.types.now (readers l.self.types.now l.self.nest l.self.most) (suc l.self.most) l.level (placed l.fn.tokens) (expr_view l.left) l.left_depth (placed l.rest);
+  climbs : ClimbsTo l.self.types.now (readers l.self.types.now l.self.nest l.self.most) (suc l.self.most) l.level (placed l.fn.tokens) (expr_view l.left.value) l.left_depth (placed l.rest);
   shorter : length l.rest < length l.fn.tokens;
 }
 
@@ -144,7 +144,7 @@ decreases-climb-loop-operator l = length l.rest
 
 abbrev pub invariant-postfix-each : goal.invariant-postfix-each
 invariant-postfix-each l = record {
-  comes : PostfixTo l.self.types.now (readers l.self.types.now l.self.nest l.self.most) (suc l.self.most) (placed l.fn.tokens) l.start (expr_view l.tree) l.depth (placed l.rest);
+  comes : PostfixTo l.self.types.now (readers l.self.types.now l.self.nest l.self.most) (suc l.self.most) (placed l.fn.tokens) l.start (expr_view l.tree.value) l.depth (placed l.rest);
   shorter : length l.rest < length l.fn.tokens;
 }
 

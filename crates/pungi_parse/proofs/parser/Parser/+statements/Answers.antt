@@ -1,4 +1,4 @@
-use Rattle.std.proofs.Common.{◌≡◌, ◌<◌, ◌++◌, ◌∷◌, [], true, false, length, map, Some, None, sym, arith, rules}
+use Rattle.std.proofs.Common.{◌≡◌, ◌<◌, ◌++◌, ◌∷◌, [], true, false, length, map, None, sym, arith, rules}
 use Rattle.std.proofs.lemmas.List.{map_push}
 use Rattle.std.proofs.lemmas.Result.{err_from_is_err_and}
 use Rattle.pungi_base.specs.declared.punct.Punct.TheVariants as puncts
@@ -57,7 +57,7 @@ block-each-init t c =
 pub block-returns-in_err-more-clause-tree : goal.block-returns-in_err-more-clause-tree
 block-returns-in_err-more-clause-tree t c =
     let s = c.args.self.now in
-    let p = err_from_is_err_and c.from_residual.result c.from_residual.ensures.1 in
+    let p = err_from_is_err_and c.from_residual-in_err-more.result c.from_residual-in_err-more.ensures.1 in
     let none : eat puncts.RightBrace (placed c.each.rest.now) ≡ None = search rules in
     rw (p.1, p.2) (block_fails s.types.now s.nest s.most (placed c.args.tokens.now) c.args.pos (map stmt_view c.each.list.items) (placed c.each.rest.now)
     c.in_err-more.field-0.0 c.each.invariant.to none c.in_err-more.ensures.tree)
@@ -66,12 +66,11 @@ pub block-each-preserved : goal.block-each-preserved
 block-each-preserved t c =
     let s = c.args.self.now in
     let none : eat puncts.RightBrace (placed c.each.rest.now) ≡ None = search rules in
-    let pushed : c.push.new.self.items ≡ c.each.list.items ++ c.in_ok-more.more ∷ [] = search rules in
-    let items : map stmt_view c.push.new.self.items ≡ map stmt_view c.each.list.items ++ stmt_view c.in_ok-more.more ∷ [] = rw pushed (map_push stmt_view c.each.list.items c.in_ok-more.more) in
+    let items : map stmt_view c.push.new.list.items ≡ map stmt_view c.each.list.items ++ stmt_view c.in_ok-more.more.value ∷ [] = rw c.in_ok-push.ensures (map_push stmt_view c.each.list.items c.in_ok-more.more.value) in
     let shorter : length c.in_ok-more.behind.now < length c.each.rest.now = c.in_ok-more.ensures.shorter in
     record {
       to = rw items (block_turn s.types.now s.nest s.most (placed c.args.tokens.now) c.args.pos (map stmt_view c.each.list.items) (placed c.each.rest.now)
-          (stmt_view c.in_ok-more.more) (placed c.in_ok-more.behind.now) c.each.invariant.to none c.in_ok-more.ensures.tree
+          (stmt_view c.in_ok-more.more.value) (placed c.in_ok-more.behind.now) c.each.invariant.to none c.in_ok-more.ensures.tree
           (omega (arith, placed_length c.in_ok-more.behind.now, placed_length c.each.rest.now)));
       shorter = omega (arith, c.each.invariant.shorter);
     }
@@ -79,5 +78,5 @@ block-each-preserved t c =
 pub block-returns-in-Some-clause-tree : goal.block-returns-in-Some-clause-tree
 block-returns-in-Some-clause-tree t c =
     let s = c.args.self.now in
-    rw c.block.ensures (block_end s.types.now s.nest s.most (placed c.args.tokens.now) c.args.pos (map stmt_view c.each.list.items) (placed c.each.rest.now)
+    rw c.in_ok-block.ensures (block_end s.types.now s.nest s.most (placed c.args.tokens.now) c.args.pos (map stmt_view c.each.list.items) (placed c.each.rest.now)
     c.in-Some.close (placed c.in-Some.behind.now) c.each.invariant.to (sym c.in-Some.ensures.token))

@@ -2,7 +2,7 @@ use Rattle.std.proofs.Common.{◌≡◌, ◌++◌, ◌∷◌, [], ◌-◌, ◌+�
 use Rattle.std.proofs.lemmas.List.{append-nil}
 use Rattle.pungi_parse.specs.TypedefScan.{copies}
 use Rattle.pungi_parse.proofs.Typedefs.{copies_none, copies_turn}
-use Rattle.pungi_parse.proofs.type_words.add_copies.Goals as goal
+use Rattle.pungi_parse.proofs.scan.add_copies.Goals as goal
 
 pub loop-preserved : goal.loop-preserved
 loop-preserved c =

@@ -4,7 +4,7 @@ use Rattle.pungi_base.specs.declared.kind.Kind.TheVariants as kind
 use Rattle.pungi_base.specs.declared.punct.Punct.TheVariants as puncts
 use Rattle.pungi_parse.specs.TypedefScan.{copies}
 use Rattle.pungi_parse.proofs.Typedefs.{scan_semicolon, scan_typedef, scan_word}
-use Rattle.pungi_parse.proofs.type_words.TypedefScan.read.Goals as goal
+use Rattle.pungi_parse.proofs.scan.TypedefScan.read.Goals as goal
 
 pub returns-in_ok-add_copies-in-Punct-Semicolon-clause-words : goal.returns-in_ok-add_copies-in-Punct-Semicolon-clause-words
 returns-in_ok-add_copies-in-Punct-Semicolon-clause-words c =

@@ -1,6 +1,6 @@
 use Rattle.std.proofs.Common.{◌≡◌, ◌++◌, ◌∷◌, [], ◌-◌}
 use Rattle.pungi_parse.specs.TypedefScan.{copies}
-use Rattle.pungi_parse.proofs.type_words.add_copies.Given as goal
+use Rattle.pungi_parse.proofs.scan.add_copies.Given as goal
 
 abbrev pub invariant-loop : goal.invariant-loop
 invariant-loop l =
