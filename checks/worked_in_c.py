@@ -13,7 +13,7 @@ import sys
 import tempfile
 
 WORKED = pathlib.Path(__file__).parent.parent / "crates/pungi_meaning/proofs"
-RUN = re.compile(r"^run_\d+ : told \(last_run \(.*\) \d+ (\(.*\)) (\(.*\)) \d+\) ≡ gives \(Some \(value\.Int \((.*?)\)\)\) ")
+RUN = re.compile(r"^run_\d+ : told \(last_run file_\d+ \d+ (\(.*\)) (\(.*\)) \d+\) ≡ gives \(Some \(value\.Int \((.*?)\)\)\) ")
 NUMBER = re.compile(r"value\.Int \((pos|negsuc) (\d+)\)")
 # C leaves these open: a quotient past its range (C11 6.5.5), and changes of one variable in no order (6.5).
 OPEN_IN_C = [
@@ -38,17 +38,20 @@ def literal(value):
 
 def worked_runs(path):
     """The text, the arguments and the value of each run that uses integers alone and returns."""
-    text = []
+    text, named = [], False
     for line in path.read_text(encoding="utf-8").splitlines():
         run = RUN.match(line)
         if line.startswith("-- "):
             text.append(line[3:])
             continue
+        if re.match(r"(abbrev pub )?file_\d+ ", line) or (named and not line):
+            named = True
+            continue
         if run and not ONLY_IN_PYTHON.search("\n".join(text)) and "Object" not in run[1]:
             arguments = [number(*found) for found in NUMBER.findall(run[1])]
             if ("\n".join(text), arguments) not in OPEN_IN_C:
                 yield "\n".join(text), arguments, number(*run[3].split())
-        text = []
+        text, named = [], False
 
 
 def program(runs):

@@ -422,7 +422,8 @@ fn long_function(
     Ok(text)
 }
 
-/// The sizes of a function: at most 32 locals with its parameters, and at most 4,096 nodes. A statement here has four.
+/// The sizes of a function: at most 32 locals with its parameters, and at most 4,096 nodes. A statement here has four; a
+/// declared variable is one.
 #[test]
 fn sizes(rt: HostRuntime) -> Result<(), Fail> {
     let some = "int a, b, c, d, e, g, h, i, j, k, l, m, o, p, q, r; ";
@@ -436,6 +437,8 @@ fn sizes(rt: HostRuntime) -> Result<(), Fail> {
         (over, 0, "return n;", "refused f 1:5 N15\n"),
         (over, 0, "return n & 1;", "refused f 1:133 N2\n"),
         (some, 1000, "return n;", "refused f 1:5 N0\n"),
+        ("", 1023, "return n;", "refused f 1:5 N0\n"),
+        ("int a; ", 1023, "return n;", "refused f 1:5 N16\n"),
         (some, 1100, "return n;", "refused f 1:5 N16\n"),
         (over, 1100, "return n;", "refused f 1:5 N15\n"),
         ("", 1100, "return n & 1;", "refused f 1:7725 N2\n"),

@@ -1,6 +1,7 @@
-mod WorkedOperators
-mod WorkedStatements
-mod WorkedSlots
+pub mod Worked
+pub mod WorkedOperators
+pub mod WorkedStatements
+pub mod WorkedSlots
 pub mod ListLemmas
 pub mod FoundLemmas
 pub mod RunLemmas

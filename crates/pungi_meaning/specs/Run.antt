@@ -6,7 +6,7 @@
 --   Run                           a run: how it ends, and what it does before, in order
 --   over, noted, after            a run that ends at once; with operations before it; what a step makes of the rest
 --   run_from choices fuel k s     a run of at most so many steps
---   closing, locals_of body       the closing brace of a function's body, and how many locals it has with its parameters
+--   closing body                  the closing brace of a function's body
 --   start, body_of                where the run of a function begins
 --   run_of f entry choices fuel   the run of a function from an entry
 use Rattle.std.specs.Prelude.{ℕ, zero, suc, ◌+◌, ◌-◌, Bool, true, false, not, List, [], ◌∷◌, ◌++◌, length, map, replicate, slice_get, Option, Some, None, if◌then◌else◌}
@@ -97,18 +97,14 @@ run_from choices (suc fuel) k s = after (run_from choices fuel) (act choices k s
 -- ---- functions
 
 abbrev pub closing : stmt.Action → Pos
-closing (stmt.block_of p first count ss q) = q
+closing (stmt.block_of p ss q) = q
 closing a = nowhere
-
-abbrev pub locals_of : stmt.Action → ℕ
-locals_of (stmt.block_of p first count ss q) = first + count
-locals_of a = 0
 
 abbrev pub start : stmt.ResolvedFunction → Entry → State
 start f entry = record {
   world = world_at entry;
   used = [];
-  locals = map Holds entry.args ++ replicate (locals_of f.body - length entry.args) Unset;
+  locals = map Holds entry.args ++ replicate (f.locals - length entry.args) Unset;
   values = [];
 }
 

@@ -27,7 +27,7 @@ use Rattle.pungi_world.specs.declared.content.Content.TheVariants.{Unset, Holds}
 use Rattle.pungi_meaning.specs.declared.cmp.Cmp.TheVariants as cmps
 use Rattle.pungi_meaning.specs.Values.{is_equal}
 use Rattle.pungi_meaning.specs.Todo.{Loop, Operation, Compared, Todo, ToEval, ToExec, ToForget, ToReach, ToBind, ToChoose, ToRest, ToTest, ToTurn, ToAgain, ToSwitch, ToSwitchEnd, ToReturn, State, Step, Goes, Returns, listed}
-use Rattle.pungi_meaning.specs.Work.{top, below, left, taken, with_local, unset, unset_reached, or_else}
+use Rattle.pungi_meaning.specs.Work.{top, below, left, taken, with_local, declared, unset_reached, or_else}
 use Rattle.pungi_meaning.specs.Jumps.{a_loop, from_label, after_break, after_continue}
 
 abbrev pub reach_value : stmt.Reached → Option expr.Value → List stmt.Reached → List Todo → State → Step
@@ -103,8 +103,8 @@ enter_at list (Some i) k = ToRest list i ∷ ToSwitchEnd ∷ k
 
 -- a case stands directly in the block of a `switch`; without a block there is none
 abbrev pub switch : Pos → Value → stmt.Action → List Todo → State → Step
-switch p v (stmt.block_of q first count ss r) k s =
-    Goes (looked_at p v (block_cases (listed ss))) (enter_at (listed ss) (target v (listed ss)) k) (record s { locals = unset first count s.locals; values = below s.values })
+switch p v (stmt.block_of q ss r) k s =
+    Goes (looked_at p v (block_cases (listed ss))) (enter_at (listed ss) (target v (listed ss)) k) (record s { locals = unset_reached (declared (listed ss)) s.locals; values = below s.values })
 switch p v a k s = taken k s
 
 -- ---- a node
@@ -118,7 +118,7 @@ next_stmt list i None k s = left k s
 next_stmt list i (Some a) k s = left (ToExec a ∷ ToRest list (i + 1) ∷ k) s
 
 abbrev pub execute : stmt.Action → List Todo → State → Step
-execute (stmt.block_of p first count ss q) k s = left (ToRest (listed ss) 0 ∷ k) (record s { locals = unset first count s.locals })
+execute (stmt.block_of p ss q) k s = left (ToRest (listed ss) 0 ∷ k) (record s { locals = unset_reached (declared (listed ss)) s.locals })
 execute (stmt.reach p rs) k s = left (ToReach rs ∷ k) s
 execute (stmt.evaluate p v) k s = left (started v k) s
 execute (stmt.test p c a) k s = left (ToEval c ∷ ToChoose a None ∷ k) s

@@ -6,20 +6,20 @@
 --   with_answer o vs                   one value more, where there is one
 --   with_local x c s                   a local holds something else
 --   content_at locals x                what a local holds
---   unset first n locals               these locals hold nothing
---   unset_reached rs locals            nor do those that are declared here
+--   declared_by a, declared list       the locals that a statement declares, and those of a block
+--   unset_reached rs locals            declared locals hold nothing
 --   unused choices s                   the choices that are left
 --   reacting p r go s                  what the world answers at a place: with its effect and the world after it the run goes on
 --   shape_of row                       a call of a row that writes no variable
 --   or_else                            the first of two that is there
-use Rattle.std.specs.Prelude.{ℕ, zero, suc, ◌+◌, List, [], ◌∷◌, ◌++◌, length, take, drop, reverse, replicate, get_or, slice_set, Option, Some, None, Result, Ok, Err}
+use Rattle.std.specs.Prelude.{ℕ, ◌+◌, List, [], ◌∷◌, ◌++◌, length, take, drop, reverse, replicate, get_or, slice_set, Option, Some, None, Result, Ok, Err}
 use Rattle.pungi_base.specs.declared.choice.Choice.{Choice}
 use Rattle.pungi_base.specs.declared.pos.Pos.{Pos}
 use Rattle.pungi_base.specs.declared.value.Value.{Value}
 use Rattle.pungi_base.specs.declared.value.Value.TheVariants as value
 use Rattle.pungi_api.specs.declared.row.Row.{Row}
 use Rattle.pungi_api.specs.declared.shape.Shape.{Shape}
-use Rattle.pungi_types.specs.ResolvedStmts.{Reached}
+use Rattle.pungi_types.specs.ResolvedStmts.{Reached, Action, reach}
 use Rattle.pungi_world.specs.declared.content.Content.{Content}
 use Rattle.pungi_world.specs.declared.content.Content.TheVariants.{Unset}
 use Rattle.pungi_world.specs.declared.effect.Effect.{Effect}
@@ -66,9 +66,14 @@ content_at locals x = get_or locals x Unset
 abbrev pub with_local : ℕ → Content → State → State
 with_local x c s = record s { locals = slice_set s.locals x c }
 
-abbrev pub unset : ℕ → ℕ → List Content → List Content
-unset first zero locals = locals
-unset first (suc n) locals = unset (first + 1) n (slice_set locals first Unset)
+-- what a statement in it declares is no local of the block
+abbrev pub declared_by : Action → List Reached
+declared_by (reach p rs) = rs
+declared_by a = []
+
+abbrev pub declared : List Action → List Reached
+declared [] = []
+declared (a ∷ rest) = declared_by a ++ declared rest
 
 abbrev pub unset_reached : List Reached → List Content → List Content
 unset_reached [] locals = locals

@@ -5,7 +5,7 @@ ghost use Rattle.pungi_types.specs.Operators.{is_void as is_void_kind};
 ghost use Rattle.pungi_world.specs.declared.content.Content.TheVariants.{Unset as UnsetContent, Holds as HoldsContent};
 ghost use Rattle.pungi_meaning.specs.Machine.{todos, state_of};
 ghost use Rattle.pungi_meaning.specs.Outcomes.{end_of, end_at, IsCounted};
-ghost use Rattle.pungi_meaning.specs.Run.{closing as closing_of, locals_of, start, body_of, run_of};
+ghost use Rattle.pungi_meaning.specs.Run.{closing as closing_of, start, body_of, run_of};
 
 use crate::Outcome;
 use crate::counted_world::CountedWorld;
@@ -32,18 +32,8 @@ fn closing(body: &Action) -> Pos
     ensures { result ≡ closing_of (action_view body.now) }
 {
     match &body.node {
-        ActionNode::Block(_, _, _, brace) => *brace,
+        ActionNode::Block(_, brace) => *brace,
         _ => Pos { line: 0, col: 0 },
-    }
-}
-
-/// How many locals a function's body has with its parameters.
-fn count_locals(body: &Action) -> usize
-    ensures { result ≡ locals_of (action_view body.now) }
-{
-    match &body.node {
-        ActionNode::Block(first, count, _, _) => *first as usize + *count as usize,
-        _ => 0,
     }
 }
 
@@ -76,7 +66,7 @@ fn begin<'a>(alloc: Global, f: &'a Function, entry: &Entry) -> Result<Machine<'a
 {
     let world = CountedWorld::start(alloc, entry)?;
     let mut locals = held(alloc, entry.args.as_slice())?;
-    let unset = count_locals(&f.body).saturating_sub(entry.args.len());
+    let unset = f.locals.saturating_sub(entry.args.len());
     add_unset(&mut locals, unset)?;
     let mut tasks = Vec::new(alloc);
     tasks.push(Task::End(closing(&f.body), is_void(f.result)))?;

@@ -1,7 +1,7 @@
 // The values that wait for their operator, the newest last.
 ghost use Rattle.std.specs.Prelude.{◌≡◌, ◌∷◌, drop, length, replicate, reverse, slice_set, ◌++◌, OnOk};
 ghost use Rattle.pungi_meaning.specs.Values.{number_of as value_number};
-ghost use Rattle.pungi_meaning.specs.Work.{top, below, content_at as content_of, unset};
+ghost use Rattle.pungi_meaning.specs.Work.{top, below, content_at as content_of};
 
 use pungi_base::{Choice, Memory, Pos, Value};
 use pungi_world::Content;

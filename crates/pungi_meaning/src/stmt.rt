@@ -5,7 +5,7 @@ ghost use Rattle.pungi_resolved.specs.ActionView.{action_view, actions_of, reach
 ghost use Rattle.pungi_meaning.specs.Machine.{loop_of, todo_of, todos, state_of, Tells};
 ghost use Rattle.pungi_meaning.specs.Stmts.{started, tested as tested_loop, reach_next as reached_next, bears_case as bears_this_case, is_default as is_default_action, first_from, target as target_of, enter_at as entered_at, switch as switched, execute as executed};
 ghost use Rattle.pungi_meaning.specs.Todo.{ToReach, ToRest, ToTest, listed};
-ghost use Rattle.pungi_meaning.specs.Work.{below, unset, unset_reached};
+ghost use Rattle.pungi_meaning.specs.Work.{below, declared_by, declared, unset_reached};
 
 use crate::Cmp;
 use crate::expr::{later, one};
@@ -17,22 +17,45 @@ use pungi_base::{Memory, Pos, Value};
 use pungi_resolved::{Action, ActionNode, Reached, Value as Node};
 use pungi_world::Content;
 
-/// These locals hold nothing.
-#[tactic(auto, using(crate::proofs::LocalLemmas::unset_step))]
-fn clear(locals: &mut [Content], first: u32, count: u32)
-    ensures { locals.new ≡ unset first count locals.old }
-{
-    for i in 0..count {
-        put(locals, first as usize + i as usize, Content::Unset);
-    }
-}
-
 /// The locals that are declared here hold nothing.
 fn clear_reached(locals: &mut [Content], list: &[Reached])
     ensures { locals.new ≡ unset_reached (map reached_view list.now) locals.old }
 {
     for reached in list {
         put(locals, reached.number, Content::Unset);
+    }
+}
+
+/// The locals that a statement declares hold nothing.
+fn clear_declared_by(locals: &mut [Content], action: &Action)
+    ensures { locals.new ≡ unset_reached (declared_by (action_view action.now)) locals.old }
+{
+    match &action.node {
+        ActionNode::Reach(list) => clear_reached(locals, list.as_slice()),
+        ActionNode::Block(_, _)
+        | ActionNode::Evaluate(_)
+        | ActionNode::Test(_, _)
+        | ActionNode::TestElse(_, _, _)
+        | ActionNode::RepeatWhile(_, _)
+        | ActionNode::RepeatUntil(_, _)
+        | ActionNode::RepeatFor(_, _, _, _, _)
+        | ActionNode::SwitchOn(_, _)
+        | ActionNode::AtCase(_, _)
+        | ActionNode::AtDefault(_)
+        | ActionNode::AtLabel(_, _)
+        | ActionNode::Jump(_)
+        | ActionNode::Leave
+        | ActionNode::NextTurn
+        | ActionNode::Give(_) => {}
+    }
+}
+
+/// The locals of a block hold nothing.
+fn clear(locals: &mut [Content], list: &[Action])
+    ensures { locals.new ≡ unset_reached (declared (listed (actions_of (map action_view list.now)))) locals.old }
+{
+    for action in list {
+        clear_declared_by(locals, action);
     }
 }
 
@@ -185,18 +208,12 @@ fn to_listed<'a>(m: &mut Machine<'a>, value: Value, list: &'a [Action]) -> Resul
 }
 
 /// The block of a `switch`, once its value is known.
-fn switch_block<'a>(
-    m: &mut Machine<'a>,
-    value: Value,
-    first: u32,
-    count: u32,
-    list: &'a [Action],
-) -> Result<(), Memory>
+fn switch_block<'a>(m: &mut Machine<'a>, value: Value, list: &'a [Action]) -> Result<(), Memory>
     ensures todos { OnOk result (todos m.new.tasks.items ≡ entered_at (listed (actions_of (map action_view list.now))) (target_of value (listed (actions_of (map action_view list.now)))) (todos m.old.tasks.items)) }
-    ensures state { OnOk result (state_of m.new ≡ record (state_of m.old) { locals = unset first count (state_of m.old).locals; values = below (state_of m.old).values }) }
+    ensures state { OnOk result (state_of m.new ≡ record (state_of m.old) { locals = unset_reached (declared (listed (actions_of (map action_view list.now)))) (state_of m.old).locals; values = below (state_of m.old).values }) }
 {
     take(&mut m.values);
-    clear(&mut m.locals, first, count);
+    clear(&mut m.locals, list);
     to_listed(m, value, list)?;
     Ok(())
 }
@@ -211,8 +228,8 @@ pub fn switch<'a>(
     ensures { OnOk result (Tells (switched pos value (action_view body.now) (todos m.old.tasks.items) (state_of m.old)) None m.new) }
 {
     match &body.node {
-        ActionNode::Block(first, count, list, _) => {
-            switch_block(m, value, *first, *count, list)?;
+        ActionNode::Block(list, _) => {
+            switch_block(m, value, list)?;
             Ok(())
         }
         _ => {
@@ -232,16 +249,11 @@ fn all_of<'a>(m: &mut Machine<'a>, list: &'a [Action]) -> Result<(), Memory>
 }
 
 /// A block is entered: its locals hold nothing.
-fn enter_block<'a>(
-    m: &mut Machine<'a>,
-    first: u32,
-    count: u32,
-    list: &'a [Action],
-) -> Result<(), Memory>
+fn enter_block<'a>(m: &mut Machine<'a>, list: &'a [Action]) -> Result<(), Memory>
     ensures todos { OnOk result (todos m.new.tasks.items ≡ ToRest (listed (actions_of (map action_view list.now))) 0 ∷ todos m.old.tasks.items) }
-    ensures state { OnOk result (state_of m.new ≡ record (state_of m.old) { locals = unset first count (state_of m.old).locals }) }
+    ensures state { OnOk result (state_of m.new ≡ record (state_of m.old) { locals = unset_reached (declared (listed (actions_of (map action_view list.now)))) (state_of m.old).locals }) }
 {
-    clear(&mut m.locals, first, count);
+    clear(&mut m.locals, list);
     all_of(m, list)?;
     Ok(())
 }
@@ -268,7 +280,7 @@ pub fn execute<'a>(m: &mut Machine<'a>, action: &'a Action) -> Result<Option<End
     ensures { IfOk result (λ halt. Tells (executed (action_view action.now) (todos m.old.tasks.items) (state_of m.old)) halt m.new) }
 {
     match &action.node {
-        ActionNode::Block(first, count, list, _) => enter_block(m, *first, *count, list)?,
+        ActionNode::Block(list, _) => enter_block(m, list)?,
         ActionNode::Reach(list) => later(m, Task::Reach(list))?,
         ActionNode::Evaluate(value) => start(m, unboxed(value))?,
         ActionNode::Test(test, part) => one(m, Task::Choose(part, None), test)?,

@@ -100,7 +100,7 @@ fn repeated(alloc: Global) -> Result<Action, Memory> {
     list.push(less(alloc)?)?;
     let body = Action {
         pos: at(37),
-        node: ActionNode::Block(2, 0, list, at(61)),
+        node: ActionNode::Block(list, at(61)),
     };
     let test = local(alloc, 34, ValueKind::Int, 0)?;
     Ok(Action {
@@ -126,10 +126,11 @@ pub(crate) fn summing(alloc: Global) -> Result<Function, Memory> {
         name: F,
         pos: at(5),
         params: Seq::new(vec![in alloc; Some(ValueKind::Int)]?),
+        locals: 2,
         result: Some(ValueKind::Int),
         body: Action {
             pos: at(14),
-            node: ActionNode::Block(1, 1, list, at(73)),
+            node: ActionNode::Block(list, at(73)),
         },
     })
 }
@@ -182,10 +183,11 @@ pub(crate) fn one(alloc: Global) -> Result<Function, Memory> {
         name: F,
         pos: at(11),
         params: Seq::new(vec![in alloc; Some(OBJECT), Some(OBJECT)]?),
+        locals: 2,
         result: Some(OBJECT),
         body: Action {
             pos: at(46),
-            node: ActionNode::Block(2, 0, list, at(74)),
+            node: ActionNode::Block(list, at(74)),
         },
     })
 }
@@ -256,10 +258,11 @@ pub(crate) fn setting(alloc: Global) -> Result<Function, Memory> {
         name: F,
         pos: at(6),
         params: Seq::new(vec![in alloc; Some(ValueKind::Object(Some(BOX))), Some(OBJECT)]?),
+        locals: 3,
         result: Some(ValueKind::Void),
         body: Action {
             pos: at(32),
-            node: ActionNode::Block(2, 1, list, at(111)),
+            node: ActionNode::Block(list, at(111)),
         },
     })
 }

@@ -11,7 +11,7 @@ locals-hold (r ∷ rs) h = (and_left _ _ h, locals-hold rs (and_right (is_sound_
 
 mutual
   pub action-holds : (a : Action) → is_sound_action a ≡ true → IsSoundAction a
-  action-holds (block_of p n m ss q) h = actions-hold ss h
+  action-holds (block_of p ss q) h = actions-hold ss h
   action-holds (reach p rs) h = locals-hold rs h
   action-holds (evaluate p v) h = h
   action-holds (test p v a) h = (and_left _ _ h, action-holds a (and_right (is_sound v) _ h))

@@ -1,6 +1,6 @@
 -- An expression in which no rule holds has a kind, and is sound once it is resolved.
 use Rattle.std.proofs.Common.{◌≡◌, ◌∙◌, Bool, true, false, List, Option, Some, None, refl}
-use Rattle.std.specs.Prelude.{ℤ, ◌&&◌, not, is_some, if◌then◌else◌}
+use Rattle.std.specs.Prelude.{ℤ, pos, int_lt, ◌&&◌, ◌||◌, not, is_some, if◌then◌else◌}
 use Rattle.pungi_base.specs.declared.kind.Kind.{Kind}
 use Rattle.pungi_base.specs.declared.names.Name.{Name}
 use Rattle.pungi_base.specs.declared.pos.Pos.{Pos}
@@ -29,19 +29,19 @@ pub record Good (env : Env) (e : Expr) : Type 0 where
   pub place : is_place env e ≡ true → is_sound_place (place_of env e) ≡ true
 
 -- the rules that may hold in a node
-record Node (env : Env) (e : Expr) : Type 0 where
-  one : Clean (n1 env e)
-  two : Clean (n2 env e)
-  three : Clean (n3 env e)
-  four : Clean (n4 env e)
-  five : Clean (n5 env e)
-  nine : Clean (n9 env e)
-  ten : Clean (n10 env e)
-  twelve : Clean (n12 env e)
-  thirteen : Clean (n13 env e)
-  fourteen : Clean (n14 env e)
+pub record Node (env : Env) (e : Expr) : Type 0 where
+  pub one : Clean (n1 env e)
+  pub two : Clean (n2 env e)
+  pub three : Clean (n3 env e)
+  pub four : Clean (n4 env e)
+  pub five : Clean (n5 env e)
+  pub nine : Clean (n9 env e)
+  pub ten : Clean (n10 env e)
+  pub twelve : Clean (n12 env e)
+  pub thirteen : Clean (n13 env e)
+  pub fourteen : Clean (n14 env e)
 
-node : (env : Env) (e : Expr) → Clean (node_findings env e) → Node env e
+pub node : (env : Env) (e : Expr) → Clean (node_findings env e) → Node env e
 node env e c =
     let r1 = right (n1 env e) _ c in
     let r2 = right (n2 env e) _ r1 in
@@ -70,9 +70,9 @@ word-good env h p n k =
     record { known = w.known; sound = w.sound; place = λ s. slot-sound p (meaning_of env n.0) n s }
 
 int-known : (v : ℤ) (l u : Bool) → is_bad_int v u ≡ false → is_some (int_kind v l u) ≡ true
-int-known v l u e = elim (is_bad_int v u) as (λ b. b ≡ false → is_some (if b then None else (if l then Some kinds.Long else Some kinds.Int)) ≡ true) [
+int-known v l u e = elim (is_bad_int v u) as (λ b. b ≡ false → is_some (if b then None else (if l || int_lt (pos 2147483647) v then Some kinds.Long else Some kinds.Int)) ≡ true) [
   | true ↦ λ h. absurd (cc)
-  | false ↦ λ h. elim l as (λ c. is_some (if c then Some kinds.Long else Some kinds.Int) ≡ true) [ true ↦ refl | false ↦ refl ]
+  | false ↦ λ h. elim (l || int_lt (pos 2147483647) v) as (λ c. is_some (if c then Some kinds.Long else Some kinds.Int) ≡ true) [ true ↦ refl | false ↦ refl ]
 ] e
 
 int-sound : (p : Pos) (v : ℤ) (k : Option ValueKind) → is_some k ≡ true → is_sound (int_value p k v) ≡ true
@@ -114,7 +114,7 @@ unary-good env p k prefixes.Negation e b =
 unary-good env p k prefixes.LeftOut e b = let h = b.two in absurd (cc)
 
 -- unless a test holds, what is found is nothing
-unless : (b : Bool) (fs : Findings) → Clean (if b then nothing_found else fs) → b ≡ false → Clean fs
+pub unless : (b : Bool) (fs : Findings) → Clean (if b then nothing_found else fs) → b ≡ false → Clean fs
 unless true fs c e = absurd (cc)
 unless false fs c e = c
 
@@ -125,7 +125,7 @@ arg-sound env ws e true t g = module-sound env e (and_right (wants_module ws) (i
 arg-sound env ws e false t g = convert-same (expr_pos e) (want_kind ws) (kind_of env e) (resolve env e) ∙ g refl
 
 -- a word that is called
-answered : (env : Env) → HasKinds env → (f : Expr) → answers env (callee env f) ≡ true
+pub answered : (env : Env) → HasKinds env → (f : Expr) → answers env (callee env f) ≡ true
 answered env h (word p n) = h.calls n.0
 answered env h _ = refl
 

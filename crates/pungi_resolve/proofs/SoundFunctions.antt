@@ -37,7 +37,7 @@ param-names f h qs s (named d) k =
 param-names f h qs s (bare stars) k = h
 param-names f h qs s (unused stars n p) k = h
 
-params-names : (f : Frame) → HasKinds f.env → (ds : ParamDecls) → Clean (param_findings f ds) → HasKinds (after_params f ds).env
+pub params-names : (f : Frame) → HasKinds f.env → (ds : ParamDecls) → Clean (param_findings f ds) → HasKinds (after_params f ds).env
 params-names f h no_params c = h
 params-names f h (param_and (param_decl qs s d) ds) c =
     let n1 = not_when _ (spec_pos s) 1 (left (declared_n1 qs s (param_kind f.env.file s d)) _ c) in
@@ -49,7 +49,7 @@ param-site f (param_decl qs s (named d)) = refl
 param-site f (param_decl qs s (bare stars)) = refl
 param-site f (param_decl qs s (unused stars n p)) = refl
 
-params-site : (f : Frame) (ds : ParamDecls) → site (after_params f ds) ≡ with_params (site f) ds
+pub params-site : (f : Frame) (ds : ParamDecls) → site (after_params f ds) ≡ with_params (site f) ds
 params-site f no_params = refl
 params-site f (param_and d ds) = params-site (after_param f d) ds ∙ ap (λ g. with_params g ds) (param-site f d)
 
@@ -78,7 +78,7 @@ none-told d fs h = elim (least fs) as (λ o. (least fs ≡ o) → least (or_size
 pub text-clean : (env : Env) (d : Definition) → refusal_in env d ≡ None → Clean (text_findings env d)
 text-clean env d h = clean (text_findings env d) (none-told d (text_findings env d) h)
 
-result-known : (env : Env) (d : Definition) → refusal_in env d ≡ None → is_some (result_kind env d) ≡ true
+pub result-known : (env : Env) (d : Definition) → refusal_in env d ≡ None → is_some (result_kind env d) ≡ true
 result-known env d h = is_there (result_kind env d) (not_when _ (spec_pos d.result) 1 (left (result_findings env d) _ (text-clean env d h)))
 
 -- .. the functions that are called

@@ -1,13 +1,15 @@
 -- A function from the walk through its parameters and its body.
-use Rattle.std.proofs.Common.{◌≡◌, ◌∙◌, true, List, [], Option, sym, ap, subst}
+use Rattle.std.proofs.Common.{◌≡◌, ◌∙◌, ℕ, ◌+◌, true, List, [], Option, refl, sym, ap, subst, add-zero, arith}
 use Rattle.pungi_base.specs.declared.names.Name.{Name}
 use Rattle.pungi_base.specs.declared.pos.Pos.{Pos}
 use Rattle.pungi_tree.specs.ExprView.{params_view}
 use Rattle.pungi_tree.specs.StmtView.{stmt_view}
+use Rattle.pungi_tree.specs.Syntax.{Params, params, ParamDecl, ParamDecls, no_params, param_and, param_decl, named, bare, unused}
 use Rattle.pungi_tree.specs.declared.item.FunctionDef.{FunctionDef}
-use Rattle.pungi_types.specs.Functions.{result_kind}
+use Rattle.pungi_types.specs.Functions.{result_kind, params_count, body_locals}
+use Rattle.pungi_types.specs.Labels.{param_count}
 use Rattle.pungi_types.specs.Names.{Env}
-use Rattle.pungi_types.specs.ResolvedStmts.{Site, Action, ResolvedFunction, body_action, first_site, params_site, params_kinds, resolved_in}
+use Rattle.pungi_types.specs.ResolvedStmts.{Site, Action, ResolvedFunction, body_action, first_site, with_param, with_params, params_site, params_kinds, resolved_in}
 use Rattle.pungi_types.specs.Sound.{is_sound_action}
 use Rattle.pungi_types.specs.TypesView.{definition_view}
 use Rattle.pungi_types.specs.declared.kind.ValueKind.{ValueKind}
@@ -42,22 +44,43 @@ body-holds env f w v k h none zero kind after =
     let P : Site → Type 0 = λ g. IsSoundAction (body_action f.pos g (stmt_view f.body)) in
     subst P (sym (before_body env f w v k none zero kind after)) (action-holds (resolved_in env (definition_view f)).body (function-sound env (definition_view f) h))
 
-made : Name → Pos → List (Option ValueKind) → Option ValueKind → Action → ResolvedFunction
-made n p ps k a = record { name = n; pos = p; params = ps; result = k; body = a }
+-- how many locals there are in front of the body
+param_counted : (f : Site) (p : ParamDecl) → (with_param f p).next ≡ f.next + 1
+param_counted f (param_decl qs s (named d)) = refl
+param_counted f (param_decl qs s (bare stars)) = refl
+param_counted f (param_decl qs s (unused stars n p)) = refl
+
+list_counted : (f : Site) (ds : ParamDecls) → (with_params f ds).next ≡ f.next + param_count ds
+list_counted f no_params = sym (add-zero f.next)
+list_counted f (param_and d ds) =
+    let one = param_counted f d in
+    let rest = list_counted (with_param f d) ds in
+    omega (arith, one, rest)
+
+counted : (f : Site) (ps : Params) → (params_site f ps).next ≡ f.next + params_count ps
+counted f (params ds v dots) = list_counted f ds
+
+made : Name → Pos → List (Option ValueKind) → ℕ → Option ValueKind → Action → ResolvedFunction
+made n p ps m k a = record { name = n; pos = p; params = ps; locals = m; result = k; body = a }
 
 -- what is answered for a function
-pub whole : (env : Env) (f : FunctionDef) (w v : Walk) (k : Option ValueKind) (ps : List (Option ValueKind)) (a : Action)
+pub whole : (env : Env) (f : FunctionDef) (w v : Walk) (k : Option ValueKind) (ps : List (Option ValueKind)) (m : ℕ) (a : Action)
     → w.locals ≡ [] → w.next ≡ 0 → k ≡ result_kind env (definition_view f)
     → site_of env v k ≡ params_site (site_of env w k) (params_view f.params)
-    → ps ≡ params_kinds env.file (params_view f.params) → a ≡ body_action f.pos (site_of env v k) (stmt_view f.body)
-    → record { name = f.name; pos = f.pos; params = ps; result = k; body = a } ≡ resolved_in env (definition_view f)
+    → ps ≡ params_kinds env.file (params_view f.params) → m ≡ v.next + body_locals (stmt_view f.body) → a ≡ body_action f.pos (site_of env v k) (stmt_view f.body)
+    → record { name = f.name; pos = f.pos; params = ps; locals = m; result = k; body = a } ≡ resolved_in env (definition_view f)
 unfolding made
-whole env f w v k ps a none zero kind after hp ha =
+whole env f w v k ps m a none zero kind after hp hm ha =
     let d = definition_view f in
-    let hb : a ≡ (resolved_in env d).body = ha ∙ ap (λ (g : Site). body_action f.pos g (stmt_view f.body)) (before_body env f w v k none zero kind after) in
-    ap (λ (x : List (Option ValueKind)). made f.name f.pos x k a) hp
-    ∙ ap (λ (x : Option ValueKind). made f.name f.pos (params_kinds env.file (params_view f.params)) x a) kind
-    ∙ ap (λ (x : Action). made f.name f.pos (params_kinds env.file (params_view f.params)) (result_kind env d) x) hb
+    let s = before_body env f w v k none zero kind after in
+    let none_before : 0 + params_count (params_view f.params) ≡ params_count (params_view f.params) = omega arith in
+    let front : v.next ≡ params_count (params_view f.params) = ap (λ (g : Site). g.next) s ∙ counted (first_site env d) (params_view f.params) ∙ none_before in
+    let hn : m ≡ (resolved_in env d).locals = hm ∙ ap (λ (n : ℕ). n + body_locals (stmt_view f.body)) front in
+    let hb : a ≡ (resolved_in env d).body = ha ∙ ap (λ (g : Site). body_action f.pos g (stmt_view f.body)) s in
+    ap (λ (x : List (Option ValueKind)). made f.name f.pos x m k a) hp
+    ∙ ap (λ (x : ℕ). made f.name f.pos (params_kinds env.file (params_view f.params)) x k a) hn
+    ∙ ap (λ (x : Option ValueKind). made f.name f.pos (params_kinds env.file (params_view f.params)) (resolved_in env d).locals x a) kind
+    ∙ ap (λ (x : Action). made f.name f.pos (params_kinds env.file (params_view f.params)) (resolved_in env d).locals (result_kind env d) x) hb
 
 pub sound-body : (env : Env) (f : FunctionDef) (r : ResolvedFunction) → IsPassed env (definition_view f) → r ≡ resolved_in env (definition_view f) → is_sound_action r.body ≡ true
 sound-body env f r h e = ap (λ (x : ResolvedFunction). is_sound_action x.body) e ∙ function-sound env (definition_view f) h

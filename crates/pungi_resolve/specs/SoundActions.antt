@@ -11,7 +11,7 @@ AreSoundLocals (r ∷ rs) = (is_sound_option r.value ≡ true) × AreSoundLocals
 
 abbrev mutual
   pub IsSoundAction : Action → Type 0
-  IsSoundAction (block_of p n m ss q) = AreSoundActions ss
+  IsSoundAction (block_of p ss q) = AreSoundActions ss
   IsSoundAction (reach p rs) = AreSoundLocals rs
   IsSoundAction (evaluate p v) = is_sound_option v ≡ true
   IsSoundAction (test p v a) = (is_sound v ≡ true) × IsSoundAction a

@@ -8,24 +8,11 @@ use pungi_base::{Memory, Name, Pos};
 use pungi_resolved::{Action, ActionNode, Reached, Value};
 use std::alloc::Global;
 
-/// A number of locals. A function has few, so that each is small.
-fn small(number: usize) -> Result<u32, Memory>
-    ensures { IfOk result (λ n. n ≡ number) }
+pub(crate) fn block_of(pos: Pos, list: Vec<Action>, end: Pos) -> Action
+    ensures { action_view result ≡ plain.block_of pos (actions_of (map action_view list.items)) end }
 {
-    u32::try_from(number).map_err(|_| Memory)
-}
-
-pub(crate) fn block_of(
-    pos: Pos,
-    first: usize,
-    count: usize,
-    list: Vec<Action>,
-    end: Pos,
-) -> Result<Action, Memory>
-    ensures { IfOk result (λ x. action_view x ≡ plain.block_of pos first count (actions_of (map action_view list.items)) end) }
-{
-    let node = ActionNode::Block(small(first)?, small(count)?, list, end);
-    Ok(Action { pos, node })
+    let node = ActionNode::Block(list, end);
+    Action { pos, node }
 }
 
 pub(crate) fn reach(pos: Pos, locals: Vec<Reached>) -> Action

@@ -19,7 +19,7 @@ use crate::typed::{Argument, Arguments, Typed, TypedPlace};
 use crate::word::{address, int, module_behind, word};
 use pungi_base::{Kind, Memory, Name, Pos};
 use pungi_tree::{Expr, ExprNode};
-use pungi_types::operator::{first_met, other_wants, prefix_of, wants_module};
+use pungi_types::operator::{byte_value, first_met, other_wants, prefix_of, wants_module};
 use pungi_types::{
     Lookup, Prefix, ValueKind, Want, call_kind, callee_wants, is_module_address, is_place,
 };
@@ -77,7 +77,7 @@ pub(crate) fn resolve_expr<N: Lookup>(alloc: Global, names: &N, e: &Expr) -> Res
             unsigned,
         } => Ok(int(e.pos, *value, *long, *unsigned)),
         ExprNode::Char(code) => Ok(Typed {
-            value: nodes::constant(e.pos, i64::from(*code)),
+            value: nodes::constant(e.pos, byte_value(*code)),
             kind: Some(ValueKind::Int),
         }),
         ExprNode::Text(parts) => {

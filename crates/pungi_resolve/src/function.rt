@@ -1,5 +1,6 @@
 //! What a function does (C11 6.9.1).
-ghost use Rattle.std.specs.Prelude.{◌≡◌, IfOk, true};
+ghost use Rattle.std.specs.Prelude.{◌≡◌, ◌+◌, IfOk, OnOk, true};
+ghost use Rattle.pungi_types.specs.Functions.{body_locals};
 ghost use Rattle.pungi_types.specs.ResolvedStmts.{body_action, resolved_in};
 ghost use Rattle.pungi_types.specs.Sound.{is_sound_action};
 ghost use Rattle.pungi_types.specs.TypesView.{definition_view};
@@ -29,7 +30,8 @@ fn resolve_body<N: Lookup>(
     body: &Stmt,
 ) -> Result<Action, Memory>
     requires { IsSoundAction (body_action pos (site_of (N.env names.now) walk.old around.result) (stmt_view body.now)) }
-    ensures { IfOk result (λ x. action_view x ≡ body_action pos (site_of (N.env names.now) walk.old around.result) (stmt_view body.now)) }
+    ensures action { IfOk result (λ x. action_view x ≡ body_action pos (site_of (N.env names.now) walk.old around.result) (stmt_view body.now)) }
+    ensures locals { OnOk result (walk.new.next ≡ walk.old.next + body_locals (stmt_view body.now)) }
 {
     match &body.node {
         StmtNode::Block(_, _) => Ok(resolve_stmt(names, around, walk, body)?),
@@ -47,7 +49,7 @@ fn resolve_body<N: Lookup>(
         | StmtNode::Goto(_, _)
         | StmtNode::Break
         | StmtNode::Continue
-        | StmtNode::Return(_) => Ok(block_of(pos, walk.next, 0, Vec::new(around.alloc), pos)?),
+        | StmtNode::Return(_) => Ok(block_of(pos, Vec::new(around.alloc), pos)),
     }
 }
 
@@ -73,6 +75,7 @@ pub fn resolve<N: Lookup>(alloc: Global, names: &N, f: &FunctionDef) -> Result<F
         name: f.name,
         pos: f.pos,
         params: Seq::new(params),
+        locals: walk.next,
         result: result_kind,
         body,
     })

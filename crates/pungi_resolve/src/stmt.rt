@@ -225,15 +225,13 @@ fn resolve_block<N: Lookup>(
     end: Pos,
 ) -> Result<Action, Memory>
     requires { AreSoundActions (actions_in (site_of (N.env names.now) walk.old around.result) (stmts_of (map stmt_view list.now.items))) }
-    ensures action { IfOk result (λ x. action_view x ≡ actions.block_of pos walk.old.next (stmts_locals (stmts_of (map stmt_view list.now.items))) (actions_in (site_of (N.env names.now) walk.old around.result) (stmts_of (map stmt_view list.now.items))) end) }
+    ensures action { IfOk result (λ x. action_view x ≡ actions.block_of pos (actions_in (site_of (N.env names.now) walk.old around.result) (stmts_of (map stmt_view list.now.items))) end) }
     ensures walk { OnOk result (walk.new ≡ record walk.old { next = walk.old.next + stmts_locals (stmts_of (map stmt_view list.now.items)) }) }
 {
     let kept = walk.locals.len();
-    let first = walk.next;
     let found = resolve_list(names, around, walk, list)?;
     walk.leave(kept);
-    let count = walk.next.saturating_sub(first);
-    Ok(nodes::block_of(pos, first, count, found, end)?)
+    Ok(nodes::block_of(pos, found, end))
 }
 
 /// What statements of a block do, one after another.

@@ -1,4 +1,4 @@
-use crate::action_nodes::{at_case, block_of, leave};
+use crate::action_nodes::{at_case, leave};
 use crate::resolve_unit;
 use pungi_api::Table;
 use pungi_base::{Key, Memory, Name, Names, Pos};
@@ -10,11 +10,9 @@ use std::test::Fail;
 
 const HERE: Pos = Pos { line: 1, col: 1 };
 
-fn is_block(action: &Action, first: u32, count: u32) -> bool {
+fn is_empty_block(action: &Action) -> bool {
     match &action.node {
-        ActionNode::Block(number, locals, list, _) => {
-            *number == first && *locals == count && list.is_empty()
-        }
+        ActionNode::Block(list, _) => list.is_empty(),
         _ => false,
     }
 }
@@ -24,16 +22,6 @@ fn is_case(action: &Action, case: i64) -> bool {
         ActionNode::AtCase(constant, _) => *constant == case,
         _ => false,
     }
-}
-
-#[test]
-fn a_block_is_made_of_any_locals_of_a_function(rt: HostRuntime) -> Result<(), Fail> {
-    for (first, count) in [(0u16, 0u16), (31, 1), (0, 32)] {
-        let locals = (usize::from(first), usize::from(count));
-        let action = block_of(HERE, locals.0, locals.1, Vec::new(rt.alloc()), HERE)?;
-        assert!(rt; is_block(&action, u32::from(first), u32::from(count)));
-    }
-    Ok(())
 }
 
 #[test]
@@ -94,7 +82,10 @@ fn checked(alloc: Global, name: u32) -> Result<Checked, UnitFault> {
 
 fn is_resolved(function: &Option<Function>, name: u32) -> bool {
     match function {
-        Some(f) => f.name == Name(name) && f.params.is_empty() && is_block(&f.body, 0, 0),
+        Some(f) => f.name == Name(name)
+            && f.params.is_empty()
+            && f.locals == 0
+            && is_empty_block(&f.body),
         None => false,
     }
 }

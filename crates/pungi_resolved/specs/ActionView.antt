@@ -24,7 +24,7 @@ abbrev pub Node : Type 0
 Node = Pos → plain.Action
 
 abbrev pub action_node_step : ActionNode-F Node plain.Action → Node
-action_node_step (ActionNode-F.Block first count as' q) = λ p. plain.block_of p first count (actions_of as'.items) q
+action_node_step (ActionNode-F.Block as' q) = λ p. plain.block_of p (actions_of as'.items) q
 action_node_step (ActionNode-F.Reach rs) = λ p. plain.reach p (map reached_view rs.items)
 action_node_step (ActionNode-F.Evaluate v) = λ p. plain.evaluate p (optional_view v)
 action_node_step (ActionNode-F.Test c a) = λ p. plain.test p (boxed_view c) a.value
@@ -48,4 +48,4 @@ abbrev pub action_view : Action → plain.Action
 action_view = fold-Action Node plain.Action action_node_step action_step
 
 abbrev pub function_view : Function → plain.ResolvedFunction
-function_view f = record { name = f.name; pos = f.pos; params = f.params; result = f.result; body = action_view f.body }
+function_view f = record { name = f.name; pos = f.pos; params = f.params; locals = f.locals; result = f.result; body = action_view f.body }

@@ -23,8 +23,8 @@ pub struct Action {
 #[derive(Drop)]
 #[cycle(actions)]
 pub enum ActionNode {
-    /// A block: the number of its first local, how many it has, its statements, and the place of its closing brace.
-    Block(u32, u32, Vec<Action>, Pos),
+    /// A block: its statements, and the place of its closing brace.
+    Block(Vec<Action>, Pos),
     Reach(Vec<Reached>),
     Evaluate(Option<Box<Value>>),
     Test(Box<Value>, Box<Action>),

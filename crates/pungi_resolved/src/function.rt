@@ -8,6 +8,8 @@ pub struct Function {
     pub name: Name,
     pub pos: Pos,
     pub params: Seq<Option<ValueKind>>,
+    /// How many locals it has, its parameters counted.
+    pub locals: usize,
     pub result: Option<ValueKind>,
     pub body: Action,
 }

@@ -9,6 +9,7 @@ ghost use Rattle.pungi_tree.specs.StmtView.{stmt_view, stmts_of};
 use indexmap::IndexSet;
 use pungi_base::{Kind, Memory, Punct};
 use pungi_tree::{Expr, ExprNode, Stmt, StmtNode};
+use pungi_types::operator::byte_value;
 use pungi_types::{Finding, note};
 use std::alloc::Global;
 
@@ -24,7 +25,7 @@ fn unsigned_constant(e: &Expr) -> Option<i128>
 {
     match &e.node {
         ExprNode::Int { value, .. } => { if *value < 0 { None } else { Some(*value) } }
-        ExprNode::Char(code) => Some(*code as i128),
+        ExprNode::Char(code) => Some(i128::from(byte_value(*code))),
         _ => None,
     }
 }

@@ -32,7 +32,8 @@ fn vars(list: &Vec<VarDecl>) -> u32
 {
     let mut nodes = 0;
     for var in list {
-        nodes = plus(nodes, plus(declr(&var.declr), init(&var.value)));
+        let var = plus(plus(declr(&var.declr), init(&var.value)), 1);
+        nodes = plus(nodes, var);
     }
     nodes
 }
@@ -88,7 +89,7 @@ fn stmts(list: &Vec<Stmt>) -> u32
     nodes
 }
 
-/// The nodes of a function: its statements and its expressions, those inside types too.
+/// The nodes of a function: its statements, its expressions, those inside types too, and the variables that it declares.
 pub(crate) fn function_size(f: &FunctionDef) -> u32
     ensures { result ≡ capped (function_nodes (definition_view f.now)) }
 {

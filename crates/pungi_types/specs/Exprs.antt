@@ -211,7 +211,7 @@ abbrev pub is_bad_int : ℤ → Bool → Bool
 is_bad_int v u = u || (int_lt v (pos 0) || int_lt (pos 9223372036854775807) v)
 
 abbrev pub int_kind : ℤ → Bool → Bool → Option ValueKind
-int_kind v l u = (if is_bad_int v u then None else (if l then Some kinds.Long else Some kinds.Int))
+int_kind v l u = (if is_bad_int v u then None else (if l || int_lt (pos 2147483647) v then Some kinds.Long else Some kinds.Int))
 
 abbrev pub step_kind : Bool → Option ValueKind → Option ValueKind
 step_kind place k = (if place && is_integer k then k else None)

@@ -2,12 +2,13 @@
 --   own_labels ws s, block_labels ws ss    these words, and the labels of a statement or a block that are in no inner block
 --   labels_after, labels_after_all    these words, and all labels of a statement or of statements
 --   label_findings ws s, labels_findings    a label twice
+--   byte c              a character's number
 --   unsigned_constant, negated, is_minus, constant_of e    the value of an Int or Char, with at most one `-`
 --   Cases, no_cases     the cases of a switch so far
 --   has_value, with_value, with_constant, is_equal_case, with_default, cases_after    one more of them
 --   case_findings, cases_findings, switch_findings s    an equal case, a second default
 --   start_locals, stmt_locals, stmts_locals, param_count    how many locals are declared
-use Rattle.std.specs.Prelude.{ℕ, ℤ, pos, neg_ℤ, int_lt, ◌+◌, Bool, true, false, List, [], ◌∷◌, ◌++◌, length, Option, Some, None, if◌then◌else◌}
+use Rattle.std.specs.Prelude.{ℕ, ℤ, pos, neg_ℤ, nat_lt, int_lt, ◌+◌, Bool, true, false, List, [], ◌∷◌, ◌++◌, length, Option, Some, None, if◌then◌else◌}
 use Rattle.std.specs.List.{list_any}
 use Rattle.std.specs.Ordering.{int_eq}
 use Rattle.pungi_base.specs.declared.kind.Kind.{Kind}
@@ -75,10 +76,14 @@ abbrev mutual
   labels_findings ws (stmt_and s ss) = label_findings ws s and labels_findings (labels_after ws s) ss
 
 -- .. cases
+-- a character is one byte; no tree that is read holds another number
+abbrev pub byte : ℕ → ℕ
+byte c = if nat_lt c 256 then c else 0
+
 -- an Int, which is not below 0, or a Char
 abbrev pub unsigned_constant : Expr → Option ℤ
 unsigned_constant (int p v l u) = (if int_lt v (pos 0) then None else Some v)
-unsigned_constant (char p c) = Some (pos c)
+unsigned_constant (char p c) = Some (pos (byte c))
 unsigned_constant _ = None
 
 abbrev pub negated : Option ℤ → Option ℤ

@@ -1,8 +1,8 @@
--- How many nodes a function has: its statements and its expressions, those inside types too.
+-- How many nodes a function has: its statements, its expressions, those inside types too, and the variables that it declares.
 --   expr_nodes, exprs_nodes    an expression and arguments
 --   type_name_nodes, spec_nodes, base_nodes, field_nodes, fields_nodes, declr_nodes, declrs_nodes, tail_nodes, sizes_nodes, params_nodes, param_decl_nodes,
 --   param_decls_nodes, param_declr_nodes    the expressions inside a type or a declarator
---   option_nodes, init_nodes, vars_nodes, decl_nodes, start_nodes    an expression that may be missing, and the expressions of declarations
+--   option_nodes, init_nodes, vars_nodes, decl_nodes, start_nodes    an expression that may be missing; declarations, with the variables that they declare
 --   stmt_nodes, stmts_nodes    statements
 --   function_nodes d           a function
 use Rattle.std.specs.Prelude.{ℕ, ◌+◌, List, [], ◌∷◌, Option, Some, None}
@@ -99,7 +99,7 @@ init_nodes (Some (table ts)) = 0
 
 abbrev pub vars_nodes : List VarDecl → ℕ
 vars_nodes [] = 0
-vars_nodes (var_decl d i ∷ vs) = declr_nodes d + init_nodes i + vars_nodes vs
+vars_nodes (var_decl d i ∷ vs) = declr_nodes d + init_nodes i + 1 + vars_nodes vs
 
 abbrev pub decl_nodes : Decl → ℕ
 decl_nodes (decl qs s vs) = spec_nodes s + vars_nodes vs

@@ -16,6 +16,7 @@ use Rattle.pungi_api.specs.declared.row.Row.{Row}
 use Rattle.pungi_types.specs.Kinds.{type_name_kind}
 use Rattle.pungi_types.specs.Names.{Env, Meaning, a_local, a_global, a_static, meaning_of, static_number}
 use Rattle.pungi_types.specs.Operators.{prefix_of, is_arithmetic, is_order, is_equality, is_arithmetic_assign, is_integer, is_int, is_void, wider, struct_part}
+use Rattle.pungi_types.specs.Labels.{byte}
 use Rattle.pungi_types.specs.Exprs.{int_kind, kind_of, is_module_address, wants, wants_module, other_wants, callee, Callee, defined, a_row}
 use Rattle.pungi_types.specs.declared.lookup.Want.{Want}
 use Rattle.pungi_types.specs.declared.lookup.Want.TheVariants as wanted
@@ -168,7 +169,7 @@ abbrev mutual
   pub resolve : Env → Expr → Value
   resolve env (word p n) = word_value p n (meaning_of env n.0) (kind_of env (word p n))
   resolve env (int p v l u) = int_value p (int_kind v l u) v
-  resolve env (char p c) = constant p (pos c)
+  resolve env (char p c) = constant p (pos (byte c))
   resolve env (text p ns) = text_of p ns
   resolve env (null p) = null_of p
   resolve env (paren p e) = inner p (resolve env e)

@@ -20,10 +20,10 @@ use Rattle.pungi_types.specs.Files.{Definition, declr_name, declr_pos}
 use Rattle.pungi_types.specs.Names.{Env}
 use Rattle.pungi_types.specs.Kinds.{declared_kind}
 use Rattle.pungi_types.specs.Exprs.{kind_of, param_kind}
-use Rattle.pungi_types.specs.Labels.{constant_of, stmt_locals, stmts_locals}
+use Rattle.pungi_types.specs.Labels.{constant_of, stmt_locals}
 use Rattle.pungi_types.specs.Resolved.{Value, convert, resolve}
 use Rattle.pungi_types.specs.Stmts.{with_local}
-use Rattle.pungi_types.specs.Functions.{file_env, result_kind}
+use Rattle.pungi_types.specs.Functions.{file_env, result_kind, params_count, body_locals}
 use Rattle.pungi_types.specs.declared.kind.ValueKind.{ValueKind}
 
 -- a local as it is reached: its number and place, and its value, if it has one; without one it becomes unset
@@ -35,7 +35,7 @@ pub record Reached : Type 0 where
 
 mutual
   pub data Action : Type 0 where
-    block_of : Pos → ℕ → ℕ → Actions → Pos → Action  -- its locals from this number on, so many, are unset as it is entered
+    block_of : Pos → Actions → Pos → Action  -- the locals that it declares are unset as it is entered
     reach : Pos → List Reached → Action
     evaluate : Pos → Option Value → Action
     test : Pos → Value → Action → Action
@@ -142,7 +142,7 @@ case_value (Some v) = v
 -- .. statements
 abbrev mutual
   pub action : Site → Stmt → Action
-  action f (block p ss q) = block_of p f.next (stmts_locals ss) (actions f ss) q
+  action f (block p ss q) = block_of p (actions f ss) q
   action f (declare p (decl qs s vs)) = reach p (reached f s vs)
   action f (do_expr p e) = evaluate p (option_value f.env e)
   action f (if_only p e s) = test p (resolve f.env e) (action f s)
@@ -167,7 +167,7 @@ abbrev mutual
 -- a body is a block
 abbrev pub body_action : Pos → Site → Stmt → Action
 body_action p f (block q ss r) = action f (block q ss r)
-body_action p f _ = block_of p f.next 0 no_actions p
+body_action p f _ = block_of p no_actions p
 
 -- .. functions
 abbrev pub param_kinds : List Item → ParamDecls → List (Option ValueKind)
@@ -180,11 +180,12 @@ params_kinds file (params ds v dots) = param_kinds file ds
 abbrev pub first_site : Env → Definition → Site
 first_site env d = record { env = env; next = 0; result = result_kind env d }
 
--- a function with its names resolved: the parameters are the first locals
+-- a function with its names resolved: the parameters are the first of its locals, and are counted among them
 pub record ResolvedFunction : Type 0 where
   pub name : Name
   pub pos : Pos
   pub params : List (Option ValueKind)
+  pub locals : ℕ
   pub result : Option ValueKind
   pub body : Action
 
@@ -193,6 +194,7 @@ resolved_in env d = record {
   name = d.name;
   pos = d.pos;
   params = params_kinds env.file d.params;
+  locals = params_count d.params + body_locals d.body;
   result = result_kind env d;
   body = body_action d.pos (params_site (first_site env d) d.params) d.body;
 }

@@ -50,7 +50,7 @@ are_sound_locals (r ∷ rs) = is_sound_option r.value && are_sound_locals rs
 
 abbrev mutual
   pub is_sound_action : Action → Bool
-  is_sound_action (block_of p n m ss q) = are_sound_actions ss
+  is_sound_action (block_of p ss q) = are_sound_actions ss
   is_sound_action (reach p rs) = are_sound_locals rs
   is_sound_action (evaluate p v) = is_sound_option v
   is_sound_action (test p v a) = is_sound v && is_sound_action a

@@ -1,5 +1,6 @@
 //! What operators make of the kinds of their operands (C11 6.5).
-ghost use Rattle.std.specs.Prelude.{◌≡◌, ◌&&◌, ◌||◌};
+ghost use Rattle.std.specs.Prelude.{◌≡◌, ◌&&◌, ◌||◌, pos};
+ghost use Rattle.pungi_types.specs.Labels.{byte};
 ghost use Rattle.pungi_types.specs.Operators.{is_bits as is_bits_of, is_arithmetic as is_arithmetic_of, is_order as is_order_of, is_equality as is_equality_of, is_bits_assign as is_bits_assign_of, is_arithmetic_assign as is_arithmetic_assign_of, prefix_of as prefix_of_kind, on_pointers as on_pointers_of, assigns_pointers as assigns_pointers_of, is_int as is_int_of, is_integer as is_integer_of, is_pointer as is_pointer_of, is_object as is_object_of, is_text as is_text_of, is_null as is_null_of, is_void as is_void_of, wider as wider_of, fits as fits_of, comparable as comparable_of, joinable as joinable_of, joined as joined_of, has_same as has_same_of, struct_part as struct_part_of};
 ghost use Rattle.pungi_types.specs.Exprs.{binary_kind as binary_kind_of, binary_wrong as binary_wrong_of, assign_kind as assign_kind_of, assign_wrong as assign_wrong_of, cond_kind as cond_kind_of, cond_wrong as cond_wrong_of, cast_kind as cast_kind_of, cast_wrong as cast_wrong_of, crosses as crosses_of, step_kind as step_kind_of, want_met as want_met_of, first_met as first_met_of, wants_module as wants_module_of, other_wants as other_wants_of, unary_kind as unary_kind_of, unary_wrong as unary_wrong_of, is_step_or_sign, is_bad_int as is_bad_int_of, int_kind as int_kind_of};
 
@@ -132,13 +133,20 @@ pub fn is_bad_int(value: i128, unsigned: bool) -> bool
     unsigned || (value < 0 || value > 9223372036854775807)
 }
 
+/// The number of a character of one byte (C11 6.4.4.4).
+pub fn byte_value(code: u8) -> i64
+    ensures { result ≡ pos (byte code) }
+{
+    i64::from(code)
+}
+
 /// The kind of an integer constant (C11 6.4.4.1).
 pub fn int_kind(value: i128, long: bool, unsigned: bool) -> Known
     ensures { result ≡ int_kind_of value long unsigned }
 {
     if is_bad_int(value, unsigned) {
         None
-    } else if long {
+    } else if long || value > 2147483647 {
         Some(ValueKind::Long)
     } else {
         Some(ValueKind::Int)

@@ -28,8 +28,8 @@ returns-clause-function g c =
     let kind : c.type_kind-result_kind.result ≡ result_kind env (definition_view f) =
     c.type_kind-result_kind.ensures ∙ ap (λ n. type_kind env.file (spec_base (spec_view f.result)) n) stars
     in
-    whole env f w c.resolve_params.new.walk c.type_kind-result_kind.result c.new-2.result (action_view c.in_ok-body.body) c.new.ensures refl kind c.in_ok-params.ensures.after
-    (c.new-2.ensures ∙ c.in_ok-params.ensures.kinds) c.in_ok-body.ensures
+    whole env f w c.resolve_params.new.walk c.type_kind-result_kind.result c.new-2.result c.resolve_body.new.walk.next (action_view c.in_ok-body.body) c.new.ensures refl kind c.in_ok-params.ensures.after
+    (c.new-2.ensures ∙ c.in_ok-params.ensures.kinds) c.in_ok-body.ensures.locals c.in_ok-body.ensures.action
 
 pub returns-clause-sound : goal.returns-clause-sound
 returns-clause-sound g c =
@@ -41,7 +41,7 @@ returns-clause-sound g c =
     c.type_kind-result_kind.ensures ∙ ap (λ n. type_kind env.file (spec_base (spec_view f.result)) n) stars
     in
     let e =
-    whole env f w c.resolve_params.new.walk c.type_kind-result_kind.result c.new-2.result (action_view c.in_ok-body.body) c.new.ensures refl kind c.in_ok-params.ensures.after
-    (c.new-2.ensures ∙ c.in_ok-params.ensures.kinds) c.in_ok-body.ensures
+    whole env f w c.resolve_params.new.walk c.type_kind-result_kind.result c.new-2.result c.resolve_body.new.walk.next (action_view c.in_ok-body.body) c.new.ensures refl kind c.in_ok-params.ensures.after
+    (c.new-2.ensures ∙ c.in_ok-params.ensures.kinds) c.in_ok-body.ensures.locals c.in_ok-body.ensures.action
     in
     sound-body env f _ c.requires e

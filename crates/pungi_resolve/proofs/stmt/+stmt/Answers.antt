@@ -25,16 +25,7 @@ resolve_block-returns-clause-walk g t c =
 
 pub resolve_block-returns-clause-action : goal.resolve_block-returns-clause-action
 resolve_block-returns-clause-action g t c =
-    let old = c.args.walk.now in
-    let ss = stmts_of (map stmt_view c.args.list.now.items) in
-    let w : c.leave.new.self ≡ record old { next = old.next + stmts_locals ss } =
-    left_block (g.N.Lookup.env c.args.names.now) old c.resolve_list.new.walk c.leave.new.self c.args.around.result ss c.len-kept.result c.len-kept.ensures c.in_ok-found.ensures.after c.leave.ensures
-    in
-    let next : c.leave.new.self.next ≡ old.next + stmts_locals ss = ap (λ (x : Walk). x.next) w in
-    let count : c.saturating_sub-count.result ≡ stmts_locals ss = omega (arith, next, c.saturating_sub-count.ensures) in
-    c.in_ok-block_of.ensures
-    ∙ ap (λ n. block_of c.args.pos old.next n (actions_of (map action_view c.in_ok-found.found.items)) c.args.end) count
-    ∙ ap (λ as'. block_of c.args.pos old.next (stmts_locals ss) as' c.args.end) c.in_ok-found.ensures.actions
+    c.block_of.ensures ∙ ap (λ as'. block_of c.args.pos as' c.args.end) c.in_ok-found.ensures.actions
 
 pub resolve_list-returns-clause-actions : goal.resolve_list-returns-clause-actions
 resolve_list-returns-clause-actions g t c =

@@ -1,0 +1,47 @@
+-- What the definitions say of small functions, by computing: the words of the tables of Worked*, which hold functions and how their runs end.
+use Rattle.std.proofs.Common.{ℕ, List, [], ◌∷◌, Option, Some, None}
+use Rattle.pungi_base.specs.declared.choice.Choice.{Choice}
+use Rattle.pungi_base.specs.declared.entry.Entry.{Entry}
+use Rattle.pungi_base.specs.declared.names.Name.{Name}
+use Rattle.pungi_base.specs.declared.pos.Pos.{Pos}
+use Rattle.pungi_base.specs.declared.value.Value.{Value}
+use Rattle.pungi_tree.specs.Syntax as plain
+use Rattle.pungi_api.specs.Rows.{builtin_rows}
+use Rattle.pungi_types.specs.Files.{Definition, definitions}
+use Rattle.pungi_types.specs.ResolvedStmts.{ResolvedFunction, resolved}
+use Rattle.pungi_meaning.specs.Run.{End, Returned, Stopped, NeedsChoice, OutOfFuel, run_of}
+
+abbrev pub at : ℕ → ℕ → Pos
+at l c = record { line = l; col = c }
+
+abbrev pub name : ℕ → Name
+name n = record { 0 = n }
+
+pub data Told : Type 0 where
+  gives : Option Value → Pos → List Pos → Told
+  stops : Pos → Told
+  wants : Told
+  goes_on : Told
+
+abbrev pub told : End → Told
+told (Returned w v p used) = gives v p used
+told (Stopped p) = stops p
+told NeedsChoice = wants
+told OutOfFuel = goes_on
+
+-- a file's last function, with its names resolved
+abbrev last_of : List plain.Item → List Definition → Option ResolvedFunction
+last_of file [] = None
+last_of file (d ∷ []) = Some (resolved file builtin_rows [] d)
+last_of file (d ∷ ds) = last_of file ds
+
+abbrev pub last_function : List plain.Item → Option ResolvedFunction
+last_function file = last_of file (definitions file)
+
+abbrev run_of_last : Option ResolvedFunction → Entry → List Choice → ℕ → End
+run_of_last None entry choices fuel = OutOfFuel
+run_of_last (Some f) entry choices fuel = (run_of f entry choices fuel).end
+
+-- how a run of it ends
+abbrev pub last_run : List plain.Item → ℕ → List Value → List Choice → ℕ → End
+last_run file objects args choices fuel = run_of_last (last_function file) (record { objects = objects; args = args }) choices fuel
