@@ -9,15 +9,27 @@
 --   counts_in k x                   a variable of a parameter's kind counts in a kind of integers
 --   is_place vars place             a place is a slot of a kind, of an object
 --   is_argument vars p a, are_arguments    an atom may be passed for a parameter
+--   form_params, wanted_params row  what a call of a row takes
+--   answer_param a, form_answer, row_answer row    what it answers
+--   is_answer vars row x, is_output the variable that an answer goes to, where there is one, may hold it; one that a call writes is there
 --   is_sound code i                 an instruction names variables, labels and kinds that are there
 --   leads_on i                      the instruction behind this one may come next
 --   targets i                       the labels that an instruction names
 --   goes_back heads place i         each label that leads back is a loop's head
 --   IsWellFormed code               so are all instructions of a code, and the sizes are within the limits
-use Rattle.std.specs.Prelude.{◌≡◌, ℕ, ◌+◌, ◌<◌, ◌≤◌, ◌^◌, ◌-◌, nat_lt, nat_le, ℤ, pos, negsuc, int_le, Bool, true, false, ◌&&◌, ◌||◌, not, List, [], ◌∷◌, length, get_or, slice_get, Option, Some, None, if◌then◌else◌}
+--   place_of i                      what an instruction reads or writes beside variables
+--   is_same_slot p q                a global of one name; a field of one name of structs of one tag
+--   HaveOneKind p q, AgreeOnKinds a b    such have one kind, where both are there; all those of two codes
+--   AreWellFormed codes             so are all codes of a file, and each slot has one kind in all of them
+use Rattle.std.specs.Prelude.{◌≡◌, ℕ, ◌+◌, ◌<◌, ◌≤◌, ◌^◌, ◌-◌, ◌==◌, nat_lt, nat_le, ℤ, pos, negsuc, int_le, Bool, true, false, ◌&&◌, ◌||◌, not, List, [], ◌∷◌, length, get_or, slice_get, Option, Some, None, if◌then◌else◌}
 use Rattle.std.specs.List.{list_any, list_all}
 use Rattle.pungi_api.specs.declared.param.Param.{Param}
 use Rattle.pungi_api.specs.declared.param.Param.TheVariants as param
+use Rattle.pungi_api.specs.declared.answer.Answer.{Answer}
+use Rattle.pungi_api.specs.declared.answer.Answer.TheVariants as answer
+use Rattle.pungi_api.specs.declared.row.Form.{Form}
+use Rattle.pungi_api.specs.declared.row.Form.TheVariants as form
+use Rattle.pungi_api.specs.declared.row.Row.{Row}
 use Rattle.pungi_types.specs.declared.kind.ValueKind.{ValueKind}
 use Rattle.pungi_types.specs.declared.kind.ValueKind.TheVariants as kinds
 use Rattle.pungi_meaning.specs.declared.cmp.Cmp.{Cmp}
@@ -27,6 +39,7 @@ use Rattle.pungi_code.specs.declared.atom.Atom.{Atom}
 use Rattle.pungi_code.specs.declared.atom.Atom.TheVariants as atom
 use Rattle.pungi_code.specs.declared.atom.Var.{Var}
 use Rattle.pungi_code.specs.declared.code.Code.{Code}
+use Rattle.pungi_code.specs.declared.code.Codes.{Codes}
 use Rattle.pungi_code.specs.declared.code.Head.{Head}
 use Rattle.pungi_code.specs.declared.code.Line.{Line}
 use Rattle.pungi_code.specs.declared.instr.Instr.{Instr}
@@ -123,9 +136,37 @@ are_arguments vars [] (a ∷ as') = false
 are_arguments vars (p ∷ ps) [] = false
 are_arguments vars (p ∷ ps) (a ∷ as') = is_argument vars p a && are_arguments vars ps as'
 
-abbrev pub is_answer : List Param → Option Var → Bool
-is_answer vars None = true
-is_answer vars (Some x) = is_var vars x
+-- a row of its own takes one object, or NULL
+abbrev pub form_params : Form → List Param → List Param
+form_params form.Plain ps = ps
+form_params (form.Special s) ps = param.ObjectOrNull ∷ []
+
+abbrev pub wanted_params : Row → List Param
+wanted_params row = form_params row.form row.params
+
+abbrev pub answer_param : Answer → Param
+answer_param answer.Status = param.Int
+answer_param answer.Truth = param.Int
+answer_param answer.Int = param.Int
+answer_param answer.Long = param.Long
+answer_param answer.Size = param.Size
+answer_param answer.Text = param.TextOrNull
+answer_param a = param.ObjectOrNull
+
+abbrev pub form_answer : Form → Answer → Param
+form_answer form.Plain a = answer_param a
+form_answer (form.Special s) a = param.ObjectOrNull
+
+abbrev pub row_answer : Row → Param
+row_answer row = form_answer row.form row.answer
+
+abbrev pub is_answer : List Param → Row → Option Var → Bool
+is_answer vars row None = true
+is_answer vars row (Some x) = is_var vars x && is_wide (row_answer row) (var_kind vars x)
+
+abbrev pub is_output : List Param → Option Var → Bool
+is_output vars None = true
+is_output vars (Some x) = is_var vars x
 
 abbrev pub is_label : Code → Label → Bool
 is_label code l = nat_lt l.0 (length code.instrs)
@@ -137,7 +178,8 @@ is_sound code (Fit x kind a) = is_var code.vars x && (counts_in kind (var_kind c
 is_sound code (Compare x c a b) = is_var code.vars x && (is_integer (var_kind code.vars x) && (if is_order c then is_number code.vars a && is_number code.vars b else are_alike code.vars a b))
 is_sound code (Load x place) = is_var code.vars x && (is_place code.vars place (place_kind place) && is_wide (place_kind place) (var_kind code.vars x))
 is_sound code (Store place a) = is_place code.vars place (place_kind place) && atom_is code.vars (place_kind place) a
-is_sound code (Api x shape as' outs) = is_answer code.vars x && (list_all (λ o. is_answer code.vars o) outs && nat_le (length as') (2 ^ 14))
+is_sound code (Api x shape as' outs) =
+    is_answer code.vars shape.row x && (are_arguments code.vars (wanted_params shape.row) as' && (list_all (λ o. is_output code.vars o) outs && nat_le (length as') (2 ^ 14)))
 is_sound code (Call x f as') = false
 is_sound code (Unset x) = is_var code.vars x
 is_sound code (Jump to) = is_label code to
@@ -175,3 +217,29 @@ pub record IsWellFormed (code : Code) : Type 0 where
   pub sound : (place : ℕ) (line : Line) → slice_get code.instrs place ≡ Some line → is_sound code line.instr ≡ true
   pub last : (place : ℕ) (line : Line) → slice_get code.instrs place ≡ Some line → leads_on line.instr ≡ true → place + 1 < length code.instrs
   pub back : (place : ℕ) (line : Line) → slice_get code.instrs place ≡ Some line → goes_back code.heads place line.instr ≡ true
+
+-- ---- all codes of a file
+
+abbrev pub place_of : Instr → Option Place
+place_of (Load x place) = Some place
+place_of (Store place a) = Some place
+place_of i = None
+
+abbrev pub is_same_slot : Place → Place → Bool
+is_same_slot (Global n k) (Global m l) = n.0 == m.0
+is_same_slot (Field base tag field k) (Field other struct name l) = tag.0 == struct.0 && field.0 == name.0
+is_same_slot p q = false
+
+abbrev pub HaveOneKind : Option Place → Option Place → Type 0
+HaveOneKind (Some p) (Some q) = is_same_slot p q ≡ true → place_kind p ≡ place_kind q
+HaveOneKind p q = Unit {0}
+
+abbrev pub AgreeOnKinds : Code → Code → Type 0
+AgreeOnKinds a b = (i j : ℕ) (l m : Line) → slice_get a.instrs i ≡ Some l → slice_get b.instrs j ≡ Some m → HaveOneKind (place_of l.instr) (place_of m.instr)
+
+pub record AreWellFormed (codes : Codes) : Type 0 where
+  pub each : (f : ℕ) (code : Code) → slice_get codes.codes f ≡ Some (Some code) → IsWellFormed code
+  pub kinds : (f g : ℕ) (a b : Code) → slice_get codes.codes f ≡ Some (Some a) → slice_get codes.codes g ≡ Some (Some b) → AgreeOnKinds a b
+  pub names : length codes.names ≡ length codes.codes
+  pub few : length codes.codes ≤ 2 ^ 12
+  pub statics : codes.statics ≤ 2 ^ 30 + 24

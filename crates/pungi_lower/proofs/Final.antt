@@ -8,7 +8,7 @@ use Rattle.pungi_types.specs.Operators.{is_void}
 use Rattle.pungi_types.specs.ResolvedStmts.{ResolvedFunction}
 use Rattle.pungi_world.specs.declared.content.Content.{Content}
 use Rattle.pungi_world.specs.declared.content.Content.TheVariants.{Unset, Holds}
-use Rattle.pungi_meaning.specs.Run.{closing, locals_of, start, body_of}
+use Rattle.pungi_meaning.specs.Run.{closing, start, body_of}
 use Rattle.pungi_meaning.specs.Work.{content_at}
 use Rattle.pungi_code.specs.declared.code.Line.{Line}
 use Rattle.pungi_code.specs.Alike.{Alike}
@@ -24,7 +24,8 @@ use Rattle.pungi_lower.proofs.Steps.{At}
 use Rattle.pungi_lower.proofs.Whole.{alike}
 use Rattle.pungi_lower.proofs.WeightCounts.{stmt_light}
 use Rattle.pungi_lower.proofs.PlacedExprs.{HasAt, has_all, has_cut}
-use Rattle.pungi_lower.proofs.PlacedStmts.{stmt_long, stmt_placed}
+use Rattle.pungi_lower.proofs.StmtLengths.{stmt_long}
+use Rattle.pungi_lower.proofs.PlacedStmts.{stmt_placed}
 
 end_placed : (v : Bool) (code : List Line) (nl room pc : ℕ) (p : Pos) → HasAt code pc (end_code p v) → EndAt code nl room v p pc
 end_placed true code nl room pc p h = h.0
@@ -60,16 +61,16 @@ vars_long vs n le =
     let u = unset_long (n - length vs) in
     omega (arith, e, m, u, le)
 
-module _ (f : ResolvedFunction) (most : ℕ) (s : IsStmtSound (locals_of f.body) f.body) (light : stmt_weight f.body + 1 ≤ most) where
-  begins : (entry : Entry) (choices : List Choice) → length entry.args ≤ locals_of f.body → At choices (body_code f) (locals_of f.body) (locals_of f.body + temps_of f) (body_of f) (start f entry) 0 (first_regs (locals_of f.body + temps_of f) entry)
+module _ (f : ResolvedFunction) (most : ℕ) (s : IsStmtSound (f.locals) f.body) (light : stmt_weight f.body + 1 ≤ most) where
+  begins : (entry : Entry) (choices : List Choice) → length entry.args ≤ f.locals → At choices (body_code f) (f.locals) (f.locals + temps_of f) (body_of f) (start f entry) 0 (first_regs (f.locals + temps_of f) entry)
   begins entry choices le =
-      let nl = locals_of f.body in
+      let nl = f.locals in
       let room = nl + temps_of f in
       let code = body_code f in
       let size = stmt_size f.body in
       let body = stmt_code nl (everywhere size) 0 f.body in
       let h = has_all code [] in
-      let g = has_cut code 0 size body (end_code (closing f.body) (is_void f.result)) (stmt_long f.body nl (everywhere size) 0 s) h in
+      let g = has_cut code 0 size body (end_code (closing f.body) (is_void f.result)) (stmt_long f.body nl (everywhere size) 0) h in
       let z : 0 + size ≡ size = omega arith in
       let e : size ≡ 0 + size = omega arith in (
         everywhere size,
@@ -90,12 +91,12 @@ module _ (f : ResolvedFunction) (most : ℕ) (s : IsStmtSound (locals_of f.body)
         },
       )
 
-  pub behaves : Behaves f (body_code f) (locals_of f.body + temps_of f) most
+  pub behaves : Behaves f (body_code f) (f.locals + temps_of f) most
   behaves = record {
     alike = λ entry choices le.
-        alike choices (body_code f) (locals_of f.body) (locals_of f.body + temps_of f) most (body_of f) (start f entry) 0 (first_regs (locals_of f.body + temps_of f) entry) (omega (arith, light)) (omega (arith, light)) (omega (arith, light), (tt, tt)) (begins entry choices le);
+        alike choices (body_code f) (f.locals) (f.locals + temps_of f) most (body_of f) (start f entry) 0 (first_regs (f.locals + temps_of f) entry) (omega (arith, light)) (omega (arith, light)) (omega (arith, light), (tt, tt)) (begins entry choices le);
   }
 
 -- .. with the bound that five steps a node give
-pub laid_out : (f : ResolvedFunction) → IsStmtSound (locals_of f.body) f.body → 5 * stmt_nodes f.body ≤ 65536 → Behaves f (body_code f) (locals_of f.body + temps_of f) 65536
+pub laid_out : (f : ResolvedFunction) → IsStmtSound (f.locals) f.body → 5 * stmt_nodes f.body ≤ 65536 → Behaves f (body_code f) (f.locals + temps_of f) 65536
 laid_out f s le = let a = stmt_light f.body in behaves f 65536 s (omega (arith, a, le))

@@ -152,11 +152,11 @@ module _ (code : List Line) (nl room : ℕ) where
   enter_leads (stmt.repeat_for p rs u c w a) l env k pc h is =
       let e : pc + (length rs + reach_size rs + option_size u + test_size c + stmt_size a + option_size w + 1) ≡ pc + length rs + reach_size rs + option_size u + test_size c + stmt_size a + option_size w + 1 = omega arith in
       loop_reaches (a_loop c w a) l env (pc + length rs + reach_size rs + option_size u) k (h.3, h.4, h.5, h.6) (shift env k _ _ e is) (λ inner k' at g j. enter_leads a l inner k' at g j)
-  enter_leads (stmt.switch_on p v (stmt.block_of q first count ss r)) l env k pc h is = tt
+  enter_leads (stmt.switch_on p v (stmt.block_of q ss r)) l env k pc h is = tt
   enter_leads (stmt.switch_on p v a) l env k pc h is =
       let e : pc + (expr_size v + (1 + stmt_size a)) ≡ pc + expr_size v + 1 + stmt_size a = omega arith in
       enter_leads a l (in_switch env (pc + expr_size v + 1 + stmt_size a)) (ToSwitchEnd ∷ k) (pc + expr_size v + 1) h.5 (env, refl, refl, refl, λ l'. refl, shift env k _ _ e is)
-  enter_leads (stmt.block_of p first count ss q) l env k pc h is = tt
+  enter_leads (stmt.block_of p ss q) l env k pc h is = tt
   enter_leads (stmt.reach p rs) l env k pc h is = tt
   enter_leads (stmt.evaluate p v) l env k pc h is = tt
   enter_leads (stmt.jump p n) l env k pc h is = tt

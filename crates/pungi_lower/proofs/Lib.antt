@@ -1,3 +1,15 @@
+pub mod ListLemmas
+pub mod ArgLemmas
+pub mod Lengths
+pub mod StmtLengths
+pub mod EmitLemmas
+pub mod DeclLemmas
+pub mod CaseLemmas
+pub mod LabelLemmas
+pub mod StmtLemmas
+pub mod ActionLemmas
+pub mod SurveyLemmas
+pub mod KindLemmas
 pub mod Relation
 pub mod Match
 pub mod Answers
@@ -15,5 +27,40 @@ pub mod Whole
 pub mod PlacedExprs
 pub mod PlacedStmts
 pub mod WeightCounts
-pub mod Counts
 pub mod Final
+pub mod NodesExprs
+pub mod NodesStmts
+pub mod TypedParts
+pub mod TypedExprs
+pub mod TypedStmts
+pub mod TypedFunctions
+pub mod NodesCode
+pub mod LivenessLemmas
+pub mod LivenessExprs
+pub mod KindsBase
+pub mod KindsColumns
+pub mod KindsExprs
+pub mod KindsPlaces
+pub mod KindsStmts
+pub mod KindsCode
+pub mod FoundPlaces
+pub mod LivenessStmts
+pub mod BoundaryExprs
+pub mod BoundaryStmts
+pub mod BoundaryHeads
+pub mod EntryKinds
+mod Worked
+mod WorkedOperators
+mod WorkedSlots
+mod WorkedStatements
+pub mod KindsParts
+pub mod KindsOperators
+pub mod KindsWords
+pub mod KindsCalls
+pub mod KindsPassed
+pub mod KindsLocals
+pub mod KindsPassedStmts
+pub mod KindsFunctions
+pub mod KindsSlots
+pub mod TypedLaws
+pub mod Lowered

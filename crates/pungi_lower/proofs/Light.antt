@@ -246,7 +246,7 @@ module _ (most : ℕ) where
   enter_light (Some j) list k le h = (omega (arith, drop_light j list), (le, (tt, h)))
 
   switch_light : (a : stmt.Action) (p : Pos) (v : Value) (k : List Todo) (s : State) → switch_weight a ≤ most → AreLight k → Leaves (switch_weight a + weight k) (switch p v a k s)
-  switch_light (stmt.block_of q first count ss r) p v k s le h =
+  switch_light (stmt.block_of q ss r) p v k s le h =
       let e = list_is ss in
       let g = enter_light (target v (listed ss)) (listed ss) k (omega (arith, e, le)) h in (omega (arith, e, g.0), g.1)
   switch_light a p v k s le h = (omega arith, h)
@@ -305,10 +305,10 @@ module _ (most : ℕ) where
   entered_light (stmt.repeat_for p rs u c w a) l k le h =
       let g = again_less c w (stmt_weight a) in
       found_more (stmt_weight a + (again_weight w + weight k)) _ (entered l a (ToAgain (a_loop c w a) ∷ k)) (omega (arith, g)) (entered_light a l (ToAgain (a_loop c w a) ∷ k) (body_light c w (stmt_weight a) most (omega (arith, le))) (omega (arith, le), h))
-  entered_light (stmt.switch_on p v (stmt.block_of q first count ss r)) l k le h = tt
+  entered_light (stmt.switch_on p v (stmt.block_of q ss r)) l k le h = tt
   entered_light (stmt.switch_on p v a) l k le h =
       found_more (stmt_weight a + (1 + weight k)) (expr_weight v + (stmt_weight a + 2) + 1 + weight k) (entered l a (ToSwitchEnd ∷ k)) (omega arith) (entered_light a l (ToSwitchEnd ∷ k) (omega (arith, le)) (tt, h))
-  entered_light (stmt.block_of p first count ss q) l k le h = tt
+  entered_light (stmt.block_of p ss q) l k le h = tt
   entered_light (stmt.reach p rs) l k le h = tt
   entered_light (stmt.evaluate p v) l k le h = tt
   entered_light (stmt.jump p n) l k le h = tt
@@ -346,7 +346,7 @@ module _ (most : ℕ) where
   returning_light (Some v) p k s h = (omega arith, (tt, (tt, h)))
 
   execute_light : (a : stmt.Action) (k : List Todo) (s : State) → stmt_weight a ≤ most → AreLight k → Leaves (stmt_weight a + weight k + most * jumps (ToExec a ∷ k)) (execute a k s)
-  execute_light (stmt.block_of p first count ss q) k s le h = let e = list_is ss in (omega (arith, e), (omega (arith, e, le), h))
+  execute_light (stmt.block_of p ss q) k s le h = let e = list_is ss in (omega (arith, e), (omega (arith, e, le), h))
   execute_light (stmt.reach p rs) k s le h = (omega arith, (tt, h))
   execute_light (stmt.evaluate p v) k s le h = let r = started_light v k h in (omega (arith, r.0), r.1)
   execute_light (stmt.test p c a) k s le h = (omega arith, (tt, ((omega (arith, le), omega arith), h)))
@@ -355,7 +355,7 @@ module _ (most : ℕ) where
   execute_light (stmt.repeat_until p a c) k s le h = (omega arith, (omega (arith, le), (omega (arith, le), h)))
   execute_light (stmt.repeat_for p rs u c w a) k s le h =
       let r = started_light u (ToTest (a_loop c w a) ∷ k) (omega (arith, le), h) in (omega (arith, r.0), (tt, r.1))
-  execute_light (stmt.switch_on p v (stmt.block_of q first count ss r)) k s le h = (omega arith, (tt, (omega (arith, le), h)))
+  execute_light (stmt.switch_on p v (stmt.block_of q ss r)) k s le h = (omega arith, (tt, (omega (arith, le), h)))
   execute_light (stmt.switch_on p v a) k s le h = (omega arith, (tt, (omega (arith, le), h)))
   execute_light (stmt.at_case p n a) k s le h = (omega arith, (omega (arith, le), h))
   execute_light (stmt.at_default p a) k s le h = (omega arith, (omega (arith, le), h))

@@ -9,6 +9,7 @@ use Rattle.pungi_api.specs.declared.answer.Answer.{Answer}
 use Rattle.pungi_api.specs.declared.answer.Answer.TheVariants as answer
 use Rattle.pungi_api.specs.declared.row.Form.{Form}
 use Rattle.pungi_api.specs.declared.row.Form.TheVariants as form
+use Rattle.pungi_api.specs.declared.param.Param.{Param}
 use Rattle.pungi_types.specs.declared.kind.ValueKind.{ValueKind}
 use Rattle.pungi_types.specs.declared.kind.ValueKind.TheVariants as kinds
 use Rattle.pungi_types.specs.Resolved as expr
@@ -23,9 +24,10 @@ use Rattle.pungi_code.specs.declared.instr.Instr.TheVariants.{Set, Arith, Fit, C
 use Rattle.pungi_code.specs.declared.place.Place.TheVariants.{Global, Field}
 use Rattle.pungi_lower.specs.Parts.{is_minus, gives, gives_answer}
 use Rattle.pungi_lower.specs.Sizes.{expr_size, place_size, values_size, fit_size, store_size, sign_size, keep_size}
-use Rattle.pungi_lower.specs.Temporaries.{column, temp, joined_column, answer_column, form_column, value_column, temp_of, arg_vars}
+use Rattle.pungi_lower.specs.Temporaries.{column, temp, joined_column, answer_column, form_column, value_column, temp_of, operand, fitting_column, front_column, tail, arg_var, arg_vars}
 use Rattle.pungi_lower.specs.ExprCode.{line, to_var, var, at_label, bit, branch_on, fit_code, old_code, store_code, above, stored_var, counted_var, base_var, sign_code, sign_var, step_code, expr_code, base_code, args_code}
 use Rattle.pungi_lower.specs.Sound.{IsSound, IsPlaceSound, AreSound, expr_nodes, place_nodes, values_nodes}
+use Rattle.pungi_lower.proofs.Lengths.{fit_long, sign_long, old_long, store_long, more_long, long_append, expr_long, base_long, args_long}
 use Rattle.pungi_lower.proofs.Relation.{answer_var, One, is_same, level, Stands, Does, IsTemp, FitAt, OldAt, StoreAt, PutAt, StepAt, TruthAt, ExprAt, BaseAt, ArgsAt}
 
 -- ---- instructions that stand in the code
@@ -97,158 +99,6 @@ value_low (expr.dropped p v) = value_low v
 value_low (expr.called_row p n row vs) = form_low row.form row.answer
 value_low v = omega arith
 
--- ---- sizes are lengths
-
-fit_long : (same : Bool) (l : Line) → length (if same then [] else l ∷ []) ≡ (if same then 0 else 1)
-fit_long true l = refl
-fit_long false l = refl
-
-sign_long : (minus : Bool) (l : Line) → length (if minus then l ∷ [] else []) ≡ (if minus then 1 else 0)
-sign_long true l = refl
-sign_long false l = refl
-
-old_long : (nl : ℕ) (kind : ValueKind) (place : expr.Place) (t b : ℕ) → IsPlaceSound nl place → length (old_code kind place t b) ≡ 1
-old_long nl kind (expr.local_place p x) t b s = refl
-old_long nl kind (expr.global_place p n) t b s = refl
-old_long nl kind (expr.field_place p base tag field) t b s = refl
-old_long nl kind expr.no_place t b s = absurd s
-
-store_long : (nl : ℕ) (kind : ValueKind) (place : expr.Place) (t b v : ℕ) → IsPlaceSound nl place → length (store_code kind place t b v) ≡ store_size place
-store_long nl kind (expr.local_place p x) t b v s = refl
-store_long nl kind (expr.global_place p n) t b v s = refl
-store_long nl kind (expr.field_place p base tag field) t b v s = refl
-store_long nl kind expr.no_place t b v s = absurd s
-
-put_long : (nl d t : ℕ) (p : Pos) (kind counted : ValueKind) (place : expr.Place) (b s c : ℕ) → IsPlaceSound nl place → length (fit_code p kind counted s c ++ store_code kind place t b s) ≡ fit_size kind counted + store_size place
-put_long nl d t p kind counted place b s c so =
-    length-append (fit_code p kind counted s c) (store_code kind place t b s)
-    ∙ ap (λ n. n + length (store_code kind place t b s)) (fit_long (is_same kind counted) (line p (Fit (to_var s) kind (var c))))
-    ∙ ap (λ n. fit_size kind counted + n) (store_long nl kind place t b s so)
-
-pub more_long : (m n : ℕ) → m ≡ n → suc m ≡ 1 + n
-more_long m n e = omega (arith, e)
-
-pub long_append : (a b : List Line) (m n : ℕ) → length a ≡ m → length b ≡ n → length (a ++ b) ≡ m + n
-long_append a b m n e f = length-append a b ∙ ap (λ x. x + length b) e ∙ ap (λ x. m + x) f
-
-step_sum : (a f s : ℕ) → a + (1 + (1 + (f + s))) ≡ 0 + a + 1 + 0 + 1 + f + s
-step_sum a f s = omega arith
-
-behind_sum : (a f s : ℕ) → 1 + (a + (1 + (1 + (1 + (f + s))))) ≡ 1 + a + 1 + 1 + 1 + f + s
-behind_sum a f s = omega arith
-
-joined_sum : (a b : ℕ) → 1 + (a + (1 + (b + 2))) ≡ 1 + a + 1 + b + 2
-joined_sum a b = omega arith
-
-stored_sum : (a v s : ℕ) → a + (v + s) ≡ a + v + s
-stored_sum a v s = omega arith
-
-updated_sum : (a v f s : ℕ) → a + (1 + (v + (1 + (f + s)))) ≡ a + 1 + v + 1 + f + s
-updated_sum a v f s = omega arith
-
-chosen_sum : (c a b : ℕ) → c + (1 + (a + (1 + b))) ≡ c + 1 + a + 1 + b
-chosen_sum c a b = omega arith
-
-mutual
-  pub expr_long : (v : expr.Value) (nl d t pc : ℕ) → IsSound nl v → length (expr_code nl d t pc v) ≡ expr_size v
-  expr_long (expr.constant p n) nl d t pc s = refl
-  expr_long (expr.text_of p ns) nl d t pc s = refl
-  expr_long (expr.null_of p) nl d t pc s = refl
-  expr_long (expr.static_of p n) nl d t pc s = refl
-  expr_long (expr.module_of p n) nl d t pc s = refl
-  expr_long (expr.read p kind place) nl d t pc s =
-      long_append (base_code nl d pc place) (old_code kind place t (base_var nl place d)) (place_size place) 1 (base_long place nl d pc s) (old_long nl kind place t (base_var nl place d) s)
-  expr_long (expr.inner p v) nl d t pc s = expr_long v nl d t pc s
-  expr_long (expr.signed p m kind v) nl d t pc s =
-      long_append (expr_code nl d (sign_var (is_minus m) t (temp_of nl d v)) pc v) (sign_code (is_minus m) p kind t (temp_of nl d v)) (expr_size v) (sign_size (is_minus m)) (expr_long v nl d (sign_var (is_minus m) t (temp_of nl d v)) pc s.1) (sign_long (is_minus m) _)
-  expr_long (expr.negated p v) nl d t pc s =
-      let e = long_append (expr_code nl (d + 1) (temp_of nl (d + 1) v) (pc + 1) v) (line p (Branch (var (temp_of nl (d + 1) v)) (at_label (pc + 1 + expr_size v + 1)) (at_label (pc + 1 + expr_size v + 2))) ∷ line p (Set (to_var t) (bit false)) ∷ []) (expr_size v) 2 (expr_long v nl (d + 1) (temp_of nl (d + 1) v) (pc + 1) s.1) refl in
-      omega (arith, e)
-  expr_long (expr.stepped p false m kind place) nl d t pc s =
-      let b = base_var nl place d in
-      let o = temp nl (above place d) (column kind) in
-      let put = put_long nl d t p kind (wide kind) place b (stored_var nl place d t kind) (counted_var nl place d t kind (wide kind)) s in
-      let e = long_append (base_code nl d pc place) (old_code kind place o b ++ step_code nl d t p m kind place) (place_size place) (1 + (1 + (fit_size kind (wide kind) + store_size place))) (base_long place nl d pc s)
-      (long_append (old_code kind place o b) (step_code nl d t p m kind place) 1 (1 + (fit_size kind (wide kind) + store_size place)) (old_long nl kind place o b s) (more_long _ _ put)) in
-      e ∙ step_sum (place_size place) (fit_size kind (wide kind)) (store_size place)
-  expr_long (expr.stepped p true m kind place) nl d t pc s =
-      let b = base_var nl place (d + 1) in
-      let o = temp nl (above place (d + 1)) (column kind) in
-      let x = temp nl (d + 1) (column kind) in
-      let put = put_long nl (d + 1) x p kind (wide kind) place b (stored_var nl place (d + 1) x kind) (counted_var nl place (d + 1) x kind (wide kind)) s in
-      let rest = line p (Set (to_var t) (var o)) ∷ step_code nl (d + 1) x p m kind place in
-      let e = long_append (base_code nl (d + 1) (pc + 1) place) (old_code kind place o b ++ rest) (place_size place) (1 + (1 + (1 + (fit_size kind (wide kind) + store_size place)))) (base_long place nl (d + 1) (pc + 1) s)
-      (long_append (old_code kind place o b) rest 1 (1 + (1 + (fit_size kind (wide kind) + store_size place))) (old_long nl kind place o b s) (more_long _ _ (more_long _ _ put))) in
-      more_long _ _ e ∙ behind_sum (place_size place) (fit_size kind (wide kind)) (store_size place)
-  expr_long (expr.computed p m kind a b) nl d t pc s =
-      let l = line p (Arith (to_var t) kind (op_of m) (var (temp_of nl d a)) (var (temp_of nl (d + 1) b))) in
-      let ca = expr_code nl d (temp_of nl d a) pc a in
-      let cb = expr_code nl (d + 1) (temp_of nl (d + 1) b) (pc + expr_size a) b in
-      let e = long_append ca (cb ++ l ∷ []) (expr_size a) (expr_size b + 1) (expr_long a nl d (temp_of nl d a) pc s.1) (long_append cb (l ∷ []) (expr_size b) 1 (expr_long b nl (d + 1) (temp_of nl (d + 1) b) (pc + expr_size a) s.3) refl) in
-      omega (arith, e)
-  expr_long (expr.compared p m a b) nl d t pc s =
-      let l = line p (Compare (to_var t) (cmp_of m) (var (temp_of nl d a)) (var (temp_of nl (d + 1) b))) in
-      let ca = expr_code nl d (temp_of nl d a) pc a in
-      let cb = expr_code nl (d + 1) (temp_of nl (d + 1) b) (pc + expr_size a) b in
-      let e = long_append ca (cb ++ l ∷ []) (expr_size a) (expr_size b + 1) (expr_long a nl d (temp_of nl d a) pc s.1) (long_append cb (l ∷ []) (expr_size b) 1 (expr_long b nl (d + 1) (temp_of nl (d + 1) b) (pc + expr_size a) s.3) refl) in
-      omega (arith, e)
-  expr_long (expr.joined_by p m a b) nl d t pc s =
-      let x = temp_of nl (d + 1) a in
-      let y = temp_of nl (d + 1) b in
-      let ca = expr_code nl (d + 1) x (pc + 1) a in
-      let cb = expr_code nl (d + 1) y (pc + 1 + expr_size a + 1) b in
-      let last = line p (branch_on (is_and m) y (pc + 1 + expr_size a + 1 + expr_size b + 1) (pc + 1 + expr_size a + 1 + expr_size b + 2)) ∷ line p (Set (to_var t) (bit (is_and m))) ∷ [] in
-      let first = line p (branch_on (is_and m) x (pc + 1 + expr_size a + 1) (pc + 1 + expr_size a + 1 + expr_size b + 2)) in
-      let eb = long_append cb last (expr_size b) 2 (expr_long b nl (d + 1) y (pc + 1 + expr_size a + 1) s.3) refl in
-      let e = long_append ca (first ∷ (cb ++ last)) (expr_size a) (1 + (expr_size b + 2)) (expr_long a nl (d + 1) x (pc + 1) s.1) (more_long _ _ eb) in
-      more_long _ _ e ∙ joined_sum (expr_size a) (expr_size b)
-  expr_long (expr.stored p kind place v) nl d t pc s =
-      let b = base_var nl place d in
-      let x = stored_var nl place d t kind in
-      let cv = expr_code nl (above place d) x (pc + place_size place) v in
-      let e = long_append (base_code nl d pc place) (cv ++ store_code kind place t b x) (place_size place) (expr_size v + store_size place) (base_long place nl d pc s.0)
-      (long_append cv (store_code kind place t b x) (expr_size v) (store_size place) (expr_long v nl (above place d) x (pc + place_size place) s.2) (store_long nl kind place t b x s.0)) in
-      e ∙ stored_sum (place_size place) (expr_size v) (store_size place)
-  expr_long (expr.updated p m counted kind place v) nl d t pc s =
-      let b = base_var nl place d in
-      let o = temp nl (above place d) (column kind) in
-      let y = temp_of nl (above place d + 1) v in
-      let put = put_long nl d t p kind counted place b (stored_var nl place d t kind) (counted_var nl place d t kind counted) s.0 in
-      let last = line p (Arith (to_var (counted_var nl place d t kind counted)) counted (op_of m) (var o) (var y)) ∷ (fit_code p kind counted (stored_var nl place d t kind) (counted_var nl place d t kind counted) ++ store_code kind place t b (stored_var nl place d t kind)) in
-      let cv = expr_code nl (above place d + 1) y (pc + place_size place + 1) v in
-      let e = long_append (base_code nl d pc place) (old_code kind place o b ++ (cv ++ last)) (place_size place) (1 + (expr_size v + (1 + (fit_size kind counted + store_size place)))) (base_long place nl d pc s.0)
-      (long_append (old_code kind place o b) (cv ++ last) 1 (expr_size v + (1 + (fit_size kind counted + store_size place))) (old_long nl kind place o b s.0)
-      (long_append cv last (expr_size v) (1 + (fit_size kind counted + store_size place)) (expr_long v nl (above place d + 1) y (pc + place_size place + 1) s.2) (more_long _ _ put))) in
-      e ∙ updated_sum (place_size place) (expr_size v) (fit_size kind counted) (store_size place)
-  expr_long (expr.chosen p c a b) nl d t pc s =
-      let x = temp_of nl d c in
-      let cc' = expr_code nl d x pc c in
-      let ca = expr_code nl d t (pc + expr_size c + 1) a in
-      let cb = expr_code nl d t (pc + expr_size c + 1 + expr_size a + 1) b in
-      let jump = line p (Jump (at_label (pc + expr_size c + 1 + expr_size a + 1 + expr_size b))) in
-      let branch = line p (Branch (var x) (at_label (pc + expr_size c + 1)) (at_label (pc + expr_size c + 1 + expr_size a + 1))) in
-      let e = long_append cc' (branch ∷ (ca ++ jump ∷ cb)) (expr_size c) (1 + (expr_size a + (1 + expr_size b))) (expr_long c nl d x pc s.1)
-      (more_long _ _ (long_append ca (jump ∷ cb) (expr_size a) (1 + expr_size b) (expr_long a nl d t (pc + expr_size c + 1) s.3) (more_long _ _ (expr_long b nl d t (pc + expr_size c + 1 + expr_size a + 1) s.5)))) in
-      e ∙ chosen_sum (expr_size c) (expr_size a) (expr_size b)
-  expr_long (expr.converted p kind v) nl d t pc s =
-      long_append (expr_code nl d (temp_of nl d v) pc v) (line p (Fit (to_var t) kind (var (temp_of nl d v))) ∷ []) (expr_size v) 1 (expr_long v nl d (temp_of nl d v) pc s.1) refl
-  expr_long (expr.cast_of p v) nl d t pc s = expr_long v nl d t pc s
-  expr_long (expr.dropped p v) nl d t pc s = expr_long v nl d t pc s
-  expr_long (expr.called p n vs) nl d t pc s = refl
-  expr_long (expr.called_row p n row vs) nl d t pc s = long_append (args_code nl d pc vs) (_ ∷ []) (values_size vs) 1 (args_long vs nl d pc s) refl
-  expr_long (expr.nonsense p) nl d t pc s = refl
-
-  base_long : (place : expr.Place) (nl d pc : ℕ) → IsPlaceSound nl place → length (base_code nl d pc place) ≡ place_size place
-  base_long (expr.local_place p x) nl d pc s = refl
-  base_long (expr.global_place p n) nl d pc s = refl
-  base_long (expr.field_place p base tag field) nl d pc s = expr_long base nl d (temp_of nl d base) pc s.1
-  base_long expr.no_place nl d pc s = refl
-
-  args_long : (vs : expr.Values) (nl d pc : ℕ) → AreSound nl vs → length (args_code nl d pc vs) ≡ values_size vs
-  args_long expr.no_values nl d pc s = refl
-  args_long (expr.value_and v vs) nl d pc s =
-      long_append (expr_code nl d (temp_of nl d v) pc v) (args_code nl (d + 1) (pc + expr_size v) vs) (expr_size v) (values_size vs) (expr_long v nl d (temp_of nl d v) pc s.1) (args_long vs nl (d + 1) (pc + expr_size v) s.2)
-
 -- ---- where they stand
 
 pub has_cut : (code : List Line) (pc n : ℕ) (a b : List Line) → length a ≡ n → HasAt code pc (a ++ b) → HasAt code pc a × HasAt code (pc + n) b
@@ -299,6 +149,9 @@ module _ (code : List Line) (nl room : ℕ) where
   pub temp_at : (d c n : ℕ) → c < 5 → 1 ≤ n → nl + 5 * (d + n) ≤ room → IsTemp code nl room d (temp nl d c)
   temp_at d c n low some le = (omega arith, omega (arith, low), omega (arith, low, some, le))
 
+  pub operand_at : (want : ℕ) (v : expr.Value) (d : ℕ) → nl + 5 * (d + expr_nodes v) ≤ room → IsTemp code nl room d (operand nl d want v)
+  operand_at want v d le = temp_at d (fitting_column want (value_column v)) (expr_nodes v) (if_low (eqb want 3) 3 (value_column v) (omega arith) (value_low v)) (positive v) le
+
   pub value_at : (v : expr.Value) (d : ℕ) → nl + 5 * (d + expr_nodes v) ≤ room → IsTemp code nl room d (temp_of nl d v)
   value_at v d le = temp_at d (value_column v) (expr_nodes v) (value_low v) (positive v) le
 
@@ -315,20 +168,17 @@ module _ (code : List Line) (nl room : ℕ) where
   old_placed kind expr.no_place t b pc s h = absurd s
 
   -- .. a value that stands where a place's value is stored from
-  store_placed : (kind counted : ValueKind) (place : expr.Place) (d t b pc : ℕ) → IsPlaceSound nl place → HasAt code pc (store_code kind place t b (stored_var nl place d t kind)) → StoreAt code nl room kind place t b (stored_var nl place d t kind) pc
-  store_placed kind counted (expr.local_place p x) d t b pc s h = (s, refl, (p, h.0))
-  store_placed kind counted (expr.global_place p n) d t b pc s h = (refl, h.0)
+  store_placed : (kind counted : ValueKind) (place : expr.Place) (d t b pc : ℕ) → IsPlaceSound nl place → HasAt code pc (store_code kind place t b (stored_var nl place d kind)) → StoreAt code nl room kind place t b (stored_var nl place d kind) pc
+  store_placed kind counted (expr.local_place p x) d t b pc s h = (s, (p, h.0), (p, h.1.0))
+  store_placed kind counted (expr.global_place p n) d t b pc s h = (h.0, (p, h.1.0))
   store_placed kind counted (expr.field_place p base tag field) d t b pc s h = (h.0, (p, h.1.0))
   store_placed kind counted expr.no_place d t b pc s h = absurd s
 
-  stored_at : (kind : ValueKind) (place : expr.Place) (d t : ℕ) → IsTemp code nl room d t → nl + 5 * (above place d + 1) ≤ room → IsTemp code nl room (level place d) (stored_var nl place d t kind)
-  stored_at kind (expr.local_place p x) d t at le = at
-  stored_at kind (expr.global_place p n) d t at le = at
-  stored_at kind (expr.field_place p base tag field) d t at le = up_temp d _ (temp_at (d + 1) (column kind) 1 (column_low kind) (omega arith) le)
-  stored_at kind expr.no_place d t at le = at
-
   level_at : (place : expr.Place) (d c : ℕ) → c < 5 → nl + 5 * (above place d + 1) ≤ room → IsTemp code nl room (level place d) (temp nl (above place d) c)
   level_at place d c low le = subst (λ x. IsTemp code nl room x (temp nl (above place d) c)) (above_is place d) (temp_at (above place d) c 1 low (omega arith) le)
+
+  stored_at : (kind : ValueKind) (place : expr.Place) (d t : ℕ) → nl + 5 * (above place d + 1) ≤ room → IsTemp code nl room (level place d) (stored_var nl place d kind)
+  stored_at kind place d t le = level_at place d (column kind) (column_low kind) le
 
   fit_placed : (same : Bool) (p : Pos) (kind : ValueKind) (s x pc : ℕ) → HasAt code pc (if same then [] else line p (Fit (to_var s) kind (var (if same then s else x))) ∷ []) → FitAt code nl room same p kind s (if same then s else x) pc
   fit_placed true p kind s x pc h = refl
@@ -338,17 +188,17 @@ module _ (code : List Line) (nl room : ℕ) where
   if_temp true d s x h g = h
   if_temp false d s x h g = g
 
-  put_placed : (p : Pos) (kind counted : ValueKind) (place : expr.Place) (d t b pc : ℕ) → IsTemp code nl room d t → nl + 5 * (above place d + 1) ≤ room → IsPlaceSound nl place → HasAt code pc (fit_code p kind counted (stored_var nl place d t kind) (counted_var nl place d t kind counted) ++ store_code kind place t b (stored_var nl place d t kind)) → PutAt code nl room p kind counted place d t b (counted_var nl place d t kind counted) pc
+  put_placed : (p : Pos) (kind counted : ValueKind) (place : expr.Place) (d t b pc : ℕ) → IsTemp code nl room d t → nl + 5 * (above place d + 1) ≤ room → IsPlaceSound nl place → HasAt code pc (fit_code p kind counted (stored_var nl place d kind) (counted_var nl place d kind counted) ++ store_code kind place t b (stored_var nl place d kind)) → PutAt code nl room p kind counted place d t b (counted_var nl place d kind counted) pc
   put_placed p kind counted place d t b pc at le so h =
-      let s = stored_var nl place d t kind in
+      let s = stored_var nl place d kind in
       let x = temp nl (above place d) (column counted) in
-      let ats = stored_at kind place d t at le in
-      let g = has_cut code pc (fit_size kind counted) (fit_code p kind counted s (counted_var nl place d t kind counted)) (store_code kind place t b s) (fit_long (is_same kind counted) (line p (Fit (to_var s) kind (var (counted_var nl place d t kind counted))))) h in
+      let ats = stored_at kind place d t le in
+      let g = has_cut code pc (fit_size kind counted) (fit_code p kind counted s (counted_var nl place d kind counted)) (store_code kind place t b s) (fit_long (is_same kind counted) (line p (Fit (to_var s) kind (var (counted_var nl place d kind counted))))) h in
       (s, if_temp (is_same kind counted) (level place d) s x ats (level_at place d (column counted) (column_low counted) le), ats, fit_placed (is_same kind counted) p kind s x pc g.0, store_placed kind counted place d t b (pc + fit_size kind counted) so g.1)
 
   step_placed : (p : Pos) (m : Kind) (kind : ValueKind) (place : expr.Place) (d t pc : ℕ) → IsTemp code nl room d t → nl + 5 * (above place d + 1) ≤ room → IsPlaceSound nl place → HasAt code pc (step_code nl d t p m kind place) → StepAt code nl room p m kind place d t (base_var nl place d) (temp nl (above place d) (column kind)) pc
   step_placed p m kind place d t pc at le so h =
-      (counted_var nl place d t kind (wide kind), level_at place d (column kind) (column_low kind) le, h.0, put_placed p kind (wide kind) place d t (base_var nl place d) (pc + 1) at le so h.1)
+      (counted_var nl place d kind (wide kind), level_at place d (column kind) (column_low kind) le, h.0, put_placed p kind (wide kind) place d t (base_var nl place d) (pc + 1) at le so h.1)
 
   sign_placed : (minus : Bool) (p : Pos) (kind : ValueKind) (v : expr.Value) (d t pc : ℕ) → IsTemp code nl room d (temp_of nl d v) → ((t' : ℕ) → length (expr_code nl d t' pc v) ≡ expr_size v) → IsTemp code nl room d t → ((t' : ℕ) → IsTemp code nl room d t' → HasAt code pc (expr_code nl d t' pc v) → ExprAt code nl room d t' pc v) → HasAt code pc (expr_code nl d (sign_var minus t (temp_of nl d v)) pc v ++ sign_code minus p kind t (temp_of nl d v)) → One minus ((x : ℕ) × IsTemp code nl room d x × ExprAt code nl room d x pc v × Stands code nl room (pc + expr_size v) p (Arith (to_var t) kind ops.Sub (atom.Int (pos 0)) (var x))) (ExprAt code nl room d t pc v)
   sign_placed true p kind v d t pc at long att next h =
@@ -366,26 +216,26 @@ module _ (code : List Line) (nl room : ℕ) where
     expr_placed (expr.read p kind (expr.global_place q n)) d t pc le at s h = h.0
     expr_placed (expr.read p kind (expr.field_place q base tag field)) d t pc le at s h =
         let x = temp_of nl d base in
-        let g = has_cut code pc (expr_size base) (expr_code nl d x pc base) _ (expr_long base nl d x pc s.1) h in
+        let g = has_cut code pc (expr_size base) (expr_code nl d x pc base) _ (expr_long base nl d x pc) h in
         let le' : nl + 5 * (d + expr_nodes base) ≤ room = omega (arith, le) in
         (x, s.0, value_at base d le', expr_placed base d x pc le' (value_at base d le') s.1 g.0, g.1.0)
     expr_placed (expr.read p kind expr.no_place) d t pc le at s h = absurd s
     expr_placed (expr.inner p v) d t pc le at s h = expr_placed v d t pc (omega (arith, le)) at s h
     expr_placed (expr.signed p m kind v) d t pc le at s h =
         let le' : nl + 5 * (d + expr_nodes v) ≤ room = omega (arith, le) in
-        (s.0, sign_placed (is_minus m) p kind v d t pc (value_at v d le') (λ t'. expr_long v nl d t' pc s.1) at (λ t' at' g. expr_placed v d t' pc le' at' s.1 g) h)
+        (s.0, sign_placed (is_minus m) p kind v d t pc (value_at v d le') (λ t'. expr_long v nl d t' pc) at (λ t' at' g. expr_placed v d t' pc le' at' s.1 g) h)
     expr_placed (expr.negated p v) d t pc le at s h =
         let x = temp_of nl (d + 1) v in
         let le' : nl + 5 * (d + 1 + expr_nodes v) ≤ room = omega (arith, le) in
         let ax = value_at v (d + 1) le' in
-        let g = has_cut code (pc + 1) (expr_size v) (expr_code nl (d + 1) x (pc + 1) v) _ (expr_long v nl (d + 1) x (pc + 1) s.1) h.1 in
+        let g = has_cut code (pc + 1) (expr_size v) (expr_code nl (d + 1) x (pc + 1) v) _ (expr_long v nl (d + 1) x (pc + 1)) h.1 in
         (x, (p, h.0), s.0, up_temp d x ax, up_expr d x (pc + 1) v (expr_placed v (d + 1) x (pc + 1) le' ax s.1 g.0), (p, g.1.0), (p, g.1.1.0))
     expr_placed (expr.stepped p false m kind place) d t pc le at s h =
         let b = base_var nl place d in
         let o = temp nl (above place d) (column kind) in
         let low : nl + 5 * (above place d + 1) ≤ room = omega (arith, le, above_low place d) in
-        let g = has_cut code pc (place_size place) (base_code nl d pc place) _ (base_long place nl d pc s) h in
-        let f = has_cut code (pc + place_size place) 1 (old_code kind place o b) _ (old_long nl kind place o b s) g.1 in
+        let g = has_cut code pc (place_size place) (base_code nl d pc place) _ (base_long place nl d pc) h in
+        let f = has_cut code (pc + place_size place) 1 (old_code kind place o b) _ (old_long nl kind place o b) g.1 in
         (b, o, base_placed place d pc (omega (arith, le)) s g.0, old_placed kind place o b (pc + place_size place) s f.0, step_placed p m kind place d t (pc + place_size place + 1) at low s f.1)
     expr_placed (expr.stepped p true m kind place) d t pc le at s h =
         let e1 : d + 1 ≡ suc d = omega arith in
@@ -394,8 +244,8 @@ module _ (code : List Line) (nl room : ℕ) where
         let x = temp nl (d + 1) (column kind) in
         let low : nl + 5 * (above place (d + 1) + 1) ≤ room = omega (arith, le, above_low place (d + 1)) in
         let ax = temp_at (d + 1) (column kind) 1 (column_low kind) (omega arith) (omega (arith, low, above_less place (d + 1))) in
-        let g = has_cut code (pc + 1) (place_size place) (base_code nl (d + 1) (pc + 1) place) _ (base_long place nl (d + 1) (pc + 1) s) h.1 in
-        let f = has_cut code (pc + 1 + place_size place) 1 (old_code kind place o b) _ (old_long nl kind place o b s) g.1 in
+        let g = has_cut code (pc + 1) (place_size place) (base_code nl (d + 1) (pc + 1) place) _ (base_long place nl (d + 1) (pc + 1)) h.1 in
+        let f = has_cut code (pc + 1 + place_size place) 1 (old_code kind place o b) _ (old_long nl kind place o b) g.1 in
         let e : pc + 1 + place_size place + 1 + 1 ≡ pc + 1 + place_size place + 2 = omega arith in
         let st = step_placed p m kind place (d + 1) x (pc + 1 + place_size place + 1 + 1) ax low s f.1.1 in
         (b, o, x, (p, h.0), subst (λ n. BaseAt code nl room n b (pc + 1) place) e1 (base_placed place (d + 1) (pc + 1) (omega (arith, le)) s g.0), old_placed kind place o b (pc + 1 + place_size place) s f.0, (p, f.1.0), up_temp d x ax, subst (λ n. StepAt code nl room p m kind place n x b o (pc + 1 + place_size place + 2)) e1 (subst (λ n. StepAt code nl room p m kind place (d + 1) x b o n) e st))
@@ -404,35 +254,35 @@ module _ (code : List Line) (nl room : ℕ) where
         let y = temp_of nl (d + 1) b in
         let la : nl + 5 * (d + expr_nodes a) ≤ room = omega (arith, le) in
         let lb : nl + 5 * (d + 1 + expr_nodes b) ≤ room = omega (arith, le, positive a) in
-        let g = has_cut code pc (expr_size a) (expr_code nl d x pc a) _ (expr_long a nl d x pc s.1) h in
-        let f = has_cut code (pc + expr_size a) (expr_size b) (expr_code nl (d + 1) y (pc + expr_size a) b) _ (expr_long b nl (d + 1) y (pc + expr_size a) s.3) g.1 in
+        let g = has_cut code pc (expr_size a) (expr_code nl d x pc a) _ (expr_long a nl d x pc) h in
+        let f = has_cut code (pc + expr_size a) (expr_size b) (expr_code nl (d + 1) y (pc + expr_size a) b) _ (expr_long b nl (d + 1) y (pc + expr_size a)) g.1 in
         (x, y, s.0, value_at a d la, expr_placed a d x pc la (value_at a d la) s.1 g.0, s.2, up_temp d y (value_at b (d + 1) lb), up_expr d y (pc + expr_size a) b (expr_placed b (d + 1) y (pc + expr_size a) lb (value_at b (d + 1) lb) s.3 f.0), f.1.0)
     expr_placed (expr.compared p m a b) d t pc le at s h =
-        let x = temp_of nl d a in
-        let y = temp_of nl (d + 1) b in
+        let x = operand nl d (value_column b) a in
+        let y = operand nl (d + 1) (value_column a) b in
         let la : nl + 5 * (d + expr_nodes a) ≤ room = omega (arith, le) in
         let lb : nl + 5 * (d + 1 + expr_nodes b) ≤ room = omega (arith, le, positive a) in
-        let g = has_cut code pc (expr_size a) (expr_code nl d x pc a) _ (expr_long a nl d x pc s.1) h in
-        let f = has_cut code (pc + expr_size a) (expr_size b) (expr_code nl (d + 1) y (pc + expr_size a) b) _ (expr_long b nl (d + 1) y (pc + expr_size a) s.3) g.1 in
-        (x, y, s.0, value_at a d la, expr_placed a d x pc la (value_at a d la) s.1 g.0, s.2, up_temp d y (value_at b (d + 1) lb), up_expr d y (pc + expr_size a) b (expr_placed b (d + 1) y (pc + expr_size a) lb (value_at b (d + 1) lb) s.3 f.0), f.1.0)
+        let g = has_cut code pc (expr_size a) (expr_code nl d x pc a) _ (expr_long a nl d x pc) h in
+        let f = has_cut code (pc + expr_size a) (expr_size b) (expr_code nl (d + 1) y (pc + expr_size a) b) _ (expr_long b nl (d + 1) y (pc + expr_size a)) g.1 in
+        (x, y, s.0, operand_at (value_column b) a d la, expr_placed a d x pc la (operand_at (value_column b) a d la) s.1 g.0, s.2, up_temp d y (operand_at (value_column a) b (d + 1) lb), up_expr d y (pc + expr_size a) b (expr_placed b (d + 1) y (pc + expr_size a) lb (operand_at (value_column a) b (d + 1) lb) s.3 f.0), f.1.0)
     expr_placed (expr.joined_by p m a b) d t pc le at s h =
         let x = temp_of nl (d + 1) a in
         let y = temp_of nl (d + 1) b in
         let la : nl + 5 * (d + 1 + expr_nodes a) ≤ room = omega (arith, le) in
         let lb : nl + 5 * (d + 1 + expr_nodes b) ≤ room = omega (arith, le) in
         let pb = pc + 1 + expr_size a + 1 in
-        let g = has_cut code (pc + 1) (expr_size a) (expr_code nl (d + 1) x (pc + 1) a) _ (expr_long a nl (d + 1) x (pc + 1) s.1) h.1 in
-        let f = has_cut code pb (expr_size b) (expr_code nl (d + 1) y pb b) _ (expr_long b nl (d + 1) y pb s.3) g.1.1 in
+        let g = has_cut code (pc + 1) (expr_size a) (expr_code nl (d + 1) x (pc + 1) a) _ (expr_long a nl (d + 1) x (pc + 1)) h.1 in
+        let f = has_cut code pb (expr_size b) (expr_code nl (d + 1) y pb b) _ (expr_long b nl (d + 1) y pb) g.1.1 in
         (x, y, (p, h.0), s.0, up_temp d x (value_at a (d + 1) la), up_expr d x (pc + 1) a (expr_placed a (d + 1) x (pc + 1) la (value_at a (d + 1) la) s.1 g.0), (p, g.1.0), s.2, up_temp d y (value_at b (d + 1) lb), up_expr d y pb b (expr_placed b (d + 1) y pb lb (value_at b (d + 1) lb) s.3 f.0), ((p, f.1.0), (p, f.1.1.0)))
     expr_placed (expr.stored p kind place v) d t pc le at s h =
         let b = base_var nl place d in
-        let x = stored_var nl place d t kind in
+        let x = stored_var nl place d kind in
         let low : nl + 5 * (above place d + 1) ≤ room = omega (arith, le, above_low place d) in
         let lv : nl + 5 * (above place d + expr_nodes v) ≤ room = omega (arith, le, above_low place d) in
-        let ax = stored_at kind place d t at low in
+        let ax = stored_at kind place d t low in
         let e = above_is place d in
-        let g = has_cut code pc (place_size place) (base_code nl d pc place) _ (base_long place nl d pc s.0) h in
-        let f = has_cut code (pc + place_size place) (expr_size v) (expr_code nl (above place d) x (pc + place_size place) v) _ (expr_long v nl (above place d) x (pc + place_size place) s.2) g.1 in
+        let g = has_cut code pc (place_size place) (base_code nl d pc place) _ (base_long place nl d pc) h in
+        let f = has_cut code (pc + place_size place) (expr_size v) (expr_code nl (above place d) x (pc + place_size place) v) _ (expr_long v nl (above place d) x (pc + place_size place)) g.1 in
         (b, x, base_placed place d pc (omega (arith, le)) s.0 g.0, s.1, ax, subst (λ n. ExprAt code nl room n x (pc + place_size place) v) e (expr_placed v (above place d) x (pc + place_size place) lv (subst (λ n. IsTemp code nl room n x) (sym e) ax) s.2 f.0), store_placed kind kind place d t b (pc + place_size place + expr_size v) s.0 f.1)
     expr_placed (expr.updated p m counted kind place v) d t pc le at s h =
         let b = base_var nl place d in
@@ -441,31 +291,31 @@ module _ (code : List Line) (nl room : ℕ) where
         let low : nl + 5 * (above place d + 1) ≤ room = omega (arith, le, above_low place d) in
         let lv : nl + 5 * (above place d + 1 + expr_nodes v) ≤ room = omega (arith, le, above_low place d) in
         let e : above place d + 1 ≡ suc (level place d) = omega (arith, above_is place d) in
-        let g = has_cut code pc (place_size place) (base_code nl d pc place) _ (base_long place nl d pc s.0) h in
-        let f = has_cut code (pc + place_size place) 1 (old_code kind place o b) _ (old_long nl kind place o b s.0) g.1 in
+        let g = has_cut code pc (place_size place) (base_code nl d pc place) _ (base_long place nl d pc) h in
+        let f = has_cut code (pc + place_size place) 1 (old_code kind place o b) _ (old_long nl kind place o b) g.1 in
         let pv = pc + place_size place + 1 in
-        let q = has_cut code pv (expr_size v) (expr_code nl (above place d + 1) y pv v) _ (expr_long v nl (above place d + 1) y pv s.2) f.1 in
-        (b, o, y, counted_var nl place d t kind counted, base_placed place d pc (omega (arith, le)) s.0 g.0, level_at place d (column kind) (column_low kind) low, old_placed kind place o b (pc + place_size place) s.0 f.0, s.1, subst (λ n. IsTemp code nl room n y) e (value_at v (above place d + 1) lv), subst (λ n. ExprAt code nl room n y pv v) e (expr_placed v (above place d + 1) y pv lv (value_at v (above place d + 1) lv) s.2 q.0), q.1.0, put_placed p kind counted place d t b (pv + expr_size v + 1) at low s.0 q.1.1)
+        let q = has_cut code pv (expr_size v) (expr_code nl (above place d + 1) y pv v) _ (expr_long v nl (above place d + 1) y pv) f.1 in
+        (b, o, y, counted_var nl place d kind counted, base_placed place d pc (omega (arith, le)) s.0 g.0, level_at place d (column kind) (column_low kind) low, old_placed kind place o b (pc + place_size place) s.0 f.0, s.1, subst (λ n. IsTemp code nl room n y) e (value_at v (above place d + 1) lv), subst (λ n. ExprAt code nl room n y pv v) e (expr_placed v (above place d + 1) y pv lv (value_at v (above place d + 1) lv) s.2 q.0), q.1.0, put_placed p kind counted place d t b (pv + expr_size v + 1) at low s.0 q.1.1)
     expr_placed (expr.chosen p c a b) d t pc le at s h =
         let x = temp_of nl d c in
         let lc : nl + 5 * (d + expr_nodes c) ≤ room = omega (arith, le) in
         let pa = pc + expr_size c + 1 in
         let pb = pa + expr_size a + 1 in
-        let g = has_cut code pc (expr_size c) (expr_code nl d x pc c) _ (expr_long c nl d x pc s.1) h in
-        let f = has_cut code pa (expr_size a) (expr_code nl d t pa a) _ (expr_long a nl d t pa s.3) g.1.1 in
+        let g = has_cut code pc (expr_size c) (expr_code nl d x pc c) _ (expr_long c nl d x pc) h in
+        let f = has_cut code pa (expr_size a) (expr_code nl d t pa a) _ (expr_long a nl d t pa) g.1.1 in
         (x, s.0, value_at c d lc, expr_placed c d x pc lc (value_at c d lc) s.1 g.0, (p, g.1.0), s.2, expr_placed a d t pa (omega (arith, le)) at s.3 f.0, (p, f.1.0), s.4, expr_placed b d t pb (omega (arith, le)) at s.5 f.1.1)
     expr_placed (expr.converted p kind v) d t pc le at s h =
         let x = temp_of nl d v in
         let lv : nl + 5 * (d + expr_nodes v) ≤ room = omega (arith, le) in
-        let g = has_cut code pc (expr_size v) (expr_code nl d x pc v) _ (expr_long v nl d x pc s.1) h in
+        let g = has_cut code pc (expr_size v) (expr_code nl d x pc v) _ (expr_long v nl d x pc) h in
         (x, s.0, value_at v d lv, expr_placed v d x pc lv (value_at v d lv) s.1 g.0, g.1.0)
     expr_placed (expr.cast_of p v) d t pc le at s h = expr_placed v d t pc (omega (arith, le)) at s h
     expr_placed (expr.dropped p v) d t pc le at s h = expr_placed v d t pc (omega (arith, le)) at s h
     expr_placed (expr.called p n vs) d t pc le at s h = h.0
     expr_placed (expr.called_row p n row vs) d t pc le at s h =
-        let ts = arg_vars nl d (listed_values vs) in
-        let g = has_cut code pc (values_size vs) (args_code nl d pc vs) _ (args_long vs nl d pc s) h in
-        (ts, args_placed vs d pc (omega (arith, le)) s g.0, subst (λ o. Stands code nl room (pc + values_size vs) p (Api o (shape_of row) (map var ts) [])) (answer_is (gives_answer row) t) g.1.0)
+        let ts = arg_vars nl d row.params (listed_values vs) in
+        let g = has_cut code pc (values_size vs) (args_code nl d pc row.params vs) _ (args_long vs nl d pc row.params) h in
+        (ts, args_placed vs d pc row.params (omega (arith, le)) s g.0, subst (λ o. Stands code nl room (pc + values_size vs) p (Api o (shape_of row) (map var ts) [])) (answer_is (gives_answer row) t) g.1.0)
     expr_placed (expr.nonsense p) d t pc le at s h = h.0
 
     base_placed : (place : expr.Place) (d pc : ℕ) → nl + 5 * (d + place_nodes place) ≤ room → IsPlaceSound nl place → HasAt code pc (base_code nl d pc place) → BaseAt code nl room d (base_var nl place d) pc place
@@ -476,11 +326,12 @@ module _ (code : List Line) (nl room : ℕ) where
         (s.0, value_at base d lb, expr_placed base d (temp_of nl d base) pc lb (value_at base d lb) s.1 h)
     base_placed expr.no_place d pc le s h = absurd s
 
-    args_placed : (vs : expr.Values) (d pc : ℕ) → nl + 5 * (d + values_nodes vs) ≤ room → AreSound nl vs → HasAt code pc (args_code nl d pc vs) → ArgsAt code nl room d (arg_vars nl d (listed_values vs)) pc vs
-    args_placed expr.no_values d pc le s h = refl
-    args_placed (expr.value_and v vs) d pc le s h =
-        let x = temp_of nl d v in
+    args_placed : (vs : expr.Values) (d pc : ℕ) (ps : List Param) → nl + 5 * (d + values_nodes vs) ≤ room → AreSound nl vs → HasAt code pc (args_code nl d pc ps vs) → ArgsAt code nl room d (arg_vars nl d ps (listed_values vs)) pc vs
+    args_placed expr.no_values d pc ps le s h = refl
+    args_placed (expr.value_and v vs) d pc ps le s h =
+        let x = arg_var nl d ps v in
         let lv : nl + 5 * (d + expr_nodes v) ≤ room = omega (arith, le) in
         let e : d + 1 ≡ suc d = omega arith in
-        let g = has_cut code pc (expr_size v) (expr_code nl d x pc v) _ (expr_long v nl d x pc s.1) h in
-        (s.0, value_at v d lv, expr_placed v d x pc lv (value_at v d lv) s.1 g.0, subst (λ n. ArgsAt code nl room n (arg_vars nl (d + 1) (listed_values vs)) (pc + expr_size v) vs) e (args_placed vs (d + 1) (pc + expr_size v) (omega (arith, le, positive v)) s.2 g.1))
+        let at = operand_at (front_column ps) v d lv in
+        let g = has_cut code pc (expr_size v) (expr_code nl d x pc v) _ (expr_long v nl d x pc) h in
+        (s.0, at, expr_placed v d x pc lv at s.1 g.0, subst (λ n. ArgsAt code nl room n (arg_vars nl (d + 1) (tail ps) (listed_values vs)) (pc + expr_size v) vs) e (args_placed vs (d + 1) (pc + expr_size v) (tail ps) (omega (arith, le, positive v)) s.2 g.1))

@@ -14,7 +14,7 @@ use Rattle.pungi_meaning.specs.Values.{op_of, cmp_of, wide, slot_kind}
 use Rattle.pungi_meaning.specs.declared.cmp.Cmp.TheVariants as cmps
 use Rattle.pungi_meaning.specs.Stmts.{block_cases}
 use Rattle.pungi_meaning.specs.Exprs.{step_op, is_and}
-use Rattle.pungi_meaning.specs.Work.{shape_of}
+use Rattle.pungi_meaning.specs.Work.{declared, shape_of}
 use Rattle.pungi_meaning.specs.Todo.{Loop, Todo, ToEval, ToLoad, ToOld, ToKeep, ToStep, ToMinus, ToCompute, ToFit, ToCompare, ToNot, ToRight, ToTruth, ToPick, ToStore, ToPop, ToArgs, ToExec, ToForget, ToReach, ToBind, ToChoose, ToJoin, ToRest, ToTest, ToTurn, ToAgain, ToBack, ToSwitch, ToSwitchEnd, ToReturn, ToEnd, listed, listed_values}
 use Rattle.pungi_code.specs.declared.atom.Atom.{Atom}
 use Rattle.pungi_code.specs.declared.atom.Atom.TheVariants as atom
@@ -138,8 +138,8 @@ module _ (code : List Line) (nl room : ℕ) where
   OldAt kind expr.no_place t b pc = ⊥
 
   abbrev pub StoreAt : ValueKind → expr.Place → ℕ → ℕ → ℕ → ℕ → Type 0
-  StoreAt kind (expr.local_place p x) t b v pc = (x < nl) × (v ≡ t) × Does pc (Set (to_var x) (var v))
-  StoreAt kind (expr.global_place p n) t b v pc = (v ≡ t) × Stands pc p (Store (Global n (slot_kind kind)) (var v))
+  StoreAt kind (expr.local_place p x) t b v pc = (x < nl) × Does pc (Set (to_var x) (var v)) × Does (pc + 1) (Set (to_var t) (var v))
+  StoreAt kind (expr.global_place p n) t b v pc = Stands pc p (Store (Global n (slot_kind kind)) (var v)) × Does (pc + 1) (Set (to_var t) (var v))
   StoreAt kind (expr.field_place p base tag field) t b v pc =
       Stands pc p (Store (Field (var b) tag field (slot_kind kind)) (var v)) × Does (pc + 1) (Set (to_var t) (var v))
   StoreAt kind expr.no_place t b v pc = ⊥
@@ -225,13 +225,9 @@ module _ (code : List Line) (nl room : ℕ) where
 
   -- ---- statements
 
-  abbrev pub UnsetAt : ℕ → ℕ → ℕ → Type 0
-  UnsetAt first zero pc = Unit {0}
-  UnsetAt first (suc n) pc = (first < nl) × Does pc (Unset (to_var first)) × UnsetAt (first + 1) n (pc + 1)
-
-  abbrev pub UnsetReachedAt : List stmt.Reached → ℕ → Type 0
-  UnsetReachedAt [] pc = Unit {0}
-  UnsetReachedAt (r ∷ rs) pc = (r.number < nl) × Does pc (Unset (to_var r.number)) × UnsetReachedAt rs (pc + 1)
+  abbrev pub UnsetAt : List stmt.Reached → ℕ → Type 0
+  UnsetAt [] pc = Unit {0}
+  UnsetAt (r ∷ rs) pc = (r.number < nl) × Does pc (Unset (to_var r.number)) × UnsetAt rs (pc + 1)
 
   -- a declared local gets its value, or holds nothing
   abbrev pub BindAt : ℕ → ℕ → Option expr.Value → Type 0
@@ -264,8 +260,8 @@ module _ (code : List Line) (nl room : ℕ) where
 
   abbrev mutual
     pub StmtAt : Env → ℕ → stmt.Action → Type 0
-    StmtAt env pc (stmt.block_of p first count ss q) =
-        UnsetAt first count pc × StmtsAt (in_block env (pc + count) (listed ss)) (pc + count) ss
+    StmtAt env pc (stmt.block_of p ss q) =
+        UnsetAt (declared (listed ss)) pc × StmtsAt (in_block env (pc + length (declared (listed ss))) (listed ss)) (pc + length (declared (listed ss))) ss
     StmtAt env pc (stmt.reach p rs) = ReachAt pc rs
     StmtAt env pc (stmt.evaluate p v) = OptionAt pc v
     StmtAt env pc (stmt.test p c a) =
@@ -277,9 +273,9 @@ module _ (code : List Line) (nl room : ℕ) where
     StmtAt env pc (stmt.repeat_until p a c) =
         Does pc (Jump (at_label (loop_body (pc + 1) (Some c)))) × TestAt (pc + 1) (Some c) (loop_body (pc + 1) (Some c)) (loop_end (pc + 1) (Some c) a None) × StmtAt (in_loop env (loop_again (pc + 1) (Some c) a) (loop_end (pc + 1) (Some c) a None)) (loop_body (pc + 1) (Some c)) a × Does (loop_again (pc + 1) (Some c) a + option_size None) (Jump (at_label (pc + 1)))
     StmtAt env pc (stmt.repeat_for p rs u c w' a) =
-        UnsetReachedAt rs pc × ReachAt (pc + length rs) rs × OptionAt (pc + length rs + reach_size rs) u × TestAt (for_head pc rs u) c (loop_body (for_head pc rs u) c) (loop_end (for_head pc rs u) c a w') × StmtAt (in_loop env (loop_again (for_head pc rs u) c a) (loop_end (for_head pc rs u) c a w')) (loop_body (for_head pc rs u) c) a × OptionAt (loop_again (for_head pc rs u) c a) w' × Does (loop_again (for_head pc rs u) c a + option_size w') (Jump (at_label (for_head pc rs u)))
-    StmtAt env pc (stmt.switch_on p v (stmt.block_of q first count ss r)) =
-        (x : ℕ) × (gives v ≡ true) × IsTemp 0 x × ExprAt 0 x pc v × UnsetAt first count (pc + expr_size v) × CasesAt p x (pc + expr_size v + count) (list_cases (switch_first (pc + expr_size v) count ss) (listed ss)) (label_or (list_default (switch_first (pc + expr_size v) count ss) (listed ss)) (switch_first (pc + expr_size v) count ss + stmts_size ss)) × StmtsAt (in_block (in_switch env (switch_first (pc + expr_size v) count ss + stmts_size ss)) (switch_first (pc + expr_size v) count ss) (listed ss)) (switch_first (pc + expr_size v) count ss) ss
+        UnsetAt rs pc × ReachAt (pc + length rs) rs × OptionAt (pc + length rs + reach_size rs) u × TestAt (for_head pc rs u) c (loop_body (for_head pc rs u) c) (loop_end (for_head pc rs u) c a w') × StmtAt (in_loop env (loop_again (for_head pc rs u) c a) (loop_end (for_head pc rs u) c a w')) (loop_body (for_head pc rs u) c) a × OptionAt (loop_again (for_head pc rs u) c a) w' × Does (loop_again (for_head pc rs u) c a + option_size w') (Jump (at_label (for_head pc rs u)))
+    StmtAt env pc (stmt.switch_on p v (stmt.block_of q ss r)) =
+        (x : ℕ) × (gives v ≡ true) × IsTemp 0 x × ExprAt 0 x pc v × UnsetAt (declared (listed ss)) (pc + expr_size v) × CasesAt p x (pc + expr_size v + length (declared (listed ss))) (list_cases (switch_first (pc + expr_size v) (length (declared (listed ss))) ss) (listed ss)) (label_or (list_default (switch_first (pc + expr_size v) (length (declared (listed ss))) ss) (listed ss)) (switch_first (pc + expr_size v) (length (declared (listed ss))) ss + stmts_size ss)) × StmtsAt (in_block (in_switch env (switch_first (pc + expr_size v) (length (declared (listed ss))) ss + stmts_size ss)) (switch_first (pc + expr_size v) (length (declared (listed ss))) ss) (listed ss)) (switch_first (pc + expr_size v) (length (declared (listed ss))) ss) ss
     StmtAt env pc (stmt.switch_on p v a) =
         (x : ℕ) × (gives v ≡ true) × IsTemp 0 x × ExprAt 0 x pc v × Does (pc + expr_size v) (Jump (at_label (pc + expr_size v + 1 + stmt_size a))) × StmtAt (in_switch env (pc + expr_size v + 1 + stmt_size a)) (pc + expr_size v + 1) a
     StmtAt env pc (stmt.at_case p n a) = StmtAt env pc a
@@ -296,8 +292,8 @@ module _ (code : List Line) (nl room : ℕ) where
 
   -- a `switch` behind its value
   abbrev pub SwitchAt : Env → ℕ → Pos → ℕ → stmt.Action → Type 0
-  SwitchAt env pc p x (stmt.block_of q first count ss r) =
-      UnsetAt first count pc × CasesAt p x (pc + count) (list_cases (switch_first pc count ss) (listed ss)) (label_or (list_default (switch_first pc count ss) (listed ss)) (switch_first pc count ss + stmts_size ss)) × StmtsAt (in_block (in_switch env (switch_first pc count ss + stmts_size ss)) (switch_first pc count ss) (listed ss)) (switch_first pc count ss) ss
+  SwitchAt env pc p x (stmt.block_of q ss r) =
+      UnsetAt (declared (listed ss)) pc × CasesAt p x (pc + length (declared (listed ss))) (list_cases (switch_first pc (length (declared (listed ss))) ss) (listed ss)) (label_or (list_default (switch_first pc (length (declared (listed ss))) ss) (listed ss)) (switch_first pc (length (declared (listed ss))) ss + stmts_size ss)) × StmtsAt (in_block (in_switch env (switch_first pc (length (declared (listed ss))) ss + stmts_size ss)) (switch_first pc (length (declared (listed ss))) ss) (listed ss)) (switch_first pc (length (declared (listed ss))) ss) ss
   SwitchAt env pc p x a =
       Does pc (Jump (at_label (pc + 1 + stmt_size a))) × StmtAt (in_switch env (pc + 1 + stmt_size a)) (pc + 1) a
 
@@ -367,7 +363,7 @@ module _ (code : List Line) (nl room : ℕ) where
   IsAt env (ToPick a b ∷ k) pc ks =
       (t : ℕ) × (end : ℕ) × HasOne ks × IsTemp (length (rest ks)) t × Does pc (Branch (var (top_var ks)) (at_label (pc + 1)) (at_label (pc + 1 + expr_size a + 1))) × (gives a ≡ true) × ExprAt (length (rest ks)) t (pc + 1) a × Does (pc + 1 + expr_size a) (Jump (at_label end)) × (gives b ≡ true) × ExprAt (length (rest ks)) t (pc + 1 + expr_size a + 1) b × (pc + 1 + expr_size a + 1 + expr_size b ≡ end) × IsAt env k end (w t ∷ rest ks)
   IsAt env (ToStore kind place ∷ k) pc ks =
-      (t : ℕ) × HasOne ks × BaseWaits place (rest ks) × IsTemp (length (below_store place ks)) t × StoreAt kind place t (top_var (rest ks)) (top_var ks) pc × IsAt env k (pc + store_size place) (w t ∷ below_store place ks)
+      (t : ℕ) × HasOne ks × BaseWaits place (rest ks) × IsTemp (length (below_store place ks)) t × StoreAt kind place t (top_var (rest ks)) (top_var ks) pc × IsAt env k (pc + store_size) (w t ∷ below_store place ks)
   IsAt env (ToPop ∷ k) pc ks = HasOne ks × IsAt env k pc (rest ks)
   IsAt env (ToArgs p row args i ∷ k) pc ks =
       (ts : List ℕ) × (t : ℕ) × (i ≤ length args) × (i ≤ length ks) × ListArgsAt (length ks) ts pc (drop i args) × IsTemp (length (drop i ks)) t × Stands (pc + args_size (drop i args)) p (Api (answer_var (gives_answer row) t) (shape_of row) (map var (reverse_aux (vars_of (take i ks)) ts)) []) × IsAt env k (pc + args_size (drop i args) + 1) (pushed_if (gives_answer row) t (drop i ks))

@@ -59,7 +59,7 @@ module _ (choices : List Choice) (code : List Line) (nl room : ℕ) where
   old_at kind (expr.field_place p base tag field) k env pc b o ks at h is = (o, at, tt, h, is)
   old_at kind expr.no_place k env pc b o ks at h is = absurd h
 
-  store_at : (kind : ValueKind) (place : expr.Place) (k : List Todo) (env : Env) (pc b s t : ℕ) (ks : List Waiting) → IsTemp code nl room (length ks) t → StoreAt code nl room kind place t b s pc → IsAt code nl room env k (pc + store_size place) (w t ∷ ks) → IsAt code nl room env (ToStore kind place ∷ k) pc (w s ∷ based place b ks)
+  store_at : (kind : ValueKind) (place : expr.Place) (k : List Todo) (env : Env) (pc b s t : ℕ) (ks : List Waiting) → IsTemp code nl room (length ks) t → StoreAt code nl room kind place t b s pc → IsAt code nl room env k (pc + store_size) (w t ∷ ks) → IsAt code nl room env (ToStore kind place ∷ k) pc (w s ∷ based place b ks)
   store_at kind (expr.local_place p n) k env pc b s t ks at h is = (t, tt, tt, at, h, is)
   store_at kind (expr.global_place p n) k env pc b s t ks at h is = (t, tt, tt, at, h, is)
   store_at kind (expr.field_place p base tag field) k env pc b s t ks at h is = (t, tt, tt, at, h, is)
@@ -84,21 +84,21 @@ module _ (choices : List Choice) (code : List Line) (nl room : ℕ) where
       eval_at v k env pc t (w o ∷ based place b ks) g (subst (λ d. IsTemp code nl room d t) q at) (subst (λ d. ExprAt code nl room d t pc v) q e) is
 
   -- a counted value is converted and stored
-  fit_at : (same : Bool) (p : Pos) (kind : ValueKind) (place : expr.Place) (k : List Todo) (env : Env) (pc b c s t : ℕ) (ks : List Waiting) → IsTemp code nl room (length ks) t → IsTemp code nl room (level place (length ks)) s → FitAt code nl room same p kind s c pc → StoreAt code nl room kind place t b s (pc + (if same then 0 else 1)) → IsAt code nl room env k (pc + (if same then 0 else 1) + store_size place) (w t ∷ ks) → IsAt code nl room env (if same then ToStore kind place ∷ k else ToFit p kind ∷ ToStore kind place ∷ k) pc (w c ∷ based place b ks)
+  fit_at : (same : Bool) (p : Pos) (kind : ValueKind) (place : expr.Place) (k : List Todo) (env : Env) (pc b c s t : ℕ) (ks : List Waiting) → IsTemp code nl room (length ks) t → IsTemp code nl room (level place (length ks)) s → FitAt code nl room same p kind s c pc → StoreAt code nl room kind place t b s (pc + (if same then 0 else 1)) → IsAt code nl room env k (pc + (if same then 0 else 1) + store_size) (w t ∷ ks) → IsAt code nl room env (if same then ToStore kind place ∷ k else ToFit p kind ∷ ToStore kind place ∷ k) pc (w c ∷ based place b ks)
   fit_at true p kind place k env pc b c s t ks at ats f h is =
       let e : pc + 0 ≡ pc = omega arith in
       let f' : s ≡ c = sym f in
       subst (λ x. IsAt code nl room env (ToStore kind place ∷ k) pc (w x ∷ based place b ks)) f'
-      (store_at kind place k env pc b s t ks at (subst (λ x. StoreAt code nl room kind place t b s x) e h) (subst (λ x. IsAt code nl room env k (x + store_size place) (w t ∷ ks)) e is))
+      (store_at kind place k env pc b s t ks at (subst (λ x. StoreAt code nl room kind place t b s x) e h) (subst (λ x. IsAt code nl room env k (x + store_size) (w t ∷ ks)) e is))
   fit_at false p kind place k env pc b c s t ks at ats f h is =
       (s, tt, subst (λ d. IsTemp code nl room d s) (based_long place b ks) ats, f, store_at kind place k env (pc + 1) b s t ks at h is)
 
-  put_at : (p : Pos) (kind counted : ValueKind) (place : expr.Place) (k : List Todo) (env : Env) (pc b c t : ℕ) (ks : List Waiting) → IsTemp code nl room (length ks) t → PutAt code nl room p kind counted place (length ks) t b c pc → IsAt code nl room env k (pc + fit_size kind counted + store_size place) (w t ∷ ks) → IsAt code nl room env (converting p kind counted (ToStore kind place ∷ k)) pc (w c ∷ based place b ks)
+  put_at : (p : Pos) (kind counted : ValueKind) (place : expr.Place) (k : List Todo) (env : Env) (pc b c t : ℕ) (ks : List Waiting) → IsTemp code nl room (length ks) t → PutAt code nl room p kind counted place (length ks) t b c pc → IsAt code nl room env k (pc + fit_size kind counted + store_size) (w t ∷ ks) → IsAt code nl room env (converting p kind counted (ToStore kind place ∷ k)) pc (w c ∷ based place b ks)
   put_at p kind counted place k env pc b c t ks at h is =
       fit_at (is_same kind counted) p kind place k env pc b c h.0 t ks at h.2 h.3 h.4 is
 
   -- `++` and `--` of what o holds
-  step_at : (p : Pos) (m : Kind) (kind : ValueKind) (place : expr.Place) (k : List Todo) (env : Env) (pc b o t : ℕ) (ks : List Waiting) → IsTemp code nl room (length ks) t → StepAt code nl room p m kind place (length ks) t b o pc → IsAt code nl room env k (pc + 1 + fit_size kind (wide kind) + store_size place) (w t ∷ ks) → IsAt code nl room env (stepping p m kind place k) pc (w o ∷ based place b ks)
+  step_at : (p : Pos) (m : Kind) (kind : ValueKind) (place : expr.Place) (k : List Todo) (env : Env) (pc b o t : ℕ) (ks : List Waiting) → IsTemp code nl room (length ks) t → StepAt code nl room p m kind place (length ks) t b o pc → IsAt code nl room env k (pc + 1 + fit_size kind (wide kind) + store_size) (w t ∷ ks) → IsAt code nl room env (stepping p m kind place k) pc (w o ∷ based place b ks)
   step_at p m kind place k env pc b o t ks at h is =
       (h.0, tt, subst (λ d. IsTemp code nl room d h.0) (based_long place b ks) h.3.1, h.2, put_at p kind (wide kind) place k env (pc + 1) b h.0 t ks at h.3 is)
 
@@ -178,7 +178,7 @@ module _ (choices : List Choice) (code : List Line) (nl room : ℕ) where
       (base_at place (ToOld kind place ∷ stepping p mk kind place k) env pc h.2.0 ks h.2.2
       (old_at kind place (stepping p mk kind place k) env at h.2.0 h.2.1 ks h.2.4.1 h.2.3
       (step_at p mk kind place k env (at + 1) h.2.0 h.2.1 h.0 ks h.1 h.2.4
-      (moved choices code nl room env k _ _ (w h.0 ∷ ks) (step_sum pc (place_size place) (fit_size kind (wide kind)) (store_size place)) h.3)))) ma
+      (moved choices code nl room env k _ _ (w h.0 ∷ ks) (step_sum pc (place_size place) (fit_size kind (wide kind)) (store_size)) h.3)))) ma
   evaluate_sim (expr.stepped p true mk kind place) k s env pc ks m h ma =
       let at = pc + 1 + place_size place in
       let ls = w h.0 ∷ ks in
@@ -191,7 +191,7 @@ module _ (choices : List Choice) (code : List Line) (nl room : ℕ) where
       (keep_at place (stepping p mk kind place (ToPop ∷ k)) env (at + 1) h.2.0 h.2.1 h.0 ks h.2.6
       (moved choices code nl room env (stepping p mk kind place (ToPop ∷ k)) (at + 2) (at + 1 + 1) (w h.2.1 ∷ based place h.2.0 ls) (sym e)
       (step_at p mk kind place (ToPop ∷ k) env (at + 2) h.2.0 h.2.1 h.2.2 ls h.2.7 h.2.8
-      (tt, moved choices code nl room env k _ _ ls (behind_sum pc (place_size place) (fit_size kind (wide kind)) (store_size place)) h.3))))))
+      (tt, moved choices code nl room env k _ _ ls (behind_sum pc (place_size place) (fit_size kind (wide kind)) (store_size)) h.3))))))
       (pushed code nl room ks s m s.values ks h.0 (value.Int (pos 0)) h.1 ma ma.stack)
   evaluate_sim (expr.computed p mk kind a b) k s env pc ks m h ma =
       let e : pc + (expr_size a + expr_size b + 1) ≡ pc + expr_size a + expr_size b + 1 = omega arith in
@@ -211,7 +211,7 @@ module _ (choices : List Choice) (code : List Line) (nl room : ℕ) where
       (eval_at a (ToRight (is_and mk) b ∷ k) env (pc + 1) h.2.0 (record { var = h.0; known = Some (not (is_and mk)) } ∷ ks) h.2.3 h.2.4 h.2.5
       (h.2.1, pc + 1 + expr_size a + 1 + expr_size b + 2, tt, refl, h.2.6, h.2.7, h.2.8, h.2.9, h.2.10, refl, moved choices code nl room env k _ _ (w h.0 ∷ ks) e h.3)) ma
   evaluate_sim (expr.stored p kind place v) k s env pc ks m h ma =
-      let e : pc + (place_size place + expr_size v + store_size place) ≡ pc + place_size place + expr_size v + store_size place = omega arith in
+      let e : pc + (place_size place + expr_size v + store_size) ≡ pc + place_size place + expr_size v + store_size = omega arith in
       still choices code nl room (before place (ToEval v ∷ ToStore kind place ∷ k)) s pc m env ks
       (base_at place (ToEval v ∷ ToStore kind place ∷ k) env pc h.2.0 ks h.2.2
       (over_base place v (ToStore kind place ∷ k) env (pc + place_size place) h.2.0 h.2.1 ks h.2.3 h.2.4 h.2.5
@@ -228,7 +228,7 @@ module _ (choices : List Choice) (code : List Line) (nl room : ℕ) where
         tt,
         subst (λ d. IsTemp code nl room d h.2.3) (based_long place h.2.0 ks) h.2.11.1,
         h.2.10,
-        put_at p kind counted place k env (at + 1 + expr_size v + 1) h.2.0 h.2.3 h.0 ks h.1 h.2.11 (moved choices code nl room env k _ _ (w h.0 ∷ ks) (update_sum pc (place_size place) (expr_size v) (fit_size kind counted) (store_size place)) h.3),
+        put_at p kind counted place k env (at + 1 + expr_size v + 1) h.2.0 h.2.3 h.0 ks h.1 h.2.11 (moved choices code nl room env k _ _ (w h.0 ∷ ks) (update_sum pc (place_size place) (expr_size v) (fit_size kind counted) (store_size)) h.3),
       )))) ma
   evaluate_sim (expr.chosen p c a b) k s env pc ks m h ma =
       let e : pc + (expr_size c + 1 + expr_size a + 1 + expr_size b) ≡ pc + expr_size c + 1 + expr_size a + 1 + expr_size b = omega arith in

@@ -181,25 +181,32 @@ module _ (choices : List Choice) (code : List Line) (nl room : ℕ) where
         ∙ field_by b value.Text tag field (slot_kind kind) p m (does.store choices p (exec choices code 0) pc m y) e,
   )
 
-  -- the value stays where it was
-  same_var : (x : World) (u : List Pos) (l : List Content) (y : Value) (vs : List Value) (a : Waiting) (t : ℕ) (ks : List Waiting) (m : Regs) → a.var ≡ t → Match code nl room (a ∷ ks) (st x u l (y ∷ vs)) m → Match code nl room (w t ∷ ks) (st x u l (y ∷ vs)) m
-  same_var x u l y vs a t ks m e ma =
-      subst (λ n. Match code nl room (w n ∷ ks) (st x u l (y ∷ vs)) m) e (popped code nl room (a ∷ ks) (st x u l (y ∷ vs)) m (y ∷ vs) (w a.var ∷ ks) ma (forgot code nl room m.vars y vs a ks ma.stack))
-
   pub to_store_sim : (kind : ValueKind) (place : expr.Place) (k : List Todo) (x : World) (u : List Pos) (l : List Content) (vs : List Value) (env : Env) (pc : ℕ) (ks : List Waiting) (m : Regs) → IsAt code nl room env (ToStore kind place ∷ k) pc ks → Match code nl room ks (st x u l vs) m → IsDone choices code nl room (act choices (ToStore kind place ∷ k) (st x u l vs)) 0 pc m
   to_store_sim kind place k x u l vs env pc [] m h ma = absurd h.1
   to_store_sim kind place k x u l [] env pc (a ∷ ks) m h ma = absurd ma.stack
   to_store_sim kind (expr.local_place p n) k x u l (y ∷ vs) env pc (a ∷ ks) m h ma =
-      one choices code nl room [] k (st x u (slice_set l n (Holds y)) (y ∷ vs)) 0 pc m (pc + 1) (put (to_var n) (Holds y) m) env (w h.0 ∷ ks) (omega arith)
-      (set_step choices code nl room pc n (var a.var) m y h.4.2 ma.stack.0) h.5
-      (assigned code nl room (w h.0 ∷ ks) (st x u l (y ∷ vs)) m n (Holds y) h.4.0 (same_var x u l y vs a h.0 ks m h.4.1 ma))
+      let q2 : pc + 1 + 1 ≡ pc + 2 = omega arith in
+      let q = put (to_var n) (Holds y) m in
+      let s' = st x u (slice_set l n (Holds y)) (y ∷ vs) in
+      let mq = assigned code nl room (a ∷ ks) (st x u l (y ∷ vs)) m n (Holds y) h.4.0 ma in
+      two choices code nl room [] k s' pc m (pc + 1 + 1) (put (to_var h.0) (Holds y) q) env (w h.0 ∷ ks)
+      (λ j. set_step choices code nl room pc n (var a.var) m y h.4.1 ma.stack.0 (suc j) ∙ set_step choices code nl room (pc + 1) h.0 (var a.var) q y h.4.2 mq.stack.0 j)
+      (moved choices code nl room env k (pc + 2) (pc + 1 + 1) (w h.0 ∷ ks) (sym q2) h.5)
+      (pushed code nl room (a ∷ ks) s' q vs ks h.0 y h.3 mq mq.stack.3)
   to_store_sim kind (expr.global_place p n) k x u l (y ∷ vs) env pc (a ∷ ks) m h ma =
+      let q2 : pc + 1 + 1 ≡ pc + 2 = omega arith in
       store_sim_by p kind (slot.Global n) y vs k (st x u l (y ∷ vs)) pc m
-      (λ j. first choices code nl room pc p (Store (Global n (slot_kind kind)) (var a.var)) m h.4.1 j
+      (λ j. first choices code nl room pc p (Store (Global n (slot_kind kind)) (var a.var)) m h.4.0 j
       ∙ with_it choices code nl room (content_of (var a.var) m.vars) y p (λ z. does.store choices p (exec choices code j) pc m z (slot.Global n) (slot_kind kind)) ma.stack.0)
       ma.world ma.used
-      (λ e step. one choices code nl room (Stored p (slot.Global n) y ∷ []) k (st e.1 (u ++ replicate e.0.used p) l (y ∷ vs)) 0 pc m (pc + 1) (record m { world = e.1; used = m.used ++ replicate e.0.used p }) env (w h.0 ∷ ks) (omega arith) step h.5
-      (reacted code nl room (w h.0 ∷ ks) (st x u l (y ∷ vs)) m e.1 e.0.used p (same_var x u l y vs a h.0 ks m h.4.0 ma)))
+      (λ e step.
+      let q = record m { world = e.1; used = m.used ++ replicate e.0.used p } in
+      let s' = st e.1 (u ++ replicate e.0.used p) l (y ∷ vs) in
+      let mq = reacted code nl room (a ∷ ks) (st x u l (y ∷ vs)) m e.1 e.0.used p ma in
+      two choices code nl room (Stored p (slot.Global n) y ∷ []) k s' pc m (pc + 1 + 1) (put (to_var h.0) (Holds y) q) env (w h.0 ∷ ks)
+      (λ j. step (suc j) ∙ ap (noted (Stored p (slot.Global n) y ∷ [])) (set_step choices code nl room (pc + 1) h.0 (var a.var) q y h.4.1 ma.stack.0 j))
+      (moved choices code nl room env k (pc + 2) (pc + 1 + 1) (w h.0 ∷ ks) (sym q2) h.5)
+      (pushed code nl room (a ∷ ks) s' q vs ks h.0 y h.3 mq ma.stack.3))
   to_store_sim kind (expr.field_place p base tag field) k x u l (y ∷ vs) env pc (a ∷ []) m h ma = absurd h.2
   to_store_sim kind (expr.field_place p base tag field) k x u l (y ∷ []) env pc (a ∷ b ∷ ks) m h ma = absurd ma.stack.3
   to_store_sim kind (expr.field_place p base tag field) k x u l (y ∷ z ∷ vs) env pc (a ∷ b ∷ ks) m h ma =

@@ -15,7 +15,7 @@ use Rattle.pungi_meaning.specs.Todo.{Loop, Todo, ToEval, ToExec, ToForget, ToRea
 use Rattle.pungi_meaning.specs.Jumps.{a_loop, from_label, after_break, after_continue}
 use Rattle.pungi_meaning.specs.Stmts.{block_cases, reach_value, others, tested_by, tested, turn, started, returning, next_stmt, execute}
 use Rattle.pungi_meaning.specs.Run.{over, Returned, Stopped, act}
-use Rattle.pungi_meaning.specs.Work.{unset, unset_reached, taken}
+use Rattle.pungi_meaning.specs.Work.{declared, unset_reached, taken}
 use Rattle.pungi_code.specs.declared.code.Line.{Line}
 use Rattle.pungi_code.specs.declared.instr.Instr.TheVariants as instr
 use Rattle.pungi_code.specs.Registers.{Regs, put, content_of}
@@ -25,7 +25,7 @@ use Rattle.pungi_lower.specs.Parts.{gives}
 use Rattle.pungi_lower.specs.Sizes.{expr_size, option_size, reach_size, test_size, stmt_size, stmts_size}
 use Rattle.pungi_lower.specs.ExprCode.{to_var, var, at_label}
 use Rattle.pungi_lower.specs.Scopes.{Env, in_block, in_loop}
-use Rattle.pungi_lower.proofs.Relation.{Waiting, w, Stands, Does, IsTemp, ExprAt, OptionAt, UnsetAt, UnsetReachedAt, BindAt, ReachAt, TestAt, GiveAt, StmtAt, StmtsAt, LoopAt, loop_body, loop_again, loop_end, end_of_loop, ListAt, Inside, EndAt, OtherAt, JoinAt, join_size, IsAt}
+use Rattle.pungi_lower.proofs.Relation.{Waiting, w, Stands, Does, IsTemp, ExprAt, OptionAt, UnsetAt, BindAt, ReachAt, TestAt, GiveAt, StmtAt, StmtsAt, LoopAt, loop_body, loop_again, loop_end, end_of_loop, ListAt, Inside, EndAt, OtherAt, JoinAt, join_size, IsAt}
 use Rattle.pungi_lower.proofs.Match.{Stack, Match, popped, assigned}
 use Rattle.pungi_lower.proofs.Steps.{st, At, Continues, IsDone, first, with_it, set_step, jump_step, branch_step, still, one, moved}
 use Rattle.pungi_lower.proofs.SimCalls.{IsNext, is_next}
@@ -52,21 +52,12 @@ module _ (choices : List Choice) (code : List Line) (nl room : ℕ) where
 
   -- ---- locals that hold nothing any more
 
-  pub unset_sim : (n lo pc : ℕ) (ks : List Waiting) (s : State) (m : Regs) → UnsetAt code nl room lo n pc → Match code nl room ks s m → (r : Regs) × ((j : ℕ) → exec choices code (ahead n j) pc m ≡ exec choices code j (pc + n) r) × Match code nl room ks (record s { locals = unset lo n s.locals }) r
-  unset_sim zero lo pc ks s m h ma =
+  pub unset_sim : (rs : List stmt.Reached) (pc : ℕ) (ks : List Waiting) (s : State) (m : Regs) → UnsetAt code nl room rs pc → Match code nl room ks s m → (r : Regs) × ((j : ℕ) → exec choices code (ahead (length rs) j) pc m ≡ exec choices code j (pc + length rs) r) × Match code nl room ks (record s { locals = unset_reached rs s.locals }) r
+  unset_sim [] pc ks s m h ma =
       let e : pc ≡ pc + 0 = omega arith in
       (m, λ j. ap (λ x. exec choices code j x m) e, ma)
-  unset_sim (suc n) lo pc ks s m h ma =
-      let r = unset_sim n (lo + 1) (pc + 1) ks (record s { locals = slice_set s.locals lo Unset }) (put (to_var lo) Unset m) h.2 (assigned code nl room ks s m lo Unset h.0 ma) in
-      let e : pc + 1 + n ≡ pc + suc n = omega arith in
-      (r.0, λ j. unset_step pc lo m h.1 (ahead n j) ∙ r.1 j ∙ ap (λ x. exec choices code j x r.0) e, r.2)
-
-  reached_sim : (rs : List stmt.Reached) (pc : ℕ) (s : State) (m : Regs) → UnsetReachedAt code nl room rs pc → Match code nl room [] s m → (r : Regs) × ((j : ℕ) → exec choices code (ahead (length rs) j) pc m ≡ exec choices code j (pc + length rs) r) × Match code nl room [] (record s { locals = unset_reached rs s.locals }) r
-  reached_sim [] pc s m h ma =
-      let e : pc ≡ pc + 0 = omega arith in
-      (m, λ j. ap (λ x. exec choices code j x m) e, ma)
-  reached_sim (a ∷ rs) pc s m h ma =
-      let r = reached_sim rs (pc + 1) (record s { locals = slice_set s.locals a.number Unset }) (put (to_var a.number) Unset m) h.2 (assigned code nl room [] s m a.number Unset h.0 ma) in
+  unset_sim (a ∷ rs) pc ks s m h ma =
+      let r = unset_sim rs (pc + 1) ks (record s { locals = slice_set s.locals a.number Unset }) (put (to_var a.number) Unset m) h.2 (assigned code nl room ks s m a.number Unset h.0 ma) in
       let e : pc + 1 + length rs ≡ pc + suc (length rs) = omega arith in
       (r.0, λ j. unset_step pc a.number m h.1 (ahead (length rs) j) ∙ r.1 j ∙ ap (λ x. exec choices code j x r.0) e, r.2)
 
@@ -229,8 +220,10 @@ module _ (choices : List Choice) (code : List Line) (nl room : ℕ) where
   -- ---- statements
 
   pub execute_sim : (a : stmt.Action) (k : List Todo) (s : State) (env : Env) (pc : ℕ) (ks : List Waiting) (m : Regs) → IsAt code nl room env (ToExec a ∷ k) pc ks → Match code nl room ks s m → IsDone choices code nl room (execute a k s) (jumps (ToExec a ∷ k)) pc m
-  execute_sim (stmt.block_of p lo n ss q) k s env pc ks m h ma =
-      let r = unset_sim n lo pc [] s m h.1.0 (none_waits ks s m h.0 ma) in
+  execute_sim (stmt.block_of p ss q) k s env pc ks m h ma =
+      let own = declared (listed ss) in
+      let n = length own in
+      let r = unset_sim own pc [] s m h.1.0 (none_waits ks s m h.0 ma) in
       let e : pc + (n + stmts_size ss) ≡ pc + n + stmts_size ss = omega arith in
       let inner = in_block env (pc + n) (listed ss) in
       let list = list_at ss inner (pc + n) h.1.1 in
@@ -270,7 +263,7 @@ module _ (choices : List Choice) (code : List Line) (nl room : ℕ) where
       (jump_step choices code nl room pc (loop_body (pc + 1) (Some c)) m h.1.0)
       (refl, h.1.2, (env, pc + 1, refl, loop, refl, refl, refl, λ l. refl, moved choices code nl room env k _ _ [] e h.2)) (none_waits ks s m h.0 ma)
   execute_sim (stmt.repeat_for p rs u c b a) k s env pc ks m h ma =
-      let r = reached_sim rs pc s m h.1.0 (none_waits ks s m h.0 ma) in
+      let r = unset_sim rs pc [] s m h.1.0 (none_waits ks s m h.0 ma) in
       let head = pc + length rs + reach_size rs + option_size u in
       let e : pc + (length rs + reach_size rs + option_size u + test_size c + stmt_size a + option_size b + 1) ≡ head + test_size c + stmt_size a + option_size b + 1 = omega arith in
       let loop : LoopAt code nl room env head (a_loop c b a) = (h.1.3, h.1.4, h.1.5, h.1.6) in
@@ -282,11 +275,11 @@ module _ (choices : List Choice) (code : List Line) (nl room : ℕ) where
         by = r.1;
         stands = (env, [], (refl, h.1.1, started_at u (ToTest (a_loop c b a) ∷ k) env (pc + length rs + reach_size rs) h.1.2 (refl, loop, moved choices code nl room env k _ _ [] e h.2)), r.2);
       }
-  execute_sim (stmt.switch_on p v (stmt.block_of q lo n ss r)) k s env pc ks m h ma =
-      let size = n + 2 * length (block_cases (listed ss)) + 1 + stmts_size ss in
+  execute_sim (stmt.switch_on p v (stmt.block_of q ss r)) k s env pc ks m h ma =
+      let size = length (declared (listed ss)) + 2 * length (block_cases (listed ss)) + 1 + stmts_size ss in
       let e : pc + (expr_size v + size) ≡ pc + expr_size v + size = omega arith in
-      still choices code nl room (ToEval v ∷ ToSwitch p (stmt.block_of q lo n ss r) ∷ k) s pc m env []
-      (eval_at choices code nl room v (ToSwitch p (stmt.block_of q lo n ss r) ∷ k) env pc h.1.0 [] h.1.1 h.1.2 h.1.3 (tt, refl, (h.1.4, h.1.5, h.1.6), moved choices code nl room env k _ _ [] e h.2)) (none_waits ks s m h.0 ma)
+      still choices code nl room (ToEval v ∷ ToSwitch p (stmt.block_of q ss r) ∷ k) s pc m env []
+      (eval_at choices code nl room v (ToSwitch p (stmt.block_of q ss r) ∷ k) env pc h.1.0 [] h.1.1 h.1.2 h.1.3 (tt, refl, (h.1.4, h.1.5, h.1.6), moved choices code nl room env k _ _ [] e h.2)) (none_waits ks s m h.0 ma)
   execute_sim (stmt.switch_on p v a) k s env pc ks m h ma =
       let e : pc + (expr_size v + (1 + stmt_size a)) ≡ pc + expr_size v + (1 + stmt_size a) = omega arith in
       still choices code nl room (ToEval v ∷ ToSwitch p a ∷ k) s pc m env []

@@ -13,7 +13,7 @@ use Rattle.pungi_meaning.specs.Values.{is_equal, is_true, truth}
 use Rattle.pungi_meaning.specs.Todo.{Operation, Compared, Todo, ToRest, ToSwitch, ToSwitchEnd, State, Step, Goes, listed}
 use Rattle.pungi_meaning.specs.Stmts.{bears_case, is_default, cases_of, block_cases, looked_at, first_from, target, enter_at, switch}
 use Rattle.pungi_meaning.specs.Run.{Run, noted, act}
-use Rattle.pungi_meaning.specs.Work.{content_at, or_else, unset}
+use Rattle.pungi_meaning.specs.Work.{content_at, or_else, declared, unset_reached}
 use Rattle.pungi_code.specs.declared.atom.Atom.TheVariants as atom
 use Rattle.pungi_code.specs.declared.code.Line.{Line}
 use Rattle.pungi_code.specs.declared.instr.Instr.TheVariants.{Jump}
@@ -155,15 +155,17 @@ module _ (choices : List Choice) (code : List Line) (nl room : ℕ) where
   switch_sim p a k x u l [] env pc (q ∷ ks) m h ma = absurd ma.stack
   switch_sim p a k x u l (v ∷ vs) env pc (q ∷ q2 ∷ ks) m h ma = absurd (let z : q2 ∷ ks ≡ [] = h.1 in cc)
   switch_sim p a k x u l (v ∷ w2 ∷ vs) env pc (q ∷ []) m h ma = absurd ma.stack.3
-  switch_sim p (stmt.block_of t lo n ss r) k x u l (v ∷ []) env pc (q ∷ []) m h ma =
+  switch_sim p (stmt.block_of t ss r) k x u l (v ∷ []) env pc (q ∷ []) m h ma =
       let list = listed ss in
+      let own = declared list in
+      let n = length own in
       let first = switch_first pc n ss in
       let end = first + stmts_size ss in
       let inner = in_block (in_switch env end) first list in
       let other = label_or (list_default first list) end in
       let cs = list_cases first list in
-      let z = unset_sim choices code nl room n lo pc (q ∷ []) (st x u l (v ∷ [])) m h.2.0 ma in
-      let s' = st x u (unset lo n l) (v ∷ []) in
+      let z = unset_sim choices code nl room own pc (q ∷ []) (st x u l (v ∷ [])) m h.2.0 ma in
+      let s' = st x u (unset_reached own l) (v ∷ []) in
       let g = compares cs p q h.2.1.0 other (pc + n) v s' z.0 h.2.1.2 h.2.1.1 refl z.2 z.2.stack.0 in
       let here = list_at choices code nl room ss inner first h.2.2 in
       let f = found_or (first_from (bears_case v) 0 list) (first_from is_default 0 list) inner list end (first_place v cs other) other (find_case v list list 0 first end other inner refl here) (find_default list list 0 first end inner refl here) in

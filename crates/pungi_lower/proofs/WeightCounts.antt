@@ -51,7 +51,7 @@ tested_light (Some c) behind body n h = let a = option_light behind in let b = e
 mutual
   -- five steps a node are enough
   pub stmt_light : (a : stmt.Action) → stmt_weight a + 1 ≤ 5 * stmt_nodes a
-  stmt_light (stmt.block_of p first count ss q) = let a = stmts_light ss in omega (arith, a)
+  stmt_light (stmt.block_of p ss q) = let a = stmts_light ss in omega (arith, a)
   stmt_light (stmt.reach p rs) = let a = reach_light rs in omega (arith, a)
   stmt_light (stmt.evaluate p v) = let a = option_light v in omega (arith, a)
   stmt_light (stmt.test p c a) = let x = expr_light c in let y = stmt_light a in omega (arith, x, y)
@@ -60,7 +60,7 @@ mutual
   stmt_light (stmt.repeat_until p a c) = let y = stmt_light a in let x = tested_light (Some c) None (stmt_weight a) (stmt_nodes a) y in omega (arith, x)
   stmt_light (stmt.repeat_for p rs u c w a) =
       let y = stmt_light a in let x = tested_light c w (stmt_weight a) (stmt_nodes a) y in let z = reach_light rs in let v = option_light u in omega (arith, x, z, v)
-  stmt_light (stmt.switch_on p v (stmt.block_of q first count ss r)) = let x = expr_light v in let a = stmts_light ss in omega (arith, x, a)
+  stmt_light (stmt.switch_on p v (stmt.block_of q ss r)) = let x = expr_light v in let a = stmts_light ss in omega (arith, x, a)
   stmt_light (stmt.switch_on p v a) = let x = expr_light v in let y = stmt_light a in omega (arith, x, y)
   stmt_light (stmt.at_case p n a) = let x = stmt_light a in omega (arith, x)
   stmt_light (stmt.at_default p a) = let x = stmt_light a in omega (arith, x)

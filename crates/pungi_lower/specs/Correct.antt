@@ -9,7 +9,7 @@ use Rattle.pungi_base.specs.declared.entry.Entry.{Entry}
 use Rattle.pungi_types.specs.ResolvedStmts.{ResolvedFunction}
 use Rattle.pungi_world.specs.declared.content.Content.TheVariants.{Unset, Holds}
 use Rattle.pungi_world.specs.World.{world_at}
-use Rattle.pungi_meaning.specs.Run.{Run, locals_of, run_of}
+use Rattle.pungi_meaning.specs.Run.{Run, run_of}
 use Rattle.pungi_code.specs.declared.code.Line.{Line}
 use Rattle.pungi_code.specs.Registers.{Regs}
 use Rattle.pungi_code.specs.Run.{exec}
@@ -33,4 +33,4 @@ abbrev pub target : List Line → ℕ → Entry → List Choice → ℕ → Run
 target code vars entry choices n = exec choices code n 0 (first_regs vars entry)
 
 pub record Behaves (f : ResolvedFunction) (code : List Line) (vars most : ℕ) : Type 0 where
-  pub alike : (entry : Entry) (choices : List Choice) → length entry.args ≤ locals_of f.body → Alike (source f entry choices) (target code vars entry choices) most
+  pub alike : (entry : Entry) (choices : List Choice) → length entry.args ≤ f.locals → Alike (source f entry choices) (target code vars entry choices) most

@@ -7,3 +7,15 @@ pub mod StmtCode
 pub mod Weights
 pub mod Sound
 pub mod Correct
+pub mod VarKinds
+pub mod Heads
+pub mod Liveness
+pub mod Typed
+pub mod TypedCalls
+pub mod TypedCode
+pub mod Codes
+pub mod Lowered
+pub mod Boundaries
+pub mod LabelPlaces
+pub mod Cases
+pub mod TypedLaws

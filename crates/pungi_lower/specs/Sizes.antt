@@ -1,7 +1,7 @@
 -- How many instructions an expression and a statement take.
 --   place_size place               the base of a place
 --   fit_size to from               a conversion, where the kinds differ
---   store_size place               a store, which leaves the stored value
+--   store_size               a store, which leaves the stored value
 --   sign_size, keep_size           what a minus, and `++` behind its operand, take more
 --   expr_size v, values_size vs    an expression, arguments one after another
 --   option_size o                  an expression that may be missing
@@ -17,14 +17,14 @@ use Rattle.pungi_types.specs.ResolvedStmts as stmt
 use Rattle.pungi_meaning.specs.Values.{wide}
 use Rattle.pungi_meaning.specs.Todo.{listed}
 use Rattle.pungi_meaning.specs.Stmts.{block_cases}
+use Rattle.pungi_meaning.specs.Work.{declared}
 use Rattle.pungi_lower.specs.Parts.{is_minus}
 
 abbrev pub fit_size : ValueKind → ValueKind → ℕ
 fit_size to from = if expr.is_same_kind (Some to) (Some from) then 0 else 1
 
-abbrev pub store_size : expr.Place → ℕ
-store_size (expr.field_place p base tag field) = 2
-store_size place = 1
+abbrev pub store_size : ℕ
+store_size = 2
 
 abbrev pub sign_size : Bool → ℕ
 sign_size minus = if minus then 1 else 0
@@ -44,12 +44,12 @@ abbrev mutual
   expr_size (expr.inner p v) = expr_size v
   expr_size (expr.signed p m kind v) = expr_size v + sign_size (is_minus m)
   expr_size (expr.negated p v) = 1 + expr_size v + 2
-  expr_size (expr.stepped p behind m kind place) = keep_size behind + place_size place + 1 + keep_size behind + 1 + fit_size kind (wide kind) + store_size place
+  expr_size (expr.stepped p behind m kind place) = keep_size behind + place_size place + 1 + keep_size behind + 1 + fit_size kind (wide kind) + store_size
   expr_size (expr.computed p m kind a b) = expr_size a + expr_size b + 1
   expr_size (expr.compared p m a b) = expr_size a + expr_size b + 1
   expr_size (expr.joined_by p m a b) = 1 + expr_size a + 1 + expr_size b + 2
-  expr_size (expr.stored p kind place v) = place_size place + expr_size v + store_size place
-  expr_size (expr.updated p m counted kind place v) = place_size place + 1 + expr_size v + 1 + fit_size kind counted + store_size place
+  expr_size (expr.stored p kind place v) = place_size place + expr_size v + store_size
+  expr_size (expr.updated p m counted kind place v) = place_size place + 1 + expr_size v + 1 + fit_size kind counted + store_size
   expr_size (expr.chosen p c a b) = expr_size c + 1 + expr_size a + 1 + expr_size b
   expr_size (expr.converted p kind v) = expr_size v + 1
   expr_size (expr.cast_of p v) = expr_size v
@@ -89,7 +89,7 @@ test_size (Some c) = expr_size c + 1
 
 abbrev mutual
   pub stmt_size : stmt.Action → ℕ
-  stmt_size (stmt.block_of p first count ss q) = count + stmts_size ss
+  stmt_size (stmt.block_of p ss q) = length (declared (listed ss)) + stmts_size ss
   stmt_size (stmt.reach p rs) = reach_size rs
   stmt_size (stmt.evaluate p v) = option_size v
   stmt_size (stmt.test p c a) = expr_size c + 1 + stmt_size a
@@ -97,7 +97,7 @@ abbrev mutual
   stmt_size (stmt.repeat_while p c a) = expr_size c + 1 + stmt_size a + 1
   stmt_size (stmt.repeat_until p a c) = 1 + expr_size c + 1 + stmt_size a + 1
   stmt_size (stmt.repeat_for p rs u c w a) = length rs + reach_size rs + option_size u + test_size c + stmt_size a + option_size w + 1
-  stmt_size (stmt.switch_on p v (stmt.block_of q first count ss r)) = expr_size v + (count + 2 * length (block_cases (listed ss)) + 1 + stmts_size ss)
+  stmt_size (stmt.switch_on p v (stmt.block_of q ss r)) = expr_size v + (length (declared (listed ss)) + 2 * length (block_cases (listed ss)) + 1 + stmts_size ss)
   stmt_size (stmt.switch_on p v a) = expr_size v + (1 + stmt_size a)
   stmt_size (stmt.at_case p n a) = stmt_size a
   stmt_size (stmt.at_default p a) = stmt_size a
@@ -113,7 +113,7 @@ abbrev mutual
 
 -- of a `switch`, behind its value: the locals of its block are unset, then come the comparisons, then the block
 abbrev pub switch_size : stmt.Action → ℕ
-switch_size (stmt.block_of q first count ss r) = count + 2 * length (block_cases (listed ss)) + 1 + stmts_size ss
+switch_size (stmt.block_of q ss r) = length (declared (listed ss)) + 2 * length (block_cases (listed ss)) + 1 + stmts_size ss
 switch_size a = 1 + stmt_size a
 
 abbrev pub list_size : List stmt.Action → ℕ

@@ -57,7 +57,7 @@ AreReached nl (r ∷ rs) = (r.number < nl) × IsOptionWanted nl r.value × AreRe
 
 abbrev mutual
   pub IsStmtSound : ℕ → stmt.Action → Type 0
-  IsStmtSound nl (stmt.block_of p first count ss q) = (first + count ≤ nl) × AreStmtsSound nl ss
+  IsStmtSound nl (stmt.block_of p ss q) = AreStmtsSound nl ss
   IsStmtSound nl (stmt.reach p rs) = AreReached nl rs
   IsStmtSound nl (stmt.evaluate p v) = IsOptionSound nl v
   IsStmtSound nl (stmt.test p c a) = IsWanted nl c × IsStmtSound nl a
@@ -115,7 +115,7 @@ reach_nodes (r ∷ rs) = option_nodes r.value + 1 + reach_nodes rs
 
 abbrev mutual
   pub stmt_nodes : stmt.Action → ℕ
-  stmt_nodes (stmt.block_of p first count ss q) = stmts_nodes ss + 1
+  stmt_nodes (stmt.block_of p ss q) = stmts_nodes ss + 1
   stmt_nodes (stmt.reach p rs) = reach_nodes rs + 1
   stmt_nodes (stmt.evaluate p v) = option_nodes v + 1
   stmt_nodes (stmt.test p c a) = expr_nodes c + stmt_nodes a + 1

@@ -6,12 +6,18 @@
 --   answer_column, form_column    of a call's answer
 --   value_column v          of an expression
 --   temp_of nl d v          the variable of its value
---   arg_vars nl d vs        the variables of the arguments of a call, in order
-use Rattle.std.specs.Prelude.{ℕ, ◌+◌, ◌*◌, ◌==◌, nat_le, ◌&&◌, List, [], ◌∷◌, if◌then◌else◌}
+--   fitting_column want own    the column of an operand beside one of the column `want`: `NULL` beside a text is one
+--   operand nl d want v     the variable of such an operand
+--   local_column k, param_column p    the column that a local of a kind wants, and a parameter
+--   front_column ps, tail ps    the column of the first of the parameters that are left, if any, and those behind it
+--   arg_var nl d ps v, arg_vars nl d ps vs    the variable of an argument of a call where these parameters are left, and those of all, in order
+use Rattle.std.specs.Prelude.{ℕ, ◌+◌, ◌*◌, ◌==◌, nat_le, ◌&&◌, List, [], ◌∷◌, Option, Some, None, if◌then◌else◌}
 use Rattle.pungi_api.specs.declared.answer.Answer.{Answer}
 use Rattle.pungi_api.specs.declared.answer.Answer.TheVariants as answer
 use Rattle.pungi_api.specs.declared.row.Form.{Form}
 use Rattle.pungi_api.specs.declared.row.Form.TheVariants as form
+use Rattle.pungi_api.specs.declared.param.Param.{Param}
+use Rattle.pungi_api.specs.declared.param.Param.TheVariants as param
 use Rattle.pungi_types.specs.declared.kind.ValueKind.{ValueKind}
 use Rattle.pungi_types.specs.declared.kind.ValueKind.TheVariants as kinds
 use Rattle.pungi_types.specs.Resolved as expr
@@ -71,6 +77,33 @@ value_column (expr.nonsense p) = 0
 abbrev pub temp_of : ℕ → ℕ → expr.Value → ℕ
 temp_of nl d v = temp nl d (value_column v)
 
-abbrev pub arg_vars : ℕ → ℕ → List expr.Value → List ℕ
-arg_vars nl d [] = []
-arg_vars nl d (v ∷ vs) = temp_of nl d v ∷ arg_vars nl (d + 1) vs
+-- `NULL` is a pointer of either kind
+abbrev pub fitting_column : ℕ → ℕ → ℕ
+fitting_column want own = if want == 3 then 3 else own
+
+abbrev pub operand : ℕ → ℕ → ℕ → expr.Value → ℕ
+operand nl d want v = temp nl d (fitting_column want (value_column v))
+
+abbrev pub local_column : Option ValueKind → ℕ
+local_column (Some k) = column k
+local_column None = 4
+
+abbrev pub param_column : Param → ℕ
+param_column param.Text = 3
+param_column param.TextOrNull = 3
+param_column p = 4
+
+abbrev pub front_column : List Param → ℕ
+front_column [] = 4
+front_column (p ∷ ps) = param_column p
+
+abbrev pub tail : List Param → List Param
+tail [] = []
+tail (p ∷ ps) = ps
+
+abbrev pub arg_var : ℕ → ℕ → List Param → expr.Value → ℕ
+arg_var nl d ps v = operand nl d (front_column ps) v
+
+abbrev pub arg_vars : ℕ → ℕ → List Param → List expr.Value → List ℕ
+arg_vars nl d ps [] = []
+arg_vars nl d ps (v ∷ vs) = arg_var nl d ps v ∷ arg_vars nl (d + 1) (tail ps) vs

@@ -68,7 +68,7 @@ tested_weight (Some c) behind body = expr_weight c + turn_weight behind body
 
 abbrev mutual
   pub stmt_weight : stmt.Action → ℕ
-  stmt_weight (stmt.block_of p first count ss q) = stmts_weight ss + 1
+  stmt_weight (stmt.block_of p ss q) = stmts_weight ss + 1
   stmt_weight (stmt.reach p rs) = reach_weight rs + 1
   stmt_weight (stmt.evaluate p v) = option_weight v + 1
   stmt_weight (stmt.test p c a) = expr_weight c + stmt_weight a + 3
@@ -76,7 +76,7 @@ abbrev mutual
   stmt_weight (stmt.repeat_while p c a) = tested_weight (Some c) None (stmt_weight a) + 1
   stmt_weight (stmt.repeat_until p a c) = tested_weight (Some c) None (stmt_weight a) + 1
   stmt_weight (stmt.repeat_for p rs u c w a) = reach_weight rs + option_weight u + tested_weight c w (stmt_weight a) + 2
-  stmt_weight (stmt.switch_on p v (stmt.block_of q first count ss r)) = expr_weight v + (stmts_weight ss + 2) + 1
+  stmt_weight (stmt.switch_on p v (stmt.block_of q ss r)) = expr_weight v + (stmts_weight ss + 2) + 1
   stmt_weight (stmt.switch_on p v a) = expr_weight v + (stmt_weight a + 2) + 1
   stmt_weight (stmt.at_case p n a) = stmt_weight a + 1
   stmt_weight (stmt.at_default p a) = stmt_weight a + 1
@@ -96,7 +96,7 @@ abbrev pub loop_weight : Loop → ℕ
 loop_weight loop = tested_weight loop.test loop.behind (stmt_weight loop.body)
 
 abbrev pub switch_weight : stmt.Action → ℕ
-switch_weight (stmt.block_of q first count ss r) = stmts_weight ss + 2
+switch_weight (stmt.block_of q ss r) = stmts_weight ss + 2
 switch_weight a = stmt_weight a + 2
 
 abbrev pub other_weight : Option stmt.Action → ℕ

@@ -1,0 +1,135 @@
+-- The codes of a checked file: each function in which no rule holds is passed, and its code is well-formed.
+use Rattle.std.proofs.Common.{◌≡◌, ℕ, zero, suc, ◌+◌, ◌*◌, ◌≤◌, arith, length, Bool, true, false, List, [], ◌∷◌, Option, Some, None, map, option_map, slice_get, refl, sym, ap, subst, ◌∙◌}
+use Rattle.std.specs.Prelude.{is_some, if◌then◌else◌}
+use Rattle.pungi_types.specs.Files.{Definition, definitions, definition_in}
+use Rattle.pungi_types.specs.Functions.{file_env, refusal}
+use Rattle.pungi_types.specs.Nodes.{function_nodes}
+use Rattle.pungi_types.specs.Refused.{IsRefusedSet}
+use Rattle.pungi_types.specs.ResolvedStmts.{ResolvedFunction, resolved}
+use Rattle.pungi_types.specs.declared.finding.Finding.{Finding}
+use Rattle.pungi_resolved.specs.ActionView.{function_view}
+use Rattle.pungi_resolved.specs.declared.function.Function.{Function}
+use Rattle.pungi_check.specs.CheckedFile.{CheckedFile}
+use Rattle.pungi_check.specs.Distinct.{are_new, AreOwn}
+use Rattle.pungi_check.proofs.OwnLemmas.{all-own}
+use Rattle.pungi_resolve.specs.Passed.{IsPassed}
+use Rattle.pungi_resolve.specs.Resolutions.{resolution_of}
+use Rattle.pungi_code.specs.declared.code.Code.{Code}
+use Rattle.pungi_code.specs.WellFormed.{IsWellFormed, AgreeOnKinds}
+use Rattle.pungi_lower.specs.Codes.{code_for}
+use Rattle.pungi_lower.specs.Correct.{temps_of, Behaves}
+use Rattle.pungi_lower.specs.Lowered.{codes_of, IsEachPassed, IsLowered, AreLowered, HasRows, AreEachWellFormed, AgreeOnSlots}
+use Rattle.pungi_lower.specs.Sound.{IsStmtSound}
+use Rattle.pungi_lower.specs.StmtCode.{body_code}
+use Rattle.pungi_lower.specs.VarKinds.{var_kinds}
+use Rattle.pungi_lower.specs.TypedCalls.{has_no_call}
+use Rattle.pungi_lower.specs.TypedCode.{code_of}
+use Rattle.pungi_lower.proofs.BoundaryHeads.{keeps_nothing}
+use Rattle.pungi_lower.proofs.Final.{laid_out}
+use Rattle.pungi_lower.proofs.KindsCode.{vars_long}
+use Rattle.pungi_lower.proofs.KindsFunctions.{function-locals, function-well-formed}
+use Rattle.pungi_lower.proofs.NodesCode.{code-few}
+use Rattle.pungi_lower.proofs.TypedFunctions.{function-works, nodes-bounded}
+use Rattle.pungi_lower.proofs.TypedLaws.{agree_if_passed}
+
+-- ---- each function in which no rule holds is passed
+
+own-at : (whole ds : List Definition) (i : ℕ) (d : Definition) → AreOwn whole ds → slice_get ds i ≡ Some d → definition_in whole d.name.0 ≡ Some d
+own-at whole [] i d own e = absurd (cc)
+own-at whole (x ∷ ds) zero d own e =
+    let s : Some x ≡ Some d = e in
+    let same : x ≡ d = cc in
+    subst (λ (y : Definition). definition_in whole y.name.0 ≡ Some y) same own.0
+own-at whole (x ∷ ds) (suc i) d own e = own-at whole ds i d own.1 e
+
+pub passed-all : (c : CheckedFile) → are_new [] (definitions c.file) ≡ true → IsRefusedSet c.file c.rows c.refused → IsEachPassed c
+passed-all c new set = λ i d at none.
+    record { outside = refl; own = own-at (definitions c.file) (definitions c.file) i d (all-own [] (definitions c.file) new) at; others = set.holds; passed = none }
+
+-- ---- the function of a code
+
+record Source (c : CheckedFile) (ds : List Definition) (i : ℕ) (code : Code) : Type 0 where
+  pub d : Definition
+  pub at : slice_get ds i ≡ Some d
+  pub none : refusal c.file c.rows c.refused d ≡ None
+  pub free : has_no_call (resolved c.file c.rows c.refused d).body ≡ true
+  pub is : code_of (resolved c.file c.rows c.refused d) ≡ code
+
+code-where : (b : Bool) (k code : Code) → (if b then Some k else None) ≡ Some code → (b ≡ true) × (k ≡ code)
+code-where false k code e = absurd (cc)
+code-where true k code e =
+    let s : Some k ≡ Some code = e in
+    let same : k ≡ code = cc in
+    (refl, same)
+
+none-where : (r : Option Finding) (f : ResolvedFunction) (code : Code) → code_for (if is_some r then None else Some f) ≡ Some code → (r ≡ None) × (code_for (Some f) ≡ Some code)
+none-where (Some x) f code e = absurd (cc)
+none-where None f code e = (refl, e)
+
+source-of : (c : CheckedFile) (d : Definition) (code : Code) → code_for (resolution_of c.file c.rows c.refused d) ≡ Some code → Source c (d ∷ []) 0 code
+source-of c d code e =
+    let f = resolved c.file c.rows c.refused d in
+    let passed = none-where (refusal c.file c.rows c.refused d) f code e in
+    let there = code-where (has_no_call f.body) (code_of f) code passed.1 in
+    record { d = d; at = refl; none = passed.0; free = there.0; is = there.1 }
+
+source-at : (c : CheckedFile) (ds : List Definition) (i : ℕ) (code : Code) → slice_get (map code_for (map (resolution_of c.file c.rows c.refused) ds)) i ≡ Some (Some code) → Source c ds i code
+source-at c [] i code e = absurd (cc)
+source-at c (x ∷ ds) zero code e =
+    let s : Some (code_for (resolution_of c.file c.rows c.refused x)) ≡ Some (Some code) = e in
+    let same : code_for (resolution_of c.file c.rows c.refused x) ≡ Some code = cc in
+    let h = source-of c x code same in
+    let first : Some x ≡ Some h.d = h.at in
+    record { d = h.d; at = first; none = h.none; free = h.free; is = h.is }
+source-at c (x ∷ ds) (suc i) code e =
+    let h = source-at c ds i code e in
+    record { d = h.d; at = h.at; none = h.none; free = h.free; is = h.is }
+
+-- ---- the codes
+
+-- what is made of the functions of a file, where they are those of the definition
+pub laid : (c : CheckedFile) (functions seen : List (Option Function)) (codes : List (Option Code)) → codes ≡ map code_for (map (option_map function_view) seen) → seen ≡ functions
+    → map (option_map function_view) functions ≡ map (resolution_of c.file c.rows c.refused) (definitions c.file) → codes ≡ codes_of c
+laid c functions seen codes made same is =
+    made ∙ ap (λ (fs : List (Option Function)). map code_for (map (option_map function_view) fs)) same ∙ ap (λ (rs : List (Option ResolvedFunction)). map code_for rs) is
+
+lowered-one : (c : CheckedFile) (d : Definition) (code : Code) → IsPassed (file_env c.file c.rows c.refused d.name.0) d → code_of (resolved c.file c.rows c.refused d) ≡ code
+    → IsLowered (resolved c.file c.rows c.refused d) (function_nodes d) code
+lowered-one c d code passed is =
+    let env = file_env c.file c.rows c.refused d.name.0 in
+    let f = resolved c.file c.rows c.refused d in
+    let sound : IsStmtSound f.locals f.body = function-works env d passed in
+    let n = nodes-bounded env d passed in
+    let long : length (var_kinds f) ≡ f.locals + temps_of f = vars_long f (function-locals env d) in
+    let alike : Behaves f (body_code f) (f.locals + temps_of f) 65536 = laid_out f sound (omega (arith, n)) in
+    let lowered : IsLowered f (function_nodes d) (code_of f) = record {
+      alike = subst (λ (m : ℕ). Behaves f (body_code f) m 65536) (sym long) alike;
+      small = code-few env d;
+      keeps = keeps_nothing f sound;
+    } in
+    subst (λ (k : Code). IsLowered f (function_nodes d) k) is lowered
+
+pub all-lowered : (c : CheckedFile) → are_new [] (definitions c.file) ≡ true → IsRefusedSet c.file c.rows c.refused → AreLowered c (codes_of c)
+all-lowered c new set = λ i d code at e.
+    let h = source-at c (definitions c.file) i code e in
+    let both : Some h.d ≡ Some d = sym h.at ∙ at in
+    let same : h.d ≡ d = cc in
+    let one = lowered-one c h.d code (passed-all c new set i h.d h.at h.none) h.is in
+    subst (λ (x : Definition). IsLowered (resolved c.file c.rows c.refused x) (function_nodes x) code) same one
+
+pub each-well-formed : (c : CheckedFile) → are_new [] (definitions c.file) ≡ true → IsRefusedSet c.file c.rows c.refused → HasRows c → AreEachWellFormed (codes_of c)
+each-well-formed c new set rows = λ i code e.
+    let h = source-at c (definitions c.file) i code e in
+    let passed = passed-all c new set i h.d h.at h.none in
+    subst (λ (k : Code). IsWellFormed k) h.is (function-well-formed (file_env c.file c.rows c.refused h.d.name.0) h.d passed rows h.free)
+
+pub all-agree : (c : CheckedFile) → are_new [] (definitions c.file) ≡ true → IsRefusedSet c.file c.rows c.refused → HasRows c → AgreeOnSlots (codes_of c)
+all-agree c new set rows = λ i j a b x y.
+    let g = source-at c (definitions c.file) i a x in
+    let h = source-at c (definitions c.file) j b y in
+    let p = passed-all c new set i g.d g.at g.none in
+    let q = passed-all c new set j h.d h.at h.none in
+    let both : AgreeOnKinds (code_of (resolved c.file c.rows c.refused g.d)) (code_of (resolved c.file c.rows c.refused h.d)) =
+    agree_if_passed (resolved c.file c.rows c.refused g.d) (resolved c.file c.rows c.refused h.d) (file_env c.file c.rows c.refused g.d.name.0) (file_env c.file c.rows c.refused h.d.name.0) g.d
+    h.d refl p q rows rows refl refl g.free h.free in
+    subst (λ (k : Code). AgreeOnKinds k b) g.is (subst (λ (k : Code). AgreeOnKinds (code_of (resolved c.file c.rows c.refused g.d)) k) h.is both)

@@ -1,0 +1,103 @@
+-- Loops and labels of statements, one after another.
+use Rattle.std.proofs.Common.{◌≡◌, ℕ, ◌+◌, ◌*◌, List, [], ◌∷◌, ◌++◌, length, refl, sym, ap, ◌∙◌, subst, arith, append_assoc}
+use Rattle.pungi_base.specs.declared.pos.Pos.{Pos}
+use Rattle.pungi_types.specs.Resolved as expr
+use Rattle.pungi_types.specs.ResolvedStmts as stmt
+use Rattle.pungi_resolved.specs.ActionView.{actions_of}
+use Rattle.pungi_meaning.specs.Stmts.{block_cases}
+use Rattle.pungi_meaning.specs.Work.{declared}
+use Rattle.pungi_meaning.specs.Todo.{listed}
+use Rattle.pungi_lower.specs.declared.mark.Mark.{Mark}
+use Rattle.pungi_lower.specs.Sizes.{expr_size, stmt_size, stmts_size, switch_size}
+use Rattle.pungi_lower.specs.Heads.{stmt_marks, stmts_marks, switch_marks}
+use Rattle.pungi_lower.proofs.StmtLemmas.{as_actions}
+
+pub both_marks : (m0 m1 m2 xs ys : List Mark) → m1 ≡ m0 ++ xs → m2 ≡ m1 ++ ys → m2 ≡ m0 ++ (xs ++ ys)
+both_marks m0 m1 m2 xs ys e f = f ∙ ap (λ m. m ++ ys) e ∙ append_assoc m0 xs ys
+
+pub next_marks : (a : stmt.Action) (rest : stmt.Actions) (pc n : ℕ) (m0 m1 : List Mark) → m1 ≡ m0 ++ stmt_marks pc a → n ≡ pc + stmt_size a → m0 ++ stmts_marks pc (stmt.action_and a rest) ≡ m1 ++ stmts_marks n rest
+next_marks a rest pc n m0 m1 e f =
+    sym (append_assoc m0 (stmt_marks pc a) (stmts_marks (pc + stmt_size a) rest)) ∙ ap (λ m. m ++ stmts_marks (pc + stmt_size a) rest) (sym e) ∙ ap (λ i. m1 ++ stmts_marks i rest) (sym f)
+
+pub next_size : (a : stmt.Action) (rest : stmt.Actions) (pc n : ℕ) → n ≡ pc + stmt_size a → n + stmts_size rest ≡ pc + stmts_size (stmt.action_and a rest)
+next_size a rest pc n e = omega (arith, e)
+
+-- a block in a `switch`, and elsewhere
+pub block_size : (p q : Pos) (list : List stmt.Action) (pc own from next : ℕ) → own ≡ length (declared list) → from ≡ pc + own → next ≡ from + stmts_size (actions_of list) → next ≡ pc + stmt_size (stmt.block_of p (actions_of list) q)
+block_size p q list pc own from next e f g =
+    let h : length (declared list) ≡ length (declared (listed (actions_of list))) = ap (λ l. length (declared l)) (sym (as_actions list)) in
+    omega (arith, e, f, g, h)
+
+pub block_marks : (p q : Pos) (list : List stmt.Action) (pc own from : ℕ) (m0 m1 : List Mark) → own ≡ length (declared list) → from ≡ pc + own → m1 ≡ m0 ++ stmts_marks from (actions_of list) → m1 ≡ m0 ++ stmt_marks pc (stmt.block_of p (actions_of list) q)
+block_marks p q list pc own from m0 m1 e f g =
+    let h : from ≡ pc + length (declared (listed (actions_of list))) = f ∙ ap (λ n. pc + n) (e ∙ ap (λ l. length (declared l)) (sym (as_actions list))) in
+    g ∙ ap (λ n. m0 ++ stmts_marks n (actions_of list)) h
+
+pub choice_size : (p : Pos) (v : expr.Value) (a : stmt.Action) (pc place next : ℕ) → place ≡ pc + expr_size v → next ≡ place + switch_size a → next ≡ pc + stmt_size (stmt.switch_on p v a)
+choice_size p v (stmt.block_of r ss q) pc place next e f = omega (arith, e, f)
+choice_size p v (stmt.reach p' rs) pc place next e f = omega (arith, e, f)
+choice_size p v (stmt.evaluate p' u) pc place next e f = omega (arith, e, f)
+choice_size p v (stmt.test p' c a) pc place next e f = omega (arith, e, f)
+choice_size p v (stmt.test_else p' c a b) pc place next e f = omega (arith, e, f)
+choice_size p v (stmt.repeat_while p' c a) pc place next e f = omega (arith, e, f)
+choice_size p v (stmt.repeat_until p' a c) pc place next e f = omega (arith, e, f)
+choice_size p v (stmt.repeat_for p' rs u c w a) pc place next e f = omega (arith, e, f)
+choice_size p v (stmt.switch_on p' u a) pc place next e f = omega (arith, e, f)
+choice_size p v (stmt.at_case p' n a) pc place next e f = omega (arith, e, f)
+choice_size p v (stmt.at_default p' a) pc place next e f = omega (arith, e, f)
+choice_size p v (stmt.at_label p' l a) pc place next e f = omega (arith, e, f)
+choice_size p v (stmt.jump p' l) pc place next e f = omega (arith, e, f)
+choice_size p v (stmt.leave p') pc place next e f = omega (arith, e, f)
+choice_size p v (stmt.next_turn p') pc place next e f = omega (arith, e, f)
+choice_size p v (stmt.give p' u) pc place next e f = omega (arith, e, f)
+
+pub choice_marks : (p : Pos) (v : expr.Value) (a : stmt.Action) (pc : ℕ) → stmt_marks pc (stmt.switch_on p v a) ≡ switch_marks (pc + expr_size v) a
+choice_marks p v (stmt.block_of r ss q) pc = refl
+choice_marks p v (stmt.reach p' rs) pc = refl
+choice_marks p v (stmt.evaluate p' u) pc = refl
+choice_marks p v (stmt.test p' c a) pc = refl
+choice_marks p v (stmt.test_else p' c a b) pc = refl
+choice_marks p v (stmt.repeat_while p' c a) pc = refl
+choice_marks p v (stmt.repeat_until p' a c) pc = refl
+choice_marks p v (stmt.repeat_for p' rs u c w a) pc = refl
+choice_marks p v (stmt.switch_on p' u a) pc = refl
+choice_marks p v (stmt.at_case p' n a) pc = refl
+choice_marks p v (stmt.at_default p' a) pc = refl
+choice_marks p v (stmt.at_label p' l a) pc = refl
+choice_marks p v (stmt.jump p' l) pc = refl
+choice_marks p v (stmt.leave p') pc = refl
+choice_marks p v (stmt.next_turn p') pc = refl
+choice_marks p v (stmt.give p' u) pc = refl
+
+pub else_marks : (p : Pos) (c : expr.Value) (a b : stmt.Action) (pc size test go last middle : ℕ) (m0 m1 m2 : List Mark) →
+    size ≡ expr_size c → test ≡ pc + size → go ≡ test + 1 → last ≡ go + stmt_size a → middle ≡ last + 1 →
+    m1 ≡ m0 ++ stmt_marks go a → m2 ≡ m1 ++ stmt_marks middle b →
+    m2 ≡ m0 ++ stmt_marks pc (stmt.test_else p c a b)
+else_marks p c a b pc size test go last middle m0 m1 m2 h1 h2 h3 h4 h5 e f =
+    let g : go ≡ pc + expr_size c + 1 = omega (arith, h1, h2, h3) in
+    let k : middle ≡ pc + expr_size c + 1 + stmt_size a + 1 = omega (arith, g, h4, h5) in
+    both_marks m0 m1 m2 (stmt_marks (pc + expr_size c + 1) a) (stmt_marks (pc + expr_size c + 1 + stmt_size a + 1) b) (e ∙ ap (λ n. m0 ++ stmt_marks n a) g) (f ∙ ap (λ n. m1 ++ stmt_marks n b) k)
+
+switched_place : (list : List stmt.Action) (place own cases unset compared branched from : ℕ) →
+    own ≡ length (declared list) → cases ≡ length (block_cases list) → unset ≡ place + own → compared ≡ unset + cases → branched ≡ compared + cases → from ≡ branched + 1 →
+    from ≡ place + length (declared (listed (actions_of list))) + 2 * length (block_cases (listed (actions_of list))) + 1
+switched_place list place own cases unset compared branched from h1 h2 h3 h4 h5 h6 =
+    let same = sym (as_actions list) in
+    let d : length (declared list) ≡ length (declared (listed (actions_of list))) = ap (λ l. length (declared l)) same in
+    let k : length (block_cases list) ≡ length (block_cases (listed (actions_of list))) = ap (λ l. length (block_cases l)) same in
+    omega (arith, h1, h2, h3, h4, h5, h6, d, k)
+
+pub switched_size : (p q : Pos) (list : List stmt.Action) (place own cases unset compared branched from next : ℕ) →
+    own ≡ length (declared list) → cases ≡ length (block_cases list) → unset ≡ place + own → compared ≡ unset + cases → branched ≡ compared + cases → from ≡ branched + 1 →
+    next ≡ from + stmts_size (actions_of list) →
+    next ≡ place + switch_size (stmt.block_of p (actions_of list) q)
+switched_size p q list place own cases unset compared branched from next h1 h2 h3 h4 h5 h6 g =
+    let f = switched_place list place own cases unset compared branched from h1 h2 h3 h4 h5 h6 in
+    omega (arith, f, g)
+
+pub switched_marks : (p q : Pos) (list : List stmt.Action) (place own cases unset compared branched from : ℕ) (m0 m1 : List Mark) →
+    own ≡ length (declared list) → cases ≡ length (block_cases list) → unset ≡ place + own → compared ≡ unset + cases → branched ≡ compared + cases → from ≡ branched + 1 →
+    m1 ≡ m0 ++ stmts_marks from (actions_of list) →
+    m1 ≡ m0 ++ switch_marks place (stmt.block_of p (actions_of list) q)
+switched_marks p q list place own cases unset compared branched from m0 m1 h1 h2 h3 h4 h5 h6 g =
+    g ∙ ap (λ n. m0 ++ stmts_marks n (actions_of list)) (switched_place list place own cases unset compared branched from h1 h2 h3 h4 h5 h6)

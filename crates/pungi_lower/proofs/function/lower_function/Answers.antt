@@ -1,0 +1,22 @@
+use Rattle.std.proofs.Common.{◌≡◌, ◌+◌, ◌++◌, length, ap, ◌∙◌, arith}
+use Rattle.pungi_resolved.specs.ActionView.{action_view}
+use Rattle.pungi_lower.specs.Sizes.{stmt_size}
+use Rattle.pungi_lower.specs.Heads.{stmt_marks, heads_below}
+use Rattle.pungi_lower.proofs.function.lower_function.Goals as goal
+
+pub returns-clause-instrs : goal.returns-clause-instrs
+returns-clause-instrs c =
+    let body = action_view c.args.f.now.body in
+    let z : 0 + stmt_size body ≡ stmt_size body = omega arith in
+    c.in_ok-instrs.ensures (c.in_ok-size.ensures.next ∙ z) c.in_ok-locals.ensures
+
+pub returns-clause-heads : goal.returns-clause-heads
+returns-clause-heads c =
+    let body = action_view c.args.f.now.body in
+    let z : 0 + stmt_size body ≡ stmt_size body = omega arith in
+    let m = c.in_ok-size.ensures.marks ∙ ap (λ l. l ++ stmt_marks 0 body) (c.new-marks.ensures ∙ c.new.ensures.items) in
+    let i = c.in_ok-instrs.ensures (c.in_ok-size.ensures.next ∙ z) c.in_ok-locals.ensures in
+    c.new-heads.ensures
+    ∙ (rw (c.as_slice-2.ensures, c.as_slice-3.ensures) at c.in_ok-heads.ensures)
+    ∙ ap (λ ms. heads_below ms c.in_ok-instrs.instrs (length c.in_ok-instrs.instrs)) m
+    ∙ ap (λ l. heads_below (stmt_marks 0 body) l (length l)) i

@@ -1,0 +1,6 @@
+use Rattle.pungi_resolved.specs.ActionView.{function_view}
+use Rattle.pungi_lower.proofs.TypedLaws.{sound_if_passed}
+use Rattle.pungi_lower.proofs.passed.passed_is_sound.Goals as goal
+
+pub returns : goal.returns
+returns c = sound_if_passed (function_view c.args.f.now)

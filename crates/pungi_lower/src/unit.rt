@@ -1,0 +1,101 @@
+//! The codes of functions, and of a checked file.
+ghost use Rattle.std.specs.Prelude.{◌≡◌, ◌+◌, [], map, option_map, length, IfOk, IsTrue};
+ghost use Rattle.pungi_check.specs.CheckedView.{checked_view};
+ghost use Rattle.pungi_check.specs.Distinct.{are_new};
+ghost use Rattle.pungi_declared.specs.DeclaredView.{function_view as definition_of};
+ghost use Rattle.pungi_types.specs.Files.{definitions as definitions_of};
+ghost use Rattle.pungi_types.specs.Names.{type_objects};
+ghost use Rattle.pungi_types.specs.Refused.{IsRefusedSet};
+ghost use Rattle.pungi_resolved.specs.ActionView.{function_view};
+ghost use Rattle.pungi_lower.specs.TypedCode.{code_of};
+ghost use Rattle.pungi_lower.specs.Codes.{code_for};
+ghost use Rattle.pungi_lower.specs.Lowered.{codes_of, names_of, AreLowered, HasRows, AreEachWellFormed, AgreeOnSlots};
+
+use crate::calls::has_no_call;
+use crate::function::lower_function;
+use pungi_base::{Memory, Name, Seq};
+use pungi_check::Checked;
+use pungi_code::{Code, Codes};
+use pungi_declared::definitions;
+use pungi_resolve::resolve_unit;
+use pungi_resolved::Function;
+use pungi_tree::FunctionDef;
+use std::alloc::Global;
+
+/// The code of a function that may be refused.
+fn lower_one(alloc: Global, f: &Option<Function>) -> Result<Option<Code>, Memory>
+    ensures { IfOk result (λ code. code ≡ code_for (option_map function_view f.now)) }
+{
+    match f {
+        Some(f) => {
+            if has_no_call(&f.body) {
+                let code = lower_function(alloc, f)?;
+                Ok(Some(code))
+            } else {
+                Ok(None)
+            }
+        }
+        None => Ok(None),
+    }
+}
+
+/// The codes of the functions of a file. There is none of a function that is refused, and none of one that calls a
+/// function of the file.
+pub fn lower_functions(
+    alloc: Global,
+    functions: &[Option<Function>],
+) -> Result<Seq<Option<Code>>, Memory>
+    ensures { IfOk result (λ codes. codes ≡ map code_for (map (option_map function_view) functions.now)) }
+{
+    let mut codes = Seq::new(Vec::new(alloc));
+    for f in functions {
+        let code = lower_one(alloc, f)?;
+        codes.push(code)?;
+    }
+    Ok(codes)
+}
+
+/// The names of functions.
+fn names(alloc: Global, list: &[&FunctionDef]) -> Result<Seq<Name>, Memory>
+    ensures { IfOk result (λ names. names ≡ map (λ d. d.name) (map definition_of list.now)) }
+{
+    let mut names = Seq::new(Vec::new(alloc));
+    for f in list {
+        names.push(f.name)?;
+    }
+    Ok(names)
+}
+
+/// What is known of a checked file.
+fn known(checked: &Checked)
+    ensures distinct { IsTrue (are_new [] (definitions_of (checked_view checked.now).file)) }
+    ensures set { IsRefusedSet (checked_view checked.now).file (checked_view checked.now).rows (checked_view checked.now).refused }
+{
+    checked.refused();
+    checked.refusals();
+}
+
+/// The codes of a checked file. There is none of a function in which a rule holds, and none of one that calls a function
+/// of the file. From any entry and with any answers of the outside a code runs as its function does. It has at most four
+/// instructions for each node of the text, and no temporary is kept where one statement ends and another begins. Where the
+/// rows of the table are rows, as those of each `Table` are, each code is well-formed, and each global and each field has one
+/// kind in all codes.
+pub fn lower(alloc: Global, checked: &Checked) -> Result<Codes, Memory>
+    ensures codes { IfOk result (λ c. c.codes ≡ codes_of (checked_view checked.now)) }
+    ensures names { IfOk result (λ c. c.names ≡ names_of (checked_view checked.now)) }
+    ensures statics { IfOk result (λ c. c.statics ≡ 24 + length (type_objects (checked_view checked.now).file)) }
+    ensures lowered { IfOk result (λ c. AreLowered (checked_view checked.now) c.codes) }
+    ensures well_formed { IfOk result (λ c. HasRows (checked_view checked.now) → AreEachWellFormed c.codes) }
+    ensures slots { IfOk result (λ c. HasRows (checked_view checked.now) → AgreeOnSlots c.codes) }
+{
+    known(checked);
+    let functions = resolve_unit(alloc, checked)?;
+    let codes = lower_functions(alloc, functions.as_slice())?;
+    let list = definitions(alloc, checked.unit())?;
+    let names = names(alloc, list.as_slice())?;
+    Ok(Codes {
+        codes,
+        statics: checked.statics(),
+        names,
+    })
+}
