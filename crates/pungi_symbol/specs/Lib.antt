@@ -1,0 +1,11 @@
+pub mod Terms
+pub mod Knows
+pub mod Asks
+pub mod Goes
+pub mod State
+pub mod Fits
+pub mod Steps
+pub mod Lies
+pub mod Form
+pub mod Runs
+pub mod Promises

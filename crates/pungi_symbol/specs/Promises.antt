@@ -1,0 +1,87 @@
+-- What the public calls promise, where a code has the object form.
+--   code_of codes f        the code of a function
+--   lines_in, lines_of     its instructions, none where there is no code
+--   next_states            the states after the next answer
+--   HasForm codes f code   this is the code of a function, and it has the object form
+--   Covers                 each run of a function is on a path from its first state, with the trace of the path
+--   IsReached              a state is on a path from the first state of its function
+--   IsRunOf                a witness is a run to a state, with the trace of each path to it
+--   IsOwn                  its tokens have the values by which all tokens differ that weren't merged
+--   LevelBy, OffBy         the balances of a state that returned are all level; the one of a token isn't
+--   HasReturned            a state has returned
+--   AllLevel               each run to a state that returned is balanced
+--   IsUneven, OwnUneven    an object whose change isn't what escaped; the state's own run has one
+use Rattle.std.specs.Prelude.{◌≡◌, ℕ, ◌<◌, true, List, [], length, Option, Some, None}
+use Rattle.pungi_base.specs.declared.choice.Choice.{Choice}
+use Rattle.pungi_base.specs.declared.entry.Entry.{Entry}
+use Rattle.pungi_base.specs.declared.pos.Pos.{Pos}
+use Rattle.pungi_base.specs.declared.witness.Witness.{Witness}
+use Rattle.pungi_world.specs.Escapes.{IsLevel, IsBalanced}
+use Rattle.pungi_code.specs.declared.code.Code.{Code}
+use Rattle.pungi_code.specs.declared.code.Codes.{Codes}
+use Rattle.pungi_code.specs.declared.code.Line.{Line}
+use Rattle.pungi_code.specs.Entries.{code_fits}
+use Rattle.pungi_code.specs.Run.{code_at}
+use Rattle.pungi_symbol.specs.declared.decision.Decision.{Decision}
+use Rattle.pungi_symbol.specs.declared.known.Status.{Status}
+use Rattle.pungi_symbol.specs.declared.known.Status.TheVariants as status
+use Rattle.pungi_symbol.specs.declared.state.State.{State}
+use Rattle.pungi_symbol.specs.declared.term.Term.{Term}
+use Rattle.pungi_symbol.specs.Knows.{count}
+use Rattle.pungi_symbol.specs.State.{balance, successors}
+use Rattle.pungi_symbol.specs.Form.{has_object_form}
+use Rattle.pungi_symbol.specs.Runs.{start_state, Path, Meets, IsCovered, canon, table_of, returned_value, wanted, IsLevelState}
+
+abbrev pub lines_in : Option Code → List Line
+lines_in None = []
+lines_in (Some code) = code.instrs
+
+abbrev pub lines_of : Codes → ℕ → List Line
+lines_of codes f = lines_in (code_at codes f)
+
+abbrev pub next_states : Codes → State → List (Decision × State)
+next_states codes s = successors (lines_of codes s.known.function) s
+
+pub record HasForm (codes : Codes) (f : ℕ) (code : Code) : Type 0 where
+  pub is : code_at codes f ≡ Some code
+  pub form : has_object_form codes.statics code ≡ true
+
+abbrev pub Covers : Codes → ℕ → Type 0
+Covers codes f = (code : Code) → HasForm codes f code → IsCovered codes.statics f code
+
+abbrev pub IsReached : Codes → State → List Decision → Code → Type 0
+IsReached codes s ds code = HasForm codes s.known.function code × Path code.instrs (start_state codes.statics s.known.function code) ds s
+
+abbrev pub IsRunOf : Codes → State → Witness → Type 0
+IsRunOf codes s w = (code : Code) (ds : List Decision) → IsReached codes s ds code
+    → (code_fits codes.statics code w.input ≡ true) × ((n : ℕ) × Meets codes.statics s.known.function code w.input w.choices n ds s)
+
+abbrev pub IsOwn : Codes → State → Witness → Type 0
+IsOwn codes s w = (code : Code) (ds : List Decision) → IsReached codes s ds code → table_of codes.statics w.input w.choices ≡ canon s
+
+abbrev pub LevelBy : State → Status → Type 0
+LevelBy s status.Going = Unit {0}
+LevelBy s (status.Returned p x) = IsLevelState s x
+LevelBy s (status.Stopped p) = Unit {0}
+
+abbrev pub OffBy : State → Status → ℕ → Type 0
+OffBy s status.Going t = ⊥
+OffBy s (status.Returned p x) t = (t < count s.known) × (balance s.balances t ≡ wanted s x t → ⊥)
+OffBy s (status.Stopped p) t = ⊥
+
+abbrev pub HasReturned : State → Type 0
+HasReturned s = (p : Pos) × ((x : Option Term) × (s.known.status ≡ status.Returned p x))
+
+abbrev pub AllLevel : Codes → State → Type 0
+AllLevel codes s = (code : Code) (entry : Entry) (choices : List Choice) (n : ℕ) (ds : List Decision) (p : Pos) (x : Option Term) → HasForm codes s.known.function code → s.known.status ≡ status.Returned p x
+    → (r : Meets codes.statics s.known.function code entry choices n ds s) → IsBalanced r.m.world (returned_value (table_of codes.statics entry choices) x)
+
+-- an object of a run whose change differs from what escaped
+pub record IsUneven (codes : Codes) (s : State) (code : Code) (entry : Entry) (choices : List Choice) (n : ℕ) (ds : List Decision) (x : Option Term) (r : Meets codes.statics s.known.function code entry choices n ds s) : Type 0 where
+  pub object : ℕ
+  pub there : object < length r.m.world.accounts
+  pub differs : IsLevel r.m.world (returned_value (table_of codes.statics entry choices) x) object → ⊥
+
+abbrev pub OwnUneven : Codes → State → Type 0
+OwnUneven codes s = (code : Code) (entry : Entry) (choices : List Choice) (n : ℕ) (ds : List Decision) (p : Pos) (x : Option Term) → HasForm codes s.known.function code → s.known.status ≡ status.Returned p x
+    → table_of codes.statics entry choices ≡ canon s → (r : Meets codes.statics s.known.function code entry choices n ds s) → IsUneven codes s code entry choices n ds x r

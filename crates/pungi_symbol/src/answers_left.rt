@@ -1,0 +1,120 @@
+// Which answers a question still has in a state.
+ghost use Rattle.std.specs.Prelude.{◌≡◌};
+ghost use Rattle.pungi_symbol.specs.State.{is_order, is_decision, is_outcome, can_be, can_same, can};
+
+use crate::balances::is_other;
+use crate::decision::Decision;
+use crate::outcomes::{outcomes_after, outcomes_of_call};
+use crate::question::Question;
+use crate::state::State;
+use std::cmp::Ordering;
+
+fn is_same_order(a: Ordering, b: Ordering) -> bool
+    ensures { result ≡ is_order a b }
+{
+    match a {
+        Ordering::Less => match b {
+            Ordering::Less => true,
+            Ordering::Equal => false,
+            Ordering::Greater => false,
+        },
+        Ordering::Equal => match b {
+            Ordering::Less => false,
+            Ordering::Equal => true,
+            Ordering::Greater => false,
+        },
+        Ordering::Greater => match b {
+            Ordering::Less => false,
+            Ordering::Equal => false,
+            Ordering::Greater => true,
+        },
+    }
+}
+
+fn is_this_same(a: bool, d: Decision) -> bool
+    ensures { result ≡ is_decision (Decision.Same a) d }
+{
+    match d {
+        Decision::Quiet => false,
+        Decision::Outcome(_) => false,
+        Decision::Order(_) => false,
+        Decision::Same(b) => { if a { b } else { !b } }
+    }
+}
+
+fn is_this_decision(a: Decision, d: Decision) -> bool
+    ensures { result ≡ is_decision a d }
+{
+    match a {
+        Decision::Quiet => match d {
+            Decision::Quiet => true,
+            Decision::Outcome(_) => false,
+            Decision::Order(_) => false,
+            Decision::Same(_) => false,
+        },
+        Decision::Outcome(j) => match d {
+            Decision::Quiet => false,
+            Decision::Outcome(k) => j == k,
+            Decision::Order(_) => false,
+            Decision::Same(_) => false,
+        },
+        Decision::Order(p) => match d {
+            Decision::Quiet => false,
+            Decision::Outcome(_) => false,
+            Decision::Order(q) => is_same_order(p, q),
+            Decision::Same(_) => false,
+        },
+        Decision::Same(b) => is_this_same(b, d),
+    }
+}
+
+fn is_an_outcome(n: u32, d: Decision) -> bool
+    ensures { result ≡ is_outcome n d }
+{
+    match d {
+        Decision::Outcome(k) => k < n,
+        Decision::Quiet => false,
+        Decision::Order(_) => false,
+        Decision::Same(_) => false,
+    }
+}
+
+fn can_be_said(one: bool, other: bool, d: Decision) -> bool
+    ensures { result ≡ can_be one other d }
+{
+    match d {
+        Decision::Same(true) => one || !other,
+        Decision::Same(false) => !one,
+        Decision::Quiet => false,
+        Decision::Outcome(_) => false,
+        Decision::Order(_) => false,
+    }
+}
+
+impl State {
+    fn can_same(&self, t: u32, u: u32, d: Decision) -> bool
+        ensures { result ≡ can_same self.now t u d }
+    {
+        let classes = self.classes.as_slice();
+        let other = is_other(self.statics, classes, self.others.as_slice(), t, u);
+        can_be_said(self.are_one(t, u), other, d)
+    }
+
+    /// Whether a question still has this answer.
+    pub fn can(&self, q: Question, d: Decision) -> bool
+        ensures { result ≡ can self.now q d }
+    {
+        match q {
+            Question::Does(told) => is_this_decision(told, d),
+            Question::Touches(_) => is_this_decision(Decision::Quiet, d),
+            Question::Overwrites(m) => is_an_outcome(outcomes_after(m), d),
+            Question::Null(t) => is_an_outcome(outcomes_after(self.known.mark_of(t)), d),
+            Question::Base(t, u, _) => self.can_same(t, u, d),
+            Question::Answers(answer) => is_an_outcome(outcomes_of_call(answer), d),
+            Question::Same(t, u) => self.can_same(t, u, d),
+            Question::Returns(_) => is_this_decision(Decision::Quiet, d),
+            Question::Stops(told) => is_this_decision(told, d),
+            Question::Over => false,
+        }
+    }
+}

@@ -1,0 +1,12 @@
+/// What is known of the value of a token.
+#[derive(Clone, Copy)]
+pub enum Mark {
+    /// An object or `NULL`, which wasn't asked yet.
+    Pointer,
+    /// A text or `NULL`, which wasn't asked yet.
+    TextPointer,
+    IsNull,
+    IsObject,
+    IsText,
+    IsNumber(i64),
+}

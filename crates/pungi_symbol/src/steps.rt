@@ -1,0 +1,74 @@
+// The calls on symbolic states.
+ghost use Rattle.std.specs.Prelude.{◌≡◌, ◌∷◌, IfOk, IfSome, is_some, true, false, All, List};
+ghost use Rattle.pungi_code.specs.declared.code.Code.{Code};
+ghost use Rattle.pungi_symbol.specs.declared.decision.Decision.{Decision as DecisionOf};
+ghost use Rattle.pungi_code.specs.declared.code.Codes.{Codes as CodesOf};
+ghost use Rattle.pungi_code.specs.Run.{code_at};
+ghost use Rattle.pungi_symbol.specs.Runs.{end_of, starts, start_state, table_of, Path, GoesBack, AreApart};
+ghost use Rattle.pungi_symbol.specs.Promises.{next_states, lines_of, Covers, IsReached, IsRunOf, IsOwn, AllLevel, OwnUneven, HasReturned};
+
+use crate::begin::first_of;
+use crate::known::Status;
+use crate::level::off_return;
+use crate::own::run_of;
+use crate::successors::next_of;
+use crate::{Decision, Sym, SymEnd};
+use pungi_base::{Memory, Witness};
+use pungi_code::Codes;
+use std::alloc::Global;
+
+/// The state at the start of a function, where it has code. Each run of the function is, after each instruction, in a state
+/// at the end of a path that begins here, and has the path's answers as its trace.
+pub fn start(alloc: Global, codes: &Codes, f: usize) -> Result<Vec<(Decision, Sym)>, Memory>
+    ensures first { IfOk result (λ first. first.items ≡ starts codes.now.statics f (code_at codes.now f)) }
+    ensures forward { IfOk result (λ _. Covers codes.now f) }
+{
+    let first = first_of(alloc, codes, f)?;
+    Ok(first)
+}
+
+/// The next states, each with its answer. Each answer that a run in this state may give is there, and no other.
+pub fn step(alloc: Global, codes: &Codes, state: &Sym) -> Result<Vec<(Decision, Sym)>, Memory>
+    ensures next { IfOk result (λ next. next.items ≡ next_states codes.now state.now) }
+    ensures path { IfOk result (λ next. (code : Code) (ds : List DecisionOf) → IsReached codes.now state.now ds code → All (λ p. Path code.instrs (start_state codes.now.statics state.now.known.function code) (p.0 ∷ ds) p.1) next.items) }
+    ensures back { IfOk result (λ next. (code : Code) (ds : List DecisionOf) → IsReached codes.now state.now ds code → All (GoesBack code.instrs state.now) next.items) }
+{
+    let next = next_of(alloc, codes, state)?;
+    Ok(next)
+}
+
+/// How a state ends.
+pub fn end(state: &Sym) -> SymEnd
+    ensures { result ≡ end_of state.now.known.status }
+{
+    match state.state().known.status {
+        Status::Going => SymEnd::Going,
+        Status::Returned(pos, _) => SymEnd::Returned(pos),
+        Status::Stopped(pos) => SymEnd::Stopped(pos),
+    }
+}
+
+/// A run that ends in a state that `start` and calls of `step` gave. It has the answers of each path to the state as its
+/// trace, and tokens that were not merged are different objects.
+pub fn solve(alloc: Global, codes: &Codes, state: &Sym) -> Result<Option<Witness>, Memory>
+    ensures some { IfOk result (λ w. is_some w ≡ true) }
+    ensures run { IfOk result (λ o. IfSome o (λ w. IsRunOf codes.now state.now w)) }
+    ensures own { IfOk result (λ o. IfSome o (λ w. IsOwn codes.now state.now w)) }
+    ensures apart { IfOk result (λ o. IfSome o (λ w. (code : Code) (ds : List DecisionOf) → IsReached codes.now state.now ds code → AreApart state.now (table_of codes.now.statics w.input w.choices))) }
+{
+    let witness = run_of(alloc, codes, state)?;
+    Ok(Some(witness))
+}
+
+/// Whether each run that ends in a state returns balanced; so it is true where the state hasn't returned. Where it is false
+/// the state's own run returns and isn't balanced.
+pub fn is_balanced(state: &Sym) -> bool
+    ensures balanced { result ≡ true → (codes : CodesOf) → AllLevel codes state.now }
+    ensures returned { result ≡ false → HasReturned state.now }
+    ensures uneven { result ≡ false → (codes : CodesOf) → OwnUneven codes state.now }
+{
+    match off_return(state.state()) {
+        Some(_) => false,
+        None => true,
+    }
+}

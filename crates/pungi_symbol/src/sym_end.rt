@@ -1,0 +1,12 @@
+use pungi_base::Pos;
+
+/// How a symbolic state ends.
+#[derive(Clone, Copy, Debug, PartialEq, Eq)]
+pub enum SymEnd {
+    /// It has next states.
+    Going,
+    /// The function returned at this place.
+    Returned(Pos),
+    /// The run stopped at this place.
+    Stopped(Pos),
+}
