@@ -401,10 +401,10 @@ fn replaces_macros(rt: HostRuntime) -> Result<(), Fail> {
 /// behind them a text.
 fn doubled(alloc: Global, text: &str) -> Result<String, Fail> {
     let mut out = String::new(alloc);
-    write!(&mut out, "#define D0 x x\n")?;
+    write!(&mut out, "#define TWICE0 x x\n")?;
     for before in 0u32..15 {
         let k = before + 1;
-        write!(&mut out, "#define D{k} D{before} D{before}\n")?;
+        write!(&mut out, "#define TWICE{k} TWICE{before} TWICE{before}\n")?;
     }
     write!(&mut out, "{text}")?;
     Ok(out)
@@ -412,14 +412,14 @@ fn doubled(alloc: Global, text: &str) -> Result<String, Fail> {
 
 #[test]
 fn counts_tokens_and_replacements(rt: HostRuntime) -> Result<(), Fail> {
-    // D15 costs 131071 and leaves 65536 words. Twice that and two words are 262144, and leave 131074.
-    let full = doubled(rt.alloc(), "D15 D15\n x y")?;
+    // TWICE15 costs 131071 and leaves 65536 words. Twice that and two words are 262144, and leave 131074.
+    let full = doubled(rt.alloc(), "TWICE15 TWICE15\n x y")?;
     let (found, _) = replaced(rt.alloc(), full.as_str())?;
     assert_eq!(rt; found.len(), 2 * 131074 - 1);
-    let over = doubled(rt.alloc(), "D15 D15\n x y z")?;
+    let over = doubled(rt.alloc(), "TWICE15 TWICE15\n x y z")?;
     let (found, _) = replaced(rt.alloc(), over.as_str())?;
     assert_eq!(rt; found.as_str(), "TooManyTokens 18:6");
-    let within = doubled(rt.alloc(), "D15 D15\n D0 x")?;
+    let within = doubled(rt.alloc(), "TWICE15 TWICE15\n TWICE0 x")?;
     let (found, _) = replaced(rt.alloc(), within.as_str())?;
     assert_eq!(rt; found.as_str(), "TooManyTokens 18:2");
     Ok(())
