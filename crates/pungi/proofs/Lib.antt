@@ -1,6 +1,5 @@
 pub mod Causes
 pub mod Fronts
-pub mod Judged
 pub mod LeftToRead
 pub mod Named
 pub mod Refusals

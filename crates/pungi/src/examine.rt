@@ -1,13 +1,11 @@
-ghost use Rattle.std.specs.Prelude.{◌≡◌, ◌⊎◌, ◌≤◌, ◌<◌, ◌^◌, [], length, IsTrue, IfOk, IfSome};
-ghost use Rattle.std.specs.List.{All, AllZip, list_any};
+ghost use Rattle.std.specs.Prelude.{◌≡◌, ◌⊎◌, ◌≤◌, length, IfOk};
+ghost use Rattle.std.specs.List.{AllZip, list_any};
 ghost use Rattle.pungi_api.specs.Rows.{builtin_rows};
 ghost use Rattle.pungi_check.specs.CheckedView.{checked_view};
-ghost use Rattle.pungi_judge.specs.Verdict.{is_small};
-ghost use Rattle.pungi_tree.specs.UnitFlat.{items_flat};
-ghost use Rattle.pungi_straight.specs.Straight.{definitions_of};
 ghost use Rattle.pungi_types.specs.Files.{definitions as functions_of};
 ghost use Rattle.pungi_types.specs.Refused.{IsRefusedSet};
-ghost use Rattle.pungi.specs.Examine.{IsReport, IsJudged, IsVerdict, pairs, tellings, is_faulty, is_open as is_open_of, status_of};
+ghost use Rattle.pungi_verdict.specs.Verdicts.{IsJudged};
+ghost use Rattle.pungi.specs.Examine.{IsReport, checked_file, is_faulty, is_open as is_open_of, status_of};
 ghost use Rattle.pungi.specs.Front.{IsRefusedAs};
 
 use crate::answer::Answer;
@@ -15,12 +13,10 @@ use crate::front::checked_of;
 use crate::read::FILE_LIMIT;
 use crate::refusal::refused;
 use crate::status::{ALL_CLEAN, FILE_REFUSED, SOME_FAULTY, SOME_OPEN};
-use pungi_base::{Memory, Name, Names, Rule, Verdict};
+use pungi_base::{Memory, Name, Names, Verdict};
 use pungi_check::Checked;
-use pungi_judge::judge;
 use pungi_report::report;
-use pungi_straight::{Definition, definitions};
-use pungi_types::Finding;
+use pungi_verdict::judge_all;
 use std::alloc::Global;
 
 fn is_fault(verdict: &Verdict) -> bool
@@ -66,49 +62,14 @@ fn status(lines: &[(Name, Verdict)]) -> u8
     }
 }
 
-/// The verdict on a function. One of which a rule is told is refused; so is one that is not of the first form, by rule 0,
-/// which says that its form isn't judged yet.
-fn verdict(alloc: Global, definition: &Definition, told: Option<Finding>) -> Result<Verdict, Memory>
-    requires small { IfSome definition.now.straight (λ f. IsTrue (is_small f)) }
-    requires few { IfSome definition.now.straight (λ f. length f.body < 2 ^ 31) }
-    ensures { IfOk result (λ found. IsVerdict told definition.now.pos definition.now.straight found) }
-{
-    match (told, &definition.straight) {
-        (Some(found), _) => Ok(Verdict::Refused(found.pos, found.rule)),
-        (None, Some(function)) => judge(alloc, function),
-        (None, None) => Ok(Verdict::Refused(definition.pos, Rule(0))),
-    }
-}
-
-/// The verdict on each function, by its name.
-fn verdicts(
-    alloc: Global,
-    list: &[Definition],
-    told: &[Option<Finding>],
-) -> Result<Vec<(Name, Verdict)>, Memory>
-    requires small { All (λ d. IfSome d.straight (λ f. IsTrue (is_small f))) list.now }
-    requires few { All (λ d. IfSome d.straight (λ f. length f.body < 2 ^ 31)) list.now }
-    requires whole { length list.now ≡ length told.now }
-    ensures judged { IfOk result (λ lines. AllZip IsJudged (pairs list.now told.now) lines.items) }
-    ensures whole { IfOk result (λ lines. length lines.items ≡ length list.now) }
-{
-    let mut lines = Vec::new(alloc);
-    for (i, definition) in list.iter().enumerate() {
-        lines.push((definition.name, verdict(alloc, definition, told[i])?))?;
-    }
-    Ok(lines)
-}
-
 /// The verdict on each function that a file defines, in their order.
-fn judge_all(alloc: Global, checked: &Checked) -> Result<Vec<(Name, Verdict)>, Memory>
-    requires rows { (checked_view checked.now).rows ≡ builtin_rows }
-    requires few { length (items_flat (checked_view checked.now).file) < 2 ^ 31 }
+fn judged(alloc: Global, checked: &Checked) -> Result<Vec<(Name, Verdict)>, Memory>
+    requires { (checked_view checked.now).rows ≡ builtin_rows }
     ensures least { IsRefusedSet (checked_view checked.now).file builtin_rows (checked_view checked.now).refused }
-    ensures judged { IfOk result (λ lines. AllZip IsJudged (pairs (definitions_of [] (checked_view checked.now).file) (tellings (checked_view checked.now).file (checked_view checked.now).refused)) lines.items) }
-    ensures whole { IfOk result (λ lines. length lines.items ≡ length (functions_of (checked_view checked.now).file)) }
+    ensures judged { IfOk result (λ lines. AllZip (IsJudged (checked_file (checked_view checked.now).file (checked_view checked.now).refused)) (functions_of (checked_view checked.now).file) lines.items) }
 {
-    let list = definitions(alloc, checked.unit())?;
-    let lines = verdicts(alloc, &list, checked.refusals())?;
+    checked.refusals();
+    let lines = judge_all(alloc, checked)?;
     Ok(lines)
 }
 
@@ -122,7 +83,7 @@ pub(crate) fn examine(alloc: Global, text: &[u8]) -> Result<Answer, Memory>
         Ok(checked) => checked,
         Err(fault) => return refused(alloc, &fault),
     };
-    let lines = judge_all(alloc, &checked)?;
+    let lines = judged(alloc, &checked)?;
     Ok(Answer {
         status: status(&lines),
         text: report(alloc, &names, &lines)?,

@@ -31,6 +31,8 @@ mod rule_tests;
 mod test_modules;
 #[cfg(test)]
 mod tests;
+#[cfg(test)]
+mod verdict_tests;
 
 /// The words of the command. Where the system refuses them for another cause than memory, there are none.
 fn words_of(rt: &HostRuntime) -> Result<Vec<String>, Memory> {

@@ -57,29 +57,24 @@ fn failing(alloc: Global, read: u64, write: u64) -> Result<(u8, Vec<u8>), Memory
     Ok((status, Vec::from_slice(alloc, out.bytes())?))
 }
 
-/// What a report says of each function: the lines that don't begin with a blank, each up to its fourth blank.
+/// What a report says of each function: the lines that don't begin with a blank, with K for the number of an object.
 fn heads(alloc: Global, report: &[u8]) -> Result<Vec<u8>, Memory> {
     let mut heads = Vec::new(alloc);
-    let mut blanks = 0u32;
-    let mut begins = true;
+    let mut word = 0u32;
+    let mut is_inner = false;
+    let mut before = b'\n';
     for byte in report {
-        if *byte == b'\n' {
-            if blanks < 100 {
-                heads.push(b'\n')?;
+        if before == b'\n' {
+            word = 0;
+            is_inner = *byte == b' ';
+        } else if before == b' ' {
+            word = word.saturating_add(1);
+            if word == 4 && !is_inner {
+                heads.push(b'K')?;
             }
-            blanks = 0;
-            begins = true;
-            continue;
         }
-        if *byte == b' ' {
-            blanks = if begins {
-                100
-            } else {
-                blanks.saturating_add(1)
-            };
-        }
-        begins = false;
-        if blanks < 4 {
+        before = *byte;
+        if !is_inner && (word != 4 || *byte == b' ') {
             heads.push(*byte)?;
         }
     }
@@ -107,12 +102,12 @@ fn reports(rt: HostRuntime) -> Result<(), Fail> {
         (
             "PyObject *f(PyObject *self, PyObject *args) { return Py_None; }",
             1,
-            "faulty f 1:47 object\n",
+            "faulty f 1:47 object K change 0 escaped 1\n",
         ),
         (
             "PyObject *keep(PyObject *self, PyObject *x) { return Py_NewRef(x); }\nPyObject *lose(PyObject *self, PyObject *x) { Py_INCREF(x); return PyLong_FromLong(1); }",
             1,
-            "clean keep\nfaulty lose 2:61 object\n",
+            "clean keep\nfaulty lose 2:61 object K change 1 escaped 0\n",
         ),
         (
             "int g(double d) { return 1; }\nint f(void) { return g(1); }",
@@ -143,22 +138,22 @@ fn reports(rt: HostRuntime) -> Result<(), Fail> {
         (
             "#define NEW Py_NewRef\nPyObject *f(PyObject *a) { return NEW(a); }\nvoid g(PyObject *a) { NEW(a); }",
             1,
-            "clean f\nfaulty g 3:31 object\n",
+            "clean f\nfaulty g 3:31 object K change 1 escaped 0\n",
         ),
         (
             PAIR,
             2,
-            "refused Pair_first 13:1 N0\nrefused Pair_put 25:10 N9\nrefused Pair_twice 35:1 N0\nrefused Pair_new 47:12 N3\nrefused PyInit_pair 71:1 N0\n",
+            "refused Pair_first 13:1 N0\nrefused Pair_put 25:10 N9\nclean Pair_twice\nrefused Pair_new 47:12 N3\nclean PyInit_pair\n",
         ),
         (
             HELPERS,
             1,
-            "clean same\nrefused answer 26:1 N0\nclean number\nfaulty twice 45:5 object\nclean nothing\nrefused cache_size 57:26 N9\n",
+            "clean same\nclean answer\nclean number\nfaulty twice 45:5 object K change 2 escaped 1\nclean nothing\nrefused cache_size 57:26 N9\n",
         ),
         (
             POOL,
             1,
-            "clean hold\nfaulty release 26:1 object\nrefused pool_size 29:30 N1\n",
+            "clean hold\nfaulty release 26:1 object K change -1 escaped 0\nrefused pool_size 29:30 N1\n",
         ),
     ];
     for (text, status, lines) in rows {

@@ -1,4 +1,0 @@
-pub mod Form
-pub mod FormTests
-pub mod NameSet
-pub mod Straight
