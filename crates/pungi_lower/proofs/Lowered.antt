@@ -1,6 +1,8 @@
 -- The codes of a checked file: each function in which no rule holds is passed, and its code is well-formed.
-use Rattle.std.proofs.Common.{◌≡◌, ℕ, zero, suc, ◌+◌, ◌*◌, ◌≤◌, arith, length, Bool, true, false, List, [], ◌∷◌, Option, Some, None, map, option_map, slice_get, refl, sym, ap, subst, ◌∙◌}
+use Rattle.std.proofs.Common.{◌≡◌, ℕ, zero, suc, ◌+◌, ◌*◌, ◌≤◌, ◌^◌, arith, length, Bool, true, false, List, [], ◌∷◌, Option, Some, None, map, option_map, slice_get, refl, sym, ap, subst, ◌∙◌}
 use Rattle.std.specs.Prelude.{is_some, if◌then◌else◌}
+use Rattle.pungi_base.specs.declared.names.Name.{Name}
+use Rattle.pungi_api.specs.Rows.{are_rows}
 use Rattle.pungi_types.specs.Files.{Definition, definitions, definition_in}
 use Rattle.pungi_types.specs.Functions.{file_env, refusal}
 use Rattle.pungi_types.specs.Nodes.{function_nodes}
@@ -15,10 +17,11 @@ use Rattle.pungi_check.proofs.OwnLemmas.{all-own}
 use Rattle.pungi_resolve.specs.Passed.{IsPassed}
 use Rattle.pungi_resolve.specs.Resolutions.{resolution_of}
 use Rattle.pungi_code.specs.declared.code.Code.{Code}
-use Rattle.pungi_code.specs.WellFormed.{IsWellFormed, AgreeOnKinds}
+use Rattle.pungi_code.specs.declared.code.Codes.{Codes}
+use Rattle.pungi_code.specs.WellFormed.{IsWellFormed, AgreeOnKinds, AreWellFormed}
 use Rattle.pungi_lower.specs.Codes.{code_for}
 use Rattle.pungi_lower.specs.Correct.{temps_of, Behaves}
-use Rattle.pungi_lower.specs.Lowered.{codes_of, IsEachPassed, IsLowered, AreLowered, HasRows, AreEachWellFormed, AgreeOnSlots}
+use Rattle.pungi_lower.specs.Lowered.{codes_of, names_of, IsEachPassed, IsLowered, AreLowered}
 use Rattle.pungi_lower.specs.Sound.{IsStmtSound}
 use Rattle.pungi_lower.specs.StmtCode.{body_code}
 use Rattle.pungi_lower.specs.VarKinds.{var_kinds}
@@ -117,13 +120,15 @@ all-lowered c new set = λ i d code at e.
     let one = lowered-one c h.d code (passed-all c new set i h.d h.at h.none) h.is in
     subst (λ (x : Definition). IsLowered (resolved c.file c.rows c.refused x) (function_nodes x) code) same one
 
-pub each-well-formed : (c : CheckedFile) → are_new [] (definitions c.file) ≡ true → IsRefusedSet c.file c.rows c.refused → HasRows c → AreEachWellFormed (codes_of c)
+each-well-formed : (c : CheckedFile) → are_new [] (definitions c.file) ≡ true → IsRefusedSet c.file c.rows c.refused → are_rows c.rows ≡ true
+    → (i : ℕ) (code : Code) → slice_get (codes_of c) i ≡ Some (Some code) → IsWellFormed code
 each-well-formed c new set rows = λ i code e.
     let h = source-at c (definitions c.file) i code e in
     let passed = passed-all c new set i h.d h.at h.none in
     subst (λ (k : Code). IsWellFormed k) h.is (function-well-formed (file_env c.file c.rows c.refused h.d.name.0) h.d passed rows h.free)
 
-pub all-agree : (c : CheckedFile) → are_new [] (definitions c.file) ≡ true → IsRefusedSet c.file c.rows c.refused → HasRows c → AgreeOnSlots (codes_of c)
+all-agree : (c : CheckedFile) → are_new [] (definitions c.file) ≡ true → IsRefusedSet c.file c.rows c.refused → are_rows c.rows ≡ true
+    → (i j : ℕ) (a b : Code) → slice_get (codes_of c) i ≡ Some (Some a) → slice_get (codes_of c) j ≡ Some (Some b) → AgreeOnKinds a b
 all-agree c new set rows = λ i j a b x y.
     let g = source-at c (definitions c.file) i a x in
     let h = source-at c (definitions c.file) j b y in
@@ -133,3 +138,22 @@ all-agree c new set rows = λ i j a b x y.
     agree_if_passed (resolved c.file c.rows c.refused g.d) (resolved c.file c.rows c.refused h.d) (file_env c.file c.rows c.refused g.d.name.0) (file_env c.file c.rows c.refused h.d.name.0) g.d
     h.d refl p q rows rows refl refl g.free h.free in
     subst (λ (k : Code). AgreeOnKinds k b) g.is (subst (λ (k : Code). AgreeOnKinds (code_of (resolved c.file c.rows c.refused g.d)) k) h.is both)
+
+mapped : {A B : Type 0} (f : A → B) (xs : List A) → length (map f xs) ≡ length xs
+mapped f [] = refl
+mapped f (x ∷ xs) = ap suc (mapped f xs)
+
+-- the codes of a file of which this is known, with the names of its functions
+pub all-well-formed : (c : CheckedFile) (codes : Codes) → are_new [] (definitions c.file) ≡ true → IsRefusedSet c.file c.rows c.refused → are_rows c.rows ≡ true
+    → length (definitions c.file) ≤ 4096 → codes.codes ≡ codes_of c → codes.names ≡ names_of c → codes.statics ≤ 2 ^ 30 + 24 → AreWellFormed codes
+all-well-formed c codes new set rows few is names statics =
+    let long : length (codes_of c) ≡ length (definitions c.file) =
+    mapped code_for (map (resolution_of c.file c.rows c.refused) (definitions c.file)) ∙ mapped (resolution_of c.file c.rows c.refused) (definitions c.file) in
+    let named : length (names_of c) ≡ length (definitions c.file) = mapped (λ (d : Definition). d.name) (definitions c.file) in
+    record {
+      each = λ f code e. each-well-formed c new set rows f code (ap (λ (cs : List (Option Code)). slice_get cs f) (sym is) ∙ e);
+      kinds = λ f g a b x y. all-agree c new set rows f g a b (ap (λ (cs : List (Option Code)). slice_get cs f) (sym is) ∙ x) (ap (λ (cs : List (Option Code)). slice_get cs g) (sym is) ∙ y);
+      names = ap (λ (ns : List Name). length ns) names ∙ named ∙ sym long ∙ ap (λ (cs : List (Option Code)). length cs) (sym is);
+      few = subst (λ (n : ℕ). n ≤ 4096) (sym long ∙ ap (λ (cs : List (Option Code)). length cs) (sym is)) few;
+      statics = statics;
+    }
