@@ -14,6 +14,7 @@
 --   apply_same, joined, answers, after, apply    the state after an answer
 --   decisions               all answers, in the order in which the states after them stand
 --   after_if, successors    the states after the answers that the next question still has
+--   after_left              the state after an answer that is left over, if there is one
 use Rattle.std.specs.Prelude.{ℕ, ◌==◌, nat_lt, ℤ, pos, negsuc, ◌+ℤ◌, Bool, true, false, not, ◌&&◌, ◌||◌, List, [], ◌∷◌, ◌++◌, length, get_or, slice_get, slice_set, map, Option, Some, None, if◌then◌else◌}
 use Rattle.std.specs.List.{list_any, flat_map}
 use Rattle.std.specs.declared.cmp.Ordering.{Ordering}
@@ -210,6 +211,10 @@ decisions = Quiet ∷ Outcome 0 ∷ Outcome 1 ∷ Outcome 2 ∷ Order Less ∷ O
 
 abbrev pub after_if : Option Line → Question → State → Decision → List (Decision × State)
 after_if line q s d = if can s q d then (d, apply line q d s) ∷ [] else []
+
+abbrev pub after_left : Option Line → Question → State → Option Decision → List (Decision × State)
+after_left line q s None = []
+after_left line q s (Some d) = (d, apply line q d s) ∷ []
 
 abbrev pub successors : List Line → State → List (Decision × State)
 successors code s = flat_map (after_if (slice_get code s.known.pc) (ask code s.known) s) decisions

@@ -1,6 +1,6 @@
 // Which answers a question still has in a state.
-ghost use Rattle.std.specs.Prelude.{◌≡◌};
-ghost use Rattle.pungi_symbol.specs.State.{is_order, is_decision, is_outcome, can_be, can_same, can};
+ghost use Rattle.std.specs.Prelude.{◌≡◌, ◌||◌, not};
+ghost use Rattle.pungi_symbol.specs.State.{is_order, is_decision, is_outcome, are_one, are_other, can_same, can};
 
 use crate::balances::is_other;
 use crate::decision::Decision;
@@ -79,25 +79,25 @@ fn is_an_outcome(n: u32, d: Decision) -> bool
     }
 }
 
-fn can_be_said(one: bool, other: bool, d: Decision) -> bool
-    ensures { result ≡ can_be one other d }
-{
-    match d {
-        Decision::Same(true) => one || !other,
-        Decision::Same(false) => !one,
-        Decision::Quiet => false,
-        Decision::Outcome(_) => false,
-        Decision::Order(_) => false,
-    }
-}
-
 impl State {
+    /// Whether two tokens may be one object.
+    fn can_be_one(&self, t: u32, u: u32) -> bool
+        ensures { result ≡ (are_one self.now.classes t u || not (are_other self.now.statics self.now.classes self.now.others t u)) }
+    {
+        let classes = self.classes.as_slice();
+        self.are_one(t, u) || !is_other(self.statics, classes, self.others.as_slice(), t, u)
+    }
+
     fn can_same(&self, t: u32, u: u32, d: Decision) -> bool
         ensures { result ≡ can_same self.now t u d }
     {
-        let classes = self.classes.as_slice();
-        let other = is_other(self.statics, classes, self.others.as_slice(), t, u);
-        can_be_said(self.are_one(t, u), other, d)
+        match d {
+            Decision::Same(true) => self.can_be_one(t, u),
+            Decision::Same(false) => !self.are_one(t, u),
+            Decision::Quiet => false,
+            Decision::Outcome(_) => false,
+            Decision::Order(_) => false,
+        }
     }
 
     /// Whether a question still has this answer.

@@ -29,7 +29,7 @@ mod term;
 mod weighs;
 
 pub use decision::Decision;
-pub use steps::{end, is_balanced, solve, start, step};
+pub use steps::{end, is_balanced, solve, start, step, step_from};
 pub use sym::Sym;
 pub use sym_end::SymEnd;
 

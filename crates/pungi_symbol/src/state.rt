@@ -186,19 +186,4 @@ impl State {
         self.known.go(code, q, d)?;
         Ok(())
     }
-
-    /// The state after an answer, in a copy.
-    pub fn answered(
-        &self,
-        alloc: Global,
-        code: &[Line],
-        q: Question,
-        d: Decision,
-    ) -> Result<State, Memory>
-        ensures { IfOk result (λ s. s ≡ apply (slice_get code.now self.now.known.pc) q d self.now) }
-    {
-        let mut next = self.copy(alloc)?;
-        next.answer(alloc, code, q, d)?;
-        Ok(next)
-    }
 }

@@ -11,7 +11,7 @@ use crate::begin::first_of;
 use crate::known::Status;
 use crate::level::off_return;
 use crate::own::run_of;
-use crate::successors::next_of;
+use crate::successors::{next_from, next_of};
 use crate::{Decision, Sym, SymEnd};
 use pungi_base::{Memory, Witness};
 use pungi_code::Codes;
@@ -34,6 +34,16 @@ pub fn step(alloc: Global, codes: &Codes, state: &Sym) -> Result<Vec<(Decision, 
     ensures back { IfOk result (λ next. (code : Code) (ds : List DecisionOf) → IsReached codes.now state.now ds code → All (GoesBack code.instrs state.now) next.items) }
 {
     let next = next_of(alloc, codes, state)?;
+    Ok(next)
+}
+
+/// As `step`, and the state is used up: where there is one answer the state itself is changed, and nothing is copied.
+pub fn step_from(alloc: Global, codes: &Codes, state: Sym) -> Result<Vec<(Decision, Sym)>, Memory>
+    ensures next { IfOk result (λ next. next.items ≡ next_states codes.now state) }
+    ensures path { IfOk result (λ next. (code : Code) (ds : List DecisionOf) → IsReached codes.now state ds code → All (λ p. Path code.instrs (start_state codes.now.statics state.known.function code) (p.0 ∷ ds) p.1) next.items) }
+    ensures back { IfOk result (λ next. (code : Code) (ds : List DecisionOf) → IsReached codes.now state ds code → All (GoesBack code.instrs state) next.items) }
+{
+    let next = next_from(alloc, codes, state)?;
     Ok(next)
 }
 

@@ -1,7 +1,7 @@
 // The states after the answers to the next question.
-ghost use Rattle.std.specs.Prelude.{◌≡◌, ◌++◌, slice_get, IfOk, OnOk};
+ghost use Rattle.std.specs.Prelude.{◌≡◌, ◌++◌, Some, slice_get, IfOk, OnOk};
 ghost use Rattle.std.specs.List.{flat_map};
-ghost use Rattle.pungi_symbol.specs.State.{after_if, successors};
+ghost use Rattle.pungi_symbol.specs.State.{after_if, after_left, decisions, successors};
 ghost use Rattle.pungi_symbol.specs.Promises.{next_states};
 
 use crate::decision::Decision;
@@ -15,23 +15,83 @@ use std::alloc::Global;
 use std::cmp::Ordering;
 
 impl State {
+    /// The state after an answer is put among the next ones.
     fn put_next(
-        &self,
+        self,
         alloc: Global,
         code: &[Line],
         q: Question,
         d: Decision,
         next: &mut Vec<(Decision, Sym)>,
     ) -> Result<(), Memory>
-        ensures { OnOk result (next.new.items ≡ next.old.items ++ after_if (slice_get code.now self.now.known.pc) q self.now d) }
+        ensures { OnOk result (next.new.items ≡ next.old.items ++ after_left (slice_get code.now self.known.pc) q self (Some d)) }
     {
-        if self.can(q, d) {
-            let state = self.answered(alloc, code, q, d)?;
-            next.push((d, Sym::new(state)))?;
+        let mut state = self;
+        state.answer(alloc, code, q, d)?;
+        next.push((d, Sym::new(state)))?;
+        Ok(())
+    }
+
+    /// The state after an answer that is left over, if there is one, is put there.
+    fn put_left(
+        self,
+        alloc: Global,
+        code: &[Line],
+        q: Question,
+        left: Option<Decision>,
+        next: &mut Vec<(Decision, Sym)>,
+    ) -> Result<(), Memory>
+        ensures { OnOk result (next.new.items ≡ next.old.items ++ after_left (slice_get code.now self.known.pc) q self left) }
+    {
+        match left {
+            None => {}
+            Some(d) => self.put_next(alloc, code, q, d, next)?,
         }
         Ok(())
     }
 
+    /// The same, in a copy of the state.
+    fn put_copy(
+        &self,
+        alloc: Global,
+        code: &[Line],
+        q: Question,
+        left: Option<Decision>,
+        next: &mut Vec<(Decision, Sym)>,
+    ) -> Result<(), Memory>
+        ensures { OnOk result (next.new.items ≡ next.old.items ++ after_left (slice_get code.now self.now.known.pc) q self.now left) }
+    {
+        match left {
+            None => {}
+            Some(d) => {
+                let state = self.copy(alloc)?;
+                state.put_next(alloc, code, q, d, next)?;
+            }
+        }
+        Ok(())
+    }
+
+    /// One more answer, if the question still has it. It is left over in place of the one that was.
+    fn leave(
+        &self,
+        alloc: Global,
+        code: &[Line],
+        q: Question,
+        left: Option<Decision>,
+        d: Decision,
+        next: &mut Vec<(Decision, Sym)>,
+    ) -> Result<Option<Decision>, Memory>
+        ensures { IfOk result (λ o. next.new.items ++ after_left (slice_get code.now self.now.known.pc) q self.now o ≡ (next.old.items ++ after_left (slice_get code.now self.now.known.pc) q self.now left) ++ after_if (slice_get code.now self.now.known.pc) q self.now d) }
+    {
+        if self.can(q, d) {
+            self.put_copy(alloc, code, q, left, next)?;
+            Ok(Some(d))
+        } else {
+            Ok(left)
+        }
+    }
+
+    /// The states after all answers that the question still has, but for the last one, which is left over.
     #[tactic(auto, using(crate::proofs::EachAnswer::next_step, crate::proofs::EachAnswer::next_end))]
     fn put_answers(
         &self,
@@ -40,20 +100,26 @@ impl State {
         q: Question,
         decisions: &[Decision],
         next: &mut Vec<(Decision, Sym)>,
-    ) -> Result<(), Memory>
-        ensures { OnOk result (next.new.items ≡ next.old.items ++ flat_map (after_if (slice_get code.now self.now.known.pc) q self.now) decisions.now) }
+    ) -> Result<Option<Decision>, Memory>
+        ensures { IfOk result (λ o. next.new.items ++ after_left (slice_get code.now self.now.known.pc) q self.now o ≡ next.old.items ++ flat_map (after_if (slice_get code.now self.now.known.pc) q self.now) decisions.now) }
     {
+        let mut left = None;
         for d in decisions {
-            self.put_next(alloc, code, q, *d, next)?;
+            left = self.leave(alloc, code, q, left, *d, next)?;
         }
-        Ok(())
+        Ok(left)
     }
 
-    /// The next states, each with its answer.
-    pub fn next_states(&self, alloc: Global, code: &[Line]) -> Result<Vec<(Decision, Sym)>, Memory>
-        ensures { IfOk result (λ next. next.items ≡ successors code.now self.now) }
+    /// The states after all answers but the last one, which is left over.
+    fn put_all(
+        &self,
+        alloc: Global,
+        code: &[Line],
+        q: Question,
+        next: &mut Vec<(Decision, Sym)>,
+    ) -> Result<Option<Decision>, Memory>
+        ensures { IfOk result (λ o. next.new.items ++ after_left (slice_get code.now self.now.known.pc) q self.now o ≡ next.old.items ++ flat_map (after_if (slice_get code.now self.now.known.pc) q self.now) decisions) }
     {
-        let q = self.known.question(code)?;
         let decisions = [
             Decision::Quiet,
             Decision::Outcome(0),
@@ -65,17 +131,37 @@ impl State {
             Decision::Same(false),
             Decision::Same(true),
         ];
+        let left = self.put_answers(alloc, code, q, &decisions, next)?;
+        Ok(left)
+    }
+
+    /// The next states, each with its answer. The last one takes the place of the state, which isn't copied for it.
+    fn next_states(self, alloc: Global, code: &[Line]) -> Result<Vec<(Decision, Sym)>, Memory>
+        ensures { IfOk result (λ next. next.items ≡ successors code.now self) }
+    {
+        let q = self.known.question(code)?;
         let mut next = Vec::new(alloc);
-        self.put_answers(alloc, code, q, &decisions, &mut next)?;
+        let left = self.put_all(alloc, code, q, &mut next)?;
+        self.put_left(alloc, code, q, left, &mut next)?;
         Ok(next)
     }
+}
+
+/// The next states of a symbolic state, which is used up.
+pub fn next_from(alloc: Global, codes: &Codes, state: Sym) -> Result<Vec<(Decision, Sym)>, Memory>
+    ensures { IfOk result (λ next. next.items ≡ next_states codes.now state) }
+{
+    let state = state.into_state();
+    let code = lines(codes, state.known.function);
+    let next = state.next_states(alloc, code)?;
+    Ok(next)
 }
 
 /// The next states of a symbolic state.
 pub fn next_of(alloc: Global, codes: &Codes, state: &Sym) -> Result<Vec<(Decision, Sym)>, Memory>
     ensures { IfOk result (λ next. next.items ≡ next_states codes.now state.now) }
 {
-    let state = state.state();
-    let next = state.next_states(alloc, lines(codes, state.known.function))?;
+    let copy = Sym::new(state.state().copy(alloc)?);
+    let next = next_from(alloc, codes, copy)?;
     Ok(next)
 }

@@ -30,4 +30,11 @@ impl Sym {
     {
         &self.state
     }
+
+    pub(crate) fn into_state(self) -> State
+        ensures { result ≡ self }
+    {
+        let Sym { state } = self;
+        state
+    }
 }
