@@ -1,0 +1,8 @@
+//! What the symbolic states of a function show of all its runs.
+#![tactic(auto)]
+
+mod explored;
+mod search;
+
+pub use explored::{Explored, MOST_TRACES};
+pub use search::explore;
