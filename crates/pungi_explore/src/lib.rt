@@ -3,6 +3,8 @@
 
 mod explored;
 mod search;
+mod visit;
+mod visited;
 
 pub use explored::{Explored, MOST_TRACES};
 pub use search::explore;
