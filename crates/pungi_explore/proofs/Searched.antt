@@ -61,9 +61,9 @@ module _ (codes : Codes) (f : ℕ) (code : Code) (has : HasForm codes f code) wh
     pub going_searched : s.known.status ≡ status.Going → Searched codes f code (rest ++ states_after code.instrs s) ended
     going_searched going = record {
       on_path = each_joined (IsOnPath codes f code) rest (states_after code.instrs s) (each_left (IsOnPath codes f code) rest (s ∷ []) so_far.on_path)
-      (each_next (IsOnPath codes f code) code.instrs s (λ d c. (d ∷ popped.0, path_on popped.0 s d popped.1 c)));
+          (each_next (IsOnPath codes f code) code.instrs s (λ d c. (d ∷ popped.0, path_on popped.0 s d popped.1 c)));
       level = λ all. so_far.level (each_joined (AreLevelFrom codes code.instrs) rest (s ∷ []) (each_left (AreLevelFrom codes code.instrs) rest (states_after code.instrs s) all)
-        (going_level codes code.instrs s going (each_right (AreLevelFrom codes code.instrs) rest (states_after code.instrs s) all), tt));
+          (going_level codes code.instrs s going (each_right (AreLevelFrom codes code.instrs) rest (states_after code.instrs s) all), tt));
       exactly = λ m h. exactly_on m h;
       at_least = λ m h. at_least_on m h;
     }

@@ -8,3 +8,8 @@ mod visited;
 
 pub use explored::{Explored, MOST_TRACES};
 pub use search::explore;
+
+#[cfg(test)]
+mod test_codes;
+#[cfg(test)]
+mod tests;

@@ -25,7 +25,7 @@ fn first(alloc: Global, codes: &Codes, f: usize) -> Result<Vec<Sym>, Memory>
 }
 
 /// What all states show. The states whose paths are still to be walked are pending, and the last of them is walked first.
-fn search(alloc: Global, codes: &Codes, f: usize) -> Result<Explored, Memory>
+pub(crate) fn search(alloc: Global, codes: &Codes, f: usize) -> Result<Explored, Memory>
     ensures { IfOk result (IsExplored codes.now f) }
 {
     let mut pending = first(alloc, codes, f)?;

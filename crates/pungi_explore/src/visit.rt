@@ -19,12 +19,7 @@ pub fn put_states(states: Vec<(Decision, Sym)>, pending: &mut Vec<Sym>) -> Resul
     Ok(())
 }
 
-fn put_next(
-    alloc: Global,
-    codes: &Codes,
-    state: Sym,
-    pending: &mut Vec<Sym>,
-) -> Result<(), Memory>
+fn put_next(alloc: Global, codes: &Codes, state: Sym, pending: &mut Vec<Sym>) -> Result<(), Memory>
     ensures { OnOk result (pending.new.items ≡ pending.old.items ++ map (λ p. p.1) (next_states codes.now state)) }
 {
     let next = step(alloc, codes, &state)?;
