@@ -4,5 +4,6 @@ pub mod Listed
 pub mod Nexts
 pub mod SameFunction
 pub mod Begins
+pub mod Ended
 pub mod Ends
 pub mod Searched
