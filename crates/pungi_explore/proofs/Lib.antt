@@ -4,6 +4,5 @@ pub mod Listed
 pub mod Nexts
 pub mod SameFunction
 pub mod Begins
-pub mod Ended
 pub mod Ends
 pub mod Searched

@@ -9,17 +9,17 @@ ghost use Rattle.pungi_explore.specs.Explored.{IsExplored, FindsFault};
 use crate::explored::{Explored, MOST_TRACES};
 use crate::visit::{put_states, visit};
 use crate::visited::Visited;
-use pungi_base::Memory;
+use pungi_base::{Memory, Seq};
 use pungi_code::Codes;
 use pungi_symbol::{Sym, start};
 use std::alloc::Global;
 
 /// The state at the start of a function.
-fn first(alloc: Global, codes: &Codes, f: usize) -> Result<Vec<Sym>, Memory>
-    ensures first { IfOk result (λ pending. pending.items ≡ map (λ p. p.1) (starts codes.now.statics f (code_at codes.now f))) }
+fn first(alloc: Global, codes: &Codes, f: usize) -> Result<Seq<Sym>, Memory>
+    ensures first { IfOk result (λ pending. pending ≡ map (λ p. p.1) (starts codes.now.statics f (code_at codes.now f))) }
     ensures covers { IfOk result (λ _. Covers codes.now f) }
 {
-    let mut pending = Vec::new(alloc);
+    let mut pending = Seq::new(Vec::new(alloc));
     put_states(start(alloc, codes, f)?, &mut pending)?;
     Ok(pending)
 }

@@ -4,14 +4,14 @@ ghost use Rattle.pungi_symbol.specs.Promises.{next_states};
 ghost use Rattle.pungi_explore.specs.Visits.{IsRunAt, IsEnd, Visits};
 
 use crate::visited::Visited;
-use pungi_base::{Memory, Witness};
+use pungi_base::{Memory, Seq, Witness};
 use pungi_code::Codes;
 use pungi_symbol::{Decision, Sym, SymEnd, end, is_balanced, solve, step};
 use std::alloc::Global;
 
 /// Adds these states.
-pub fn put_states(states: Vec<(Decision, Sym)>, pending: &mut Vec<Sym>) -> Result<(), Memory>
-    ensures { OnOk result (pending.new.items ≡ pending.old.items ++ map (λ p. p.1) states.items) }
+pub fn put_states(states: Vec<(Decision, Sym)>, pending: &mut Seq<Sym>) -> Result<(), Memory>
+    ensures { OnOk result (pending.new ≡ pending.old ++ map (λ p. p.1) states.items) }
 {
     for (_, state) in states {
         pending.push(state)?;
@@ -19,8 +19,8 @@ pub fn put_states(states: Vec<(Decision, Sym)>, pending: &mut Vec<Sym>) -> Resul
     Ok(())
 }
 
-fn put_next(alloc: Global, codes: &Codes, state: Sym, pending: &mut Vec<Sym>) -> Result<(), Memory>
-    ensures { OnOk result (pending.new.items ≡ pending.old.items ++ map (λ p. p.1) (next_states codes.now state)) }
+fn put_next(alloc: Global, codes: &Codes, state: Sym, pending: &mut Seq<Sym>) -> Result<(), Memory>
+    ensures { OnOk result (pending.new ≡ pending.old ++ map (λ p. p.1) (next_states codes.now state)) }
 {
     let next = step(alloc, codes, &state)?;
     put_states(next, pending)?;
@@ -51,9 +51,9 @@ pub fn visit(
     alloc: Global,
     codes: &Codes,
     state: Sym,
-    pending: &mut Vec<Sym>,
+    pending: &mut Seq<Sym>,
 ) -> Result<Visited, Memory>
-    ensures { IfOk result (Visits codes.now state pending.old.items pending.new.items) }
+    ensures { IfOk result (Visits codes.now state pending.old pending.new) }
 {
     match end(&state) {
         SymEnd::Going => {
