@@ -1,6 +1,5 @@
 -- What the ends of the paths of a function tell of its runs.
 use Rattle.std.proofs.Common.{◌≡◌, ℕ, ◌+◌, List, refl, sym, ap, ◌∙◌, subst, arith, ◌⊎◌, inl, inr, Option}
-use Rattle.std.specs.Prelude.{length}
 use Rattle.pungi_base.specs.declared.choice.Choice.{Choice}
 use Rattle.pungi_base.specs.declared.entry.Entry.{Entry}
 use Rattle.pungi_base.specs.declared.pos.Pos.{Pos}
@@ -16,7 +15,7 @@ use Rattle.pungi_symbol.specs.declared.known.Status.{Status}
 use Rattle.pungi_symbol.specs.declared.known.Status.TheVariants as status
 use Rattle.pungi_symbol.specs.declared.state.State.{State}
 use Rattle.pungi_symbol.specs.declared.term.Term.{Term}
-use Rattle.pungi_symbol.specs.Runs.{arguments, start_state, table_of, Path, run_for, IsAt, Meets, returned_value}
+use Rattle.pungi_symbol.specs.Runs.{start_state, table_of, Path, run_for, IsAt, Meets, returned_value}
 use Rattle.pungi_symbol.specs.Promises.{HasForm, Covers, IsReached}
 use Rattle.pungi_explore.specs.Explored.{Returns, AreBalanced, IsFaultRun}
 use Rattle.pungi_explore.specs.Visits.{ShowsFault}

@@ -1,8 +1,7 @@
 -- Each answer that a question still has is among those that stand for next states.
-use Rattle.std.proofs.Common.{◌≡◌, ℕ, zero, suc, ◌+◌, ◌<◌, ◌≤◌, ℤ, pos, List, [], ◌∷◌, length, drop, map, Bool, true, false, refl, sym, ap, ◌∙◌, subst, arith, Option, None, Some, cond}
+use Rattle.std.proofs.Common.{◌≡◌, ℕ, zero, suc, ◌≤◌, ℤ, pos, List, [], ◌∷◌, length, drop, Bool, true, false, refl, arith, Option, None, Some, cond}
 use Rattle.std.specs.Prelude.{nat_lt, slice_get, position}
 use Rattle.std.specs.List.{flat_map}
-use Rattle.std.specs.declared.cmp.Ordering.{Ordering}
 use Rattle.std.specs.declared.cmp.Ordering.TheVariants.{Less, Equal, Greater}
 use Rattle.std.proofs.lemmas.Bool.Decides.{nat_tests}
 use Rattle.pungi_base.specs.declared.names.Name.{Name}
@@ -45,7 +44,7 @@ use Rattle.pungi_symbol.specs.declared.term.Term.TheVariants.{Unset, Null, Text,
 use Rattle.pungi_symbol.specs.Terms.{outcomes_of_mark, outcomes_of_answer}
 use Rattle.pungi_symbol.specs.Knows.{mark, term_of, number, number_in, object_of, slot_note, is_global, is_field, at_place, ask_base, seek, find_token, find_field, find}
 use Rattle.pungi_symbol.specs.Asks.{setting, knowing_mark, knowing, needing_mark, needing, ordering, comparing, ranged, contents, loading, storing, dropping, all_set, needing_for, needing_all, knowing_for, knowing_taken, answering, special_ask, form_ask, first_term, terms_of, return_ask, ask_of, ask_line, ask_while, ask}
-use Rattle.pungi_symbol.specs.State.{is_order, is_decision, is_outcome, can_be, can_same, are_one, are_other, can, apply, decisions, after_if, successors}
+use Rattle.pungi_symbol.specs.State.{is_decision, is_outcome, can_be, are_one, are_other, can, apply, decisions, after_if}
 use Rattle.pungi_explore.specs.Traces.{states_after}
 use Rattle.pungi_explore.proofs.Each.{Each, IsIn, is_first, is_later, each_mapped, each_flat, each_if}
 

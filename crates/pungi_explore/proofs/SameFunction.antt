@@ -1,5 +1,5 @@
 -- All states of a path are of one function.
-use Rattle.std.proofs.Common.{◌≡◌, ℕ, List, [], ◌∷◌, refl, ◌∙◌, Option, None, Some}
+use Rattle.std.proofs.Common.{◌≡◌, List, refl, ◌∙◌, Option, None, Some}
 use Rattle.std.specs.Prelude.{slice_get}
 use Rattle.pungi_code.specs.declared.atom.Var.{Var}
 use Rattle.pungi_code.specs.declared.code.Line.{Line}

@@ -7,14 +7,13 @@ use Rattle.pungi_code.specs.Run.{code_at}
 use Rattle.pungi_symbol.specs.declared.decision.Decision.{Decision}
 use Rattle.pungi_symbol.specs.declared.known.Status.TheVariants as status
 use Rattle.pungi_symbol.specs.declared.state.State.{State}
-use Rattle.pungi_symbol.specs.State.{can, apply, after_if, decisions, successors}
-use Rattle.pungi_symbol.specs.Asks.{ask}
+use Rattle.pungi_symbol.specs.State.{successors}
 use Rattle.pungi_symbol.specs.Runs.{start_state, Path, path_here, path_on}
 use Rattle.pungi_symbol.specs.Promises.{lines_in, next_states, HasForm, Covers, AllLevel}
 use Rattle.pungi_explore.specs.declared.explored.Explored.{Explored}
 use Rattle.pungi_explore.specs.declared.explored.Explored.TheVariants.{AllBalanced, Fault, TooMany}
 use Rattle.pungi_explore.specs.declared.explored.TheConstants.{MOST_TRACES}
-use Rattle.pungi_explore.specs.Traces.{HasEnded, states_after, HaveTraces, no_state, has_ended, goes_on, HaveAtLeast, none_left, left_out, one_ended, one_goes_on}
+use Rattle.pungi_explore.specs.Traces.{HasEnded, states_after, HaveTraces, no_state, has_ended, goes_on, HaveAtLeast, none_left, one_ended, one_goes_on}
 use Rattle.pungi_explore.specs.Explored.{HasFew, HasMany, AreBalanced, IsFaultRun, IsExplored, FindsFault}
 use Rattle.pungi_explore.specs.Visits.{ShowsFault}
 use Rattle.pungi_explore.proofs.Each.{Each, each_joined, each_left, each_right}

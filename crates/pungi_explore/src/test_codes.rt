@@ -61,7 +61,7 @@ fn file(alloc: Global, lines: Vec<Line>, params: u32) -> Result<Codes, Memory> {
     codes.push(Some(code))?;
     Ok(Codes {
         codes: Seq::new(codes),
-        statics: 24,
+        statics: 0,
         names: Seq::new(vec![in alloc; Name(200)]?),
     })
 }
