@@ -12,9 +12,8 @@ use Rattle.pungi_symbol.specs.Runs.{start_state, Path, path_here, path_on}
 use Rattle.pungi_symbol.specs.Promises.{lines_in, next_states, HasForm, Covers, AllLevel}
 use Rattle.pungi_explore.specs.declared.explored.Explored.{Explored}
 use Rattle.pungi_explore.specs.declared.explored.Explored.TheVariants.{AllBalanced, Fault, TooMany}
-use Rattle.pungi_explore.specs.declared.explored.TheConstants.{MOST_TRACES}
 use Rattle.pungi_explore.specs.Traces.{HasEnded, states_after, HaveTraces, no_state, has_ended, goes_on, HaveAtLeast, none_left, one_ended, one_goes_on}
-use Rattle.pungi_explore.specs.Explored.{HasFew, HasMany, AreBalanced, IsFaultRun, IsExplored, FindsFault}
+use Rattle.pungi_explore.specs.Explored.{most_traces, HasFew, HasMany, AreBalanced, IsFaultRun, IsExplored, FindsFault}
 use Rattle.pungi_explore.specs.Visits.{ShowsFault}
 use Rattle.pungi_explore.proofs.Each.{Each, each_joined, each_left, each_right}
 use Rattle.pungi_explore.proofs.Traces.{joined, parted, at_least_joined, at_least_parted, all_left_out, no_more}
@@ -93,13 +92,13 @@ module _ (codes : Codes) (f : ℕ) (code : Code) (has : HasForm codes f code) wh
     fault_searched w shows = fault_run codes code s w popped.0 shows (is_reached codes f code has popped.0 s popped.1)
 
     -- one more than the highest number
-    pub too_many : HasEnded s → ended ≡ MOST_TRACES → HasMany codes f code
+    pub too_many : HasEnded s → ended ≡ most_traces → HasMany codes f code
     too_many over full =
         subst (HaveAtLeast code.instrs (First ∷ [])) (omega (arith, full))
         (so_far.at_least (0 + suc 0) (at_least_joined code.instrs rest (s ∷ []) 0 (suc 0) (all_left_out code.instrs rest) (one_ended s [] 0 over none_left)))
 
   -- where no state is pending
-  pub all_searched : (ended : ℕ) → Covers codes f → ended ≤ MOST_TRACES → Searched codes f code [] ended → AreBalanced codes.statics code × HasFew codes f code
+  pub all_searched : (ended : ℕ) → Covers codes f → ended ≤ most_traces → Searched codes f code [] ended → AreBalanced codes.statics code × HasFew codes f code
   all_searched ended covers few so_far = (all_balanced codes f code has covers (so_far.level tt), (ended + 0, (so_far.exactly 0 no_state, omega (arith, few))))
 
 -- where a fault is there and the traces are few, it is found
@@ -107,6 +106,6 @@ pub finds_fault : (codes : Codes) (f : ℕ) (e : Explored) → IsExplored codes 
 finds_fault codes f AllBalanced h code has few u = absurd (u.differs ((h code has).0 u.entry u.choices u.world u.value u.returns))
 finds_fault codes f (Fault w) h code has few u = (w, refl)
 finds_fault codes f TooMany h code has few u =
-    let more = no_more code.instrs (start_state codes.statics f code ∷ []) few.0 (MOST_TRACES + 1) few.1.0 (h code has) in
+    let more = no_more code.instrs (start_state codes.statics f code ∷ []) few.0 (most_traces + 1) few.1.0 (h code has) in
     let most = few.1.1 in
     absurd (omega (arith, more, most))

@@ -1,6 +1,7 @@
 -- What exploring the states of a function tells of its runs (Li and Tan, ECOOP 2014, for when a return is balanced).
+--   most_traces                   how many traces of a function are looked at
 --   first_states codes f code     the state at the start of a function
---   HasFew, HasMany               it has at most the highest number of traces that are looked at; it has more
+--   HasFew, HasMany               it has at most that many traces; it has more
 --   Returns                       a run returns: after so many instructions, in this world, with this value
 --   AreBalanced statics code      each run that returns is balanced
 --   IsFaultRun statics code w     this run returns unbalanced
@@ -25,17 +26,19 @@ use Rattle.pungi_symbol.specs.Runs.{start_state, run_for}
 use Rattle.pungi_symbol.specs.Promises.{HasForm}
 use Rattle.pungi_explore.specs.declared.explored.Explored.{Explored}
 use Rattle.pungi_explore.specs.declared.explored.Explored.TheVariants.{AllBalanced, Fault, TooMany}
-use Rattle.pungi_explore.specs.declared.explored.TheConstants.{MOST_TRACES}
 use Rattle.pungi_explore.specs.Traces.{HaveTraces, HaveAtLeast}
+
+abbrev pub most_traces : ℕ
+most_traces = 16384
 
 abbrev pub first_states : Codes → ℕ → Code → List State
 first_states codes f code = start_state codes.statics f code ∷ []
 
 abbrev pub HasFew : Codes → ℕ → Code → Type 0
-HasFew codes f code = (n : ℕ) × (HaveTraces code.instrs (first_states codes f code) n × (n ≤ MOST_TRACES))
+HasFew codes f code = (n : ℕ) × (HaveTraces code.instrs (first_states codes f code) n × (n ≤ most_traces))
 
 abbrev pub HasMany : Codes → ℕ → Code → Type 0
-HasMany codes f code = HaveAtLeast code.instrs (first_states codes f code) (MOST_TRACES + 1)
+HasMany codes f code = HaveAtLeast code.instrs (first_states codes f code) (most_traces + 1)
 
 pub record Returns (statics : ℕ) (code : Code) (entry : Entry) (choices : List Choice) (world : World) (value : Option Value) : Type 0 where
   pub fits : code_fits statics code entry ≡ true

@@ -1,8 +1,5 @@
 use pungi_base::Witness;
 
-/// How many traces of a function are looked at.
-pub const MOST_TRACES: usize = 16_384;
-
 /// What the runs of a function show.
 #[derive(Debug, Drop)]
 pub enum Explored {

@@ -6,7 +6,7 @@ mod search;
 mod visit;
 mod visited;
 
-pub use explored::{Explored, MOST_TRACES};
+pub use explored::Explored;
 pub use search::explore;
 
 #[cfg(test)]

@@ -6,13 +6,16 @@ ghost use Rattle.pungi_symbol.specs.Runs.{starts};
 ghost use Rattle.pungi_symbol.specs.Promises.{HasForm, Covers};
 ghost use Rattle.pungi_explore.specs.Explored.{IsExplored, FindsFault};
 
-use crate::explored::{Explored, MOST_TRACES};
+use crate::explored::Explored;
 use crate::visit::{put_states, visit};
 use crate::visited::Visited;
 use pungi_base::{Memory, Seq};
 use pungi_code::Codes;
 use pungi_symbol::{Sym, start};
 use std::alloc::Global;
+
+/// How many traces of a function are looked at.
+const MOST_TRACES: usize = 16_384;
 
 /// The state at the start of a function.
 fn first(alloc: Global, codes: &Codes, f: usize) -> Result<Seq<Sym>, Memory>
