@@ -47,7 +47,7 @@ use Rattle.pungi_symbol.specs.State.{balance}
 use Rattle.pungi_symbol.specs.Form.{is_pointer_param}
 use Rattle.pungi_symbol.specs.Lies.{IsOf}
 use Rattle.pungi_symbol.specs.Runs.{own_values, arguments, start_state, table_of, Path, path_here, path_on, run_for, Meets, GoesBack, AreApart, canon, choice_of, wanted, IsLevelState, returned_value}
-use Rattle.pungi_symbol.specs.Promises.{next_states, Covers, IsReached, IsRunOf, IsOwn, AllLevel, OwnUneven, LevelBy, OffBy, HasReturned}
+use Rattle.pungi_symbol.specs.Promises.{next_states, Covers, IsReached, IsRunOf, IsOwn, HasEachChoice, AllLevel, OwnUneven, LevelBy, OffBy, HasReturned}
 use Rattle.pungi_symbol.proofs.Canon.{own_table, own_apart}
 use Rattle.pungi_symbol.proofs.Moves.{AreObjectLines, two_true}
 use Rattle.pungi_symbol.proofs.Asked.{IsGiven, IsAsked}
@@ -136,6 +136,15 @@ module _ (codes : Codes) (s : State) (ds : List Decision) (code : Code) (reached
         let e = reached_sound.1 in
         ap (λ n. table_of n input choices) (sym e)
         ∙ own_table s reached_sound.0 input choices N (args ∙ ap (λ n. take N (drop n (canon s))) (sym e)) (chosen ∙ ap (λ n. map choice_of (drop N (drop n (canon s)))) (sym e))
+
+    pub choices_long : codes.statics + N + length choices ≡ count s.known
+    choices_long =
+        let a = ap length chosen in
+        let b = length-map (drop N Came) choice_of in
+        let d = length-drop N Came in
+        let e = came_long in
+        let l = long in
+        omega (arith, a, b, d, e, l)
 
     fits : FitsState T s
     fits = subst (λ t. FitsState t s) (sym own_is) (canon_fits s reached_sound.0)
@@ -265,6 +274,9 @@ module _ (codes : Codes) (s : State) (w : Witness) (h : HasParts codes s w) wher
 
   pub solved_own : IsOwn codes s w
   solved_own code ds r = own_is codes s ds code r w.input w.choices h.0 h.1 (args_of code ds r) (choices_of code ds r)
+
+  pub solved_each : HasEachChoice codes s w
+  solved_each code ds r = choices_long codes s ds code r w.input w.choices h.0 h.1 (args_of code ds r) (choices_of code ds r)
 
   pub solved_apart : (code : Code) (ds : List Decision) → IsReached codes s ds code → AreApart s (table_of codes.statics w.input w.choices)
   solved_apart code ds r = apart codes s ds code r w.input w.choices h.0 h.1 (args_of code ds r) (choices_of code ds r)

@@ -7,11 +7,12 @@
 --   IsReached              a state is on a path from the first state of its function
 --   IsRunOf                a witness is a run to a state, with the trace of each path to it
 --   IsOwn                  its tokens have the values by which all tokens differ that weren't merged
+--   HasEachChoice          it has a choice for each token that came with a choice, and no more
 --   LevelBy, OffBy         the balances of a state that returned are all level; the one of a token isn't
 --   HasReturned            a state has returned
 --   AllLevel               each run to a state that returned is balanced
 --   IsUneven, OwnUneven    an object whose change isn't what escaped; the state's own run has one
-use Rattle.std.specs.Prelude.{◌≡◌, ℕ, ◌<◌, true, List, [], length, Option, Some, None}
+use Rattle.std.specs.Prelude.{◌≡◌, ℕ, ◌+◌, ◌<◌, true, List, [], length, Option, Some, None}
 use Rattle.pungi_base.specs.declared.choice.Choice.{Choice}
 use Rattle.pungi_base.specs.declared.entry.Entry.{Entry}
 use Rattle.pungi_base.specs.declared.pos.Pos.{Pos}
@@ -30,7 +31,7 @@ use Rattle.pungi_symbol.specs.declared.term.Term.{Term}
 use Rattle.pungi_symbol.specs.Knows.{count}
 use Rattle.pungi_symbol.specs.State.{balance, successors}
 use Rattle.pungi_symbol.specs.Form.{has_object_form}
-use Rattle.pungi_symbol.specs.Runs.{start_state, Path, Meets, IsCovered, canon, table_of, returned_value, wanted, IsLevelState}
+use Rattle.pungi_symbol.specs.Runs.{arguments, start_state, Path, Meets, IsCovered, canon, table_of, returned_value, wanted, IsLevelState}
 
 abbrev pub lines_in : Option Code → List Line
 lines_in None = []
@@ -58,6 +59,9 @@ IsRunOf codes s w = (code : Code) (ds : List Decision) → IsReached codes s ds 
 
 abbrev pub IsOwn : Codes → State → Witness → Type 0
 IsOwn codes s w = (code : Code) (ds : List Decision) → IsReached codes s ds code → table_of codes.statics w.input w.choices ≡ canon s
+
+abbrev pub HasEachChoice : Codes → State → Witness → Type 0
+HasEachChoice codes s w = (code : Code) (ds : List Decision) → IsReached codes s ds code → codes.statics + arguments code + length w.choices ≡ count s.known
 
 abbrev pub LevelBy : State → Status → Type 0
 LevelBy s status.Going = Unit {0}

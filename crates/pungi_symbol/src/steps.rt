@@ -5,7 +5,7 @@ ghost use Rattle.pungi_symbol.specs.declared.decision.Decision.{Decision as Deci
 ghost use Rattle.pungi_code.specs.declared.code.Codes.{Codes as CodesOf};
 ghost use Rattle.pungi_code.specs.Run.{code_at};
 ghost use Rattle.pungi_symbol.specs.Runs.{end_of, starts, start_state, table_of, Path, GoesBack, AreApart};
-ghost use Rattle.pungi_symbol.specs.Promises.{next_states, lines_of, Covers, IsReached, IsRunOf, IsOwn, AllLevel, OwnUneven, HasReturned};
+ghost use Rattle.pungi_symbol.specs.Promises.{next_states, lines_of, Covers, IsReached, IsRunOf, IsOwn, HasEachChoice, AllLevel, OwnUneven, HasReturned};
 
 use crate::begin::first_of;
 use crate::known::Status;
@@ -59,11 +59,12 @@ pub fn end(state: &Sym) -> SymEnd
 }
 
 /// A run that ends in a state that `start` and calls of `step` gave. It has the answers of each path to the state as its
-/// trace, and tokens that were not merged are different objects.
+/// trace and uses each of its choices, and tokens that were not merged are different objects.
 pub fn solve(alloc: Global, codes: &Codes, state: &Sym) -> Result<Option<Witness>, Memory>
     ensures some { IfOk result (λ w. is_some w ≡ true) }
     ensures run { IfOk result (λ o. IfSome o (λ w. IsRunOf codes.now state.now w)) }
     ensures own { IfOk result (λ o. IfSome o (λ w. IsOwn codes.now state.now w)) }
+    ensures each { IfOk result (λ o. IfSome o (λ w. HasEachChoice codes.now state.now w)) }
     ensures apart { IfOk result (λ o. IfSome o (λ w. (code : Code) (ds : List DecisionOf) → IsReached codes.now state.now ds code → AreApart state.now (table_of codes.now.statics w.input w.choices))) }
 {
     let witness = run_of(alloc, codes, state)?;

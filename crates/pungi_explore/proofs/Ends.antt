@@ -1,0 +1,117 @@
+-- What the ends of the paths of a function tell of its runs.
+use Rattle.std.proofs.Common.{◌≡◌, ℕ, ◌+◌, List, refl, sym, ap, ◌∙◌, subst, arith, ◌⊎◌, inl, inr, Option}
+use Rattle.pungi_base.specs.declared.choice.Choice.{Choice}
+use Rattle.pungi_base.specs.declared.entry.Entry.{Entry}
+use Rattle.pungi_base.specs.declared.pos.Pos.{Pos}
+use Rattle.pungi_base.specs.declared.value.Value.{Value}
+use Rattle.pungi_base.specs.declared.witness.Witness.{Witness}
+use Rattle.pungi_world.specs.declared.world.World.{World}
+use Rattle.pungi_world.specs.Escapes.{IsBalanced}
+use Rattle.pungi_meaning.specs.Run as run
+use Rattle.pungi_code.specs.declared.code.Code.{Code}
+use Rattle.pungi_code.specs.declared.code.Codes.{Codes}
+use Rattle.pungi_symbol.specs.declared.decision.Decision.{Decision}
+use Rattle.pungi_symbol.specs.declared.known.Status.{Status}
+use Rattle.pungi_symbol.specs.declared.known.Status.TheVariants as status
+use Rattle.pungi_symbol.specs.declared.state.State.{State}
+use Rattle.pungi_symbol.specs.declared.term.Term.{Term}
+use Rattle.pungi_symbol.specs.Runs.{start_state, table_of, Path, run_for, IsAt, Meets, returned_value}
+use Rattle.pungi_symbol.specs.Promises.{HasForm, Covers, IsReached}
+use Rattle.pungi_explore.specs.Explored.{Returns, AreBalanced, IsFaultRun}
+use Rattle.pungi_explore.specs.Visits.{ShowsFault}
+use Rattle.pungi_explore.proofs.SameFunction.{path_function}
+use Rattle.pungi_explore.proofs.Begins.{AreLevelFrom}
+
+-- ---- a run that returns
+
+-- a run returns once
+same_return : (w v : World) (a b : Option Value) (p q : Pos) (xs ys : List Pos) → run.Returned w a p xs ≡ run.Returned v b q ys → (w ≡ v) × (a ≡ b)
+same_return w v a b p q xs ys e = (cc, cc)
+
+stopped_return : (w : World) (a : Option Value) (p q : Pos) (xs : List Pos) → run.Stopped q ≡ run.Returned w a p xs → ⊥
+stopped_return w a p q xs e = cc
+
+unfinished_return : (w : World) (a : Option Value) (p : Pos) (xs : List Pos) → run.OutOfFuel ≡ run.Returned w a p xs → ⊥
+unfinished_return w a p xs e = cc
+
+wanting_return : (w : World) (a : Option Value) (p : Pos) (xs : List Pos) → run.NeedsChoice ≡ run.Returned w a p xs → ⊥
+wanting_return w a p xs e = cc
+
+module _ (codes : Codes) (f : ℕ) (code : Code) (has : HasForm codes f code) where
+  abbrev First : State
+  First = start_state codes.statics f code
+
+  pub of_function : (ds : List Decision) (s : State) → Path code.instrs First ds s → s.known.function ≡ f
+  of_function ds s p = path_function code.instrs First ds s p
+
+  pub is_reached : (ds : List Decision) (s : State) → Path code.instrs First ds s → IsReached codes s ds code
+  is_reached ds s p = subst (λ g. HasForm codes g code × Path code.instrs (start_state codes.statics g code) ds s) (sym (of_function ds s p)) (has, p)
+
+  module _ (entry : Entry) (choices : List Choice) (world : World) (value : Option Value) (r : Returns codes.statics code entry choices world value) where
+    none_added : (n : ℕ) → n + 0 ≡ n
+    none_added n = omega arith
+
+    ends : run_for code entry choices (r.steps + 0) ≡ run.Returned world value r.pos r.used
+    ends = ap (run_for code entry choices) (none_added r.steps) ∙ r.is
+
+    module _ (ds : List Decision) (s : State) (level : AreLevelFrom codes code.instrs First) (m : Meets codes.statics s.known.function code entry choices r.steps ds s) (path : Path code.instrs First ds s) where
+      at_end : (z : Status) → s.known.status ≡ z → IsAt code entry choices r.steps (table_of codes.statics entry choices) m.m s.known.pc z → IsBalanced world value
+      at_end status.Going e h = absurd (unfinished_return world value r.pos r.used (sym (h 0) ∙ ends))
+      at_end (status.Stopped p) e h = absurd (stopped_return world value r.pos p r.used (sym (h 0) ∙ ends))
+      at_end (status.Returned p x) e h =
+          let same = same_return m.m.world world (returned_value (table_of codes.statics entry choices) x) value p r.pos m.m.used r.used (sym (h 0) ∙ ends) in
+          let reached = is_reached ds s path in
+          let balanced = level ds s path code entry choices r.steps ds p x reached.0 e m in
+          subst (λ w. IsBalanced w value) same.0 (subst (λ v. IsBalanced m.m.world v) same.1 balanced)
+
+    covered : AreLevelFrom codes code.instrs First → (run_for code entry choices r.steps ≡ run.NeedsChoice) ⊎ ((ds : List Decision) × ((s : State) × Meets codes.statics f code entry choices r.steps ds s)) → IsBalanced world value
+    covered level (inl e) = absurd (wanting_return world value r.pos r.used (sym e ∙ r.is))
+    covered level (inr c) =
+        let ds = c.0 in
+        let s = c.1.0 in
+        let path = c.1.1.path in
+        let m = subst (λ g. Meets codes.statics g code entry choices r.steps ds s) (sym (of_function ds s path)) c.1.1 in
+        at_end ds s level m path s.known.status refl m.is_at
+
+  -- where all that paths lead to is level, each run is balanced
+  pub all_balanced : Covers codes f → AreLevelFrom codes code.instrs First → AreBalanced codes.statics code
+  all_balanced covers level entry choices world value r = covered entry choices world value r level (covers code has entry choices r.steps r.fits)
+
+-- ---- the run of a fault
+
+module _ (codes : Codes) (code : Code) (s : State) (w : Witness) (ds : List Decision) (shows : ShowsFault codes s w) (reached : IsReached codes s ds code) where
+  abbrev N : ℕ
+  N = (shows.run_at.run code ds reached).1.0
+
+  abbrev M : Meets codes.statics s.known.function code w.input w.choices N ds s
+  M = (shows.run_at.run code ds reached).1.1
+
+  returned_at : (z : Status) (p : Pos) (x : Option Term) → z ≡ status.Returned p x → IsAt code w.input w.choices N (table_of codes.statics w.input w.choices) M.m s.known.pc z
+      → run_for code w.input w.choices (N + 0) ≡ run.Returned M.m.world (returned_value (table_of codes.statics w.input w.choices) x) p M.m.used
+  returned_at z p x e h = let at : IsAt code w.input w.choices N (table_of codes.statics w.input w.choices) M.m s.known.pc (status.Returned p x) = subst (IsAt code w.input w.choices N (table_of codes.statics w.input w.choices) M.m s.known.pc) e h in at 0
+
+  pub fault_run : IsFaultRun codes.statics code w
+  fault_run =
+      let p = shows.returned.0 in
+      let x = shows.returned.1.0 in
+      let e = shows.returned.1.1 in
+      let table = table_of codes.statics w.input w.choices in
+      let u = shows.uneven code w.input w.choices N ds p x reached.0 e (shows.run_at.own code ds reached) M in
+      let returns : Returns codes.statics code w.input w.choices M.m.world (returned_value table x) = record {
+        fits = (shows.run_at.run code ds reached).0;
+        steps = N + 0;
+        pos = p;
+        used = M.m.used;
+        is = returned_at s.known.status p x e M.is_at;
+      } in
+      let used = M.lies.used in
+      let each = shows.run_at.each code ds reached in
+      record {
+        world = M.m.world;
+        value = returned_value table x;
+        returns = returns;
+        all_used = omega (arith, used, each);
+        object = u.object;
+        there = u.there;
+        differs = u.differs;
+      }

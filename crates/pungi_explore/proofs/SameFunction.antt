@@ -1,0 +1,87 @@
+-- All states of a path are of one function.
+use Rattle.std.proofs.Common.{◌≡◌, List, refl, ◌∙◌, Option, None, Some}
+use Rattle.std.specs.Prelude.{slice_get}
+use Rattle.pungi_code.specs.declared.atom.Var.{Var}
+use Rattle.pungi_code.specs.declared.code.Line.{Line}
+use Rattle.pungi_code.specs.declared.instr.Instr.{Instr}
+use Rattle.pungi_code.specs.declared.instr.Instr.TheVariants.{Set, Arith, Fit, Compare, Load, Store, Api, Call, Unset as Forget, Jump, Branch, Return, Fall}
+use Rattle.pungi_symbol.specs.declared.decision.Decision.{Decision}
+use Rattle.pungi_symbol.specs.declared.known.Known.{Known}
+use Rattle.pungi_symbol.specs.declared.mark.Mark.{Mark}
+use Rattle.pungi_symbol.specs.declared.question.Question.{Question}
+use Rattle.pungi_symbol.specs.declared.question.Question.TheVariants.{Does, Touches, Overwrites, Null as AsksNull, Base, Answers, Same, Returns, Stops, Over}
+use Rattle.pungi_symbol.specs.declared.state.State.{State}
+use Rattle.pungi_symbol.specs.declared.term.Term.{Term}
+use Rattle.pungi_symbol.specs.Asks.{ask}
+use Rattle.pungi_symbol.specs.Goes.{answered, arrive, api_var, does, instr_of, load_first, next, store_first, with_line, go}
+use Rattle.pungi_symbol.specs.Runs.{Path, path_here, path_on}
+
+answered_function : (k : Known) (x : Option Var) (o : Option Term) → (next (answered x o k)).function ≡ k.function
+answered_function k None o = refl
+answered_function k (Some x) None = refl
+answered_function k (Some x) (Some c) = refl
+
+does_function : (k : Known) (i : Instr) → (does k i).function ≡ k.function
+does_function k (Set x a) = refl
+does_function k (Arith x kind o a b) = refl
+does_function k (Fit x kind a) = refl
+does_function k (Compare x c a b) = refl
+does_function k (Load x place) = refl
+does_function k (Store place a) = refl
+does_function k (Api x shape as' outs) = answered_function k x _
+does_function k (Call x f as') = refl
+does_function k (Forget x) = refl
+does_function k (Jump to) = refl
+does_function k (Branch a this other) = refl
+does_function k (Return o) = refl
+does_function k Fall = refl
+
+line_function : (k : Known) (o : Option Line) → (with_line o (λ i. does k i) k).function ≡ k.function
+line_function k None = refl
+line_function k (Some line) = does_function k line.instr
+
+load_function : (i : Instr) (m : Mark) (k : Known) → (load_first i m k).function ≡ k.function
+load_function (Set x a) m k = refl
+load_function (Arith x kind o a b) m k = refl
+load_function (Fit x kind a) m k = refl
+load_function (Compare x c a b) m k = refl
+load_function (Load x place) m k = refl
+load_function (Store place a) m k = refl
+load_function (Api x shape as' outs) m k = refl
+load_function (Call x f as') m k = refl
+load_function (Forget x) m k = refl
+load_function (Jump to) m k = refl
+load_function (Branch a this other) m k = refl
+load_function (Return o) m k = refl
+load_function Fall m k = refl
+
+store_function : (i : Instr) (m : Mark) (k : Known) → (store_first i m k).function ≡ k.function
+store_function (Set x a) m k = refl
+store_function (Arith x kind o a b) m k = refl
+store_function (Fit x kind a) m k = refl
+store_function (Compare x c a b) m k = refl
+store_function (Load x place) m k = refl
+store_function (Store place a) m k = refl
+store_function (Api x shape as' outs) m k = refl
+store_function (Call x f as') m k = refl
+store_function (Forget x) m k = refl
+store_function (Jump to) m k = refl
+store_function (Branch a this other) m k = refl
+store_function (Return o) m k = refl
+store_function Fall m k = refl
+
+go_function : (o : Option Line) (k : Known) (q : Question) (d : Decision) → (go o k q d).function ≡ k.function
+go_function o k (Does d') d = line_function k o
+go_function o k (Touches m) d = load_function (instr_of o) m k
+go_function o k (Overwrites m) d = store_function (instr_of o) _ k
+go_function o k (AsksNull t) d = refl
+go_function o k (Base t u i) d = refl
+go_function o k (Answers a) d = answered_function (arrive _ k) (api_var (instr_of o)) _
+go_function o k (Same t u) d = refl
+go_function o k (Returns x) d = refl
+go_function o k (Stops d') d = refl
+go_function o k Over d = refl
+
+pub path_function : (code : List Line) (first : State) (ds : List Decision) (s : State) → Path code first ds s → s.known.function ≡ first.known.function
+path_function code first _ _ path_here = refl
+path_function code first _ _ (path_on ds s d p c) = go_function (slice_get code s.known.pc) s.known (ask code s.known) d ∙ path_function code first ds s p

@@ -1,0 +1,12 @@
+use pungi_base::Witness;
+
+/// What the runs of a function show.
+#[derive(Debug, Drop)]
+pub enum Explored {
+    /// Each run that returns is balanced, and there are at most 16,384 traces.
+    AllBalanced,
+    /// This run returns unbalanced.
+    Fault(Witness),
+    /// There are more than 16,384 traces, and none of those looked at is unbalanced.
+    TooMany,
+}

@@ -1,0 +1,63 @@
+// All states of a function, one path at a time.
+ghost use Rattle.std.specs.Prelude.{◌≡◌, map, IfOk};
+ghost use Rattle.pungi_code.specs.declared.code.Code.{Code};
+ghost use Rattle.pungi_code.specs.Run.{code_at};
+ghost use Rattle.pungi_symbol.specs.Runs.{starts};
+ghost use Rattle.pungi_symbol.specs.Promises.{HasForm, Covers};
+ghost use Rattle.pungi_explore.specs.Explored.{IsExplored, FindsFault};
+
+use crate::explored::Explored;
+use crate::visit::{put_states, visit};
+use crate::visited::Visited;
+use pungi_base::{Memory, Seq};
+use pungi_code::Codes;
+use pungi_symbol::{Sym, start};
+use std::alloc::Global;
+
+/// How many traces of a function are looked at.
+const MOST_TRACES: usize = 16_384;
+
+/// The state at the start of a function.
+fn first(alloc: Global, codes: &Codes, f: usize) -> Result<Seq<Sym>, Memory>
+    ensures first { IfOk result (λ pending. pending ≡ map (λ p. p.1) (starts codes.now.statics f (code_at codes.now f))) }
+    ensures covers { IfOk result (λ _. Covers codes.now f) }
+{
+    let mut pending = Seq::new(Vec::new(alloc));
+    put_states(start(alloc, codes, f)?, &mut pending)?;
+    Ok(pending)
+}
+
+/// What all states show. The states whose paths are still to be walked are pending, and the last of them is walked first.
+pub(crate) fn search(alloc: Global, codes: &Codes, f: usize) -> Result<Explored, Memory>
+    ensures { IfOk result (IsExplored codes.now f) }
+{
+    let mut pending = first(alloc, codes, f)?;
+    let mut ended = 0;
+    'states: for _ in 0..u64::MAX {
+        let Some(state) = pending.pop() else {
+            return Ok(Explored::AllBalanced);
+        };
+        match visit(alloc, codes, state, &mut pending)? {
+            Visited::Goes => {}
+            Visited::Ends => {
+                if ended == MOST_TRACES {
+                    return Ok(Explored::TooMany);
+                }
+                ended += 1;
+            }
+            Visited::Unbalanced(witness) => return Ok(Explored::Fault(witness)),
+        }
+    }
+    Err(Memory)
+}
+
+/// Whether each run of a function returns balanced, or a run that doesn't. A fault is found wherever there is one, if the
+/// function has few traces.
+pub fn explore(alloc: Global, codes: &Codes, f: usize) -> Result<Explored, Memory>
+    requires form { (code : Code) × HasForm codes.now f code }
+    ensures shown { IfOk result (IsExplored codes.now f) }
+    ensures found { IfOk result (FindsFault codes.now f) }
+{
+    let explored = search(alloc, codes, f)?;
+    Ok(explored)
+}
