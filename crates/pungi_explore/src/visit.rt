@@ -6,7 +6,7 @@ ghost use Rattle.pungi_explore.specs.Visits.{IsRunAt, IsEnd, Visits};
 use crate::visited::Visited;
 use pungi_base::{Memory, Seq, Witness};
 use pungi_code::Codes;
-use pungi_symbol::{Decision, Sym, SymEnd, end, is_balanced, solve, step};
+use pungi_symbol::{Decision, Sym, SymEnd, end, is_balanced, solve, step_from};
 use std::alloc::Global;
 
 /// Adds these states.
@@ -22,7 +22,7 @@ pub fn put_states(states: Vec<(Decision, Sym)>, pending: &mut Seq<Sym>) -> Resul
 fn put_next(alloc: Global, codes: &Codes, state: Sym, pending: &mut Seq<Sym>) -> Result<(), Memory>
     ensures { OnOk result (pending.new ≡ pending.old ++ map (λ p. p.1) (next_states codes.now state)) }
 {
-    let next = step(alloc, codes, &state)?;
+    let next = step_from(alloc, codes, state)?;
     put_states(next, pending)?;
     Ok(())
 }
