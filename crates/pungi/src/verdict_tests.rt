@@ -12,7 +12,7 @@ const VERDICTS: &[(&str, u8, &str)] = &[
     (
         "PyObject *f(PyObject *self, PyObject *l) { if (PyList_Append(l, PyLong_FromLong(1)) < 0) return NULL; Py_RETURN_NONE; }",
         1,
-        "faulty f 1:103 object K change 1 escaped 0\n",
+        "faulty f 1:90 object K change 1 escaped 0\n",
     ),
     (
         "PyObject *f(PyObject *self, PyObject *l) { PyObject *n = PyLong_FromLong(1); if (n == NULL) return NULL; if (PyList_Append(l, n) < 0) { Py_DECREF(n); return NULL; } Py_DECREF(n); Py_RETURN_NONE; }",
@@ -177,7 +177,7 @@ fn verdicts(rt: HostRuntime) -> Result<(), Fail> {
 /// Twenty objects, each of which may fail to be made, and one way out.
 fn twenty(alloc: Global) -> Result<String, Memory> {
     let mut text = String::new(alloc);
-    write!(&mut text, "PyObject *f(void) {\n")?;
+    write!(&mut text, "PyObject *f(void) {{\n")?;
     for k in 1u32..21 {
         write!(&mut text, "PyObject *p{k} = NULL;\n")?;
     }
@@ -191,7 +191,7 @@ fn twenty(alloc: Global) -> Result<String, Memory> {
     for k in 1u32..21 {
         write!(&mut text, "Py_XDECREF(p{k});\n")?;
     }
-    write!(&mut text, "return NULL;\n}\n")?;
+    write!(&mut text, "return NULL;\n}}\n")?;
     Ok(text)
 }
 
@@ -201,11 +201,11 @@ fn asking(alloc: Global, count: u32) -> Result<String, Memory> {
     for k in 1..count {
         write!(&mut text, ", PyObject *p{k}")?;
     }
-    write!(&mut text, ") {\n")?;
+    write!(&mut text, ") {{\n")?;
     for k in 0..count {
         write!(&mut text, "if (p{k}) ;\n")?;
     }
-    write!(&mut text, "}\n")?;
+    write!(&mut text, "}}\n")?;
     Ok(text)
 }
 

@@ -1,0 +1,5 @@
+pub mod Forms
+pub mod Forward
+pub mod Transport
+pub mod Weighed
+pub mod Files

@@ -1,0 +1,61 @@
+-- The fault of a run that isn't balanced.
+use Rattle.std.proofs.Common.{◌≡◌, ℕ, ◌*◌, ◌+◌, ◌≤◌, List, length, Option, refl, sym, ap, ◌∙◌, subst}
+use Rattle.pungi_base.specs.declared.choice.Choice.{Choice}
+use Rattle.pungi_base.specs.declared.fault.Fault.{Fault}
+use Rattle.pungi_base.specs.declared.pos.Pos.{Pos}
+use Rattle.pungi_base.specs.declared.value.Value.{Value}
+use Rattle.pungi_base.specs.declared.witness.Witness.{Witness}
+use Rattle.pungi_types.specs.ResolvedStmts.{ResolvedFunction}
+use Rattle.pungi_world.specs.declared.world.World.{World}
+use Rattle.pungi_world.specs.Escapes.{IsBalanced}
+use Rattle.pungi_meaning.specs.Run.{End, Returned, Stopped, NeedsChoice, OutOfFuel, run_of}
+use Rattle.pungi_code.specs.declared.code.Code.{Code}
+use Rattle.pungi_verdict.specs.Replays.{IsUneven, IsWeighed}
+use Rattle.pungi_verdict.specs.Verdicts.{IsReturnOf}
+
+-- ---- a return is one return
+
+pub same-world : (w x : World) (v y : Option Value) (p q : Pos) (us ns : List Pos) → Returned w v p us ≡ Returned x y q ns → w ≡ x
+same-world w x v y p q us ns e = cc
+
+pub same-value : (w x : World) (v y : Option Value) (p q : Pos) (us ns : List Pos) → Returned w v p us ≡ Returned x y q ns → v ≡ y
+same-value w x v y p q us ns e = cc
+
+pub same-used : (w x : World) (v y : Option Value) (p q : Pos) (us ns : List Pos) → Returned w v p us ≡ Returned x y q ns → us ≡ ns
+same-used w x v y p q us ns e = cc
+
+pub off-too : (w x : World) (v y : Option Value) (p q : Pos) (us ns : List Pos) → Returned w v p us ≡ Returned x y q ns → (IsBalanced x y → ⊥) → IsBalanced w v → ⊥
+off-too w x v y p q us ns e off balanced =
+    off (subst (λ (z : World). IsBalanced z y) (same-world w x v y p q us ns e) (subst (λ (z : Option Value). IsBalanced w z) (same-value w x v y p q us ns e) balanced))
+
+pub not-stopped : (q : Pos) (w : World) (v : Option Value) (p : Pos) (us : List Pos) → Stopped q ≡ Returned w v p us → ⊥
+not-stopped q w v p us e = absurd (cc)
+
+pub not-wanting : (w : World) (v : Option Value) (p : Pos) (us : List Pos) → NeedsChoice ≡ Returned w v p us → ⊥
+not-wanting w v p us e = absurd (cc)
+
+pub not-out : (w : World) (v : Option Value) (p : Pos) (us : List Pos) → OutOfFuel ≡ Returned w v p us → ⊥
+not-out w v p us e = absurd (cc)
+
+-- ---- the fault
+
+pub told : (f : ResolvedFunction) (code : Code) (w : Witness) (u : IsUneven code w) (steps : ℕ) (world : World) (value : Option Value) (p : Pos) (used : List Pos) (fault : Fault)
+    → (run_of f w.input w.choices steps).end ≡ Returned world value p used → Returned world value p used ≡ Returned u.world u.value u.at u.used → IsWeighed w world value p used fault → IsReturnOf f fault
+told f code w u steps world value p used fault run same h = record {
+  steps = steps;
+  world = world;
+  value = value;
+  run =
+    ap (λ (x : Witness). (run_of f x.input x.choices steps).end) h.witness
+    ∙ run
+    ∙ ap (λ (q : Pos). Returned world value q used) (sym h.place)
+    ∙ ap (λ (us : List Pos). Returned world value fault.pos us) (sym h.places);
+  all_used =
+    ap (λ (us : List Pos). length us) (h.places ∙ same-used world u.world value u.value p u.at used u.used same)
+    ∙ u.all_used
+    ∙ ap (λ (x : Witness). length x.choices) (sym h.witness);
+  object = h.object;
+  change = h.change;
+  escaped = h.escaped;
+  differ = h.differ;
+}

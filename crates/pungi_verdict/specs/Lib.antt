@@ -1,0 +1,3 @@
+pub mod ObjectForm
+pub mod Replays
+pub mod Verdicts

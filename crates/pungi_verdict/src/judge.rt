@@ -1,0 +1,133 @@
+//! The verdicts on the functions of a checked file.
+ghost use Rattle.std.specs.Prelude.{◌≡◌, ◌<◌, ◌+◌, length, map, slice_get, Some, IfOk};
+ghost use Rattle.std.specs.List.{AllZip};
+ghost use Rattle.pungi_check.specs.CheckedView.{checked_view};
+ghost use Rattle.pungi_code.specs.declared.code.Code.{Code as CodeOf};
+ghost use Rattle.pungi_code.specs.Run.{code_at};
+ghost use Rattle.pungi_code.specs.WellFormed.{AreWellFormed};
+ghost use Rattle.pungi_lower.specs.Lowered.{AreLowered};
+ghost use Rattle.pungi_resolved.specs.ActionView.{function_view};
+ghost use Rattle.pungi_resolve.specs.Resolutions.{resolution_of, resolution_view};
+ghost use Rattle.pungi_types.specs.Files.{Definition, definitions as definitions_of};
+ghost use Rattle.pungi_types.specs.Refused.{IsRefusedSet};
+ghost use Rattle.pungi_explore.specs.Explored.{IsMany};
+ghost use Rattle.pungi_verdict.specs.Replays.{IsGiven};
+ghost use Rattle.pungi_verdict.specs.Verdicts.{IsRight, IsShown, object_code, file_codes, IsVerdict, IsJudged};
+
+use crate::object_form::is_object_code;
+use crate::replay::replay;
+use pungi_base::{Memory, Name, Rule, Verdict, Why};
+use pungi_check::Checked;
+use pungi_code::{Code, Codes};
+use pungi_explore::{Explored, explore};
+use pungi_lower::lower;
+use pungi_resolve::resolve_unit;
+use pungi_resolved::Function;
+use std::alloc::Global;
+
+/// The verdict on a function whose code has the object form.
+fn judge_code(
+    alloc: Global,
+    codes: &Codes,
+    i: usize,
+    code: &Code,
+    f: &Function,
+) -> Result<Verdict, Memory>
+    requires code { code_at codes.now i ≡ Some code.now }
+    requires given { IsGiven codes.now.statics (function_view f.now) code.now }
+    ensures { IfOk result (λ v. IsRight codes.now.statics (function_view f.now) (IsMany codes.now i) v) }
+{
+    let explored = explore(alloc, codes, i)?;
+    match explored {
+        Explored::AllBalanced => Ok(Verdict::Clean),
+        Explored::Fault(witness) => {
+            let fault = replay(alloc, f, code, witness)?;
+            Ok(Verdict::Faulty(fault))
+        }
+        Explored::TooMany => Ok(Verdict::Unknown(Why::Traces)),
+    }
+}
+
+/// The verdict on a function of which no rule is told. One whose code doesn't have the object form is refused by rule 0,
+/// which says that its form isn't judged yet.
+fn judge(alloc: Global, codes: &Codes, i: usize, f: &Function) -> Result<Verdict, Memory>
+    requires there { i < length codes.now.codes }
+    requires given { (code : CodeOf) → object_code codes.now.statics (code_at codes.now i) ≡ Some code → IsGiven codes.now.statics (function_view f.now) code }
+    ensures { IfOk result (λ v. IsShown codes.now.statics (function_view f.now) (IsMany codes.now i) (object_code codes.now.statics (code_at codes.now i)) v) }
+{
+    if let Some(code) = &codes.codes.as_slice()[i] {
+        if is_object_code(codes.statics, code) {
+            return judge_code(alloc, codes, i, code, f);
+        }
+    }
+    Ok(Verdict::Refused(f.pos, Rule(0)))
+}
+
+/// The verdict on a function of a file.
+fn verdict(
+    alloc: Global,
+    checked: &Checked,
+    codes: &Codes,
+    functions: &[Option<Function>],
+    i: usize,
+) -> Result<Verdict, Memory>
+    requires there { i < length (definitions_of (checked_view checked.now).file) }
+    requires codes { codes.now ≡ file_codes (checked_view checked.now) }
+    requires lowered { AreLowered (checked_view checked.now) codes.now.codes }
+    requires formed { AreWellFormed codes.now }
+    requires functions { map resolution_view functions.now ≡ map (resolution_of (checked_view checked.now).file (checked_view checked.now).rows (checked_view checked.now).refused) (definitions_of (checked_view checked.now).file) }
+    ensures { IfOk result (λ v. (d : Definition) → slice_get (definitions_of (checked_view checked.now).file) i ≡ Some d → IsVerdict (checked_view checked.now) d v) }
+{
+    match checked.function(i) {
+        Err(finding) => Ok(Verdict::Refused(finding.pos, finding.rule)),
+        Ok(_) => match &functions[i] {
+            Some(f) => Ok(judge(alloc, codes, i, f)?),
+            None => unreachable!(),
+        },
+    }
+}
+
+/// The verdicts on the functions of a file.
+fn verdicts(
+    alloc: Global,
+    checked: &Checked,
+    codes: &Codes,
+    functions: &[Option<Function>],
+) -> Result<Vec<(Name, Verdict)>, Memory>
+    requires codes { codes.now ≡ file_codes (checked_view checked.now) }
+    requires lowered { AreLowered (checked_view checked.now) codes.now.codes }
+    requires formed { AreWellFormed codes.now }
+    requires functions { map resolution_view functions.now ≡ map (resolution_of (checked_view checked.now).file (checked_view checked.now).rows (checked_view checked.now).refused) (definitions_of (checked_view checked.now).file) }
+    ensures judged { IfOk result (λ lines. AllZip (IsJudged (checked_view checked.now)) (definitions_of (checked_view checked.now).file) lines.items) }
+    ensures whole { IfOk result (λ lines. length lines.items ≡ length (definitions_of (checked_view checked.now).file)) }
+{
+    let mut lines = Vec::new(alloc);
+    for i in 0..checked.functions() {
+        let verdict = verdict(alloc, checked, codes, functions, i)?;
+        lines.push((checked.name(i), verdict))?;
+    }
+    Ok(lines)
+}
+
+/// What is known of a checked file.
+fn known(checked: &Checked)
+    ensures { IsRefusedSet (checked_view checked.now).file (checked_view checked.now).rows (checked_view checked.now).refused }
+{
+    checked.refusals();
+}
+
+/// The verdict on each function of a checked file, by its name, in the order of the file. A function of which a rule is told
+/// is refused by the rule. Of the others only those are judged whose code has the object form: a clean one has no run that
+/// returns and isn't balanced, from any entry and with any answers of the outside; a faulty one has the run of its fault; of
+/// one that is neither there are more than 16,384 traces.
+pub fn judge_all(alloc: Global, checked: &Checked) -> Result<Vec<(Name, Verdict)>, Memory>
+    ensures set { IsRefusedSet (checked_view checked.now).file (checked_view checked.now).rows (checked_view checked.now).refused }
+    ensures judged { IfOk result (λ lines. AllZip (IsJudged (checked_view checked.now)) (definitions_of (checked_view checked.now).file) lines.items) }
+    ensures whole { IfOk result (λ lines. length lines.items ≡ length (definitions_of (checked_view checked.now).file)) }
+{
+    known(checked);
+    let codes = lower(alloc, checked)?;
+    let functions = resolve_unit(alloc, checked)?;
+    let lines = verdicts(alloc, checked, &codes, functions.as_slice())?;
+    Ok(lines)
+}

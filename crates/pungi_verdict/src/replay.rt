@@ -1,0 +1,85 @@
+//! Running a witness again by the function itself.
+ghost use Rattle.std.specs.Prelude.{◌≡◌, ◌≤◌, ◌<◌, ◌+◌, ◌*◌, ◌^◌, length, IfOk};
+ghost use Rattle.pungi_resolved.specs.ActionView.{function_view};
+ghost use Rattle.pungi_world.specs.Escapes.{IsBalanced, IsCountable, IsLevel};
+ghost use Rattle.pungi_code.specs.WellFormed.{IsWellFormed};
+ghost use Rattle.pungi_lower.specs.Correct.{Behaves};
+ghost use Rattle.pungi_verdict.specs.Replays.{IsUneven, IsWeighed};
+ghost use Rattle.pungi_verdict.specs.Verdicts.{IsReturnOf};
+
+use pungi_base::{Fault, Memory, Pos, Seq, Value, Witness};
+use pungi_code::Code;
+use pungi_meaning::{Outcome, run};
+use pungi_resolved::Function;
+use pungi_world::World;
+use std::alloc::Global;
+
+/// How many steps are enough for a function whose code has no loop: an instruction takes at most 65,536.
+fn fuel(code: &Code) -> u32
+    requires { length code.now.instrs ≤ 2 ^ 14 }
+    ensures { result ≡ 65536 * (length code.now.instrs + 2) }
+{
+    65536 * (code.instrs.len() as u32 + 2)
+}
+
+/// The lowest object whose change differs from its escapes.
+fn uneven(world: &World, value: Option<Value>) -> u32
+    requires countable { IsCountable world.now }
+    requires off { IsBalanced world.now value → ⊥ }
+    ensures there { result < length world.now.accounts }
+    ensures uneven { IsLevel world.now value result → ⊥ }
+{
+    match world.unbalanced(value) {
+        Some(object) => object,
+        None => unreachable!(),
+    }
+}
+
+/// The fault of a return that isn't balanced.
+fn weigh(witness: Witness, world: World, value: Option<Value>, pos: Pos, used: Vec<Pos>) -> Fault
+    requires countable { IsCountable world }
+    requires off { IsBalanced world value → ⊥ }
+    ensures { IsWeighed witness world value pos used.items result }
+{
+    let object = uneven(&world, value);
+    let change = world.accounts.as_slice()[object as usize].change;
+    let escaped = world.escaped(object, value);
+    Fault {
+        pos,
+        object,
+        change,
+        escaped,
+        witness,
+        used: Seq::new(used),
+    }
+}
+
+/// The fault of a run of a code that isn't balanced, as the function of the code runs.
+pub(crate) fn replay(
+    alloc: Global,
+    f: &Function,
+    code: &Code,
+    witness: Witness,
+) -> Result<Fault, Memory>
+    requires within { length witness.input.args ≤ (function_view f.now).locals }
+    requires alike { Behaves (function_view f.now) code.now.instrs (length code.now.vars) 65536 }
+    requires formed { IsWellFormed code.now }
+    requires flat { length code.now.heads ≡ 0 }
+    requires uneven { IsUneven code.now witness }
+    ensures witness { IfOk result (λ fault. fault.witness ≡ witness) }
+    ensures returns { IfOk result (λ fault. IsReturnOf (function_view f.now) fault) }
+{
+    let fuel = fuel(code);
+    let outcome = run(alloc, f, &witness.input, witness.choices.as_slice(), fuel)?;
+    match outcome {
+        Outcome::Returned {
+            world,
+            value,
+            pos,
+            used,
+        } => Ok(weigh(witness, world, value, pos, used)),
+        Outcome::Stopped(_) => unreachable!(),
+        Outcome::NeedsChoice => unreachable!(),
+        Outcome::OutOfFuel => unreachable!(),
+    }
+}
