@@ -46,14 +46,14 @@ told f code w u steps world value p used fault run same h = record {
   world = world;
   value = value;
   run =
-    ap (λ (x : Witness). (run_of f x.input x.choices steps).end) h.witness
-    ∙ run
-    ∙ ap (λ (q : Pos). Returned world value q used) (sym h.place)
-    ∙ ap (λ (us : List Pos). Returned world value fault.pos us) (sym h.places);
+      ap (λ (x : Witness). (run_of f x.input x.choices steps).end) h.witness
+      ∙ run
+      ∙ ap (λ (q : Pos). Returned world value q used) (sym h.place)
+      ∙ ap (λ (us : List Pos). Returned world value fault.pos us) (sym h.places);
   all_used =
-    ap (λ (us : List Pos). length us) (h.places ∙ same-used world u.world value u.value p u.at used u.used same)
-    ∙ u.all_used
-    ∙ ap (λ (x : Witness). length x.choices) (sym h.witness);
+      ap (λ (us : List Pos). length us) (h.places ∙ same-used world u.world value u.value p u.at used u.used same)
+      ∙ u.all_used
+      ∙ ap (λ (x : Witness). length x.choices) (sym h.witness);
   object = h.object;
   change = h.change;
   escaped = h.escaped;

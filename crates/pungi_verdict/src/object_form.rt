@@ -40,9 +40,8 @@ fn takes_there(statics: u32, instr: &Instr) -> bool
     ensures { result ≡ list_all (is_there_of statics) (atoms_of instr.now) }
 {
     match instr {
-        Instr::Set(_, a) | Instr::Fit(_, _, a) | Instr::Branch(a, _, _) | Instr::Return(Some(a)) => {
-            is_there(statics, *a)
-        }
+        Instr::Set(_, a) | Instr::Fit(_, _, a) | Instr::Branch(a, _, _) | Instr::Return(Some(a)) =>
+            { is_there(statics, *a) }
         Instr::Arith(_, _, _, a, b) | Instr::Compare(_, _, a, b) => {
             is_there(statics, *a) && is_there(statics, *b)
         }
@@ -118,7 +117,9 @@ fn is_object_instr(statics: u32, instr: &Instr) -> bool
 fn are_object_instrs(statics: u32, lines: &[Line]) -> bool
     ensures { result ≡ list_all (λ line. is_object_instr_of statics line.instr) lines.now }
 {
-    lines.iter().all(|line| is_object_instr(statics, &line.instr))
+    lines
+        .iter()
+        .all(|line| is_object_instr(statics, &line.instr))
 }
 
 // ---- signs
