@@ -144,6 +144,13 @@ impl Table {
         table_of(alloc, &PLAIN_ROWS, &SPECIAL_ROWS)
     }
 
+    /// Each row of a table is well-formed.
+    pub fn rows_are_well_formed(&self)
+        ensures { IsTrue (are_rows self.now) }
+    {
+        let _ = &self.rows;
+    }
+
     /// The row of a name, if there is one.
     pub fn row(&self, name: Name) -> Option<&Row>
         ensures row { option_copied result ≡ row_in self.now name.0 }

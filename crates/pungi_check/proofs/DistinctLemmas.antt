@@ -1,6 +1,6 @@
--- Where no fault is found, functions have distinct names.
+-- Where no fault is found, functions have distinct names, and there are 4,096 at most.
 use Rattle.std.proofs.Common.{◌≡◌, ℕ, zero, suc, Bool, true, false, List, [], ◌∷◌, ◌++◌, Option, Some, None, refl, sym, ap, subst, ◌∙◌, arith}
-use Rattle.std.specs.Prelude.{◌==◌, ◌&&◌, ◌||◌, not, slice_get, if◌then◌else◌}
+use Rattle.std.specs.Prelude.{◌==◌, ◌≤◌, ◌&&◌, ◌||◌, not, length, slice_get, if◌then◌else◌}
 use Rattle.std.specs.List.{list_any}
 use Rattle.std.proofs.lemmas.Bool.Decides.{nat_tests}
 use Rattle.pungi_base.specs.declared.pos.Pos.{Pos}
@@ -60,6 +60,30 @@ file-new file rows h =
     let others = use_faults [] (uses file file) and (variable_faults file rows (uses file file)
     and (typedef_faults [] (typedefs file) and (tag_faults [] (tags file) and count_faults (slice_get (definitions file) 4096)))) in
     definitions-new file rows [] (definitions file) (left-none (definition_faults file rows [] (definitions file)) others h)
+
+behind-the-end : {X : Type 0} (xs : List X) (i : ℕ) → slice_get xs i ≡ None → length xs ≤ i
+behind-the-end [] i h = omega (arith)
+behind-the-end (x ∷ xs) zero h = absurd (cc)
+behind-the-end (x ∷ xs) (suc i) h = omega (arith, behind-the-end xs i h)
+
+count-none : (o : Option Definition) → least (count_faults o) ≡ None → o ≡ None
+count-none None h = refl
+count-none (Some d) h = absurd (cc)
+
+-- .. and 4,096 at most
+pub file-few : (file : List Item) (rows : List (ℕ × Row)) → least (faults file rows) ≡ None → length (definitions file) ≤ 4096
+file-few file rows h =
+    let counted = count_faults (slice_get (definitions file) 4096) in
+    let by-tags = tag_faults [] (tags file) and counted in
+    let by-words = typedef_faults [] (typedefs file) and by-tags in
+    let by-variables = variable_faults file rows (uses file file) and by-words in
+    let by-uses = use_faults [] (uses file file) and by-variables in
+    let none = right-none (tag_faults [] (tags file)) counted
+    (right-none (typedef_faults [] (typedefs file)) by-tags
+    (right-none (variable_faults file rows (uses file file)) by-words
+    (right-none (use_faults [] (uses file file)) by-variables
+    (right-none (definition_faults file rows [] (definitions file)) by-uses h)))) in
+    behind-the-end (definitions file) 4096 (count-none (slice_get (definitions file) 4096) none)
 
 pub and-left : (a b : Bool) → (not a && b) ≡ true → a ≡ false
 and-left true b h = absurd (cc)

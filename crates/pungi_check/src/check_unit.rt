@@ -1,5 +1,5 @@
 //! A unit is looked at once as a whole, and function by function.
-ghost use Rattle.std.specs.Prelude.{◌≡◌, ◌+◌, [], None, length, IfOk, IfErr, OnOk, IsTrue, map};
+ghost use Rattle.std.specs.Prelude.{◌≡◌, ◌+◌, ◌≤◌, ◌^◌, [], None, length, IfOk, IfErr, OnOk, IsTrue, map};
 ghost use Rattle.pungi_check.specs.CheckedFile.{IsAccepted, function_places};
 ghost use Rattle.pungi_check.specs.CheckedView.{checked_view, texts_of};
 ghost use Rattle.pungi_check.specs.Distinct.{are_new};
@@ -77,6 +77,19 @@ struct Told {
     statics: u32,
 }
 
+/// How many static objects there are. There is no memory for a file with more than 2^30 type objects.
+fn statics(names: &UnitNames<'_>) -> Result<u32, Memory>
+    ensures counted { IfOk result (λ n. n ≡ 24 + length (type_objects (file_of names.now))) }
+    ensures few { IfOk result (λ n. n ≤ 2 ^ 30 + 24) }
+{
+    let count = names.type_objects();
+    if count <= 1 << 30 {
+        Ok(count + 24)
+    } else {
+        Err(Memory)
+    }
+}
+
 /// Looks at each function.
 fn tell(alloc: Global, names: &UnitNames<'_>, list: &[&FunctionDef]) -> Result<Told, Memory>
     requires listed { map function_view list.now ≡ definitions_of (file_of names.now) }
@@ -84,13 +97,14 @@ fn tell(alloc: Global, names: &UnitNames<'_>, list: &[&FunctionDef]) -> Result<T
     ensures least { IfOk result (λ t. IsRefusedSet (file_of names.now) (rows_of names.now) t.refused.keys) }
     ensures told { IfOk result (λ t. t.refusals.items ≡ map (refusal (file_of names.now) (rows_of names.now) t.refused.keys) (definitions_of (file_of names.now))) }
     ensures counted { IfOk result (λ t. t.statics ≡ 24 + length (type_objects (file_of names.now))) }
+    ensures few_statics { IfOk result (λ t. t.statics ≤ 2 ^ 30 + 24) }
 {
     let numbers = numbers(alloc, list)?;
     let graph = graph(alloc, names, &numbers, list)?;
     let marks = least_set(alloc, &graph)?;
     let refused = refused_words(alloc, list, &marks)?;
     let refusals = refusals(alloc, names, &refused, list)?;
-    let statics = names.type_objects().checked_add(24).ok_or(Memory)?;
+    let statics = statics(names)?;
     Ok(Told {
         refused,
         refusals,
@@ -115,10 +129,12 @@ fn refuse_fault(alloc: Global, names: &UnitNames<'_>, unit: &Unit) -> Result<(),
 fn look_at(alloc: Global, names: &UnitNames<'_>, unit: &Unit) -> Result<Told, UnitFault>
     requires { unit_view unit.now ≡ file_of names.now }
     ensures none { IfOk result (λ t. least (faults_of (file_of names.now) (rows_of names.now)) ≡ None) }
+    ensures few { IfOk result (λ t. length (definitions_of (file_of names.now)) ≤ 4096) }
     ensures distinct { IfOk result (λ t. IsTrue (are_new [] (definitions_of (file_of names.now)))) }
     ensures least { IfOk result (λ t. IsRefusedSet (file_of names.now) (rows_of names.now) t.refused.keys) }
     ensures told { IfOk result (λ t. t.refusals.items ≡ map (refusal (file_of names.now) (rows_of names.now) t.refused.keys) (definitions_of (file_of names.now))) }
     ensures counted { IfOk result (λ t. t.statics ≡ 24 + length (type_objects (file_of names.now))) }
+    ensures few_statics { IfOk result (λ t. t.statics ≤ 2 ^ 30 + 24) }
     ensures fault { IfErr result (λ e. IsFaultOf (file_of names.now) (rows_of names.now) e) }
 {
     refuse_fault(alloc, names, unit)?;
@@ -130,10 +146,12 @@ fn look_at(alloc: Global, names: &UnitNames<'_>, unit: &Unit) -> Result<Told, Un
 /// What is told of a unit and its functions.
 fn look(alloc: Global, unit: &Unit, rows: &Table) -> Result<Told, UnitFault>
     ensures none { IfOk result (λ t. least (faults_of (unit_view unit.now) rows.now) ≡ None) }
+    ensures few { IfOk result (λ t. length (definitions_of (unit_view unit.now)) ≤ 4096) }
     ensures distinct { IfOk result (λ t. IsTrue (are_new [] (definitions_of (unit_view unit.now)))) }
     ensures least { IfOk result (λ t. IsRefusedSet (unit_view unit.now) rows.now t.refused.keys) }
     ensures told { IfOk result (λ t. t.refusals.items ≡ map (refusal (unit_view unit.now) rows.now t.refused.keys) (definitions_of (unit_view unit.now))) }
     ensures counted { IfOk result (λ t. t.statics ≡ 24 + length (type_objects (unit_view unit.now))) }
+    ensures few_statics { IfOk result (λ t. t.statics ≤ 2 ^ 30 + 24) }
     ensures fault { IfErr result (λ e. IsFaultOf (unit_view unit.now) rows.now e) }
 {
     let names = unit_names(alloc, unit, rows)?;
@@ -149,6 +167,7 @@ pub fn check(alloc: Global, names: &Names, unit: Unit, rows: Table) -> Result<Ch
     let told = look(alloc, &unit, &rows)?;
     let places = function_places_of(alloc, &unit)?;
     let texts = texts(alloc, names)?;
+    rows.rows_are_well_formed();
     Ok(Checked {
         unit,
         rows,

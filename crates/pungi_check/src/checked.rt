@@ -1,4 +1,5 @@
-ghost use Rattle.std.specs.Prelude.{◌≡◌, ◌+◌, [], map, length, IsTrue};
+ghost use Rattle.std.specs.Prelude.{◌≡◌, ◌+◌, ◌≤◌, ◌^◌, [], map, length, IsTrue};
+ghost use Rattle.pungi_api.specs.Rows.{are_rows};
 ghost use Rattle.pungi_check.specs.CheckedFile.{function_places};
 ghost use Rattle.pungi_check.specs.Distinct.{are_new};
 ghost use Rattle.pungi_tree.specs.UnitView.{unit_view};
@@ -27,23 +28,27 @@ pub struct Checked {
     pub(crate) statics: u32,
     /// The texts of names.
     pub(crate) texts: Vec<Vec<u8>>,
+    ghost rows_formed: { IsTrue (are_rows rows) },
+    ghost few: { length (definitions_of (unit_view unit)) ≤ 4096 },
     ghost distinct: { IsTrue (are_new [] (definitions_of (unit_view unit))) },
     ghost least: { IsRefusedSet (unit_view unit) rows refused.keys },
     ghost told: { refusals.items ≡ map (refusal (unit_view unit) rows refused.keys) (definitions_of (unit_view unit)) },
     ghost stand: { places.items ≡ function_places 0 (unit_view unit) },
     ghost counted: { statics ≡ 24 + length (type_objects (unit_view unit)) },
+    ghost few_statics: { statics ≤ 2 ^ 30 + 24 },
 }
 
 impl Checked {
-    ghost use Rattle.std.specs.Prelude.{◌≡◌, ◌<◌, ◌+◌, [], None, Some, slice_get, option_map, length, map, IsTrue, MatchResult};
+    ghost use Rattle.std.specs.Prelude.{◌≡◌, ◌<◌, ◌≤◌, ◌+◌, ◌^◌, [], None, Some, slice_get, option_map, length, map, IsTrue, MatchResult};
     ghost use Rattle.pungi_check.specs.Distinct.{are_new};
     ghost use Rattle.pungi_check.specs.CheckedFile.{IsPassed, IsRefusal};
     ghost use Rattle.pungi_check.specs.CheckedView.{checked_view, texts_of};
     ghost use Rattle.pungi_types.specs.TypesView.{definition_view};
 
-    /// How many functions the unit defines.
+    /// How many functions the unit defines, 4,096 at most.
     pub fn functions(&self) -> usize
-        ensures { result ≡ length (definitions_of (checked_view self.now).file) }
+        ensures count { result ≡ length (definitions_of (checked_view self.now).file) }
+        ensures few { length (definitions_of (checked_view self.now).file) ≤ 4096 }
     {
         self.refusals.len()
     }
@@ -101,16 +106,18 @@ impl Checked {
         &self.unit
     }
 
-    /// The table of rows.
+    /// The table of rows, each of which is well-formed.
     pub fn table(&self) -> &Table
-        ensures { result.now ≡ (checked_view self.now).rows }
+        ensures table { result.now ≡ (checked_view self.now).rows }
+        ensures rows { IsTrue (are_rows (checked_view self.now).rows) }
     {
         &self.rows
     }
 
-    /// How many static objects there are before a run: those of Python, and the file's type objects.
+    /// How many static objects there are before a run: those of Python, and the file's type objects, 2^30 at most.
     pub fn statics(&self) -> u32
-        ensures { result ≡ 24 + length (type_objects (checked_view self.now).file) }
+        ensures count { result ≡ 24 + length (type_objects (checked_view self.now).file) }
+        ensures few { result ≤ 2 ^ 30 + 24 }
     {
         self.statics
     }

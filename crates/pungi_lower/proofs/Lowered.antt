@@ -1,6 +1,9 @@
 -- The codes of a checked file: each function in which no rule holds is passed, and its code is well-formed.
-use Rattle.std.proofs.Common.{◌≡◌, ℕ, zero, suc, ◌+◌, ◌*◌, ◌≤◌, arith, length, Bool, true, false, List, [], ◌∷◌, Option, Some, None, map, option_map, slice_get, refl, sym, ap, subst, ◌∙◌}
+use Rattle.std.proofs.Common.{◌≡◌, ℕ, zero, suc, ◌+◌, ◌*◌, ◌≤◌, ◌^◌, ◌++◌, arith, length, Bool, true, false, List, [], ◌∷◌, Option, Some, None, map, option_map, slice_get, refl, sym, ap, subst, ◌∙◌}
 use Rattle.std.specs.Prelude.{is_some, if◌then◌else◌}
+use Rattle.pungi_base.specs.declared.entry.Entry.{Entry}
+use Rattle.pungi_base.specs.declared.names.Name.{Name}
+use Rattle.pungi_api.specs.Rows.{are_rows}
 use Rattle.pungi_types.specs.Files.{Definition, definitions, definition_in}
 use Rattle.pungi_types.specs.Functions.{file_env, refusal}
 use Rattle.pungi_types.specs.Nodes.{function_nodes}
@@ -14,17 +17,20 @@ use Rattle.pungi_check.specs.Distinct.{are_new, AreOwn}
 use Rattle.pungi_check.proofs.OwnLemmas.{all-own}
 use Rattle.pungi_resolve.specs.Passed.{IsPassed}
 use Rattle.pungi_resolve.specs.Resolutions.{resolution_of}
+use Rattle.pungi_meaning.specs.Entries.{entry_fits}
 use Rattle.pungi_code.specs.declared.code.Code.{Code}
-use Rattle.pungi_code.specs.WellFormed.{IsWellFormed, AgreeOnKinds}
+use Rattle.pungi_code.specs.declared.code.Codes.{Codes}
+use Rattle.pungi_code.specs.WellFormed.{IsWellFormed, AgreeOnKinds, AreWellFormed}
 use Rattle.pungi_lower.specs.Codes.{code_for}
 use Rattle.pungi_lower.specs.Correct.{temps_of, Behaves}
-use Rattle.pungi_lower.specs.Lowered.{codes_of, IsEachPassed, IsLowered, AreLowered, HasRows, AreEachWellFormed, AgreeOnSlots}
-use Rattle.pungi_lower.specs.Sound.{IsStmtSound}
+use Rattle.pungi_lower.specs.Lowered.{codes_of, names_of, IsEachPassed, IsLowered, AreLowered}
+use Rattle.pungi_lower.specs.Sound.{IsStmtSound, stmt_nodes}
 use Rattle.pungi_lower.specs.StmtCode.{body_code}
-use Rattle.pungi_lower.specs.VarKinds.{var_kinds}
+use Rattle.pungi_lower.specs.VarKinds.{kind_held, stmt_reached, temp_kinds, var_kinds}
 use Rattle.pungi_lower.specs.TypedCalls.{has_no_call}
-use Rattle.pungi_lower.specs.TypedCode.{code_of}
+use Rattle.pungi_lower.specs.TypedCode.{code_of, HasLocals}
 use Rattle.pungi_lower.proofs.BoundaryHeads.{keeps_nothing}
+use Rattle.pungi_lower.proofs.EntryKinds.{entries_alike, fit-count}
 use Rattle.pungi_lower.proofs.Final.{laid_out}
 use Rattle.pungi_lower.proofs.KindsCode.{vars_long}
 use Rattle.pungi_lower.proofs.KindsFunctions.{function-locals, function-well-formed}
@@ -93,6 +99,11 @@ pub laid : (c : CheckedFile) (functions seen : List (Option Function)) (codes : 
 laid c functions seen codes made same is =
     made ∙ ap (λ (fs : List (Option Function)). map code_for (map (option_map function_view) fs)) same ∙ ap (λ (rs : List (Option ResolvedFunction)). map code_for rs) is
 
+within-locals : (f : ResolvedFunction) → HasLocals f → (statics : ℕ) (entry : Entry) → entry_fits f.params statics entry ≡ true → length entry.args ≤ f.locals
+within-locals f locals statics entry fits =
+    let few = fit-count statics f.params entry fits in
+    omega (arith, few, locals)
+
 lowered-one : (c : CheckedFile) (d : Definition) (code : Code) → IsPassed (file_env c.file c.rows c.refused d.name.0) d → code_of (resolved c.file c.rows c.refused d) ≡ code
     → IsLowered (resolved c.file c.rows c.refused d) (function_nodes d) code
 lowered-one c d code passed is =
@@ -106,6 +117,8 @@ lowered-one c d code passed is =
       alike = subst (λ (m : ℕ). Behaves f (body_code f) m 65536) (sym long) alike;
       small = code-few env d;
       keeps = keeps_nothing f sound;
+      fits = λ statics entry. entries_alike statics f.params (map kind_held (stmt_reached f.body) ++ temp_kinds (stmt_nodes f.body)) entry;
+      within = λ statics entry fits. within-locals f (function-locals env d) statics entry fits;
     } in
     subst (λ (k : Code). IsLowered f (function_nodes d) k) is lowered
 
@@ -117,13 +130,15 @@ all-lowered c new set = λ i d code at e.
     let one = lowered-one c h.d code (passed-all c new set i h.d h.at h.none) h.is in
     subst (λ (x : Definition). IsLowered (resolved c.file c.rows c.refused x) (function_nodes x) code) same one
 
-pub each-well-formed : (c : CheckedFile) → are_new [] (definitions c.file) ≡ true → IsRefusedSet c.file c.rows c.refused → HasRows c → AreEachWellFormed (codes_of c)
+each-well-formed : (c : CheckedFile) → are_new [] (definitions c.file) ≡ true → IsRefusedSet c.file c.rows c.refused → are_rows c.rows ≡ true
+    → (i : ℕ) (code : Code) → slice_get (codes_of c) i ≡ Some (Some code) → IsWellFormed code
 each-well-formed c new set rows = λ i code e.
     let h = source-at c (definitions c.file) i code e in
     let passed = passed-all c new set i h.d h.at h.none in
     subst (λ (k : Code). IsWellFormed k) h.is (function-well-formed (file_env c.file c.rows c.refused h.d.name.0) h.d passed rows h.free)
 
-pub all-agree : (c : CheckedFile) → are_new [] (definitions c.file) ≡ true → IsRefusedSet c.file c.rows c.refused → HasRows c → AgreeOnSlots (codes_of c)
+all-agree : (c : CheckedFile) → are_new [] (definitions c.file) ≡ true → IsRefusedSet c.file c.rows c.refused → are_rows c.rows ≡ true
+    → (i j : ℕ) (a b : Code) → slice_get (codes_of c) i ≡ Some (Some a) → slice_get (codes_of c) j ≡ Some (Some b) → AgreeOnKinds a b
 all-agree c new set rows = λ i j a b x y.
     let g = source-at c (definitions c.file) i a x in
     let h = source-at c (definitions c.file) j b y in
@@ -133,3 +148,22 @@ all-agree c new set rows = λ i j a b x y.
     agree_if_passed (resolved c.file c.rows c.refused g.d) (resolved c.file c.rows c.refused h.d) (file_env c.file c.rows c.refused g.d.name.0) (file_env c.file c.rows c.refused h.d.name.0) g.d
     h.d refl p q rows rows refl refl g.free h.free in
     subst (λ (k : Code). AgreeOnKinds k b) g.is (subst (λ (k : Code). AgreeOnKinds (code_of (resolved c.file c.rows c.refused g.d)) k) h.is both)
+
+mapped : {A B : Type 0} (f : A → B) (xs : List A) → length (map f xs) ≡ length xs
+mapped f [] = refl
+mapped f (x ∷ xs) = ap suc (mapped f xs)
+
+-- the codes of a file of which this is known, with the names of its functions
+pub all-well-formed : (c : CheckedFile) (codes : Codes) → are_new [] (definitions c.file) ≡ true → IsRefusedSet c.file c.rows c.refused → are_rows c.rows ≡ true
+    → length (definitions c.file) ≤ 4096 → codes.codes ≡ codes_of c → codes.names ≡ names_of c → codes.statics ≤ 2 ^ 30 + 24 → AreWellFormed codes
+all-well-formed c codes new set rows few is names statics =
+    let long : length (codes_of c) ≡ length (definitions c.file) =
+    mapped code_for (map (resolution_of c.file c.rows c.refused) (definitions c.file)) ∙ mapped (resolution_of c.file c.rows c.refused) (definitions c.file) in
+    let named : length (names_of c) ≡ length (definitions c.file) = mapped (λ (d : Definition). d.name) (definitions c.file) in
+    record {
+      each = λ f code e. each-well-formed c new set rows f code (ap (λ (cs : List (Option Code)). slice_get cs f) (sym is) ∙ e);
+      kinds = λ f g a b x y. all-agree c new set rows f g a b (ap (λ (cs : List (Option Code)). slice_get cs f) (sym is) ∙ x) (ap (λ (cs : List (Option Code)). slice_get cs g) (sym is) ∙ y);
+      names = ap (λ (ns : List Name). length ns) names ∙ named ∙ sym long ∙ ap (λ (cs : List (Option Code)). length cs) (sym is);
+      few = subst (λ (n : ℕ). n ≤ 4096) (sym long ∙ ap (λ (cs : List (Option Code)). length cs) (sym is)) few;
+      statics = statics;
+    }

@@ -1,4 +1,4 @@
-use Rattle.std.proofs.Common.{◌≡◌, ◌+◌, ℕ, List, length, map, None, IfOk, IfErr, [], true}
+use Rattle.std.proofs.Common.{◌≡◌, ◌+◌, ◌≤◌, ℕ, List, length, map, None, IfOk, IfErr, [], true}
 use Rattle.pungi_tree.specs.Syntax.{Item}
 use Rattle.pungi_tree.specs.UnitView.{unit_view}
 use Rattle.pungi_api.specs.declared.row.Row.{Row}
@@ -43,3 +43,8 @@ pub returns-clause-fault : goal.returns-clause-fault
 returns-clause-fault c =
     of-file-seen (λ (file : List Item) (rows : List (ℕ × Row)). IfErr c.look_at.result (λ e. IsFaultOf file rows e))
     (unit_view c.args.unit.now) (file_of c.in_ok-names.names) c.args.rows.now (rows_of c.in_ok-names.names) c.in_ok-names.ensures c.look_at.ensures.fault
+
+pub returns-clause-few : goal.returns-clause-few
+returns-clause-few c =
+    of-file-seen (λ (file : List Item) (rows : List (ℕ × Row)). IfOk c.look_at.result (λ t. length (definitions file) ≤ 4096))
+    (unit_view c.args.unit.now) (file_of c.in_ok-names.names) c.args.rows.now (rows_of c.in_ok-names.names) c.in_ok-names.ensures c.look_at.ensures.few
