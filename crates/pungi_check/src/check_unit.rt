@@ -104,6 +104,7 @@ fn tell(alloc: Global, names: &UnitNames<'_>, list: &[&FunctionDef]) -> Result<T
     let marks = least_set(alloc, &graph)?;
     let refused = refused_words(alloc, list, &marks)?;
     let refusals = refusals(alloc, names, &refused, list)?;
+    let statics = statics(names)?;
     Ok(Told {
         refused,
         refusals,

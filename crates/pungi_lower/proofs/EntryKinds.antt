@@ -1,6 +1,6 @@
 -- An entry fits the code of a function exactly where it fits the function.
 use Rattle.std.proofs.Common.{◌≡◌, ℕ, zero, suc, ◌+◌, List, [], ◌∷◌, ◌++◌, length, map, take, Option, Some, None, refl, sym, ap, ◌∙◌, Bool, true, false, ◌&&◌}
-use Rattle.std.specs.Prelude.{ℤ, nat_lt, nat_le, ◌^◌}
+use Rattle.std.specs.Prelude.{ℤ, nat_lt, nat_le, ◌^◌, ◌≤◌}
 use Rattle.pungi_base.specs.declared.entry.Entry.{Entry}
 use Rattle.pungi_base.specs.declared.value.Value.{Value}
 use Rattle.pungi_base.specs.declared.value.Value.TheVariants as value
@@ -59,3 +59,20 @@ pub entries_alike : (statics : ℕ) (ks : List (Option ValueKind)) (rest : List 
 entries_alike statics ks rest entry =
     ap (λ l. nat_le statics entry.objects && (nat_lt entry.objects (2 ^ 31) && hold_values entry.objects l entry.args)) (front_kinds ks rest)
     ∙ ap (λ b. nat_le statics entry.objects && (nat_lt entry.objects (2 ^ 31) && b)) (all_alike entry.objects ks entry.args)
+
+-- ---- how many arguments there are
+
+both : (a b : Bool) → a && b ≡ true → (a ≡ true) × (b ≡ true)
+both false b e = absurd (cc)
+both true b e = (refl, e)
+
+fit-length : (n : ℕ) (ks : List (Option ValueKind)) (vs : List Value) → fit_params n ks vs ≡ true → length vs ≡ length ks
+fit-length n [] [] e = refl
+fit-length n [] (v ∷ vs) e = absurd (cc)
+fit-length n (k ∷ ks) [] e = absurd (cc)
+fit-length n (k ∷ ks) (v ∷ vs) e = ap suc (fit-length n ks vs (both (fits_param n k v) (fit_params n ks vs) e).1)
+
+pub fit-count : (statics : ℕ) (ks : List (Option ValueKind)) (entry : Entry) → entry_fits ks statics entry ≡ true → length entry.args ≡ length ks
+fit-count statics ks entry e =
+    let rest = both (nat_le statics entry.objects) (nat_lt entry.objects (2 ^ 31) && fit_params entry.objects ks entry.args) e in
+    fit-length entry.objects ks entry.args (both (nat_lt entry.objects (2 ^ 31)) (fit_params entry.objects ks entry.args) rest.1).1

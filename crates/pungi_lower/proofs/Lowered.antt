@@ -1,6 +1,7 @@
 -- The codes of a checked file: each function in which no rule holds is passed, and its code is well-formed.
-use Rattle.std.proofs.Common.{◌≡◌, ℕ, zero, suc, ◌+◌, ◌*◌, ◌≤◌, ◌^◌, arith, length, Bool, true, false, List, [], ◌∷◌, Option, Some, None, map, option_map, slice_get, refl, sym, ap, subst, ◌∙◌}
+use Rattle.std.proofs.Common.{◌≡◌, ℕ, zero, suc, ◌+◌, ◌*◌, ◌≤◌, ◌^◌, ◌++◌, arith, length, Bool, true, false, List, [], ◌∷◌, Option, Some, None, map, option_map, slice_get, refl, sym, ap, subst, ◌∙◌}
 use Rattle.std.specs.Prelude.{is_some, if◌then◌else◌}
+use Rattle.pungi_base.specs.declared.entry.Entry.{Entry}
 use Rattle.pungi_base.specs.declared.names.Name.{Name}
 use Rattle.pungi_api.specs.Rows.{are_rows}
 use Rattle.pungi_types.specs.Files.{Definition, definitions, definition_in}
@@ -16,18 +17,20 @@ use Rattle.pungi_check.specs.Distinct.{are_new, AreOwn}
 use Rattle.pungi_check.proofs.OwnLemmas.{all-own}
 use Rattle.pungi_resolve.specs.Passed.{IsPassed}
 use Rattle.pungi_resolve.specs.Resolutions.{resolution_of}
+use Rattle.pungi_meaning.specs.Entries.{entry_fits}
 use Rattle.pungi_code.specs.declared.code.Code.{Code}
 use Rattle.pungi_code.specs.declared.code.Codes.{Codes}
 use Rattle.pungi_code.specs.WellFormed.{IsWellFormed, AgreeOnKinds, AreWellFormed}
 use Rattle.pungi_lower.specs.Codes.{code_for}
 use Rattle.pungi_lower.specs.Correct.{temps_of, Behaves}
 use Rattle.pungi_lower.specs.Lowered.{codes_of, names_of, IsEachPassed, IsLowered, AreLowered}
-use Rattle.pungi_lower.specs.Sound.{IsStmtSound}
+use Rattle.pungi_lower.specs.Sound.{IsStmtSound, stmt_nodes}
 use Rattle.pungi_lower.specs.StmtCode.{body_code}
-use Rattle.pungi_lower.specs.VarKinds.{var_kinds}
+use Rattle.pungi_lower.specs.VarKinds.{kind_held, stmt_reached, temp_kinds, var_kinds}
 use Rattle.pungi_lower.specs.TypedCalls.{has_no_call}
-use Rattle.pungi_lower.specs.TypedCode.{code_of}
+use Rattle.pungi_lower.specs.TypedCode.{code_of, HasLocals}
 use Rattle.pungi_lower.proofs.BoundaryHeads.{keeps_nothing}
+use Rattle.pungi_lower.proofs.EntryKinds.{entries_alike, fit-count}
 use Rattle.pungi_lower.proofs.Final.{laid_out}
 use Rattle.pungi_lower.proofs.KindsCode.{vars_long}
 use Rattle.pungi_lower.proofs.KindsFunctions.{function-locals, function-well-formed}
@@ -96,6 +99,11 @@ pub laid : (c : CheckedFile) (functions seen : List (Option Function)) (codes : 
 laid c functions seen codes made same is =
     made ∙ ap (λ (fs : List (Option Function)). map code_for (map (option_map function_view) fs)) same ∙ ap (λ (rs : List (Option ResolvedFunction)). map code_for rs) is
 
+within-locals : (f : ResolvedFunction) → HasLocals f → (statics : ℕ) (entry : Entry) → entry_fits f.params statics entry ≡ true → length entry.args ≤ f.locals
+within-locals f locals statics entry fits =
+    let few = fit-count statics f.params entry fits in
+    omega (arith, few, locals)
+
 lowered-one : (c : CheckedFile) (d : Definition) (code : Code) → IsPassed (file_env c.file c.rows c.refused d.name.0) d → code_of (resolved c.file c.rows c.refused d) ≡ code
     → IsLowered (resolved c.file c.rows c.refused d) (function_nodes d) code
 lowered-one c d code passed is =
@@ -109,6 +117,8 @@ lowered-one c d code passed is =
       alike = subst (λ (m : ℕ). Behaves f (body_code f) m 65536) (sym long) alike;
       small = code-few env d;
       keeps = keeps_nothing f sound;
+      fits = λ statics entry. entries_alike statics f.params (map kind_held (stmt_reached f.body) ++ temp_kinds (stmt_nodes f.body)) entry;
+      within = λ statics entry fits. within-locals f (function-locals env d) statics entry fits;
     } in
     subst (λ (k : Code). IsLowered f (function_nodes d) k) is lowered
 

@@ -4,7 +4,8 @@
 --   IsLowered f nodes code    what a code is of a function that has so many nodes in the text
 --   AreLowered c codes     so is each code of its function
 --   IsEachPassed c         what is known of each function in which no rule holds
-use Rattle.std.specs.Prelude.{◌≡◌, ℕ, ◌*◌, ◌≤◌, List, Option, Some, None, length, map, slice_get}
+use Rattle.std.specs.Prelude.{◌≡◌, ℕ, ◌*◌, ◌≤◌, true, List, Option, Some, None, length, map, slice_get}
+use Rattle.pungi_base.specs.declared.entry.Entry.{Entry}
 use Rattle.pungi_base.specs.declared.names.Name.{Name}
 use Rattle.pungi_types.specs.Files.{Definition, definitions}
 use Rattle.pungi_types.specs.Functions.{file_env, refusal}
@@ -13,7 +14,9 @@ use Rattle.pungi_types.specs.ResolvedStmts.{ResolvedFunction, resolved}
 use Rattle.pungi_check.specs.CheckedFile.{CheckedFile}
 use Rattle.pungi_resolve.specs.Passed.{IsPassed}
 use Rattle.pungi_resolve.specs.Resolutions.{resolution_of}
+use Rattle.pungi_meaning.specs.Entries.{entry_fits}
 use Rattle.pungi_code.specs.declared.code.Code.{Code}
+use Rattle.pungi_code.specs.Entries.{code_fits}
 use Rattle.pungi_lower.specs.Boundaries.{KeepsNothing}
 use Rattle.pungi_lower.specs.Codes.{code_for}
 use Rattle.pungi_lower.specs.Correct.{Behaves}
@@ -24,12 +27,14 @@ codes_of c = map code_for (map (resolution_of c.file c.rows c.refused) (definiti
 abbrev pub names_of : CheckedFile → List Name
 names_of c = map (λ d. d.name) (definitions c.file)
 
--- it runs as the function does, it has at most four instructions for each node of the text, and no temporary is kept where one statement ends and
--- another begins
+-- it runs as the function does, it has at most four instructions for each node of the text, no temporary is kept where one statement ends and another
+-- begins, and the same entries fit it, whose arguments are among the locals
 pub record IsLowered (f : ResolvedFunction) (nodes : ℕ) (code : Code) : Type 0 where
   pub alike : Behaves f code.instrs (length code.vars) 65536
   pub small : length code.instrs ≤ 4 * nodes
   pub keeps : KeepsNothing f code.instrs code.heads code.locals
+  pub fits : (statics : ℕ) (entry : Entry) → code_fits statics code entry ≡ entry_fits f.params statics entry
+  pub within : (statics : ℕ) (entry : Entry) → entry_fits f.params statics entry ≡ true → length entry.args ≤ f.locals
 
 abbrev pub AreLowered : CheckedFile → List (Option Code) → Type 0
 AreLowered c codes = (i : ℕ) (d : Definition) (code : Code) → slice_get (definitions c.file) i ≡ Some d → slice_get codes i ≡ Some (Some code)

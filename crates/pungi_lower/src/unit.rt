@@ -1,5 +1,5 @@
 //! The codes of functions, and of a checked file.
-ghost use Rattle.std.specs.Prelude.{◌≡◌, ◌+◌, ◌≤◌, [], map, option_map, length, IfOk, IsTrue};
+ghost use Rattle.std.specs.Prelude.{◌≡◌, ◌+◌, ◌≤◌, ◌^◌, [], map, option_map, length, IfOk, IsTrue};
 ghost use Rattle.pungi_api.specs.Rows.{are_rows};
 ghost use Rattle.pungi_check.specs.CheckedView.{checked_view};
 ghost use Rattle.pungi_check.specs.Distinct.{are_new};
@@ -81,6 +81,24 @@ fn known(checked: &Checked)
     checked.functions();
 }
 
+/// The codes of a checked file, with the names of its functions and the number of its static objects.
+fn gather(alloc: Global, checked: &Checked) -> Result<Codes, Memory>
+    ensures codes { IfOk result (λ c. c.codes ≡ codes_of (checked_view checked.now)) }
+    ensures names { IfOk result (λ c. c.names ≡ names_of (checked_view checked.now)) }
+    ensures statics { IfOk result (λ c. c.statics ≡ 24 + length (type_objects (checked_view checked.now).file)) }
+    ensures few_statics { IfOk result (λ c. c.statics ≤ 2 ^ 30 + 24) }
+{
+    let functions = resolve_unit(alloc, checked)?;
+    let codes = lower_functions(alloc, functions.as_slice())?;
+    let list = definitions(alloc, checked.unit())?;
+    let names = names(alloc, list.as_slice())?;
+    Ok(Codes {
+        codes,
+        statics: checked.statics(),
+        names,
+    })
+}
+
 /// The codes of a checked file. There is none of a function in which a rule holds, and none of one that calls a function
 /// of the file. From any entry and with any answers of the outside a code runs as its function does. It has at most four
 /// instructions for each node of the text, and no temporary is kept where one statement ends and another begins. Each code
@@ -93,13 +111,6 @@ pub fn lower(alloc: Global, checked: &Checked) -> Result<Codes, Memory>
     ensures well_formed { IfOk result (λ c. AreWellFormed c) }
 {
     known(checked);
-    let functions = resolve_unit(alloc, checked)?;
-    let codes = lower_functions(alloc, functions.as_slice())?;
-    let list = definitions(alloc, checked.unit())?;
-    let names = names(alloc, list.as_slice())?;
-    Ok(Codes {
-        codes,
-        statics: checked.statics(),
-        names,
-    })
+    let codes = gather(alloc, checked)?;
+    Ok(codes)
 }
