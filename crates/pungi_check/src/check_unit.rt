@@ -108,7 +108,7 @@ fn tell(alloc: Global, names: &UnitNames<'_>, list: &[&FunctionDef]) -> Result<T
     Ok(Told {
         refused,
         refusals,
-        statics: statics(names)?,
+        statics,
     })
 }
 
