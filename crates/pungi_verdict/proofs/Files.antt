@@ -1,6 +1,6 @@
 -- The functions of a file, their codes, and the verdicts on them one after another.
-use Rattle.std.proofs.Common.{◌≡◌, ℕ, zero, suc, ◌+◌, ◌<◌, ◌≤◌, arith, true, List, [], ◌∷◌, ◌++◌, length, get_or, drop, map, option_map, slice_get, Option, Some, None, refl, sym, ap, ◌∙◌, subst, append_assoc, drop-cons}
-use Rattle.std.specs.Prelude.{is_some, if◌then◌else◌, MatchResult}
+use Rattle.std.proofs.Common.{◌≡◌, ℕ, zero, suc, ◌+◌, ◌<◌, ◌≤◌, arith, List, [], ◌∷◌, ◌++◌, length, get_or, drop, map, option_map, slice_get, Option, Some, None, refl, sym, ap, ◌∙◌, subst, append_assoc, drop-cons}
+use Rattle.std.specs.Prelude.{is_some, if◌then◌else◌}
 use Rattle.std.specs.List.{AllZip}
 use Rattle.std.proofs.lemmas.List.{append-nil, drop_all}
 use Rattle.std.proofs.lemmas.Option.{slice_get-map, slice_get-get_or, get_or_from_slice_get}
@@ -19,7 +19,7 @@ use Rattle.pungi_check.specs.CheckedFile.{CheckedFile, IsPassed, IsRefusal}
 use Rattle.pungi_code.specs.declared.code.Code.{Code}
 use Rattle.pungi_code.specs.declared.code.Codes.{Codes}
 use Rattle.pungi_code.specs.Run.{code_at, joined}
-use Rattle.pungi_code.specs.WellFormed.{IsWellFormed, AreWellFormed}
+use Rattle.pungi_code.specs.WellFormed.{AreWellFormed}
 use Rattle.pungi_lower.specs.Codes.{code_for}
 use Rattle.pungi_lower.specs.Lowered.{codes_of, IsLowered, AreLowered}
 use Rattle.pungi_explore.specs.Explored.{IsMany}
@@ -51,7 +51,7 @@ function-is c fs i d o same at is none =
 
 -- an element as a program reads it
 pub at-index : {A : Type 0} (xs : List A) (i : ℕ) (x : A) → i < length xs → x ≡ get_or xs i x → slice_get xs i ≡ Some x
-at-index xs i x lt is = slice_get-get_or xs i x lt ∙ ap (λ (y : A). Some y) (sym is)
+at-index {A = A} xs i x lt is = slice_get-get_or xs i x lt ∙ ap (λ (y : A). Some y) (sym is)
 
 mapped-long : {A B : Type 0} (g : A → B) (xs : List A) → length (map g xs) ≡ length xs
 mapped-long g [] = refl

@@ -1,6 +1,5 @@
 -- The fault of a run that isn't balanced.
-use Rattle.std.proofs.Common.{◌≡◌, ℕ, ◌*◌, ◌+◌, ◌≤◌, List, length, Option, refl, sym, ap, ◌∙◌, subst}
-use Rattle.pungi_base.specs.declared.choice.Choice.{Choice}
+use Rattle.std.proofs.Common.{◌≡◌, ℕ, List, length, Option, sym, ap, ◌∙◌, subst}
 use Rattle.pungi_base.specs.declared.fault.Fault.{Fault}
 use Rattle.pungi_base.specs.declared.pos.Pos.{Pos}
 use Rattle.pungi_base.specs.declared.value.Value.{Value}
@@ -8,7 +7,7 @@ use Rattle.pungi_base.specs.declared.witness.Witness.{Witness}
 use Rattle.pungi_types.specs.ResolvedStmts.{ResolvedFunction}
 use Rattle.pungi_world.specs.declared.world.World.{World}
 use Rattle.pungi_world.specs.Escapes.{IsBalanced}
-use Rattle.pungi_meaning.specs.Run.{End, Returned, Stopped, NeedsChoice, OutOfFuel, run_of}
+use Rattle.pungi_meaning.specs.Run.{Returned, Stopped, NeedsChoice, OutOfFuel, run_of}
 use Rattle.pungi_code.specs.declared.code.Code.{Code}
 use Rattle.pungi_verdict.specs.Replays.{IsUneven, IsWeighed}
 use Rattle.pungi_verdict.specs.Verdicts.{IsReturnOf}

@@ -1,14 +1,14 @@
-use Rattle.std.proofs.Common.{◌≡◌, refl, subst}
+use Rattle.std.proofs.Common.{refl, subst}
 use Rattle.pungi_resolved.specs.ActionView.{function_view}
 use Rattle.pungi_symbol.specs.Promises.{HasForm}
 use Rattle.pungi_explore.specs.declared.explored.Explored.{Explored}
 use Rattle.pungi_explore.specs.Explored.{IsExplored}
 use Rattle.pungi_verdict.proofs.Forms.{flat, formed}
-use Rattle.pungi_verdict.proofs.Transport.{clean, uneven-of, within-of, fault-of}
+use Rattle.pungi_verdict.proofs.Transport.{clean, uneven-of, within-of}
 use Rattle.pungi_verdict.proofs.judge.judge_code.Goals as goal
 
 pub explore-requires : goal.explore-requires
-explore-requires c = (c.args.code.now, record { is = c.requires.code; form = formed c.args.codes.now.statics c.args.code.now c.requires.given.object })
+explore-requires c = record { form = (c.args.code.now, record { is = c.requires.code; form = formed c.args.codes.now.statics c.args.code.now c.requires.given.object }) }
 
 pub returns-in-AllBalanced : goal.returns-in-AllBalanced
 returns-in-AllBalanced c =
@@ -30,13 +30,6 @@ replay-requires-clause-uneven c =
     let form : HasForm c.args.codes.now c.args.i c.args.code.now = record { is = c.requires.code; form = formed c.args.codes.now.statics c.args.code.now c.requires.given.object } in
     let shown = subst (λ (e : Explored). IsExplored c.args.codes.now c.args.i e) c.in-Fault.is c.in_ok-explored.ensures.shown in
     uneven-of c.args.codes.now.statics c.args.code.now c.in-Fault.witness (shown c.args.code.now form)
-
-pub returns-in-Fault : goal.returns-in-Fault
-returns-in-Fault c =
-    let form : HasForm c.args.codes.now c.args.i c.args.code.now = record { is = c.requires.code; form = formed c.args.codes.now.statics c.args.code.now c.requires.given.object } in
-    let shown = subst (λ (e : Explored). IsExplored c.args.codes.now c.args.i e) c.in-Fault.is c.in_ok-explored.ensures.shown in
-    fault-of c.args.codes.now.statics (function_view c.args.f.now) c.requires.given.nodes c.args.code.now c.in-Fault.witness c.in_ok-fault.fault c.requires.given.lowered (shown c.args.code.now form)
-    c.in_ok-fault.ensures.witness c.in_ok-fault.ensures.returns
 
 pub returns-in-TooMany : goal.returns-in-TooMany
 returns-in-TooMany c = (refl, subst (λ (e : Explored). IsExplored c.args.codes.now c.args.i e) c.in-TooMany.is c.in_ok-explored.ensures.shown)

@@ -1,7 +1,26 @@
-use Rattle.std.proofs.Common.{arith}
+use Rattle.std.proofs.Common.{◌≡◌, List, [], ◌∷◌, ◌++◌, length, length-append, ap, sym, subst, arith}
+use Rattle.std.specs.List.{AllZip}
+use Rattle.pungi_base.specs.declared.names.Name.{Name}
+use Rattle.pungi_base.specs.declared.verdict.Verdict.{Verdict}
 use Rattle.pungi_check.specs.CheckedView.{checked_view}
+use Rattle.pungi_types.specs.Files.{definitions}
+use Rattle.pungi_verdict.specs.Verdicts.{IsJudged}
 use Rattle.pungi_verdict.proofs.Files.{judged-all, judged-next}
 use Rattle.pungi_verdict.proofs.judge.verdicts.Goals as goal
+
+pub loop-i-preserved : goal.loop-i-preserved
+loop-i-preserved c =
+    let view = checked_view c.args.checked.now in
+    let line : Name × Verdict = (c.name.result, c.in_ok-verdict.verdict) in
+    let pushed : c.push.new.self.items ≡ c.loop-i.lines.items ++ line ∷ [] = c.in_ok-push.ensures.items in
+    let count = ap (λ (l : List (Name × Verdict)). length l) pushed in
+    let more_long = length-append c.loop-i.lines.items (line ∷ []) in
+    record {
+      judged = λ more rest.
+          subst (λ (l : List (Name × Verdict)). AllZip (IsJudged view) (definitions view.file) (l ++ more)) (sym pushed)
+          (judged-next view c.loop-i.i c.name.result c.in_ok-verdict.verdict c.loop-i.lines.items more (omega arith) c.name.ensures c.in_ok-verdict.ensures c.loop-i.invariant.judged rest);
+      counted = omega (arith, count, more_long, c.loop-i.invariant.counted);
+    }
 
 pub returns-clause-judged : goal.returns-clause-judged
 returns-clause-judged c = judged-all (checked_view c.args.checked.now) c.loop-i.i c.loop-i.lines.items (omega arith) c.loop-i.invariant.judged

@@ -1,7 +1,6 @@
-use Rattle.std.proofs.Common.{◌≡◌, ◌*◌, ◌+◌, length, sym, ap, ◌∙◌}
+use Rattle.std.proofs.Common.{sym, ap, ◌∙◌}
 use Rattle.pungi_resolved.specs.ActionView.{function_view}
-use Rattle.pungi_meaning.specs.Outcomes.{end_of, IsCounted}
-use Rattle.pungi_meaning.specs.Run.{Returned}
+use Rattle.pungi_meaning.specs.Outcomes.{end_of}
 use Rattle.pungi_verdict.proofs.Transport.{ends-so, run-so}
 use Rattle.pungi_verdict.proofs.Weighed.{off-too, not-stopped, not-wanting, not-out, told}
 use Rattle.pungi_verdict.proofs.replay.replay.Goals as goal
