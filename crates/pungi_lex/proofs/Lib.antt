@@ -1,3 +1,4 @@
+pub mod ClassLemmas
 pub mod CommentLemmas
 pub mod Exact
 pub mod FrameLemmas

@@ -1,7 +1,7 @@
 ghost use Rattle.std.specs.Prelude.{◌≡◌};
-ghost use Rattle.pungi_lex.specs.Start.{starts, Begins, is_mark as mark, is_token as token, is_after_include as after_include};
+ghost use Rattle.pungi_lex.specs.Start.{starts, Begins, is_token as token, is_after_include as after_include};
 
-use crate::bytes::{is_blank, is_digit, is_letter};
+use crate::bytes::{is_blank, is_digit, is_letter, is_mark};
 use crate::line::Line;
 
 /// What may begin at a place.
@@ -17,18 +17,6 @@ pub enum Start {
     Text,
     Mark,
     Nothing,
-}
-
-#[inline(always)]
-fn is_mark(b: u8) -> bool
-    ensures { result ≡ mark b }
-{
-    match b {
-        b'(' | b')' | b'[' | b']' | b'{' | b'}' | b';' | b',' | b'.' => true,
-        b'-' | b'+' | b'&' | b'*' | b'~' | b'!' | b'/' | b'%' => true,
-        b'<' | b'>' | b'=' | b'^' | b'|' | b'?' | b':' | b'#' => true,
-        _ => false,
-    }
 }
 
 /// Whether what begins so is a token: no blanks, and no comment.
