@@ -14,4 +14,5 @@ pub mod OneExpansion
 pub mod Progress
 pub mod RunLemmas
 pub mod SizedTokens
+pub mod StartLemmas
 pub mod StretchLemmas
