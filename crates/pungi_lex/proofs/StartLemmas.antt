@@ -2,7 +2,6 @@
 use Rattle.std.proofs.Common.{◌≡◌, ℕ, ◌<◌, Bool, true, false, ◌==◌, ◌&&◌, ◌||◌, not, cond, List, [], ◌∷◌, length, get_or, refl, arith}
 use Rattle.std.specs.Prelude.{codes}
 use Rattle.pungi_lex.specs.declared.line.Line.{Line}
-use Rattle.pungi_lex.specs.declared.start.Start.{Start}
 use Rattle.pungi_lex.specs.declared.start.Start.TheVariants as start
 use Rattle.pungi_lex.specs.Bytes.{is_one_of, is_blank, is_digit, is_letter, is_in_line, begins}
 use Rattle.pungi_lex.specs.Start.{is_mark, is_after_include, starts, starts_bare}
