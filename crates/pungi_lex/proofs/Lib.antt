@@ -1,3 +1,4 @@
+pub mod ClassLemmas
 pub mod CommentLemmas
 pub mod Exact
 pub mod FrameLemmas
@@ -13,4 +14,5 @@ pub mod OneExpansion
 pub mod Progress
 pub mod RunLemmas
 pub mod SizedTokens
+pub mod StartLemmas
 pub mod StretchLemmas

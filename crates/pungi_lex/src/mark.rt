@@ -1,43 +1,55 @@
-ghost use Rattle.std.specs.Prelude.{◌≡◌, ◌≤◌, ◌<◌, IfSome, MatchOption, [], ◌∷◌, take, length};
+ghost use Rattle.std.specs.Prelude.{◌≡◌, ◌≤◌, ◌<◌, Some, IfSome, IsTrue, MatchOption, [], ◌∷◌, take, length};
 ghost use Rattle.pungi_base.specs.Token.{punct_text as text_of_punct};
 ghost use Rattle.pungi_lex.specs.Mark.{mark_len};
+ghost use Rattle.pungi_lex.specs.Start.{is_mark as mark};
 ghost use Rattle.pungi_lex.specs.MarkTable.{mark_one as one, mark_two as two, mark_three as three, mark_at};
 
+use crate::bytes::{is_mark, is_second_of_mark};
 use pungi_base::Punct;
+
+/// The punctuator of one byte.
+#[inline(always)]
+fn punct_at(a: u8) -> Punct
+    requires { IsTrue (mark a) }
+    ensures mark { one a ≡ Some result }
+    ensures spelled { text_of_punct result ≡ a ∷ [] }
+{
+    match a {
+        b'(' => Punct::LeftParen,
+        b')' => Punct::RightParen,
+        b'[' => Punct::LeftBracket,
+        b']' => Punct::RightBracket,
+        b'{' => Punct::LeftBrace,
+        b'}' => Punct::RightBrace,
+        b';' => Punct::Semicolon,
+        b',' => Punct::Comma,
+        b'.' => Punct::Dot,
+        b'&' => Punct::And,
+        b'*' => Punct::Star,
+        b'+' => Punct::Plus,
+        b'-' => Punct::Minus,
+        b'~' => Punct::Tilde,
+        b'!' => Punct::Not,
+        b'/' => Punct::Slash,
+        b'%' => Punct::Percent,
+        b'<' => Punct::Less,
+        b'>' => Punct::Greater,
+        b'^' => Punct::Caret,
+        b'|' => Punct::Or,
+        b'?' => Punct::Question,
+        b':' => Punct::Colon,
+        b'=' => Punct::Assign,
+        b'#' => Punct::Hash,
+        _ => unreachable!(),
+    }
+}
 
 #[inline(always)]
 fn mark_one(a: u8) -> Option<Punct>
     ensures mark { result ≡ one a }
     ensures spelled { IfSome result (λ punct. text_of_punct punct ≡ a ∷ []) }
 {
-    match a {
-        b'(' => Some(Punct::LeftParen),
-        b')' => Some(Punct::RightParen),
-        b'[' => Some(Punct::LeftBracket),
-        b']' => Some(Punct::RightBracket),
-        b'{' => Some(Punct::LeftBrace),
-        b'}' => Some(Punct::RightBrace),
-        b';' => Some(Punct::Semicolon),
-        b',' => Some(Punct::Comma),
-        b'.' => Some(Punct::Dot),
-        b'&' => Some(Punct::And),
-        b'*' => Some(Punct::Star),
-        b'+' => Some(Punct::Plus),
-        b'-' => Some(Punct::Minus),
-        b'~' => Some(Punct::Tilde),
-        b'!' => Some(Punct::Not),
-        b'/' => Some(Punct::Slash),
-        b'%' => Some(Punct::Percent),
-        b'<' => Some(Punct::Less),
-        b'>' => Some(Punct::Greater),
-        b'^' => Some(Punct::Caret),
-        b'|' => Some(Punct::Or),
-        b'?' => Some(Punct::Question),
-        b':' => Some(Punct::Colon),
-        b'=' => Some(Punct::Assign),
-        b'#' => Some(Punct::Hash),
-        _ => None,
-    }
+    if is_mark(a) { Some(punct_at(a)) } else { None }
 }
 
 #[inline(always)]
@@ -45,6 +57,9 @@ fn mark_two(a: u8, b: u8) -> Option<Punct>
     ensures mark { result ≡ two a b }
     ensures spelled { IfSome result (λ punct. text_of_punct punct ≡ a ∷ b ∷ []) }
 {
+    if !is_second_of_mark(b) {
+        return None;
+    }
     match a {
         b'-' => match b {
             b'>' => Some(Punct::Arrow),
@@ -114,6 +129,9 @@ fn mark_three(a: u8, b: u8, c: u8) -> Option<Punct>
     ensures mark { result ≡ three a b c }
     ensures spelled { IfSome result (λ punct. text_of_punct punct ≡ a ∷ b ∷ c ∷ []) }
 {
+    if !is_second_of_mark(b) {
+        return None;
+    }
     if a == b'<' && b == b'<' && c == b'=' {
         Some(Punct::ShiftLeftAssign)
     } else if a == b'>' && b == b'>' && c == b'=' {

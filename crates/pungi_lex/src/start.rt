@@ -1,7 +1,7 @@
 ghost use Rattle.std.specs.Prelude.{◌≡◌};
-ghost use Rattle.pungi_lex.specs.Start.{starts, Begins, is_mark as mark, is_token as token, is_after_include as after_include};
+ghost use Rattle.pungi_lex.specs.Start.{starts, Begins, is_token as token, is_after_include as after_include};
 
-use crate::bytes::{is_blank, is_digit, is_letter};
+use crate::bytes::{is_blank, is_digit, is_letter, is_mark, is_plain_mark};
 use crate::line::Line;
 
 /// What may begin at a place.
@@ -17,18 +17,6 @@ pub enum Start {
     Text,
     Mark,
     Nothing,
-}
-
-#[inline(always)]
-fn is_mark(b: u8) -> bool
-    ensures { result ≡ mark b }
-{
-    match b {
-        b'(' | b')' | b'[' | b']' | b'{' | b'}' | b';' | b',' | b'.' => true,
-        b'-' | b'+' | b'&' | b'*' | b'~' | b'!' | b'/' | b'%' => true,
-        b'<' | b'>' | b'=' | b'^' | b'|' | b'?' | b':' | b'#' => true,
-        _ => false,
-    }
 }
 
 /// Whether what begins so is a token: no blanks, and no comment.
@@ -53,6 +41,7 @@ fn is_after_include(line: Line) -> bool
 }
 
 /// What begins at the front of a text, as far as the line has come.
+#[tactic(auto, using(crate::proofs::StartLemmas::plain_starts))]
 pub(crate) fn start_of(line: Line, text: &[u8]) -> Start
     ensures start { result ≡ starts line text.now }
     ensures begins { Begins result text.now }
@@ -66,6 +55,9 @@ pub(crate) fn start_of(line: Line, text: &[u8]) -> Start
     }
     if is_blank(b) {
         return Start::Blank;
+    }
+    if is_plain_mark(b) {
+        return Start::Mark;
     }
     if b == b'/' && text.len() > 1 && text[1] == b'/' {
         return Start::LineComment;
