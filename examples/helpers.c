@@ -51,6 +51,23 @@ nothing(PyObject *self, PyObject *args)
     Py_RETURN_NONE;
 }
 
+PyObject *
+append_one(PyObject *self, PyObject *list)
+{
+    if (PyList_Append(list, PyLong_FromLong(1)) < 0)
+        return NULL;
+    Py_RETURN_NONE;
+}
+
+static void
+keep_first(Cache *cache, PyObject *x)
+{
+    PyObject *old = cache->first;
+    Py_XINCREF(x);
+    cache->first = x;
+    Py_XDECREF(old);
+}
+
 static int
 cache_size(Cache *cache, PyObject *list)
 {
@@ -65,5 +82,6 @@ static PyMethodDef helpers_methods[] = {
     {"answer", answer, METH_NOARGS, NULL},
     {"number", number, METH_VARARGS, NULL},
     {"twice", twice, METH_O, NULL},
+    {"append_one", append_one, METH_O, NULL},
     {NULL, NULL, 0, NULL}
 };
