@@ -8,7 +8,9 @@ use std::alloc::Global;
 /// A status, and the text that goes with it.
 #[derive(Debug, Drop)]
 pub struct Answer {
+    /// One of the statuses of `status`.
     pub status: u8,
+    /// What is written, whole lines.
     pub text: Vec<u8>,
 }
 

@@ -1,10 +1,10 @@
 ghost use Rattle.std.specs.Prelude.{◌≡◌, ◌⊎◌, ◌≤◌, length, IfOk};
-ghost use Rattle.std.specs.List.{AllZip, list_any};
+ghost use Rattle.std.specs.List.{All, AllZip, list_any};
 ghost use Rattle.pungi_api.specs.Rows.{builtin_rows};
 ghost use Rattle.pungi_check.specs.CheckedView.{checked_view};
 ghost use Rattle.pungi_types.specs.Files.{definitions as functions_of};
 ghost use Rattle.pungi_types.specs.Refused.{IsRefusedSet};
-ghost use Rattle.pungi_verdict.specs.Verdicts.{IsJudged};
+ghost use Rattle.pungi_verdict.specs.Verdicts.{IsJudged, IsReportable};
 ghost use Rattle.pungi.specs.Examine.{IsReport, checked_file, is_faulty, is_open as is_open_of, status_of};
 ghost use Rattle.pungi.specs.Front.{IsRefusedAs};
 
@@ -67,8 +67,8 @@ fn judged(alloc: Global, checked: &Checked) -> Result<Vec<(Name, Verdict)>, Memo
     requires { (checked_view checked.now).rows ≡ builtin_rows }
     ensures least { IsRefusedSet (checked_view checked.now).file builtin_rows (checked_view checked.now).refused }
     ensures judged { IfOk result (λ lines. AllZip (IsJudged (checked_file (checked_view checked.now).file (checked_view checked.now).refused)) (functions_of (checked_view checked.now).file) lines.items) }
+    ensures reportable { IfOk result (λ lines. All (λ line. IsReportable line.1) lines.items) }
 {
-    checked.refusals();
     let lines = judge_all(alloc, checked)?;
     Ok(lines)
 }

@@ -16,8 +16,7 @@ pub struct FolderShelf<'a> {
 impl<'a> FolderShelf<'a> {
     /// A shelf that opened no file yet, and where no call failed.
     pub fn new(files: &'a HostRuntime) -> FolderShelf<'a>
-        ensures opened { result.opened ≡ None }
-        ensures faults { result.faults ≡ 0 }
+        ensures { ⟦<FolderShelf<'a> as Shelf>⟧.faults result ≡ 0 }
     {
         FolderShelf {
             files,

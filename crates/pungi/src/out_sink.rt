@@ -13,7 +13,7 @@ pub struct OutSink {
 impl OutSink {
     /// A sink where no call failed yet.
     pub fn new(out: Stdout) -> OutSink
-        ensures { result.faults ≡ 0 }
+        ensures { ⟦<OutSink as Sink>⟧.faults result ≡ 0 }
     {
         OutSink { out, faults: 0 }
     }

@@ -14,7 +14,9 @@ const PIECE: usize = 65536;
 /// What a file holds, or that it is over the limit.
 #[derive(Debug, Drop)]
 pub enum Reading {
+    /// All of its bytes.
     Text(Vec<u8>),
+    /// It has more than `FILE_LIMIT` bytes.
     Long,
 }
 

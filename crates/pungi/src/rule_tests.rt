@@ -36,6 +36,10 @@ const RULE_1: &[(&str, &str)] = &[
         "refused fh 9:24 N1\n",
     ),
     ("void fi(void v) { }\n", "refused fi 10:9 N1\n"),
+    (
+        "void fj(struct Box *p) { Py_INCREF(p); }\n",
+        "refused fj 11:9 N1\n",
+    ),
 ];
 
 /// Operators.
@@ -254,6 +258,14 @@ const RULE_9: &[(&str, &str)] = &[
     ),
     ("int fh(int n) { return fa(n); }\n", "refused fh 9:24 N9\n"),
     ("int fi(int n) { return fc(); }\n", "refused fi 10:5 N0\n"),
+    (
+        "PyObject *fj(void) { return u ? 1 : 2; }\n",
+        "refused fj 11:29 N9\n",
+    ),
+    (
+        "int fk(void) { return (void)u; }\n",
+        "refused fk 12:29 N9\n",
+    ),
 ];
 
 /// Kinds of operands, arguments and values.
@@ -273,7 +285,7 @@ const RULE_10: &[(&str, &str)] = &[
     ),
     (
         "int fe(PyObject *x) { return Py_INCREF(x); }\n",
-        "refused fe 6:23 N10\n",
+        "refused fe 6:30 N10\n",
     ),
     (
         "int fk(PyObject *x) { return Py_INCREF(x) & 1; }\n",
@@ -295,6 +307,30 @@ const RULE_10: &[(&str, &str)] = &[
     (
         "PyObject *fj(PyObject *x) { return PyList_New(x); }\n",
         "refused fj 12:36 N10\n",
+    ),
+    (
+        "int fl(PyObject *x) { if (Py_INCREF(x)) return 1; return 0; }\n",
+        "refused fl 13:27 N10\n",
+    ),
+    (
+        "PyObject *fm(PyObject *x) { return Py_NewRef(Py_INCREF(x)); }\n",
+        "refused fm 14:46 N10\n",
+    ),
+    (
+        "int fo(PyObject *x) { return (void)x; }\n",
+        "refused fo 15:23 N10\n",
+    ),
+    (
+        "void fp(PyObject *x) { return Py_INCREF(x); }\n",
+        "refused fp 16:24 N10\n",
+    ),
+    (
+        "int fq(PyObject *x) { int n = Py_INCREF(x); return n; }\n",
+        "refused fq 17:31 N10\n",
+    ),
+    (
+        "int fr(PyObject *x) { int n; n = (Py_INCREF(x)); return n; }\n",
+        "refused fr 18:35 N10\n",
     ),
 ];
 

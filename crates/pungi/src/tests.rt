@@ -1,7 +1,7 @@
 use crate::folder_shelf::FolderShelf;
 use crate::out_sink::OutSink;
 use crate::pungi;
-use crate::test_modules::{HELPERS, PAIR, POOL};
+use crate::test_modules::{PAIR, POOL};
 use pungi_base::{Failed, MemShelf, MemSink, Memory, OpenFault, Shelf, Sink, SureShelf, SureSink};
 use std::alloc::Global;
 use std::fs;
@@ -40,13 +40,9 @@ fn told(alloc: Global, text: &[u8]) -> Result<(u8, Vec<u8>), Memory> {
     Ok((status, Vec::from_slice(alloc, out.bytes())?))
 }
 
-/// The same of `NUMBER`, where the shelf fails at a call, or the sink, which takes four bytes at a time.
-fn failing(alloc: Global, read: u64, write: u64) -> Result<(u8, Vec<u8>), Memory> {
-    let mut shelf = MemShelf::new(
-        alloc,
-        named(alloc, NUMBER.as_bytes())?,
-        vec![in alloc; read]?,
-    );
+/// The same, where the shelf fails at a call, or the sink, which takes four bytes at a time.
+fn failing(alloc: Global, text: &str, read: u64, write: u64) -> Result<(u8, Vec<u8>), Memory> {
+    let mut shelf = MemShelf::new(alloc, named(alloc, text.as_bytes())?, vec![in alloc; read]?);
     let mut out = MemSink::new(alloc, 64, 4, vec![in alloc; write]?)?;
     let status = pungi(
         alloc,
@@ -146,11 +142,6 @@ fn reports(rt: HostRuntime) -> Result<(), Fail> {
             "refused Pair_first 13:1 N0\nrefused Pair_put 25:10 N9\nclean Pair_twice\nrefused Pair_new 47:12 N3\nclean PyInit_pair\n",
         ),
         (
-            HELPERS,
-            1,
-            "clean same\nclean answer\nclean number\nfaulty twice 45:5 object K change 2 escaped 1\nclean nothing\nrefused cache_size 57:26 N9\n",
-        ),
-        (
             POOL,
             1,
             "clean hold\nfaulty release 26:1 object K change -1 escaped 0\nrefused pool_size 29:30 N1\n",
@@ -203,7 +194,9 @@ fn refusals(rt: HostRuntime) -> Result<(), Fail> {
 #[test]
 fn limit_of_the_file(rt: HostRuntime) -> Result<(), Fail> {
     let mut text = vec![in rt.alloc(); b' '; 1048576]?;
-    assert_eq!(rt; told(rt.alloc(), &text)?.0, 0);
+    let (status, report) = told(rt.alloc(), &text)?;
+    assert_eq!(rt; status, 0);
+    assert!(rt; report.is_empty());
     text.push(b' ')?;
     let (status, line) = told(rt.alloc(), &text)?;
     assert_eq!(rt; status, 6);
@@ -227,14 +220,23 @@ fn failing_calls(rt: HostRuntime) -> Result<(), Fail> {
         (0, 3, 0, b"clean f\n"),
     ];
     for (read, write, status, text) in rows {
-        let (found, bytes) = failing(rt.alloc(), read, write)?;
+        let (found, bytes) = failing(rt.alloc(), NUMBER, read, write)?;
         assert_eq!(rt; found, status, "at {read} and {write}");
         assert_eq!(rt; bytes.as_slice(), text, "at {read} and {write}");
     }
     Ok(())
 }
 
-/// Words other than one file give the usage line, and no file is opened.
+/// A report without a line is not written.
+#[test]
+fn empty_report(rt: HostRuntime) -> Result<(), Fail> {
+    let (status, bytes) = failing(rt.alloc(), "int a;", 0, 1)?;
+    assert_eq!(rt; status, 0);
+    assert!(rt; bytes.is_empty());
+    Ok(())
+}
+
+/// Words other than one file give the usage line.
 #[test]
 fn refused_words(rt: HostRuntime) -> Result<(), Fail> {
     let alloc = rt.alloc();

@@ -49,8 +49,8 @@ fn decide<F: Shelf>(alloc: Global, words: &[String], shelf: &mut F) -> Result<An
 ///
 /// The claim: where the report calls a function clean, then in every run of the subset's meaning on the file's own
 /// text, for any arguments, API results and failures, every object's count has at each return changed by exactly the
-/// references that escaped. Where it calls one faulty, the printed run is a run of that meaning that returns with some
-/// object's change different.
+/// references that escaped. Where it calls one faulty, the printed run is a run of that meaning that returns, and the
+/// printed object is the lowest whose change there differs from its escapes.
 pub fn pungi<F: Shelf, O: Sink>(alloc: Global, words: &[String], shelf: &mut F, out: &mut O) -> u8
     // The status has its cause, and the text that goes with it was written whole.
     ensures answer { result ≢ ANSWER_CUT → result ≢ MEMORY_WANTED → (text : List ℕ)
@@ -63,8 +63,8 @@ pub fn pungi<F: Shelf, O: Sink>(alloc: Global, words: &[String], shelf: &mut F, 
         × Answers (map string_bytes words.now) (F.texts shelf.old) (Rose (F.faults shelf.old) (F.faults shelf.new)) status (front ++ rest)
         × Takes (O.taken out.old) (O.taken out.new) front) }
 
-    // For want of memory nothing was written.
-    ensures memory { result ≡ MEMORY_WANTED → O.taken out.new ≡ O.taken out.old }
+    // For want of memory nothing was written, and no write was tried that failed.
+    ensures memory { result ≡ MEMORY_WANTED → (O.taken out.new ≡ O.taken out.old) × (O.faults out.new ≡ O.faults out.old) }
 
     // The shelf was asked for no file but the one that the words name.
     ensures asked { IsAsked (map string_bytes words.now) result (F.given shelf.old) (F.given shelf.new) }

@@ -1,7 +1,7 @@
 -- The form in which a span is kept: the reduced row echelon form with one common scale in place of ones at the pivots, and
 -- no common divisor of the scale and all entries.
 --   Line                a row with its pivot
---   line ls k           a line of a list
+--   no_line, line ls k  the line past the end of a list; a line of it
 --   vectors ls          their entries
 --   fill v ls i         what the rows make of v's entries at the pivots
 --   IsForm w d ls       each row is d at its own pivot, and 0 at the others and before its own

@@ -3,7 +3,8 @@
 --   AreLong xs          each number of the list is
 --   IsPart xs q part    xs is a multiple of part, whose entries have no common divisor, and whose entry at q is above 0
 --   IsPartOf xs o       o is such a row, with its first entry other than 0 at its pivot, and none exactly where xs is 0
---   wide_lines rs       rows as lines
+--   IsPivotPart xs q part   part is such a row, with its first entry other than 0 at q
+--   wide_line r, wide_lines rs    rows as lines
 use Rattle.std.specs.Prelude.{◌≡◌, ℕ, ◌<◌, ◌^◌, ℤ, pos, neg_ℤ, ◌*ℤ◌, ◌<ℤ◌, List, length, map, Option, None, Some}
 use Rattle.pungi_domain.specs.Vectors.{at}
 use Rattle.pungi_domain.specs.Spans.{Divides}

@@ -2,6 +2,7 @@
 --   IsQuotientLine g l m      the g-fold of each entry of m is that of l, at the same pivot
 --   AreQuotients g ls ms      the rows of ms are so those of ls
 --   IsWideForm w d ls         the rows are a reduced form in the order of their pivots, with numbers below 2^127
+--   HasLargeAt ls k           a row has an entry over 2^31 in absolute value
 --   IsLeastForm w ls d ms     ms are such a form of the span of ls, with as many rows, and with the least scale
 --   HasLarge rs o             o is the place of a row with an entry over 2^31 in absolute value; none where there is none
 use Rattle.std.specs.Prelude.{◌≡◌, ℕ, ◌<◌, ◌≤◌, ℤ, ◌*ℤ◌, List, length, Option, None, Some}

@@ -17,6 +17,3 @@ mod sum;
 mod unit;
 
 pub use span::Span;
-
-#[cfg(test)]
-mod tests;

@@ -18,6 +18,3 @@ pub use shape::Shape;
 pub use special::Special;
 pub use table::Table;
 pub use take::Take;
-
-#[cfg(test)]
-mod tests;

@@ -1,6 +1,6 @@
 -- A shelf in memory, as its callers see it.
 --   text_named texts name     the text of a name among pairs of names and texts
---   pairs_of texts            such pairs, as contracts read them
+--   pair_of t, pairs_of texts such pairs, as contracts read them
 --   left_at texts i from      what is left of the text at a place, and nothing past the last text
 --   ShelfState                its texts, the calls that fail, how many calls and faults came, the names given, and what is left to read
 --   open_fails s name         an open fails at its call, or where the name isn't there

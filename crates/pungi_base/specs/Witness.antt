@@ -1,4 +1,5 @@
 -- The lines that print a witness: its entry, and each choice that was used with its place.
+--   line_end                 the byte that ends a line
 --   place_text at            line and column
 --   value_text, choice_text  a value, a choice
 --   argument_line x          the line of an argument

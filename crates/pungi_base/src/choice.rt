@@ -7,8 +7,11 @@ use std::fmt;
 /// touch.
 #[derive(Clone, Copy, Debug, PartialEq, Eq)]
 pub enum Choice {
+    /// The pointer `NULL`.
     Null,
+    /// A pointer to the object of this number.
     Object(u32),
+    /// An integer.
     Int(i64),
     /// A pointer to characters that isn't `NULL`.
     Text,

@@ -5,7 +5,7 @@ use crate::{Pos, Seq, Witness};
 pub struct Fault {
     /// The place of the return.
     pub pos: Pos,
-    /// The number of an object whose change differs from its escapes.
+    /// The number of the lowest object whose change differs from its escapes.
     pub object: u32,
     /// By how much its reference count changed in the run.
     pub change: i64,

@@ -72,6 +72,7 @@ pub(crate) fn copy_front(rest: &[u8], buf: &mut [u8]) -> usize
 }
 
 impl MemShelf {
+    /// A shelf with these texts by their names, of which the calls with these numbers fail, counted from 1.
     pub fn new(alloc: Global, texts: Vec<(String, Vec<u8>)>, failing: Vec<u64>) -> MemShelf
         ensures { result ≡ record { texts = pairs_of texts.items; failing = failing.items; calls = 0; faults = 0; given = []; rest = [] } }
     {

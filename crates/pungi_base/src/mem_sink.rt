@@ -30,6 +30,8 @@ impl Model for MemSink {
 }
 
 impl MemSink {
+    /// A sink that takes so many bytes in all, and at most `step` of them at a call. The calls with these numbers fail,
+    /// counted from 1.
     pub fn new(
         alloc: Global,
         room: usize,

@@ -18,12 +18,14 @@ impl<T> Model for Seq<T> {
 }
 
 impl<T> Seq<T> {
+    /// The list of these values, whose memory it takes.
     pub fn new(items: Vec<T>) -> Self
         ensures { result ≡ items.items }
     {
         Seq { items }
     }
 
+    /// Its values, with their memory.
     pub fn into_items(self) -> Vec<T>
         ensures { result.items ≡ self }
     {
@@ -31,18 +33,21 @@ impl<T> Seq<T> {
         items
     }
 
+    /// Its values, lent.
     pub fn as_slice(&self) -> &[T]
         ensures { result.now ≡ self.now }
     {
         self.items.as_slice()
     }
 
+    /// How many values there are.
     pub fn len(&self) -> usize
         ensures { result ≡ length self.now }
     {
         self.items.len()
     }
 
+    /// Whether there is none.
     pub fn is_empty(&self) -> bool
         ensures { result ≡ (length self.now == 0) }
     {

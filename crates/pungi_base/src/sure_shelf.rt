@@ -29,6 +29,7 @@ impl Model for SureShelf {
 }
 
 impl SureShelf {
+    /// A shelf with these texts by their names.
     pub fn new(alloc: Global, texts: Vec<(String, Vec<u8>)>) -> SureShelf
         ensures { result ≡ record { texts = pairs_of texts.items; given = []; rest = [] } }
     {

@@ -27,6 +27,7 @@ impl Model for SureSink {
 }
 
 impl SureSink {
+    /// A sink that keeps so many bytes.
     pub fn new(alloc: Global, room: usize) -> Result<SureSink, Memory>
         ensures { IfOk result (λ sink. sink ≡ record { room = room; bytes = []; more = false }) }
     {

@@ -6,8 +6,11 @@ use std::fmt;
 /// What a variable or an argument holds. Objects go by their numbers.
 #[derive(Clone, Copy, Debug, PartialEq, Eq)]
 pub enum Value {
+    /// The pointer `NULL`.
     Null,
+    /// A pointer to the object of this number.
     Object(u32),
+    /// An integer.
     Int(i64),
     /// A pointer to characters that isn't `NULL`.
     Text,

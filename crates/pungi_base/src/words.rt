@@ -29,88 +29,130 @@ pub const SPECIAL_ROWS: u32 = 15;
 /// The first name that a source may give to what it defines: all before are keywords, macros, types, statics and rows.
 pub const FIRST_FREE: u32 = 182;
 
+/// The number of `Py_RETURN_NONE`.
 pub const PY_RETURN_NONE: u32 = 34;
 
+/// The number of `Py_RETURN_TRUE`.
 pub const PY_RETURN_TRUE: u32 = 35;
 
+/// The number of `Py_RETURN_FALSE`.
 pub const PY_RETURN_FALSE: u32 = 36;
 
+/// The number of `Py_BEGIN_ALLOW_THREADS`.
 pub const PY_BEGIN_ALLOW_THREADS: u32 = 37;
 
+/// The number of `Py_END_ALLOW_THREADS`.
 pub const PY_END_ALLOW_THREADS: u32 = 38;
 
+/// The number of `PyMODINIT_FUNC`.
 pub const PY_MODINIT_FUNC: u32 = 39;
 
+/// The number of `PyObject_HEAD`.
 pub const PY_OBJECT_HEAD: u32 = 40;
 
+/// The number of `PyObject_VAR_HEAD`.
 pub const PY_OBJECT_VAR_HEAD: u32 = 41;
 
+/// The number of `Py_LT`.
 pub const PY_LT: u32 = 42;
 
+/// The number of `Py_LE`.
 pub const PY_LE: u32 = 43;
 
+/// The number of `Py_EQ`.
 pub const PY_EQ: u32 = 44;
 
+/// The number of `Py_NE`.
 pub const PY_NE: u32 = 45;
 
+/// The number of `Py_GT`.
 pub const PY_GT: u32 = 46;
 
+/// The number of `Py_GE`.
 pub const PY_GE: u32 = 47;
 
+/// The number of `PyObject`.
 pub const PY_OBJECT: u32 = 48;
 
+/// The number of `PyVarObject`.
 pub const PY_VAR_OBJECT: u32 = 49;
 
+/// The number of `PyTypeObject`.
 pub const PY_TYPE_OBJECT: u32 = 50;
 
+/// The number of `Py_ssize_t`.
 pub const PY_SSIZE_T: u32 = 62;
 
+/// The number of `Py_None`.
 pub const PY_NONE: u32 = 79;
 
+/// The number of `Py_True`.
 pub const PY_TRUE: u32 = 80;
 
+/// The number of `Py_False`.
 pub const PY_FALSE: u32 = 81;
 
+/// The number of `PyLong_FromLong`.
 pub const PY_LONG_FROM_LONG: u32 = 103;
 
+/// The number of `Py_INCREF`.
 pub const PY_INCREF: u32 = 167;
 
+/// The number of `Py_DECREF`.
 pub const PY_DECREF: u32 = 168;
 
+/// The number of `Py_XINCREF`.
 pub const PY_XINCREF: u32 = 169;
 
+/// The number of `Py_XDECREF`.
 pub const PY_XDECREF: u32 = 170;
 
+/// The number of `Py_CLEAR`.
 pub const PY_CLEAR: u32 = 171;
 
+/// The number of `Py_NewRef`.
 pub const PY_NEW_REF: u32 = 172;
 
+/// The number of `Py_XNewRef`.
 pub const PY_XNEW_REF: u32 = 173;
 
+/// The number of `PyObject_New`.
 pub const PY_OBJECT_NEW: u32 = 174;
 
+/// The number of `PyTuple_Pack`.
 pub const PY_TUPLE_PACK: u32 = 175;
 
+/// The number of `PyObject_CallFunctionObjArgs`.
 pub const PY_OBJECT_CALL_FUNCTION_OBJ_ARGS: u32 = 176;
 
+/// The number of `PyErr_Format`.
 pub const PY_ERR_FORMAT: u32 = 177;
 
+/// The number of `PyArg_ParseTuple`.
 pub const PY_ARG_PARSE_TUPLE: u32 = 178;
 
+/// The number of `PyArg_UnpackTuple`.
 pub const PY_ARG_UNPACK_TUPLE: u32 = 179;
 
+/// The number of `PyDict_Next`.
 pub const PY_DICT_NEXT: u32 = 180;
 
+/// The number of `Py_BuildValue`.
 pub const PY_BUILD_VALUE: u32 = 181;
 
+/// The number of `ob_base`.
 pub const OB_BASE: u32 = 182;
 
+/// The number of `PyDoc_STRVAR`.
 pub const PY_DOC_STRVAR: u32 = 183;
 
+/// The number of `Py_UNUSED`.
 pub const PY_UNUSED: u32 = 184;
 
+/// The number of `include`.
 pub const INCLUDE: u32 = 185;
 
+/// The number of `define`.
 pub const DEFINE: u32 = 186;
 
 /// Each word that has a name here stands at its place in the list of words.

@@ -39,8 +39,3 @@ told-set file rows listed fs find marks keys same new numbers made least kept =
     let is : keys ≡ refused_names (definitions file) marks =
     kept ∙ ap (λ (ds : List Definition). gathered [] ds marks) same ∙ refused-gathered (definitions file) marks new in
     subst (λ (ws : List ℕ). IsRefusedSet file rows ws) (sym is) (least file rows (call-graph file rows fs new graph))
-
--- what is told of the functions of a list is told of those of the file
-pub told-all : (file : List Item) (rows : List (ℕ × Row)) (listed : List Definition) (keys : List ℕ) (all : List (Option Finding)) → listed ≡ definitions file
-    → all ≡ map (refusal file rows keys) listed → all ≡ map (refusal file rows keys) (definitions file)
-told-all file rows listed keys all same is = is ∙ ap (λ (ds : List Definition). map (refusal file rows keys) ds) same

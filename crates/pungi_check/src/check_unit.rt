@@ -158,7 +158,8 @@ fn look(alloc: Global, unit: &Unit, rows: &Table) -> Result<Told, UnitFault>
     look_at(alloc, &names, unit)
 }
 
-/// Looks at each function of a unit.
+/// A unit that is accepted, with what is told of each of its functions and the texts of its names. One with a fault is refused:
+/// the first in its text is told. `Memory` where memory ran out.
 pub fn check(alloc: Global, names: &Names, unit: Unit, rows: Table) -> Result<Checked, UnitFault>
     ensures checked { IfOk result (λ c. IsAccepted (unit_view unit) rows (checked_view c)) }
     ensures texts { IfOk result (λ c. texts_of c ≡ names.now) }

@@ -3,7 +3,7 @@
 --   exec choices code fuel pc m      a run of at most so many instructions from a place of the code on
 --   start code entry                 what is held where the run of a code begins
 --   label_of h                       the label of a loop's head
---   code_at codes f                  the code of a function, by the function's number
+--   joined o, code_at codes f        the code of a function, by the function's number; none where it has none
 --   run_of_code code entry choices fuel    the run of a code from an entry; of no code there is none
 use Rattle.std.specs.Prelude.{ℕ, zero, suc, ◌-◌, List, [], ◌++◌, length, map, replicate, slice_get, Option, Some, None}
 use Rattle.pungi_base.specs.declared.choice.Choice.{Choice}

@@ -1,20 +1,24 @@
 -- Codes whose instructions name what is there, and of the kind that they need.
---   var_kind vars x                 what a variable holds
+--   is_var vars x, var_kind vars x  a variable is there; what it holds
 --   is_integer, is_object, is_text k    kinds of numbers, objects and texts
 --   is_wide a b                     each value of the first kind is one of the second
+--   number_fits k n                 a number is one of this kind
 --   atom_is vars k a                an atom is a value of this kind
 --   is_number, is_condition vars a  an atom is a number; it is a number or a pointer
 --   are_alike vars a b              two atoms may be compared for being equal
 --   is_order c                      a comparison that only numbers have
 --   counts_in k x                   a variable of a parameter's kind counts in a kind of integers
---   is_place vars place             a place is a slot of a kind, of an object
+--   is_slot_kind k, place_kind place    a slot may be of this kind; the kind of a place
+--   is_place vars place k           a place is a slot of this kind, of an object
 --   is_argument vars p a, are_arguments    an atom may be passed for a parameter
 --   form_params, wanted_params row  what a call of a row takes
 --   answer_param a, form_answer, row_answer row    what it answers
 --   is_answer vars row x, is_output the variable that an answer goes to, where there is one, may hold it; one that a call writes is there
+--   is_label code l                 a label is a place of the code
 --   is_sound code i                 an instruction names variables, labels and kinds that are there
 --   leads_on i                      the instruction behind this one may come next
 --   targets i                       the labels that an instruction names
+--   is_head heads l                 a label is a loop's head
 --   goes_back heads place i         each label that leads back is a loop's head
 --   IsWellFormed code               so are all instructions of a code, and the sizes are within the limits
 --   place_of i                      what an instruction reads or writes beside variables
@@ -97,7 +101,7 @@ are_alike vars a b =
 
 abbrev pub is_order : Cmp → Bool
 is_order cmps.Equal = false
-is_order cmps.Other = false
+is_order cmps.NotEqual = false
 is_order c = true
 
 abbrev pub counts_in : ValueKind → Param → Bool

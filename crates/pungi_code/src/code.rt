@@ -9,8 +9,8 @@ pub struct Line {
     pub instr: Instr,
 }
 
-/// A loop's head: the label of its test, or the target of a backward jump; and the place in the text of the first loop
-/// whose test it is or whose turns jump back to it, or else of the label.
+/// A loop's head: the label of its test, or the target of a backward jump; and a place in the text that it is told by, that of
+/// a loop or of a label in front of a statement.
 #[derive(Clone, Copy, Debug, PartialEq, Eq)]
 pub struct Head {
     pub label: Label,
@@ -33,9 +33,10 @@ pub struct Code {
 /// The codes of a file's functions.
 #[derive(Debug, Drop)]
 pub struct Codes {
-    /// No code for a function that is not judged.
+    /// No code for a function that is refused or calls one of the file.
     pub codes: Seq<Option<Code>>,
     /// How many static objects the file has, with the built-in ones.
     pub statics: u32,
+    /// The names of the functions, in the order of the file.
     pub names: Seq<Name>,
 }

@@ -19,6 +19,3 @@ pub use execution::code_run;
 pub use heads::loop_heads;
 pub use instr::{Instr, Label};
 pub use place::Place;
-
-#[cfg(test)]
-mod tests;

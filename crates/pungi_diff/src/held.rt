@@ -47,6 +47,7 @@ impl Held {
         })
     }
 
+    /// The constraints, lent.
     pub fn as_slice(&self) -> &[Constraint]
         ensures { result.now ≡ self.now.list }
     {

@@ -12,6 +12,3 @@ mod search;
 pub use bounds::Bounds;
 pub use constraint::Constraint;
 pub use cycle::Cycle;
-
-#[cfg(test)]
-mod tests;

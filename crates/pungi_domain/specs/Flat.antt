@@ -6,8 +6,9 @@
 --   value_at cs         the vector with leading coordinate 1 that has the known constants, and 0 elsewhere
 --   IsConstant o l x    where a constant is known, x is that multiple of l
 --   MeetsConstants w cs v  each coordinate of v whose constant is known is that multiple of the leading one
+--   MeetsAll w o v      v is the vector 0 where only it is described, else it meets the constants
 --   FlatMember s v      v is described by s
---   flat_rank s         0 where only the vector 0 is described, else one more than how many coordinates have no constant
+--   rank_of o, flat_rank s   0 where only the vector 0 is described, else one more than how many coordinates have no constant
 --   IsSmall o           the constant, if one is known, lies within 2^31
 --   IsFlat w o          these are constants of w coordinates, if any vector but 0 is described
 --   AreConstants w cs   there are w coordinates, at most 256; each constant lies within 2^31, and the leading coordinate is

@@ -17,7 +17,8 @@
 --   LargeSums w S vs r  adding these vectors one after the other is large: one of the additions is
 --   LargeGrow w S T r   adding the scaled rows of T to S is
 --   LargeMap w rows S r adding the images of the scaled rows of S to the span of no vectors is; w is the width of S
---   LargeFree w c S r   adding the vector that is 1 at c and 0 elsewhere is
+--   unit c              the vector that is 1 at c and 0 elsewhere
+--   LargeFree w c S r   adding that vector is
 --   LargeMeet w e S r   the span of those vectors of S that meet e is
 --   Never r             nothing is
 use Rattle.std.specs.Prelude.{◌≡◌, ◌⊎◌, ℕ, ◌<◌, ◌^◌, ◌==◌, ℤ, pos, neg_ℤ, ◌+ℤ◌, ◌*ℤ◌, ◌≤ℤ◌, ◌<ℤ◌, List, [], ◌∷◌, length, map, cond}

@@ -7,7 +7,7 @@
 --   IsEquation w e      e has w coefficients, and those behind the first lie within 2^20
 --   row_sum row v       the factors times the coordinates that a row of a matrix names, summed up
 --   image rows v        the vector with one such sum a row
---   IsMatrix w rows     each row names coordinates below w, each once
+--   IsMatrixRow w row, IsMatrix w rows    each row names coordinates below w, each once
 --   Image rows S        the images of the vectors of S
 --   Freed c S           the vectors that differ from one of S at coordinate c alone
 --   Meeting e S         the vectors of S that meet e

@@ -22,6 +22,3 @@ pub use equation::Equation;
 pub use flat::Flat;
 pub use matrix::Matrix;
 pub use target::Target;
-
-#[cfg(test)]
-mod tests;

@@ -6,7 +6,7 @@
 --   AreBalanced statics code      each run that returns is balanced
 --   IsFaultRun statics code w     this run returns unbalanced
 --   IsUnbalanced statics code     some run returns unbalanced
---   IsMany codes f                the code of a function has more traces than are looked at
+--   IsFew, IsMany codes f         the code of a function has at most as many traces as are looked at; it has more
 --   IsExplored codes f e          what was found is so
 --   FindsFault codes f e          it is a fault where there is one and the traces are few
 use Rattle.std.specs.Prelude.{◌≡◌, ℕ, ◌+◌, ◌<◌, ◌≤◌, true, List, [], ◌∷◌, length, Option}
@@ -67,6 +67,9 @@ pub record IsUnbalanced (statics : ℕ) (code : Code) : Type 0 where
   pub value : Option Value
   pub returns : Returns statics code entry choices world value
   pub differs : IsBalanced world value → ⊥
+
+abbrev pub IsFew : Codes → ℕ → Type 0
+IsFew codes f = (code : Code) → HasForm codes f code → HasFew codes f code
 
 abbrev pub IsMany : Codes → ℕ → Type 0
 IsMany codes f = (code : Code) → HasForm codes f code → HasMany codes f code

@@ -7,6 +7,6 @@ pub enum Explored {
     AllBalanced,
     /// This run returns unbalanced.
     Fault(Witness),
-    /// There are more than 16,384 traces, and none of those looked at is unbalanced.
+    /// There are more than 16,384 traces.
     TooMany,
 }

@@ -8,8 +8,3 @@ mod visited;
 
 pub use explored::Explored;
 pub use search::explore;
-
-#[cfg(test)]
-mod test_codes;
-#[cfg(test)]
-mod tests;

@@ -1,9 +1,8 @@
 // All states of a function, one path at a time.
 ghost use Rattle.std.specs.Prelude.{◌≡◌, map, IfOk};
-ghost use Rattle.pungi_code.specs.declared.code.Code.{Code};
 ghost use Rattle.pungi_code.specs.Run.{code_at};
 ghost use Rattle.pungi_symbol.specs.Runs.{starts};
-ghost use Rattle.pungi_symbol.specs.Promises.{HasForm, Covers};
+ghost use Rattle.pungi_symbol.specs.Promises.{Covers};
 ghost use Rattle.pungi_explore.specs.Explored.{IsExplored, FindsFault};
 
 use crate::explored::Explored;
@@ -14,7 +13,7 @@ use pungi_code::Codes;
 use pungi_symbol::{Sym, start};
 use std::alloc::Global;
 
-/// How many traces of a function are looked at.
+/// How many traces of a function are looked at, at most.
 const MOST_TRACES: usize = 16_384;
 
 /// The state at the start of a function.
@@ -28,7 +27,7 @@ fn first(alloc: Global, codes: &Codes, f: usize) -> Result<Seq<Sym>, Memory>
 }
 
 /// What all states show. The states whose paths are still to be walked are pending, and the last of them is walked first.
-pub(crate) fn search(alloc: Global, codes: &Codes, f: usize) -> Result<Explored, Memory>
+fn search(alloc: Global, codes: &Codes, f: usize) -> Result<Explored, Memory>
     ensures { IfOk result (IsExplored codes.now f) }
 {
     let mut pending = first(alloc, codes, f)?;
@@ -51,10 +50,13 @@ pub(crate) fn search(alloc: Global, codes: &Codes, f: usize) -> Result<Explored,
     Err(Memory)
 }
 
-/// Whether each run of a function returns balanced, or a run that doesn't. A fault is found wherever there is one, if the
-/// function has few traces.
+/// What the runs of a function show whose code has the object form: that each run that returns is balanced, or one that
+/// isn't (Li and Tan, ECOOP 2014, for when a return is balanced). A run that isn't balanced is found wherever there is one,
+/// if the function has at most 16,384 traces. `TooMany` comes only where it has more. Of a function whose
+/// code hasn't the form nothing is told by any answer.
+///
+/// `Memory` is want of memory. A walk of 2^64 - 1 states is told as it, too, and so is a count that leaves its integers.
 pub fn explore(alloc: Global, codes: &Codes, f: usize) -> Result<Explored, Memory>
-    requires form { (code : Code) × HasForm codes.now f code }
     ensures shown { IfOk result (IsExplored codes.now f) }
     ensures found { IfOk result (FindsFault codes.now f) }
 {

@@ -13,6 +13,3 @@ pub use in_format::{InFormat, parse_units};
 pub use in_unit::InUnit;
 pub use out_format::build_units;
 pub use out_unit::OutUnit;
-
-#[cfg(test)]
-mod tests;

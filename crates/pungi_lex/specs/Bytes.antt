@@ -1,7 +1,7 @@
 -- Bytes by what they may stand for (C11 5.2.1), and tests on the front of a text.
 --   is_one_of bytes b       b is one of these bytes
 --   is_from_to ends b       b is from the first to the last of two bytes
---   is_blank .. is_in_line  what one byte may stand for
+--   is_blank, is_digit, is_octal_digit, is_hex_digit, is_letter, is_word_byte, is_in_line  what one byte may stand for
 --   begins test text        a byte that passes the test comes next
 --   begins_with front text  the text begins with these bytes
 --   front_of, after_front   the bytes at the front that pass a test, and what follows them

@@ -1,7 +1,9 @@
 -- Character constants of one byte (C11 6.4.4.4).
 --   is_plain b         a printable byte (C11 5.2.1) other than ' and \
+--   value_at letters values b    the value at the place of a letter
 --   escape_value b     what \b stands for, where it is one of \n \t \r \0 \\ \' \"
 --   char_behind text   the value of a character and the length of its spelling, by what follows its first quote
+--   char_value c, char_length c  the one and the other
 use Rattle.std.specs.Prelude.{ℕ, ◌==◌, Bool, not, ◌&&◌, List, [], ◌∷◌, Option, Some, None, option_map, codes, if◌then◌else◌}
 use Rattle.pungi_lex.specs.Bytes.{is_one_of, is_from_to}
 

@@ -1,6 +1,7 @@
 -- What the object macros make of the tokens of a text (C11 6.10.3), and how their directives go.
 --   Part                  a directive, to the last token before the next that is first on its line; or another token
---   tokens_in parts       the tokens of these parts
+--   tokens_of_part p, tokens_in parts    the tokens of a part, and of parts
+--   starts_first tokens   the next token, if there is one, is first on its line
 --   ArePartsBefore parts rest   tokens are these parts and then rest
 --   Runs macros n parts out last m   the parts become the tokens out; the macros and the count of tokens and
 --                         replacements are macros and n before them, last and m behind them

@@ -4,7 +4,9 @@
 --   join_length text   how many bytes the line join at the front of a text has, 0 where there is none
 --   Placed             a byte and its place
 --   still left text    how many bytes of a join come next, where so many are left of one that began before
---   joined text        the bytes that stay, each with its place in the text as it stands
+--   kept left b at     a byte that stays
+--   joined_from left at text, joined text    the bytes that stay, each with its place in the text as it stands
+--   bytes_of, places_of    the bytes and the places of such
 --   plain text         those bytes alone: the text that is cut into tokens
 --   place_in places n  the n-th of these places
 -- A line end is a line feed, alone or behind a carriage return. A join that arises only by taking out another one is none.

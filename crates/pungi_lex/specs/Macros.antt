@@ -3,7 +3,7 @@
 -- expanded under the macros without its own name.
 --   Macros                for each name, by its number, its body, if it is a macro now
 --   word_number kind      the number of a word
---   body_of macros n      the body of this name
+--   body_of macros n, body_at macros o    the body of this name, and of one that may be missing
 --   replacement macros k  what this kind is replaced by, if it is
 --   Expands macros kinds out n   the kinds become these, with n tokens and replacements together
 --   placed token kinds    what a token of the text becomes: the same token under each of these kinds

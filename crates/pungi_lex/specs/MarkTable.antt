@@ -1,5 +1,5 @@
 -- Punctuators by their bytes, as they are looked up. That this finds the longest one is proved of it.
---   mark_one .. mark_three   the punctuator of so many bytes, if there is one
+--   mark_one, mark_two, mark_three    the punctuator of so many bytes, if there is one
 --   or_else first second     the first, or else the second
 --   mark_at text             the punctuator of most bytes that the text begins with
 use Rattle.std.specs.Prelude.{ℕ, ◌&&◌, List, [], ◌∷◌, Option, Some, None, codes, if◌then◌else◌}

@@ -1,9 +1,16 @@
 -- Numbers (C11 6.4.4.1, 6.4.4.2, 6.4.8). A spelling is first taken whole, as a preprocessing number is, and then read.
+--   is_exponent_letter, is_sign    one of e E; one of + -
 --   goes_on prev b       b goes on a number's spelling behind the byte prev
---   number_len text      how long the spelling is that begins a text
---   value_in base digits    the value of digits
+--   spelling_len prev text, number_len text    how long the spelling is that goes on, and that begins a text
+--   digit_value b, value_in base digits    the value of a digit, and of digits
+--   is_u, is_l, is_unsigned_suffix, is_long_suffix, is_mixed_suffix    parts of a suffix: one of u U, one of l L, the one, l L ll LL, and both in either order
 --   is_suffix suffix     nothing, or at most one u or U and at most one of l L ll LL, in either order
+--   suffix_unsigned, suffix_long    what a suffix says
+--   is_past_int, is_in_unsigned value    an `int` doesn't hold it; an `unsigned int` does then (at 32 bits)
+--   int_kind decimal value suffix    the integer constant of a value and a suffix
+--   begins_hex piece, hex_of piece    0x or 0X comes first; the constant of what follows it
 --   int_of piece         the integer constant of this spelling: hexadecimal, octal or decimal
+--   is_float_suffix suffix, behind_sign text, ends_in_exponent text, ends_in_fraction some text    ends of a floating constant
 --   is_float piece       digits with one point or an exponent or both, and at most one of f F l L behind
 --   number_kind piece    what a whole spelling is: a floating constant, an integer constant, or neither
 use Rattle.std.specs.Prelude.{ℕ, ◌+◌, ◌*◌, ◌-◌, ◌^◌, ◌==◌, pos, Bool, true, false, not, ◌&&◌, ◌||◌, List, [], ◌∷◌, fold, drop, nat_le, Option, Some, None, codes, if◌then◌else◌}

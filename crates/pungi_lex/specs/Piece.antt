@@ -1,5 +1,6 @@
 -- The longest spelling at a place (C11 6.4), and what it is.
 --   length_at start text           how long the piece at the front of a text is where this begins, if it is there
+--   NamesWord names kind piece, NamesText names kind text, IsMark kind piece    a keyword or a word; a string literal; a punctuator
 --   IsKind names start kind piece   the kind of this piece under these names; None for blanks and comments
 --   spells start piece              what a piece adds to the names: a word its spelling, a string literal its content
 --   with_texts names texts          these names, and behind them those of the texts that are new, in order

@@ -2,6 +2,7 @@
 -- 'Object structures', 'Releasing the GIL', `PyMODINIT_FUNC`). Those of the thread state keep their braces alone: the
 -- state that they save and restore has no part in counts.
 --   is_predefined n     the number of a predefined macro
+--   word n, returned object, headed struct    bodies: a word; a return of a new reference; `struct ob_base;`
 --   first_body n        what this name stands for before a text
 --   predefined count    the macros before a text, of so many names
 use Rattle.std.specs.Prelude.{ℕ, zero, suc, ◌+◌, ◌==◌, pos, Bool, false, ◌&&◌, List, [], ◌∷◌, ◌++◌, nat_le, Option, Some, None, if◌then◌else◌}

@@ -1,7 +1,8 @@
 -- What begins at a place of a text is told by the line so far and the first two bytes (C11 6.4).
 --   is_mark b            a punctuator begins with b
 --   begins_number text   a digit comes next, or a point and a digit (C11 6.4.8)
---   starts line text     what begins here, as far as the line has come
+--   is_after_include line    an `include` has come, and its header is next
+--   starts_bare text, starts line text    what begins here, without a look at the line, and as far as the line has come
 --   is_token start       what begins so is a token: no blanks, and no comment
 --   Begins start text    what is sure of a text where this begins
 use Rattle.std.specs.Prelude.{ℕ, Bool, true, false, ◌&&◌, ◌||◌, IsTrue, ◌≤◌, ◌<◌, length, List, [], ◌∷◌, codes, if◌then◌else◌}

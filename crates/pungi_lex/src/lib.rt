@@ -22,8 +22,6 @@ mod recent;
 mod start;
 mod stay;
 mod stretch;
-#[cfg(test)]
-mod tests;
 mod tokens;
 
 pub use expander::expand;

@@ -6,6 +6,3 @@ mod pending;
 
 pub use chains::Chains;
 pub use pending::Pending;
-
-#[cfg(test)]
-mod tests;

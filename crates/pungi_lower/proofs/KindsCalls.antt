@@ -36,9 +36,9 @@ kin_void : (to : Option ValueKind) (v : Value) → is_void to ≡ true → Kin t
 kin_void (Some kinds.Void) v h = tt
 kin_void _ v h = absurd (cc)
 
-unless_void : (v f : Bool) → v ≡ false → (v || f) ≡ true → f ≡ true
-unless_void false f e h = h
-unless_void true f e h = absurd (cc)
+unless_void : (v s f : Bool) → v ≡ false → ((v && s) || f) ≡ true → f ≡ true
+unless_void false s f e h = h
+unless_void true s f e h = absurd (cc)
 
 module _ (file : List Item) (vars : List Param) where
   to_number : (p : Pos) (to from : Option ValueKind) (v : Value) → is_integer to ≡ true → is_integer from ≡ true → Typed file vars from v → Typed file vars to (convert_some p to v)
@@ -56,12 +56,12 @@ module _ (file : List Item) (vars : List Param) where
 
   pub cast_typed : (p : Pos) (to from : Option ValueKind) (v : Value) → is_some (cast_kind to from) ≡ true → Typed file vars from v → Typed file vars (cast_kind to from) (cast_value p to from v)
   cast_typed p to from v h x =
-      let c = found (is_void to || fits to from) to h in
+      let c = found ((is_void to && is_some from) || fits to from) to h in
       elim (is_void to) as (λ b. (is_void to ≡ b) → Typed file vars (cast_kind to from) (if b then dropped p v else (if is_integer to && not (is_same_kind to from) then convert_some p to v else cast_of p v))) [
-        | true ↦ λ e. record { typed = x.typed; kin = λ n. kin_if (is_void to || fits to from) to (dropped p v) (kin_void to (dropped p v) e) }
+        | true ↦ λ e. record { typed = x.typed; kin = λ n. kin_if ((is_void to && is_some from) || fits to from) to (dropped p v) (kin_void to (dropped p v) e) }
         | false ↦ λ e.
-            let t = to_scalar p to from v (unless_void (is_void to) (fits to from) e c) x in
-            record { typed = t.typed; kin = λ n. kin_if (is_void to || fits to from) to _ (t.kin n) }
+            let t = to_scalar p to from v (unless_void (is_void to) (is_some from) (fits to from) e c) x in
+            record { typed = t.typed; kin = λ n. kin_if ((is_void to && is_some from) || fits to from) to _ (t.kin n) }
       ] refl
 
   -- .. addresses

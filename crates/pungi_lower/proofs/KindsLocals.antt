@@ -15,10 +15,11 @@ use Rattle.pungi_types.specs.Exprs.{kind_of, expr_findings}
 use Rattle.pungi_types.specs.Labels.{stmt_locals, stmts_locals, start_locals}
 use Rattle.pungi_types.specs.Resolved.{Value, resolve, convert}
 use Rattle.pungi_types.specs.ResolvedStmts.{Site, Reached, with_var, with_start, past, after, initial, reached, start_reached, action, actions}
-use Rattle.pungi_types.specs.Stmts.{Frame, with_local, spec_pos, has_file_storage, declared_n1, declared_n8, initial_findings, after_var, after_vars, var_findings, vars_findings}
+use Rattle.pungi_types.specs.Stmts.{Frame, with_local, spec_pos, has_file_storage, declared_n1, declared_n8, is_wrong_initial, initial_findings, after_var, after_vars, var_findings, vars_findings}
 use Rattle.pungi_meaning.specs.Values.{slot_kind}
 use Rattle.pungi_resolve.proofs.Clean.{Clean, left, right, not_when, is_there, or_left, and_left, and_right}
 use Rattle.pungi_resolve.proofs.Known.{HasKinds, one_more, declared-not_void}
+use Rattle.pungi_resolve.proofs.UsedValues.{one-asked}
 use Rattle.pungi_resolve.proofs.SoundExprs.{expr-good}
 use Rattle.pungi_resolve.proofs.SoundStmts.{site, value_kind}
 use Rattle.pungi_lower.specs.Typed.{is_kept, IsHeld, IsInitial, IsReachedTyped, AreReachedTyped}
@@ -138,7 +139,7 @@ initial_typed vars f s d (Some (value e)) h t c n =
     let k = declared_kind f.env.file s d in
     let one = left (expr_findings env e) _ c in
     let x = expr_kinds vars env h.kinds h.held h.rows e one in
-    let ten = not_when _ (declr_pos d) 10 (left _ _ (right (expr_findings env e) _ c)) in
+    let ten = one-asked env (is_wrong_initial k) (declr_pos d) e (right (expr_findings env e) _ c) in
     let fit = known-fit (is_some k) (is_some (kind_of env e)) (is_void (kind_of env e)) (fits k (kind_of env e)) true t (expr-good env h.kinds e one).known ten in
     let g = convert_going f.env.file vars (declr_pos d) k (kind_of env e) (resolve env e) fit x.value in
     first_going f.env.file vars k (convert (declr_pos d) k (kind_of env e) (resolve env e)) g n

@@ -294,7 +294,7 @@ module _ (file : List Item) (vars : List Param) where
   -- .. `?:`
   pub cond_typed : (p : Pos) (kc ka kb : Option ValueKind) (c a b : Value) → is_some (cond_kind kc ka kb) ≡ true → Typed file vars kc c → Typed file vars ka a → Typed file vars kb b → Typed file vars (cond_kind kc ka kb) (chosen p c a b)
   cond_typed p kc ka kb c a b h x y z =
-      let j = and_right (both_known ka kb) (joinable ka kb) (and_right (not (is_void kc)) (both_known ka kb && joinable ka kb) (found (not (is_void kc) && (both_known ka kb && joinable ka kb)) (joined ka kb) h)) in
+      let j = and_right (both_known ka kb) (joinable ka kb) (and_right (is_some kc && not (is_void kc)) (both_known ka kb && joinable ka kb) (found ((is_some kc && not (is_void kc)) && (both_known ka kb && joinable ka kb)) (joined ka kb) h)) in
       record {
         typed = λ n.
             let r = and_right (calls_none c) (calls_none a && calls_none b) n in
@@ -303,6 +303,6 @@ module _ (file : List Item) (vars : List Param) where
             (x.typed (and_left (calls_none c) (calls_none a && calls_none b) n), alike_if ka kb a b j (y.kin na) (z.kin nb), y.typed na, z.typed nb);
         kin = λ n.
             let r = and_right (calls_none c) (calls_none a && calls_none b) n in
-            kin_if (not (is_void kc) && (both_known ka kb && joinable ka kb)) (joined ka kb) (chosen p c a b)
+            kin_if ((is_some kc && not (is_void kc)) && (both_known ka kb && joinable ka kb)) (joined ka kb) (chosen p c a b)
             (kin_joined ka kb p c a b j (y.kin (and_left (calls_none a) (calls_none b) r)) (z.kin (and_right (calls_none a) (calls_none b) r)));
       }

@@ -14,9 +14,10 @@ use Rattle.pungi_types.specs.Exprs.{kind_of, is_address, names_type_object, is_b
 use Rattle.pungi_types.specs.Labels.{byte, unsigned_constant, negated, is_minus, constant_of, switch_findings, stmt_locals}
 use Rattle.pungi_types.specs.Resolved.{resolve}
 use Rattle.pungi_types.specs.ResolvedStmts.{Site, with_start, after, past, start_reached, start_value, option_value, returned, case_value, action, actions}
-use Rattle.pungi_types.specs.Stmts.{Frame, condition_findings, option_findings, option_condition, return_findings, switched_findings, inside, in_loop, in_switch, in_block, labelled, start_frame, behind, after_stmt, start_findings, stmt_findings, stmts_findings}
+use Rattle.pungi_types.specs.Stmts.{Frame, condition_findings, option_findings, option_condition, is_wrong_return, return_findings, is_no_integer, switched_findings, inside, in_loop, in_switch, in_block, labelled, start_frame, behind, after_stmt, start_findings, stmt_findings, stmts_findings}
 use Rattle.pungi_meaning.specs.Values as range
 use Rattle.pungi_resolve.proofs.Clean.{Clean, left, right, not_when, or_right, and_true, and_left, and_right}
+use Rattle.pungi_resolve.proofs.UsedValues.{one-asked}
 use Rattle.pungi_resolve.proofs.SoundExprs.{expr-good, node, unless}
 use Rattle.pungi_resolve.proofs.SoundStmts.{site, start-site, stmt-site}
 use Rattle.pungi_lower.specs.Typed.{IsNumber, IsTyped, IsOptionTyped, AreReachedTyped, IsStmtTyped, AreStmtsTyped}
@@ -94,7 +95,7 @@ still_integer _ s h = absurd (cc)
 switched_number : (vars : List Param) (env : Env) → Knows vars env → (p : Pos) (e : Expr) → Clean (switched_findings env p e) → calls_none (resolve env e) ≡ true → IsNumber (resolve env e)
 switched_number vars env h p e c n =
     let d = left (expr_findings env e) _ c in
-    let i = still_integer (kind_of env e) (expr-good env h.kinds e d).known (not_when _ p 10 (left _ _ (right (expr_findings env e) _ c))) in
+    let i = still_integer (kind_of env e) (expr-good env h.kinds e d).known (one-asked env is_no_integer p e (right (expr_findings env e) _ c)) in
     kin_number (kind_of env e) (resolve env e) i ((expr_kinds vars env h.kinds h.held h.rows e d).value.kin n)
 
 return_typed : (vars : List Param) (f : Frame) → Knows vars f.env → is_some f.result ≡ true → (p : Pos) (e : Option Expr) → Clean (return_findings f.env f.result p e) → is_free_option (returned (site f) p e) ≡ true
@@ -102,7 +103,7 @@ return_typed : (vars : List Param) (f : Frame) → Knows vars f.env → is_some 
 return_typed vars f h r p None c n = tt
 return_typed vars f h r p (Some e) c n =
     let d = left (expr_findings f.env e) _ c in
-    let ten = not_when _ p 10 (left _ _ (right (expr_findings f.env e) _ c)) in
+    let ten = one-asked f.env (is_wrong_return f.result) p e (right (expr_findings f.env e) _ c) in
     let fit = known-fit (is_some f.result) (is_some (kind_of f.env e)) (is_void f.result) (fits f.result (kind_of f.env e)) true r (expr-good f.env h.kinds e d).known ten in
     (convert_going f.env.file vars p f.result (kind_of f.env e) (resolve f.env e) fit (expr_kinds vars f.env h.kinds h.held h.rows e d).value).typed n
 

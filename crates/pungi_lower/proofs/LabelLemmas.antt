@@ -1,5 +1,5 @@
 -- Labels that were found are those of the definition.
-use Rattle.std.proofs.Common.{◌≡◌, ℕ, ◌+◌, List, [], ◌∷◌, ◌++◌, length, Option, Some, None, Bool, true, false, if◌then◌else◌, ◌==◌, refl, sym, ap, ◌∙◌, append_assoc}
+use Rattle.std.proofs.Common.{◌≡◌, ℕ, ◌+◌, List, [], ◌∷◌, ◌++◌, Option, Some, Bool, true, false, if◌then◌else◌, ◌==◌, refl, ap, ◌∙◌}
 use Rattle.pungi_base.specs.declared.names.Name.{Name}
 use Rattle.pungi_types.specs.ResolvedStmts as stmt
 use Rattle.pungi_meaning.specs.Work.{or_else}
@@ -54,6 +54,3 @@ pub inside : (env : Env) (pc : ℕ) (list : List stmt.Action) (own : List Placed
 inside env pc list own e =
     let h : (l : Name) → found l own ≡ list_label l pc list = λ l. ap (found l) e ∙ list_found l list pc in
     λ i. record { breaks = env.breaks; continues = env.continues; labels = λ l. label_or (h l i) (env.labels l) }
-
-pub both_found : (l0 l1 l2 ms ns : List Placed) → l1 ≡ l0 ++ ms → l2 ≡ l1 ++ ns → l2 ≡ l0 ++ (ms ++ ns)
-both_found l0 l1 l2 ms ns e f = f ∙ ap (λ l. l ++ ns) e ∙ append_assoc l0 ms ns

@@ -64,3 +64,5 @@ pub mod KindsFunctions
 pub mod KindsSlots
 pub mod TypedLaws
 pub mod Lowered
+pub mod PlanLists
+pub mod PlanLemmas

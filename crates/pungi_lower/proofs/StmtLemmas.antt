@@ -1,5 +1,5 @@
 -- Instructions that are put one after another are those of the statement.
-use Rattle.std.proofs.Common.{◌≡◌, ℕ, ◌+◌, ◌*◌, ℤ, List, [], ◌∷◌, ◌++◌, length, Option, Some, None, Bool, true, false, refl, sym, ap, ◌∙◌, subst, arith, append_assoc}
+use Rattle.std.proofs.Common.{◌≡◌, ℕ, ◌+◌, ◌*◌, List, [], ◌∷◌, ◌++◌, length, Option, false, refl, sym, ap, ◌∙◌, subst, arith, append_assoc}
 use Rattle.pungi_base.specs.declared.pos.Pos.{Pos}
 use Rattle.pungi_types.specs.Resolved as expr
 use Rattle.pungi_types.specs.ResolvedStmts as stmt
@@ -9,15 +9,15 @@ use Rattle.pungi_meaning.specs.Todo.{listed}
 use Rattle.pungi_meaning.specs.Work.{declared}
 use Rattle.pungi_code.specs.declared.code.Line.{Line}
 use Rattle.pungi_code.specs.declared.instr.Instr.TheVariants.{Jump}
-use Rattle.pungi_lower.specs.declared.scope.Placed.{Placed}
 use Rattle.pungi_lower.specs.Sizes.{expr_size, option_size, reach_size, test_size, stmt_size, stmts_size}
 use Rattle.pungi_lower.specs.Temporaries.{temp, temp_of}
 use Rattle.pungi_lower.specs.ExprCode.{line, at_label}
 use Rattle.pungi_lower.specs.Scopes.{Env, for_head, label_or, list_cases, list_default, in_block, in_loop, in_switch}
 use Rattle.pungi_lower.specs.StmtCode.{unset_code, value_code, option_code, reach_code, test_code, tested_code, case_code, stmt_code, stmts_code}
-use Rattle.pungi_lower.specs.LabelPlaces.{stmt_labels, list_labels, list_starts}
+use Rattle.pungi_lower.specs.LabelPlaces.{list_starts}
 use Rattle.pungi_lower.specs.Cases.{cases_at, default_at, is_block, skipped_code}
-use Rattle.pungi_lower.proofs.StmtLengths.{unset_long, value_long, option_long, reach_long, test_long, tested_long, case_long, cases_long, stmt_long, stmts_long}
+use Rattle.pungi_lower.specs.Plans.{switch_from}
+use Rattle.pungi_lower.proofs.StmtLengths.{unset_long, value_long, option_long, reach_long, test_long, tested_long, case_long, cases_long, stmt_long}
 use Rattle.pungi_lower.proofs.EmitLemmas.{glued, grown, moved}
 use Rattle.pungi_lower.proofs.CaseLemmas.{cases_placed, default_placed}
 
@@ -44,29 +44,7 @@ skipped_is nl env pc p v (stmt.leave p') h = refl
 skipped_is nl env pc p v (stmt.next_turn p') h = refl
 skipped_is nl env pc p v (stmt.give p' u) h = refl
 
-pub block_labels : (a : stmt.Action) (pc : ℕ) → is_block a ≡ true → stmt_labels pc a ≡ []
-block_labels (stmt.block_of r ss q) pc h = refl
-block_labels (stmt.reach p' rs) pc h = absurd cc
-block_labels (stmt.evaluate p' u) pc h = absurd cc
-block_labels (stmt.test p' c a) pc h = absurd cc
-block_labels (stmt.test_else p' c a b) pc h = absurd cc
-block_labels (stmt.repeat_while p' c a) pc h = absurd cc
-block_labels (stmt.repeat_until p' a c) pc h = absurd cc
-block_labels (stmt.repeat_for p' rs u c w a) pc h = absurd cc
-block_labels (stmt.switch_on p' u a) pc h = absurd cc
-block_labels (stmt.at_case p' n a) pc h = absurd cc
-block_labels (stmt.at_default p' a) pc h = absurd cc
-block_labels (stmt.at_label p' l a) pc h = absurd cc
-block_labels (stmt.jump p' l) pc h = absurd cc
-block_labels (stmt.leave p') pc h = absurd cc
-block_labels (stmt.next_turn p') pc h = absurd cc
-block_labels (stmt.give p' u) pc h = absurd cc
-
--- where the labels and the statements of a list go on
-pub next_found : (a : stmt.Action) (rest : List stmt.Action) (pc n : ℕ) (l0 l1 : List Placed) → l1 ≡ l0 ++ stmt_labels pc a → n ≡ pc + stmt_size a → l0 ++ list_labels pc (a ∷ rest) ≡ l1 ++ list_labels n rest
-next_found a rest pc n l0 l1 e f =
-    sym (append_assoc l0 (stmt_labels pc a) (list_labels (pc + stmt_size a) rest)) ∙ ap (λ l. l ++ list_labels (pc + stmt_size a) rest) (sym e) ∙ ap (λ i. l1 ++ list_labels i rest) (sym f)
-
+-- where the statements of a list go on
 pub next_start : (a : stmt.Action) (rest : List stmt.Action) (pc n : ℕ) (s0 s1 : List ℕ) → s1 ≡ s0 ++ pc ∷ [] → n ≡ pc + stmt_size a → s0 ++ list_starts pc (a ∷ rest) ≡ s1 ++ list_starts n rest
 next_start a rest pc n s0 s1 e f =
     sym (append_assoc s0 (pc ∷ []) (list_starts (pc + stmt_size a) rest)) ∙ ap (λ l. l ++ list_starts (pc + stmt_size a) rest) (sym e) ∙ ap (λ i. s1 ++ list_starts i rest) (sym f)
@@ -85,23 +63,21 @@ module _ (nl : ℕ) (env : Env) where
   pub if_laid : (p : Pos) (c : expr.Value) (a : stmt.Action) (other : ℕ) (c0 c1 c2 : List Line) →
       c1 ≡ c0 ++ test_code p nl (length c0) c (length c0 + expr_size c + 1) other →
       c2 ≡ c1 ++ stmt_code nl env (length c1) a →
-      length c2 ≡ other →
+      other ≡ length c0 + expr_size c + 1 + stmt_size a →
       c2 ≡ c0 ++ stmt_code nl env (length c0) (stmt.test p c a)
   if_laid p c a other c0 c1 c2 e1 e2 e3 =
       let at = length c0 + expr_size c + 1 in
       let n1 : length c1 ≡ at = test_place p c at other c0 c1 e1 in
-      let n2 = stmt_place env a c1 c2 e2 in
-      let o : other ≡ at + stmt_size a = omega (arith, n1, n2, e3) in
       glued c0 c1 c2 (test_code p nl (length c0) c at (at + stmt_size a)) (stmt_code nl env at a)
-      (e1 ∙ ap (λ n. c0 ++ test_code p nl (length c0) c at n) o) (moved (λ n. stmt_code nl env n a) c1 c2 at n1 e2)
+      (e1 ∙ ap (λ n. c0 ++ test_code p nl (length c0) c at n) e3) (moved (λ n. stmt_code nl env n a) c1 c2 at n1 e2)
 
   pub else_laid : (p : Pos) (c : expr.Value) (a b : stmt.Action) (other end : ℕ) (c0 c1 c2 c3 c4 : List Line) →
       c1 ≡ c0 ++ test_code p nl (length c0) c (length c0 + expr_size c + 1) other →
       c2 ≡ c1 ++ stmt_code nl env (length c1) a →
       c3 ≡ c2 ++ line p (Jump (at_label end)) ∷ [] →
-      length c3 ≡ other →
+      other ≡ length c0 + expr_size c + 1 + stmt_size a + 1 →
       c4 ≡ c3 ++ stmt_code nl env (length c3) b →
-      length c4 ≡ end →
+      end ≡ length c0 + expr_size c + 1 + stmt_size a + 1 + stmt_size b →
       c4 ≡ c0 ++ stmt_code nl env (length c0) (stmt.test_else p c a b)
   else_laid p c a b other end c0 c1 c2 c3 c4 e1 e2 e3 e4 e5 e6 =
       let at = length c0 + expr_size c + 1 in
@@ -110,13 +86,10 @@ module _ (nl : ℕ) (env : Env) where
       let n2 = stmt_place env a c1 c2 e2 in
       let n3 = grown c2 c3 (line p (Jump (at_label end)) ∷ []) 1 e3 refl in
       let n3' : length c3 ≡ bt = omega (arith, n1, n2, n3) in
-      let n4 = stmt_place env b c3 c4 e5 in
-      let o : other ≡ bt = omega (arith, n3', e4) in
-      let q : end ≡ bt + stmt_size b = omega (arith, n3', n4, e6) in
-      let f3 : c3 ≡ c2 ++ line p (Jump (at_label (bt + stmt_size b))) ∷ [] = e3 ∙ ap (λ n. c2 ++ line p (Jump (at_label n)) ∷ []) q in
+      let f3 : c3 ≡ c2 ++ line p (Jump (at_label (bt + stmt_size b))) ∷ [] = e3 ∙ ap (λ n. c2 ++ line p (Jump (at_label n)) ∷ []) e6 in
       let rest = line p (Jump (at_label (bt + stmt_size b))) ∷ stmt_code nl env bt b in
       let h : c4 ≡ c2 ++ rest = glued c2 c3 c4 (line p (Jump (at_label (bt + stmt_size b))) ∷ []) (stmt_code nl env bt b) f3 (moved (λ n. stmt_code nl env n b) c3 c4 bt n3' e5) in
-      glued c0 c1 c4 (test_code p nl (length c0) c at bt) (stmt_code nl env at a ++ rest) (e1 ∙ ap (λ n. c0 ++ test_code p nl (length c0) c at n) o)
+      glued c0 c1 c4 (test_code p nl (length c0) c at bt) (stmt_code nl env at a ++ rest) (e1 ∙ ap (λ n. c0 ++ test_code p nl (length c0) c at n) e4)
       (glued c1 c2 c4 (stmt_code nl env at a) rest (moved (λ n. stmt_code nl env n a) c1 c2 at n1 e2) h)
 
   -- .. loops
@@ -134,7 +107,7 @@ module _ (nl : ℕ) (env : Env) where
       end ≡ again + 1 →
       c1 ≡ c0 ++ test_code p nl (length c0) c (length c0 + expr_size c + 1) end →
       c2 ≡ c1 ++ stmt_code nl (in_loop env again end) (length c1) a →
-      length c2 ≡ again →
+      again ≡ length c0 + (expr_size c + 1) + stmt_size a →
       c3 ≡ c2 ++ line p (Jump (at_label head)) ∷ [] →
       c3 ≡ c0 ++ stmt_code nl env (length c0) (stmt.repeat_while p c a)
   while_laid p c a head again end c0 c1 c2 c3 h k e1 e2 e3 e4 =
@@ -145,23 +118,21 @@ module _ (nl : ℕ) (env : Env) where
       let same : at ≡ go = omega arith in
       let n1 = test_place p c at end c0 c1 e1 in
       let n1' : length c1 ≡ go = omega (arith, n1) in
-      let n2 = stmt_place (in_loop env again end) a c1 c2 e2 in
-      let m : again ≡ last = omega (arith, n1', n2, e3) in
-      let q : end ≡ next = omega (arith, m, k) in
+      let q : end ≡ next = omega (arith, e3, k) in
       let f1 = e1 ∙ ap (λ i. c0 ++ test_code p nl (length c0) c i end) same ∙ ap (λ i. c0 ++ test_code p nl (length c0) c go i) q in
       let body = stmt_code nl (in_loop env last next) go a in
       let back = line p (Jump (at_label (length c0))) in
       glued c0 c1 c3 (test_code p nl (length c0) c go next) (body ++ back ∷ []) f1
-      (glued c1 c2 c3 body (back ∷ []) (body_moved a again end go last next c1 c2 e2 n1' m q) (e4 ∙ ap (λ i. c2 ++ line p (Jump (at_label i)) ∷ []) h))
+      (glued c1 c2 c3 body (back ∷ []) (body_moved a again end go last next c1 c2 e2 n1' e3 q) (e4 ∙ ap (λ i. c2 ++ line p (Jump (at_label i)) ∷ []) h))
 
   pub until_laid : (p : Pos) (c : expr.Value) (a : stmt.Action) (head go again end : ℕ) (c0 c1 c2 c3 c4 : List Line) →
       end ≡ again + 1 →
       c1 ≡ c0 ++ line p (Jump (at_label go)) ∷ [] →
       head ≡ length c1 →
       c2 ≡ c1 ++ test_code p nl (length c1) c (length c1 + expr_size c + 1) end →
-      length c2 ≡ go →
+      go ≡ length c0 + 1 + (expr_size c + 1) →
       c3 ≡ c2 ++ stmt_code nl (in_loop env again end) (length c2) a →
-      length c3 ≡ again →
+      again ≡ length c0 + 1 + (expr_size c + 1) + stmt_size a →
       c4 ≡ c3 ++ line p (Jump (at_label head)) ∷ [] →
       c4 ≡ c0 ++ stmt_code nl env (length c0) (stmt.repeat_until p a c)
   until_laid p c a head go again end c0 c1 c2 c3 c4 k e0 h e1 g e2 e3 e4 =
@@ -172,17 +143,14 @@ module _ (nl : ℕ) (env : Env) where
       let n0 : length c1 ≡ top = grown c0 c1 (line p (Jump (at_label go)) ∷ []) 1 e0 refl in
       let n1 = test_place p c (length c1 + expr_size c + 1) end c1 c2 e1 in
       let n1' : length c2 ≡ place = omega (arith, n0, n1) in
-      let n2 = stmt_place (in_loop env again end) a c2 c3 e2 in
-      let m : again ≡ last = omega (arith, n1', n2, e3) in
-      let q : end ≡ next = omega (arith, m, k) in
-      let go' : go ≡ place = omega (arith, n1', g) in
+      let q : end ≡ next = omega (arith, e3, k) in
       let in_front : length c1 + expr_size c + 1 ≡ place = omega (arith, n0) in
-      let f0 : c1 ≡ c0 ++ line p (Jump (at_label place)) ∷ [] = e0 ∙ ap (λ i. c0 ++ line p (Jump (at_label i)) ∷ []) go' in
+      let f0 : c1 ≡ c0 ++ line p (Jump (at_label place)) ∷ [] = e0 ∙ ap (λ i. c0 ++ line p (Jump (at_label i)) ∷ []) g in
       let f1 : c2 ≡ c1 ++ test_code p nl top c place next = e1 ∙ ap (λ i. c1 ++ test_code p nl (length c1) c i end) in_front ∙ ap (λ i. c1 ++ test_code p nl (length c1) c place i) q ∙ ap (λ i. c1 ++ test_code p nl i c place next) n0 in
       let body = stmt_code nl (in_loop env last next) place a in
       let back = line p (Jump (at_label top)) in
       let f4 : c4 ≡ c3 ++ back ∷ [] = e4 ∙ ap (λ i. c3 ++ line p (Jump (at_label i)) ∷ []) (h ∙ n0) in
-      let f2 = body_moved a again end place last next c2 c3 e2 n1' m q in
+      let f2 = body_moved a again end place last next c2 c3 e2 n1' e3 q in
       glued c0 c1 c4 (line p (Jump (at_label place)) ∷ []) (test_code p nl top c place next ++ (body ++ back ∷ [])) f0
       (glued c1 c2 c4 (test_code p nl top c place next) (body ++ back ∷ []) f1 (glued c2 c3 c4 body (back ∷ []) f2 f4))
 
@@ -201,6 +169,16 @@ module _ (nl : ℕ) (env : Env) where
   pub tested_place : (p : Pos) (c : Option expr.Value) (go other : ℕ) (c0 c1 : List Line) → c1 ≡ c0 ++ tested_code p nl (length c0) c go other → length c1 ≡ length c0 + test_size c
   tested_place p c go other c0 c1 e = grown c0 c1 (tested_code p nl (length c0) c go other) (test_size c) e (tested_long c p nl (length c0) go other)
 
+  -- the place of the body of a `for`
+  pub for_body : (p : Pos) (rs : List stmt.Reached) (u c : Option expr.Value) (end : ℕ) (c0 c1 c2 c3 c4 : List Line) →
+      c1 ≡ c0 ++ unset_code p rs →
+      c2 ≡ c1 ++ reach_code nl (length c1) rs →
+      c3 ≡ c2 ++ option_code nl (length c2) u →
+      c4 ≡ c3 ++ tested_code p nl (length c3) c (length c3 + test_size c) end →
+      length c4 ≡ for_head (length c0) rs u + test_size c
+  for_body p rs u c end c0 c1 c2 c3 c4 e1 e2 e3 e4 =
+      tested_place p c (length c3 + test_size c) end c3 c4 e4 ∙ ap (λ i. i + test_size c) (for_place p rs u c0 c1 c2 c3 e1 e2 e3)
+
   pub for_laid : (p : Pos) (rs : List stmt.Reached) (u c w : Option expr.Value) (a : stmt.Action) (head again end : ℕ) (c0 c1 c2 c3 c4 c5 c6 c7 : List Line) →
       c1 ≡ c0 ++ unset_code p rs →
       c2 ≡ c1 ++ reach_code nl (length c1) rs →
@@ -208,10 +186,10 @@ module _ (nl : ℕ) (env : Env) where
       head ≡ length c3 →
       c4 ≡ c3 ++ tested_code p nl (length c3) c (length c3 + test_size c) end →
       c5 ≡ c4 ++ stmt_code nl (in_loop env again end) (length c4) a →
-      length c5 ≡ again →
+      again ≡ for_head (length c0) rs u + test_size c + stmt_size a →
       c6 ≡ c5 ++ option_code nl (length c5) w →
       c7 ≡ c6 ++ line p (Jump (at_label head)) ∷ [] →
-      length c7 ≡ end →
+      end ≡ for_head (length c0) rs u + test_size c + stmt_size a + option_size w + 1 →
       c7 ≡ c0 ++ stmt_code nl env (length c0) (stmt.repeat_for p rs u c w a)
   for_laid p rs u c w a head again end c0 c1 c2 c3 c4 c5 c6 c7 e1 e2 e3 h e4 e5 e6 e7 e8 e9 =
       let top = for_head (length c0) rs u in
@@ -224,20 +202,16 @@ module _ (nl : ℕ) (env : Env) where
       let n4 = tested_place p c (length c3 + test_size c) end c3 c4 e4 in
       let n4' : length c4 ≡ go = omega (arith, n3, n4) in
       let n5 = stmt_place (in_loop env again end) a c4 c5 e5 in
-      let n6 = grown c5 c6 (option_code nl (length c5) w) (option_size w) e7 (option_long w nl (length c5)) in
-      let n7 = grown c6 c7 (line p (Jump (at_label head)) ∷ []) 1 e8 refl in
-      let m : again ≡ last = omega (arith, n4', n5, e6) in
-      let n5' : length c5 ≡ last = e6 ∙ m in
-      let q : end ≡ next = omega (arith, n5', n6, n7, e9) in
+      let n5' : length c5 ≡ last = omega (arith, n4', n5) in
       let at2 = length c0 + length rs in
       let at3 = length c0 + length rs + reach_size rs in
       let n2' : length c2 ≡ at3 = omega (arith, n1, n2) in
       let in_front : length c3 + test_size c ≡ go = omega (arith, n3) in
       let f2 : c2 ≡ c1 ++ reach_code nl at2 rs = moved (λ i. reach_code nl i rs) c1 c2 at2 n1 e2 in
       let f3 : c3 ≡ c2 ++ option_code nl at3 u = moved (λ i. option_code nl i u) c2 c3 at3 n2' e3 in
-      let f4 : c4 ≡ c3 ++ tested_code p nl top c go next = e4 ∙ ap (λ i. c3 ++ tested_code p nl (length c3) c i end) in_front ∙ ap (λ i. c3 ++ tested_code p nl (length c3) c go i) q ∙ ap (λ i. c3 ++ tested_code p nl i c go next) n3 in
+      let f4 : c4 ≡ c3 ++ tested_code p nl top c go next = e4 ∙ ap (λ i. c3 ++ tested_code p nl (length c3) c i end) in_front ∙ ap (λ i. c3 ++ tested_code p nl (length c3) c go i) e9 ∙ ap (λ i. c3 ++ tested_code p nl i c go next) n3 in
       let body = stmt_code nl (in_loop env last next) go a in
-      let f5 : c5 ≡ c4 ++ body = body_moved a again end go last next c4 c5 e5 n4' m q in
+      let f5 : c5 ≡ c4 ++ body = body_moved a again end go last next c4 c5 e5 n4' e6 e9 in
       let step = option_code nl last w in
       let f6 : c6 ≡ c5 ++ step = moved (λ i. option_code nl i w) c5 c6 last n5' e7 in
       let back = line p (Jump (at_label top)) in
@@ -255,17 +229,15 @@ module _ (nl : ℕ) (env : Env) where
       c1 ≡ c0 ++ value_code nl (length c0) v →
       c2 ≡ c1 ++ line p (Jump (at_label end)) ∷ [] →
       c3 ≡ c2 ++ stmt_code nl (in_switch env end) (length c2) a →
-      length c3 ≡ end →
+      end ≡ length c0 + expr_size v + 1 + stmt_size a →
       c3 ≡ c0 ++ skipped_code nl env (length c0) p v a
   skipped_laid p v a end c0 c1 c2 c3 e1 e2 e3 e4 =
       let at = length c0 + expr_size v + 1 in
       let n1 = grown c0 c1 (value_code nl (length c0) v) (expr_size v) e1 (value_long v nl (length c0)) in
       let n2 = grown c1 c2 (line p (Jump (at_label end)) ∷ []) 1 e2 refl in
       let n2' : length c2 ≡ at = omega (arith, n1, n2) in
-      let n3 = stmt_place (in_switch env end) a c2 c3 e3 in
-      let q : end ≡ at + stmt_size a = omega (arith, n2', n3, e4) in
-      let f2 : c2 ≡ c1 ++ line p (Jump (at_label (at + stmt_size a))) ∷ [] = e2 ∙ ap (λ i. c1 ++ line p (Jump (at_label i)) ∷ []) q in
-      let f3 : c3 ≡ c2 ++ stmt_code nl (in_switch env (at + stmt_size a)) at a = moved (λ i. stmt_code nl (in_switch env end) i a) c2 c3 at n2' e3 ∙ ap (λ i. c2 ++ stmt_code nl (in_switch env i) at a) q in
+      let f2 : c2 ≡ c1 ++ line p (Jump (at_label (at + stmt_size a))) ∷ [] = e2 ∙ ap (λ i. c1 ++ line p (Jump (at_label i)) ∷ []) e4 in
+      let f3 : c3 ≡ c2 ++ stmt_code nl (in_switch env (at + stmt_size a)) at a = moved (λ i. stmt_code nl (in_switch env end) i a) c2 c3 at n2' e3 ∙ ap (λ i. c2 ++ stmt_code nl (in_switch env i) at a) e4 in
       glued c0 c1 c3 (value_code nl (length c0) v) (line p (Jump (at_label (at + stmt_size a))) ∷ stmt_code nl (in_switch env (at + stmt_size a)) at a) e1
       (glued c1 c2 c3 (line p (Jump (at_label (at + stmt_size a))) ∷ []) (stmt_code nl (in_switch env (at + stmt_size a)) at a) f2 f3)
 
@@ -286,7 +258,26 @@ module _ (nl : ℕ) (env : Env) where
       glued c0 c1 c2 (unset_code p (declared list)) (stmts_code nl (in_block env at list) at (actions_of list)) e1 (moved (λ i. stmts_code nl (in_block env i list) i (actions_of list)) c1 c2 at n1 e2) in
       subst (λ l. c2 ≡ c0 ++ (unset_code p (declared l) ++ stmts_code nl (in_block env (length c0 + length (declared l)) l) (length c0 + length (declared l)) (actions_of list))) (sym (as_actions list)) whole
 
-  pub switch_laid : (p r q : Pos) (v : expr.Value) (list : List stmt.Action) (x y end : ℕ) (starts begun : List ℕ) (c0 c1 c2 c3 c4 c5 : List Line) →
+  -- the place behind the comparisons of a `switch`
+  pub switch_place : (p : Pos) (v : expr.Value) (list : List stmt.Action) (x y : ℕ) (starts : List ℕ) (last : Line) (c0 c1 c2 c3 c4 : List Line) →
+      c1 ≡ c0 ++ value_code nl (length c0) v →
+      c2 ≡ c1 ++ unset_code p (declared list) →
+      c3 ≡ c2 ++ case_code p x y (length c2) (cases_at list starts) →
+      c4 ≡ c3 ++ last ∷ [] →
+      starts ≡ list_starts (switch_from (length c0 + expr_size v) list) list →
+      length c4 ≡ switch_from (length c0 + expr_size v) list
+  switch_place p v list x y starts last c0 c1 c2 c3 c4 e1 e2 e3 e4 h =
+      let from = switch_from (length c0 + expr_size v) list in
+      let cases = cases_at list starts in
+      let cs : cases ≡ list_cases from list = ap (cases_at list) h ∙ cases_placed list from in
+      let many : length (case_code p x y (length c2) cases) ≡ 2 * length (block_cases list) = case_long cases p x y (length c2) ∙ ap (λ l. 2 * length l) cs ∙ ap (λ i. 2 * i) (cases_long list from) in
+      let n1 = grown c0 c1 (value_code nl (length c0) v) (expr_size v) e1 (value_long v nl (length c0)) in
+      let n2 = grown c1 c2 (unset_code p (declared list)) (length (declared list)) e2 (unset_long (declared list) p) in
+      let n3 = grown c2 c3 (case_code p x y (length c2) cases) (2 * length (block_cases list)) e3 many in
+      let n4 = grown c3 c4 (last ∷ []) 1 e4 refl in
+      omega (arith, n1, n2, n3, n4)
+
+  pub switch_laid : (p r q : Pos) (v : expr.Value) (list : List stmt.Action) (x y end : ℕ) (starts : List ℕ) (c0 c1 c2 c3 c4 c5 : List Line) →
       x ≡ temp_of nl 0 v →
       y ≡ temp nl 1 0 →
       c1 ≡ c0 ++ value_code nl (length c0) v →
@@ -294,32 +285,20 @@ module _ (nl : ℕ) (env : Env) where
       c3 ≡ c2 ++ case_code p x y (length c2) (cases_at list starts) →
       c4 ≡ c3 ++ line p (Jump (at_label (label_or (default_at list starts) end))) ∷ [] →
       c5 ≡ c4 ++ stmts_code nl (in_block (in_switch env end) (length c4) list) (length c4) (actions_of list) →
-      begun ≡ list_starts (length c4) list →
-      begun ≡ starts →
-      length c5 ≡ end →
+      starts ≡ list_starts (switch_from (length c0 + expr_size v) list) list →
+      end ≡ switch_from (length c0 + expr_size v) list + stmts_size (actions_of list) →
       c5 ≡ c0 ++ stmt_code nl env (length c0) (stmt.switch_on p v (stmt.block_of r (actions_of list) q))
-  switch_laid p r q v list x y end starts begun c0 c1 c2 c3 c4 c5 hx hy e1 e2 e3 e4 e5 e6 e7 e8 =
+  switch_laid p r q v list x y end starts c0 c1 c2 c3 c4 c5 hx hy e1 e2 e3 e4 e5 hs end' =
       let own = declared list in
-      let count = length own in
-      let n = 2 * length (block_cases list) in
-      let at = length c0 + expr_size v + count in
-      let starts' : starts ≡ list_starts (length c4) list = sym e7 ∙ e6 in
-      let cs : cases_at list starts ≡ list_cases (length c4) list = ap (cases_at list) starts' ∙ cases_placed list (length c4) in
-      let ds : default_at list starts ≡ list_default (length c4) list = ap (default_at list) starts' ∙ default_placed list (length c4) in
-      let n1 = grown c0 c1 (value_code nl (length c0) v) (expr_size v) e1 (value_long v nl (length c0)) in
-      let n2 = grown c1 c2 (unset_code p own) count e2 (unset_long own p) in
-      let n2' : length c2 ≡ at = omega (arith, n1, n2) in
-      let many : length (case_code p x y (length c2) (cases_at list starts)) ≡ n = case_long (cases_at list starts) p x y (length c2) ∙ ap (λ l. 2 * length l) cs ∙ ap (λ i. 2 * i) (cases_long list (length c4)) in
-      let n3 = grown c2 c3 (case_code p x y (length c2) (cases_at list starts)) n e3 many in
-      let n4 = grown c3 c4 (line p (Jump (at_label (label_or (default_at list starts) end))) ∷ []) 1 e4 refl in
-      let from = at + n + 1 in
-      let n4' : length c4 ≡ from = omega (arith, n2', n3, n4) in
-      let inner = in_block (in_switch env end) (length c4) list in
-      let n5 = grown c4 c5 (stmts_code nl inner (length c4) (actions_of list)) (stmts_size (actions_of list)) e5 (stmts_long (actions_of list) nl inner (length c4)) in
+      let at = length c0 + expr_size v + length own in
+      let from = switch_from (length c0 + expr_size v) list in
       let last = from + stmts_size (actions_of list) in
-      let end' : end ≡ last = omega (arith, n4', n5, e8) in
-      let cs' : cases_at list starts ≡ list_cases from list = cs ∙ ap (λ i. list_cases i list) n4' in
-      let ds' : default_at list starts ≡ list_default from list = ds ∙ ap (λ i. list_default i list) n4' in
+      let n1 = grown c0 c1 (value_code nl (length c0) v) (expr_size v) e1 (value_long v nl (length c0)) in
+      let n2 = grown c1 c2 (unset_code p own) (length own) e2 (unset_long own p) in
+      let n2' : length c2 ≡ at = omega (arith, n1, n2) in
+      let n4' : length c4 ≡ from = switch_place p v list x y starts _ c0 c1 c2 c3 c4 e1 e2 e3 e4 hs in
+      let cs' : cases_at list starts ≡ list_cases from list = ap (cases_at list) hs ∙ cases_placed list from in
+      let ds' : default_at list starts ≡ list_default from list = ap (default_at list) hs ∙ default_placed list from in
       let compare = case_code p (temp_of nl 0 v) (temp nl 1 0) at (list_cases from list) in
       let f3 : c3 ≡ c2 ++ compare =
       e3 ∙ ap (λ i. c2 ++ case_code p i y (length c2) (cases_at list starts)) hx

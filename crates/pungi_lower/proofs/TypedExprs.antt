@@ -9,12 +9,14 @@ use Rattle.pungi_types.specs.Names.{Env, meaning_of, local_in}
 use Rattle.pungi_types.specs.Kinds.{type_name_kind, field_kind}
 use Rattle.pungi_types.specs.Findings.{Findings, nothing_found, ◌and◌}
 use Rattle.pungi_types.specs.Operators.{prefix_of, is_bits, is_bits_assign, is_arithmetic_assign, is_void, struct_part}
-use Rattle.pungi_types.specs.Exprs.{kind_of, is_place, is_address, names_type_object, is_module_address, callee, wants, wants_module, other_wants, first_met, are_met, is_word, int_kind, result_kind, used, expr_findings, args_findings}
+use Rattle.pungi_types.specs.declared.operator.Prefix.TheVariants as prefixes
+use Rattle.pungi_types.specs.Exprs.{kind_of, is_place, is_address, names_type_object, is_module_address, callee, wants, wants_module, other_wants, first_met, are_met, is_word, operand, int_kind, unary_wrong, binary_wrong, assign_wrong, cond_wrong, result_kind, used, expr_findings, args_findings}
 use Rattle.pungi_types.specs.Resolved.{resolve, place_of, resolve_all, int_value, callee_name}
 use Rattle.pungi_lower.specs.Sound.{AreSound}
 use Rattle.pungi_resolve.proofs.Clean.{Clean, left, right, not_when, not_false, is_there, or_left, or_right, and_left, and_right}
 use Rattle.pungi_resolve.proofs.Known.{HasKinds, place-not_void}
 use Rattle.pungi_resolve.proofs.OperatorKinds.{step-kept, assign-kept}
+use Rattle.pungi_resolve.proofs.UsedValues.{one-asked, two-asked, three-asked, cast-asked, argument-met}
 use Rattle.pungi_resolve.proofs.SoundParts.{has_struct, word-callable, call-holds}
 use Rattle.pungi_resolve.proofs.SoundExprs.{expr-good, node, unless, answered}
 use Rattle.pungi_lower.proofs.TypedParts.{HasNumbers, Works, Given, cast-works, place-works, read-works, word-works, unary-works, binary-works, assign-works, operands, right_side, field-not_void, field-works, callee-works, met-same, arg-works}
@@ -44,7 +46,7 @@ mutual
       let fs : Findings = (if skipped then nothing_found else expr_findings env e) in
       let m = node env (unary p k e) (right fs _ c) in
       let u = unary-works n env p k (prefix_of k) e (is_void (kind_of env (unary p k e))) (record {
-        ten = not_when _ p 10 (left _ _ m.ten);
+        ten = one-asked env (unary_wrong (prefix_of k) (is_place env e)) p e m.ten;
         thirteen = not_when _ p 13 m.thirteen;
         good = λ x. expr-good env h e (unless skipped (expr_findings env e) (left fs _ c) x);
         works = λ x. expr-works n env h b e (unless skipped (expr_findings env e) (left fs _ c) x);
@@ -53,14 +55,14 @@ mutual
   expr-works n env h b (post p o e) c =
       let d = left (expr_findings env e) _ c in
       let m = node env (post p o e) (right (expr_findings env e) _ c) in
-      let s = step-kept (is_place env e) (kind_of env e) (expr-good env h e d).known (not_when _ p 10 (left _ _ m.ten)) (not_when _ p 13 m.thirteen) in
+      let s = step-kept (is_place env e) (kind_of env e) (expr-good env h e d).known (one-asked env (unary_wrong prefixes.Step (is_place env e)) p e m.ten) (not_when _ p 13 m.thirteen) in
       record { sound = (expr-works n env h b e d).place s.0; gives = λ x. refl; place = λ x. absurd (cc) }
   expr-works n env h b (binary p o x y) c =
       let rest = right (expr_findings env x) _ c in
       let wx = expr-works n env h b x (left (expr_findings env x) _ c) in
       let wy = expr-works n env h b y (left (expr_findings env y) _ rest) in
       let m = node env (binary p o x y) (right (expr_findings env y) _ rest) in
-      let o2 = operands (is_bits o) (is_void (kind_of env x)) (is_void (kind_of env y)) _ (not_when _ p 2 m.two) (not_when _ p 10 (left _ _ m.ten)) in
+      let o2 = operands (is_bits o) (is_void (kind_of env x)) (is_void (kind_of env y)) _ (not_when _ p 2 m.two) (two-asked env (binary_wrong o) p x y m.ten) in
       let g = binary-works n p o (kind_of env (binary p o x y)) (resolve env x) (resolve env y) (is_void (kind_of env (binary p o x y))) (wx.gives o2.0) wx.sound (wy.gives o2.1) wy.sound in
       record { sound = g.sound; gives = g.gives; place = λ s. absurd (cc) }
   expr-works n env h b (assign p o x y) c =
@@ -71,7 +73,7 @@ mutual
       let wy = expr-works n env h b y cy in
       let m = node env (assign p o x y) (right (expr_findings env y) _ rest) in
       let two = not_when _ p 2 m.two in
-      let ten = not_when _ p 10 (left _ _ m.ten) in
+      let ten = two-asked env (assign_wrong o (is_place env x)) p x y m.ten in
       let s = assign-kept (is_bits_assign o) (is_arithmetic_assign o) (is_place env x) (kind_of env x) (kind_of env y) (expr-good env h x cx).known (expr-good env h y cy).known
       (place-not_void env h x) two ten (not_when _ p 13 m.thirteen) in
       let v = right_side (is_bits_assign o) _ (is_void (kind_of env y)) _ two ten in
@@ -84,7 +86,7 @@ mutual
       let wx = expr-works n env h b x (left (expr_findings env x) _ more) in
       let wy = expr-works n env h b y (left (expr_findings env y) _ rest) in
       let m = node env (conditional p t x y) (right (expr_findings env y) _ rest) in
-      let ten = not_when _ p 10 (left _ _ m.ten) in
+      let ten = three-asked env cond_wrong p t x y m.ten in
       let vt = or_left (is_void (kind_of env t)) _ ten in
       let r = or_right (is_void (kind_of env t)) _ ten in
       let vx = or_left (is_void (kind_of env x)) _ r in
@@ -92,9 +94,11 @@ mutual
       record { sound = (wt.gives vt, wt.sound, wx.gives vx, wx.sound, wy.gives vy, wy.sound); gives = λ z. refl; place = λ z. absurd (cc) }
   expr-works n env h b (comma p x y) c = record { sound = tt; gives = λ z. refl; place = λ s. absurd (cc) }
   expr-works n env h b (cast p t e) c =
-      let w = expr-works n env h b e (left (expr_findings env e) _ c) in
+      let d = left (expr_findings env e) _ c in
+      let w = expr-works n env h b e d in
       let m = node env (cast p t e) (right (expr_findings env e) _ c) in
-      let g = cast-works n p (type_name_kind env.file t) (kind_of env e) (resolve env e) w.sound w.gives (is_there (type_name_kind env.file t) (not_when _ _ 1 m.one)) (not_when _ p 10 (left _ _ m.ten)) in
+      let g = cast-works n p (type_name_kind env.file t) (kind_of env e) (resolve env e) w.sound w.gives (expr-good env h e d).known
+      (is_there (type_name_kind env.file t) (not_when _ _ 1 m.one)) (cast-asked env (type_name_kind env.file t) p e m.ten) in
       record { sound = g.sound; gives = g.gives; place = λ z. absurd (cc) }
   expr-works n env h b (size_of_type p t) c = record { sound = tt; gives = λ z. refl; place = λ s. absurd (cc) }
   expr-works n env h b (call p f es) c =
@@ -122,7 +126,7 @@ mutual
       let skipped = wants_module ws && is_module_address env e in
       let first : Findings = (if skipped then nothing_found else expr_findings env e and used env e) in
       let one = left first _ c in
-      let g = arg-works n env ws e skipped refl (and_left (first_met ws (is_module_address env e) (kind_of env e)) _ m)
+      let g = arg-works n env ws e skipped refl (argument-met env ws e one (and_left (first_met ws (is_module_address env e) (operand (kind_of env e) e)) _ m))
       (λ x. expr-good env h e (left (expr_findings env e) _ (unless skipped _ one x)))
       (λ x. expr-works n env h b e (left (expr_findings env e) _ (unless skipped _ one x))) in
-      (g.gives refl, g.sound, args-work n env h b (other_wants ws) es (right first _ c) (and_right (first_met ws (is_module_address env e) (kind_of env e)) _ m))
+      (g.gives refl, g.sound, args-work n env h b (other_wants ws) es (right first _ c) (and_right (first_met ws (is_module_address env e) (operand (kind_of env e) e)) _ m))

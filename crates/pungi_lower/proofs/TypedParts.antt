@@ -60,19 +60,19 @@ convert-works n p to from v g s =
       | false ↦ record { sound = s; gives = λ x. g }
     ]
 
-cast_void : (to from : Option ValueKind) → is_void to ≡ true → is_void (cast_kind to from) ≡ false → ⊥
-cast_void (Some kinds.Void) from e h = cc
-cast_void _ from e h = cc
+cast_void : (to from : Option ValueKind) → is_void to ≡ true → is_some from ≡ true → is_void (cast_kind to from) ≡ false → ⊥
+cast_void (Some kinds.Void) (Some k) e s h = cc
+cast_void _ _ e s h = cc
 
 cast-scalar : (s t v x : Bool) → s ≡ true → t ≡ false → (s && (not t && (v || x))) ≡ false → v ≡ false
 cast-scalar true false v x e f h = or_left v x h
 cast-scalar _ _ v x e f h = absurd (cc)
 
-pub cast-works : (n : ℕ) (p : Pos) (to from : Option ValueKind) (v : Value) → IsSound n v → (is_void from ≡ false → gives v ≡ true) → is_some to ≡ true → cast_wrong to from ≡ false
+pub cast-works : (n : ℕ) (p : Pos) (to from : Option ValueKind) (v : Value) → IsSound n v → (is_void from ≡ false → gives v ≡ true) → is_some from ≡ true → is_some to ≡ true → cast_wrong to from ≡ false
     → Given n (cast_value p to from v) (is_void (cast_kind to from))
-cast-works n p to from v s g t w =
+cast-works n p to from v s g f t w =
     elim (is_void to) as (λ b. (is_void to ≡ b) → Given n (if b then dropped p v else (if is_integer to && not (is_same_kind to from) then convert_some p to v else cast_of p v)) (is_void (cast_kind to from))) [
-      | true ↦ λ e. record { sound = s; gives = λ x. absurd (cast_void to from e x) }
+      | true ↦ λ e. record { sound = s; gives = λ x. absurd (cast_void to from e f x) }
       | false ↦ λ e.
           let h = g (cast-scalar (is_some to) (is_void to) (is_void from) _ t e w) in
           elim (is_integer to && not (is_same_kind to from)) as (λ c. Given n (if c then convert_some p to v else cast_of p v) (is_void (cast_kind to from))) [

@@ -15,9 +15,10 @@ use Rattle.pungi_types.specs.Exprs.{kind_of, expr_findings}
 use Rattle.pungi_types.specs.Labels.{switch_findings, stmt_locals, stmts_locals, start_locals}
 use Rattle.pungi_types.specs.Resolved.{resolve}
 use Rattle.pungi_types.specs.ResolvedStmts.{Site, with_start, initial, reached, start_reached, start_value, option_value, returned, action, actions}
-use Rattle.pungi_types.specs.Stmts.{Frame, with_local, spec_pos, has_file_storage, declared_n1, declared_n8, initial_findings, after_var, after_vars, var_findings, vars_findings, condition_findings, option_findings, option_condition, return_findings, switched_findings, inside, in_loop, in_switch, in_block, labelled, start_frame, behind, after_stmt, start_findings, stmt_findings, stmts_findings}
+use Rattle.pungi_types.specs.Stmts.{Frame, with_local, spec_pos, has_file_storage, declared_n1, declared_n8, is_wrong_initial, initial_findings, after_var, after_vars, var_findings, vars_findings, condition_findings, option_findings, option_condition, is_wrong_return, return_findings, is_no_integer, switched_findings, inside, in_loop, in_switch, in_block, labelled, start_frame, behind, after_stmt, start_findings, stmt_findings, stmts_findings}
 use Rattle.pungi_resolve.proofs.Clean.{Clean, left, right, not_when, or_left}
 use Rattle.pungi_resolve.proofs.Known.{HasKinds, one_more, declared-not_void}
+use Rattle.pungi_resolve.proofs.UsedValues.{one-asked}
 use Rattle.pungi_resolve.proofs.SoundExprs.{expr-good}
 use Rattle.pungi_resolve.proofs.SoundStmts.{site, value_kind, vars-sound, start-site, stmt-site, names-behind}
 use Rattle.pungi_lower.specs.Sound.{IsWanted, IsOptionSound, IsOptionWanted, AreReached, IsStmtSound, AreStmtsSound}
@@ -41,7 +42,7 @@ wanted-by n env e w v = (w.gives v, w.sound)
 
 condition-works : (n : ℕ) (env : Env) → HasKinds env → HasNumbers n env → (p : Pos) (e : Expr) → Clean (condition_findings env p e) → IsWanted n (resolve env e)
 condition-works n env h b p e c =
-    wanted-by n env e (expr-works n env h b e (left (expr_findings env e) _ c)) (not_when _ p 10 (left _ _ (right (expr_findings env e) _ c)))
+    wanted-by n env e (expr-works n env h b e (left (expr_findings env e) _ c)) (one-asked env is_void p e (right (expr_findings env e) _ c))
 
 option-works : (n : ℕ) (env : Env) → HasKinds env → HasNumbers n env → (e : Option Expr) → Clean (option_findings env e) → IsOptionSound n (option_value env e)
 option-works n env h b None c = tt
@@ -59,7 +60,7 @@ switched-works : (n : ℕ) (env : Env) → HasKinds env → HasNumbers n env →
 switched-works n env h b p e c =
     let d = left (expr_findings env e) _ c in
     wanted-by n env e (expr-works n env h b e d)
-    (integer-not_void (kind_of env e) (expr-good env h e d).known (not_when _ p 10 (left _ _ (right (expr_findings env e) _ c))))
+    (integer-not_void (kind_of env e) (expr-good env h e d).known (one-asked env is_no_integer p e (right (expr_findings env e) _ c)))
 
 return-works : (n : ℕ) (f : Frame) → HasKinds f.env → HasNumbers n f.env → is_some f.result ≡ true → (p : Pos) (e : Option Expr) → Clean (return_findings f.env f.result p e)
     → IsOptionWanted n (returned (site f) p e)
@@ -67,7 +68,7 @@ return-works n f h b r p None c = tt
 return-works n f h b r p (Some e) c =
     let d = left (expr_findings f.env e) _ c in
     let w = expr-works n f.env h b e d in
-    let ten = not_when _ p 10 (left _ _ (right (expr_findings f.env e) _ c)) in
+    let ten = one-asked f.env (is_wrong_return f.result) p e (right (expr_findings f.env e) _ c) in
     let t = known-fit (is_some f.result) (is_some (kind_of f.env e)) (is_void f.result) (fits f.result (kind_of f.env e)) true r (expr-good f.env h e d).known ten in
     let g = convert-works n p f.result (kind_of f.env e) (resolve f.env e) (w.gives (fits-not_void f.result (kind_of f.env e) t)) w.sound in
     (g.gives refl, g.sound)
@@ -80,7 +81,7 @@ initial-works n f s d (Some (table ts)) h b c = tt
 initial-works n f s d (Some (value e)) h b c =
     let env = (after_var f s (var_decl d None)).env in
     let w = expr-works n env h b e (left (expr_findings env e) _ c) in
-    let v = or_left (is_void (kind_of env e)) _ (not_when _ (declr_pos d) 10 (left _ _ (right (expr_findings env e) _ c))) in
+    let v = or_left (is_void (kind_of env e)) _ (one-asked env (is_wrong_initial (declared_kind f.env.file s d)) (declr_pos d) e (right (expr_findings env e) _ c)) in
     let g = convert-works n (declr_pos d) (declared_kind f.env.file s d) (kind_of env e) (resolve env e) (w.gives v) w.sound in
     (g.gives refl, g.sound)
 

@@ -4,6 +4,7 @@
 --   own a                       those of a statement's own nodes: without those of the statements in it
 --   parts a, parts_of ss        a statement and those in it
 --   IsAmong p ps, IsPart a as   members
+--   IsHead h heads              one of the heads
 --   ShareStatement f p q        some statement of a function has own nodes at both places
 --   KeepsNothing f code heads nl    where one instruction leads to another, and no statement has own nodes at the places of both, and at
 --                               each head, no path reads a temporary before it writes it

@@ -1,5 +1,6 @@
 -- What the lowering promises of a function.
 --   temps_of f                  how many variables its code has beside the locals
+--   first_regs n entry          what so many variables hold at an entry
 --   source f entry choices n    the function's run, of at most so many steps
 --   target code nl temps entry choices n    the code's run, of at most so many instructions
 --   Behaves f code temps most   from any entry and with any choices both runs are alike

@@ -17,5 +17,6 @@ pub mod Codes
 pub mod Lowered
 pub mod Boundaries
 pub mod LabelPlaces
+pub mod Plans
 pub mod Cases
 pub mod TypedLaws

@@ -7,7 +7,7 @@
 --   tested_code                    the same of a test that may be missing
 --   case_code p x y pc cs          the comparisons of a `switch`
 --   give_code                      `return`
---   stmt_code, stmts_code, list_code    a statement, statements
+--   stmt_code, stmts_code          a statement, statements
 --   end_code p void                the end of a function
 --   body_code f                    the instructions of a function
 use Rattle.std.specs.Prelude.{ℕ, ◌+◌, ◌*◌, ℤ, Bool, true, false, List, [], ◌∷◌, ◌++◌, length, Option, Some, None}
@@ -96,10 +96,6 @@ abbrev mutual
   pub stmts_code : ℕ → Env → ℕ → stmt.Actions → List Line
   stmts_code nl env pc stmt.no_actions = []
   stmts_code nl env pc (stmt.action_and a ss) = stmt_code nl env pc a ++ stmts_code nl env (pc + stmt_size a) ss
-
-abbrev pub list_code : ℕ → Env → ℕ → List stmt.Action → List Line
-list_code nl env pc [] = []
-list_code nl env pc (a ∷ rest) = stmt_code nl env pc a ++ list_code nl env (pc + stmt_size a) rest
 
 -- ---- functions
 

@@ -3,7 +3,7 @@
 --   option_weight o           what is done and forgotten, where it is there
 --   bind_weight o, reach_weight rs    declared locals
 --   again_weight w            a loop behind its body
---   stmt_weight a, stmts_weight ss, list_weight list    statements
+--   stmt_weight a, stmts_weight ss, list_weight list, other_weight o    statements, and one that may be missing
 --   turn_weight, tested_weight, loop_weight    a loop behind its test, and at its head
 --   switch_weight a           a `switch` behind its value
 --   item_weight t, weight k   what remains

@@ -4,6 +4,7 @@ ghost use Rattle.pungi_resolved.specs.ActionView.{function_view, action_view};
 ghost use Rattle.pungi_meaning.specs.Run.{closing as closing_of};
 ghost use Rattle.pungi_types.specs.Operators.{is_void as is_void_kind};
 ghost use Rattle.pungi_lower.specs.Heads.{heads_of as heads_of_function};
+ghost use Rattle.pungi_lower.specs.Plans.{Begins, plan_of};
 ghost use Rattle.pungi_lower.specs.StmtCode.{body_code, end_code};
 ghost use Rattle.pungi_lower.specs.Sizes.{stmt_size};
 ghost use Rattle.pungi_lower.specs.VarKinds.{var_kinds as kinds_of_vars};
@@ -72,6 +73,7 @@ fn emit_end(code: &mut Seq<Line>, pos: Pos, void: bool) -> Result<(), Memory>
 
 /// The instructions of a body, whose statements lead to these places and which takes so many instructions.
 fn emit_body(around: Around, places: &[u32], size: u32, f: &Function) -> Result<Seq<Line>, Memory>
+    requires { Begins (plan_of 0 (action_view f.now.body)) places.now }
     ensures { IfOk result (λ code. size ≡ stmt_size (action_view f.now.body) → around.locals ≡ f.now.locals → code ≡ body_code (function_view f.now)) }
 {
     let labels = Labels::Nowhere(size);
@@ -80,10 +82,9 @@ fn emit_body(around: Around, places: &[u32], size: u32, f: &Function) -> Result<
         continues: size,
         labels: &labels,
     };
-    let mut plan = Plan { places, next: 0 };
+    let mut plan = Plan { left: places };
     let mut code = Seq::new(Vec::new(around.alloc));
-    let mut found = Seq::new(Vec::new(around.alloc));
-    emit_stmt(&mut code, &mut found, around, &scope, &mut plan, &f.body)?;
+    emit_stmt(&mut code, around, &scope, &mut plan, &f.body)?;
     emit_end(&mut code, closing(&f.body), is_void(f.result))?;
     Ok(code)
 }
@@ -100,8 +101,8 @@ pub fn lower_function(alloc: Global, f: &Function) -> Result<Code, Memory>
     let params = small(f.params.len() as u64)?;
     let mut marks = Seq::new(Vec::new(alloc));
     let mut places = Seq::new(Vec::new(alloc));
-    let mut label = 0;
-    let size = survey_stmt(&mut marks, &mut places, &f.body, &mut label, 0)?;
+    let mut labels = Seq::new(Vec::new(alloc));
+    let size = survey_stmt(alloc, &mut marks, &mut places, &mut labels, &f.body, 0)?;
     let around = Around { alloc, locals };
     let instrs = emit_body(around, places.as_slice(), size, f)?;
     let heads = Seq::new(heads(alloc, marks.as_slice(), instrs.as_slice())?);

@@ -4,6 +4,7 @@
 mod alike;
 mod calls;
 mod column;
+mod counts;
 mod decl;
 mod emit;
 mod expr;
@@ -18,6 +19,7 @@ mod parts;
 mod passed;
 mod place;
 mod plan;
+mod room;
 mod row;
 mod scope;
 mod size;
@@ -32,6 +34,3 @@ pub use calls::has_no_call;
 pub use function::lower_function;
 pub use passed::{passed_agree, passed_is_small, passed_is_sound, passed_is_well_formed};
 pub use unit::{lower, lower_functions};
-
-#[cfg(test)]
-mod tests;

@@ -1,68 +1,30 @@
 // The places that statements lead to, before their code is there.
-ghost use Rattle.std.specs.Prelude.{◌≡◌, length, OnOk};
+ghost use Rattle.std.specs.Prelude.{◌≡◌, ◌<◌, ◌≤◌, ◌∷◌, ◌++◌, length};
 
-use crate::scope::Placed;
-use pungi_base::{Memory, Seq};
-use pungi_code::Line;
-
-/// Places in the order in which the emitters need them. They take each on trust, and test it once the code is there.
+/// The places that are left, in the order in which the emitters ask for them.
 #[derive(Drop)]
 pub struct Plan<'a> {
-    pub places: &'a [u32],
-    pub next: usize,
+    pub left: &'a [u32],
 }
 
 /// The next place.
-pub fn planned(plan: &mut Plan<'_>) -> Result<u32, Memory> {
-    let next = plan.next;
-    if next < plan.places.len() {
-        let place = plan.places[next];
-        plan.next = next + 1;
-        Ok(place)
-    } else {
-        Err(Memory)
-    }
+pub fn planned(plan: &mut Plan<'_>) -> u32
+    requires { 0 < length plan.old.left.now }
+    ensures { plan.old.left.now ≡ result ∷ plan.new.left.now }
+{
+    let left = plan.left;
+    let place = left[0];
+    plan.left = &left[1..];
+    place
 }
 
-/// The next instruction stands where the plan says.
-pub fn expect(code: &Seq<Line>, place: u32) -> Result<(), Memory>
-    ensures { OnOk result (length code.now ≡ place) }
+/// The next places.
+pub fn planned_all<'a>(plan: &mut Plan<'a>, count: usize) -> &'a [u32]
+    requires { count ≤ length plan.old.left.now }
+    ensures count { length result.now ≡ count }
+    ensures left { plan.old.left.now ≡ result.now ++ plan.new.left.now }
 {
-    if code.len() == place as usize {
-        Ok(())
-    } else {
-        Err(Memory)
-    }
-}
-
-/// The statements of a list begin where the plan says.
-pub fn expect_starts(starts: &Seq<u32>, planned: &[u32]) -> Result<(), Memory>
-    ensures { OnOk result (starts.now ≡ planned.now) }
-{
-    let starts = starts.as_slice();
-    if starts.len() != planned.len() {
-        return Err(Memory);
-    }
-    for i in 0..starts.len() {
-        if starts[i] != planned[i] {
-            return Err(Memory);
-        }
-    }
-    Ok(())
-}
-
-/// The labels of a block stand where the plan says.
-pub fn expect_labels(labels: &Seq<Placed>, planned: &[Placed]) -> Result<(), Memory>
-    ensures { OnOk result (labels.now ≡ planned.now) }
-{
-    let labels = labels.as_slice();
-    if labels.len() != planned.len() {
-        return Err(Memory);
-    }
-    for i in 0..labels.len() {
-        if labels[i].name.0 != planned[i].name.0 || labels[i].place != planned[i].place {
-            return Err(Memory);
-        }
-    }
-    Ok(())
+    let (front, back) = plan.left.split_at(count);
+    plan.left = back;
+    front
 }

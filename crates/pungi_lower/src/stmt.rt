@@ -1,11 +1,12 @@
 // The instructions of statements.
-ghost use Rattle.std.specs.Prelude.{◌≡◌, ◌+◌, ◌++◌, length, map, IfOk, OnOk};
+ghost use Rattle.std.specs.Prelude.{◌≡◌, ◌+◌, ◌++◌, length, map, OnOk};
 ghost use Rattle.pungi_resolved.specs.ActionView.{reached_view, action_view, actions_of};
 ghost use Rattle.pungi_resolved.specs.ValueView.{value_view, optional_view};
-ghost use Rattle.pungi_types.specs.ResolvedStmts.{block_of, test, test_else, repeat_while, repeat_until, repeat_for, switch_on, at_label};
+ghost use Rattle.pungi_types.specs.ResolvedStmts.{block_of, test, test_else, repeat_while, repeat_until, repeat_for, switch_on};
 ghost use Rattle.pungi_lower.specs.Cases.{skipped_code};
-ghost use Rattle.pungi_lower.specs.Sizes.{expr_size};
-ghost use Rattle.pungi_lower.specs.LabelPlaces.{stmt_labels, list_labels, list_starts, env_of};
+ghost use Rattle.pungi_lower.specs.Sizes.{expr_size, stmts_size};
+ghost use Rattle.pungi_lower.specs.LabelPlaces.{list_labels, list_starts, env_of};
+ghost use Rattle.pungi_lower.specs.Plans.{Begins, switch_from, plan_of, plans_of, skipped_plan};
 ghost use Rattle.pungi_lower.specs.Scopes.{in_block};
 ghost use Rattle.pungi_lower.specs.StmtCode.{stmt_code, stmts_code, give_code};
 ghost use Rattle.pungi_meaning.specs.Run.{nowhere};
@@ -14,13 +15,13 @@ use crate::decl::{
     emit_alone, emit_option, emit_reached, emit_test, emit_tested, emit_unset, emit_unsets,
 };
 use crate::emit::{Around, next_place, put};
-use crate::labels::{plan_labels, planned_starts};
+use crate::labels::plan_labels;
 use crate::number::behind;
-use crate::plan::{Plan, expect, expect_labels, expect_starts, planned};
+use crate::plan::{Plan, planned, planned_all};
 use crate::scope::{Labels, Placed, Scope, goto_place};
 use crate::switch::{default_or, emit_cases, is_block};
 use crate::temporary::{atom, temp_in};
-use pungi_base::{Memory, Name, Pos, Seq};
+use pungi_base::{Memory, Pos, Seq};
 use pungi_code::{Instr, Label, Line};
 use pungi_resolved::{Action, ActionNode, Reached, Value as Node};
 
@@ -47,7 +48,6 @@ fn emit_give(
 #[cycle(emit_stmts)]
 fn emit_if(
     code: &mut Seq<Line>,
-    found: &mut Seq<Placed>,
     around: Around,
     scope: &Scope<'_>,
     plan: &mut Plan<'_>,
@@ -55,13 +55,13 @@ fn emit_if(
     c: &Node,
     body: &Action,
 ) -> Result<(), Memory>
+    requires plan { Begins (plan_of (length code.old) (test pos (value_view c.now) (action_view body.now))) plan.old.left.now }
     ensures code { OnOk result (code.new ≡ code.old ++ stmt_code around.locals (env_of scope.now) (length code.old) (test pos (value_view c.now) (action_view body.now))) }
-    ensures found { OnOk result (found.new ≡ found.old ++ stmt_labels (length code.old) (test pos (value_view c.now) (action_view body.now))) }
+    ensures plan { OnOk result (plan.old.left.now ≡ plan_of (length code.old) (test pos (value_view c.now) (action_view body.now)) ++ plan.new.left.now) }
 {
-    let other = planned(plan)?;
+    let other = planned(plan);
     emit_test(code, around, pos, c, other)?;
-    emit_stmt(code, found, around, scope, plan, body)?;
-    expect(code, other)?;
+    emit_stmt(code, around, scope, plan, body)?;
     Ok(())
 }
 
@@ -69,7 +69,6 @@ fn emit_if(
 #[cycle(emit_stmts)]
 fn emit_else(
     code: &mut Seq<Line>,
-    found: &mut Seq<Placed>,
     around: Around,
     scope: &Scope<'_>,
     plan: &mut Plan<'_>,
@@ -78,17 +77,16 @@ fn emit_else(
     a: &Action,
     b: &Action,
 ) -> Result<(), Memory>
+    requires plan { Begins (plan_of (length code.old) (test_else pos (value_view c.now) (action_view a.now) (action_view b.now))) plan.old.left.now }
     ensures code { OnOk result (code.new ≡ code.old ++ stmt_code around.locals (env_of scope.now) (length code.old) (test_else pos (value_view c.now) (action_view a.now) (action_view b.now))) }
-    ensures found { OnOk result (found.new ≡ found.old ++ stmt_labels (length code.old) (test_else pos (value_view c.now) (action_view a.now) (action_view b.now))) }
+    ensures plan { OnOk result (plan.old.left.now ≡ plan_of (length code.old) (test_else pos (value_view c.now) (action_view a.now) (action_view b.now)) ++ plan.new.left.now) }
 {
-    let other = planned(plan)?;
-    let end = planned(plan)?;
+    let other = planned(plan);
+    let end = planned(plan);
     emit_test(code, around, pos, c, other)?;
-    emit_stmt(code, found, around, scope, plan, a)?;
+    emit_stmt(code, around, scope, plan, a)?;
     put(code, pos, Instr::Jump(Label(end)))?;
-    expect(code, other)?;
-    emit_stmt(code, found, around, scope, plan, b)?;
-    expect(code, end)?;
+    emit_stmt(code, around, scope, plan, b)?;
     Ok(())
 }
 
@@ -96,7 +94,6 @@ fn emit_else(
 #[cycle(emit_stmts)]
 fn emit_while(
     code: &mut Seq<Line>,
-    found: &mut Seq<Placed>,
     around: Around,
     scope: &Scope<'_>,
     plan: &mut Plan<'_>,
@@ -104,11 +101,12 @@ fn emit_while(
     c: &Node,
     body: &Action,
 ) -> Result<(), Memory>
+    requires plan { Begins (plan_of (length code.old) (repeat_while pos (value_view c.now) (action_view body.now))) plan.old.left.now }
     ensures code { OnOk result (code.new ≡ code.old ++ stmt_code around.locals (env_of scope.now) (length code.old) (repeat_while pos (value_view c.now) (action_view body.now))) }
-    ensures found { OnOk result (found.new ≡ found.old ++ stmt_labels (length code.old) (repeat_while pos (value_view c.now) (action_view body.now))) }
+    ensures plan { OnOk result (plan.old.left.now ≡ plan_of (length code.old) (repeat_while pos (value_view c.now) (action_view body.now)) ++ plan.new.left.now) }
 {
     let head = next_place(code)?;
-    let again = planned(plan)?;
+    let again = planned(plan);
     let end = behind(again, 1)?;
     let inner = Scope {
         breaks: end,
@@ -116,8 +114,7 @@ fn emit_while(
         labels: scope.labels,
     };
     emit_test(code, around, pos, c, end)?;
-    emit_stmt(code, found, around, &inner, plan, body)?;
-    expect(code, again)?;
+    emit_stmt(code, around, &inner, plan, body)?;
     put(code, pos, Instr::Jump(Label(head)))?;
     Ok(())
 }
@@ -126,7 +123,6 @@ fn emit_while(
 #[cycle(emit_stmts)]
 fn emit_until(
     code: &mut Seq<Line>,
-    found: &mut Seq<Placed>,
     around: Around,
     scope: &Scope<'_>,
     plan: &mut Plan<'_>,
@@ -134,11 +130,12 @@ fn emit_until(
     body: &Action,
     c: &Node,
 ) -> Result<(), Memory>
+    requires plan { Begins (plan_of (length code.old) (repeat_until pos (action_view body.now) (value_view c.now))) plan.old.left.now }
     ensures code { OnOk result (code.new ≡ code.old ++ stmt_code around.locals (env_of scope.now) (length code.old) (repeat_until pos (action_view body.now) (value_view c.now))) }
-    ensures found { OnOk result (found.new ≡ found.old ++ stmt_labels (length code.old) (repeat_until pos (action_view body.now) (value_view c.now))) }
+    ensures plan { OnOk result (plan.old.left.now ≡ plan_of (length code.old) (repeat_until pos (action_view body.now) (value_view c.now)) ++ plan.new.left.now) }
 {
-    let go = planned(plan)?;
-    let again = planned(plan)?;
+    let go = planned(plan);
+    let again = planned(plan);
     let end = behind(again, 1)?;
     let inner = Scope {
         breaks: end,
@@ -148,9 +145,7 @@ fn emit_until(
     put(code, pos, Instr::Jump(Label(go)))?;
     let head = next_place(code)?;
     emit_test(code, around, pos, c, end)?;
-    expect(code, go)?;
-    emit_stmt(code, found, around, &inner, plan, body)?;
-    expect(code, again)?;
+    emit_stmt(code, around, &inner, plan, body)?;
     put(code, pos, Instr::Jump(Label(head)))?;
     Ok(())
 }
@@ -159,7 +154,6 @@ fn emit_until(
 #[cycle(emit_stmts)]
 fn emit_for(
     code: &mut Seq<Line>,
-    found: &mut Seq<Placed>,
     around: Around,
     scope: &Scope<'_>,
     plan: &mut Plan<'_>,
@@ -170,11 +164,12 @@ fn emit_for(
     last: &Option<Box<Node>>,
     body: &Action,
 ) -> Result<(), Memory>
+    requires plan { Begins (plan_of (length code.old) (repeat_for pos (map reached_view reached.now) (optional_view first.now) (optional_view c.now) (optional_view last.now) (action_view body.now))) plan.old.left.now }
     ensures code { OnOk result (code.new ≡ code.old ++ stmt_code around.locals (env_of scope.now) (length code.old) (repeat_for pos (map reached_view reached.now) (optional_view first.now) (optional_view c.now) (optional_view last.now) (action_view body.now))) }
-    ensures found { OnOk result (found.new ≡ found.old ++ stmt_labels (length code.old) (repeat_for pos (map reached_view reached.now) (optional_view first.now) (optional_view c.now) (optional_view last.now) (action_view body.now))) }
+    ensures plan { OnOk result (plan.old.left.now ≡ plan_of (length code.old) (repeat_for pos (map reached_view reached.now) (optional_view first.now) (optional_view c.now) (optional_view last.now) (action_view body.now)) ++ plan.new.left.now) }
 {
-    let again = planned(plan)?;
-    let end = planned(plan)?;
+    let again = planned(plan);
+    let end = planned(plan);
     let inner = Scope {
         breaks: end,
         continues: again,
@@ -185,11 +180,9 @@ fn emit_for(
     emit_option(code, around, first)?;
     let head = next_place(code)?;
     emit_tested(code, around, pos, c, end)?;
-    emit_stmt(code, found, around, &inner, plan, body)?;
-    expect(code, again)?;
+    emit_stmt(code, around, &inner, plan, body)?;
     emit_option(code, around, last)?;
     put(code, pos, Instr::Jump(Label(head)))?;
-    expect(code, end)?;
     Ok(())
 }
 
@@ -197,25 +190,22 @@ fn emit_for(
 #[cycle(emit_stmts)]
 fn emit_list(
     code: &mut Seq<Line>,
-    found: &mut Seq<Placed>,
-    starts: &mut Seq<u32>,
     around: Around,
     list: &[Action],
     scope: &Scope<'_>,
     plan: &mut Plan<'_>,
 ) -> Result<(), Memory>
+    requires plan { Begins (plans_of (length code.old) (actions_of (map action_view list.now))) plan.old.left.now }
     ensures code { OnOk result (code.new ≡ code.old ++ stmts_code around.locals (env_of scope.now) (length code.old) (actions_of (map action_view list.now))) }
-    ensures found { OnOk result (found.new ≡ found.old ++ list_labels (length code.old) (map action_view list.now)) }
-    ensures starts { OnOk result (starts.new ≡ starts.old ++ list_starts (length code.old) (map action_view list.now)) }
+    ensures plan { OnOk result (plan.old.left.now ≡ plans_of (length code.old) (actions_of (map action_view list.now)) ++ plan.new.left.now) }
 {
     for action in list {
-        starts.push(next_place(code)?)?;
-        emit_stmt(code, found, around, scope, plan, action)?;
+        emit_stmt(code, around, scope, plan, action)?;
     }
     Ok(())
 }
 
-/// The statements of a block, which has these labels. The answer is where each of them begins.
+/// The statements of a block, which has these labels.
 #[cycle(emit_stmts)]
 fn emit_inside(
     code: &mut Seq<Line>,
@@ -224,9 +214,11 @@ fn emit_inside(
     scope: &Scope<'_>,
     plan: &mut Plan<'_>,
     own: &[Placed],
-) -> Result<Seq<u32>, Memory>
+) -> Result<(), Memory>
+    requires plan { Begins (plans_of (length code.old) (actions_of (map action_view list.now))) plan.old.left.now }
+    requires own { own.now ≡ list_labels (length code.old) (map action_view list.now) }
     ensures code { OnOk result (code.new ≡ code.old ++ stmts_code around.locals (in_block (env_of scope.now) (length code.old) (map action_view list.now)) (length code.old) (actions_of (map action_view list.now))) }
-    ensures starts { IfOk result (λ starts. starts ≡ list_starts (length code.old) (map action_view list.now)) }
+    ensures plan { OnOk result (plan.old.left.now ≡ plans_of (length code.old) (actions_of (map action_view list.now)) ++ plan.new.left.now) }
 {
     let labels = Labels::Inside(own, scope.labels);
     let inner = Scope {
@@ -234,11 +226,8 @@ fn emit_inside(
         continues: scope.continues,
         labels: &labels,
     };
-    let mut found = Seq::new(Vec::new(around.alloc));
-    let mut starts = Seq::new(Vec::new(around.alloc));
-    emit_list(code, &mut found, &mut starts, around, list, &inner, plan)?;
-    expect_labels(&found, own)?;
-    Ok(starts)
+    emit_list(code, around, list, &inner, plan)?;
+    Ok(())
 }
 
 /// A block.
@@ -251,11 +240,13 @@ fn emit_block(
     plan: &mut Plan<'_>,
     pos: Pos,
 ) -> Result<(), Memory>
-    ensures { OnOk result (code.new ≡ code.old ++ stmt_code around.locals (env_of scope.now) (length code.old) (block_of pos (actions_of (map action_view list.now)) nowhere)) }
+    requires plan { Begins (plan_of (length code.old) (block_of pos (actions_of (map action_view list.now)) nowhere)) plan.old.left.now }
+    ensures code { OnOk result (code.new ≡ code.old ++ stmt_code around.locals (env_of scope.now) (length code.old) (block_of pos (actions_of (map action_view list.now)) nowhere)) }
+    ensures plan { OnOk result (plan.old.left.now ≡ plan_of (length code.old) (block_of pos (actions_of (map action_view list.now)) nowhere) ++ plan.new.left.now) }
 {
     let own = plan_labels(around.alloc, plan, list)?;
     emit_unsets(code, pos, list)?;
-    let _starts = emit_inside(code, around, list, scope, plan, own.as_slice())?;
+    emit_inside(code, around, list, scope, plan, own.as_slice())?;
     Ok(())
 }
 
@@ -274,7 +265,12 @@ fn emit_switched(
     own: &[Placed],
     end: u32,
 ) -> Result<(), Memory>
-    ensures { OnOk result (code.new ≡ code.old ++ stmt_code around.locals (env_of scope.now) (length code.old) (switch_on pos (value_view node.now) (block_of nowhere (actions_of (map action_view list.now)) nowhere))) }
+    requires plan { Begins (plans_of (switch_from (length code.old + expr_size (value_view node.now)) (map action_view list.now)) (actions_of (map action_view list.now))) plan.old.left.now }
+    requires starts { starts.now ≡ list_starts (switch_from (length code.old + expr_size (value_view node.now)) (map action_view list.now)) (map action_view list.now) }
+    requires own { own.now ≡ list_labels (switch_from (length code.old + expr_size (value_view node.now)) (map action_view list.now)) (map action_view list.now) }
+    requires end { end ≡ switch_from (length code.old + expr_size (value_view node.now)) (map action_view list.now) + stmts_size (actions_of (map action_view list.now)) }
+    ensures code { OnOk result (code.new ≡ code.old ++ stmt_code around.locals (env_of scope.now) (length code.old) (switch_on pos (value_view node.now) (block_of nowhere (actions_of (map action_view list.now)) nowhere))) }
+    ensures plan { OnOk result (plan.old.left.now ≡ plans_of (switch_from (length code.old + expr_size (value_view node.now)) (map action_view list.now)) (actions_of (map action_view list.now)) ++ plan.new.left.now) }
 {
     let inner = Scope {
         breaks: end,
@@ -285,11 +281,9 @@ fn emit_switched(
     emit_unsets(code, pos, list)?;
     let outcome = temp_in(around.locals, 1, 0)?;
     emit_cases(code, pos, value, outcome, list, starts)?;
-    let other = default_or(list, starts, end)?;
+    let other = default_or(list, starts, end);
     put(code, pos, Instr::Jump(Label(other)))?;
-    let begun = emit_inside(code, around, list, &inner, plan, own)?;
-    expect_starts(&begun, starts)?;
-    expect(code, end)?;
+    emit_inside(code, around, list, &inner, plan, own)?;
     Ok(())
 }
 
@@ -304,14 +298,16 @@ fn emit_switch(
     pos: Pos,
     node: &Node,
 ) -> Result<(), Memory>
-    ensures { OnOk result (code.new ≡ code.old ++ stmt_code around.locals (env_of scope.now) (length code.old) (switch_on pos (value_view node.now) (block_of nowhere (actions_of (map action_view list.now)) nowhere))) }
+    requires plan { Begins (plan_of (length code.old) (switch_on pos (value_view node.now) (block_of nowhere (actions_of (map action_view list.now)) nowhere))) plan.old.left.now }
+    ensures code { OnOk result (code.new ≡ code.old ++ stmt_code around.locals (env_of scope.now) (length code.old) (switch_on pos (value_view node.now) (block_of nowhere (actions_of (map action_view list.now)) nowhere))) }
+    ensures plan { OnOk result (plan.old.left.now ≡ plan_of (length code.old) (switch_on pos (value_view node.now) (block_of nowhere (actions_of (map action_view list.now)) nowhere)) ++ plan.new.left.now) }
 {
-    let end = planned(plan)?;
-    let starts = planned_starts(around.alloc, plan, list.len())?;
+    let end = planned(plan);
+    let starts = planned_all(plan, list.len());
     let own = plan_labels(around.alloc, plan, list)?;
-    let (begun, labels) = (starts.as_slice(), own.as_slice());
+    let labels = own.as_slice();
     emit_switched(
-        code, around, list, scope, plan, pos, node, begun, labels, end,
+        code, around, list, scope, plan, pos, node, starts, labels, end,
     )?;
     Ok(())
 }
@@ -320,7 +316,6 @@ fn emit_switch(
 #[cycle(emit_stmts)]
 fn emit_skipped(
     code: &mut Seq<Line>,
-    found: &mut Seq<Placed>,
     around: Around,
     scope: &Scope<'_>,
     plan: &mut Plan<'_>,
@@ -328,10 +323,11 @@ fn emit_skipped(
     node: &Node,
     body: &Action,
 ) -> Result<(), Memory>
+    requires plan { Begins (skipped_plan (length code.old + expr_size (value_view node.now)) (action_view body.now)) plan.old.left.now }
     ensures code { OnOk result (code.new ≡ code.old ++ skipped_code around.locals (env_of scope.now) (length code.old) pos (value_view node.now) (action_view body.now)) }
-    ensures found { OnOk result (found.new ≡ found.old ++ stmt_labels (length code.old + expr_size (value_view node.now) + 1) (action_view body.now)) }
+    ensures plan { OnOk result (plan.old.left.now ≡ skipped_plan (length code.old + expr_size (value_view node.now)) (action_view body.now) ++ plan.new.left.now) }
 {
-    let end = planned(plan)?;
+    let end = planned(plan);
     let inner = Scope {
         breaks: end,
         continues: scope.continues,
@@ -339,8 +335,7 @@ fn emit_skipped(
     };
     let _value = emit_alone(code, around, node)?;
     put(code, pos, Instr::Jump(Label(end)))?;
-    emit_stmt(code, found, around, &inner, plan, body)?;
-    expect(code, end)?;
+    emit_stmt(code, around, &inner, plan, body)?;
     Ok(())
 }
 
@@ -348,7 +343,6 @@ fn emit_skipped(
 #[cycle(emit_stmts)]
 fn emit_choice(
     code: &mut Seq<Line>,
-    found: &mut Seq<Placed>,
     around: Around,
     scope: &Scope<'_>,
     plan: &mut Plan<'_>,
@@ -356,14 +350,15 @@ fn emit_choice(
     node: &Node,
     body: &Action,
 ) -> Result<(), Memory>
+    requires plan { Begins (plan_of (length code.old) (switch_on pos (value_view node.now) (action_view body.now))) plan.old.left.now }
     ensures code { OnOk result (code.new ≡ code.old ++ stmt_code around.locals (env_of scope.now) (length code.old) (switch_on pos (value_view node.now) (action_view body.now))) }
-    ensures found { OnOk result (found.new ≡ found.old ++ stmt_labels (length code.old + expr_size (value_view node.now) + 1) (action_view body.now)) }
+    ensures plan { OnOk result (plan.old.left.now ≡ plan_of (length code.old) (switch_on pos (value_view node.now) (action_view body.now)) ++ plan.new.left.now) }
 {
     if is_block(body) {
         emit_body(code, around, body, scope, plan, pos, node)?;
         Ok(())
     } else {
-        emit_skipped(code, found, around, scope, plan, pos, node, body)?;
+        emit_skipped(code, around, scope, plan, pos, node, body)?;
         Ok(())
     }
 }
@@ -379,7 +374,9 @@ fn emit_body(
     pos: Pos,
     node: &Node,
 ) -> Result<(), Memory>
-    ensures { OnOk result (code.new ≡ code.old ++ stmt_code around.locals (env_of scope.now) (length code.old) (switch_on pos (value_view node.now) (action_view body.now))) }
+    requires plan { Begins (plan_of (length code.old) (switch_on pos (value_view node.now) (action_view body.now))) plan.old.left.now }
+    ensures code { OnOk result (code.new ≡ code.old ++ stmt_code around.locals (env_of scope.now) (length code.old) (switch_on pos (value_view node.now) (action_view body.now))) }
+    ensures plan { OnOk result (plan.old.left.now ≡ plan_of (length code.old) (switch_on pos (value_view node.now) (action_view body.now)) ++ plan.new.left.now) }
 {
     if let ActionNode::Block(list, _) = &body.node {
         emit_switch(code, around, list, scope, plan, pos, node)?;
@@ -389,39 +386,18 @@ fn emit_body(
     }
 }
 
-/// A labelled statement.
-#[cycle(emit_stmts)]
-fn emit_label(
-    code: &mut Seq<Line>,
-    found: &mut Seq<Placed>,
-    around: Around,
-    scope: &Scope<'_>,
-    plan: &mut Plan<'_>,
-    pos: Pos,
-    name: Name,
-    body: &Action,
-) -> Result<(), Memory>
-    ensures code { OnOk result (code.new ≡ code.old ++ stmt_code around.locals (env_of scope.now) (length code.old) (at_label pos name (action_view body.now))) }
-    ensures found { OnOk result (found.new ≡ found.old ++ stmt_labels (length code.old) (at_label pos name (action_view body.now))) }
-{
-    let place = next_place(code)?;
-    found.push(Placed { name, place })?;
-    emit_stmt(code, found, around, scope, plan, body)?;
-    Ok(())
-}
-
-/// The instructions of a statement. Its labels that stand in no inner block are found.
+/// The instructions of a statement, which takes its places from the plan.
 #[cycle(emit_stmts)]
 pub fn emit_stmt(
     code: &mut Seq<Line>,
-    found: &mut Seq<Placed>,
     around: Around,
     scope: &Scope<'_>,
     plan: &mut Plan<'_>,
     action: &Action,
 ) -> Result<(), Memory>
+    requires plan { Begins (plan_of (length code.old) (action_view action.now)) plan.old.left.now }
     ensures code { OnOk result (code.new ≡ code.old ++ stmt_code around.locals (env_of scope.now) (length code.old) (action_view action.now)) }
-    ensures found { OnOk result (found.new ≡ found.old ++ stmt_labels (length code.old) (action_view action.now)) }
+    ensures plan { OnOk result (plan.old.left.now ≡ plan_of (length code.old) (action_view action.now) ++ plan.new.left.now) }
 {
     let pos = action.pos;
     match &action.node {
@@ -438,35 +414,31 @@ pub fn emit_stmt(
             Ok(())
         }
         ActionNode::Test(c, a) => {
-            emit_if(code, found, around, scope, plan, pos, c, a)?;
+            emit_if(code, around, scope, plan, pos, c, a)?;
             Ok(())
         }
         ActionNode::TestElse(c, a, b) => {
-            emit_else(code, found, around, scope, plan, pos, c, a, b)?;
+            emit_else(code, around, scope, plan, pos, c, a, b)?;
             Ok(())
         }
         ActionNode::RepeatWhile(c, a) => {
-            emit_while(code, found, around, scope, plan, pos, c, a)?;
+            emit_while(code, around, scope, plan, pos, c, a)?;
             Ok(())
         }
         ActionNode::RepeatUntil(a, c) => {
-            emit_until(code, found, around, scope, plan, pos, a, c)?;
+            emit_until(code, around, scope, plan, pos, a, c)?;
             Ok(())
         }
         ActionNode::RepeatFor(rs, u, c, w, a) => {
-            emit_for(code, found, around, scope, plan, pos, rs, u, c, w, a)?;
+            emit_for(code, around, scope, plan, pos, rs, u, c, w, a)?;
             Ok(())
         }
         ActionNode::SwitchOn(node, a) => {
-            emit_choice(code, found, around, scope, plan, pos, node, a)?;
+            emit_choice(code, around, scope, plan, pos, node, a)?;
             Ok(())
         }
-        ActionNode::AtCase(_, a) | ActionNode::AtDefault(a) => {
-            emit_stmt(code, found, around, scope, plan, a)?;
-            Ok(())
-        }
-        ActionNode::AtLabel(name, a) => {
-            emit_label(code, found, around, scope, plan, pos, *name, a)?;
+        ActionNode::AtCase(_, a) | ActionNode::AtDefault(a) | ActionNode::AtLabel(_, a) => {
+            emit_stmt(code, around, scope, plan, a)?;
             Ok(())
         }
         ActionNode::Jump(name) => {

@@ -1,5 +1,5 @@
 // The comparisons of a `switch`.
-ghost use Rattle.std.specs.Prelude.{◌≡◌, ◌++◌, length, map, IfOk, OnOk};
+ghost use Rattle.std.specs.Prelude.{◌≡◌, ◌++◌, length, map, OnOk};
 ghost use Rattle.pungi_resolved.specs.ActionView.{action_view};
 ghost use Rattle.pungi_meaning.specs.Stmts.{cases_of, is_default as is_default_of};
 ghost use Rattle.pungi_lower.specs.Cases.{case_lines, cases_at, default_at, is_block as is_block_of};
@@ -84,11 +84,9 @@ pub fn emit_cases(
     list: &[Action],
     starts: &[u32],
 ) -> Result<(), Memory>
+    requires { length list.now ≡ length starts.now }
     ensures { OnOk result (code.new ≡ code.old ++ case_code pos value outcome (length code.old) (cases_at (map action_view list.now) starts.now)) }
 {
-    if list.len() != starts.len() {
-        return Err(Memory);
-    }
     for i in 0..list.len() {
         emit_own_cases(code, pos, value, outcome, starts[i], &list[i])?;
     }
@@ -143,16 +141,14 @@ pub fn is_block(action: &Action) -> bool
 }
 
 /// The place of the statement behind `default`, where the statements begin at these places; else the end.
-pub fn default_or(list: &[Action], starts: &[u32], end: u32) -> Result<u32, Memory>
-    ensures { IfOk result (λ n. n ≡ label_or (default_at (map action_view list.now) starts.now) end) }
+pub fn default_or(list: &[Action], starts: &[u32], end: u32) -> u32
+    requires { length list.now ≡ length starts.now }
+    ensures { result ≡ label_or (default_at (map action_view list.now) starts.now) end }
 {
-    if list.len() != starts.len() {
-        return Err(Memory);
-    }
     for i in 0..list.len() {
         if is_default(&list[i]) {
-            return Ok(starts[i]);
+            return starts[i];
         }
     }
-    Ok(end)
+    end
 }

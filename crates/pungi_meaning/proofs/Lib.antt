@@ -3,7 +3,6 @@ pub mod WorkedOperators
 pub mod WorkedStatements
 pub mod WorkedSlots
 pub mod ListLemmas
-pub mod FoundLemmas
 pub mod RunLemmas
 pub mod LocalLemmas
 pub mod NewestLemmas

@@ -86,7 +86,7 @@ is_equal v w = false
 
 abbrev pub holds : Cmp → Value → Value → Bool
 holds cmps.Equal v w = is_equal v w
-holds cmps.Other v w = not (is_equal v w)
+holds cmps.NotEqual v w = not (is_equal v w)
 holds cmps.Less v w = int_lt (number_of v) (number_of w)
 holds cmps.LessEqual v w = int_le (number_of v) (number_of w)
 holds cmps.Greater v w = int_lt (number_of w) (number_of v)
@@ -107,7 +107,7 @@ op_of puncts.PercentAssign = ops.Rem
 op_of m = ops.Add
 
 abbrev pub cmp_of : Punct → Cmp
-cmp_of puncts.NotEqual = cmps.Other
+cmp_of puncts.NotEqual = cmps.NotEqual
 cmp_of puncts.Less = cmps.Less
 cmp_of puncts.LessEqual = cmps.LessEqual
 cmp_of puncts.Greater = cmps.Greater

@@ -7,7 +7,7 @@ use pungi_base::{Punct, Value};
 #[derive(Clone, Copy, Debug, PartialEq, Eq)]
 pub enum Cmp {
     Equal,
-    Other,
+    NotEqual,
     Less,
     LessEqual,
     Greater,
@@ -20,7 +20,7 @@ impl Cmp {
         ensures { result ≡ named_cmp punct }
     {
         match punct {
-            Punct::NotEqual => Cmp::Other,
+            Punct::NotEqual => Cmp::NotEqual,
             Punct::Less => Cmp::Less,
             Punct::LessEqual => Cmp::LessEqual,
             Punct::Greater => Cmp::Greater,
@@ -29,13 +29,14 @@ impl Cmp {
         }
     }
 
-    /// Whether two values compare so. Two pointers are only equal or other.
+    /// Whether two values compare so. Of two pointers only equality tells anything: each other comparison
+    /// takes them as 0.
     pub fn holds(self, left: Value, right: Value) -> bool
         ensures { result ≡ comparison_holds self left right }
     {
         match self {
             Cmp::Equal => is_equal(left, right),
-            Cmp::Other => !is_equal(left, right),
+            Cmp::NotEqual => !is_equal(left, right),
             Cmp::Less => number_of(left) < number_of(right),
             Cmp::LessEqual => number_of(left) <= number_of(right),
             Cmp::Greater => number_of(right) < number_of(left),

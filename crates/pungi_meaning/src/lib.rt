@@ -30,8 +30,3 @@ pub use number::{arithmetic, fits, wide};
 pub use op::Op;
 pub use outcome::Outcome;
 pub use stack::{content_at, note_used, put, unused};
-
-#[cfg(test)]
-mod test_functions;
-#[cfg(test)]
-mod tests;

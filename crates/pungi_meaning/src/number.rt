@@ -36,7 +36,7 @@ fn in_range(kind: ValueKind, number: i64) -> Option<i64>
 }
 
 /// What an operator gives in a kind. There is no result past the kind's range, and none of a division by 0
-/// (C11 6.5, 6.5.5). `/` cuts towards 0, and `%` of the least number by -1 is 0.
+/// (C11 6.5, 6.5.5). `/` cuts towards 0. `%` of the least number by -1, which C11 leaves undefined, is 0 here.
 pub fn arithmetic(op: Op, kind: ValueKind, left: i64, right: i64) -> Option<i64>
     ensures { result ≡ arithmetic_result op kind left right }
 {

@@ -5,9 +5,9 @@ use Rattle.std.proofs.lemmas.Bool.Decides.{nat_tests}
 use Rattle.pungi_base.specs.declared.names.Name.{Name}
 use Rattle.pungi_tree.specs.Syntax.{Base, words, alias, tagged, tagged_fields, Item}
 use Rattle.pungi_types.specs.Files.{Typedef, typedefs}
-use Rattle.pungi_types.specs.Kinds.{Core, builtin, no_core, Followed, core_alone, core_at, more_stars, named_core, typedef_core, typedef_in, tagged_in, spec_base, is_listed_type}
+use Rattle.pungi_types.specs.Kinds.{Core, builtin, no_core, Followed, core_alone, core_at, more_stars, named_core, typedef_core, typedef_in, tagged_in, written_tag, core_here, spec_base, is_listed_type}
 use Rattle.pungi_types.specs.Tags.{tags}
-use Rattle.pungi_names.specs.Depth.{nowhere, with_stars, known, known_at, Reaches, Leads, alias_of, own_core}
+use Rattle.pungi_names.specs.Depth.{nowhere, with_stars, known, known_at, Reaches, Leads, alias_of, struct_word, own_core}
 use Rattle.pungi_names.proofs.DepthLemmas.{behind-known}
 
 zero_within : (n : ℕ) → nat_le 0 n ≡ true
@@ -47,19 +47,29 @@ missing file w h none zero = unlisted-first file w h ∙ sym (either (nat_le 0 z
 missing file w h none (suc n) = unlisted-later file w h n ∙ ap (followed file n) none ∙ sym (either (nat_le 0 (suc n)))
 
 named-own : (file : List Item) (n : ℕ) (name : Name) (b : Base) → alias_of b ≡ None
-    → named_core (core_at n file) file name b ≡ core_alone (own_core (is_some (tagged_in (tags file) name.0)) name b)
+    → named_core (core_at n file) file name b ≡ core_alone (own_core (is_some (tagged_in (tags file) (struct_word name (written_tag b)).0)) name b)
 named-own file zero name (words ks) e = refl
 named-own file (suc n) name (words ks) e = refl
 named-own file n name (alias w) e = absurd cc
-named-own file zero name (tagged of t) e = refl
-named-own file (suc n) name (tagged of t) e = refl
+named-own file zero name (tagged of None) e = refl
+named-own file (suc n) name (tagged of None) e = refl
+named-own file zero name (tagged of (Some t)) e = refl
+named-own file (suc n) name (tagged of (Some t)) e = refl
 named-own file n name (tagged_fields of None fs) e = refl
 named-own file zero name (tagged_fields of (Some t) fs) e = refl
 named-own file (suc n) name (tagged_fields of (Some t) fs) e = refl
 
+-- a type that is no word of a typedef
+pub written-itself : (file : List Item) (n : ℕ) (b : Base) → alias_of b ≡ None → core_at n file b ≡ core_alone (core_here file b)
+written-itself file zero b e = refl
+written-itself file (suc n) (words ks) e = refl
+written-itself file (suc n) (alias w) e = absurd cc
+written-itself file (suc n) (tagged of t) e = refl
+written-itself file (suc n) (tagged_fields of t fs) e = refl
+
 -- a typedef that writes its type itself
 pub ends : (file : List Item) (w : ℕ) (t : Typedef) (c : Core) → is_listed_type w ≡ false → typedef_in (typedefs file) w ≡ Some t
-    → alias_of (spec_base t.spec) ≡ None → c ≡ own_core (is_some (tagged_in (tags file) t.name.0)) t.name (spec_base t.spec)
+    → alias_of (spec_base t.spec) ≡ None → c ≡ own_core (is_some (tagged_in (tags file) (struct_word t.name (written_tag (spec_base t.spec))).0)) t.name (spec_base t.spec)
     → Reaches (known_at file) w (record { depth = 1; at = record { core = c; stars = t.stars } })
 ends file w t c h some own is zero = unlisted-first file w h ∙ sym (ap (λ b. cond b (with_stars c t.stars) nowhere) none_within)
 ends file w t c h some own is (suc n) =

@@ -11,7 +11,8 @@
 --   Reaches step w r   followed any number of times, the word is what is reached within so many
 --   Leads step w k v   the word is another with so many stars more
 --   alias_of b         the word that a type is
---   own_core tag n b   the type that a typedef of a word writes itself; tag tells whether the word is also the tag of a struct
+--   struct_word n t    the word by which a struct is found: its tag, or where it has none the word of its typedef
+--   own_core tag n b   the type that a typedef of a word writes itself; tag tells whether a struct with fields has that word as its tag
 use Rattle.std.specs.Prelude.{◌≡◌, ℕ, zero, suc, ◌+◌, nat_le, Bool, ◌&&◌, not, Option, Some, None, List, if◌then◌else◌}
 use Rattle.pungi_base.specs.declared.names.Name.{Name}
 use Rattle.pungi_tree.specs.Syntax.{Base, alias, tagged_fields, Item}
@@ -62,6 +63,10 @@ abbrev pub alias_of : Base → Option Name
 alias_of (alias n) = Some n
 alias_of _ = None
 
+abbrev pub struct_word : Name → Option Name → Name
+struct_word n None = n
+struct_word n (Some t) = t
+
 abbrev pub own_core : Bool → Name → Base → Core
 own_core tag n (tagged_fields of None fs) = (if is_struct of && not tag then struct_of n else no_core)
-own_core tag n b = written_core b
+own_core tag n b = written_core tag b

@@ -1,17 +1,18 @@
 // Types with their typedefs followed.
 ghost use Rattle.std.specs.Prelude.{◌≡◌, ℕ, nat_eq, option_map, false};
 ghost use Rattle.indexmap.specs.IndexMap.{get};
+ghost use Rattle.indexmap.specs.IndexSet.{contains};
 ghost use Rattle.pungi_names.specs.Depth.{known, word_base, found_within, reached_within};
-ghost use Rattle.pungi_names.specs.Finds.{reached_view};
+ghost use Rattle.pungi_names.specs.Finds.{FindsTags, reached_view};
 ghost use Rattle.pungi_tree.specs.UnitView.{unit_view};
-ghost use Rattle.pungi_types.specs.Kinds.{is_listed_type as is_listed_type_of, core_of as core_of_base};
+ghost use Rattle.pungi_types.specs.Kinds.{is_listed_type as is_listed_type_of, written_tag as written_tag_of, is_fielded as is_fielded_of, core_of as core_of_base};
 
 use crate::step::Reached;
 use crate::written::alias_of;
-use indexmap::IndexMap;
+use indexmap::{IndexMap, IndexSet};
 use pungi_base::Name;
 use pungi_tree::{Base, Unit};
-use pungi_types::{Core, is_listed_type, written_core};
+use pungi_types::{Core, is_listed_type, written_core, written_tag};
 
 /// A type once typedefs are followed.
 #[derive(Clone, Copy, Debug)]
@@ -24,9 +25,12 @@ pub(crate) struct Followed<'u> {
 #[derive(Drop)]
 pub(crate) struct Cores<'u> {
     pub(crate) unit: &'u Unit,
+    /// The tags of structs with fields.
+    pub(crate) tags: IndexSet<u32>,
     pub(crate) reached: IndexMap<u32, Reached<'u>>,
     /// How many typedefs the file has.
     pub(crate) count: usize,
+    pub(crate) ghost tags_found: { FindsTags (contains nat_eq tags) (unit_view unit.now) },
     pub(crate) ghost followed: { (w : ℕ) → is_listed_type_of w ≡ false → found_within (option_map reached_view (get nat_eq reached w)) count ≡ known (core_of_base (unit_view unit.now) (word_base w)) },
 }
 
@@ -68,6 +72,15 @@ impl<'u> Cores<'u> {
         }
     }
 
+    fn is_fielded(&self, base: &Base) -> bool
+        ensures { result ≡ is_fielded_of (unit_view self.now.unit.now) (written_tag_of (base_view base.now)) }
+    {
+        match written_tag(base) {
+            Some(tag) => self.tags.contains(&tag.0),
+            None => false,
+        }
+    }
+
     /// What a type is once typedefs are followed.
     pub(crate) fn core_of<'a>(&'a self, base: &'a Base) -> Followed<'a>
         ensures { known (followed_view result) ≡ known (core_of_base (unit_view self.now.unit.now) (base_view base.now)) }
@@ -75,7 +88,7 @@ impl<'u> Cores<'u> {
         match alias_of(base) {
             Some(word) => self.word_core(word),
             None => Followed {
-                core: written_core(base),
+                core: written_core(self.is_fielded(base), base),
                 stars: 0,
             },
         }

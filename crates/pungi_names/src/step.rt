@@ -9,7 +9,7 @@ ghost use Rattle.pungi_types.specs.Files.{typedefs as typedefs_of};
 ghost use Rattle.pungi_types.specs.Kinds.{typedef_in, is_listed_type as is_listed_type_of};
 ghost use Rattle.pungi_types.specs.TypesView.{typedef_view};
 
-use crate::written::{alias_of, own_core};
+use crate::written::{alias_of, own_core, struct_word};
 use indexmap::{IndexMap, IndexSet};
 use pungi_base::Name;
 use pungi_tree::Unit;
@@ -41,7 +41,11 @@ fn typedef_step<'u>(unit: &Unit, tags: &IndexSet<u32>, word: u32, found: &Typede
     match alias_of(&found.spec.base) {
         Some(next) => Step::Leads(found.stars, next.0),
         None => Step::Ends(Reached {
-            core: own_core(tags.contains(&found.name.0), found.name, &found.spec.base),
+            core: own_core(
+                tags.contains(&struct_word(found.name, &found.spec.base).0),
+                found.name,
+                &found.spec.base,
+            ),
             stars: found.stars,
             depth: 1,
         }),

@@ -139,6 +139,7 @@ pub(crate) fn cores<'u>(
     let reached = reached_words(alloc, unit, typedefs, &first, &words)?;
     Ok(Cores {
         unit,
+        tags: words,
         reached,
         count: typedefs.len(),
     })

@@ -1,13 +1,13 @@
 // What a type is, as it is written.
 ghost use Rattle.std.specs.Prelude.{◌≡◌, ◌&&◌, not, if◌then◌else◌};
-ghost use Rattle.pungi_names.specs.Depth.{alias_of as alias_of_base, own_core as own_core_of};
+ghost use Rattle.pungi_names.specs.Depth.{alias_of as alias_of_base, struct_word as struct_word_of, own_core as own_core_of};
 ghost use Rattle.pungi_tree.specs.ExprView.{base_view};
-ghost use Rattle.pungi_types.specs.Kinds.{is_struct, struct_of, no_core};
+ghost use Rattle.pungi_types.specs.Kinds.{is_struct, struct_of, no_core, written_tag as written_tag_of};
 ghost use Rattle.pungi_types.specs.TypesView.{core_view};
 
 use pungi_base::{Key, Name};
 use pungi_tree::Base;
-use pungi_types::{Core, written_core};
+use pungi_types::{Core, written_core, written_tag};
 
 /// The word that a type is.
 pub(crate) fn alias_of(base: &Base) -> Option<Name>
@@ -21,6 +21,16 @@ pub(crate) fn alias_of(base: &Base) -> Option<Name>
             fields: Some(_),
             ..
         } => None,
+    }
+}
+
+/// The word by which a struct is found: its tag, or where it has none the word of its typedef.
+pub(crate) fn struct_word(name: Name, base: &Base) -> Name
+    ensures { result ≡ struct_word_of name (written_tag_of (base_view base.now)) }
+{
+    match written_tag(base) {
+        Some(tag) => tag,
+        None => name,
     }
 }
 
@@ -47,8 +57,8 @@ pub(crate) fn own_core(is_tag: bool, name: Name, base: &Base) -> Core<'_>
             tag: None,
             fields: None,
             ..
-        } => written_core(base),
-        Base::Tagged { tag: Some(_), .. } => written_core(base),
-        Base::Words(_) | Base::Alias(_) => written_core(base),
+        } => written_core(is_tag, base),
+        Base::Tagged { tag: Some(_), .. } => written_core(is_tag, base),
+        Base::Words(_) | Base::Alias(_) => written_core(is_tag, base),
     }
 }

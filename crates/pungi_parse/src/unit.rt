@@ -24,12 +24,9 @@ use std::alloc::Global;
 /// a path. A token behind which more than 64 brackets are open is looked for first. Where there is no such tree, the
 /// fault is at the first token behind the longest front that is one under the type words of all tokens.
 pub fn parse(alloc: Global, tokens: &[Token]) -> Result<Unit, ParseFault>
-    // What is read is the tokens' file.
     ensures unit { IfOk result (λ u. IsUnit (unit_view u) (placed tokens.now)) }
-    // A file is read wherever there is one, and there is no other one.
     ensures only { (items : List PlainItem) → too_deep 0 (placed tokens.now) ≡ None → IsUnit items (placed tokens.now) → MatchResult result (λ u. unit_view u ≡ items) (λ e. e ≡ ParseFault.Memory) }
     ensures not_a_unit { (p : ThePos) → result ≡ Err (ParseFault.NotAUnit p) → StopsAt (placed tokens.now) p }
-    // Then no tree at all has these kinds of tokens, wherever its tokens stand.
     ensures no_tree { (p : ThePos) → result ≡ Err (ParseFault.NotAUnit p) → (items : List PlainItem) → items_flat items ≡ kinds (placed tokens.now) → is_levelled items ≡ true → items_depth items ≤ deepest → ⊥ }
     ensures deep { (p : ThePos) → result ≡ Err (ParseFault.Deep p) → too_deep 0 (placed tokens.now) ≡ Some p }
     ensures first { (p : ThePos) → too_deep 0 (placed tokens.now) ≡ Some p → result ≡ Err (ParseFault.Deep p) }

@@ -36,7 +36,7 @@ mutual
       cc (kind-same x s t ls c l, kind-same x s t ls a m, kind-same x s t ls b r, expr-same x s t ls c l, expr-same x s t ls a m, expr-same x s t ls b r)
   expr-same x s t ls (comma p a b) h =
       cc (expr-same x s t ls a (left x s t (expr_calls a) (expr_calls b) h), expr-same x s t ls b (right x s t (expr_calls a) (expr_calls b) h))
-  expr-same x s t ls (cast p ty e) h = cc (kind-same x s t ls e h, expr-same x s t ls e h)
+  expr-same x s t ls (cast p ty e) h = rw (kind-same x s t ls e h) (rw (expr-same x s t ls e h) refl)
   expr-same x s t ls (size_of_type p ty) h = refl
   expr-same x s t ls (call p f es) h =
       let g = right x s t (called_word f) (expr_calls f ++ exprs_calls es) h in

@@ -9,6 +9,3 @@ mod worklist;
 pub use calls::called_words;
 pub use function::Function;
 pub use worklist::least_set;
-
-#[cfg(test)]
-mod tests;

@@ -4,6 +4,3 @@
 mod text;
 
 pub use text::report;
-
-#[cfg(test)]
-mod tests;

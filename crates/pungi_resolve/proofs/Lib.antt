@@ -1,11 +1,11 @@
 pub mod Clean
 pub mod Known
 pub mod OperatorKinds
+pub mod UsedValues
 pub mod SoundParts
 pub mod SoundExprs
 pub mod SoundStmts
 pub mod SoundFunctions
-pub mod WordLemmas
 pub mod ListLemmas
 pub mod SiteLemmas
 pub mod OperandLemmas

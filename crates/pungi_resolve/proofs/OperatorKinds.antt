@@ -130,17 +130,17 @@ joined-known a b s t =
     if-some (is_integer a && is_integer b) (Some (wider a b)) _ refl
     (if-some (is_null a) b _ t (if-some (is_null b) a _ s (if-some (is_text a) a _ s (if-some (has_same (struct_part a) (struct_part b)) a (Some (kinds.Object None)) s refl))))
 
-chosen-fits : (c a b s t j : Bool) → s ≡ true → t ≡ true → (c || (a || (b || ((s && t) && not j)))) ≡ false → (not c && ((s && t) && j)) ≡ true
-chosen-fits false false false true true true x y h = refl
-chosen-fits _ _ _ _ _ _ x y h = absurd (cc)
+chosen-fits : (r c a b s t j : Bool) → r ≡ true → s ≡ true → t ≡ true → (c || (a || (b || ((s && t) && not j)))) ≡ false → ((r && not c) && ((s && t) && j)) ≡ true
+chosen-fits true false false false true true true w x y h = refl
+chosen-fits _ _ _ _ _ _ _ w x y h = absurd (cc)
 
-pub cond-kept : (c a b : Option ValueKind) → is_some a ≡ true → is_some b ≡ true → cond_wrong c a b ≡ false → is_some (cond_kind c a b) ≡ true
-cond-kept c a b s t w =
-    if-true (not (is_void c) && (both_known a b && joinable a b)) (joined a b)
-    (chosen-fits (is_void c) (is_void a) (is_void b) (is_some a) (is_some b) (joinable a b) s t w) (joined-known a b s t)
+pub cond-kept : (c a b : Option ValueKind) → is_some c ≡ true → is_some a ≡ true → is_some b ≡ true → cond_wrong c a b ≡ false → is_some (cond_kind c a b) ≡ true
+cond-kept c a b r s t w =
+    if-true ((is_some c && not (is_void c)) && (both_known a b && joinable a b)) (joined a b)
+    (chosen-fits (is_some c) (is_void c) (is_void a) (is_void b) (is_some a) (is_some b) (joinable a b) r s t w) (joined-known a b s t)
 
-cast-fits : (st vt vk sk c f : Bool) → st ≡ true → sk ≡ true → c ≡ false → (st && (not vt && (vk || (sk && (not c && not f))))) ≡ false → (vt || f) ≡ true
-cast-fits true true vk sk c f a b d h = refl
+cast-fits : (st vt vk sk c f : Bool) → st ≡ true → sk ≡ true → c ≡ false → (st && (not vt && (vk || (sk && (not c && not f))))) ≡ false → ((vt && sk) || f) ≡ true
+cast-fits true true vk true c f a b d h = refl
 cast-fits true false vk sk c true a b d h = refl
 cast-fits true false true sk c false a b d h = absurd (cc)
 cast-fits true false false true false false a b d h = absurd (cc)
@@ -148,4 +148,4 @@ cast-fits _ _ _ _ _ _ a b d h = absurd (cc)
 
 pub cast-kept : (to k : Option ValueKind) → is_some to ≡ true → is_some k ≡ true → crosses to k ≡ false → cast_wrong to k ≡ false → is_some (cast_kind to k) ≡ true
 cast-kept to k s t c w =
-    if-true (is_void to || fits to k) to (cast-fits (is_some to) (is_void to) (is_void k) (is_some k) (crosses to k) (fits to k) s t c w) s
+    if-true ((is_void to && is_some k) || fits to k) to (cast-fits (is_some to) (is_void to) (is_void k) (is_some k) (crosses to k) (fits to k) s t c w) s

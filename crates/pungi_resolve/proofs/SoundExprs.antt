@@ -14,12 +14,13 @@ use Rattle.pungi_types.specs.Names.{Env, meaning_of, local_in}
 use Rattle.pungi_types.specs.Kinds.{type_name_kind, field_kind}
 use Rattle.pungi_types.specs.Findings.{Findings, nothing_found, ◌and◌}
 use Rattle.pungi_types.specs.Operators.{prefix_of, is_bits, is_arithmetic, is_order, is_equality, is_bits_assign, is_arithmetic_assign, is_pointer, struct_part}
-use Rattle.pungi_types.specs.Exprs.{kind_of, is_place, is_address, is_left_out, is_step_or_sign, names_type_object, is_module_address, callee, wants, wants_module, other_wants, are_met, is_word, unary_kind, unary_wrong, int_kind, is_bad_int, result_kind, used, n1, n2, n3, n4, n5, n9, n10, n12, n13, n14, node_findings, expr_findings, args_findings}
+use Rattle.pungi_types.specs.Exprs.{kind_of, is_place, is_address, is_left_out, is_step_or_sign, names_type_object, is_module_address, callee, wants, wants_module, other_wants, are_met, is_word, unary_kind, unary_wrong, binary_wrong, assign_wrong, cond_wrong, int_kind, is_bad_int, result_kind, used, n1, n2, n3, n4, n5, n9, n10, n12, n13, n14, node_findings, expr_findings, args_findings}
 use Rattle.pungi_types.specs.Resolved.{resolve, place_of, resolve_all, unary_value, int_value, convert, want_kind, expr_pos, module_behind, callee_name}
 use Rattle.pungi_types.specs.Sound.{is_sound, are_sound, is_sound_place}
 use Rattle.pungi_resolve.proofs.Clean.{Clean, left, right, not_when, not_false, is_there, and_true, and_right}
 use Rattle.pungi_resolve.proofs.Known.{HasKinds, answers, place-not_void}
 use Rattle.pungi_resolve.proofs.OperatorKinds.{step-kept, sign-kept, negation-kept, binary-kept, assign-kept, cond-kept, cast-kept}
+use Rattle.pungi_resolve.proofs.UsedValues.{one-asked, two-asked, three-asked, cast-asked}
 use Rattle.pungi_resolve.proofs.SoundParts.{convert-same, cast-same, binary-same, assign-same, read-sound, field-sound, has_struct, slot-sound, word-holds, static-sound, module-sound, word-callable, call-holds}
 
 -- an expression with a kind, that is sound, also as a place
@@ -150,7 +151,7 @@ mutual
       let u = unary-good env p k (prefix_of k) e (record {
         two = not_when _ p 2 m.two;
         five = not_when _ p 5 m.five;
-        ten = not_when _ p 10 (left _ _ m.ten);
+        ten = one-asked env (unary_wrong (prefix_of k) (is_place env e)) p e m.ten;
         thirteen = not_when _ p 13 m.thirteen;
         good = λ b. expr-good env h e (unless (is_address (prefix_of k) && names_type_object env e) (expr_findings env e) (left fs _ c) b);
       }) in
@@ -158,7 +159,7 @@ mutual
   expr-good env h (post p o e) c =
       let g = expr-good env h e (left _ _ c) in
       let m = node env (post p o e) (right (expr_findings env e) _ c) in
-      let s = step-kept (is_place env e) (kind_of env e) g.known (not_when _ p 10 (left _ _ m.ten)) (not_when _ p 13 m.thirteen) in
+      let s = step-kept (is_place env e) (kind_of env e) g.known (one-asked env (unary_wrong prefixes.Step (is_place env e)) p e m.ten) (not_when _ p 13 m.thirteen) in
       record { known = s.1; sound = g.place s.0; place = λ x. absurd (cc) }
   expr-good env h (binary p o a b) c =
       let rest = right (expr_findings env a) _ c in
@@ -167,7 +168,7 @@ mutual
       let m = node env (binary p o a b) (right (expr_findings env b) _ rest) in
       record {
         known = binary-kept (is_bits o) (is_arithmetic o) (is_order o) (is_equality o) (kind_of env a) (kind_of env b) ga.known gb.known
-            (not_when _ p 2 m.two) (not_when _ p 10 (left _ _ m.ten)) (not_when _ p 13 m.thirteen);
+            (not_when _ p 2 m.two) (two-asked env (binary_wrong o) p a b m.ten) (not_when _ p 13 m.thirteen);
         sound = binary-same p o (kind_of env (binary p o a b)) (resolve env a) (resolve env b) ∙ and_true _ _ ga.sound gb.sound;
         place = λ x. absurd (cc);
       }
@@ -177,7 +178,7 @@ mutual
       let gb = expr-good env h b (left (expr_findings env b) _ rest) in
       let m = node env (assign p o a b) (right (expr_findings env b) _ rest) in
       let s = assign-kept (is_bits_assign o) (is_arithmetic_assign o) (is_place env a) (kind_of env a) (kind_of env b) ga.known gb.known
-      (place-not_void env h a) (not_when _ p 2 m.two) (not_when _ p 10 (left _ _ m.ten)) (not_when _ p 13 m.thirteen) in
+      (place-not_void env h a) (not_when _ p 2 m.two) (two-asked env (assign_wrong o (is_place env a)) p a b m.ten) (not_when _ p 13 m.thirteen) in
       record {
         known = s.known;
         sound = assign-same p o (kind_of env a) (kind_of env b) (place_of env a) (resolve env b) ∙ and_true _ _ (ga.place s.to_place) gb.sound;
@@ -191,7 +192,7 @@ mutual
       let gb = expr-good env h b (left (expr_findings env b) _ rest) in
       let m = node env (conditional p t a b) (right (expr_findings env b) _ rest) in
       record {
-        known = cond-kept (kind_of env t) (kind_of env a) (kind_of env b) ga.known gb.known (not_when _ p 10 (left _ _ m.ten));
+        known = cond-kept (kind_of env t) (kind_of env a) (kind_of env b) gt.known ga.known gb.known (three-asked env cond_wrong p t a b m.ten);
         sound = and_true _ _ gt.sound (and_true _ _ ga.sound gb.sound);
         place = λ x. absurd (cc);
       }
@@ -201,7 +202,7 @@ mutual
       let m = node env (cast p t e) (right (expr_findings env e) _ c) in
       record {
         known = cast-kept (type_name_kind env.file t) (kind_of env e) (is_there (type_name_kind env.file t) (not_when _ _ 1 m.one)) g.known
-            (not_when _ p 4 m.four) (not_when _ p 10 (left _ _ m.ten));
+            (not_when _ p 4 m.four) (cast-asked env (type_name_kind env.file t) p e m.ten);
         sound = cast-same p (type_name_kind env.file t) (kind_of env e) (resolve env e) ∙ g.sound;
         place = λ x. absurd (cc);
       }

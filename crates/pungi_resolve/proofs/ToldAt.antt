@@ -6,14 +6,6 @@ use Rattle.pungi_declared.specs.DeclaredView.{function_view}
 use Rattle.pungi_types.specs.Files.{Definition}
 use Rattle.pungi_types.specs.declared.finding.Finding.{Finding}
 
-length-map : (A B : Type 0) (f : A → B) (xs : List A) → length (map f xs) ≡ length xs
-length-map A B f [] = refl
-length-map A B f (x ∷ xs) = ap suc (length-map A B f xs)
-
-pub told-length : (list : List (Bor FunctionDef)) (g : Definition → Option Finding) (all : List (Option Finding)) → all ≡ map g (map function_view list) → length all ≡ length list
-told-length list g all is =
-    ap length is ∙ length-map Definition (Option Finding) g (map function_view list) ∙ length-map (Bor FunctionDef) Definition function_view list
-
 told-in : (list : List (Bor FunctionDef)) (g : Definition → Option Finding) (i : ℕ) (f : Bor FunctionDef) → i < length list → f ≡ get_or list i f
     → slice_index_or (map g (map function_view list)) i None ≡ g (function_view f)
 told-in [] g i f lt is = absurd (omega (arith, lt))

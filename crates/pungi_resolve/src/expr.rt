@@ -2,7 +2,7 @@
 ghost use Rattle.std.specs.Prelude.{◌≡◌, IfOk, map, true};
 ghost use Rattle.pungi_types.specs.Operators.{struct_part};
 ghost use Rattle.pungi_types.specs.Kinds.{field_kind};
-ghost use Rattle.pungi_types.specs.Exprs.{kind_of, are_met, first_met as first_met_of, is_module_address as is_module_address_of};
+ghost use Rattle.pungi_types.specs.Exprs.{kind_of, operand as operand_of, are_met, first_met as first_met_of, is_module_address as is_module_address_of};
 ghost use Rattle.pungi_types.specs.Resolved.{resolve as resolve_of, expr_pos, want_kind, place_of, resolve_all, field_of as field_of_of};
 ghost use Rattle.pungi_types.specs.Sound.{is_sound, are_sound, is_sound_place};
 ghost use Rattle.pungi_tree.specs.Syntax as plain;
@@ -21,7 +21,7 @@ use pungi_base::{Kind, Memory, Name, Pos};
 use pungi_tree::{Expr, ExprNode};
 use pungi_types::operator::{byte_value, first_met, other_wants, prefix_of, wants_module};
 use pungi_types::{
-    Lookup, Prefix, ValueKind, Want, call_kind, callee_wants, is_module_address, is_place,
+    Lookup, Prefix, ValueKind, Want, call_kind, callee_wants, is_module_address, is_place, operand,
 };
 use std::alloc::Global;
 
@@ -247,7 +247,7 @@ fn resolve_arg<N: Lookup>(
 ) -> Result<Argument, Memory>
     requires { is_sound (argument_in (N.env names.now) wants.now (expr_view e.now)) ≡ true }
     ensures value { IfOk result (λ x. value_view x.value ≡ argument_in (N.env names.now) wants.now (expr_view e.now)) }
-    ensures met { IfOk result (λ x. x.met ≡ first_met_of wants.now (is_module_address_of (N.env names.now) (expr_view e.now)) (kind_of (N.env names.now) (expr_view e.now))) }
+    ensures met { IfOk result (λ x. x.met ≡ first_met_of wants.now (is_module_address_of (N.env names.now) (expr_view e.now)) (operand_of (kind_of (N.env names.now) (expr_view e.now)) (expr_view e.now))) }
 {
     let is_module = is_module_address(names, e);
     if wants_module(wants) && is_module {
@@ -255,7 +255,7 @@ fn resolve_arg<N: Lookup>(
         return Ok(Argument { value, met: true });
     }
     let a = resolve_expr(alloc, names, e)?;
-    let met = first_met(wants, is_module, a.kind);
+    let met = first_met(wants, is_module, operand(a.kind, e));
     let pos = pos_of(e);
     let value = convert(alloc, pos, wanted_kind(wants), a.kind, a.value)?;
     Ok(Argument { value, met })

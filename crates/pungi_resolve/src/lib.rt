@@ -20,6 +20,3 @@ mod word;
 
 pub use function::resolve;
 pub use unit::resolve_unit;
-
-#[cfg(test)]
-mod tests;

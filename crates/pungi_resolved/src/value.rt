@@ -15,13 +15,17 @@ pub struct Value {
 #[derive(Drop)]
 #[cycle(values)]
 pub enum ValueNode {
+    /// An integer constant or a character, by its value.
     Constant(i64),
+    /// A string literal, by its parts.
     Text(Vec<Name>),
+    /// `NULL`.
     Null,
     /// A static object, by its number.
     Static(u32),
     /// `&` of a module table.
     Module(Name),
+    /// The value of a place, which has that kind.
     Read(ValueKind, Place),
     /// A parenthesis.
     Inner(Box<Value>),
@@ -31,7 +35,9 @@ pub enum ValueNode {
     Negated(Box<Value>),
     /// `++` and `--`, behind the operand where true.
     Stepped(bool, Kind, ValueKind, Place),
+    /// An arithmetic operator between two operands, in the kind of the arithmetic.
     Computed(Punct, ValueKind, Box<Value>, Box<Value>),
+    /// A comparison.
     Compared(Punct, Box<Value>, Box<Value>),
     /// `&&` and `||`.
     Joined(Punct, Box<Value>, Box<Value>),
@@ -59,6 +65,7 @@ pub enum ValueNode {
 pub enum Place {
     /// A local, by its number.
     Local(Pos, usize),
+    /// A variable of the file.
     Global(Pos, Name),
     /// The place of `->`, the base, the name of its struct and the field.
     Field(Pos, Box<Value>, Name, Name),

@@ -37,6 +37,7 @@ impl Model for LocalNames {
 }
 
 impl LocalNames {
+    /// No locals.
     pub fn new(alloc: Global) -> Self
         ensures { result ≡ [] }
     {

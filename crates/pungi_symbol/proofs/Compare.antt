@@ -48,7 +48,7 @@ use Rattle.pungi_symbol.proofs.Plain.{unset_led, set_led}
 
 abbrev holds_by : Cmp → Bool → ℤ → ℤ → Bool
 holds_by cmps.Equal e a b = e
-holds_by cmps.Other e a b = not e
+holds_by cmps.NotEqual e a b = not e
 holds_by cmps.Less e a b = int_lt a b
 holds_by cmps.LessEqual e a b = int_le a b
 holds_by cmps.Greater e a b = int_lt b a
@@ -56,7 +56,7 @@ holds_by cmps.GreaterEqual e a b = int_le b a
 
 holds_is : (c : Cmp) (v x : Value) → holds c v x ≡ holds_by c (is_equal v x) (number_of v) (number_of x)
 holds_is cmps.Equal v x = refl
-holds_is cmps.Other v x = refl
+holds_is cmps.NotEqual v x = refl
 holds_is cmps.Less v x = refl
 holds_is cmps.LessEqual v x = refl
 holds_is cmps.Greater v x = refl

@@ -32,8 +32,3 @@ pub use decision::Decision;
 pub use steps::{end, is_balanced, solve, start, step, step_from};
 pub use sym::Sym;
 pub use sym_end::SymEnd;
-
-#[cfg(test)]
-mod test_codes;
-#[cfg(test)]
-mod tests;

@@ -17,8 +17,9 @@ use pungi_base::{Memory, Witness};
 use pungi_code::Codes;
 use std::alloc::Global;
 
-/// The state at the start of a function, where it has code. Each run of the function is, after each instruction, in a state
-/// at the end of a path that begins here, and has the path's answers as its trace.
+/// The state at the start of a function, where it has code. If the code is of the object form, each run of it wants a choice
+/// that isn't there, or it is, after each instruction, in a state at the end of a path that begins here, and has the path's
+/// answers as its trace.
 pub fn start(alloc: Global, codes: &Codes, f: usize) -> Result<Vec<(Decision, Sym)>, Memory>
     ensures first { IfOk result (λ first. first.items ≡ starts codes.now.statics f (code_at codes.now f)) }
     ensures forward { IfOk result (λ _. Covers codes.now f) }
@@ -27,7 +28,8 @@ pub fn start(alloc: Global, codes: &Codes, f: usize) -> Result<Vec<(Decision, Sy
     Ok(first)
 }
 
-/// The next states, each with its answer. Each answer that a run in this state may give is there, and no other.
+/// The next states of a code of the object form, each with its answer: each answer that a run in this state may give is
+/// there, and no other.
 pub fn step(alloc: Global, codes: &Codes, state: &Sym) -> Result<Vec<(Decision, Sym)>, Memory>
     ensures next { IfOk result (λ next. next.items ≡ next_states codes.now state.now) }
     ensures path { IfOk result (λ next. (code : Code) (ds : List DecisionOf) → IsReached codes.now state.now ds code → All (λ p. Path code.instrs (start_state codes.now.statics state.now.known.function code) (p.0 ∷ ds) p.1) next.items) }

@@ -34,8 +34,3 @@ pub use unit::Unit;
 pub use unit_depth::depth;
 pub use unit_flat::flat;
 pub use unit_levels::levels_ok;
-
-#[cfg(test)]
-mod test_trees;
-#[cfg(test)]
-mod tests;

@@ -136,7 +136,7 @@ file_4 = plain.function_def (plain.head ([]) (plain.spec (at 1 1) (plain.words (
 no_fault_4 : least (faults file_4 builtin_rows) ≡ None
 no_fault_4 = refl
 
-told_4 : map (refusal file_4 builtin_rows (411 ∷ 412 ∷ 413 ∷ 414 ∷ 415 ∷ 416 ∷ 418 ∷ 419 ∷ 420 ∷ 421 ∷ 422 ∷ 423 ∷ 425 ∷ 426 ∷ 427 ∷ 428 ∷ 429 ∷ 430 ∷ 431 ∷ 433 ∷ 434 ∷ 435 ∷ 437 ∷ 439 ∷ 441 ∷ 442 ∷ 443 ∷ 444 ∷ 445 ∷ 447 ∷ 449 ∷ [])) (definitions file_4) ≡ (told 1 26 2 ∷ told 2 24 2 ∷ told 3 19 2 ∷ told 4 25 2 ∷ told 5 17 1 ∷ told 6 30 2 ∷ told 7 31 2 ∷ told 8 24 3 ∷ told 9 24 3 ∷ told 10 30 4 ∷ told 11 8 1 ∷ told 12 30 5 ∷ None ∷ told 14 29 9 ∷ told 15 32 13 ∷ told 16 24 13 ∷ told 17 25 13 ∷ told 18 23 14 ∷ told 19 24 14 ∷ told 20 23 9 ∷ told 21 23 10 ∷ told 22 23 10 ∷ told 23 30 10 ∷ None ∷ told 25 36 10 ∷ None ∷ told 27 32 10 ∷ None ∷ told 29 30 10 ∷ told 30 79 10 ∷ told 31 30 9 ∷ told 32 24 10 ∷ told 33 21 10 ∷ None ∷ told 35 32 10 ∷ told 36 35 9 ∷ [])
+told_4 : map (refusal file_4 builtin_rows (411 ∷ 412 ∷ 413 ∷ 414 ∷ 415 ∷ 416 ∷ 418 ∷ 419 ∷ 420 ∷ 421 ∷ 422 ∷ 423 ∷ 425 ∷ 426 ∷ 427 ∷ 428 ∷ 429 ∷ 430 ∷ 431 ∷ 433 ∷ 434 ∷ 435 ∷ 437 ∷ 439 ∷ 441 ∷ 442 ∷ 443 ∷ 444 ∷ 445 ∷ 447 ∷ 449 ∷ [])) (definitions file_4) ≡ (told 1 26 2 ∷ told 2 24 2 ∷ told 3 19 2 ∷ told 4 25 2 ∷ told 5 17 1 ∷ told 6 30 2 ∷ told 7 31 2 ∷ told 8 24 3 ∷ told 9 24 3 ∷ told 10 30 4 ∷ told 11 8 1 ∷ told 12 30 5 ∷ None ∷ told 14 29 9 ∷ told 15 32 13 ∷ told 16 24 13 ∷ told 17 25 13 ∷ told 18 23 14 ∷ told 19 24 14 ∷ told 20 23 9 ∷ told 21 23 10 ∷ told 22 30 10 ∷ told 23 30 10 ∷ None ∷ told 25 36 10 ∷ None ∷ told 27 32 10 ∷ None ∷ told 29 30 10 ∷ told 30 79 10 ∷ told 31 30 9 ∷ told 32 24 10 ∷ told 33 21 10 ∷ None ∷ told 35 32 10 ∷ told 36 35 9 ∷ [])
 told_4 = refl
 
 sound_4 : map (λ d. is_sound_action (resolved file_4 builtin_rows (411 ∷ 412 ∷ 413 ∷ 414 ∷ 415 ∷ 416 ∷ 418 ∷ 419 ∷ 420 ∷ 421 ∷ 422 ∷ 423 ∷ 425 ∷ 426 ∷ 427 ∷ 428 ∷ 429 ∷ 430 ∷ 431 ∷ 433 ∷ 434 ∷ 435 ∷ 437 ∷ 439 ∷ 441 ∷ 442 ∷ 443 ∷ 444 ∷ 445 ∷ 447 ∷ 449 ∷ []) d).body) (passed (refusal file_4 builtin_rows (411 ∷ 412 ∷ 413 ∷ 414 ∷ 415 ∷ 416 ∷ 418 ∷ 419 ∷ 420 ∷ 421 ∷ 422 ∷ 423 ∷ 425 ∷ 426 ∷ 427 ∷ 428 ∷ 429 ∷ 430 ∷ 431 ∷ 433 ∷ 434 ∷ 435 ∷ 437 ∷ 439 ∷ 441 ∷ 442 ∷ 443 ∷ 444 ∷ 445 ∷ 447 ∷ 449 ∷ [])) (definitions file_4)) ≡ (true ∷ true ∷ true ∷ true ∷ true ∷ [])
@@ -180,7 +180,7 @@ file_5 = plain.variables (plain.decl (keys.Static ∷ []) (plain.spec (at 1 8) (
 no_fault_5 : least (faults file_5 builtin_rows) ≡ None
 no_fault_5 = refl
 
-told_5 : map (refusal file_5 builtin_rows (458 ∷ 459 ∷ 460 ∷ 461 ∷ 462 ∷ 463 ∷ 464 ∷ 465 ∷ 467 ∷ 468 ∷ 470 ∷ 472 ∷ 473 ∷ 474 ∷ 475 ∷ 476 ∷ 478 ∷ 480 ∷ 481 ∷ 482 ∷ 483 ∷ 484 ∷ 485 ∷ [])) (definitions file_5) ≡ (None ∷ None ∷ None ∷ told 8 23 9 ∷ told 9 23 3 ∷ told 10 19 8 ∷ told 11 21 8 ∷ told 12 21 8 ∷ told 13 39 8 ∷ told 14 21 8 ∷ told 15 32 10 ∷ told 16 21 10 ∷ told 17 27 7 ∷ told 18 17 7 ∷ None ∷ told 20 40 7 ∷ told 21 38 7 ∷ told 22 28 7 ∷ told 23 30 7 ∷ told 24 17 10 ∷ None ∷ told 26 63 9 ∷ told 27 18 10 ∷ told 28 17 10 ∷ told 29 17 10 ∷ told 30 24 10 ∷ told 31 24 9 ∷ told 32 32 9 ∷ [])
+told_5 : map (refusal file_5 builtin_rows (458 ∷ 459 ∷ 460 ∷ 461 ∷ 462 ∷ 463 ∷ 464 ∷ 465 ∷ 467 ∷ 468 ∷ 470 ∷ 472 ∷ 473 ∷ 474 ∷ 475 ∷ 476 ∷ 478 ∷ 480 ∷ 481 ∷ 482 ∷ 483 ∷ 484 ∷ 485 ∷ [])) (definitions file_5) ≡ (None ∷ None ∷ None ∷ told 8 23 9 ∷ told 9 23 3 ∷ told 10 19 8 ∷ told 11 21 8 ∷ told 12 21 8 ∷ told 13 39 8 ∷ told 14 21 8 ∷ told 15 32 10 ∷ told 16 21 10 ∷ told 17 27 7 ∷ told 18 17 7 ∷ None ∷ told 20 40 7 ∷ told 21 38 7 ∷ told 22 28 7 ∷ told 23 30 7 ∷ told 24 17 10 ∷ None ∷ told 26 63 9 ∷ told 27 18 10 ∷ told 28 17 10 ∷ told 29 34 10 ∷ told 30 24 10 ∷ told 31 24 9 ∷ told 32 32 9 ∷ [])
 told_5 = refl
 
 sound_5 : map (λ d. is_sound_action (resolved file_5 builtin_rows (458 ∷ 459 ∷ 460 ∷ 461 ∷ 462 ∷ 463 ∷ 464 ∷ 465 ∷ 467 ∷ 468 ∷ 470 ∷ 472 ∷ 473 ∷ 474 ∷ 475 ∷ 476 ∷ 478 ∷ 480 ∷ 481 ∷ 482 ∷ 483 ∷ 484 ∷ 485 ∷ []) d).body) (passed (refusal file_5 builtin_rows (458 ∷ 459 ∷ 460 ∷ 461 ∷ 462 ∷ 463 ∷ 464 ∷ 465 ∷ 467 ∷ 468 ∷ 470 ∷ 472 ∷ 473 ∷ 474 ∷ 475 ∷ 476 ∷ 478 ∷ 480 ∷ 481 ∷ 482 ∷ 483 ∷ 484 ∷ 485 ∷ [])) (definitions file_5)) ≡ (true ∷ true ∷ true ∷ true ∷ true ∷ [])
@@ -237,3 +237,17 @@ told_10 = refl
 
 sound_10 : map (λ d. is_sound_action (resolved file_10 builtin_rows (389 ∷ []) d).body) (passed (refusal file_10 builtin_rows (389 ∷ [])) (definitions file_10)) ≡ (true ∷ [])
 sound_10 = refl
+
+-- typedef struct { PyObject_HEAD PyObject *first; } Box;
+-- void f(struct Box *p) { Py_INCREF(p); }
+-- PyObject *g(void) { return u ? 1 : 2; }
+-- int h(PyObject *x) { return (Py_INCREF(x)); }
+-- int k(void) { return (void)u; }
+abbrev file_11 : List plain.Item
+file_11 = plain.typedef (plain.spec (at 1 9) (plain.tagged_fields keys.Struct None (plain.field_and (plain.members ([]) (plain.spec (at 1 18) (plain.alias (name 48)) 0) (plain.declr_and (plain.declr ([]) (name 182) (at 1 18) (plain.sizes plain.no_sizes)) plain.no_declrs)) (plain.field_and (plain.members ([]) (plain.spec (at 1 32) (plain.alias (name 48)) 0) (plain.declr_and (plain.declr (0 ∷ []) (name 392) (at 1 42) (plain.sizes plain.no_sizes)) plain.no_declrs)) plain.no_fields))) 0) ([]) (name 394) (at 1 51) ∷ plain.function_def (plain.head ([]) (plain.spec (at 2 1) (plain.words (keys.Void ∷ [])) 0) ([]) (name 389) (at 2 6) (plain.params (plain.param_and (plain.param_decl ([]) (plain.spec (at 2 8) (plain.tagged keys.Struct (Some (name 394, at 2 15))) 0) (plain.named (plain.declr (0 ∷ []) (name 432) (at 2 20) (plain.sizes plain.no_sizes)))) plain.no_params) false None)) (plain.block (at 2 23) (plain.stmt_and (plain.do_expr (at 2 25) (Some (plain.call (at 2 25) (plain.word (at 2 25) (name 167)) (plain.expr_and (plain.word (at 2 35) (name 432)) plain.no_exprs)))) plain.no_stmts) (at 2 39)) ∷ plain.function_def (plain.head ([]) (plain.spec (at 3 1) (plain.alias (name 48)) 0) (0 ∷ []) (name 387) (at 3 11) (plain.params plain.no_params true None)) (plain.block (at 3 19) (plain.stmt_and (plain.return (at 3 21) (Some (plain.conditional (at 3 30) (plain.word (at 3 28) (name 390)) (plain.int (at 3 32) (pos 1) false false) (plain.int (at 3 36) (pos 2) false false)))) plain.no_stmts) (at 3 39)) ∷ plain.function_def (plain.head ([]) (plain.spec (at 4 1) (plain.words (keys.Int ∷ [])) 0) ([]) (name 388) (at 4 5) (plain.params (plain.param_and (plain.param_decl ([]) (plain.spec (at 4 7) (plain.alias (name 48)) 0) (plain.named (plain.declr (0 ∷ []) (name 432) (at 4 17) (plain.sizes plain.no_sizes)))) plain.no_params) false None)) (plain.block (at 4 20) (plain.stmt_and (plain.return (at 4 22) (Some (plain.paren (at 4 29) (plain.call (at 4 30) (plain.word (at 4 30) (name 167)) (plain.expr_and (plain.word (at 4 40) (name 432)) plain.no_exprs))))) plain.no_stmts) (at 4 45)) ∷ plain.function_def (plain.head ([]) (plain.spec (at 5 1) (plain.words (keys.Int ∷ [])) 0) ([]) (name 391) (at 5 5) (plain.params plain.no_params true None)) (plain.block (at 5 13) (plain.stmt_and (plain.return (at 5 15) (Some (plain.cast (at 5 22) (plain.type_name (plain.spec (at 5 23) (plain.words (keys.Void ∷ [])) 0) ([])) (plain.word (at 5 28) (name 390))))) plain.no_stmts) (at 5 31)) ∷ []
+
+no_fault_11 : least (faults file_11 builtin_rows) ≡ None
+no_fault_11 = refl
+
+told_11 : map (refusal file_11 builtin_rows (389 ∷ 387 ∷ 388 ∷ 391 ∷ [])) (definitions file_11) ≡ (told 2 8 1 ∷ told 3 28 9 ∷ told 4 30 10 ∷ told 5 28 9 ∷ [])
+told_11 = refl

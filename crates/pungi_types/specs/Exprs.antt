@@ -7,8 +7,9 @@
 --   row_wants, wants env c, row_kind, is_refused, result_kind env c, takes_arguments    what a callee takes and answers
 --   want_met, is_word, wants_module, other_wants, is_done, first_met    an argument is what it is to be
 --   is_bad_int, int_kind, step_kind, unary_kind, binary_kind, assign_kind, cond_kind, cast_kind    the kind of an expression from those of its operands
+--   void_call e, operand k e    the place of a call, also in parentheses; what is asked of a value that is used
 --   kind_of env e, are_met env ws es    the kind of an expression; as many arguments as are wanted, and each fits
---   void_call, when_some, used env e    the value of a Void call is used
+--   when_some, used env e    the value of a Void call is used
 --   type_name_pos t     where a type's name begins
 --   n1 n2 n3 n4 n5 n9 n10 n12 n13 n14    where a rule holds in the expression's own node
 --   is_left_out, is_function_meaning, crosses, is_unknown, is_unknown_call, is_value_called, unary_wrong, binary_wrong, assign_wrong, cond_wrong, cast_wrong,
@@ -238,11 +239,21 @@ assign_kind m place a b =
     (if place && fits a b then a else None)))
 
 abbrev pub cond_kind : Option ValueKind → Option ValueKind → Option ValueKind → Option ValueKind
-cond_kind c a b = (if not (is_void c) && (both_known a b && joinable a b) then joined a b else None)
+cond_kind c a b = (if (is_some c && not (is_void c)) && (both_known a b && joinable a b) then joined a b else None)
 
--- a cast to `void` takes wanted.Anything
+-- a cast to `void` takes any kind
 abbrev pub cast_kind : Option ValueKind → Option ValueKind → Option ValueKind
-cast_kind to k = (if is_void to || fits to k then to else None)
+cast_kind to k = (if (is_void to && is_some k) || fits to k then to else None)
+
+-- the place of a call, also in parentheses
+abbrev pub void_call : Expr → Option Pos
+void_call (paren p e) = void_call e
+void_call (call p f es) = Some p
+void_call _ = None
+
+-- what is asked of a value that is used: nothing of a Void call, since a rule holds at that call
+abbrev pub operand : Option ValueKind → Expr → Option ValueKind
+operand k e = (if is_some (void_call e) then not_void k else k)
 
 abbrev mutual
   pub kind_of : Env → Expr → Option ValueKind
@@ -270,15 +281,9 @@ abbrev mutual
   -- as many arguments as are wanted, and each fits
   pub are_met : Env → List Want → Exprs → Bool
   are_met env ws no_exprs = is_done ws
-  are_met env ws (expr_and e es) = first_met ws (is_module_address env e) (kind_of env e) && are_met env (other_wants ws) es
+  are_met env ws (expr_and e es) = first_met ws (is_module_address env e) (operand (kind_of env e) e) && are_met env (other_wants ws) es
 
 -- .. where the rules hold
--- the place of a call, also in parentheses
-abbrev pub void_call : Expr → Option Pos
-void_call (paren p e) = void_call e
-void_call (call p f es) = Some p
-void_call _ = None
-
 abbrev pub when_some : Bool → Option Pos → ℕ → Findings
 when_some b None n = nothing_found
 when_some b (Some p) n = when b p n
@@ -377,15 +382,16 @@ cond_wrong c a b = is_void c || (is_void a || (is_void b || (both_known a b && n
 abbrev pub cast_wrong : Option ValueKind → Option ValueKind → Bool
 cast_wrong to k = is_some to && (not (is_void to) && (is_void k || (is_some k && (not (crosses to k) && not (fits to k)))))
 
--- N10: a wrong kind or number of operands or arguments, at the node; and a used value of a Void call, at that call
+-- N10: a wrong kind or number of operands or arguments, at the node; and a used value of a Void call, at that call alone
 abbrev pub n10 : Env → Expr → Findings
-n10 env (unary p k e) = when (unary_wrong (prefix_of k) (is_place env e) (kind_of env e)) p 10 and used env e
-n10 env (post p m e) = when (unary_wrong prefixes.Step (is_place env e) (kind_of env e)) p 10 and used env e
-n10 env (binary p m a b) = when (binary_wrong m (kind_of env a) (kind_of env b)) p 10 and (used env a and used env b)
-n10 env (assign p m a b) = when (assign_wrong m (is_place env a) (kind_of env a) (kind_of env b)) p 10 and (used env a and used env b)
-n10 env (conditional p c a b) = when (cond_wrong (kind_of env c) (kind_of env a) (kind_of env b)) p 10 and (used env c and (used env a and used env b))
+n10 env (unary p k e) = when (unary_wrong (prefix_of k) (is_place env e) (operand (kind_of env e) e)) p 10 and used env e
+n10 env (post p m e) = when (unary_wrong prefixes.Step (is_place env e) (operand (kind_of env e) e)) p 10 and used env e
+n10 env (binary p m a b) = when (binary_wrong m (operand (kind_of env a) a) (operand (kind_of env b) b)) p 10 and (used env a and used env b)
+n10 env (assign p m a b) = when (assign_wrong m (is_place env a) (operand (kind_of env a) a) (operand (kind_of env b) b)) p 10 and (used env a and used env b)
+n10 env (conditional p c a b) =
+    when (cond_wrong (operand (kind_of env c) c) (operand (kind_of env a) a) (operand (kind_of env b) b)) p 10 and (used env c and (used env a and used env b))
 n10 env (cast p t e) =
-    when (cast_wrong (type_name_kind env.file t) (kind_of env e)) p 10 and (if is_void (type_name_kind env.file t) then nothing_found else used env e)
+    when (cast_wrong (type_name_kind env.file t) (operand (kind_of env e) e)) p 10 and (if is_void (type_name_kind env.file t) then nothing_found else used env e)
 n10 env (call p f es) =
     when (is_value_called (callee env f) || (takes_arguments (callee env f) && not (are_met env (wants env (callee env f)) es))) p 10
 n10 env (index p a b) = used env a and used env b
@@ -460,5 +466,5 @@ called_findings env f = (if is_word f then nothing_found else expr_findings env 
 -- where a rule holds in the node of a cast to this kind, over an operand of this kind
 abbrev pub cast_findings : Option ValueKind → Pos → TypeName → Option ValueKind → Expr → Findings
 cast_findings to p t k e =
-    when (is_none to) (type_name_pos t) 1 and (when (crosses to k) p 4 and (when (cast_wrong to k) p 10 and
+    when (is_none to) (type_name_pos t) 1 and (when (crosses to k) p 4 and (when (cast_wrong to (operand k e)) p 10 and
     (if is_void to then nothing_found else when_some (is_void k) (void_call e) 10)))

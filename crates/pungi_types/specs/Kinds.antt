@@ -3,7 +3,9 @@
 --   core_alone c, more_stars n f    no stars; more of them
 --   spec_base s, is_struct k, tag_is t w    the parts of a type
 --   typedef_in ts w, tagged_in ts w    the first typedef of a word; the fields of the first struct with a tag
---   tagged_core, written_core, named_core, typedef_core    the core of a tagged type, of a type as it is written, behind a typedef, and of a typedef
+--   tagged_core, written_core    the core of a tagged type, and of a type as it is written, where a struct with its tag has fields or none has
+--   written_tag b, is_fielded file tag, core_here file b    the tag of a type, whether a struct with it has fields in the file, and the core there
+--   named_core, typedef_core    the core behind a typedef, and of a typedef
 --   is_listed_type w    the name of a type that is known before a text is read
 --   core_at n file b, core_of file b    typedefs followed so many times, and to their end
 --   untagged_fields, untagged_in, or_else, struct_fields file w    the fields of the struct of this name
@@ -64,20 +66,35 @@ abbrev pub tagged_in : List Tag → ℕ → Option Fields
 tagged_in [] w = None
 tagged_in (t ∷ ts) w = (if is_struct t.of && tag_is t.tag w then Some t.fields else tagged_in ts w)
 
--- `struct PyModuleDef` is `PyModuleDef`; unions are no structs
-abbrev pub tagged_core : Key → Name → Core
-tagged_core of n = (if is_struct of then (if n.0 == PY_MODULE_DEF then builtin n else struct_of n) else no_core)
+-- `struct PyModuleDef` is `PyModuleDef`; unions are no structs, and a tag that no struct with fields has is none
+abbrev pub tagged_core : Bool → Key → Name → Core
+tagged_core fielded of n = (if is_struct of then (if n.0 == PY_MODULE_DEF then builtin n else (if fielded then struct_of n else no_core)) else no_core)
 
 abbrev pub is_listed_type : ℕ → Bool
 is_listed_type w = nat_le FIRST_TYPE w && not (nat_le TYPES_END w)
 
-abbrev pub written_core : Base → Core
-written_core (words ks) = base_words ks
-written_core (alias n) = (if is_listed_type n.0 then builtin n else no_core)
-written_core (tagged of None) = no_core
-written_core (tagged of (Some t)) = tagged_core of t.0
-written_core (tagged_fields of None fs) = no_core
-written_core (tagged_fields of (Some t) fs) = tagged_core of t.0
+abbrev pub written_core : Bool → Base → Core
+written_core fielded (words ks) = base_words ks
+written_core fielded (alias n) = (if is_listed_type n.0 then builtin n else no_core)
+written_core fielded (tagged of None) = no_core
+written_core fielded (tagged of (Some t)) = tagged_core fielded of t.0
+written_core fielded (tagged_fields of None fs) = no_core
+written_core fielded (tagged_fields of (Some t) fs) = tagged_core fielded of t.0
+
+-- the tag that a type is written with
+abbrev pub written_tag : Base → Option Name
+written_tag (tagged of (Some t)) = Some t.0
+written_tag (tagged_fields of (Some t) fs) = Some t.0
+written_tag _ = None
+
+-- a struct with this tag has fields in the file
+abbrev pub is_fielded : List Item → Option Name → Bool
+is_fielded file None = false
+is_fielded file (Some n) = is_some (tagged_in (tags file) n.0)
+
+-- the core of a type where no typedef is followed
+abbrev pub core_here : List Item → Base → Core
+core_here file b = written_core (is_fielded file (written_tag b)) b
 
 -- a struct without a tag is named by the word of its typedef, unless that is also the tag of a struct with fields
 abbrev pub named_core : (Base → Followed) → List Item → Name → Base → Followed
@@ -94,10 +111,10 @@ typedef_core go file (Some t) = more_stars t.stars (named_core go file t.name (s
 
 -- typedefs followed at most so many times
 abbrev pub core_at : ℕ → List Item → Base → Followed
-core_at zero file b = core_alone (written_core b)
+core_at zero file b = core_alone (core_here file b)
 core_at (suc n) file (words ks) = core_alone (base_words ks)
-core_at (suc n) file (tagged of t) = core_alone (written_core (tagged of t))
-core_at (suc n) file (tagged_fields of t fs) = core_alone (written_core (tagged_fields of t fs))
+core_at (suc n) file (tagged of t) = core_alone (core_here file (tagged of t))
+core_at (suc n) file (tagged_fields of t fs) = core_alone (core_here file (tagged_fields of t fs))
 core_at (suc n) file (alias w) =
     (if is_listed_type w.0 then core_alone (builtin w) else typedef_core (core_at n file) file (typedef_in (typedefs file) w.0))
 

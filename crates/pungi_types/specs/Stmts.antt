@@ -2,10 +2,11 @@
 --   Frame               where a statement stands
 --   with_local env l    a local comes into force
 --   spec_pos s, is_file_storage k, has_file_storage ks    where a type begins; `static` or `extern`
---   declared_n1, is_taken, declared_n8, initial_findings    what holds at a declared name and its first value
+--   declared_n1, is_taken, declared_n8, is_wrong_initial, initial_findings    what holds at a declared name and its first value
 --   after_var, after_vars, after_decl    the frame behind variables
 --   var_findings, vars_findings, decl_findings    what holds in declarations
---   condition_findings, option_findings, option_condition, return_findings, switched_findings    what holds in the expressions of a statement
+--   condition_findings, option_findings, option_condition, is_wrong_return, return_findings, is_no_integer, switched_findings    what holds in the
+--   expressions of a statement
 --   inside, in_loop, in_switch, in_block, labelled, start_frame, after_stmt, behind, after_stmts    the frames of its parts, and behind it
 --   start_findings, stmt_findings f s, stmts_findings f ss    what holds in what begins a `for`, in a statement, and in statements
 use Rattle.std.specs.Prelude.{ℕ, ◌+◌, Bool, true, false, ◌&&◌, ◌||◌, not, List, [], ◌∷◌, ◌++◌, Option, Some, None, is_some, is_none}
@@ -21,7 +22,7 @@ use Rattle.pungi_types.specs.Names.{Env, is_among, with_word, is_function, is_st
 use Rattle.pungi_types.specs.declared.local.Local.{Local}
 use Rattle.pungi_types.specs.Findings.{Findings, nothing_found, ◌and◌, when}
 use Rattle.pungi_types.specs.Operators.{is_integer, is_void, fits, both_known}
-use Rattle.pungi_types.specs.Exprs.{kind_of, used, expr_findings}
+use Rattle.pungi_types.specs.Exprs.{kind_of, operand, used, expr_findings}
 use Rattle.pungi_types.specs.Labels.{block_labels, constant_of, switch_findings, stmt_locals}
 use Rattle.pungi_types.specs.declared.kind.ValueKind.{ValueKind}
 
@@ -63,12 +64,16 @@ is_taken env w = is_function env.file w || (is_some (row_in env.table w) || is_s
 abbrev pub declared_n8 : Env → List ℕ → Name → Pos → Findings
 declared_n8 env names n p = when (is_among names n.0 || is_taken env n.0) p 8
 
+-- a first value that doesn't fit
+abbrev pub is_wrong_initial : Option ValueKind → Option ValueKind → Bool
+is_wrong_initial k v = is_void v || (both_known k v && not (fits k v))
+
 -- N10: an initialiser that doesn't fit, or a braced one
 abbrev pub initial_findings : Env → Option ValueKind → Pos → Option Init → Findings
 initial_findings env k p None = nothing_found
 initial_findings env k p (Some (table ts)) = when true p 10
 initial_findings env k p (Some (value e)) =
-    expr_findings env e and (when (is_void (kind_of env e) || (both_known k (kind_of env e) && not (fits k (kind_of env e)))) p 10 and used env e)
+    expr_findings env e and (when (is_wrong_initial k (operand (kind_of env e) e)) p 10 and used env e)
 
 -- the frame behind a declared variable
 abbrev pub after_var : Frame → Spec → VarDecl → Frame
@@ -101,7 +106,7 @@ decl_findings f (decl qs s vs) = vars_findings f qs s vs
 
 -- N10: a condition is an integer or a pointer
 abbrev pub condition_findings : Env → Pos → Expr → Findings
-condition_findings env p e = expr_findings env e and (when (is_void (kind_of env e)) p 10 and used env e)
+condition_findings env p e = expr_findings env e and (when (is_void (operand (kind_of env e) e)) p 10 and used env e)
 
 abbrev pub option_findings : Env → Option Expr → Findings
 option_findings env None = nothing_found
@@ -111,11 +116,15 @@ abbrev pub option_condition : Env → Pos → Option Expr → Findings
 option_condition env p None = nothing_found
 option_condition env p (Some e) = condition_findings env p e
 
+-- a value in a void function, or one that doesn't fit
+abbrev pub is_wrong_return : Option ValueKind → Option ValueKind → Bool
+is_wrong_return r v = is_void r || (both_known r v && not (fits r v))
+
 -- N10: a value in a void function, none in another, or one that doesn't fit
 abbrev pub return_findings : Env → Option ValueKind → Pos → Option Expr → Findings
 return_findings env r p None = when (is_some r && not (is_void r)) p 10
 return_findings env r p (Some e) =
-    expr_findings env e and (when (is_void r || (both_known r (kind_of env e) && not (fits r (kind_of env e)))) p 10 and used env e)
+    expr_findings env e and (when (is_wrong_return r (operand (kind_of env e) e)) p 10 and used env e)
 
 -- the frame of a part that is no part of a block: it declares nothing
 abbrev pub inside : Frame → Frame
@@ -144,9 +153,12 @@ abbrev pub start_findings : Frame → ForStart → Findings
 start_findings f (start_decl d) = decl_findings (record f { block = [] }) d
 start_findings f (start_expr e) = option_findings f.env e
 
+abbrev pub is_no_integer : Option ValueKind → Bool
+is_no_integer k = is_some k && not (is_integer k)
+
 -- N10: what a `switch` goes by is an integer
 abbrev pub switched_findings : Env → Pos → Expr → Findings
-switched_findings env p e = expr_findings env e and (when (is_some (kind_of env e) && not (is_integer (kind_of env e))) p 10 and used env e)
+switched_findings env p e = expr_findings env e and (when (is_no_integer (operand (kind_of env e) e)) p 10 and used env e)
 
 -- the frame behind a statement of a block
 abbrev pub after_stmt : Frame → Stmt → Frame

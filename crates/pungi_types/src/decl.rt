@@ -1,8 +1,8 @@
 // Where rules hold in declarations.
-ghost use Rattle.std.specs.Prelude.{◌≡◌, ◌||◌, ◌&&◌, not, is_some, is_none};
+ghost use Rattle.std.specs.Prelude.{◌≡◌, ◌&&◌, not, is_some};
 ghost use Rattle.pungi_types.specs.Findings.{least_from};
-ghost use Rattle.pungi_types.specs.Stmts.{has_file_storage as has_file_storage_of, declared_n1, initial_findings, condition_findings, return_findings, switched_findings};
-ghost use Rattle.pungi_types.specs.Operators.{is_void as is_void_of, is_integer as is_integer_of, fits as fits_of, both_known};
+ghost use Rattle.pungi_types.specs.Stmts.{has_file_storage as has_file_storage_of, declared_n1, is_wrong_initial as is_wrong_initial_of, initial_findings, condition_findings, is_wrong_return as is_wrong_return_of, return_findings, is_no_integer as is_no_integer_of, switched_findings};
+ghost use Rattle.pungi_types.specs.Operators.{is_void as is_void_of};
 ghost use Rattle.pungi_types.specs.Kinds.{declared_kind as declared_kind_of};
 ghost use Rattle.pungi_types.specs.Exprs.{param_kind as param_kind_of};
 ghost use Rattle.pungi_tree.specs.ExprView.{expr_view, spec_view, declr_view, param_declr_view};
@@ -10,7 +10,7 @@ ghost use Rattle.pungi_tree.specs.StmtView.{init_option_view};
 ghost use Rattle.pungi_tree.specs.ExprView.{optional_view};
 
 use crate::expr::check_expr;
-use crate::findings::{note, note_used};
+use crate::findings::{note, note_used, operand};
 use crate::lookup::Lookup;
 use crate::operator::{fits, is_integer, is_void};
 use crate::tail::is_plain;
@@ -81,14 +81,14 @@ pub fn initial<N: Lookup>(
         Some(Init::Table(_)) => note(first, true, pos, 10),
         Some(Init::Value(e)) => {
             let given = check_expr(names, first, e);
-            note(first, is_wrong_initial(kind, given), pos, 10);
+            note(first, is_wrong_initial(kind, operand(given, e)), pos, 10);
             note_used(first, given, e);
         }
     }
 }
 
 fn is_wrong_initial(wanted: Known, kind: Known) -> bool
-    ensures { result ≡ (is_void_of kind || (both_known wanted kind && not (fits_of wanted kind))) }
+    ensures { result ≡ is_wrong_initial_of wanted kind }
 {
     is_void(kind) || ((wanted.is_some() && kind.is_some()) && !fits(wanted, kind))
 }
@@ -98,7 +98,7 @@ pub fn condition<N: Lookup>(names: &N, first: &mut Option<Finding>, pos: Pos, e:
     ensures { first.new ≡ least_from first.old (condition_findings (N.env names.now) pos (expr_view e.now)) }
 {
     let kind = check_expr(names, first, e);
-    note(first, is_void(kind), pos, 10);
+    note(first, is_void(operand(kind, e)), pos, 10);
     note_used(first, kind, e);
 }
 
@@ -116,7 +116,12 @@ pub fn return_value<N: Lookup>(
         None => note(first, is_some_but_void(result_kind), pos, 10),
         Some(e) => {
             let kind = check_expr(names, first, e);
-            note(first, is_wrong_return(result_kind, kind), pos, 10);
+            note(
+                first,
+                is_wrong_return(result_kind, operand(kind, e)),
+                pos,
+                10,
+            );
             note_used(first, kind, e);
         }
     }
@@ -129,7 +134,7 @@ fn is_some_but_void(kind: Known) -> bool
 }
 
 fn is_wrong_return(wanted: Known, kind: Known) -> bool
-    ensures { result ≡ (is_void_of wanted || (both_known wanted kind && not (fits_of wanted kind))) }
+    ensures { result ≡ is_wrong_return_of wanted kind }
 {
     is_void(wanted) || ((wanted.is_some() && kind.is_some()) && !fits(wanted, kind))
 }
@@ -139,12 +144,12 @@ pub fn switched<N: Lookup>(names: &N, first: &mut Option<Finding>, pos: Pos, e: 
     ensures { first.new ≡ least_from first.old (switched_findings (N.env names.now) pos (expr_view e.now)) }
 {
     let kind = check_expr(names, first, e);
-    note(first, is_no_integer(kind), pos, 10);
+    note(first, is_no_integer(operand(kind, e)), pos, 10);
     note_used(first, kind, e);
 }
 
 fn is_no_integer(kind: Known) -> bool
-    ensures { result ≡ (is_some kind && not (is_integer_of kind)) }
+    ensures { result ≡ is_no_integer_of kind }
 {
     kind.is_some() && !is_integer(kind)
 }

@@ -1,12 +1,12 @@
 //! The kind of an expression, and where rules hold in it.
 ghost use Rattle.std.specs.Prelude.{◌≡◌, ◌&&◌, ◌||◌, not, map, None, if◌then◌else◌};
 ghost use Rattle.pungi_types.specs.Findings.{least_from};
-ghost use Rattle.pungi_types.specs.Exprs.{is_place as is_place_of, names_type_object as names_type_object_of, is_module_address as is_module_address_of, kind_of, expr_findings, args_findings, arg_findings, are_met, first_met as first_met_of, wants_module as wants_module_of, is_word as is_word_of, called_findings, cast_findings, cast_kind as cast_kind_of, callee, wants, is_unknown_call, result_kind, is_value_called, takes_arguments};
+ghost use Rattle.pungi_types.specs.Exprs.{is_place as is_place_of, names_type_object as names_type_object_of, is_module_address as is_module_address_of, operand as operand_of, kind_of, expr_findings, args_findings, arg_findings, are_met, first_met as first_met_of, wants_module as wants_module_of, is_word as is_word_of, called_findings, cast_findings, cast_kind as cast_kind_of, callee, wants, is_unknown_call, result_kind, is_value_called, takes_arguments};
 ghost use Rattle.pungi_types.specs.Kinds.{type_name_kind};
 ghost use Rattle.pungi_tree.specs.Syntax as plain;
 ghost use Rattle.pungi_tree.specs.ExprView.{expr_view, exprs_of, type_name_view};
 
-use crate::findings::{note, note_used};
+use crate::findings::{note, note_used, operand};
 use crate::lookup::{Lookup, Want};
 use crate::operator::{
     Prefix, assign_kind, assign_wrong, assigns_pointers, binary_kind, binary_wrong, cast_kind,
@@ -86,7 +86,12 @@ pub fn check_expr<N: Lookup>(names: &N, first: &mut Option<Finding>, e: &Expr) -
         ExprNode::Post(_, a) => {
             let kind = check_expr(names, first, a);
             let place = is_place(names, a);
-            note(first, unary_wrong(Prefix::Step, place, kind), e.pos, 10);
+            note(
+                first,
+                unary_wrong(Prefix::Step, place, operand(kind, a)),
+                e.pos,
+                10,
+            );
             note_used(first, kind, a);
             note(first, is_pointer(kind), e.pos, 13);
             step_kind(place, kind)
@@ -95,7 +100,12 @@ pub fn check_expr<N: Lookup>(names: &N, first: &mut Option<Finding>, e: &Expr) -
             let left = check_expr(names, first, a);
             let right = check_expr(names, first, b);
             note(first, is_bits(*m), e.pos, 2);
-            note(first, binary_wrong(*m, left, right), e.pos, 10);
+            note(
+                first,
+                binary_wrong(*m, operand(left, a), operand(right, b)),
+                e.pos,
+                10,
+            );
             note_used(first, left, a);
             note_used(first, right, b);
             note(first, on_pointers(*m, left, right), e.pos, 13);
@@ -106,7 +116,12 @@ pub fn check_expr<N: Lookup>(names: &N, first: &mut Option<Finding>, e: &Expr) -
             let right = check_expr(names, first, b);
             let place = is_place(names, a);
             note(first, is_bits_assign(*m), e.pos, 2);
-            note(first, assign_wrong(*m, place, left, right), e.pos, 10);
+            note(
+                first,
+                assign_wrong(*m, place, operand(left, a), operand(right, b)),
+                e.pos,
+                10,
+            );
             note_used(first, left, a);
             note_used(first, right, b);
             note(first, assigns_pointers(*m, left, right), e.pos, 13);
@@ -116,7 +131,12 @@ pub fn check_expr<N: Lookup>(names: &N, first: &mut Option<Finding>, e: &Expr) -
             let test = check_expr(names, first, c);
             let left = check_expr(names, first, a);
             let right = check_expr(names, first, b);
-            note(first, cond_wrong(test, left, right), e.pos, 10);
+            note(
+                first,
+                cond_wrong(operand(test, c), operand(left, a), operand(right, b)),
+                e.pos,
+                10,
+            );
             note_used(first, test, c);
             note_used(first, left, a);
             note_used(first, right, b);
@@ -183,7 +203,7 @@ fn unary<N: Lookup>(names: &N, first: &mut Option<Finding>, pos: Pos, op: Kind, 
     let place = is_place(names, a);
     note(first, matches!(prefix, Prefix::LeftOut), pos, 2);
     note(first, matches!(prefix, Prefix::Address), pos, 5);
-    note(first, unary_wrong(prefix, place, kind), pos, 10);
+    note(first, unary_wrong(prefix, place, operand(kind, a)), pos, 10);
     note_used(first, kind, a);
     note(first, steps_pointer(prefix, kind), pos, 13);
     unary_kind(prefix, type_object, place, kind)
@@ -216,7 +236,7 @@ fn args<N: Lookup>(names: &N, first: &mut Option<Finding>, wants: &[Want], list:
 
 #[cycle(expr)]
 fn arg<N: Lookup>(names: &N, first: &mut Option<Finding>, wants: &[Want], e: &Expr) -> bool
-    ensures met { result ≡ first_met_of wants.now (is_module_address_of (N.env names.now) (expr_view e.now)) (kind_of (N.env names.now) (expr_view e.now)) }
+    ensures met { result ≡ first_met_of wants.now (is_module_address_of (N.env names.now) (expr_view e.now)) (operand_of (kind_of (N.env names.now) (expr_view e.now)) (expr_view e.now)) }
     ensures found { first.new ≡ least_from first.old (arg_findings (wants_module_of wants.now && is_module_address_of (N.env names.now) (expr_view e.now)) (N.env names.now) (expr_view e.now)) }
 {
     let is_module = is_module_address(names, e);
@@ -225,7 +245,7 @@ fn arg<N: Lookup>(names: &N, first: &mut Option<Finding>, wants: &[Want], e: &Ex
     }
     let kind = check_expr(names, first, e);
     note_used(first, kind, e);
-    first_met(wants, is_module, kind)
+    first_met(wants, is_module, operand(kind, e))
 }
 
 fn cast<N: Lookup>(
@@ -242,7 +262,7 @@ fn cast<N: Lookup>(
     let to = names.type_kind(&name.spec, name.stars.len());
     note(first, to.is_none(), name.spec.pos, 1);
     note(first, crosses(to, kind), pos, 4);
-    note(first, cast_wrong(to, kind), pos, 10);
+    note(first, cast_wrong(to, operand(kind, a)), pos, 10);
     if !is_void(to) {
         note_used(first, kind, a);
     }

@@ -1,9 +1,10 @@
 ghost use Rattle.std.specs.Prelude.{◌≡◌};
 ghost use Rattle.pungi_types.specs.Findings.{when, is_before as is_before_of, least_from};
 ghost use Rattle.pungi_types.specs.Operators.{is_void};
-ghost use Rattle.pungi_types.specs.Exprs.{void_call as void_call_of, when_some};
+ghost use Rattle.pungi_types.specs.Exprs.{void_call as void_call_of, operand as operand_of, when_some};
 ghost use Rattle.pungi_tree.specs.ExprView.{expr_view};
 
+use crate::types::not_void;
 use crate::{Finding, ValueKind};
 use pungi_base::{Pos, Rule};
 use pungi_tree::{Expr, ExprNode};
@@ -43,6 +44,18 @@ fn void_call(e: &Expr) -> Option<Pos>
         ExprNode::Paren(inner) => void_call(inner),
         ExprNode::Call(_, _) => Some(e.pos),
         _ => None,
+    }
+}
+
+/// What is asked of the value of an expression of this kind where it is used: nothing of a call that answers nothing, since
+/// a rule holds at that call.
+pub fn operand(kind: Option<ValueKind>, e: &Expr) -> Option<ValueKind>
+    ensures { result ≡ operand_of kind (expr_view e.now) }
+{
+    if void_call(e).is_some() {
+        not_void(kind)
+    } else {
+        kind
     }
 }
 

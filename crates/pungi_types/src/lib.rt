@@ -22,12 +22,14 @@ pub use expr::{
     call_kind, callee_wants, check_expr, is_module_address, is_place, names_type_object,
 };
 pub use finding::Finding;
-pub use findings::{note, note_used};
+pub use findings::{note, note_used, operand};
 pub use kind::ValueKind;
 pub use local::Local;
 pub use lookup::{Lookup, Want};
 pub use operator::{Prefix, is_void};
 pub use standing::Standing;
 pub use tail::{is_no_function, is_plain};
-pub use types::{Core, Typedef, is_listed_type, listed_kind, not_void, words_kind, written_core};
+pub use types::{
+    Core, Typedef, is_listed_type, listed_kind, not_void, words_kind, written_core, written_tag,
+};
 pub use words::{is_kept, keep};

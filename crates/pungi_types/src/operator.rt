@@ -421,7 +421,7 @@ pub fn assign_wrong(m: Punct, place: bool, a: Known, b: Known) -> bool
 pub fn cond_kind(c: Known, a: Known, b: Known) -> Known
     ensures { result ≡ cond_kind_of c a b }
 {
-    if !is_void(c) && ((a.is_some() && b.is_some()) && joinable(a, b)) {
+    if (c.is_some() && !is_void(c)) && ((a.is_some() && b.is_some()) && joinable(a, b)) {
         joined(a, b)
     } else {
         None
@@ -446,7 +446,11 @@ pub fn crosses(a: Known, b: Known) -> bool
 pub fn cast_kind(to: Known, k: Known) -> Known
     ensures { result ≡ cast_kind_of to k }
 {
-    if is_void(to) || fits(to, k) { to } else { None }
+    if (is_void(to) && k.is_some()) || fits(to, k) {
+        to
+    } else {
+        None
+    }
 }
 
 /// A cast of the wrong kind.

@@ -2,7 +2,7 @@
 ghost use Rattle.std.specs.Prelude.{◌≡◌};
 ghost use Rattle.pungi_types.specs.Kinds.{words_kind as words_kind_of, listed_kind as listed_kind_of, only as only_of, both as both_of, is_int_key, is_long_key, is_char_key, is_void_key, not_void as not_void_of, is_listed_type as is_listed_type_of};
 ghost use Rattle.pungi_types.specs.TypesView.{core_view};
-ghost use Rattle.pungi_types.specs.Kinds.{tagged_core as tagged_core_of, written_core as written_core_of};
+ghost use Rattle.pungi_types.specs.Kinds.{tagged_core as tagged_core_of, written_tag as written_tag_of, written_core as written_core_of};
 ghost use Rattle.pungi_tree.specs.ExprView.{base_view};
 
 use crate::ValueKind;
@@ -74,19 +74,33 @@ pub fn is_listed_type(word: u32) -> bool
     FIRST_TYPE <= word && !(TYPES_END <= word)
 }
 
-fn tagged_core(of: Key, name: Name) -> Core<'static>
-    ensures { core_view result ≡ tagged_core_of of name }
+fn tagged_core(fielded: bool, of: Key, name: Name) -> Core<'static>
+    ensures { core_view result ≡ tagged_core_of fielded of name }
 {
     match of {
         Key::Struct if name.0 == PY_MODULE_DEF => Core::Listed(name),
-        Key::Struct => Core::Struct(name),
+        Key::Struct if fielded => Core::Struct(name),
         _ => Core::Other,
     }
 }
 
-/// The type that is written, where no typedef is followed.
-pub fn written_core(base: &Base) -> Core<'_>
-    ensures { core_view result ≡ written_core_of (base_view base.now) }
+/// The tag that a type is written with.
+pub fn written_tag(base: &Base) -> Option<Name>
+    ensures { result ≡ written_tag_of (base_view base.now) }
+{
+    match base {
+        Base::Tagged {
+            tag: Some((name, _)),
+            ..
+        } => Some(*name),
+        Base::Tagged { tag: None, .. } => None,
+        Base::Words(_) | Base::Alias(_) => None,
+    }
+}
+
+/// The type that is written, where no typedef is followed: a struct by its tag only where one with that tag has fields.
+pub fn written_core(fielded: bool, base: &Base) -> Core<'_>
+    ensures { core_view result ≡ written_core_of fielded (base_view base.now) }
 {
     match base {
         Base::Words(keys) => Core::Words(keys.as_slice()),
@@ -101,7 +115,7 @@ pub fn written_core(base: &Base) -> Core<'_>
             of,
             tag: Some((name, _)),
             ..
-        } => tagged_core(*of, *name),
+        } => tagged_core(fielded, *of, *name),
         Base::Tagged { tag: None, .. } => Core::Other,
     }
 }

@@ -22,9 +22,9 @@ use Rattle.pungi_code.specs.Run.{code_at, joined}
 use Rattle.pungi_code.specs.WellFormed.{AreWellFormed}
 use Rattle.pungi_lower.specs.Codes.{code_for}
 use Rattle.pungi_lower.specs.Lowered.{codes_of, IsLowered, AreLowered}
-use Rattle.pungi_explore.specs.Explored.{IsMany}
+use Rattle.pungi_explore.specs.Explored.{IsFew, IsMany}
 use Rattle.pungi_verdict.specs.Replays.{IsGiven}
-use Rattle.pungi_verdict.specs.Verdicts.{IsRight, IsShown, object_code, statics_of, file_codes, HasManyTraces, IsTold, IsVerdict, IsJudged}
+use Rattle.pungi_verdict.specs.Verdicts.{IsRight, IsShown, object_code, statics_of, file_codes, HasFewTraces, HasManyTraces, IsTold, IsVerdict, IsJudged}
 use Rattle.pungi_verdict.proofs.Forms.{object-is}
 
 -- ---- the function and the code of a place
@@ -107,34 +107,35 @@ given c codes i d f lowered formed at is code e =
 
 -- ---- verdicts
 
-right-more : (n : ℕ) (f : ResolvedFunction) (a b : Type 0) (v : Verdict) → (a → b) → IsRight n f a v → IsRight n f b v
-right-more n f a b verdict.Clean more h = h
-right-more n f a b (verdict.Faulty fault) more h = h
-right-more n f a b (verdict.Unknown because) more h = (h.0, more h.1)
-right-more n f a b (verdict.Refused at rule) more h = h
+right-more : (n : ℕ) (f : ResolvedFunction) (few less many more : Type 0) (v : Verdict) → (few → less) → (many → more) → IsRight n f few many v → IsRight n f less more v
+right-more n f few less many more verdict.Clean g k h = (h.0, g h.1)
+right-more n f few less many more (verdict.Faulty fault) g k h = h
+right-more n f few less many more (verdict.Unknown because) g k h = (h.0, k h.1)
+right-more n f few less many more (verdict.Refused at rule) g k h = h
 
-shown-more : (n : ℕ) (f : ResolvedFunction) (a b : Type 0) (o : Option Code) (v : Verdict) → (a → b) → IsShown n f a o v → IsShown n f b o v
-shown-more n f a b None v more h = h
-shown-more n f a b (Some code) v more h = right-more n f a b v more h
+shown-more : (n : ℕ) (f : ResolvedFunction) (few less many more : Type 0) (o : Option Code) (v : Verdict) → (few → less) → (many → more) → IsShown n f few many o v → IsShown n f less more o v
+shown-more n f few less many more None v g k h = h
+shown-more n f few less many more (Some code) v g k h = right-more n f few less many more v g k h
 
 pub judged-verdict : (c : CheckedFile) (codes : Codes) (i : ℕ) (d : Definition) (f : ResolvedFunction) (v : Verdict) → codes ≡ file_codes c → slice_get (definitions c.file) i ≡ Some d
-    → refusal c.file c.rows c.refused d ≡ None → f ≡ resolved c.file c.rows c.refused d → IsShown codes.statics f (IsMany codes i) (object_code codes.statics (code_at codes i)) v → IsVerdict c d v
+    → refusal c.file c.rows c.refused d ≡ None → f ≡ resolved c.file c.rows c.refused d → IsShown codes.statics f (IsFew codes i) (IsMany codes i) (object_code codes.statics (code_at codes i)) v → IsVerdict c d v
 judged-verdict c codes i d f v same at none is h =
     let g = resolved c.file c.rows c.refused d in
     let n = statics_of c in
-    let in_file : IsShown n f (IsMany (file_codes c) i) (object_code n (code_at (file_codes c) i)) v =
-    subst (λ (cs : Codes). IsShown cs.statics f (IsMany cs i) (object_code cs.statics (code_at cs i)) v) same h in
-    let of_it : IsShown n g (IsMany (file_codes c) i) (object_code n (code_at (file_codes c) i)) v =
-    subst (λ (x : ResolvedFunction). IsShown n x (IsMany (file_codes c) i) (object_code n (code_at (file_codes c) i)) v) is in_file in
+    let in_file : IsShown n f (IsFew (file_codes c) i) (IsMany (file_codes c) i) (object_code n (code_at (file_codes c) i)) v =
+    subst (λ (cs : Codes). IsShown cs.statics f (IsFew cs i) (IsMany cs i) (object_code cs.statics (code_at cs i)) v) same h in
+    let of_it : IsShown n g (IsFew (file_codes c) i) (IsMany (file_codes c) i) (object_code n (code_at (file_codes c) i)) v =
+    subst (λ (x : ResolvedFunction). IsShown n x (IsFew (file_codes c) i) (IsMany (file_codes c) i) (object_code n (code_at (file_codes c) i)) v) is in_file in
     let its_code : code_at (file_codes c) i ≡ code_for (Some g) = ap joined (code-here c i d at none) in
-    let by_code : IsShown n g (IsMany (file_codes c) i) (object_code n (code_for (Some g))) v =
-    subst (λ (o : Option Code). IsShown n g (IsMany (file_codes c) i) (object_code n o) v) its_code of_it in
-    let shown : IsShown n g (HasManyTraces c d) (object_code n (code_for (Some g))) v =
-    shown-more n g (IsMany (file_codes c) i) (HasManyTraces c d) (object_code n (code_for (Some g))) v (λ many. record { place = i; is = at; many = many }) by_code in
+    let by_code : IsShown n g (IsFew (file_codes c) i) (IsMany (file_codes c) i) (object_code n (code_for (Some g))) v =
+    subst (λ (o : Option Code). IsShown n g (IsFew (file_codes c) i) (IsMany (file_codes c) i) (object_code n o) v) its_code of_it in
+    let shown : IsShown n g (HasFewTraces c d) (HasManyTraces c d) (object_code n (code_for (Some g))) v =
+    shown-more n g (IsFew (file_codes c) i) (HasFewTraces c d) (IsMany (file_codes c) i) (HasManyTraces c d) (object_code n (code_for (Some g))) v
+    (λ few. record { place = i; is = at; few = few }) (λ many. record { place = i; is = at; many = many }) by_code in
     subst (λ (o : Option Finding). IsTold c d o v) (sym none) shown
 
 pub passed-verdict : (c : CheckedFile) (codes : Codes) (i : ℕ) (d : Definition) (f : ResolvedFunction) (v : Verdict) → codes ≡ file_codes c → IsPassed c i d → f ≡ resolved c.file c.rows c.refused d
-    → IsShown codes.statics f (IsMany codes i) (object_code codes.statics (code_at codes i)) v → (e : Definition) → slice_get (definitions c.file) i ≡ Some e → IsVerdict c e v
+    → IsShown codes.statics f (IsFew codes i) (IsMany codes i) (object_code codes.statics (code_at codes i)) v → (e : Definition) → slice_get (definitions c.file) i ≡ Some e → IsVerdict c e v
 passed-verdict c codes i d f v same passed is h e at =
     subst (λ (x : Definition). IsVerdict c x v) (same-some d e (sym passed.0 ∙ at)) (judged-verdict c codes i d f v same passed.0 passed.1 is h)
 

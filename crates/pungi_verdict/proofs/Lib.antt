@@ -3,3 +3,4 @@ pub mod Forward
 pub mod Transport
 pub mod Weighed
 pub mod Files
+pub mod Reportable

@@ -1,13 +1,11 @@
 -- What is shown of the runs of a code holds of the runs of its function.
 use Rattle.std.proofs.Common.{◌≡◌, ℕ, suc, ◌+◌, ◌*◌, ◌≤◌, arith, List, length, Option, refl, sym, ap, ◌∙◌, subst}
 use Rattle.pungi_base.specs.declared.choice.Choice.{Choice}
-use Rattle.pungi_base.specs.declared.fault.Fault.{Fault}
 use Rattle.pungi_base.specs.declared.pos.Pos.{Pos}
 use Rattle.pungi_base.specs.declared.value.Value.{Value}
 use Rattle.pungi_base.specs.declared.witness.Witness.{Witness}
 use Rattle.pungi_types.specs.ResolvedStmts.{ResolvedFunction}
 use Rattle.pungi_world.specs.declared.world.World.{World}
-use Rattle.pungi_meaning.specs.Entries.{entry_fits}
 use Rattle.pungi_meaning.specs.Run.{Run, End, Returned, run_of}
 use Rattle.pungi_code.specs.declared.code.Code.{Code}
 use Rattle.pungi_code.specs.Alike.{IsOver}
@@ -17,7 +15,7 @@ use Rattle.pungi_lower.specs.Correct.{Behaves, first_regs, source, target}
 use Rattle.pungi_lower.specs.Lowered.{IsLowered}
 use Rattle.pungi_explore.specs.Explored.{AreBalanced, IsFaultRun}
 use Rattle.pungi_verdict.specs.Replays.{IsUneven}
-use Rattle.pungi_verdict.specs.Verdicts.{IsClean, IsFaultOf, IsReturnOf}
+use Rattle.pungi_verdict.specs.Verdicts.{IsClean}
 use Rattle.pungi_verdict.proofs.Forward.{leads-on, run-over}
 
 returned-over : (e : End) (world : World) (value : Option Value) (p : Pos) (used : List Pos) → e ≡ Returned world value p used → IsOver e
@@ -84,9 +82,3 @@ uneven-of n code w h = record {
 
 pub within-of : (n : ℕ) (f : ResolvedFunction) (nodes : ℕ) (code : Code) (w : Witness) → IsLowered f nodes code → IsFaultRun n code w → length w.input.args ≤ f.locals
 within-of n f nodes code w low h = low.within n w.input (sym (low.fits n w.input) ∙ h.returns.fits)
-
-pub fault-of : (n : ℕ) (f : ResolvedFunction) (nodes : ℕ) (code : Code) (w : Witness) (fault : Fault) → IsLowered f nodes code → IsFaultRun n code w → fault.witness ≡ w → IsReturnOf f fault → IsFaultOf n f fault
-fault-of n f nodes code w fault low h is returns = record {
-  entry = ap (λ (x : Witness). entry_fits f.params n x.input) is ∙ sym (low.fits n w.input) ∙ h.returns.fits;
-  returns = returns;
-}

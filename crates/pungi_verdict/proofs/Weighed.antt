@@ -9,8 +9,8 @@ use Rattle.pungi_world.specs.declared.world.World.{World}
 use Rattle.pungi_world.specs.Escapes.{IsBalanced}
 use Rattle.pungi_meaning.specs.Run.{Returned, Stopped, NeedsChoice, OutOfFuel, run_of}
 use Rattle.pungi_code.specs.declared.code.Code.{Code}
-use Rattle.pungi_verdict.specs.Replays.{IsUneven, IsWeighed}
-use Rattle.pungi_verdict.specs.Verdicts.{IsReturnOf}
+use Rattle.pungi_verdict.specs.Replays.{IsUneven}
+use Rattle.pungi_verdict.specs.Verdicts.{TellsLowest, IsReturnOf}
 
 -- ---- a return is one return
 
@@ -39,22 +39,20 @@ not-out w v p us e = absurd (cc)
 -- ---- the fault
 
 pub told : (f : ResolvedFunction) (code : Code) (w : Witness) (u : IsUneven code w) (steps : ℕ) (world : World) (value : Option Value) (p : Pos) (used : List Pos) (fault : Fault)
-    → (run_of f w.input w.choices steps).end ≡ Returned world value p used → Returned world value p used ≡ Returned u.world u.value u.at u.used → IsWeighed w world value p used fault → IsReturnOf f fault
-told f code w u steps world value p used fault run same h = record {
+    → (run_of f w.input w.choices steps).end ≡ Returned world value p used → Returned world value p used ≡ Returned u.world u.value u.at u.used
+    → fault.witness ≡ w → fault.pos ≡ p → fault.used ≡ used → TellsLowest world value fault → IsReturnOf f fault
+told f code w u steps world value p used fault run same witness place places h = record {
   steps = steps;
   world = world;
   value = value;
   run =
-      ap (λ (x : Witness). (run_of f x.input x.choices steps).end) h.witness
+      ap (λ (x : Witness). (run_of f x.input x.choices steps).end) witness
       ∙ run
-      ∙ ap (λ (q : Pos). Returned world value q used) (sym h.place)
-      ∙ ap (λ (us : List Pos). Returned world value fault.pos us) (sym h.places);
+      ∙ ap (λ (q : Pos). Returned world value q used) (sym place)
+      ∙ ap (λ (us : List Pos). Returned world value fault.pos us) (sym places);
   all_used =
-      ap (λ (us : List Pos). length us) (h.places ∙ same-used world u.world value u.value p u.at used u.used same)
+      ap (λ (us : List Pos). length us) (places ∙ same-used world u.world value u.value p u.at used u.used same)
       ∙ u.all_used
-      ∙ ap (λ (x : Witness). length x.choices) (sym h.witness);
-  object = h.object;
-  change = h.change;
-  escaped = h.escaped;
-  differ = h.differ;
+      ∙ ap (λ (x : Witness). length x.choices) (sym witness);
+  told = h;
 }

@@ -1,16 +1,13 @@
 -- What is known where the run of a witness is done again by the function.
 --   IsGiven n f code            a function and its code, which has the object form
 --   IsUneven code w             the run of a code by a witness returns, and is not balanced
---   IsWeighed w world value p used fault    a fault tells this return
-use Rattle.std.specs.Prelude.{◌≡◌, ◌≢◌, ℕ, ◌<◌, true, List, length, Option}
-use Rattle.pungi_base.specs.declared.fault.Fault.{Fault}
+use Rattle.std.specs.Prelude.{◌≡◌, ℕ, true, List, length, Option}
 use Rattle.pungi_base.specs.declared.pos.Pos.{Pos}
 use Rattle.pungi_base.specs.declared.value.Value.{Value}
 use Rattle.pungi_base.specs.declared.witness.Witness.{Witness}
 use Rattle.pungi_types.specs.ResolvedStmts.{ResolvedFunction}
 use Rattle.pungi_world.specs.declared.world.World.{World}
-use Rattle.pungi_world.specs.World.{account_of}
-use Rattle.pungi_world.specs.Escapes.{escaped_of, IsBalanced}
+use Rattle.pungi_world.specs.Escapes.{IsBalanced}
 use Rattle.pungi_meaning.specs.Run.{Returned}
 use Rattle.pungi_code.specs.declared.code.Code.{Code}
 use Rattle.pungi_code.specs.WellFormed.{IsWellFormed}
@@ -33,12 +30,3 @@ pub record IsUneven (code : Code) (w : Witness) : Type 0 where
   pub run : (target code.instrs (length code.vars) w.input w.choices steps).end ≡ Returned world value at used
   pub all_used : length used ≡ length w.choices
   pub off : IsBalanced world value → ⊥
-
-pub record IsWeighed (w : Witness) (world : World) (value : Option Value) (p : Pos) (used : List Pos) (fault : Fault) : Type 0 where
-  pub witness : fault.witness ≡ w
-  pub place : fault.pos ≡ p
-  pub places : fault.used ≡ used
-  pub object : fault.object < length world.accounts
-  pub change : fault.change ≡ (account_of world fault.object).change
-  pub escaped : fault.escaped ≡ escaped_of world fault.object value
-  pub differ : fault.change ≢ fault.escaped

@@ -1,6 +1,6 @@
 //! The verdicts on the functions of a checked file.
 ghost use Rattle.std.specs.Prelude.{◌≡◌, ◌<◌, ◌+◌, length, map, slice_get, Some, IfOk};
-ghost use Rattle.std.specs.List.{AllZip};
+ghost use Rattle.std.specs.List.{All, AllZip};
 ghost use Rattle.pungi_check.specs.CheckedView.{checked_view};
 ghost use Rattle.pungi_code.specs.declared.code.Code.{Code as CodeOf};
 ghost use Rattle.pungi_code.specs.Run.{code_at};
@@ -10,9 +10,9 @@ ghost use Rattle.pungi_resolved.specs.ActionView.{function_view};
 ghost use Rattle.pungi_resolve.specs.Resolutions.{resolution_of, resolution_view};
 ghost use Rattle.pungi_types.specs.Files.{Definition, definitions as definitions_of};
 ghost use Rattle.pungi_types.specs.Refused.{IsRefusedSet};
-ghost use Rattle.pungi_explore.specs.Explored.{IsMany};
+ghost use Rattle.pungi_explore.specs.Explored.{IsFew, IsMany};
 ghost use Rattle.pungi_verdict.specs.Replays.{IsGiven};
-ghost use Rattle.pungi_verdict.specs.Verdicts.{IsRight, IsShown, object_code, file_codes, IsVerdict, IsJudged};
+ghost use Rattle.pungi_verdict.specs.Verdicts.{IsRight, IsShown, object_code, file_codes, IsVerdict, IsJudged, IsReportable};
 
 use crate::object_form::is_object_code;
 use crate::replay::replay;
@@ -35,7 +35,7 @@ fn judge_code(
 ) -> Result<Verdict, Memory>
     requires code { code_at codes.now i ≡ Some code.now }
     requires given { IsGiven codes.now.statics (function_view f.now) code.now }
-    ensures { IfOk result (λ v. IsRight codes.now.statics (function_view f.now) (IsMany codes.now i) v) }
+    ensures { IfOk result (λ v. IsRight codes.now.statics (function_view f.now) (IsFew codes.now i) (IsMany codes.now i) v) }
 {
     let explored = explore(alloc, codes, i)?;
     match explored {
@@ -53,7 +53,7 @@ fn judge_code(
 fn judge(alloc: Global, codes: &Codes, i: usize, f: &Function) -> Result<Verdict, Memory>
     requires there { i < length codes.now.codes }
     requires given { (code : CodeOf) → object_code codes.now.statics (code_at codes.now i) ≡ Some code → IsGiven codes.now.statics (function_view f.now) code }
-    ensures { IfOk result (λ v. IsShown codes.now.statics (function_view f.now) (IsMany codes.now i) (object_code codes.now.statics (code_at codes.now i)) v) }
+    ensures { IfOk result (λ v. IsShown codes.now.statics (function_view f.now) (IsFew codes.now i) (IsMany codes.now i) (object_code codes.now.statics (code_at codes.now i)) v) }
 {
     if let Some(code) = &codes.codes.as_slice()[i] {
         if is_object_code(codes.statics, code) {
@@ -98,8 +98,7 @@ fn verdicts(
     requires lowered { AreLowered (checked_view checked.now) codes.now.codes }
     requires formed { AreWellFormed codes.now }
     requires functions { map resolution_view functions.now ≡ map (resolution_of (checked_view checked.now).file (checked_view checked.now).rows (checked_view checked.now).refused) (definitions_of (checked_view checked.now).file) }
-    ensures judged { IfOk result (λ lines. AllZip (IsJudged (checked_view checked.now)) (definitions_of (checked_view checked.now).file) lines.items) }
-    ensures whole { IfOk result (λ lines. length lines.items ≡ length (definitions_of (checked_view checked.now).file)) }
+    ensures { IfOk result (λ lines. AllZip (IsJudged (checked_view checked.now)) (definitions_of (checked_view checked.now).file) lines.items) }
 {
     let mut lines = Vec::new(alloc);
     for i in 0..checked.functions() {
@@ -118,12 +117,13 @@ fn known(checked: &Checked)
 
 /// The verdict on each function of a checked file, by its name, in the order of the file. A function of which a rule is told
 /// is refused by the rule. Of the others only those are judged whose code has the object form: a clean one has no run that
-/// returns and isn't balanced, from any entry and with any answers of the outside; a faulty one has the run of its fault; of
-/// one that is neither there are more than 16,384 traces.
+/// returns and isn't balanced, from any entry and with any answers of the outside, and at most 16,384 traces; a faulty one has the run of its fault,
+/// which tells the lowest object whose change there differs from its escapes; of one that is neither there are more than
+/// 16,384 traces. Each verdict can be reported.
 pub fn judge_all(alloc: Global, checked: &Checked) -> Result<Vec<(Name, Verdict)>, Memory>
     ensures set { IsRefusedSet (checked_view checked.now).file (checked_view checked.now).rows (checked_view checked.now).refused }
     ensures judged { IfOk result (λ lines. AllZip (IsJudged (checked_view checked.now)) (definitions_of (checked_view checked.now).file) lines.items) }
-    ensures whole { IfOk result (λ lines. length lines.items ≡ length (definitions_of (checked_view checked.now).file)) }
+    ensures reportable { IfOk result (λ lines. All (λ line. IsReportable line.1) lines.items) }
 {
     known(checked);
     let codes = lower(alloc, checked)?;

@@ -1,11 +1,11 @@
 //! Running a witness again by the function itself.
-ghost use Rattle.std.specs.Prelude.{◌≡◌, ◌≤◌, ◌<◌, ◌+◌, ◌*◌, ◌^◌, length, IfOk};
+ghost use Rattle.std.specs.Prelude.{◌≡◌, ℕ, ◌≤◌, ◌<◌, ◌+◌, ◌*◌, ◌^◌, length, IfOk};
 ghost use Rattle.pungi_resolved.specs.ActionView.{function_view};
 ghost use Rattle.pungi_world.specs.Escapes.{IsBalanced, IsCountable, IsLevel};
 ghost use Rattle.pungi_code.specs.WellFormed.{IsWellFormed};
 ghost use Rattle.pungi_lower.specs.Correct.{Behaves};
-ghost use Rattle.pungi_verdict.specs.Replays.{IsUneven, IsWeighed};
-ghost use Rattle.pungi_verdict.specs.Verdicts.{IsReturnOf};
+ghost use Rattle.pungi_verdict.specs.Replays.{IsUneven};
+ghost use Rattle.pungi_verdict.specs.Verdicts.{TellsLowest, IsReturnOf};
 
 use pungi_base::{Fault, Memory, Pos, Seq, Value, Witness};
 use pungi_code::Code;
@@ -28,6 +28,7 @@ fn uneven(world: &World, value: Option<Value>) -> u32
     requires off { IsBalanced world.now value → ⊥ }
     ensures there { result < length world.now.accounts }
     ensures uneven { IsLevel world.now value result → ⊥ }
+    ensures lowest { (k : ℕ) → k < result → IsLevel world.now value k }
 {
     match world.unbalanced(value) {
         Some(object) => object,
@@ -39,7 +40,10 @@ fn uneven(world: &World, value: Option<Value>) -> u32
 fn weigh(witness: Witness, world: World, value: Option<Value>, pos: Pos, used: Vec<Pos>) -> Fault
     requires countable { IsCountable world }
     requires off { IsBalanced world value → ⊥ }
-    ensures { IsWeighed witness world value pos used.items result }
+    ensures witness { result.witness ≡ witness }
+    ensures place { result.pos ≡ pos }
+    ensures places { result.used ≡ used.items }
+    ensures told { TellsLowest world value result }
 {
     let object = uneven(&world, value);
     let change = world.accounts.as_slice()[object as usize].change;

@@ -17,12 +17,14 @@ pub fn value_of(choice: &Choice) -> Value
     }
 }
 
+/// Whether a choice is `NULL`.
 pub fn is_null(choice: &Choice) -> bool
     ensures { result ≡ is_null choice.now }
 {
     matches!(choice, Choice::Null)
 }
 
+/// Whether a choice is a text.
 pub fn is_text(choice: &Choice) -> bool
     ensures { result ≡ is_text choice.now }
 {
@@ -39,6 +41,7 @@ fn is_object_choice(objects: usize, choice: &Choice) -> bool
     }
 }
 
+/// Whether a number is in this range.
 pub fn is_between(low: i64, high: i64, number: i64) -> bool
     ensures { result ≡ is_between low high number }
 {

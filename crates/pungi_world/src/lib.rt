@@ -24,12 +24,3 @@ pub use effect::Effect;
 pub use halt::Halt;
 pub use slot::{Slot, SlotState};
 pub use world::World;
-
-#[cfg(test)]
-mod call_table;
-#[cfg(test)]
-mod call_tests;
-#[cfg(test)]
-mod slot_tests;
-#[cfg(test)]
-mod tests;

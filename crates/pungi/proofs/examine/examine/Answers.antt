@@ -10,4 +10,4 @@ use Rattle.pungi.proofs.examine.examine.Goals as goal
 pub report-requires : goal.report-requires
 report-requires c =
     subst (λ (lines : List (Name × Verdict)). All (IsLine c.checked_of.new.names) lines) (sym c.deref-2.ensures.value)
-    (all_printable c.checked_of.new.names (unit_view c.in-Ok.checked.unit) c.in-Ok.checked.refused.keys c.in_ok-lines.lines.items c.in-Ok.ensures.known c.in_ok-lines.ensures.judged)
+    (all_printable c.checked_of.new.names (unit_view c.in-Ok.checked.unit) c.in-Ok.checked.refused.keys c.in_ok-lines.lines.items c.in-Ok.ensures.known c.in_ok-lines.ensures.judged c.in_ok-lines.ensures.reportable)

@@ -1,11 +1,18 @@
-use Rattle.std.proofs.Common.{◌≡◌, ◌++◌, length, ap, ◌∙◌}
+use Rattle.std.proofs.Common.{◌++◌, length, ap, ◌∙◌}
 use Rattle.pungi_types.specs.Operators.{is_void}
 use Rattle.pungi_resolved.specs.ActionView.{action_view}
 use Rattle.pungi_meaning.specs.Run.{closing}
 use Rattle.pungi_lower.specs.Sizes.{stmt_size}
 use Rattle.pungi_lower.specs.Scopes.{everywhere}
+use Rattle.pungi_lower.specs.Plans.{plan_of}
 use Rattle.pungi_lower.specs.StmtCode.{stmt_code, end_code}
+use Rattle.pungi_lower.proofs.PlanLists.{begins_at}
 use Rattle.pungi_lower.proofs.function.emit_body.Goals as goal
+
+pub emit_stmt-requires : goal.emit_stmt-requires
+emit_stmt-requires c =
+    let h = ap length (c.new-code.ensures ∙ c.new.ensures.items) in
+    record { plan = begins_at (λ i. plan_of i (action_view c.args.f.now.body)) 0 (length c.new-code.result) c.args.places.now c.requires h }
 
 pub returns : goal.returns
 returns c = λ s l.

@@ -1,8 +1,15 @@
-use Rattle.std.proofs.Common.{◌≡◌, ◌+◌, ◌++◌, length, ap, ◌∙◌, arith}
+use Rattle.std.proofs.Common.{◌≡◌, ◌+◌, [], ◌++◌, length, sym, ap, ◌∙◌, arith, append-nil}
 use Rattle.pungi_resolved.specs.ActionView.{action_view}
 use Rattle.pungi_lower.specs.Sizes.{stmt_size}
 use Rattle.pungi_lower.specs.Heads.{stmt_marks, heads_below}
+use Rattle.pungi_lower.specs.Plans.{plan_of}
 use Rattle.pungi_lower.proofs.function.lower_function.Goals as goal
+
+pub emit_body-requires : goal.emit_body-requires
+emit_body-requires c =
+    let plan = plan_of 0 (action_view c.args.f.now.body) in
+    let e = c.in_ok-size.ensures.places ∙ ap (λ l. l ++ plan) (c.new-places.ensures ∙ c.new-2.ensures.items) in
+    record { rest = []; is = c.as_slice.ensures ∙ e ∙ sym (append-nil plan) }
 
 pub returns-clause-instrs : goal.returns-clause-instrs
 returns-clause-instrs c =

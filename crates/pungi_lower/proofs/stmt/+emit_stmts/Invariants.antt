@@ -1,8 +1,10 @@
 use Rattle.std.proofs.Common.{◌≡◌, ◌+◌, ◌*◌, ◌++◌, length, drop, map, max}
 use Rattle.pungi_resolved.specs.ActionView.{action_view, actions_of}
 use Rattle.pungi_resolved.specs.declared.action.Action.{size-Action}
-use Rattle.pungi_lower.specs.LabelPlaces.{list_labels, list_starts, env_of}
+use Rattle.pungi_lower.specs.LabelPlaces.{env_of}
+use Rattle.pungi_lower.specs.Plans.{plans_of}
 use Rattle.pungi_lower.specs.StmtCode.{stmts_code}
+use Rattle.pungi_lower.proofs.PlanLists.{Left}
 use Rattle.pungi_lower.proofs.stmt.+emit_stmts.Given as goal
 
 abbrev pub decreases-emit_stmt : goal.decreases-emit_stmt
@@ -25,9 +27,6 @@ decreases-emit_for l = 4 * size-Action l.body.now + 1
 
 abbrev pub decreases-emit_skipped : goal.decreases-emit_skipped
 decreases-emit_skipped l = 4 * size-Action l.body.now + 1
-
-abbrev pub decreases-emit_label : goal.decreases-emit_label
-decreases-emit_label l = 4 * size-Action l.body.now + 1
 
 abbrev pub decreases-emit_body : goal.decreases-emit_body
 decreases-emit_body l = 4 * size-Action l.body.now + 1
@@ -55,10 +54,7 @@ invariant-emit_list-loop-action l = record {
   code :
       l.code ++ stmts_code l.around.locals (env_of l.scope) (length l.code) (actions_of (map action_view (drop l.action-index l.list)))
       ≡ l.initial.code ++ stmts_code l.around.locals (env_of l.scope) (length l.initial.code) (actions_of (map action_view l.list));
-  found :
-      l.found ++ list_labels (length l.code) (map action_view (drop l.action-index l.list))
-      ≡ l.initial.found ++ list_labels (length l.initial.code) (map action_view l.list);
-  starts :
-      l.starts ++ list_starts (length l.code) (map action_view (drop l.action-index l.list))
-      ≡ l.initial.starts ++ list_starts (length l.initial.code) (map action_view l.list);
+  plan :
+      Left (plans_of (length l.code) (actions_of (map action_view (drop l.action-index l.list)))) l.plan.left.now
+      (plans_of (length l.initial.code) (actions_of (map action_view l.list))) l.initial.plan.left.now;
 }

@@ -3,7 +3,7 @@ use Rattle.std.proofs.lemmas.List.{length-map}
 use Rattle.indexmap.specs.IndexMap.{get}
 use Rattle.pungi_tree.specs.UnitView.{unit_view}
 use Rattle.pungi_types.specs.Files.{typedefs}
-use Rattle.pungi_types.specs.Kinds.{typedef_in}
+use Rattle.pungi_types.specs.Kinds.{typedef_in, tagged_in}
 use Rattle.pungi_types.specs.TypesView.{typedef_view}
 use Rattle.pungi_names.specs.Depth.{known_at}
 use Rattle.pungi_names.proofs.CoresLemmas.{followed-found}
@@ -15,6 +15,7 @@ invariant_of-result c =
     let items = c.args.typedefs.now.items in
     let count : c.len.result ≡ length (typedefs file) = omega (arith, c.len.ensures, c.args.typedefs.now.ok.0, length-map items typedef_view, ap length c.requires.typedefs) in
     record {
+      tags_found = λ w. c.in_ok-words.ensures w ∙ ap (λ ts. is_some (tagged_in ts w)) c.requires.tags;
       followed = λ w h.
           followed-found file (get nat_eq c.in_ok-reached.reached) c.in_ok-reached.ensures.reach
           (λ q. c.in_ok-reached.ensures.words q ∙ ap (λ ts. is_some (typedef_in ts q)) c.requires.typedefs) w h c.len.result

@@ -7,14 +7,11 @@ use Rattle.pungi_verdict.proofs.Forms.{flat, formed}
 use Rattle.pungi_verdict.proofs.Transport.{clean, uneven-of, within-of}
 use Rattle.pungi_verdict.proofs.judge.judge_code.Goals as goal
 
-pub explore-requires : goal.explore-requires
-explore-requires c = record { form = (c.args.code.now, record { is = c.requires.code; form = formed c.args.codes.now.statics c.args.code.now c.requires.given.object }) }
-
 pub returns-in-AllBalanced : goal.returns-in-AllBalanced
 returns-in-AllBalanced c =
     let form : HasForm c.args.codes.now c.args.i c.args.code.now = record { is = c.requires.code; form = formed c.args.codes.now.statics c.args.code.now c.requires.given.object } in
     let shown = subst (λ (e : Explored). IsExplored c.args.codes.now c.args.i e) c.in-AllBalanced.is c.in_ok-explored.ensures.shown in
-    clean c.args.codes.now.statics (function_view c.args.f.now) c.requires.given.nodes c.args.code.now c.requires.given.lowered (shown c.args.code.now form).0
+    (clean c.args.codes.now.statics (function_view c.args.f.now) c.requires.given.nodes c.args.code.now c.requires.given.lowered (shown c.args.code.now form).0, λ code has. (shown code has).1)
 
 pub replay-requires-clause-within : goal.replay-requires-clause-within
 replay-requires-clause-within c =

@@ -1,4 +1,4 @@
-use Rattle.std.proofs.Common.{◌≡◌, List, [], ◌∷◌, ◌++◌, length, length-append, ap, sym, subst, arith}
+use Rattle.std.proofs.Common.{◌≡◌, List, [], ◌∷◌, ◌++◌, sym, subst, arith}
 use Rattle.std.specs.List.{AllZip}
 use Rattle.pungi_base.specs.declared.names.Name.{Name}
 use Rattle.pungi_base.specs.declared.verdict.Verdict.{Verdict}
@@ -13,14 +13,9 @@ loop-i-preserved c =
     let view = checked_view c.args.checked.now in
     let line : Name × Verdict = (c.name.result, c.in_ok-verdict.verdict) in
     let pushed : c.push.new.self.items ≡ c.loop-i.lines.items ++ line ∷ [] = c.in_ok-push.ensures.items in
-    let count = ap (λ (l : List (Name × Verdict)). length l) pushed in
-    let more_long = length-append c.loop-i.lines.items (line ∷ []) in
-    record {
-      judged = λ more rest.
-          subst (λ (l : List (Name × Verdict)). AllZip (IsJudged view) (definitions view.file) (l ++ more)) (sym pushed)
-          (judged-next view c.loop-i.i c.name.result c.in_ok-verdict.verdict c.loop-i.lines.items more (omega arith) c.name.ensures c.in_ok-verdict.ensures c.loop-i.invariant.judged rest);
-      counted = omega (arith, count, more_long, c.loop-i.invariant.counted);
-    }
+    λ more rest.
+    subst (λ (l : List (Name × Verdict)). AllZip (IsJudged view) (definitions view.file) (l ++ more)) (sym pushed)
+    (judged-next view c.loop-i.i c.name.result c.in_ok-verdict.verdict c.loop-i.lines.items more (omega arith) c.name.ensures c.in_ok-verdict.ensures c.loop-i.invariant rest)
 
-pub returns-clause-judged : goal.returns-clause-judged
-returns-clause-judged c = judged-all (checked_view c.args.checked.now) c.loop-i.i c.loop-i.lines.items (omega arith) c.loop-i.invariant.judged
+pub returns : goal.returns
+returns c = judged-all (checked_view c.args.checked.now) c.loop-i.i c.loop-i.lines.items (omega arith) c.loop-i.invariant

@@ -1,4 +1,4 @@
-use Rattle.std.proofs.Common.{◌≡◌, List, ◌++◌, length, drop}
+use Rattle.std.proofs.Common.{List, ◌++◌, drop}
 use Rattle.std.specs.List.{AllZip}
 use Rattle.pungi_base.specs.declared.names.Name.{Name}
 use Rattle.pungi_base.specs.declared.verdict.Verdict.{Verdict}
@@ -9,7 +9,6 @@ use Rattle.pungi_verdict.proofs.judge.verdicts.Given as goal
 
 -- lines for the functions that are left complete the lines so far
 abbrev pub invariant-loop-i : goal.invariant-loop-i
-invariant-loop-i l = record {
-  judged : (more : List (Name × Verdict)) → AllZip (IsJudged (checked_view l.checked)) (drop l.i (definitions (checked_view l.checked).file)) more → AllZip (IsJudged (checked_view l.checked)) (definitions (checked_view l.checked).file) (l.lines.items ++ more);
-  counted : length l.lines.items ≡ l.i;
-}
+invariant-loop-i l =
+    (more : List (Name × Verdict)) → AllZip (IsJudged (checked_view l.checked)) (drop l.i (definitions (checked_view l.checked).file)) more
+    → AllZip (IsJudged (checked_view l.checked)) (definitions (checked_view l.checked).file) (l.lines.items ++ more)

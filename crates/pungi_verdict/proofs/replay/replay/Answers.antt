@@ -35,4 +35,5 @@ returns-clause-returns c =
     let e = ends-so (function_view c.args.f.now) c.args.code.now c.args.witness c.requires.within c.requires.alike c.requires.formed c.requires.flat u c.as_slice.result.now c.fuel-fuel.result (end_of c.in_ok-outcome.outcome) c.as_slice.ensures c.fuel-fuel.ensures c.in_ok-outcome.ensures.end in
     let same = sym (ap end_of c.in-Returned.is) ∙ e in
     let run = sym (run-so (function_view c.args.f.now) c.args.witness c.as_slice.result.now c.fuel-fuel.result (end_of c.in_ok-outcome.outcome) c.as_slice.ensures c.in_ok-outcome.ensures.end) ∙ ap end_of c.in-Returned.is in
-    told (function_view c.args.f.now) c.args.code.now c.args.witness u c.fuel-fuel.result c.in-Returned.world c.in-Returned.value c.in-Returned.pos c.in-Returned.used.items c.weigh.result run same c.weigh.ensures
+    told (function_view c.args.f.now) c.args.code.now c.args.witness u c.fuel-fuel.result c.in-Returned.world c.in-Returned.value c.in-Returned.pos c.in-Returned.used.items c.weigh.result run same
+    c.weigh.ensures.witness c.weigh.ensures.place c.weigh.ensures.places c.weigh.ensures.told
