@@ -1,4 +1,4 @@
-ghost use Rattle.std.specs.Prelude.{◌≡◌, None};
+ghost use Rattle.std.specs.Prelude.{◌≡◌, [], None, Some};
 
 use pungi_base::{Failed, OpenFault, Shelf};
 use std::alloc::Global;
@@ -14,9 +14,10 @@ pub struct FolderShelf<'a> {
 }
 
 impl<'a> FolderShelf<'a> {
-    /// A shelf that opened no file yet, and where no call failed.
+    /// A shelf that opened no file yet, so that nothing is left to read, and where no call failed.
     pub fn new(files: &'a HostRuntime) -> FolderShelf<'a>
-        ensures { ⟦<FolderShelf<'a> as Shelf>⟧.faults result ≡ 0 }
+        ensures rest { ⟦<FolderShelf<'a> as Shelf>⟧.rest result ≡ Some [] }
+        ensures faults { ⟦<FolderShelf<'a> as Shelf>⟧.faults result ≡ 0 }
     {
         FolderShelf {
             files,
@@ -29,7 +30,7 @@ impl<'a> FolderShelf<'a> {
 impl Shelf for FolderShelf<'_> {
     ghost texts = { λ _. None };
 
-    ghost rest = { λ _. None };
+    ghost rest = { λ s. match s.opened { None ⇒ Some []; Some _ ⇒ None } };
 
     ghost given = { λ _. None };
 
