@@ -1,5 +1,6 @@
 pub mod Answer
 pub mod Examine
+pub mod FolderShelf
 pub mod Front
 pub mod Read
 pub mod Settings

@@ -1,4 +1,5 @@
 ghost use Rattle.std.specs.Prelude.{◌≡◌, [], None, Some};
+ghost use Rattle.pungi.specs.FolderShelf.{left_of};
 
 use pungi_base::{Failed, OpenFault, Shelf};
 use std::alloc::Global;
@@ -30,7 +31,7 @@ impl<'a> FolderShelf<'a> {
 impl Shelf for FolderShelf<'_> {
     ghost texts = { λ _. None };
 
-    ghost rest = { λ s. match s.opened { None ⇒ Some []; Some _ ⇒ None } };
+    ghost rest = { λ s. left_of s.opened };
 
     ghost given = { λ _. None };
 
