@@ -10,7 +10,7 @@ complain() {
 }
 [ "$(cat HANDLES)" = 'Handles allowed: none.' ] || complain 'HANDLES is not its one line'
 for name in $(sed -n 's/^\([a-z0-9_]*\)[ a-z0-9_=]*:.*/\1/p' crates.txt); do
-    [ "$name" = pungi_tests ] && continue
+    case "$name" in *_tests) continue ;; esac
     grep -q '\bfn ' crates/"$name"/src/*.rt || continue
     ls crates/"$name"/must-fail/*.edit >/dev/null 2>&1 || complain "$name has no edit that must fail"
 done

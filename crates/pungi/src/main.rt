@@ -24,8 +24,6 @@ use std::io::ErrorKind;
 use std::process::ExitCode;
 
 #[cfg(test)]
-mod parse_tests;
-#[cfg(test)]
 mod rule_tests;
 #[cfg(test)]
 mod test_modules;

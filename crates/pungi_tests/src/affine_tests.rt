@@ -1,22 +1,12 @@
 ghost use Rattle.std.specs.Prelude.{◌≡◌, ◌^◌, ◌∷◌, ◌++◌, [], pos, length, IfOk};
-ghost use Rattle.pungi_domain.specs.Vectors.{IsEquation, IsMatrix, IsWithin};
+ghost use Rattle.pungi_domain.specs.Vectors.{IsMatrix, IsWithin};
 
+use crate::equations::equation;
 use pungi_affine::Span;
 use pungi_base::{Memory, Seq};
-use pungi_domain::{Domain, DomainFault, Equation, Matrix};
+use pungi_domain::{Domain, DomainFault, Matrix};
 use std::alloc::Global;
 use std::test::Fail;
-
-fn equation(alloc: Global, a: i64, b: i64, c: i64) -> Result<Equation, Memory>
-    requires b { IsWithin (2 ^ 20) b }
-    requires c { IsWithin (2 ^ 20) c }
-    ensures { IfOk result (λ e. IsEquation 3 e.coefficients) }
-{
-    let coefficients = vec![in alloc; a, b, c]?;
-    Ok(Equation {
-        coefficients: Seq::new(coefficients),
-    })
-}
 
 fn with_row(
     alloc: Global,

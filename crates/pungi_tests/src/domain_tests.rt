@@ -1,21 +1,11 @@
 ghost use Rattle.std.specs.Prelude.{◌≡◌, ◌^◌, IfOk};
-ghost use Rattle.pungi_domain.specs.Vectors.{IsWithin, IsEquation};
+ghost use Rattle.pungi_domain.specs.Vectors.{IsWithin};
 
-use pungi_base::{Memory, Seq};
-use pungi_domain::{Domain, Equation, Flat, Matrix};
+use crate::equations::equation;
+use pungi_base::Seq;
+use pungi_domain::{Domain, Flat, Matrix};
 use std::alloc::Global;
 use std::test::Fail;
-
-fn equation(alloc: Global, a: i64, b: i64, c: i64) -> Result<Equation, Memory>
-    requires b { IsWithin (2 ^ 20) b }
-    requires c { IsWithin (2 ^ 20) c }
-    ensures { IfOk result (λ e. IsEquation 3 e.coefficients) }
-{
-    let coefficients = vec![in alloc; a, b, c]?;
-    Ok(Equation {
-        coefficients: Seq::new(coefficients),
-    })
-}
 
 // The multiples of 1, b, c.
 fn multiples(alloc: Global, b: i64, c: i64) -> Result<Flat, Fail>

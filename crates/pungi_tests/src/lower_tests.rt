@@ -1,138 +1,18 @@
 //! Functions that are lowered. All stand on line 1.
 
-use pungi_api::Table;
-use pungi_base::{Entry, Key, Memory, Name, Names, Pos, Punct, Seq, Value as Content};
-use pungi_check::{Checked, UnitFault, check};
+use crate::functions::{
+    F, at, declared, less, local, number, of_number, repeated, returned, steps, sum, summing,
+};
+use crate::units::{checked, three_functions};
+use pungi_base::{Entry, Memory, Name, Seq, Value as Content};
+use pungi_check::UnitFault;
 use pungi_code::{Code, Codes, code_run};
 use pungi_lower::{lower, lower_function};
 use pungi_meaning::{Outcome, run};
-use pungi_resolved::{Action, ActionNode, Function, Place, Reached, Value, ValueNode};
-use pungi_tree::{Base, FunctionDef, Item, Params, Spec, Stmt, StmtNode, Unit};
+use pungi_resolved::{Action, ActionNode, Function, Value};
 use pungi_types::ValueKind;
 use std::alloc::Global;
 use std::test::Fail;
-
-const F: Name = Name(200);
-
-fn at(col: u32) -> Pos {
-    Pos { line: 1, col }
-}
-
-fn value(alloc: Global, col: u32, node: ValueNode) -> Result<Box<Value>, Memory> {
-    Ok(Box::new(alloc, Value { pos: at(col), node })?)
-}
-
-fn local(alloc: Global, col: u32, kind: ValueKind, number: usize) -> Result<Box<Value>, Memory> {
-    Ok(value(
-        alloc,
-        col,
-        ValueNode::Read(kind, Place::Local(at(col), number)),
-    )?)
-}
-
-fn number(alloc: Global, col: u32, n: i64) -> Result<Box<Value>, Memory> {
-    Ok(value(alloc, col, ValueNode::Constant(n))?)
-}
-
-/// An `int` local gets a value.
-fn set(alloc: Global, col: u32, number: usize, of: Box<Value>) -> Result<Action, Memory> {
-    let place = Place::Local(at(col), number);
-    let stored = value(
-        alloc,
-        col.saturating_add(2),
-        ValueNode::Stored(ValueKind::Int, place, of),
-    )?;
-    Ok(Action {
-        pos: at(col),
-        node: ActionNode::Evaluate(Some(stored)),
-    })
-}
-
-/// A local is declared with a value.
-fn declared(
-    alloc: Global,
-    col: u32,
-    number: usize,
-    kind: ValueKind,
-    of: Box<Value>,
-) -> Result<Action, Memory> {
-    let reached = Reached {
-        number,
-        at: at(col),
-        kind: Some(kind),
-        value: Some(of),
-    };
-    Ok(Action {
-        pos: at(col),
-        node: ActionNode::Reach(vec![in alloc; reached]?),
-    })
-}
-
-/// `s = s + n;` at column 39, where `s` is local 1 and `n` local 0.
-fn sum(alloc: Global) -> Result<Action, Memory> {
-    let a = local(alloc, 43, ValueKind::Int, 1)?;
-    let b = local(alloc, 47, ValueKind::Int, 0)?;
-    let of = value(
-        alloc,
-        45,
-        ValueNode::Computed(Punct::Plus, ValueKind::Int, a, b),
-    )?;
-    Ok(set(alloc, 39, 1, of)?)
-}
-
-/// `n = n - 1;` at column 50.
-fn less(alloc: Global) -> Result<Action, Memory> {
-    let a = local(alloc, 54, ValueKind::Int, 0)?;
-    let b = number(alloc, 58, 1)?;
-    let of = value(
-        alloc,
-        56,
-        ValueNode::Computed(Punct::Minus, ValueKind::Int, a, b),
-    )?;
-    Ok(set(alloc, 50, 0, of)?)
-}
-
-/// `while (n) { s = s + n; n = n - 1; }` at column 27.
-fn repeated(alloc: Global) -> Result<Action, Memory> {
-    let mut list = Vec::new(alloc);
-    list.push(sum(alloc)?)?;
-    list.push(less(alloc)?)?;
-    let body = Action {
-        pos: at(37),
-        node: ActionNode::Block(list, at(61)),
-    };
-    let test = local(alloc, 34, ValueKind::Int, 0)?;
-    Ok(Action {
-        pos: at(27),
-        node: ActionNode::RepeatWhile(test, Box::new(alloc, body)?),
-    })
-}
-
-fn returned(alloc: Global, col: u32, of: Box<Value>) -> Action {
-    Action {
-        pos: at(col),
-        node: ActionNode::Give(Some(of)),
-    }
-}
-
-/// `int f(int n) { int s = 0; while (n) { s = s + n; n = n - 1; } return s; }`
-fn summing(alloc: Global) -> Result<Function, Memory> {
-    let mut list = Vec::new(alloc);
-    list.push(declared(alloc, 16, 1, ValueKind::Int, number(alloc, 24, 0)?)?)?;
-    list.push(repeated(alloc)?)?;
-    list.push(returned(alloc, 63, local(alloc, 70, ValueKind::Int, 1)?))?;
-    Ok(Function {
-        name: F,
-        pos: at(5),
-        params: Seq::new(vec![in alloc; Some(ValueKind::Int)]?),
-        locals: 2,
-        result: Some(ValueKind::Int),
-        body: Action {
-            pos: at(14),
-            node: ActionNode::Block(list, at(73)),
-        },
-    })
-}
 
 /// A file of one function.
 fn codes(alloc: Global, code: Code) -> Result<Codes, Memory> {
@@ -174,35 +54,39 @@ fn a_loop_has_one_head(rt: HostRuntime) -> Result<(), Fail> {
     Ok(())
 }
 
+/// Whether the function and its code return 6 from 3.
+fn both_return(alloc: Global, f: &Function, codes: &Codes) -> Result<bool, Memory> {
+    let few = entry(alloc, 3)?;
+    Ok(
+        returns(&run(alloc, f, &few, &[], 1000)?, 6, 63)
+            && returns(&code_run(alloc, codes, 0, &few, &[], 1000)?, 6, 63),
+    )
+}
+
+/// Whether the function and its code use up all their steps from -1.
+fn both_are_spent(alloc: Global, f: &Function, codes: &Codes) -> Result<bool, Memory> {
+    let many = entry(alloc, -1)?;
+    Ok(
+        is_spent(&run(alloc, f, &many, &[], 1000)?)
+            && is_spent(&code_run(alloc, codes, 0, &many, &[], 1000)?),
+    )
+}
+
 #[test]
 fn both_executors_agree(rt: HostRuntime) -> Result<(), Fail> {
     let alloc = rt.alloc();
     let f = summing(alloc)?;
     let codes = codes(alloc, lower_function(alloc, &f)?)?;
-    let few = entry(alloc, 3)?;
-    assert!(rt; returns(&run(alloc, &f, &few, &[], 1000)?, 6, 63));
-    assert!(rt; returns(&code_run(alloc, &codes, 0, &few, &[], 1000)?, 6, 63));
-    let many = entry(alloc, -1)?;
-    assert!(rt; is_spent(&run(alloc, &f, &many, &[], 1000)?));
-    assert!(rt; is_spent(&code_run(alloc, &codes, 0, &many, &[], 1000)?));
+    assert!(rt; both_return(alloc, &f, &codes)?);
+    assert!(rt; both_are_spent(alloc, &f, &codes)?);
     Ok(())
 }
 
-/// `while (n) { s = s + n; n = n - 1; }` around a statement, two of them in each loop.
+/// `while (n) { s = s + n; n = n - 1; ... }` around a statement.
 fn around(alloc: Global, inner: Action) -> Result<Action, Memory> {
-    let mut list = Vec::new(alloc);
-    list.push(sum(alloc)?)?;
-    list.push(less(alloc)?)?;
+    let mut list = steps(alloc)?;
     list.push(inner)?;
-    let body = Action {
-        pos: at(37),
-        node: ActionNode::Block(list, at(61)),
-    };
-    let test = local(alloc, 34, ValueKind::Int, 0)?;
-    Ok(Action {
-        pos: at(27),
-        node: ActionNode::RepeatWhile(test, Box::new(alloc, body)?),
-    })
+    Ok(repeated(alloc, list)?)
 }
 
 fn deep(alloc: Global) -> Result<Function, Memory> {
@@ -210,19 +94,8 @@ fn deep(alloc: Global) -> Result<Function, Memory> {
     for _level in 0..200 {
         body = around(alloc, body)?;
     }
-    let mut list = Vec::new(alloc);
-    list.push(body)?;
-    Ok(Function {
-        name: F,
-        pos: at(5),
-        params: Seq::new(vec![in alloc; Some(ValueKind::Int)]?),
-        locals: 2,
-        result: Some(ValueKind::Int),
-        body: Action {
-            pos: at(14),
-            node: ActionNode::Block(list, at(73)),
-        },
-    })
+    let list = vec![in alloc; body]?;
+    Ok(of_number(alloc, list)?)
 }
 
 #[test]
@@ -360,14 +233,7 @@ fn mixed(alloc: Global) -> Result<Function, Memory> {
     list.push(chosen(alloc)?)?;
     list.push(skipped(alloc)?)?;
     list.push(returned(alloc, 63, local(alloc, 70, ValueKind::Int, 1)?))?;
-    Ok(Function {
-        name: F,
-        pos: at(5),
-        params: Seq::new(vec![in alloc; Some(ValueKind::Int)]?),
-        locals: 2,
-        result: Some(ValueKind::Int),
-        body: block(list),
-    })
+    Ok(of_number(alloc, list)?)
 }
 
 fn sum_returned(outcome: &Outcome) -> Option<Content> {
@@ -377,65 +243,23 @@ fn sum_returned(outcome: &Outcome) -> Option<Content> {
     }
 }
 
+/// Whether the function and its code return one number.
+fn runs_alike(alloc: Global, f: &Function, codes: &Codes, n: i64) -> Result<bool, Memory> {
+    let entry = entry(alloc, n)?;
+    let first = sum_returned(&run(alloc, f, &entry, &[], 1000)?);
+    let second = sum_returned(&code_run(alloc, codes, 0, &entry, &[], 1000)?);
+    Ok(first.is_some() && first == second)
+}
+
 #[test]
 fn each_kind_of_statement_runs_alike(rt: HostRuntime) -> Result<(), Fail> {
     let alloc = rt.alloc();
     let f = mixed(alloc)?;
     let codes = codes(alloc, lower_function(alloc, &f)?)?;
     for n in 0..5 {
-        let entry = entry(alloc, n)?;
-        let first = sum_returned(&run(alloc, &f, &entry, &[], 1000)?);
-        let second = sum_returned(&code_run(alloc, &codes, 0, &entry, &[], 1000)?);
-        assert!(rt; first.is_some());
-        assert!(rt; first == second);
+        assert!(rt; runs_alike(alloc, &f, &codes, n)?);
     }
     Ok(())
-}
-
-/// `void NAME(void) { }`, or what stands in it.
-fn void_function(alloc: Global, name: u32, inside: Vec<Stmt>) -> Result<Item, Memory> {
-    let words = vec![in alloc; Key::Void]?;
-    let result = Spec {
-        pos: at(1),
-        base: Base::Words(words),
-        consts: 0,
-    };
-    Ok(Item::Function(FunctionDef {
-        quals: Vec::new(alloc),
-        result,
-        stars: Vec::new(alloc),
-        name: Name(name),
-        pos: at(6),
-        params: Params {
-            list: Vec::new(alloc),
-            void: true,
-            dots: None,
-        },
-        body: Stmt {
-            pos: at(14),
-            node: StmtNode::Block(inside, at(40)),
-        },
-    }))
-}
-
-/// The second function has a `break` that stands in no loop, so it is refused.
-fn two_functions(alloc: Global) -> Result<Unit, Memory> {
-    let mut items = Vec::new(alloc);
-    items.push(void_function(alloc, 5000, Vec::new(alloc))?)?;
-    let mut inside = Vec::new(alloc);
-    inside.push(Stmt {
-        pos: at(16),
-        node: StmtNode::Break,
-    })?;
-    items.push(void_function(alloc, 5001, inside)?)?;
-    Ok(Unit { items })
-}
-
-fn checked(alloc: Global) -> Result<Checked, UnitFault> {
-    let names = Names::builtin(alloc)?;
-    let rows = Table::builtin(alloc)?;
-    let unit = two_functions(alloc)?;
-    Ok(check(alloc, &names, unit, rows)?)
 }
 
 /// An empty function has one instruction, which returns.
@@ -446,17 +270,26 @@ fn is_empty_code(code: &Option<Code>) -> bool {
     }
 }
 
+/// Whether the first function has an empty code, the second none, since a rule holds in it, and the third one.
+fn are_lowered(codes: &[Option<Code>]) -> bool {
+    match codes {
+        [empty, refused, keeping] => is_empty_code(empty) && refused.is_none() && keeping.is_some(),
+        _ => false,
+    }
+}
+
+fn lowered(alloc: Global) -> Result<Codes, UnitFault> {
+    let checked = checked(alloc, three_functions(alloc)?)?;
+    Ok(lower(alloc, &checked)?)
+}
+
 #[test]
 fn a_file_is_lowered(rt: HostRuntime) -> Result<(), Fail> {
-    match checked(rt.alloc()) {
-        Ok(checked) => {
-            let codes = lower(rt.alloc(), &checked)?;
-            assert_eq!(rt; codes.codes.len(), 2);
-            assert!(rt; is_empty_code(&codes.codes.as_slice()[0]));
-            assert!(rt; codes.codes.as_slice()[1].is_none());
+    match lowered(rt.alloc()) {
+        Ok(codes) => {
+            assert!(rt; are_lowered(codes.codes.as_slice()));
             assert_eq!(rt; codes.statics, 24);
-            assert_eq!(rt; codes.names.len(), 2);
-            assert!(rt; codes.names.as_slice()[1] == Name(5001));
+            assert!(rt; codes.names.as_slice() == [Name(5000), Name(5001), Name(5002)].as_slice());
         }
         Err(_) => panic!(rt; "the unit is refused"),
     }

@@ -1,6 +1,7 @@
 ghost use Rattle.pungi_meaning.specs.Outcomes.{IsCounted};
 
-use crate::meaning_functions::{BOX, FIRST, at, one, setting, summing};
+use crate::functions::{at, summing};
+use crate::meaning_functions::{BOX, FIRST, one, setting};
 use pungi_base::{Choice, Entry, Memory, Pos, Seq, Value};
 use pungi_meaning::{Op, Outcome, arithmetic, entry_ok, fits, run};
 use pungi_resolved::Function;

@@ -2,7 +2,7 @@ ghost use Rattle.std.specs.Prelude.{◌≡◌, ◌<◌, length, IfOk};
 ghost use Rattle.pungi_base.specs.Words.{builtin_words};
 ghost use Rattle.pungi_report.specs.Text.{IsPrintable};
 
-use pungi_base::words::{PY_INCREF, PY_LONG_FROM_LONG};
+use pungi_base::words::PY_LONG_FROM_LONG;
 use pungi_base::{
     Choice, Entry, Fault, Memory, Name, Names, Pos, Rule, Seq, Value, Verdict, Why, Witness,
 };

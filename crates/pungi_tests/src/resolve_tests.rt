@@ -1,13 +1,11 @@
-use pungi_api::Table;
-use pungi_base::{Key, Memory, Name, Names, Pos};
-use pungi_check::{Checked, UnitFault, check};
+use crate::units::{HERE, checked, expr, stmt, void_function};
+use pungi_base::{Memory, Name};
+use pungi_check::{Checked, UnitFault};
 use pungi_resolve::resolve_unit;
 use pungi_resolved::{Action, ActionNode, Function};
-use pungi_tree::{Base, Expr, ExprNode, FunctionDef, Item, Params, Spec, Stmt, StmtNode, Unit};
+use pungi_tree::{Expr, ExprNode, Stmt, StmtNode};
 use std::alloc::Global;
 use std::test::Fail;
-
-const HERE: Pos = Pos { line: 1, col: 1 };
 
 fn is_empty_block(action: &Action) -> bool {
     match &action.node {
@@ -16,28 +14,12 @@ fn is_empty_block(action: &Action) -> bool {
     }
 }
 
-fn void_spec(alloc: Global) -> Result<Spec, Memory> {
-    let words = vec![in alloc; Key::Void]?;
-    Ok(Spec {
-        pos: HERE,
-        base: Base::Words(words),
-        consts: 0,
-    })
-}
-
 fn long(value: i128) -> Expr {
-    Expr {
-        pos: HERE,
-        node: ExprNode::Int {
-            value,
-            long: true,
-            unsigned: false,
-        },
-    }
-}
-
-fn stmt(node: StmtNode) -> Stmt {
-    Stmt { pos: HERE, node }
+    expr(ExprNode::Int {
+        value,
+        long: true,
+        unsigned: false,
+    })
 }
 
 fn case_of(alloc: Global, constant: i128) -> Result<Stmt, Memory> {
@@ -52,47 +34,15 @@ fn switch_of(alloc: Global, constant: i128) -> Result<Stmt, Memory> {
     Ok(stmt(StmtNode::Switch(long(0), block)))
 }
 
-/// `void NAME(void) { BODY }`.
-fn function_of(alloc: Global, spec: Spec, name: u32, body: Vec<Stmt>) -> FunctionDef {
-    FunctionDef {
-        quals: Vec::new(alloc),
-        result: spec,
-        stars: Vec::new(alloc),
-        name: Name(name),
-        pos: HERE,
-        params: Params {
-            list: Vec::new(alloc),
-            void: true,
-            dots: None,
-        },
-        body: Stmt {
-            pos: HERE,
-            node: StmtNode::Block(body, HERE),
-        },
-    }
+/// A unit of the one function 5000, checked.
+fn one_function(alloc: Global, body: Vec<Stmt>) -> Result<Checked, UnitFault> {
+    let items = vec![in alloc; void_function(alloc, 5000, body)?]?;
+    Ok(checked(alloc, items)?)
 }
 
-fn unit_of(alloc: Global, f: FunctionDef) -> Result<Unit, Memory> {
-    let mut items = Vec::new(alloc);
-    items.push(Item::Function(f))?;
-    Ok(Unit { items })
-}
-
-fn unit(alloc: Global, name: u32, body: Vec<Stmt>) -> Result<Unit, Memory> {
-    let spec = void_spec(alloc)?;
-    Ok(unit_of(alloc, function_of(alloc, spec, name, body))?)
-}
-
-fn checked(alloc: Global, name: u32, body: Vec<Stmt>) -> Result<Checked, UnitFault> {
-    let names = Names::builtin(alloc)?;
-    let rows = Table::builtin(alloc)?;
-    let unit = unit(alloc, name, body)?;
-    Ok(check(alloc, &names, unit, rows)?)
-}
-
-fn is_resolved(function: &Option<Function>, name: u32) -> bool {
+fn is_resolved(function: &Option<Function>) -> bool {
     match function {
-        Some(f) => f.name == Name(name)
+        Some(f) => f.name == Name(5000)
             && f.params.is_empty()
             && f.locals == 0
             && is_empty_block(&f.body),
@@ -101,16 +51,16 @@ fn is_resolved(function: &Option<Function>, name: u32) -> bool {
 }
 
 /// Whether the one function of a unit is resolved.
-fn resolves(alloc: Global, checked: &Checked, name: u32) -> Result<bool, Memory> {
+fn resolves(alloc: Global, checked: &Checked) -> Result<bool, Memory> {
     let functions = resolve_unit(alloc, checked)?;
-    Ok(functions.len() == 1 && is_resolved(&functions[0], name))
+    Ok(functions.len() == 1 && is_resolved(&functions[0]))
 }
 
 #[test]
 fn what_is_not_refused_is_resolved(rt: HostRuntime) -> Result<(), Fail> {
-    match checked(rt.alloc(), 5000, Vec::new(rt.alloc())) {
+    match one_function(rt.alloc(), Vec::new(rt.alloc())) {
         Ok(checked) => {
-            assert!(rt; resolves(rt.alloc(), &checked, 5000)?);
+            assert!(rt; resolves(rt.alloc(), &checked)?);
         }
         Err(_) => panic!(rt; "the unit is refused"),
     }
@@ -120,7 +70,7 @@ fn what_is_not_refused_is_resolved(rt: HostRuntime) -> Result<(), Fail> {
 /// Whether a function with such a `case` is resolved.
 fn resolves_case(alloc: Global, constant: i128) -> Result<bool, Memory> {
     let body = vec![in alloc; switch_of(alloc, constant)?]?;
-    match checked(alloc, 5000, body) {
+    match one_function(alloc, body) {
         Ok(checked) => {
             let functions = resolve_unit(alloc, &checked)?;
             Ok(functions.len() == 1 && functions[0].is_some())

@@ -25,18 +25,6 @@ const NOTHING: Shown = Shown {
     stopped: 0,
 };
 
-fn add_next(
-    alloc: Global,
-    codes: &Codes,
-    state: &Sym,
-    pending: &mut Vec<Sym>,
-) -> Result<(), Memory> {
-    for (_, next) in step(alloc, codes, state)? {
-        pending.push(next)?;
-    }
-    Ok(())
-}
-
 fn with_end(shown: Shown, state: &Sym) -> Shown {
     let Shown {
         even,
@@ -76,7 +64,30 @@ fn first(alloc: Global, codes: &Codes) -> Result<Vec<Sym>, Memory> {
     Ok(pending)
 }
 
-/// What all states of the one function show.
+/// Whether these are the same answers, of states that show the same.
+fn agree(copies: &[(Decision, Sym)], moved: &[(Decision, Sym)]) -> bool {
+    copies.len() == moved.len()
+        && copies.iter().zip(moved.iter()).all(|(a, b)| a.0 == b.0
+            && with_end(NOTHING, &a.1) == with_end(NOTHING, &b.1))
+}
+
+/// Adds the next states of a state, and tells whether they are the same where it is used up and where not.
+fn add_next(
+    alloc: Global,
+    codes: &Codes,
+    state: Sym,
+    pending: &mut Vec<Sym>,
+) -> Result<bool, Memory> {
+    let copies = step(alloc, codes, &state)?;
+    let moved = step_from(alloc, codes, state)?;
+    let same = agree(copies.as_slice(), moved.as_slice());
+    for (_, next) in moved {
+        pending.push(next)?;
+    }
+    Ok(same)
+}
+
+/// What all states of the one function show, if the next states of each are the same where it is used up and where not.
 fn show(alloc: Global, codes: &Codes) -> Result<Shown, Memory> {
     let mut pending = first(alloc, codes)?;
     let mut shown = NOTHING;
@@ -85,7 +96,9 @@ fn show(alloc: Global, codes: &Codes) -> Result<Shown, Memory> {
             return Ok(shown);
         };
         shown = with_end(shown, &state);
-        add_next(alloc, codes, &state, &mut pending)?;
+        if !add_next(alloc, codes, state, &mut pending)? {
+            return Ok(NOTHING);
+        }
     }
     Ok(NOTHING)
 }
@@ -176,51 +189,5 @@ fn a_state_has_a_run(rt: HostRuntime) -> Result<(), Fail> {
         None => 0,
     };
     assert_eq!(rt; objects, 26);
-    Ok(())
-}
-
-/// Whether these are the same answers, of states that show the same.
-fn agree(copies: &[(Decision, Sym)], moved: &[(Decision, Sym)]) -> bool {
-    copies.len() == moved.len()
-        && copies.iter().zip(moved.iter()).all(|(a, b)| a.0 == b.0
-            && with_end(NOTHING, &a.1) == with_end(NOTHING, &b.1))
-}
-
-/// Whether the next states of a state are the same where it is used up.
-fn add_moved(
-    alloc: Global,
-    codes: &Codes,
-    state: Sym,
-    pending: &mut Vec<Sym>,
-) -> Result<bool, Memory> {
-    let copies = step(alloc, codes, &state)?;
-    let moved = step_from(alloc, codes, state)?;
-    let same = agree(copies.as_slice(), moved.as_slice());
-    for (_, next) in moved {
-        pending.push(next)?;
-    }
-    Ok(same)
-}
-
-/// What all states show where each is used up, if the next states are the same as where it isn't.
-fn show_moved(alloc: Global, codes: &Codes) -> Result<Shown, Memory> {
-    let mut pending = first(alloc, codes)?;
-    let mut shown = NOTHING;
-    for _ in 0..1000 {
-        let Some(state) = pending.pop() else {
-            return Ok(shown);
-        };
-        shown = with_end(shown, &state);
-        if !add_moved(alloc, codes, state, &mut pending)? {
-            return Ok(NOTHING);
-        }
-    }
-    Ok(NOTHING)
-}
-
-#[test]
-fn a_state_is_used_up(rt: HostRuntime) -> Result<(), Fail> {
-    let codes = loads_through_two(rt.alloc())?;
-    assert_eq!(rt; show_moved(rt.alloc(), &codes)?, counts(3, 3, 3));
     Ok(())
 }

@@ -1,26 +1,9 @@
-use crate::source::{SOURCE, at, checked_source, word};
-use pungi_base::{Name, Names, Rule, Verdict};
+use crate::units::{HERE, checked, three_functions};
+use pungi_base::{Name, Rule, Verdict};
+use pungi_check::UnitFault;
 use pungi_verdict::judge_all;
+use std::alloc::Global;
 use std::test::Fail;
-
-/// Whether the argument is kept at the end of the third function.
-fn is_kept(verdict: &Verdict) -> bool {
-    match verdict {
-        Verdict::Faulty(fault) => fault.pos == at(7, 40)
-            && fault.change == 1
-            && fault.escaped == 0
-            && fault.used.is_empty()
-            && fault.witness.input.args.len() == 1,
-        _ => false,
-    }
-}
-
-fn is_bits(verdict: &Verdict) -> bool {
-    match verdict {
-        Verdict::Refused(pos, rule) => *pos == at(6, 27) && *rule == Rule(2),
-        _ => false,
-    }
-}
 
 fn is_clean(verdict: &Verdict) -> bool {
     match verdict {
@@ -29,33 +12,47 @@ fn is_clean(verdict: &Verdict) -> bool {
     }
 }
 
-fn are_right(lines: &[(Name, Verdict)]) -> bool {
-    match lines {
-        [one, odd, keep] => is_clean(&one.1) && is_bits(&odd.1) && is_kept(&keep.1),
+fn is_out_of_place(verdict: &Verdict) -> bool {
+    match verdict {
+        Verdict::Refused(pos, rule) => *pos == HERE && *rule == Rule(7),
         _ => false,
     }
 }
 
-fn are_named(lines: &[(Name, Verdict)], names: &Names) -> Result<bool, Fail> {
-    let wanted = [
-        word(names, "one")?,
-        word(names, "odd")?,
-        word(names, "keep")?,
-    ];
-    Ok(
-        lines.len() == 3
-            && lines
-                .iter()
-                .zip(wanted.iter())
-                .all(|(line, name)| line.0 == *name),
-    )
+/// Whether the argument is kept at the end.
+fn is_kept(verdict: &Verdict) -> bool {
+    match verdict {
+        Verdict::Faulty(fault) => fault.pos == HERE
+            && fault.change == 1
+            && fault.escaped == 0
+            && fault.used.is_empty()
+            && fault.witness.input.args.len() == 1,
+        _ => false,
+    }
+}
+
+fn are_right(lines: &[(Name, Verdict)]) -> bool {
+    match lines {
+        [one, two, three] => one.0 == Name(5000)
+            && is_clean(&one.1)
+            && two.0 == Name(5001)
+            && is_out_of_place(&two.1)
+            && three.0 == Name(5002)
+            && is_kept(&three.1),
+        _ => false,
+    }
+}
+
+fn judged(alloc: Global) -> Result<Vec<(Name, Verdict)>, UnitFault> {
+    let checked = checked(alloc, three_functions(alloc)?)?;
+    Ok(judge_all(alloc, &checked)?)
 }
 
 #[test]
 fn verdicts_on_a_file(rt: HostRuntime) -> Result<(), Fail> {
-    let source = checked_source(rt.alloc(), SOURCE)?;
-    let lines = judge_all(rt.alloc(), &source.checked)?;
-    assert!(rt; are_named(&lines, &source.names)?);
-    assert!(rt; are_right(&lines));
+    match judged(rt.alloc()) {
+        Ok(lines) => assert!(rt; are_right(&lines)),
+        Err(_) => panic!(rt; "the unit is refused"),
+    }
     Ok(())
 }

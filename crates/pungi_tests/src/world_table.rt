@@ -1,5 +1,5 @@
 //! What calls of rows show, for tables of cases.
-ghost use Rattle.std.specs.Prelude.{◌≡◌, IfOk};
+ghost use Rattle.std.specs.Prelude.{◌≡◌};
 ghost use Rattle.pungi_world.specs.Calls.{is_told_form};
 
 use pungi_api::{Form, Row, Shape, Special, Table};

@@ -1,6 +1,6 @@
 use crate::source::{SOURCE, at, read_source};
 use pungi_api::Table;
-use pungi_base::Rule;
+use pungi_base::{Memory, Rule};
 use pungi_duplicates::faults;
 use pungi_names::unit_names;
 use pungi_tree::Unit;
@@ -11,10 +11,14 @@ use std::test::Fail;
 /// Two functions of one name.
 const TWICE: &str = "int f(int n) { return n; }\nvoid f(void) { }\n";
 
-fn fault_of(alloc: Global, unit: &Unit) -> Result<Option<Finding>, Fail> {
+fn fault_among(alloc: Global, unit: &Unit, rows: &Table) -> Result<Option<Finding>, Memory> {
+    let names = unit_names(alloc, unit, rows)?;
+    faults(alloc, &names, unit)
+}
+
+fn fault_of(alloc: Global, unit: &Unit) -> Result<Option<Finding>, Memory> {
     let rows = Table::builtin(alloc)?;
-    let names = unit_names(alloc, unit, &rows)?;
-    Ok(faults(alloc, &names, unit)?)
+    fault_among(alloc, unit, &rows)
 }
 
 #[test]

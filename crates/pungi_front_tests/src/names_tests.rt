@@ -31,21 +31,29 @@ fn tells_words(names: &UnitNames<'_>, table: Name, global: Name) -> bool {
         && !names.is_row(global.0)
 }
 
-fn are_right(alloc: Global, source: &Source, rows: &Table) -> Result<bool, Fail> {
+fn tell_words(source: &Source, names: &UnitNames<'_>) -> Result<bool, Fail> {
     let table = word(&source.names, "BoxType")?;
     let global = word(&source.names, "total")?;
-    let names = unit_names(alloc, &source.unit, rows)?;
+    Ok(tells_words(names, table, global))
+}
+
+fn are_right(alloc: Global, source: &Source, names: &UnitNames<'_>) -> Result<bool, Fail> {
     Ok(
-        tells_words(&names, table, global)
+        tell_words(source, names)?
             && names.type_objects() == 1
-            && has_table(alloc, &names, &source.unit)?,
+            && has_table(alloc, names, &source.unit)?,
     )
+}
+
+fn are_gathered(alloc: Global, source: &Source, rows: &Table) -> Result<bool, Fail> {
+    let names = unit_names(alloc, &source.unit, rows)?;
+    are_right(alloc, source, &names)
 }
 
 #[test]
 fn names_of_a_file(rt: HostRuntime) -> Result<(), Fail> {
     let source = read_source(rt.alloc(), SOURCE)?;
     let rows = Table::builtin(rt.alloc())?;
-    assert!(rt; are_right(rt.alloc(), &source, &rows)?);
+    assert!(rt; are_gathered(rt.alloc(), &source, &rows)?);
     Ok(())
 }

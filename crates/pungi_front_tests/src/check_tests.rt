@@ -43,14 +43,23 @@ fn tells_text(source: &CheckedSource, name: Name, text: &str) -> bool
     }
 }
 
+/// Whether the words of the file are told as they are.
+fn tells_words(source: &CheckedSource) -> Result<bool, Fail>
+    requires { texts_of source.now.checked ≡ source.now.names }
+{
+    let odd = word(&source.names, "odd")?;
+    let (one, keep) = (word(&source.names, "one")?, word(&source.names, "keep")?);
+    Ok(
+        tells_functions(&source.checked, one, odd, keep)
+            && tells_refusals(&source.checked, odd)
+            && tells_text(source, odd, "odd"),
+    )
+}
+
 #[test]
 fn a_file_is_checked(rt: HostRuntime) -> Result<(), Fail> {
     let source = checked_source(rt.alloc(), SOURCE)?;
-    let odd = word(&source.names, "odd")?;
-    let (one, keep) = (word(&source.names, "one")?, word(&source.names, "keep")?);
-    assert!(rt; tells_functions(&source.checked, one, odd, keep));
-    assert!(rt; tells_refusals(&source.checked, odd));
-    assert!(rt; tells_text(&source, odd, "odd"));
+    assert!(rt; tells_words(&source)?);
     assert_eq!(rt; source.checked.unit().items.len(), 7);
     assert!(rt; source.checked.table().row(Name(PY_INCREF)).is_some());
     assert_eq!(rt; source.checked.statics(), 25);

@@ -2,7 +2,7 @@ use Rattle.std.proofs.Common.{◌≡◌, ℕ, List, [], ◌∷◌, map, refl, sy
 use Rattle.pungi_base.specs.declared.names.Name.{Name}
 use Rattle.pungi_api.specs.declared.row.Row.{Row}
 use Rattle.pungi_api.specs.Rows.{are_new, named_row, builtin_rows}
-use Rattle.pungi_tests.proofs.api_tests.an_added_row.Goals as goal
+use Rattle.pungi_front_tests.proofs.api_tests.an_added_row.Goals as goal
 
 name_is : (x : ℕ) (xs : List ℕ) → x ∷ xs ≡ 200 ∷ [] → x ≡ 200
 name_is x xs e = cc

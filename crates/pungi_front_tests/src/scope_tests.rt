@@ -1,11 +1,12 @@
-use crate::source::{CheckedSource, SOURCE, at, checked_source};
+use crate::source::{SOURCE, at, checked_source};
 use crate::trees::{A, expr, minus, number, prefix, word};
 use indexmap::IndexSet;
 use pungi_base::{Kind, Memory, Punct, Rule};
+use pungi_check::Checked;
 use pungi_declared::definitions;
 use pungi_names::{FileNames, UnitNames, unit_names};
 use pungi_scope::{LocalNames, constant, refusal};
-use pungi_tree::{Expr, ExprNode, FunctionDef};
+use pungi_tree::{ExprNode, FunctionDef};
 use pungi_types::{Finding, Local, ValueKind};
 use std::alloc::Global;
 use std::test::Fail;
@@ -24,21 +25,28 @@ fn refusal_of(
     Ok(refusal(alloc, &here, f)?)
 }
 
-fn refusals(alloc: Global, source: &CheckedSource) -> Result<Vec<Option<Finding>>, Memory> {
-    let checked = &source.checked;
-    let names = unit_names(alloc, checked.unit(), checked.table())?;
+fn refusals_among(
+    alloc: Global,
+    names: &UnitNames<'_>,
+    checked: &Checked,
+) -> Result<Vec<Option<Finding>>, Memory> {
     let list = definitions(alloc, checked.unit())?;
     let mut all = Vec::new(alloc);
     for f in &list {
-        all.push(refusal_of(alloc, &names, checked.refused(), f)?)?;
+        all.push(refusal_of(alloc, names, checked.refused(), f)?)?;
     }
     Ok(all)
+}
+
+fn refusals(alloc: Global, checked: &Checked) -> Result<Vec<Option<Finding>>, Memory> {
+    let names = unit_names(alloc, checked.unit(), checked.table())?;
+    refusals_among(alloc, &names, checked)
 }
 
 #[test]
 fn rules_of_functions(rt: HostRuntime) -> Result<(), Fail> {
     let source = checked_source(rt.alloc(), SOURCE)?;
-    let found = refusals(rt.alloc(), &source)?;
+    let found = refusals(rt.alloc(), &source.checked)?;
     let bits = Finding {
         pos: at(6, 27),
         rule: Rule(2),
@@ -70,17 +78,22 @@ fn a_local_hides_another(rt: HostRuntime) -> Result<(), Fail> {
     Ok(())
 }
 
-fn negated(alloc: Global, e: Expr) -> Result<Expr, Fail> {
-    Ok(prefix(alloc, Kind::Punct(Punct::Minus), e)?)
+fn constant_of_negated(alloc: Global) -> Result<Option<i128>, Fail> {
+    let e = prefix(alloc, Kind::Punct(Punct::Minus), number(5))?;
+    Ok(constant(&e))
+}
+
+fn constant_of_difference(alloc: Global) -> Result<Option<i128>, Fail> {
+    let e = minus(alloc, number(5), number(1))?;
+    Ok(constant(&e))
 }
 
 #[test]
 fn constants_of_cases(rt: HostRuntime) -> Result<(), Fail> {
-    let alloc = rt.alloc();
     assert_eq!(rt; constant(&number(5)), Some(5));
     assert_eq!(rt; constant(&expr(ExprNode::Char(99))), Some(99));
-    assert_eq!(rt; constant(&negated(alloc, number(5))?), Some(-5));
+    assert_eq!(rt; constant_of_negated(rt.alloc())?, Some(-5));
     assert_eq!(rt; constant(&word(A)), None);
-    assert_eq!(rt; constant(&minus(alloc, number(5), number(1))?), None);
+    assert_eq!(rt; constant_of_difference(rt.alloc())?, None);
     Ok(())
 }

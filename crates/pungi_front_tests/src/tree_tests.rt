@@ -1,135 +1,17 @@
+use crate::kinds::{
+    ADD, ARROW, ASK, BREAK, CASE, CHAR, COLON, COMMA, CONST, CONTINUE, DEFAULT, DO, DOC, DOT, DOTS,
+    ELSE, FLOAT, FOR, GOTO, IF, INT, LB, LC, LESS, LETTER, LP, NEW, NONE, NOT, NULL, OBJECT, ONE,
+    RB, RC, RETURN, RP, SEMI, SET, SIZEOF, STAR, STATIC, STEP, STRUCT, SWITCH, TEXT, TWO, TYPEDEF,
+    UNION, UNUSED, VOID, WA, WB, WF, WHILE, WT, ZERO,
+};
 use crate::trees::{
     A, B, F, T, boxed_stmt, cast, choice, expr, minus, nested, of_each_type, prefix, returns_none,
     stmt, with_stmt, with_value, word,
 };
-use pungi_base::words::{PY_DOC_STRVAR, PY_NONE, PY_OBJECT, PY_OBJECT_NEW, PY_UNUSED};
-use pungi_base::{Key, Kind, Name, Punct};
-use pungi_tree::{ExprNode, StmtNode, depth, flat, levels_ok};
+use pungi_base::{Kind, Memory};
+use pungi_tree::{ExprNode, StmtNode, Unit, depth, flat, levels_ok};
+use std::alloc::Global;
 use std::test::Fail;
-
-const LP: Kind = Kind::Punct(Punct::LeftParen);
-
-const RP: Kind = Kind::Punct(Punct::RightParen);
-
-const LB: Kind = Kind::Punct(Punct::LeftBracket);
-
-const RB: Kind = Kind::Punct(Punct::RightBracket);
-
-const LC: Kind = Kind::Punct(Punct::LeftBrace);
-
-const RC: Kind = Kind::Punct(Punct::RightBrace);
-
-const SEMI: Kind = Kind::Punct(Punct::Semicolon);
-
-const COMMA: Kind = Kind::Punct(Punct::Comma);
-
-const DOT: Kind = Kind::Punct(Punct::Dot);
-
-const ARROW: Kind = Kind::Punct(Punct::Arrow);
-
-const STEP: Kind = Kind::Punct(Punct::PlusPlus);
-
-const STAR: Kind = Kind::Punct(Punct::Star);
-
-const NOT: Kind = Kind::Punct(Punct::Not);
-
-const LESS: Kind = Kind::Punct(Punct::Less);
-
-const ASK: Kind = Kind::Punct(Punct::Question);
-
-const COLON: Kind = Kind::Punct(Punct::Colon);
-
-const SET: Kind = Kind::Punct(Punct::Assign);
-
-const ADD: Kind = Kind::Punct(Punct::PlusAssign);
-
-const DOTS: Kind = Kind::Punct(Punct::Ellipsis);
-
-const INT: Kind = Kind::Key(Key::Int);
-
-const CHAR: Kind = Kind::Key(Key::Char);
-
-const VOID: Kind = Kind::Key(Key::Void);
-
-const STRUCT: Kind = Kind::Key(Key::Struct);
-
-const UNION: Kind = Kind::Key(Key::Union);
-
-const TYPEDEF: Kind = Kind::Key(Key::Typedef);
-
-const STATIC: Kind = Kind::Key(Key::Static);
-
-const CONST: Kind = Kind::Key(Key::Const);
-
-const IF: Kind = Kind::Key(Key::If);
-
-const ELSE: Kind = Kind::Key(Key::Else);
-
-const WHILE: Kind = Kind::Key(Key::While);
-
-const DO: Kind = Kind::Key(Key::Do);
-
-const FOR: Kind = Kind::Key(Key::For);
-
-const SWITCH: Kind = Kind::Key(Key::Switch);
-
-const CASE: Kind = Kind::Key(Key::Case);
-
-const DEFAULT: Kind = Kind::Key(Key::Default);
-
-const BREAK: Kind = Kind::Key(Key::Break);
-
-const CONTINUE: Kind = Kind::Key(Key::Continue);
-
-const RETURN: Kind = Kind::Key(Key::Return);
-
-const GOTO: Kind = Kind::Key(Key::Goto);
-
-const SIZEOF: Kind = Kind::Key(Key::Sizeof);
-
-const NULL: Kind = Kind::Key(Key::Null);
-
-const WA: Kind = Kind::Word(A);
-
-const WB: Kind = Kind::Word(B);
-
-const WF: Kind = Kind::Word(F);
-
-const WT: Kind = Kind::Word(T);
-
-const OBJECT: Kind = Kind::Word(Name(PY_OBJECT));
-
-const NONE: Kind = Kind::Word(Name(PY_NONE));
-
-const NEW: Kind = Kind::Word(Name(PY_OBJECT_NEW));
-
-const UNUSED: Kind = Kind::Word(Name(PY_UNUSED));
-
-const DOC: Kind = Kind::Word(Name(PY_DOC_STRVAR));
-
-const TEXT: Kind = Kind::Text(Name(300));
-
-const LETTER: Kind = Kind::Char(99);
-
-const FLOAT: Kind = Kind::Float;
-
-const ZERO: Kind = Kind::Int {
-    value: 0,
-    long: false,
-    unsigned: false,
-};
-
-const ONE: Kind = Kind::Int {
-    value: 1,
-    long: false,
-    unsigned: false,
-};
-
-const TWO: Kind = Kind::Int {
-    value: 2,
-    long: false,
-    unsigned: false,
-};
 
 #[test]
 fn a_function_that_returns_none(rt: HostRuntime) -> Result<(), Fail> {
@@ -143,6 +25,12 @@ fn a_function_that_returns_none(rt: HostRuntime) -> Result<(), Fail> {
     let kinds = flat(rt.alloc(), &unit)?;
     assert!(rt; kinds.as_slice() == want.as_slice());
     Ok(())
+}
+
+/// Whether these are the tokens of the tree.
+fn is_flat(alloc: Global, unit: &Unit, want: &[Kind]) -> Result<bool, Memory> {
+    let kinds = flat(alloc, unit)?;
+    Ok(kinds.as_slice() == want)
 }
 
 #[test]
@@ -163,8 +51,7 @@ fn a_tree_of_each_type(rt: HostRuntime) -> Result<(), Fail> {
         RETURN, LP, WF, LP, TEXT, RP, ARROW, WB, LB, ZERO, RB, ASK, NEW, LP, WT, COMMA, WA, RP,
         COLON, TWO, COMMA, ONE, RP, SEMI, RC,
     ];
-    let kinds = flat(rt.alloc(), &unit)?;
-    assert!(rt; kinds.as_slice() == want.as_slice());
+    assert!(rt; is_flat(rt.alloc(), &unit, &want)?);
     Ok(())
 }
 

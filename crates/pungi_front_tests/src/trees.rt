@@ -288,17 +288,27 @@ pub(crate) fn returning(alloc: Global) -> Result<Stmt, AllocError> {
     Ok(stmt(StmtNode::Return(Some(expr(ExprNode::Paren(comma))))))
 }
 
-/// A file with a tree of each type.
-pub(crate) fn of_each_type(alloc: Global) -> Result<Unit, AllocError> {
-    let doc = Item::Doc {
+fn doc(alloc: Global) -> Result<Item, AllocError> {
+    Ok(Item::Doc {
         pos: AT,
         name: A,
         texts: vec![in alloc; Name(300), Name(300)]?,
-    };
-    let mut body = vec![in alloc; counting(alloc)?, doing(alloc)?, choosing(alloc)?]?;
-    body.push(adding(alloc)?)?;
-    body.push(returning(alloc)?)?;
-    let function = Item::Function(FunctionDef {
+    })
+}
+
+fn statements(alloc: Global) -> Result<Vec<Stmt>, AllocError> {
+    let mut list = Vec::new(alloc);
+    list.push(counting(alloc)?)?;
+    list.push(doing(alloc)?)?;
+    list.push(choosing(alloc)?)?;
+    list.push(adding(alloc)?)?;
+    list.push(returning(alloc)?)?;
+    Ok(list)
+}
+
+fn function(alloc: Global) -> Result<Item, AllocError> {
+    let body = statements(alloc)?;
+    Ok(Item::Function(FunctionDef {
         quals: Vec::new(alloc),
         result: keyword(alloc, Key::Void)?,
         stars: Vec::new(alloc),
@@ -306,11 +316,19 @@ pub(crate) fn of_each_type(alloc: Global) -> Result<Unit, AllocError> {
         pos: AT,
         params: no_params(alloc),
         body: stmt(StmtNode::Block(body, AT)),
-    });
-    let mut items = vec![in alloc; Item::Empty(AT), doc, struct_typedef(alloc)?, tag(alloc)?]?;
+    }))
+}
+
+/// A file with a tree of each type.
+pub(crate) fn of_each_type(alloc: Global) -> Result<Unit, AllocError> {
+    let mut items = Vec::new(alloc);
+    items.push(Item::Empty(AT))?;
+    items.push(doc(alloc)?)?;
+    items.push(struct_typedef(alloc)?)?;
+    items.push(tag(alloc)?)?;
     items.push(variables(alloc)?)?;
     items.push(prototype(alloc)?)?;
-    items.push(function)?;
+    items.push(function(alloc)?)?;
     Ok(Unit { items })
 }
 

@@ -1,124 +1,15 @@
 //! Tokens that are a file, and those that are none: a row for each production of the grammar and each near miss.
 
-use pungi_base::words::{PY_DOC_STRVAR, PY_OBJECT, PY_OBJECT_NEW, PY_UNUSED};
-use pungi_base::{Key, Kind, Name, Pos, Punct, Token};
+use crate::kinds::{
+    ADD, ARROW, ASK, BREAK, CASE, CHAR, COLON, COMMA, CONST, CONTINUE, DEFAULT, DO, DOC, DOT, DOTS,
+    ELSE, ENUM, FOR, GOTO, IF, INT, LB, LC, LESS, LP, MINUS, NEW, NULL, OBJECT, ONE, RB, RC,
+    RETURN, RP, SEMI, SET, SIZEOF, STAR, STATIC, STEP, STRUCT, SWITCH, TEXT, TWO, TYPEDEF, UNION,
+    UNUSED, VOID, WA, WB, WF, WHILE, WT,
+};
+use pungi_base::{Kind, Pos, Token};
 use pungi_parse::{ParseFault, parse};
 use std::alloc::{AllocError, Global};
 use std::test::Fail;
-
-const LP: Kind = Kind::Punct(Punct::LeftParen);
-
-const RP: Kind = Kind::Punct(Punct::RightParen);
-
-const LB: Kind = Kind::Punct(Punct::LeftBracket);
-
-const RB: Kind = Kind::Punct(Punct::RightBracket);
-
-const LC: Kind = Kind::Punct(Punct::LeftBrace);
-
-const RC: Kind = Kind::Punct(Punct::RightBrace);
-
-const SEMI: Kind = Kind::Punct(Punct::Semicolon);
-
-const COMMA: Kind = Kind::Punct(Punct::Comma);
-
-const DOT: Kind = Kind::Punct(Punct::Dot);
-
-const ARROW: Kind = Kind::Punct(Punct::Arrow);
-
-const STEP: Kind = Kind::Punct(Punct::PlusPlus);
-
-const STAR: Kind = Kind::Punct(Punct::Star);
-
-const LESS: Kind = Kind::Punct(Punct::Less);
-
-const ASK: Kind = Kind::Punct(Punct::Question);
-
-const COLON: Kind = Kind::Punct(Punct::Colon);
-
-const SET: Kind = Kind::Punct(Punct::Assign);
-
-const ADD: Kind = Kind::Punct(Punct::PlusAssign);
-
-const DOTS: Kind = Kind::Punct(Punct::Ellipsis);
-
-const INT: Kind = Kind::Key(Key::Int);
-
-const CHAR: Kind = Kind::Key(Key::Char);
-
-const VOID: Kind = Kind::Key(Key::Void);
-
-const STRUCT: Kind = Kind::Key(Key::Struct);
-
-const UNION: Kind = Kind::Key(Key::Union);
-
-const TYPEDEF: Kind = Kind::Key(Key::Typedef);
-
-const STATIC: Kind = Kind::Key(Key::Static);
-
-const CONST: Kind = Kind::Key(Key::Const);
-
-const IF: Kind = Kind::Key(Key::If);
-
-const ELSE: Kind = Kind::Key(Key::Else);
-
-const WHILE: Kind = Kind::Key(Key::While);
-
-const DO: Kind = Kind::Key(Key::Do);
-
-const FOR: Kind = Kind::Key(Key::For);
-
-const SWITCH: Kind = Kind::Key(Key::Switch);
-
-const CASE: Kind = Kind::Key(Key::Case);
-
-const DEFAULT: Kind = Kind::Key(Key::Default);
-
-const BREAK: Kind = Kind::Key(Key::Break);
-
-const CONTINUE: Kind = Kind::Key(Key::Continue);
-
-const RETURN: Kind = Kind::Key(Key::Return);
-
-const GOTO: Kind = Kind::Key(Key::Goto);
-
-const SIZEOF: Kind = Kind::Key(Key::Sizeof);
-
-const NULL: Kind = Kind::Key(Key::Null);
-
-const WA: Kind = Kind::Word(Name(200));
-
-const WB: Kind = Kind::Word(Name(201));
-
-const WF: Kind = Kind::Word(Name(202));
-
-const WT: Kind = Kind::Word(Name(203));
-
-const OBJECT: Kind = Kind::Word(Name(PY_OBJECT));
-
-const NEW: Kind = Kind::Word(Name(PY_OBJECT_NEW));
-
-const UNUSED: Kind = Kind::Word(Name(PY_UNUSED));
-
-const DOC: Kind = Kind::Word(Name(PY_DOC_STRVAR));
-
-const TEXT: Kind = Kind::Text(Name(300));
-
-const ONE: Kind = Kind::Int {
-    value: 1,
-    long: false,
-    unsigned: false,
-};
-
-const TWO: Kind = Kind::Int {
-    value: 2,
-    long: false,
-    unsigned: false,
-};
-
-const MINUS: Kind = Kind::Punct(Punct::Minus);
-
-const ENUM: Kind = Kind::Key(Key::Enum);
 
 /// More than 64 brackets, told from any column.
 const DEEP: u32 = 100_000;
