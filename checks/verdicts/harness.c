@@ -1,0 +1,248 @@
+/* Runs functions that stand in functions.c, with the calls of the API that they make in hand. Each call asks next() how it goes: by
+   a plan, in which 1 is a failure, or by the answers of a run that is given. A call that fails is a real one where failing has an
+   effect: a list is given an index that it doesn't have, a call on a module something that is none. Each object has many references
+   more, so that one too few is seen and not met. */
+#define PY_SSIZE_T_CLEAN
+#include <Python.h>
+#include <setjmp.h>
+#define MORE 1000
+#define MANY 512
+
+typedef struct { PyObject *it; Py_ssize_t wanted; long number; } Seen;
+static Seen seen[MANY];
+static int count_seen;
+static jmp_buf stopped;
+static long answers[MANY];
+static int count_answers, used, replays, strayed;
+
+enum { NOTHING = -1, NUMBERS = -1000 };
+
+static PyObject *numbered(long number) {
+    for (int i = 0; i < count_seen; i++) if (seen[i].number == number) return seen[i].it;
+    return NULL;
+}
+
+static PyObject *see(PyObject *it, long number, int owned) {
+    if (!it) return NULL;
+    for (int i = 0; i < count_seen; i++) if (seen[i].it == it) {
+        if (seen[i].number == NOTHING) seen[i].number = number;
+        return it;
+    }
+    if (count_seen == MANY) Py_FatalError("too many objects");
+    Seen *s = &seen[count_seen++];
+    s->it = it;
+    s->number = number;
+    s->wanted = Py_REFCNT(it) - owned + MORE;
+    for (int i = 0; i < MORE; i++) Py_INCREF(it);
+    return it;
+}
+
+static void stray(void) { strayed = 1; longjmp(stopped, 1); }
+static void stop(void) { longjmp(stopped, 1); }
+
+static long next(void) {
+    if (used == MANY) stray();
+    if (replays && used >= count_answers) stray();
+    return used < count_answers ? answers[used++] : (used++, 0);
+}
+
+static PyObject *some(void *it) { if (!it) stop(); return it; }
+
+static PyObject *failed(void) { PyErr_NoMemory(); return NULL; }
+
+/* A new reference: CALL, or NULL, or one more to an object that is there. */
+#define NEW(CALL) \
+    long a = next(); \
+    if (!replays) return a ? failed() : see(CALL, NOTHING, 1); \
+    if (a == NOTHING) return failed(); \
+    if (a < 0) stray(); \
+    if (numbered(a)) return Py_NewRef(numbered(a)); \
+    PyObject *made = CALL; \
+    see(made, a, 1); \
+    if (!made || numbered(a) != made) stray(); \
+    return made;
+
+#define BORROWED(CALL) \
+    long a = next(); \
+    if (!replays) return a ? NULL : see(CALL, NOTHING, 0); \
+    if (a == NOTHING) return NULL; \
+    if (a < 0) stray(); \
+    if (!numbered(a)) { PyObject *other = PyLong_FromLong(2000003); see(other, a, 1); Py_DECREF(other); } \
+    return numbered(a);
+
+#define STATUS(GOES, FAILS) \
+    long a = next(); \
+    if (!replays) return a ? (FAILS) : (GOES); \
+    if (a == NUMBERS) { int r = (GOES); if (r) stray(); return r; } \
+    if (a == NUMBERS - 1) { int r = (FAILS); if (r != -1) stray(); return r; } \
+    stray(); \
+    return 0;
+
+/* A tuple of many references can't be changed: the call is made on one of its own, which then goes. */
+static int in_tuple(PyObject *y) {
+    PyObject *tuple = PyTuple_New(1);
+    int r = PyTuple_SetItem(tuple, 0, y);
+    Py_DecRef(tuple);
+    return r;
+}
+
+static PyObject *my_PyLong_FromLong(long n) { NEW(PyLong_FromLong(n)) }
+static PyObject *my_PyUnicode_FromString(const char *t) { NEW(PyUnicode_FromString(t)) }
+static PyObject *my_PyBytes_FromString(const char *t) { NEW(PyBytes_FromString(t)) }
+static PyObject *my_PyList_New(Py_ssize_t n) { NEW(PyList_New(n)) }
+static PyObject *my_PyDict_New(void) { NEW(PyDict_New()) }
+static PyObject *my_PyObject_Str(PyObject *x) { some(x); NEW(PyObject_Str(x)) }
+static PyObject *my_PyObject_Repr(PyObject *x) { some(x); NEW(PyObject_Repr(x)) }
+static PyObject *my_PyDict_Keys(PyObject *x) { some(x); NEW(PyDict_Keys(x)) }
+static PyObject *my_PyDict_Values(PyObject *x) { some(x); NEW(PyDict_Values(x)) }
+static PyObject *my_PySequence_GetItem(PyObject *x, Py_ssize_t n) { some(x); NEW(PySequence_GetItem(x, n)) }
+static PyObject *my_PyObject_GetItem(PyObject *x, PyObject *y) { some(x), some(y); NEW(PyObject_GetItem(x, y)) }
+static PyObject *my_PyObject_GetAttrString(PyObject *x, const char *t) { some(x); NEW(PyObject_GetAttrString(x, t)) }
+static PyObject *my_PySequence_Fast(PyObject *x, const char *t) { some(x); NEW(PySequence_Fast(x, t)) }
+static PyObject *my_PyNumber_Add(PyObject *x, PyObject *y) { some(x), some(y); NEW(PyNumber_Add(x, y)) }
+static PyObject *my_PyNumber_Subtract(PyObject *x, PyObject *y) { some(x), some(y); NEW(PyNumber_Subtract(x, y)) }
+static PyObject *my_PyNumber_Multiply(PyObject *x, PyObject *y) { some(x), some(y); NEW(PyNumber_Multiply(x, y)) }
+static PyObject *my_PyDict_Items(PyObject *x) { some(x); NEW(PyDict_Items(x)) }
+static PyObject *my_PyTuple_New(Py_ssize_t n) { NEW(PyTuple_New(n)) }
+
+/* These two never fail, so no plan speaks of them. */
+#define BORROWED_SURE(CALL) \
+    if (!replays) return see(CALL, NOTHING, 0); \
+    BORROWED(CALL)
+
+static PyObject *my_PyModule_GetDict(PyObject *x) { some(x); BORROWED_SURE(PyModule_GetDict(x)) }
+static PyObject *my_PyList_GET_ITEM(PyObject *x, Py_ssize_t n) { some(x); BORROWED_SURE(PyList_GET_ITEM(x, n)) }
+static PyObject *my_PyList_GetItem(PyObject *x, Py_ssize_t n) { some(x); BORROWED(PyList_GetItem(x, n)) }
+static PyObject *my_PyDict_GetItem(PyObject *x, PyObject *y) { some(x), some(y); BORROWED(PyDict_GetItem(x, y)) }
+static PyObject *my_PyDict_GetItemWithError(PyObject *x, PyObject *y) { some(x), some(y); BORROWED(PyDict_GetItemWithError(x, y)) }
+static PyObject *my_PyDict_GetItemString(PyObject *x, const char *t) { some(x); BORROWED(PyDict_GetItemString(x, t)) }
+static int my_PyList_Append(PyObject *x, PyObject *y) { some(x), some(y); STATUS(PyList_Append(x, y), PyList_Append(Py_None, y)) }
+static int my_PyList_Insert(PyObject *x, Py_ssize_t n, PyObject *y) { some(x), some(y); STATUS(PyList_Insert(x, n, y), PyList_Insert(Py_None, n, y)) }
+static int my_PyList_SetItem(PyObject *x, Py_ssize_t n, PyObject *y) { some(x), some(y); STATUS(PyList_SetItem(x, n, y), PyList_SetItem(x, 100000, y)) }
+static int my_PyTuple_SetItem(PyObject *x, Py_ssize_t n, PyObject *y) { some(x), some(y); STATUS(in_tuple(y), PyTuple_SetItem(x, 100000, y)) }
+static int my_PySequence_SetItem(PyObject *x, Py_ssize_t n, PyObject *y) { some(x), some(y); STATUS(PySequence_SetItem(x, n, y), PySequence_SetItem(Py_None, n, y)) }
+static int my_PyDict_SetItem(PyObject *x, PyObject *y, PyObject *z) { some(x), some(y), some(z); STATUS(PyDict_SetItem(x, y, z), PyDict_SetItem(Py_None, y, z)) }
+static int my_PyDict_DelItem(PyObject *x, PyObject *y) { some(x), some(y); STATUS(PyDict_DelItem(x, y), PyDict_DelItem(Py_None, y)) }
+static int my_PyObject_SetItem(PyObject *x, PyObject *y, PyObject *z) { some(x), some(y), some(z); STATUS(PyObject_SetItem(x, y, z), PyObject_SetItem(Py_None, y, z)) }
+static int my_PyDict_SetItemString(PyObject *x, const char *t, PyObject *y) { some(x), some(y); STATUS(PyDict_SetItemString(x, t, y), PyDict_SetItemString(Py_None, t, y)) }
+static int my_PyObject_SetAttrString(PyObject *x, const char *t, PyObject *y) { some(x), some(y); STATUS(PyObject_SetAttrString(x, t, y), PyObject_SetAttrString(Py_None, t, y)) }
+static int my_PyModule_AddObject(PyObject *x, const char *t, PyObject *y) { some(x), some(y); STATUS(PyModule_AddObject(x, t, y), PyModule_AddObject(Py_None, t, y)) }
+static int my_PyModule_AddObjectRef(PyObject *x, const char *t, PyObject *y) { some(x), some(y); STATUS(PyModule_AddObjectRef(x, t, y), PyModule_AddObjectRef(Py_None, t, y)) }
+static int my_PyModule_AddIntConstant(PyObject *x, const char *t, long n) { some(x); STATUS(PyModule_AddIntConstant(x, t, n), PyModule_AddIntConstant(Py_None, t, n)) }
+
+#define TRUTH(CALL) \
+    long a = next(); \
+    if (!replays) return a ? -1 : (CALL); \
+    if (a < NUMBERS - 1 || a > NUMBERS + 1) stray(); \
+    return (int)(a - NUMBERS);
+
+static int my_PyObject_IsTrue(PyObject *x) { some(x); TRUTH(PyObject_IsTrue(x)) }
+static int my_PyObject_RichCompareBool(PyObject *x, PyObject *y, int by) { some(x), some(y); TRUTH(PyObject_RichCompareBool(x, y, by)) }
+static void my_PyList_SET_ITEM(PyObject *x, Py_ssize_t n, PyObject *y) { some(x), some(y); PyList_SET_ITEM(x, n, y); }
+static void my_PyTuple_SET_ITEM(PyObject *x, Py_ssize_t n, PyObject *y) { some(x), some(y); PyTuple_SET_ITEM(x, n, y); }
+static void my_Py_INCREF(void *x) { Py_INCREF(some(x)); }
+static void my_Py_DECREF(void *x) { Py_DECREF(some(x)); }
+static PyObject *my_Py_NewRef(void *x) { return Py_NewRef(some(x)); }
+
+#undef Py_INCREF
+#undef Py_DECREF
+#undef Py_NewRef
+#undef Py_XINCREF
+#undef Py_XDECREF
+#undef Py_XNewRef
+#undef Py_RETURN_NONE
+#include "renamed.h"
+#define Py_INCREF my_Py_INCREF
+#define Py_DECREF my_Py_DECREF
+#define Py_NewRef my_Py_NewRef
+#define Py_XINCREF(X) Py_IncRef((PyObject *)(X))
+#define Py_XDECREF(X) Py_DecRef((PyObject *)(X))
+static PyObject *my_Py_XNewRef(void *x) { Py_IncRef(x); return x; }
+#define Py_XNewRef my_Py_XNewRef
+#define Py_RETURN_NONE return Py_NewRef(Py_None)
+#include "functions.c"
+typedef PyObject *Function(PyObject *, PyObject *, PyObject *, PyObject *, PyObject *);
+static Function *const functions[] = {
+#include "names.h"
+};
+#include "original.h"
+
+static PyObject *argument(int place) {
+    if (place == 0) {
+        PyObject *list = PyList_New(0);
+        for (int i = 0; i < 3; i++) { PyObject *it = PyLong_FromLong(3000017 + i); see(it, NOTHING, 1); PyList_Append(list, it); Py_DecRef(it); }
+        return list;
+    }
+    if (place == 1) {
+        PyObject *dict = PyDict_New(), *it = PyLong_FromLong(4000037);
+        see(it, NOTHING, 1);
+        PyDict_SetItemString(dict, "there", it);
+        Py_DecRef(it);
+        return dict;
+    }
+    if (place == 2) {
+        PyObject *module = PyModule_New("module"), *it = PyLong_FromLong(6000011);
+        see(it, NOTHING, 1);
+        PyModule_AddObjectRef(module, "there", it);
+        Py_DecRef(it);
+        return module;
+    }
+    return PyLong_FromLong(5000011 + place);
+}
+
+static void emptied(PyObject *it) {
+    if (PyList_CheckExact(it)) PyList_SetSlice(it, 0, PyList_GET_SIZE(it), NULL);
+    else if (PyDict_CheckExact(it)) PyDict_Clear(it);
+    else if (PyTuple_CheckExact(it)) for (Py_ssize_t i = 0; i < PyTuple_GET_SIZE(it); i++) Py_CLEAR(((PyTupleObject *)it)->ob_item[i]);
+    else if (PyModule_CheckExact(it)) PyDict_Clear(PyModule_GetDict(it));
+}
+
+/* run(function, is by answers, arguments by number or -1, answers): how many answers were used, and how far the count of each object
+   is off, by its number, or None where the run stopped; None alone where it isn't the run of the answers. */
+static PyObject *run(PyObject *self, PyObject *args) {
+    int which, by;
+    PyObject *given, *told;
+    if (!PyArg_ParseTuple(args, "iiO!O!", &which, &by, &PyList_Type, &given, &PyList_Type, &told)) return NULL;
+    PyObject *five[5];
+    count_seen = 0, used = 0, strayed = 0, replays = by;
+    see(Py_None, 0, 0), see(Py_True, 1, 0), see(Py_False, 2, 0);
+    int statics = count_seen;
+    for (int i = 0; i < 5; i++) {
+        long number = PyLong_AsLong(PyList_GetItem(given, i));
+        five[i] = number < 0 ? NULL : numbered(number);
+        if (number >= 0 && !five[i]) { five[i] = argument(i); see(five[i], number, 0); }
+    }
+    if (five[1] && five[3] && PyDict_CheckExact(five[1])) {
+        PyObject *it = PyLong_FromLong(7000003);
+        see(it, NOTHING, 1);
+        PyDict_SetItem(five[1], five[3], it);
+        PyErr_Clear();
+        Py_DecRef(it);
+    }
+    count_answers = (int)PyList_GET_SIZE(told);
+    if (count_answers > MANY) count_answers = MANY;
+    for (int i = 0; i < count_answers; i++) answers[i] = PyLong_AsLong(PyList_GetItem(told, i));
+    int has_stopped = setjmp(stopped);
+    if (!has_stopped) {
+        PyObject *result = functions[which](five[0], five[1], five[2], five[3], five[4]);
+        Py_DecRef(result);
+    }
+    PyErr_Clear();
+    for (int i = 0; i < count_seen; i++) emptied(seen[i].it);
+    Py_ssize_t off[MANY];
+    for (int i = 0; i < count_seen; i++) off[i] = Py_REFCNT(seen[i].it) - seen[i].wanted;
+    if (strayed) { Py_IncRef(Py_None); return Py_None; }
+    if (has_stopped) return Py_BuildValue("iO", used, Py_None);
+    PyObject *list = PyList_New(0);
+    /* (the interpreter's own tables hold None and change) */
+    for (int i = statics; i < count_seen; i++) if (off[i]) {
+        PyObject *pair = Py_BuildValue("ln", seen[i].number, off[i]);
+        PyList_Append(list, pair);
+        Py_DecRef(pair);
+    }
+    return Py_BuildValue("iN", used, list);
+}
+
+static PyMethodDef methods[] = { { "run", run, METH_VARARGS, NULL }, { NULL, NULL, 0, NULL } };
+static struct PyModuleDef definition = { PyModuleDef_HEAD_INIT, "verdict_runs", NULL, -1, methods, NULL, NULL, NULL, NULL };
+PyMODINIT_FUNC PyInit_verdict_runs(void) { return PyModule_Create(&definition); }

@@ -1,0 +1,242 @@
+#!/usr/bin/env python3
+"""run.py [PROGRAM [COUNT [SEED]]]: makes COUNT functions (2,000 unless it is named) from SEED, has the program (out/pungi of the
+crate pungi, unless it is named) judge them, and runs them in this Python, whose headers and a C compiler it needs.
+
+A clean function is run with each way in which its calls of the API can go on and fail, over arguments that are different, the same,
+or NULL: each object must have its count again once the result is given back and the lists, the dicts and the module are emptied. (All
+but None, True and False, which the interpreter's own tables hold.) Of a faulty function the printed run is run: the count of the
+printed object must be off by as much as is printed; and it is counted whether the runs of clean functions would have met the fault too.
+A run that passes NULL where the manual forbids it stops, and owes nothing."""
+import importlib.util
+import os
+import random
+import re
+import subprocess
+import sys
+import sysconfig
+import tempfile
+from collections import Counter
+
+HERE = os.path.dirname(os.path.abspath(__file__))
+
+HEAD = "PyObject *{name}(PyObject *l, PyObject *d, PyObject *m, PyObject *x, PyObject *y)"
+
+# What gives a new reference, what gives a borrowed one, what keeps a value V and what takes its reference over, and what does neither.
+NEW = [
+    "PyLong_FromLong(1000003)", 'PyUnicode_FromString("a text")', 'PyBytes_FromString("a text")', "PyList_New(0)", "PyDict_New()",
+    "PyObject_Str(x)", "PyObject_Repr(y)", "PyDict_Keys(d)", "PyDict_Values(d)", "PyDict_Items(d)", "PySequence_GetItem(l, 0)",
+    "PyObject_GetItem(d, x)", 'PyObject_GetAttrString(m, "there")', 'PySequence_Fast(d, "no sequence")', "PyNumber_Add(x, y)",
+    "PyNumber_Subtract(x, y)", "PyNumber_Multiply(y, y)", "Py_NewRef(x)", "Py_XNewRef(y)",
+]
+BORROWED = [
+    "PyList_GetItem(l, 1)", 'PyDict_GetItemString(d, "there")', "PyDict_GetItem(d, x)", "PyDict_GetItemWithError(d, y)",
+    "PyModule_GetDict(m)", "PyList_GET_ITEM(l, 1)",
+]
+KEEPS = [
+    "PyList_Append(l, V)", "PyList_Insert(l, 0, V)", "PySequence_SetItem(l, 0, V)", "PyDict_SetItem(d, x, V)",
+    "PyObject_SetItem(d, y, V)", 'PyDict_SetItemString(d, "name", V)', 'PyObject_SetAttrString(m, "name", V)',
+    'PyModule_AddObjectRef(m, "name", V)',
+]
+TAKES = ["PyList_SetItem(l, 0, V)", "PyList_SetItem(l, 2, V)", "PyTuple_SetItem(l, 0, V)"]
+OTHERS = ["PyDict_DelItem(d, x)", 'PyModule_AddIntConstant(m, "number", 7)', "PyObject_IsTrue(x)", "PyObject_RichCompareBool(x, y, 2)"]
+
+
+def released(owned, rng):
+    """Statements that give back what is owned."""
+    return [f"{rng.choice(['Py_DECREF', 'Py_XDECREF'])}({v});" for v in rng.sample(owned, len(owned))]
+
+
+def leave(owned, rng):
+    return released(owned, rng) + [rng.choice(["return NULL;"] * 4 + ["return PyErr_NoMemory();"])]
+
+
+def begin(v, made, owned, borrowed, rng):
+    """Adds statements that give a local its value."""
+    kind = rng.random()
+    if kind < 0.1 and owned:
+        w = rng.choice(owned)
+        of = rng.choice(["PyList", "PyTuple"])
+        made += [f"PyObject *{v} = {of}_New(1);", (f"{v} == NULL", leave(owned, rng)), f"{of}_SET_ITEM({v}, 0, {w});"]
+        owned.remove(w)
+        owned.append(v)
+    elif kind < 0.7:
+        made += [f"PyObject *{v} = {rng.choice(NEW)};", (f"{v} == NULL", leave(owned, rng))]
+        owned.append(v)
+    else:
+        made += [f"PyObject *{v} = {rng.choice(BORROWED)};", (f"{v} == NULL", leave(owned, rng))]
+        borrowed.append(v)
+        if rng.random() < 0.5:
+            made.append(f"{rng.choice(['Py_INCREF', 'Py_XINCREF'])}({v});")
+            owned.append(v)
+
+
+def use(made, owned, borrowed, rng):
+    """Adds a statement that uses a value."""
+    w, kind = rng.choice([*owned, *borrowed, "x", "y"]), rng.random()
+    if kind < 0.4:
+        made.append((rng.choice(KEEPS).replace("V", w) + " < 0", leave(owned, rng)))
+    elif kind < 0.5:
+        made.append((rng.choice(OTHERS) + " < 0", leave(owned, rng)))
+    elif kind < 0.8 and w in owned:
+        owned.remove(w)
+        borrowed.append(w)
+        made.append((rng.choice(TAKES).replace("V", w) + " < 0", leave(owned, rng)))
+    elif kind < 0.9 and w in owned:
+        made.append((f'PyModule_AddObject(m, "name", {w}) < 0', leave(owned, rng)))
+        owned.remove(w)
+        borrowed.append(w)
+    else:
+        made += [("x == y", ["Py_INCREF(x);", "Py_DECREF(y);"]), "PyErr_Clear();"]
+
+
+def statements(rng):
+    """Statements that keep the rules: each is a text, or a condition with the statements behind it."""
+    made, owned, borrowed = [], [], []
+    for number in range(rng.randint(1, 4)):
+        begin(f"v{number}", made, owned, borrowed, rng)
+        for _ in range(rng.randint(0, 2)):
+            use(made, owned, borrowed, rng)
+    if owned and rng.random() < 0.7:
+        back = owned.pop(rng.randrange(len(owned)))
+        return made + released(owned, rng) + [f"return {back};"]
+    return made + released(owned, rng) + [rng.choice(["Py_RETURN_NONE;", "return Py_NewRef(x);", "return NULL;"])]
+
+
+def spoiled(made, rng):
+    """The statements, with one that counts or checks left out or written twice."""
+    places = [(made, i) for i, it in enumerate(made) if isinstance(it, tuple) or it.startswith("Py_")]
+    places += [(it[1], i) for it in made if isinstance(it, tuple) for i, s in enumerate(it[1]) if s.startswith("Py_")]
+    places = [(part, i) for part, i in places if "RETURN" not in str(part[i])]
+    if not places:
+        return made
+    part, i = rng.choice(places)
+    if isinstance(part[i], str) and rng.random() < 0.5:
+        part.insert(i, part[i])
+    elif isinstance(part[i], str) or rng.random() < 0.3:
+        del part[i]
+    else:
+        part[i] = (part[i][0], ["return NULL;"])
+    return made
+
+
+def text_of(made):
+    return " ".join(it if isinstance(it, str) else f"if ({it[0]}) {{ {' '.join(it[1])} }}" for it in made)
+
+
+def functions(count, seed):
+    rng = random.Random(seed)
+    for i in range(count):
+        made = statements(rng)
+        if rng.random() < 0.6:
+            made = spoiled(made, rng)
+        yield f"{HEAD.format(name=f'f{i}')} {{ {text_of(made)} }}"
+
+
+def built(texts, room):
+    """The call run() of harness.c over these functions."""
+    with open(f"{HERE}/harness.c") as it:
+        harness = it.read()
+    names = sorted(set(re.findall(r"\bmy_(Py[A-Z]\w*)\(", harness)))
+    parts = {
+        "functions.c": "\n".join(texts),
+        "names.h": ", ".join(f"f{i}" for i in range(len(texts))),
+        "renamed.h": "\n".join(f"#undef {it}\n#define {it} my_{it}" for it in names),
+        "original.h": "\n".join(f"#undef {it}" for it in names),
+    }
+    for name, text in parts.items():
+        with open(f"{room}/{name}", "w") as it:
+            it.write(text + "\n")
+    include = sysconfig.get_paths()["include"]
+    subprocess.run(["cc", "-O1", "-w", "-shared", "-fPIC", f"-I{include}", f"-I{room}", f"{HERE}/harness.c", "-o", f"{room}/verdict_runs.so"], check=True)
+    spec = importlib.util.spec_from_file_location("verdict_runs", f"{room}/verdict_runs.so")
+    found = importlib.util.module_from_spec(spec)
+    spec.loader.exec_module(found)
+    return found.run
+
+
+def verdicts(program, texts, room):
+    """The verdict on each function, by its name: its line and the lines of its run."""
+    found, last = {}, None
+    # (a file has at most 1,048,576 bytes)
+    for first in range(0, len(texts), 500):
+        with open(f"{room}/x.c", "w") as it:
+            it.write("\n".join(texts[first : first + 500]) + "\n")
+        ran = subprocess.run([program, f"{room}/x.c"], stdout=subprocess.PIPE, text=True)
+        for line in ran.stdout.splitlines():
+            if line.startswith("  "):
+                found[last][1].append(line.split())
+            else:
+                last = line.split()[1]
+                found[last] = line.split(), []
+    return found
+
+
+def plans(run, which, given):
+    """What becomes of the function in each way that its calls can go on and fail, and that way."""
+    plan = []
+    while True:
+        used, off = run(which, 0, given, plan)
+        plan = plan[:used] + [0] * (used - len(plan))
+        yield off, plan
+        while plan and plan[-1]:
+            plan.pop()
+        if not plan:
+            return
+        plan[-1] = 1
+
+
+# The numbers of the objects that l, d, m, x and y are, or -1 for NULL.
+ARGUMENTS = [[24, 25, 26, 27, 28], [24, 25, 26, 27, 27], [24, 25, 26, -1, 28], [24, 25, 26, 27, -1]]
+
+
+def code_of(words):
+    """A printed value as harness.c has it."""
+    return -1 if words == ["null"] else int(words[1]) - 1000 * (words[0] == "int")
+
+
+def off_in_runs(run, which):
+    """How many runs of the function returned, and those after which some count is off."""
+    ends = [(off, given, plan) for given in ARGUMENTS for off, plan in plans(run, which, given) if off is not None]
+    return len(ends), [it for it in ends if it[0]]
+
+
+def is_shown(run, which, line, lines):
+    """Whether the printed run leaves the printed object off by what is printed, or None where it needs objects of other types."""
+    given = [code_of(it[1:]) for it in lines if it[0] == "argument"]
+    end = run(which, 1, given, [code_of(it[1:]) for it in lines if ":" in it[0]])
+    change, escaped = int(line[6]), int(line[8])
+    return end and end[1] is not None and (int(line[4]), change - escaped) in end[1]
+
+
+def main():
+    program = os.path.abspath(sys.argv[1]) if len(sys.argv) > 1 else os.path.join(HERE, "..", "..", "crates", "pungi", "out", "pungi")
+    count = int(sys.argv[2]) if len(sys.argv) > 2 else 2000
+    texts = list(functions(count, int(sys.argv[3]) if len(sys.argv) > 3 else 1))
+    told, shown, runs, met, wrong = Counter(), Counter(), 0, 0, 0
+    with tempfile.TemporaryDirectory() as room:
+        found = verdicts(program, texts, room)
+        run = built(texts, room)
+        for i, text in enumerate(texts):
+            line, lines = found[f"f{i}"]
+            told[line[0]] += 1
+            if line[0] == "clean":
+                ended, off = off_in_runs(run, i)
+                runs += ended
+                if off:
+                    wrong += 1
+                    print(f"clean, but off, over arguments and calls, by {off}: {text}")
+            elif line[0] == "faulty":
+                shows = is_shown(run, i, line, lines)
+                shown[shows] += 1
+                met += bool(off_in_runs(run, i)[1])
+                if shows is False:
+                    wrong += 1
+                    print(f"{' '.join(line)}, but not over {lines}: {text}")
+    print(f"{count} functions: {told['clean']} clean, in {runs} runs; {told['faulty']} faulty, of which {shown[True]} were shown by the printed run"
+          f" ({shown[None]} need objects of other types) and {met} by one of the runs of clean ones;"
+          f" {count - told['clean'] - told['faulty']} not judged; {wrong} wrong")
+    return 1 if wrong else 0
+
+
+if __name__ == "__main__":
+    sys.exit(main())
