@@ -8,6 +8,10 @@
 #define MORE 1000
 #define MANY 512
 
+typedef struct { PyObject_HEAD PyObject *first; } Box;
+static PyObject *kept;
+static PyTypeObject BoxType = { PyVarObject_HEAD_INIT(NULL, 0) .tp_name = "Box", .tp_basicsize = sizeof(Box), .tp_new = PyType_GenericNew };
+
 typedef struct { PyObject *it; Py_ssize_t wanted; long number; } Seen;
 static Seen seen[MANY];
 static int count_seen;
@@ -161,26 +165,32 @@ static PyObject *my_Py_XNewRef(void *x) { Py_IncRef(x); return x; }
 #define Py_XNewRef my_Py_XNewRef
 #define Py_RETURN_NONE return Py_NewRef(Py_None)
 #include "functions.c"
-typedef PyObject *Function(PyObject *, PyObject *, PyObject *, PyObject *, PyObject *);
+typedef PyObject *Function(Box *, PyObject *, PyObject *, PyObject *, PyObject *, PyObject *);
 static Function *const functions[] = {
 #include "names.h"
 };
 #include "original.h"
 
 static PyObject *argument(int place) {
-    if (place == 0) {
+    if (place == 0) return (PyObject *)PyObject_New(Box, &BoxType);
+    if (place == 1) {
         PyObject *list = PyList_New(0);
-        for (int i = 0; i < 3; i++) { PyObject *it = PyLong_FromLong(3000017 + i); see(it, NOTHING, 1); PyList_Append(list, it); Py_DecRef(it); }
+        for (int i = 0; i < 3; i++) {
+            PyObject *it = PyLong_FromLong(3000017 + i);
+            see(it, NOTHING, 1);
+            PyList_Append(list, it);
+            Py_DecRef(it);
+        }
         return list;
     }
-    if (place == 1) {
+    if (place == 2) {
         PyObject *dict = PyDict_New(), *it = PyLong_FromLong(4000037);
         see(it, NOTHING, 1);
         PyDict_SetItemString(dict, "there", it);
         Py_DecRef(it);
         return dict;
     }
-    if (place == 2) {
+    if (place == 3) {
         PyObject *module = PyModule_New("module"), *it = PyLong_FromLong(6000011);
         see(it, NOTHING, 1);
         PyModule_AddObjectRef(module, "there", it);
@@ -190,32 +200,45 @@ static PyObject *argument(int place) {
     return PyLong_FromLong(5000011 + place);
 }
 
+/* What the field or the global holds before the run: the object of this number, or nothing. */
+static void hold(PyObject **place, long number) {
+    *place = NULL;
+    if (number < 0) return;
+    PyObject *it = numbered(number) ? Py_NewRef(numbered(number)) : PyLong_FromLong(8000009);
+    see(it, number, 1);
+    *place = it;
+}
+
 static void emptied(PyObject *it) {
-    if (PyList_CheckExact(it)) PyList_SetSlice(it, 0, PyList_GET_SIZE(it), NULL);
+    if (Py_IS_TYPE(it, &BoxType)) Py_CLEAR(((Box *)it)->first);
+    else if (PyList_CheckExact(it)) PyList_SetSlice(it, 0, PyList_GET_SIZE(it), NULL);
     else if (PyDict_CheckExact(it)) PyDict_Clear(it);
     else if (PyTuple_CheckExact(it)) for (Py_ssize_t i = 0; i < PyTuple_GET_SIZE(it); i++) Py_CLEAR(((PyTupleObject *)it)->ob_item[i]);
     else if (PyModule_CheckExact(it)) PyDict_Clear(PyModule_GetDict(it));
 }
 
-/* run(function, is by answers, arguments by number or -1, answers): how many answers were used, and how far the count of each object
-   is off, by its number, or None where the run stopped; None alone where it isn't the run of the answers. */
+/* run(function, is by answers, arguments by number or -1, contents of the field and the global, answers): how many answers were used,
+   and how far the count of each object is off, by its number, or None where the run stopped; None alone where it isn't the run of the
+   answers. */
 static PyObject *run(PyObject *self, PyObject *args) {
     int which, by;
-    PyObject *given, *told;
-    if (!PyArg_ParseTuple(args, "iiO!O!", &which, &by, &PyList_Type, &given, &PyList_Type, &told)) return NULL;
-    PyObject *five[5];
+    long held, global;
+    PyObject *given, *told, *six[6];
+    if (!PyArg_ParseTuple(args, "iiO!llO!", &which, &by, &PyList_Type, &given, &held, &global, &PyList_Type, &told)) return NULL;
     count_seen = 0, used = 0, strayed = 0, replays = by;
     see(Py_None, 0, 0), see(Py_True, 1, 0), see(Py_False, 2, 0);
     int statics = count_seen;
-    for (int i = 0; i < 5; i++) {
+    for (int i = 0; i < 6; i++) {
         long number = PyLong_AsLong(PyList_GetItem(given, i));
-        five[i] = number < 0 ? NULL : numbered(number);
-        if (number >= 0 && !five[i]) { five[i] = argument(i); see(five[i], number, 0); }
+        six[i] = number < 0 ? NULL : numbered(number);
+        if (number >= 0 && !six[i]) { six[i] = argument(i); see(six[i], number, 0); }
     }
-    if (five[1] && five[3] && PyDict_CheckExact(five[1])) {
+    if (six[0]) hold(&((Box *)six[0])->first, held);
+    hold(&kept, global);
+    if (six[2] && six[4] && PyDict_CheckExact(six[2])) {
         PyObject *it = PyLong_FromLong(7000003);
         see(it, NOTHING, 1);
-        PyDict_SetItem(five[1], five[3], it);
+        PyDict_SetItem(six[2], six[4], it);
         PyErr_Clear();
         Py_DecRef(it);
     }
@@ -224,11 +247,12 @@ static PyObject *run(PyObject *self, PyObject *args) {
     for (int i = 0; i < count_answers; i++) answers[i] = PyLong_AsLong(PyList_GetItem(told, i));
     int has_stopped = setjmp(stopped);
     if (!has_stopped) {
-        PyObject *result = functions[which](five[0], five[1], five[2], five[3], five[4]);
+        PyObject *result = functions[which]((Box *)six[0], six[1], six[2], six[3], six[4], six[5]);
         Py_DecRef(result);
     }
     PyErr_Clear();
     for (int i = 0; i < count_seen; i++) emptied(seen[i].it);
+    Py_CLEAR(kept);
     Py_ssize_t off[MANY];
     for (int i = 0; i < count_seen; i++) off[i] = Py_REFCNT(seen[i].it) - seen[i].wanted;
     if (strayed) { Py_IncRef(Py_None); return Py_None; }
@@ -245,4 +269,4 @@ static PyObject *run(PyObject *self, PyObject *args) {
 
 static PyMethodDef methods[] = { { "run", run, METH_VARARGS, NULL }, { NULL, NULL, 0, NULL } };
 static struct PyModuleDef definition = { PyModuleDef_HEAD_INIT, "verdict_runs", NULL, -1, methods, NULL, NULL, NULL, NULL };
-PyMODINIT_FUNC PyInit_verdict_runs(void) { return PyModule_Create(&definition); }
+PyMODINIT_FUNC PyInit_verdict_runs(void) { return PyType_Ready(&BoxType) < 0 ? NULL : PyModule_Create(&definition); }

@@ -3,10 +3,10 @@
 crate pungi, unless it is named) judge them, and runs them in this Python, whose headers and a C compiler it needs.
 
 A clean function is run with each way in which its calls of the API can go on and fail, over arguments that are different, the same,
-or NULL: each object must have its count again once the result is given back and the lists, the dicts and the module are emptied. (All
-but None, True and False, which the interpreter's own tables hold.) Of a faulty function the printed run is run: the count of the
-printed object must be off by as much as is printed; and it is counted whether the runs of clean functions would have met the fault too.
-A run that passes NULL where the manual forbids it stops, and owes nothing."""
+or NULL: each object must have its count again once the result is given back and the field, the global, the lists, the dicts and the
+module are emptied. (All but None, True and False, which the interpreter's own tables hold.) Of a faulty function the printed run is
+run: the count of the printed object must be off by as much as is printed; and it is counted whether the runs of clean functions
+would have met the fault too. A run that passes NULL where the manual forbids it stops, and owes nothing."""
 import importlib.util
 import os
 import random
@@ -19,7 +19,9 @@ from collections import Counter
 
 HERE = os.path.dirname(os.path.abspath(__file__))
 
-HEAD = "PyObject *{name}(PyObject *l, PyObject *d, PyObject *m, PyObject *x, PyObject *y)"
+DECLARED = "typedef struct { PyObject_HEAD PyObject *first; } Box; static PyObject *kept;"
+
+HEAD = "PyObject *{name}(Box *b, PyObject *l, PyObject *d, PyObject *m, PyObject *x, PyObject *y)"
 
 # What gives a new reference, what gives a borrowed one, what keeps a value V and what takes its reference over, and what does neither.
 NEW = [
@@ -30,7 +32,7 @@ NEW = [
 ]
 BORROWED = [
     "PyList_GetItem(l, 1)", 'PyDict_GetItemString(d, "there")', "PyDict_GetItem(d, x)", "PyDict_GetItemWithError(d, y)",
-    "PyModule_GetDict(m)", "PyList_GET_ITEM(l, 1)",
+    "PyModule_GetDict(m)", "PyList_GET_ITEM(l, 1)", "b->first", "kept",
 ]
 KEEPS = [
     "PyList_Append(l, V)", "PyList_Insert(l, 0, V)", "PySequence_SetItem(l, 0, V)", "PyDict_SetItem(d, x, V)",
@@ -70,10 +72,24 @@ def begin(v, made, owned, borrowed, rng):
             owned.append(v)
 
 
+def store(number, made, owned, borrowed, rng):
+    """Adds statements that give the field or the global another content."""
+    w, old, place = rng.choice([*owned, *borrowed, "x", "NULL"]), f"old{number}", rng.choice(["b->first", "kept"])
+    made.append(f"PyObject *{old} = {place};")
+    if w in owned:
+        owned.remove(w)
+        borrowed.append(w)
+    elif w != "NULL":
+        made.append(f"Py_INCREF({w});")
+    made += [f"{place} = {w};", f"Py_XDECREF({old});"]
+
+
 def use(made, owned, borrowed, rng):
     """Adds a statement that uses a value."""
     w, kind = rng.choice([*owned, *borrowed, "x", "y"]), rng.random()
-    if kind < 0.4:
+    if kind < 0.2:
+        store(len(made), made, owned, borrowed, rng)
+    elif kind < 0.4:
         made.append((rng.choice(KEEPS).replace("V", w) + " < 0", leave(owned, rng)))
     elif kind < 0.5:
         made.append((rng.choice(OTHERS) + " < 0", leave(owned, rng)))
@@ -147,7 +163,8 @@ def built(texts, room):
         with open(f"{room}/{name}", "w") as it:
             it.write(text + "\n")
     include = sysconfig.get_paths()["include"]
-    subprocess.run(["cc", "-O1", "-w", "-shared", "-fPIC", f"-I{include}", f"-I{room}", f"{HERE}/harness.c", "-o", f"{room}/verdict_runs.so"], check=True)
+    words = ["cc", "-O1", "-w", "-shared", "-fPIC", f"-I{include}", f"-I{room}", f"{HERE}/harness.c", "-o", f"{room}/verdict_runs.so"]
+    subprocess.run(words, check=True)
     spec = importlib.util.spec_from_file_location("verdict_runs", f"{room}/verdict_runs.so")
     found = importlib.util.module_from_spec(spec)
     spec.loader.exec_module(found)
@@ -160,7 +177,7 @@ def verdicts(program, texts, room):
     # (a file has at most 1,048,576 bytes)
     for first in range(0, len(texts), 500):
         with open(f"{room}/x.c", "w") as it:
-            it.write("\n".join(texts[first : first + 500]) + "\n")
+            it.write("\n".join([DECLARED, *texts[first : first + 500]]) + "\n")
         ran = subprocess.run([program, f"{room}/x.c"], stdout=subprocess.PIPE, text=True)
         for line in ran.stdout.splitlines():
             if line.startswith("  "):
@@ -171,11 +188,11 @@ def verdicts(program, texts, room):
     return found
 
 
-def plans(run, which, given):
+def plans(run, which, given, held, kept):
     """What becomes of the function in each way that its calls can go on and fail, and that way."""
     plan = []
     while True:
-        used, off = run(which, 0, given, plan)
+        used, off = run(which, 0, given, held, kept, plan)
         plan = plan[:used] + [0] * (used - len(plan))
         yield off, plan
         while plan and plan[-1]:
@@ -185,8 +202,11 @@ def plans(run, which, given):
         plan[-1] = 1
 
 
-# The numbers of the objects that l, d, m, x and y are, or -1 for NULL.
-ARGUMENTS = [[24, 25, 26, 27, 28], [24, 25, 26, 27, 27], [24, 25, 26, -1, 28], [24, 25, 26, 27, -1]]
+# The numbers of the objects that b, l, d, m, x and y are, that b's field holds, and that the global holds, or -1 for NULL.
+ARGUMENTS = [
+    ([24, 25, 26, 27, 28, 29], 30, 31), ([24, 25, 26, 27, 28, 28], 28, 28), ([24, 25, 26, 27, -1, 29], 29, 30),
+    ([24, 25, 26, 27, 28, -1], -1, -1),
+]
 
 
 def code_of(words):
@@ -196,14 +216,18 @@ def code_of(words):
 
 def off_in_runs(run, which):
     """How many runs of the function returned, and those after which some count is off."""
-    ends = [(off, given, plan) for given in ARGUMENTS for off, plan in plans(run, which, given) if off is not None]
+    ends = [(off, given, plan) for given in ARGUMENTS for off, plan in plans(run, which, *given) if off is not None]
     return len(ends), [it for it in ends if it[0]]
 
 
-def is_shown(run, which, line, lines):
+def is_shown(run, which, text, line, lines):
     """Whether the printed run leaves the printed object off by what is printed, or None where it needs objects of other types."""
     given = [code_of(it[1:]) for it in lines if it[0] == "argument"]
-    end = run(which, 1, given, [code_of(it[1:]) for it in lines if ":" in it[0]])
+    used = [(text[int(it[0].split(":")[1]) - 1 :], code_of(it[1:])) for it in lines if ":" in it[0]]
+    # (what stands at an arrow or at the global's name is what was held there)
+    held, kept = ([value for at, value in used if at.startswith(word)] for word in ("->", "kept"))
+    answers = [value for at, value in used if not at.startswith(("->", "kept"))]
+    end = run(which, 1, given, *[it[0] if it else -1 for it in (held, kept)], answers)
     change, escaped = int(line[6]), int(line[8])
     return end and end[1] is not None and (int(line[4]), change - escaped) in end[1]
 
@@ -226,15 +250,15 @@ def main():
                     wrong += 1
                     print(f"clean, but off, over arguments and calls, by {off}: {text}")
             elif line[0] == "faulty":
-                shows = is_shown(run, i, line, lines)
+                shows = is_shown(run, i, text, line, lines)
                 shown[shows] += 1
                 met += bool(off_in_runs(run, i)[1])
                 if shows is False:
                     wrong += 1
                     print(f"{' '.join(line)}, but not over {lines}: {text}")
-    print(f"{count} functions: {told['clean']} clean, in {runs} runs; {told['faulty']} faulty, of which {shown[True]} were shown by the printed run"
-          f" ({shown[None]} need objects of other types) and {met} by one of the runs of clean ones;"
-          f" {count - told['clean'] - told['faulty']} not judged; {wrong} wrong")
+    print(f"{count} functions: {told['clean']} clean, in {runs} runs; {told['faulty']} faulty, of which {shown[True]} were shown by the")
+    print(f"printed run ({shown[None]} need objects of other types) and {met} by one of the runs of clean ones;")
+    print(f"{count - told['clean'] - told['faulty']} not judged; {wrong} wrong")
     return 1 if wrong else 0
 
 
