@@ -221,7 +221,8 @@ def off_in_runs(run, which):
 
 
 def is_shown(run, which, text, line, lines):
-    """Whether the printed run leaves the printed object off by what is printed, or None where it needs objects of other types."""
+    """Whether the printed run leaves the printed object off by what is printed, or None where it has answers that these
+    objects can't give."""
     given = [code_of(it[1:]) for it in lines if it[0] == "argument"]
     used = [(text[int(it[0].split(":")[1]) - 1 :], code_of(it[1:])) for it in lines if ":" in it[0]]
     # (what stands at an arrow or at the global's name is what was held there)
@@ -257,7 +258,7 @@ def main():
                     wrong += 1
                     print(f"{' '.join(line)}, but not over {lines}: {text}")
     print(f"{count} functions: {told['clean']} clean, in {runs} runs; {told['faulty']} faulty, of which {shown[True]} were shown by the")
-    print(f"printed run ({shown[None]} need objects of other types) and {met} by one of the runs of clean ones;")
+    print(f"printed run ({shown[None]} have answers that these objects can't give) and {met} by one of the runs of clean ones;")
     print(f"{count - told['clean'] - told['faulty']} not judged; {wrong} wrong")
     return 1 if wrong else 0
 
