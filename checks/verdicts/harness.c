@@ -2,8 +2,7 @@
    a plan, in which 1 is a failure, or by the answers of a run that is given. A call that goes on is Python's own, and so is one that
    answers a status and fails: a list is given an index that it doesn't have, a call on a module something that is none. One that
    fails to answer an object or a truth is not made, nor is one whose given answer is an object that is there, a borrowed one, or a
-   truth. Each object has many references
-   more, so that one too few is seen and not met. */
+   truth. Each object has many references more, so that one too few is seen and not met. */
 #define PY_SSIZE_T_CLEAN
 #include <Python.h>
 #include <setjmp.h>
