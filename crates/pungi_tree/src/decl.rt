@@ -7,7 +7,7 @@ use pungi_base::{Key, Kind, Pos};
 /// decl  = quals type var ("," var)* ";"
 /// quals = ("static" | "extern" | "inline" | "const" | "volatile" | "register")*
 /// ```
-#[derive(Debug, Drop)]
+#[derive(Drop)]
 pub struct Decl {
     pub quals: Vec<Key>,
     pub type_name: Spec,
@@ -19,14 +19,14 @@ pub struct Decl {
 /// ```text
 /// var = declr ("=" (assign | "{" balanced "}"))?
 /// ```
-#[derive(Debug, Drop)]
+#[derive(Drop)]
 pub struct VarDecl {
     pub declr: Declr,
     pub value: Option<Init>,
 }
 
 /// The first value of a variable, behind its `=` (C11 6.7.9).
-#[derive(Debug, Drop)]
+#[derive(Drop)]
 pub enum Init {
     /// `assign`.
     Value(Expr),

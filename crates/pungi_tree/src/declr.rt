@@ -8,7 +8,7 @@ use pungi_base::{Name, Pos};
 /// ```
 ///
 /// `stars` has a number for each `*` in front, that of the `const` behind it. `pos` is the name's place.
-#[derive(Debug, Drop)]
+#[derive(Drop)]
 #[cycle(tree)]
 pub struct Declr {
     pub stars: Vec<u32>,
@@ -18,7 +18,7 @@ pub struct Declr {
 }
 
 /// What a declarator declares (C11 6.7.6.2 and 6.7.6.3).
-#[derive(Debug, Drop)]
+#[derive(Drop)]
 #[cycle(tree)]
 pub enum Tail {
     /// `word ("[" expr? "]")*`, a variable or an array.

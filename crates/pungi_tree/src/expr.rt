@@ -19,7 +19,7 @@ use pungi_base::{Kind, Name, Pos, Punct};
 /// primary = word | number | character | text+ | "NULL" | "(" expr ")"
 ///         | "PyObject_New" "(" typename "," assign ")"
 /// ```
-#[derive(Debug, Drop)]
+#[derive(Drop)]
 #[cycle(tree)]
 pub struct Expr {
     pub pos: Pos,
@@ -27,7 +27,7 @@ pub struct Expr {
 }
 
 /// What an expression is made of.
-#[derive(Debug, Drop)]
+#[derive(Drop)]
 #[cycle(tree)]
 pub enum ExprNode {
     /// `word`, no type word.

@@ -12,7 +12,7 @@ use pungi_base::{Key, Name, Pos};
 /// ```
 ///
 /// A position beside a name is the name's. `stars` has a number for each `*`, that of the `const` behind it.
-#[derive(Debug, Drop)]
+#[derive(Drop)]
 pub enum Item {
     /// `;`, at its place.
     Empty(Pos),
@@ -48,7 +48,7 @@ pub enum Item {
 /// ```text
 /// head = quals type stars word "(" params ")"
 /// ```
-#[derive(Debug, Drop)]
+#[derive(Drop)]
 pub struct Head {
     pub quals: Vec<Key>,
     pub result: Spec,
@@ -63,7 +63,7 @@ pub struct Head {
 /// ```text
 /// function = quals type stars word "(" params ")" block
 /// ```
-#[derive(Debug, Drop)]
+#[derive(Drop)]
 pub struct FunctionDef {
     pub quals: Vec<Key>,
     pub result: Spec,

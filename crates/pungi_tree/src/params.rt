@@ -8,7 +8,7 @@ use pungi_base::{Key, Name, Pos};
 /// ```
 ///
 /// `void` tells that the lone `void` stands there, and `dots` holds the place of `...`.
-#[derive(Debug, Drop)]
+#[derive(Drop)]
 #[cycle(tree)]
 pub struct Params {
     pub list: Vec<ParamDecl>,
@@ -21,7 +21,7 @@ pub struct Params {
 /// ```text
 /// param = quals type (declr | stars | stars "Py_UNUSED" "(" word ")")
 /// ```
-#[derive(Debug, Drop)]
+#[derive(Drop)]
 #[cycle(tree)]
 pub struct ParamDecl {
     pub quals: Vec<Key>,
@@ -30,7 +30,7 @@ pub struct ParamDecl {
 }
 
 /// What stands behind the type of a parameter. `stars` has a number for each `*`, that of the `const` behind it.
-#[derive(Debug, Drop)]
+#[derive(Drop)]
 #[cycle(tree)]
 pub enum ParamDeclr {
     /// `declr`.

@@ -8,7 +8,7 @@ use pungi_base::{Key, Name, Pos};
 /// ```
 ///
 /// `pos` is the place of its first token, and `consts` how many `const` stand behind the base.
-#[derive(Debug, Drop)]
+#[derive(Drop)]
 #[cycle(tree)]
 pub struct Spec {
     pub pos: Pos,
@@ -23,7 +23,7 @@ pub struct Spec {
 /// ```
 ///
 /// A `baseword` is one of `int long short char unsigned signed float double void _Bool`.
-#[derive(Debug, Drop)]
+#[derive(Drop)]
 #[cycle(tree)]
 pub enum Base {
     /// `baseword+`.
@@ -43,7 +43,7 @@ pub enum Base {
 /// ```text
 /// fields = "{" (quals type declr ("," declr)* ";" | ";")* "}"
 /// ```
-#[derive(Debug, Drop)]
+#[derive(Drop)]
 #[cycle(tree)]
 pub enum Field {
     /// `";"`.
@@ -64,7 +64,7 @@ pub enum Field {
 /// ```
 ///
 /// `stars` has a number for each `*`, that of the `const` behind it.
-#[derive(Debug, Drop)]
+#[derive(Drop)]
 #[cycle(tree)]
 pub struct TypeName {
     pub spec: Spec,

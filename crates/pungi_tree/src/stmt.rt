@@ -14,7 +14,7 @@ use pungi_base::{Name, Pos};
 /// ```
 ///
 /// An `else` belongs to the nearest `if` (C11 6.8.4.1).
-#[derive(Debug, Drop)]
+#[derive(Drop)]
 #[cycle(statements)]
 pub struct Stmt {
     pub pos: Pos,
@@ -22,7 +22,7 @@ pub struct Stmt {
 }
 
 /// What a statement is made of.
-#[derive(Debug, Drop)]
+#[derive(Drop)]
 #[cycle(statements)]
 pub enum StmtNode {
     /// `"{" (decl | stmt)* "}"`, with the place of its closing brace.
@@ -58,7 +58,7 @@ pub enum StmtNode {
 }
 
 /// What a `for` begins with (C11 6.8.5.3): `decl | expr? ";"`.
-#[derive(Debug, Drop)]
+#[derive(Drop)]
 pub enum ForStart {
     /// `decl`.
     Decl(Decl),

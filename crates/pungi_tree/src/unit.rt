@@ -5,7 +5,7 @@ use crate::Item;
 /// ```text
 /// unit = item*
 /// ```
-#[derive(Debug, Drop)]
+#[derive(Drop)]
 pub struct Unit {
     pub items: Vec<Item>,
 }
