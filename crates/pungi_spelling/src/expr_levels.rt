@@ -8,11 +8,11 @@ use crate::operators::{
     base_words, binary_level, is_aggregate, is_assign, is_step, prefix_need, qualifiers,
 };
 use crate::type_words::is_type;
+use pungi_base::words::{PY_OBJECT_NEW, PY_UNUSED};
+use pungi_base::{Key, Name, Pos};
 use pungi_tree::{
     Base, Declr, Expr, ExprNode, Field, Item, ParamDecl, ParamDeclr, Params, Spec, Tail, TypeName,
 };
-use pungi_base::words::{PY_OBJECT_NEW, PY_UNUSED};
-use pungi_base::{Key, Name, Pos};
 
 #[cycle(levels)]
 pub(crate) fn expr_at(file: &[Item], least: u32, e: &Expr) -> bool

@@ -3,9 +3,9 @@ ghost use Rattle.pungi_tree.specs.TypeWords.{is_known_type as is_known_type_of, 
 ghost use Rattle.pungi_tree.specs.UnitLevels.{typedef_names};
 ghost use Rattle.pungi_tree.specs.UnitView.{item_view};
 
-use pungi_tree::Item;
 use pungi_base::Name;
 use pungi_base::words::{KEYWORDS, MACROS, TYPE_WORDS};
+use pungi_tree::Item;
 
 fn is_known_type(name: Name) -> bool
     ensures { result ≡ is_known_type_of name }

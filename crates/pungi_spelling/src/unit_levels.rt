@@ -8,9 +8,9 @@ use crate::expr_levels::{params, spec};
 use crate::operators::qualifiers;
 use crate::stmt_levels::{decl, stmt};
 use crate::type_words::is_type;
-use pungi_tree::{Item, Params, Spec, Stmt, StmtNode, Unit};
 use pungi_base::words::PY_DOC_STRVAR;
 use pungi_base::{Key, Name};
+use pungi_tree::{Item, Params, Spec, Stmt, StmtNode, Unit};
 
 /// Whether a file is one that the grammar has: each operand binds tightly enough for its place, and each part, list,
 /// keyword and operator is one that may stand there. A type word is no other word, the lone `void` is the empty list of
