@@ -7,11 +7,20 @@ use pungi_base::{Key, Kind, Pos};
 /// decl  = quals type var ("," var)* ";"
 /// quals = ("static" | "extern" | "inline" | "const" | "volatile" | "register")*
 /// ```
-#[derive(Debug, Drop)]
 pub struct Decl {
     pub quals: Vec<Key>,
     pub type_name: Spec,
     pub vars: Vec<VarDecl>,
+}
+
+impl Drop for Decl {
+    fn drop(self) {
+        let Decl {
+            quals: _,
+            type_name: _,
+            vars: _,
+        } = self;
+    }
 }
 
 /// A declared variable with its first value (C11 6.7):
@@ -19,17 +28,29 @@ pub struct Decl {
 /// ```text
 /// var = declr ("=" (assign | "{" balanced "}"))?
 /// ```
-#[derive(Debug, Drop)]
 pub struct VarDecl {
     pub declr: Declr,
     pub value: Option<Init>,
 }
 
+impl Drop for VarDecl {
+    fn drop(self) {
+        let VarDecl { declr: _, value: _ } = self;
+    }
+}
+
 /// The first value of a variable, behind its `=` (C11 6.7.9).
-#[derive(Debug, Drop)]
 pub enum Init {
     /// `assign`.
     Value(Expr),
     /// `"{" balanced "}"`: the tokens between the braces, with their places. Their brackets match.
     Table(Vec<(Kind, Pos)>),
+}
+
+impl Drop for Init {
+    fn drop(self) {
+        match self {
+            Init::Value(_) | Init::Table(_) => {}
+        }
+    }
 }

@@ -8,7 +8,6 @@ use pungi_base::{Name, Pos};
 /// ```
 ///
 /// `stars` has a number for each `*` in front, that of the `const` behind it. `pos` is the name's place.
-#[derive(Debug, Drop)]
 #[cycle(tree)]
 pub struct Declr {
     pub stars: Vec<u32>,
@@ -17,12 +16,32 @@ pub struct Declr {
     pub tail: Tail,
 }
 
+impl Drop for Declr {
+    #[cycle(tree)]
+    fn drop(self) {
+        let Declr {
+            stars: _,
+            name: _,
+            pos: _,
+            tail: _,
+        } = self;
+    }
+}
+
 /// What a declarator declares (C11 6.7.6.2 and 6.7.6.3).
-#[derive(Debug, Drop)]
 #[cycle(tree)]
 pub enum Tail {
     /// `word ("[" expr? "]")*`, a variable or an array.
     Sizes(Vec<Option<Expr>>),
     /// `"(" "*" word ")" "(" params ")"`, a pointer to a function.
     Function(Params),
+}
+
+impl Drop for Tail {
+    #[cycle(tree)]
+    fn drop(self) {
+        match self {
+            Tail::Sizes(_) | Tail::Function(_) => {}
+        }
+    }
 }

@@ -19,15 +19,20 @@ use pungi_base::{Kind, Name, Pos, Punct};
 /// primary = word | number | character | text+ | "NULL" | "(" expr ")"
 ///         | "PyObject_New" "(" typename "," assign ")"
 /// ```
-#[derive(Debug, Drop)]
 #[cycle(tree)]
 pub struct Expr {
     pub pos: Pos,
     pub node: ExprNode,
 }
 
+impl Drop for Expr {
+    #[cycle(tree)]
+    fn drop(self) {
+        let Expr { pos: _, node: _ } = self;
+    }
+}
+
 /// What an expression is made of.
-#[derive(Debug, Drop)]
 #[cycle(tree)]
 pub enum ExprNode {
     /// `word`, no type word.
@@ -75,4 +80,36 @@ pub enum ExprNode {
     Dot(Box<Expr>, Name),
     /// `postfix "->" word`.
     Arrow(Box<Expr>, Name),
+}
+
+impl Drop for ExprNode {
+    #[cycle(tree)]
+    fn drop(self) {
+        match self {
+            ExprNode::Word(_)
+            | ExprNode::Int {
+                value: _,
+                long: _,
+                unsigned: _,
+            }
+            | ExprNode::Float
+            | ExprNode::Char(_)
+            | ExprNode::Text(_)
+            | ExprNode::Null
+            | ExprNode::Paren(_)
+            | ExprNode::Unary(_, _)
+            | ExprNode::Post(_, _)
+            | ExprNode::Binary(_, _, _)
+            | ExprNode::Assign(_, _, _)
+            | ExprNode::Cond(_, _, _)
+            | ExprNode::Comma(_, _)
+            | ExprNode::Cast(_, _)
+            | ExprNode::SizeOfType(_)
+            | ExprNode::Call(_, _)
+            | ExprNode::New(_, _)
+            | ExprNode::Index(_, _)
+            | ExprNode::Dot(_, _)
+            | ExprNode::Arrow(_, _) => {}
+        }
+    }
 }

@@ -12,7 +12,6 @@ use pungi_base::{Key, Name, Pos};
 /// ```
 ///
 /// A position beside a name is the name's. `stars` has a number for each `*`, that of the `const` behind it.
-#[derive(Debug, Drop)]
 pub enum Item {
     /// `;`, at its place.
     Empty(Pos),
@@ -43,12 +42,34 @@ pub enum Item {
     Function(FunctionDef),
 }
 
+impl Drop for Item {
+    fn drop(self) {
+        match self {
+            Item::Empty(_)
+            | Item::Doc {
+                pos: _,
+                name: _,
+                texts: _,
+            }
+            | Item::Typedef {
+                spec: _,
+                stars: _,
+                name: _,
+                pos: _,
+            }
+            | Item::Tag { quals: _, spec: _ }
+            | Item::Vars(_)
+            | Item::Prototype(_)
+            | Item::Function(_) => {}
+        }
+    }
+}
+
 /// A function without its body (C11 6.7.6.3):
 ///
 /// ```text
 /// head = quals type stars word "(" params ")"
 /// ```
-#[derive(Debug, Drop)]
 pub struct Head {
     pub quals: Vec<Key>,
     pub result: Spec,
@@ -58,12 +79,24 @@ pub struct Head {
     pub params: Params,
 }
 
+impl Drop for Head {
+    fn drop(self) {
+        let Head {
+            quals: _,
+            result: _,
+            stars: _,
+            name: _,
+            pos: _,
+            params: _,
+        } = self;
+    }
+}
+
 /// A function with its body (C11 6.9.1):
 ///
 /// ```text
 /// function = quals type stars word "(" params ")" block
 /// ```
-#[derive(Debug, Drop)]
 pub struct FunctionDef {
     pub quals: Vec<Key>,
     pub result: Spec,
@@ -72,4 +105,18 @@ pub struct FunctionDef {
     pub pos: Pos,
     pub params: Params,
     pub body: Stmt,
+}
+
+impl Drop for FunctionDef {
+    fn drop(self) {
+        let FunctionDef {
+            quals: _,
+            result: _,
+            stars: _,
+            name: _,
+            pos: _,
+            params: _,
+            body: _,
+        } = self;
+    }
 }

@@ -8,7 +8,6 @@ use pungi_base::{Key, Name, Pos};
 /// ```
 ///
 /// `void` tells that the lone `void` stands there, and `dots` holds the place of `...`.
-#[derive(Debug, Drop)]
 #[cycle(tree)]
 pub struct Params {
     pub list: Vec<ParamDecl>,
@@ -16,12 +15,22 @@ pub struct Params {
     pub dots: Option<Pos>,
 }
 
+impl Drop for Params {
+    #[cycle(tree)]
+    fn drop(self) {
+        let Params {
+            list: _,
+            void: _,
+            dots: _,
+        } = self;
+    }
+}
+
 /// A parameter (C11 6.7.6.3):
 ///
 /// ```text
 /// param = quals type (declr | stars | stars "Py_UNUSED" "(" word ")")
 /// ```
-#[derive(Debug, Drop)]
 #[cycle(tree)]
 pub struct ParamDecl {
     pub quals: Vec<Key>,
@@ -29,8 +38,18 @@ pub struct ParamDecl {
     pub declr: ParamDeclr,
 }
 
+impl Drop for ParamDecl {
+    #[cycle(tree)]
+    fn drop(self) {
+        let ParamDecl {
+            quals: _,
+            spec: _,
+            declr: _,
+        } = self;
+    }
+}
+
 /// What stands behind the type of a parameter. `stars` has a number for each `*`, that of the `const` behind it.
-#[derive(Debug, Drop)]
 #[cycle(tree)]
 pub enum ParamDeclr {
     /// `declr`.
@@ -44,4 +63,19 @@ pub enum ParamDeclr {
         name: Name,
         pos: Pos,
     },
+}
+
+impl Drop for ParamDeclr {
+    #[cycle(tree)]
+    fn drop(self) {
+        match self {
+            ParamDeclr::Named(_)
+            | ParamDeclr::Bare(_)
+            | ParamDeclr::Unused {
+                stars: _,
+                name: _,
+                pos: _,
+            } => {}
+        }
+    }
 }

@@ -8,12 +8,22 @@ use pungi_base::{Key, Name, Pos};
 /// ```
 ///
 /// `pos` is the place of its first token, and `consts` how many `const` stand behind the base.
-#[derive(Debug, Drop)]
 #[cycle(tree)]
 pub struct Spec {
     pub pos: Pos,
     pub base: Base,
     pub consts: u32,
+}
+
+impl Drop for Spec {
+    #[cycle(tree)]
+    fn drop(self) {
+        let Spec {
+            pos: _,
+            base: _,
+            consts: _,
+        } = self;
+    }
 }
 
 /// What a type begins with (C11 6.7.2, 6.7.2.1 and 6.7.8):
@@ -23,7 +33,6 @@ pub struct Spec {
 /// ```
 ///
 /// A `baseword` is one of `int long short char unsigned signed float double void _Bool`.
-#[derive(Debug, Drop)]
 #[cycle(tree)]
 pub enum Base {
     /// `baseword+`.
@@ -38,12 +47,26 @@ pub enum Base {
     },
 }
 
+impl Drop for Base {
+    #[cycle(tree)]
+    fn drop(self) {
+        match self {
+            Base::Words(_)
+            | Base::Alias(_)
+            | Base::Tagged {
+                of: _,
+                tag: _,
+                fields: _,
+            } => {}
+        }
+    }
+}
+
 /// A line between the braces of a struct or a union (C11 6.7.2.1):
 ///
 /// ```text
 /// fields = "{" (quals type declr ("," declr)* ";" | ";")* "}"
 /// ```
-#[derive(Debug, Drop)]
 #[cycle(tree)]
 pub enum Field {
     /// `";"`.
@@ -56,6 +79,20 @@ pub enum Field {
     },
 }
 
+impl Drop for Field {
+    #[cycle(tree)]
+    fn drop(self) {
+        match self {
+            Field::Empty
+            | Field::Members {
+                quals: _,
+                spec: _,
+                declrs: _,
+            } => {}
+        }
+    }
+}
+
 /// The name of a type, in a cast for example (C11 6.7.7):
 ///
 /// ```text
@@ -64,9 +101,15 @@ pub enum Field {
 /// ```
 ///
 /// `stars` has a number for each `*`, that of the `const` behind it.
-#[derive(Debug, Drop)]
 #[cycle(tree)]
 pub struct TypeName {
     pub spec: Spec,
     pub stars: Vec<u32>,
+}
+
+impl Drop for TypeName {
+    #[cycle(tree)]
+    fn drop(self) {
+        let TypeName { spec: _, stars: _ } = self;
+    }
 }

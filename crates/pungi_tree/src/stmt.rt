@@ -14,15 +14,20 @@ use pungi_base::{Name, Pos};
 /// ```
 ///
 /// An `else` belongs to the nearest `if` (C11 6.8.4.1).
-#[derive(Debug, Drop)]
 #[cycle(statements)]
 pub struct Stmt {
     pub pos: Pos,
     pub node: StmtNode,
 }
 
+impl Drop for Stmt {
+    #[cycle(statements)]
+    fn drop(self) {
+        let Stmt { pos: _, node: _ } = self;
+    }
+}
+
 /// What a statement is made of.
-#[derive(Debug, Drop)]
 #[cycle(statements)]
 pub enum StmtNode {
     /// `"{" (decl | stmt)* "}"`, with the place of its closing brace.
@@ -57,11 +62,41 @@ pub enum StmtNode {
     Return(Option<Expr>),
 }
 
+impl Drop for StmtNode {
+    #[cycle(statements)]
+    fn drop(self) {
+        match self {
+            StmtNode::Block(_, _)
+            | StmtNode::Declare(_)
+            | StmtNode::Do(_)
+            | StmtNode::If(_, _, _)
+            | StmtNode::While(_, _)
+            | StmtNode::DoWhile(_, _)
+            | StmtNode::For(_, _, _, _)
+            | StmtNode::Switch(_, _)
+            | StmtNode::Case(_, _)
+            | StmtNode::Default(_)
+            | StmtNode::Label(_, _)
+            | StmtNode::Goto(_, _)
+            | StmtNode::Break
+            | StmtNode::Continue
+            | StmtNode::Return(_) => {}
+        }
+    }
+}
+
 /// What a `for` begins with (C11 6.8.5.3): `decl | expr? ";"`.
-#[derive(Debug, Drop)]
 pub enum ForStart {
     /// `decl`.
     Decl(Decl),
     /// `expr? ";"`.
     Expr(Option<Expr>),
+}
+
+impl Drop for ForStart {
+    fn drop(self) {
+        match self {
+            ForStart::Decl(_) | ForStart::Expr(_) => {}
+        }
+    }
 }

@@ -5,7 +5,12 @@ use crate::Item;
 /// ```text
 /// unit = item*
 /// ```
-#[derive(Debug, Drop)]
 pub struct Unit {
     pub items: Vec<Item>,
+}
+
+impl Drop for Unit {
+    fn drop(self) {
+        let Unit { items: _ } = self;
+    }
 }
