@@ -1,6 +1,5 @@
 -- What of a statement stands in front of the first statement in it, and how the statement goes on from there.
 --   Head, Begun       a statement in front of its one body; a whole statement, a block, an `if`, or a statement with one body, each as far as it is read
---   boxed_view        the expression in a box, where there is one
 --   head_view, begun_view    those that the parser's stand for
 --   branch_front, while_front, for_front, switch_front, case_front, default_front    what stands behind the keyword
 --   label_or_whole    a statement with a label in front, as far as it is read, or a whole one that holds no other one
@@ -9,8 +8,7 @@
 --   finish_at         what stands behind the body
 --   branch_rest       what stands behind the condition of an `if`
 --   go_on             the rest of a statement
-use Rattle.std.specs.Global.{Box}
-use Rattle.std.specs.Prelude.{List, Option, Some, None}
+use Rattle.std.specs.Prelude.{List, Option, Some}
 use Rattle.pungi_base.specs.declared.key.Key.TheVariants as keys
 use Rattle.pungi_base.specs.declared.names.Name.{Name}
 use Rattle.pungi_base.specs.declared.pos.Pos.{Pos}
@@ -23,10 +21,9 @@ use Rattle.pungi_parse.specs.declared.begun.Begun.{Begun as TheBegun}
 use Rattle.pungi_parse.specs.declared.begun.Begun.TheVariants as begun
 use Rattle.pungi_parse.specs.declared.begun.StmtHead.{StmtHead}
 use Rattle.pungi_parse.specs.declared.begun.StmtHead.TheVariants as heads
-use Rattle.pungi_tree.specs.ExprView.{expr_view}
+use Rattle.pungi_tree.specs.ExprView.{expr_view, optional_view}
 use Rattle.pungi_tree.specs.Placed.{Placed}
 use Rattle.pungi_tree.specs.StmtView.{for_start_view, stmt_view}
-use Rattle.pungi_tree.specs.declared.expr.Expr.{Expr as TheExpr}
 use Rattle.pungi_tree.specs.Syntax.{Expr, ForStart, Stmt, if_only, if_else, while, do_while, for, switch, case, default, label}
 
 pub data Head : Type 0 where
@@ -44,14 +41,9 @@ pub data Begun : Type 0 where
   branched : Pos → Expr → Begun
   headed : Pos → Head → Begun
 
-abbrev pub boxed_view : Option (Box TheExpr) → Option Expr
-boxed_view None = None
-boxed_view (Some e) = Some (expr_view e.value)
-
 abbrev pub head_view : StmtHead → Head
 head_view (heads.While e) = while_head (expr_view e.value)
-head_view heads.Do = do_head
-head_view (heads.For h) = for_head (for_start_view h.value.start) (boxed_view h.value.test) (boxed_view h.value.step)
+head_view (heads.For h) = for_head (for_start_view h.value.start) (optional_view h.value.test) (optional_view h.value.step)
 head_view (heads.Switch e) = switch_head (expr_view e.value)
 head_view (heads.Case e) = case_head (expr_view e.value)
 head_view heads.Default = default_head
@@ -61,6 +53,7 @@ abbrev pub begun_view : TheBegun → Begun
 begun_view (begun.Whole s) = whole (stmt_view s.value)
 begun_view (begun.Block p) = braced p
 begun_view (begun.If p e) = branched p (expr_view e.value)
+begun_view (begun.Do p) = headed p do_head
 begun_view (begun.Before p h) = headed p (head_view h)
 
 module _ (types : List Name) (low : Lower) where

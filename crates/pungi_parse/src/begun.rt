@@ -5,15 +5,14 @@ use pungi_tree::{Expr, ForStart, Stmt};
 #[derive(Drop)]
 pub(crate) struct ForHead {
     pub(crate) start: ForStart,
-    pub(crate) test: Option<Box<Expr>>,
-    pub(crate) step: Option<Box<Expr>>,
+    pub(crate) test: Option<Expr>,
+    pub(crate) step: Option<Expr>,
 }
 
 /// What stands in front of the one statement that is the body of another one.
 #[derive(Drop)]
 pub(crate) enum StmtHead {
     While(Box<Expr>),
-    Do,
     For(Box<ForHead>),
     Switch(Box<Expr>),
     Case(Box<Expr>),
@@ -28,5 +27,6 @@ pub(crate) enum Begun {
     Whole(Box<Stmt>),
     Block(Pos),
     If(Pos, Box<Expr>),
+    Do(Pos),
     Before(Pos, StmtHead),
 }

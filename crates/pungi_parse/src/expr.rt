@@ -8,12 +8,12 @@ ghost use Rattle.pungi_tree.specs.Placed.{placed};
 
 use crate::begins::cast_front;
 use crate::eat::{eat, eat_assign, eat_operator};
-use crate::nodes;
+use crate::nodes::boxed;
 use crate::operators::{binary_level, level as level_of};
 use crate::parser::{Parser, Read};
 use crate::stop::Stop;
 use pungi_base::{Punct, Token};
-use pungi_tree::Expr;
+use pungi_tree::{Expr, ExprNode};
 
 impl Parser<'_> {
     /// The expression of a level at the front (C11 6.5).
@@ -82,7 +82,8 @@ impl Parser<'_> {
                 return Err(Stop::NothingRead);
             }
             let (right, right_depth, behind) = self.expr(1, after)?;
-            left = nodes::comma(self.alloc, pos, left, right)?;
+            let node = ExprNode::Comma(left, right);
+            left = boxed(self.alloc, Expr { pos, node })?;
             left_depth = left_depth.max(right_depth) + 1;
             rest = behind;
         }
@@ -109,7 +110,8 @@ impl Parser<'_> {
             return Err(Stop::NothingRead);
         }
         let (right, right_depth, behind) = self.expr(1, after)?;
-        let tree = nodes::assign(self.alloc, pos, operator, left, right)?;
+        let node = ExprNode::Assign(operator, left, right);
+        let tree = boxed(self.alloc, Expr { pos, node })?;
         Ok((tree, depth.max(right_depth) + 1, behind))
     }
 
@@ -137,7 +139,8 @@ impl Parser<'_> {
             return Err(Stop::NothingRead);
         };
         let (no, no_depth, behind) = self.expr(2, after)?;
-        let tree = nodes::conditional(self.alloc, pos, test, yes, no)?;
+        let node = ExprNode::Cond(test, yes, no);
+        let tree = boxed(self.alloc, Expr { pos, node })?;
         Ok((tree, depth.max(yes_depth.max(no_depth)) + 1, behind))
     }
 
@@ -159,7 +162,8 @@ impl Parser<'_> {
                 return Err(Stop::NothingRead);
             }
             let (right, right_depth, behind) = self.expr(binary_level(operator) + 1, after)?;
-            left = nodes::binary(self.alloc, pos, operator, left, right)?;
+            let node = ExprNode::Binary(operator, left, right);
+            left = boxed(self.alloc, Expr { pos, node })?;
             left_depth = left_depth.max(right_depth) + 1;
             rest = behind;
         }
@@ -186,7 +190,8 @@ impl Parser<'_> {
             return Err(Stop::NothingRead);
         };
         let (operand, depth, behind) = self.expr(13, after)?;
-        let tree = nodes::cast(self.alloc, pos, name, operand)?;
+        let node = ExprNode::Cast(name, operand);
+        let tree = boxed(self.alloc, Expr { pos, node })?;
         Ok((tree, name_depth.max(depth) + 1, behind))
     }
 }

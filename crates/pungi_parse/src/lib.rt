@@ -13,6 +13,7 @@ mod expr;
 mod fault;
 mod item;
 mod nodes;
+mod numbers;
 mod operators;
 mod params;
 mod parser;

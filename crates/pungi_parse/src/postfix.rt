@@ -9,12 +9,12 @@ ghost use Rattle.pungi_tree.specs.Placed.{placed};
 
 use crate::begins::{goes_on, new_front, plain_word, sizeof_front};
 use crate::eat::{eat, eat_key, eat_prefix, first_place};
-use crate::nodes;
+use crate::nodes::{boxed, push};
 use crate::operators::prefix_need;
 use crate::parser::{Parser, Read};
 use crate::stop::Stop;
 use pungi_base::{Key, Kind, Pos, Punct, Token};
-use pungi_tree::Expr;
+use pungi_tree::{Expr, ExprNode};
 
 impl Parser<'_> {
     /// The unary expression at the front (C11 6.5.3).
@@ -31,7 +31,8 @@ impl Parser<'_> {
     {
         if let Some((operator, pos, after)) = eat_prefix(tokens) {
             let (operand, depth, rest) = self.expr(prefix_need(operator), after)?;
-            let tree = nodes::unary(self.alloc, pos, Kind::Punct(operator), operand)?;
+            let node = ExprNode::Unary(Kind::Punct(operator), operand);
+            let tree = boxed(self.alloc, Expr { pos, node })?;
             return Ok((tree, depth + 1, rest));
         }
         if let Some((pos, after)) = eat_key(Key::Sizeof, tokens) {
@@ -54,14 +55,16 @@ impl Parser<'_> {
     {
         let Some(inner) = sizeof_front(self.types, tokens) else {
             let (operand, depth, rest) = self.expr(14, tokens)?;
-            let tree = nodes::unary(self.alloc, pos, Kind::Key(Key::Sizeof), operand)?;
+            let node = ExprNode::Unary(Kind::Key(Key::Sizeof), operand);
+            let tree = boxed(self.alloc, Expr { pos, node })?;
             return Ok((tree, depth + 1, rest));
         };
         let (name, depth, rest) = self.type_name(inner)?;
         let Some((_, rest)) = eat(Punct::RightParen, rest) else {
             return Err(Stop::NothingRead);
         };
-        Ok((nodes::size_of_type(self.alloc, pos, name)?, depth + 1, rest))
+        let node = ExprNode::SizeOfType(name);
+        Ok((boxed(self.alloc, Expr { pos, node })?, depth + 1, rest))
     }
 
     /// A postfix expression (C11 6.5.2).
@@ -121,7 +124,10 @@ impl Parser<'_> {
         if let Some((pos, inner)) = eat(Punct::LeftBracket, tokens) {
             return self.index(tree, depth, pos, inner);
         }
-        self.member_or_step(tree, depth, tokens)
+        let Some((longer, rest)) = self.member_or_step(tree, tokens) else {
+            return Err(Stop::NothingRead);
+        };
+        Ok((boxed(self.alloc, longer)?, depth + 1, rest))
     }
 
     /// A call, behind its parenthesis (C11 6.5.2.2).
@@ -146,7 +152,11 @@ impl Parser<'_> {
         ensures shorter { IfOk result (λ x. length x.2.now < length tokens.now) }
     {
         let (args, args_depth, rest) = self.args(tokens)?;
-        let tree = nodes::call(self.alloc, start, callee, args)?;
+        let call = Expr {
+            pos: start,
+            node: ExprNode::Call(callee, args),
+        };
+        let tree = boxed(self.alloc, call)?;
         Ok((tree, depth.max(args_depth) + 1, rest))
     }
 
@@ -175,7 +185,8 @@ impl Parser<'_> {
         let Some((_, rest)) = eat(Punct::RightBracket, rest) else {
             return Err(Stop::NothingRead);
         };
-        let tree = nodes::index(self.alloc, pos, array, index)?;
+        let node = ExprNode::Index(array, index);
+        let tree = boxed(self.alloc, Expr { pos, node })?;
         Ok((tree, depth.max(index_depth) + 1, rest))
     }
 
@@ -195,12 +206,12 @@ impl Parser<'_> {
             return Ok((list, 0, rest));
         }
         let (first, depth, after) = self.expr(1, tokens)?;
-        nodes::push(&mut list, first)?;
+        push(&mut list, first)?;
         let mut deepest = depth;
         let mut rest = after;
         while let Some((_, inner)) = eat(Punct::Comma, rest) {
             let (arg, depth, behind) = self.expr(1, inner)?;
-            nodes::push(&mut list, arg)?;
+            push(&mut list, arg)?;
             deepest = deepest.max(depth);
             rest = behind;
         }
@@ -229,7 +240,8 @@ impl Parser<'_> {
             return self.new_object(pos, inner);
         }
         if let Some((name, pos, rest)) = plain_word(self.types, tokens) {
-            return Ok((nodes::word(self.alloc, pos, name)?, 1, rest));
+            let node = ExprNode::Word(name);
+            return Ok((boxed(self.alloc, Expr { pos, node })?, 1, rest));
         }
         if let Some((pos, inner)) = eat(Punct::LeftParen, tokens) {
             return self.paren(pos, inner);
@@ -253,7 +265,8 @@ impl Parser<'_> {
         let Some((_, rest)) = eat(Punct::RightParen, rest) else {
             return Err(Stop::NothingRead);
         };
-        let tree = nodes::paren(self.alloc, pos, inner)?;
+        let node = ExprNode::Paren(inner);
+        let tree = boxed(self.alloc, Expr { pos, node })?;
         Ok((tree, depth + 1, rest))
     }
 
@@ -277,7 +290,8 @@ impl Parser<'_> {
         let Some((_, rest)) = eat(Punct::RightParen, rest) else {
             return Err(Stop::NothingRead);
         };
-        let tree = nodes::new_object(self.alloc, pos, name, e)?;
+        let node = ExprNode::New(name, e);
+        let tree = boxed(self.alloc, Expr { pos, node })?;
         Ok((tree, name_depth.max(depth) + 1, rest))
     }
 }

@@ -1,4 +1,4 @@
-ghost use Rattle.std.specs.Prelude.{◌≡◌, ◌≤◌, ◌<◌, ◌-◌, ◌^◌, suc, false, length, map, option_map, IfOk, IfSome};
+ghost use Rattle.std.specs.Prelude.{◌≡◌, ◌≤◌, ◌<◌, suc, false, length, map, option_map, IfOk, IfSome};
 ghost use Rattle.pungi_parse.specs.Eat.{eat_literal as eat_literal_of};
 ghost use Rattle.pungi_parse.specs.ExprReader.{text_at};
 ghost use Rattle.pungi_parse.specs.Gives.{Gives};
@@ -11,11 +11,12 @@ ghost use Rattle.pungi_tree.specs.Placed.{placed};
 
 use crate::begins::plain_word;
 use crate::eat::{eat, eat_literal, eat_step, first_place};
+use crate::nodes::boxed;
 use crate::parser::{Parser, Read};
 use crate::stop::Stop;
-use crate::{nodes, type_nodes, words};
+use crate::{type_nodes, words};
 use pungi_base::{Memory, Pos, Punct, Token};
-use pungi_tree::{Expr, ParamDecl, Params};
+use pungi_tree::{Expr, ExprNode, ParamDecl, Params};
 
 /// Parameters of this depth, with the closing parenthesis at the front.
 #[tactic(auto, unfolding(crate::specs::Turns::close_params, crate::specs::Reading::chain))]
@@ -50,7 +51,7 @@ impl Parser<'_> {
         let Some((tree, rest)) = eat_literal(tokens) else {
             return Ok(None);
         };
-        Ok(Some((Box::new(self.alloc, tree)?, rest)))
+        Ok(Some((boxed(self.alloc, tree)?, rest)))
     }
 
     /// A string literal, in one or more texts, at the front.
@@ -69,46 +70,34 @@ impl Parser<'_> {
         if names.is_empty() {
             return Err(Stop::NothingRead);
         }
-        Ok((nodes::text(self.alloc, pos, names)?, 1, rest))
+        let node = ExprNode::Text(names);
+        Ok((boxed(self.alloc, Expr { pos, node })?, 1, rest))
     }
 
-    /// A member of an expression, or a step, of an expression of this depth, by what stands behind it.
+    /// A member of an expression, or a step, by what stands behind it.
     #[tactic(auto, unfolding(crate::specs::Turns::member_or_step, crate::specs::Reading::chain, crate::specs::Reading::on_some))]
     pub(crate) fn member_or_step<'t>(
         &self,
         tree: Box<Expr>,
-        depth: u32,
         tokens: &'t [Token],
-    ) -> Read<'t, Box<Expr>>
-        requires most { self.now.most < 2 ^ 32 - 1 }
-        requires deep { depth ≡ expr_depth (expr_view tree.value) }
-        requires bound { depth ≤ self.now.most }
-        ensures tree { Gives (λ x. (expr_view x.0.value, placed x.2.now)) result
-            (joined (member_or_step_of self.now.types.now (expr_view tree.value) (placed tokens.now))) }
-        ensures deep { IfOk result (λ x. x.1 ≡ expr_depth (expr_view x.0.value)) }
-        ensures bound { IfOk result (λ x. x.1 ≤ suc self.now.most) }
-        ensures deeper { IfOk result (λ x. depth < x.1) }
-        ensures shorter { IfOk result (λ x. length x.2.now < length tokens.now) }
+    ) -> Option<(Expr, &'t [Token])>
+        ensures tree { option_map (λ x. (expr_view x.0, placed x.1.now)) result
+            ≡ joined (member_or_step_of self.now.types.now (expr_view tree.value) (placed tokens.now)) }
+        ensures deep { IfSome result (λ x. expr_depth (expr_view x.0) ≡ suc (expr_depth (expr_view tree.value))) }
+        ensures shorter { IfSome result (λ x. length x.1.now < length tokens.now) }
     {
         if let Some((pos, after)) = eat(Punct::Dot, tokens) {
-            let Some((name, _, rest)) = plain_word(self.types, after) else {
-                return Err(Stop::NothingRead);
-            };
-            return Ok((nodes::dot(self.alloc, pos, tree, name)?, depth + 1, rest));
+            let (name, _, rest) = plain_word(self.types, after)?;
+            let node = ExprNode::Dot(tree, name);
+            return Some((Expr { pos, node }, rest));
         }
         if let Some((pos, after)) = eat(Punct::Arrow, tokens) {
-            let Some((name, _, rest)) = plain_word(self.types, after) else {
-                return Err(Stop::NothingRead);
-            };
-            return Ok((nodes::arrow(self.alloc, pos, tree, name)?, depth + 1, rest));
+            let (name, _, rest) = plain_word(self.types, after)?;
+            let node = ExprNode::Arrow(tree, name);
+            return Some((Expr { pos, node }, rest));
         }
-        let Some((operator, pos, rest)) = eat_step(tokens) else {
-            return Err(Stop::NothingRead);
-        };
-        Ok((
-            nodes::post(self.alloc, pos, operator, tree)?,
-            depth + 1,
-            rest,
-        ))
+        let (operator, pos, rest) = eat_step(tokens)?;
+        let node = ExprNode::Post(operator, tree);
+        Some((Expr { pos, node }, rest))
     }
 }

@@ -2,8 +2,7 @@ ghost use Rattle.std.specs.Prelude.{◌≡◌, ◌≤◌, ◌<◌, length, optio
 ghost use Rattle.pungi_parse.specs.Gives.{Gives};
 ghost use Rattle.pungi_parse.specs.Readers.{readers};
 ghost use Rattle.pungi_parse.specs.StmtReader.{optional as optional_of, condition as condition_of, declare_at, start_at, expression_at, label_front as label_front_of, goto_at, return_at, jump_or_expression as jump_or_expression_of, read_stmt, read_element};
-ghost use Rattle.pungi_parse.specs.Begun.{boxed_view};
-ghost use Rattle.pungi_tree.specs.ExprView.{expr_view};
+ghost use Rattle.pungi_tree.specs.ExprView.{expr_view, optional_view};
 ghost use Rattle.pungi_tree.specs.Placed.{placed};
 ghost use Rattle.pungi_tree.specs.StmtView.{for_start_view, stmt_view};
 
@@ -11,10 +10,10 @@ use crate::begins::{begins_decl, plain_word};
 use crate::decl::Front;
 use crate::eat::{eat, eat_key, first_place};
 use crate::parser::Parser;
-use crate::stmt_nodes;
+use crate::stmt_nodes::boxed;
 use crate::stop::Stop;
 use pungi_base::{Key, Name, Pos, Punct, Token};
-use pungi_tree::{Expr, ForStart, Stmt};
+use pungi_tree::{Expr, ForStart, Stmt, StmtNode};
 
 impl Parser<'_> {
     /// An expression, where one stands there, and the punctuator behind it.
@@ -23,8 +22,8 @@ impl Parser<'_> {
         &self,
         mark: Punct,
         tokens: &'t [Token],
-    ) -> Front<'t, Option<Box<Expr>>>
-        ensures tree { Gives (λ x. (boxed_view x.0, placed x.1.now)) result
+    ) -> Front<'t, Option<Expr>>
+        ensures tree { Gives (λ x. (optional_view x.0, placed x.1.now)) result
             (optional_of self.now.types.now (readers self.now.types.now self.now.nest self.now.most) mark (placed tokens.now)) }
         ensures shorter { IfOk result (λ x. length x.1.now < length tokens.now) }
     {
@@ -35,7 +34,7 @@ impl Parser<'_> {
         let Some((_, rest)) = eat(mark, after) else {
             return Err(Stop::NothingRead);
         };
-        Ok((Some(e), rest))
+        Ok((Some(Box::into_inner(e)), rest))
     }
 
     /// An expression in parentheses.
@@ -66,7 +65,8 @@ impl Parser<'_> {
             return Err(Stop::NothingRead);
         };
         let (decl, rest) = self.decl(tokens)?;
-        Ok((stmt_nodes::declare(self.alloc, pos, decl)?, rest))
+        let node = StmtNode::Declare(decl);
+        Ok((boxed(self.alloc, Stmt { pos, node })?, rest))
     }
 
     /// What a `for` begins with.
@@ -81,7 +81,7 @@ impl Parser<'_> {
             return Ok((ForStart::Decl(decl), rest));
         }
         let (e, rest) = self.optional(Punct::Semicolon, tokens)?;
-        Ok((ForStart::Expr(stmt_nodes::opened(e)), rest))
+        Ok((ForStart::Expr(e), rest))
     }
 
     /// An expression with its semicolon, or the semicolon alone.
@@ -95,7 +95,8 @@ impl Parser<'_> {
             return Err(Stop::NothingRead);
         };
         let (e, rest) = self.optional(Punct::Semicolon, tokens)?;
-        Ok((stmt_nodes::expression(self.alloc, pos, e)?, rest))
+        let node = StmtNode::Do(e);
+        Ok((boxed(self.alloc, Stmt { pos, node })?, rest))
     }
 
     /// The word of a label with its colon: its name, its place, and the tokens after the colon.
@@ -123,7 +124,8 @@ impl Parser<'_> {
         let Some((_, rest)) = eat(Punct::Semicolon, after) else {
             return Err(Stop::NothingRead);
         };
-        Ok((stmt_nodes::goto(self.alloc, pos, name, at)?, rest))
+        let node = StmtNode::Goto(name, at);
+        Ok((boxed(self.alloc, Stmt { pos, node })?, rest))
     }
 
     /// What stands behind `return`.
@@ -134,7 +136,8 @@ impl Parser<'_> {
         ensures shorter { IfOk result (λ x. length x.1.now < length tokens.now) }
     {
         let (e, rest) = self.optional(Punct::Semicolon, tokens)?;
-        Ok((stmt_nodes::give_back(self.alloc, pos, e)?, rest))
+        let node = StmtNode::Return(e);
+        Ok((boxed(self.alloc, Stmt { pos, node })?, rest))
     }
 
     /// A statement that holds no other one, and is no block.
@@ -151,13 +154,15 @@ impl Parser<'_> {
             let Some((_, rest)) = eat(Punct::Semicolon, after) else {
                 return Err(Stop::NothingRead);
             };
-            return Ok((stmt_nodes::break_out(self.alloc, pos)?, rest));
+            let node = StmtNode::Break;
+            return Ok((boxed(self.alloc, Stmt { pos, node })?, rest));
         }
         if let Some((pos, after)) = eat_key(Key::Continue, tokens) {
             let Some((_, rest)) = eat(Punct::Semicolon, after) else {
                 return Err(Stop::NothingRead);
             };
-            return Ok((stmt_nodes::go_on(self.alloc, pos)?, rest));
+            let node = StmtNode::Continue;
+            return Ok((boxed(self.alloc, Stmt { pos, node })?, rest));
         }
         if let Some((pos, after)) = eat_key(Key::Return, tokens) {
             return self.give_back(pos, after);

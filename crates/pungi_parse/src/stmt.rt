@@ -12,10 +12,10 @@ use crate::begun::Begun;
 use crate::decl::Front;
 use crate::eat::{eat, eat_key};
 use crate::parser::Parser;
-use crate::stmt_nodes;
+use crate::stmt_nodes::{boxed, headed, push};
 use crate::stop::Stop;
 use pungi_base::{Key, Pos, Punct, Token};
-use pungi_tree::{Expr, Stmt};
+use pungi_tree::{Expr, Stmt, StmtNode};
 
 impl Parser<'_> {
     /// A statement that is no declaration.
@@ -50,9 +50,13 @@ impl Parser<'_> {
             Begun::Whole(stmt) => Ok((stmt, tokens)),
             Begun::Block(pos) => self.block(pos, tokens),
             Begun::If(pos, test) => self.branch(pos, test, tokens),
+            Begun::Do(pos) => {
+                let (body, rest) = self.stmt(tokens)?;
+                self.do_end(pos, body, rest)
+            }
             Begun::Before(pos, head) => {
                 let (body, rest) = self.stmt(tokens)?;
-                self.finish(pos, head, body, rest)
+                Ok((boxed(self.alloc, headed(pos, head, body))?, rest))
             }
         }
     }
@@ -67,10 +71,14 @@ impl Parser<'_> {
     {
         let (yes, rest) = self.stmt(tokens)?;
         match eat_key(Key::Else, rest) {
-            None => Ok((stmt_nodes::if_only(self.alloc, pos, test, yes)?, rest)),
+            None => {
+                let node = StmtNode::If(Box::into_inner(test), yes, None);
+                Ok((boxed(self.alloc, Stmt { pos, node })?, rest))
+            }
             Some((_, other)) => {
                 let (no, behind) = self.stmt(other)?;
-                Ok((stmt_nodes::if_else(self.alloc, pos, test, yes, no)?, behind))
+                let node = StmtNode::If(Box::into_inner(test), yes, Some(no));
+                Ok((boxed(self.alloc, Stmt { pos, node })?, behind))
             }
         }
     }
@@ -86,10 +94,11 @@ impl Parser<'_> {
         let mut rest = tokens;
         'each: loop {
             if let Some((close, behind)) = eat(Punct::RightBrace, rest) {
-                return Ok((stmt_nodes::block(self.alloc, pos, list, close)?, behind));
+                let node = StmtNode::Block(list, close);
+                return Ok((boxed(self.alloc, Stmt { pos, node })?, behind));
             }
             let (more, behind) = self.element(rest)?;
-            stmt_nodes::push(&mut list, more)?;
+            push(&mut list, more)?;
             rest = behind;
         }
     }

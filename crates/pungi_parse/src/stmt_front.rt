@@ -1,5 +1,5 @@
 ghost use Rattle.std.specs.Prelude.{◌≡◌, ◌≤◌, ◌<◌, length, IfOk};
-ghost use Rattle.pungi_parse.specs.Begun.{head_view, begun_view, branch_front as branch_front_of, while_front as while_front_of, for_front as for_front_of, switch_front as switch_front_of, case_front as case_front_of, default_front as default_front_of, whole_at, label_or_whole as label_or_whole_of, begin_at, do_end as do_end_of, finish_at};
+ghost use Rattle.pungi_parse.specs.Begun.{begun_view, branch_front as branch_front_of, while_front as while_front_of, for_front as for_front_of, switch_front as switch_front_of, case_front as case_front_of, default_front as default_front_of, whole_at, label_or_whole as label_or_whole_of, begin_at, do_end as do_end_of};
 ghost use Rattle.pungi_parse.specs.Gives.{Gives};
 ghost use Rattle.pungi_parse.specs.Readers.{readers};
 ghost use Rattle.pungi_parse.specs.StmtReader.{read_stmt, read_element};
@@ -10,10 +10,10 @@ use crate::begun::{Begun, ForHead, StmtHead};
 use crate::decl::Front;
 use crate::eat::{eat, eat_key};
 use crate::parser::Parser;
-use crate::stmt_nodes;
+use crate::stmt_nodes::boxed;
 use crate::stop::Stop;
 use pungi_base::{Key, Pos, Punct, Token};
-use pungi_tree::Stmt;
+use pungi_tree::{Stmt, StmtNode};
 
 impl Parser<'_> {
     /// What stands behind `if`, up to its first branch.
@@ -140,7 +140,7 @@ impl Parser<'_> {
             return self.while_front(pos, rest);
         }
         if let Some((pos, rest)) = eat_key(Key::Do, tokens) {
-            return Ok((Begun::Before(pos, StmtHead::Do), rest));
+            return Ok((Begun::Do(pos), rest));
         }
         if let Some((pos, rest)) = eat_key(Key::For, tokens) {
             return self.for_front(pos, rest);
@@ -153,7 +153,7 @@ impl Parser<'_> {
 
     /// What stands behind the body of a `do`.
     #[tactic(auto, unfolding(crate::specs::Begun::do_end, crate::specs::Reading::chain))]
-    fn do_end<'t>(&self, pos: Pos, body: Box<Stmt>, tokens: &'t [Token]) -> Front<'t, Box<Stmt>>
+    pub(crate) fn do_end<'t>(&self, pos: Pos, body: Box<Stmt>, tokens: &'t [Token]) -> Front<'t, Box<Stmt>>
         ensures tree { Gives (λ x. (stmt_view x.0.value, placed x.1.now)) result
             (do_end_of self.now.types.now (readers self.now.types.now self.now.nest self.now.most) pos (stmt_view body.value) (placed tokens.now)) }
         ensures shorter { IfOk result (λ x. length x.1.now < length tokens.now) }
@@ -165,34 +165,7 @@ impl Parser<'_> {
         let Some((_, rest)) = eat(Punct::Semicolon, behind) else {
             return Err(Stop::NothingRead);
         };
-        Ok((stmt_nodes::do_while(self.alloc, pos, body, test)?, rest))
-    }
-
-    /// A statement with one body, by what stands in front of the body and behind it.
-    pub(crate) fn finish<'t>(
-        &self,
-        pos: Pos,
-        head: StmtHead,
-        body: Box<Stmt>,
-        tokens: &'t [Token],
-    ) -> Front<'t, Box<Stmt>>
-        ensures tree { Gives (λ x. (stmt_view x.0.value, placed x.1.now)) result
-            (finish_at self.now.types.now (readers self.now.types.now self.now.nest self.now.most) pos (head_view head) (stmt_view body.value) (placed tokens.now)) }
-        ensures shorter { IfOk result (λ x. length x.1.now ≤ length tokens.now) }
-    {
-        let alloc = self.alloc;
-        let stmt = match head {
-            StmtHead::Do => return self.do_end(pos, body, tokens),
-            StmtHead::While(test) => stmt_nodes::while_loop(alloc, pos, test, body)?,
-            StmtHead::For(head) => {
-                let ForHead { start, test, step } = Box::into_inner(head);
-                stmt_nodes::for_loop(alloc, pos, start, test, step, body)?
-            }
-            StmtHead::Switch(value) => stmt_nodes::switch(alloc, pos, value, body)?,
-            StmtHead::Case(value) => stmt_nodes::case(alloc, pos, value, body)?,
-            StmtHead::Default => stmt_nodes::default(alloc, pos, body)?,
-            StmtHead::Label(name) => stmt_nodes::label(alloc, pos, name, body)?,
-        };
-        Ok((stmt, tokens))
+        let node = StmtNode::DoWhile(body, Box::into_inner(test));
+        Ok((boxed(self.alloc, Stmt { pos, node })?, rest))
     }
 }

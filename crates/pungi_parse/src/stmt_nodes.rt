@@ -1,182 +1,38 @@
-//! Statements from their parts.
-ghost use Rattle.std.specs.Prelude.{◌≡◌, ◌++◌, ◌∷◌, [], IfOk, OnOk, map};
-ghost use Rattle.pungi_parse.specs.Begun.{boxed_view};
-ghost use Rattle.pungi_tree.specs.ExprView.{expr_view, optional_view};
-ghost use Rattle.pungi_tree.specs.StmtView.{decl_view, for_start_view, stmt_view, stmts_of};
-ghost use Rattle.pungi_tree.specs.Syntax as plain;
+ghost use Rattle.std.specs.Prelude.{◌≡◌, ◌++◌, ◌∷◌, [], List, Some, IfOk, OnOk};
+ghost use Rattle.pungi_parse.specs.Begun.{head_view, finish_at};
+ghost use Rattle.pungi_parse.specs.TypeReader.{Lower};
+ghost use Rattle.pungi_base.specs.declared.names.Name.{Name as TheName};
+ghost use Rattle.pungi_tree.specs.Placed.{Placed};
+ghost use Rattle.pungi_tree.specs.StmtView.{stmt_view};
 
-use pungi_base::{Memory, Name, Pos};
-use pungi_tree::{Decl, Expr, ForStart, Stmt, StmtNode};
+use crate::begun::{ForHead, StmtHead};
+use pungi_base::{Memory, Pos};
+use pungi_tree::{Stmt, StmtNode};
 use std::alloc::Global;
 
-/// What a box holds, where there is one.
-pub(crate) fn opened(e: Option<Box<Expr>>) -> Option<Expr>
-    ensures { optional_view result ≡ boxed_view e }
+/// A statement in a box.
+pub(crate) fn boxed(alloc: Global, stmt: Stmt) -> Result<Box<Stmt>, Memory>
+    ensures { IfOk result (λ x. stmt_view x.value ≡ stmt_view stmt) }
 {
-    match e {
-        Some(e) => Some(Box::into_inner(e)),
-        None => None,
-    }
+    Ok(Box::new(alloc, stmt)?)
 }
 
-pub(crate) fn block(
-    alloc: Global,
-    pos: Pos,
-    list: Vec<Stmt>,
-    close: Pos,
-) -> Result<Box<Stmt>, Memory>
-    ensures { IfOk result (λ x. stmt_view x.value ≡ plain.block pos (stmts_of (map stmt_view list.items)) close) }
+/// A statement with one body, by what stands in front of the body.
+pub(crate) fn headed(pos: Pos, head: StmtHead, body: Box<Stmt>) -> Stmt
+    ensures { (types : List TheName) → (low : Lower) → (ts : List Placed) → finish_at types low pos (head_view head) (stmt_view body.value) ts ≡ Some (stmt_view result, ts) }
 {
-    let node = StmtNode::Block(list, close);
-    Ok(Box::new(alloc, Stmt { pos, node })?)
-}
-
-pub(crate) fn declare(alloc: Global, pos: Pos, decl: Decl) -> Result<Box<Stmt>, Memory>
-    ensures { IfOk result (λ x. stmt_view x.value ≡ plain.declare pos (decl_view decl)) }
-{
-    let node = StmtNode::Declare(decl);
-    Ok(Box::new(alloc, Stmt { pos, node })?)
-}
-
-pub(crate) fn expression(alloc: Global, pos: Pos, e: Option<Box<Expr>>) -> Result<Box<Stmt>, Memory>
-    ensures { IfOk result (λ x. stmt_view x.value ≡ plain.do_expr pos (boxed_view e)) }
-{
-    let node = StmtNode::Do(opened(e));
-    Ok(Box::new(alloc, Stmt { pos, node })?)
-}
-
-pub(crate) fn goto(alloc: Global, pos: Pos, name: Name, at: Pos) -> Result<Box<Stmt>, Memory>
-    ensures { IfOk result (λ x. stmt_view x.value ≡ plain.goto pos name at) }
-{
-    let node = StmtNode::Goto(name, at);
-    Ok(Box::new(alloc, Stmt { pos, node })?)
-}
-
-pub(crate) fn break_out(alloc: Global, pos: Pos) -> Result<Box<Stmt>, Memory>
-    ensures { IfOk result (λ x. stmt_view x.value ≡ plain.break pos) }
-{
-    let node = StmtNode::Break;
-    Ok(Box::new(alloc, Stmt { pos, node })?)
-}
-
-pub(crate) fn go_on(alloc: Global, pos: Pos) -> Result<Box<Stmt>, Memory>
-    ensures { IfOk result (λ x. stmt_view x.value ≡ plain.continue pos) }
-{
-    let node = StmtNode::Continue;
-    Ok(Box::new(alloc, Stmt { pos, node })?)
-}
-
-pub(crate) fn give_back(alloc: Global, pos: Pos, e: Option<Box<Expr>>) -> Result<Box<Stmt>, Memory>
-    ensures { IfOk result (λ x. stmt_view x.value ≡ plain.return pos (boxed_view e)) }
-{
-    let node = StmtNode::Return(opened(e));
-    Ok(Box::new(alloc, Stmt { pos, node })?)
-}
-
-pub(crate) fn if_only(
-    alloc: Global,
-    pos: Pos,
-    test: Box<Expr>,
-    yes: Box<Stmt>,
-) -> Result<Box<Stmt>, Memory>
-    ensures { IfOk result (λ x. stmt_view x.value ≡ plain.if_only pos (expr_view test.value) (stmt_view yes.value)) }
-{
-    let node = StmtNode::If(Box::into_inner(test), yes, None);
-    Ok(Box::new(alloc, Stmt { pos, node })?)
-}
-
-pub(crate) fn if_else(
-    alloc: Global,
-    pos: Pos,
-    test: Box<Expr>,
-    yes: Box<Stmt>,
-    no: Box<Stmt>,
-) -> Result<Box<Stmt>, Memory>
-    ensures { IfOk result (λ x. stmt_view x.value ≡ plain.if_else pos (expr_view test.value) (stmt_view yes.value) (stmt_view no.value)) }
-{
-    let node = StmtNode::If(Box::into_inner(test), yes, Some(no));
-    Ok(Box::new(alloc, Stmt { pos, node })?)
-}
-
-pub(crate) fn while_loop(
-    alloc: Global,
-    pos: Pos,
-    test: Box<Expr>,
-    body: Box<Stmt>,
-) -> Result<Box<Stmt>, Memory>
-    ensures { IfOk result (λ x. stmt_view x.value ≡ plain.while pos (expr_view test.value) (stmt_view body.value)) }
-{
-    let node = StmtNode::While(Box::into_inner(test), body);
-    Ok(Box::new(alloc, Stmt { pos, node })?)
-}
-
-pub(crate) fn do_while(
-    alloc: Global,
-    pos: Pos,
-    body: Box<Stmt>,
-    test: Box<Expr>,
-) -> Result<Box<Stmt>, Memory>
-    ensures { IfOk result (λ x. stmt_view x.value ≡ plain.do_while pos (stmt_view body.value) (expr_view test.value)) }
-{
-    let node = StmtNode::DoWhile(body, Box::into_inner(test));
-    Ok(Box::new(alloc, Stmt { pos, node })?)
-}
-
-pub(crate) fn for_loop(
-    alloc: Global,
-    pos: Pos,
-    start: ForStart,
-    test: Option<Box<Expr>>,
-    step: Option<Box<Expr>>,
-    body: Box<Stmt>,
-) -> Result<Box<Stmt>, Memory>
-    ensures { IfOk result (λ x. stmt_view x.value ≡ plain.for pos (for_start_view start) (boxed_view test) (boxed_view step) (stmt_view body.value)) }
-{
-    let node = StmtNode::For(start, opened(test), opened(step), body);
-    Ok(Box::new(alloc, Stmt { pos, node })?)
-}
-
-pub(crate) fn switch(
-    alloc: Global,
-    pos: Pos,
-    value: Box<Expr>,
-    body: Box<Stmt>,
-) -> Result<Box<Stmt>, Memory>
-    ensures { IfOk result (λ x. stmt_view x.value ≡ plain.switch pos (expr_view value.value) (stmt_view body.value)) }
-{
-    let node = StmtNode::Switch(Box::into_inner(value), body);
-    Ok(Box::new(alloc, Stmt { pos, node })?)
-}
-
-pub(crate) fn case(
-    alloc: Global,
-    pos: Pos,
-    value: Box<Expr>,
-    body: Box<Stmt>,
-) -> Result<Box<Stmt>, Memory>
-    ensures { IfOk result (λ x. stmt_view x.value ≡ plain.case pos (expr_view value.value) (stmt_view body.value)) }
-{
-    let node = StmtNode::Case(Box::into_inner(value), body);
-    Ok(Box::new(alloc, Stmt { pos, node })?)
-}
-
-pub(crate) fn default(alloc: Global, pos: Pos, body: Box<Stmt>) -> Result<Box<Stmt>, Memory>
-    ensures { IfOk result (λ x. stmt_view x.value ≡ plain.default pos (stmt_view body.value)) }
-{
-    let node = StmtNode::Default(body);
-    Ok(Box::new(alloc, Stmt { pos, node })?)
-}
-
-pub(crate) fn label(
-    alloc: Global,
-    pos: Pos,
-    name: Name,
-    body: Box<Stmt>,
-) -> Result<Box<Stmt>, Memory>
-    ensures { IfOk result (λ x. stmt_view x.value ≡ plain.label pos name (stmt_view body.value)) }
-{
-    let node = StmtNode::Label(name, body);
-    Ok(Box::new(alloc, Stmt { pos, node })?)
+    let node = match head {
+        StmtHead::While(test) => StmtNode::While(Box::into_inner(test), body),
+        StmtHead::For(head) => {
+            let ForHead { start, test, step } = Box::into_inner(head);
+            StmtNode::For(start, test, step, body)
+        }
+        StmtHead::Switch(value) => StmtNode::Switch(Box::into_inner(value), body),
+        StmtHead::Case(value) => StmtNode::Case(Box::into_inner(value), body),
+        StmtHead::Default => StmtNode::Default(body),
+        StmtHead::Label(name) => StmtNode::Label(name, body),
+    };
+    Stmt { pos, node }
 }
 
 /// One more at the end of a list.
