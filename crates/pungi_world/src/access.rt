@@ -53,7 +53,7 @@ fn load_slot(
 {
     let touch = touch_slot(world, slot, kind, choices)?;
     let content = held_at(world, touch.place);
-    Ok(read(alloc, world, content, touch.used)?)
+    read(alloc, world, content, touch.used)
 }
 
 fn store_slot(

@@ -22,8 +22,8 @@ fn call(
     ensures { Gives result world.new (call_effect world.old shape.now args.now choices.now) }
 {
     match shape.row.form {
-        Form::Plain => Ok(plain(world, alloc, &shape.row, args, choices)?),
-        Form::Special(own) => Ok(special(world, alloc, own, args)?),
+        Form::Plain => plain(world, alloc, &shape.row, args, choices),
+        Form::Special(own) => special(world, alloc, own, args),
     }
 }
 

@@ -5,7 +5,7 @@ use crate::{Account, World};
 use pungi_base::{Memory, Value};
 
 /// Whether a count rises or falls, by one.
-#[derive(Clone, Copy, Debug)]
+#[derive(Clone, Copy)]
 pub enum Way {
     Up,
     Down,

@@ -5,7 +5,7 @@ use pungi_base::{Seq, Value};
 use std::alloc::Global;
 
 /// What an API call, a load or a store answers.
-#[derive(Debug, Drop)]
+#[derive(Drop)]
 pub struct Effect {
     /// The value, where there is one.
     pub value: Option<Value>,

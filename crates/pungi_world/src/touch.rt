@@ -8,7 +8,7 @@ use pungi_api::Param;
 use pungi_base::{Choice, Memory};
 
 /// Where a touched slot stands, and how many choices its touch used.
-#[derive(Clone, Copy, Debug)]
+#[derive(Clone, Copy)]
 pub struct Touch {
     pub place: usize,
     pub used: usize,
@@ -44,10 +44,7 @@ fn add_content(world: &mut World, content: Content) -> Result<(), Memory>
 {
     match content {
         Content::Unset => Ok(()),
-        Content::Holds(value) => {
-            add_value(world, value)?;
-            Ok(())
-        }
+        Content::Holds(value) => add_value(world, value),
     }
 }
 
@@ -90,6 +87,6 @@ pub fn touch_slot(
 {
     match place_of(world.slots.as_slice(), &slot) {
         Some(place) => Ok(Touch { place, used: 0 }),
-        None => Ok(touch_first(world, slot, kind, choices)?),
+        None => touch_first(world, slot, kind, choices),
     }
 }

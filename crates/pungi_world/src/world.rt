@@ -7,7 +7,7 @@ use pungi_base::{Entry, Memory, Seq};
 use std::alloc::Global;
 
 /// The objects of a run by their numbers, and the slots that it touched so far.
-#[derive(Debug, Drop)]
+#[derive(Drop)]
 pub struct World {
     pub accounts: Seq<Account>,
     pub slots: Seq<SlotState>,
