@@ -12,7 +12,7 @@ use pungi_resolved::{Action, ActionNode};
 pub fn count(n: usize) -> Result<u32, Memory>
     ensures { IfOk result (λ m. m ≡ n) }
 {
-    Ok(small(n as u64)?)
+    small(n as u64)
 }
 
 /// How many locals the statements of a block declare.
@@ -33,8 +33,8 @@ fn own_cases(action: &Action) -> Result<u32, Memory>
     ensures { IfOk result (λ n. n ≡ length (cases_of (action_view action.now))) }
 {
     match &action.node {
-        ActionNode::AtCase(_, a) => Ok(behind(own_cases(a)?, 1)?),
-        ActionNode::AtDefault(a) | ActionNode::AtLabel(_, a) => Ok(own_cases(a)?),
+        ActionNode::AtCase(_, a) => behind(own_cases(a)?, 1),
+        ActionNode::AtDefault(a) | ActionNode::AtLabel(_, a) => own_cases(a),
         ActionNode::Block(_, _)
         | ActionNode::Reach(_)
         | ActionNode::Evaluate(_)

@@ -49,11 +49,9 @@ fn emit_bind(code: &mut Seq<Line>, around: Around, reached: &Reached) -> Result<
     if let Some(node) = &reached.value {
         let value = operand(around.locals, 0, local_column(reached.kind), node)?;
         emit_value(code, around, 0, value, node)?;
-        put(code, reached.at, Instr::Set(Var(local), atom(value)))?;
-        Ok(())
+        put(code, reached.at, Instr::Set(Var(local), atom(value)))
     } else {
-        put(code, reached.at, Instr::Unset(Var(local)))?;
-        Ok(())
+        put(code, reached.at, Instr::Unset(Var(local)))
     }
 }
 
@@ -83,8 +81,7 @@ fn emit_own_unset(code: &mut Seq<Line>, pos: Pos, action: &Action) -> Result<(),
     ensures { OnOk result (code.new ≡ code.old ++ unset_code pos (declared_by (action_view action.now))) }
 {
     if let ActionNode::Reach(list) = &action.node {
-        emit_unset(code, pos, list)?;
-        Ok(())
+        emit_unset(code, pos, list)
     } else {
         Ok(())
     }
@@ -132,8 +129,7 @@ pub fn emit_tested(
     ensures { OnOk result (code.new ≡ code.old ++ tested_code pos around.locals (length code.old) (optional_view test.now) (length code.old + test_size (optional_view test.now)) other) }
 {
     if let Some(test) = test {
-        emit_test(code, around, pos, test, other)?;
-        Ok(())
+        emit_test(code, around, pos, test, other)
     } else {
         Ok(())
     }

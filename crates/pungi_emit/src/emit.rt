@@ -18,15 +18,14 @@ pub struct Around {
 pub fn put(code: &mut Seq<Line>, pos: Pos, instr: Instr) -> Result<(), Memory>
     ensures { OnOk result (code.new ≡ code.old ++ line_at pos instr ∷ []) }
 {
-    code.push(Line { pos, instr })?;
-    Ok(())
+    code.push(Line { pos, instr })
 }
 
 /// The place of the next instruction.
 pub fn next_place(code: &Seq<Line>) -> Result<u32, Memory>
     ensures { IfOk result (λ n. n ≡ length code.now) }
 {
-    Ok(small(code.len() as u64)?)
+    small(code.len() as u64)
 }
 
 /// Another instruction at this place.

@@ -50,8 +50,7 @@ fn emit_step(
     );
     put(code, pos, instr)?;
     emit_fit(code, pos, kind, counted, value, outcome)?;
-    emit_store(code, kind, place, target, base, value)?;
-    Ok(())
+    emit_store(code, kind, place, target, base, value)
 }
 
 /// The sign of a value.
@@ -67,7 +66,7 @@ fn emit_sign(
 {
     if minus {
         let instr = Instr::Arith(Var(target), kind, Op::Sub, Atom::Int(0), atom(value));
-        Ok(put(code, pos, instr)?)
+        put(code, pos, instr)
     } else {
         Ok(())
     }
@@ -100,7 +99,7 @@ fn emit_row(
         args,
     )?;
     let outs = Seq::new(Vec::new(alloc));
-    Ok(put(code, pos, Instr::Api(answer, plain, Seq::new(atoms), outs))?)
+    put(code, pos, Instr::Api(answer, plain, Seq::new(atoms), outs))
 }
 
 /// The base of a field, which waits where it is found again.
@@ -111,8 +110,7 @@ fn emit_base(code: &mut Seq<Line>, around: Around, depth: u32, place: &Place) ->
     match place {
         Place::Field(_, base, _, _) => {
             let target = temp_of(around.locals, depth, base)?;
-            emit_value(code, around, depth, target, base)?;
-            Ok(())
+            emit_value(code, around, depth, target, base)
         }
         _ => Ok(()),
     }
@@ -132,8 +130,7 @@ fn emit_held(
 {
     let base = base_var(around.locals, place, depth)?;
     emit_base(code, around, depth, place)?;
-    emit_old(code, kind, place, old, base)?;
-    Ok(())
+    emit_old(code, kind, place, old, base)
 }
 
 /// `++` and `--`.
@@ -158,13 +155,11 @@ fn emit_stepped(
         put(code, pos, Instr::Set(Var(target), bit(false)))?;
         emit_held(code, around, level, kind, place, old)?;
         put(code, pos, Instr::Set(Var(target), atom(old)))?;
-        emit_step(code, around, level, value, pos, mark, kind, place)?;
-        Ok(())
+        emit_step(code, around, level, value, pos, mark, kind, place)
     } else {
         let old = temp(around.locals, above(place, depth)?, kind)?;
         emit_held(code, around, depth, kind, place, old)?;
-        emit_step(code, around, depth, target, pos, mark, kind, place)?;
-        Ok(())
+        emit_step(code, around, depth, target, pos, mark, kind, place)
     }
 }
 
@@ -388,98 +383,70 @@ pub fn emit_value(
 {
     let pos = node.pos;
     match &node.node {
-        ValueNode::Constant(n) => {
-            put(code, pos, Instr::Set(Var(target), Atom::Int(*n)))?;
-            Ok(())
-        }
+        ValueNode::Constant(n) => put(code, pos, Instr::Set(Var(target), Atom::Int(*n))),
         ValueNode::Text(_) | ValueNode::Module(_) => {
-            put(code, pos, Instr::Set(Var(target), Atom::Text))?;
-            Ok(())
+            put(code, pos, Instr::Set(Var(target), Atom::Text))
         }
-        ValueNode::Null => {
-            put(code, pos, Instr::Set(Var(target), Atom::Null))?;
-            Ok(())
-        }
+        ValueNode::Null => put(code, pos, Instr::Set(Var(target), Atom::Null)),
         ValueNode::Static(object) => {
-            put(code, pos, Instr::Set(Var(target), Atom::Static(*object)))?;
-            Ok(())
+            put(code, pos, Instr::Set(Var(target), Atom::Static(*object)))
         }
-        ValueNode::Read(kind, place) => {
-            emit_held(code, around, depth, *kind, place, target)?;
-            Ok(())
-        }
+        ValueNode::Read(kind, place) => emit_held(code, around, depth, *kind, place, target),
         ValueNode::Inner(part) | ValueNode::Cast(part) | ValueNode::Dropped(part) => {
-            emit_value(code, around, depth, target, part)?;
-            Ok(())
+            emit_value(code, around, depth, target, part)
         }
         ValueNode::Signed(mark, kind, part) => {
             let minus = is_minus(*mark);
             let value = temp_of(around.locals, depth, part)?;
             emit_value(code, around, depth, sign_var(minus, target, value), part)?;
-            emit_sign(code, minus, pos, *kind, target, value)?;
-            Ok(())
+            emit_sign(code, minus, pos, *kind, target, value)
         }
-        ValueNode::Negated(part) => {
-            emit_negated(code, around, depth, target, pos, part)?;
-            Ok(())
-        }
+        ValueNode::Negated(part) => emit_negated(code, around, depth, target, pos, part),
         ValueNode::Stepped(behind_it, mark, kind, place) => {
             emit_stepped(
                 code, around, depth, target, pos, *behind_it, *mark, *kind, place,
-            )?;
-            Ok(())
+            )
         }
         ValueNode::Computed(mark, kind, a, b) => {
             let left = temp_of(around.locals, depth, a)?;
             let right = temp_of(around.locals, behind(depth, 1)?, b)?;
             emit_operands(code, around, depth, left, right, a, b)?;
             let instr = Instr::Arith(Var(target), *kind, Op::of(*mark), atom(left), atom(right));
-            put(code, pos, instr)?;
-            Ok(())
+            put(code, pos, instr)
         }
         ValueNode::Compared(mark, a, b) => {
             let left = operand(around.locals, depth, value_column(b), a)?;
             let right = operand(around.locals, behind(depth, 1)?, value_column(a), b)?;
             emit_operands(code, around, depth, left, right, a, b)?;
             let instr = Instr::Compare(Var(target), Cmp::of(*mark), atom(left), atom(right));
-            put(code, pos, instr)?;
-            Ok(())
+            put(code, pos, instr)
         }
         ValueNode::Joined(mark, a, b) => {
-            emit_joined(code, around, depth, target, pos, *mark, a, b)?;
-            Ok(())
+            emit_joined(code, around, depth, target, pos, *mark, a, b)
         }
         ValueNode::Stored(kind, place, part) => {
-            emit_stored(code, around, depth, target, pos, *kind, place, part)?;
-            Ok(())
+            emit_stored(code, around, depth, target, pos, *kind, place, part)
         }
         ValueNode::Updated(mark, counted, kind, place, part) => {
             emit_updated(
                 code, around, depth, target, pos, *mark, *counted, *kind, place, part,
-            )?;
-            Ok(())
+            )
         }
-        ValueNode::Chosen(c, a, b) => {
-            emit_chosen(code, around, depth, target, pos, c, a, b)?;
-            Ok(())
-        }
+        ValueNode::Chosen(c, a, b) => emit_chosen(code, around, depth, target, pos, c, a, b),
         ValueNode::Converted(kind, part) => {
             let value = temp_of(around.locals, depth, part)?;
             emit_value(code, around, depth, value, part)?;
-            put(code, pos, Instr::Fit(Var(target), *kind, atom(value)))?;
-            Ok(())
+            put(code, pos, Instr::Fit(Var(target), *kind, atom(value)))
         }
         ValueNode::Called(_, _) => {
             put(
                 code,
                 pos,
                 Instr::Call(None, 0, Seq::new(Vec::new(around.alloc))),
-            )?;
-            Ok(())
+            )
         }
         ValueNode::CalledRow(name, shape, args) => {
-            emit_called(code, around, depth, target, pos, *name, shape, args)?;
-            Ok(())
+            emit_called(code, around, depth, target, pos, *name, shape, args)
         }
     }
 }

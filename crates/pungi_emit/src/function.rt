@@ -63,11 +63,9 @@ fn emit_end(code: &mut Seq<Line>, pos: Pos, void: bool) -> Result<(), Memory>
     ensures { OnOk result (code.new ≡ code.old ++ end_code pos void) }
 {
     if void {
-        put(code, pos, Instr::Return(None))?;
-        Ok(())
+        put(code, pos, Instr::Return(None))
     } else {
-        put(code, pos, Instr::Fall)?;
-        Ok(())
+        put(code, pos, Instr::Fall)
     }
 }
 

@@ -92,8 +92,7 @@ fn add_level(kinds: &mut Seq<Param>) -> Result<(), Memory>
     kinds.push(Param::Long)?;
     kinds.push(Param::Size)?;
     kinds.push(Param::TextOrNull)?;
-    kinds.push(Param::ObjectOrNull)?;
-    Ok(())
+    kinds.push(Param::ObjectOrNull)
 }
 
 fn add_temps(kinds: &mut Seq<Param>, levels: u32) -> Result<(), Memory>

@@ -16,8 +16,7 @@ fn own_names(names: &mut Seq<Name>, action: &Action) -> Result<(), Memory>
     match &action.node {
         ActionNode::AtLabel(name, a) => {
             names.push(*name)?;
-            own_names(names, a)?;
-            Ok(())
+            own_names(names, a)
         }
         ActionNode::Test(_, a)
         | ActionNode::RepeatWhile(_, a)
@@ -25,14 +24,10 @@ fn own_names(names: &mut Seq<Name>, action: &Action) -> Result<(), Memory>
         | ActionNode::RepeatFor(_, _, _, _, a)
         | ActionNode::SwitchOn(_, a)
         | ActionNode::AtCase(_, a)
-        | ActionNode::AtDefault(a) => {
-            own_names(names, a)?;
-            Ok(())
-        }
+        | ActionNode::AtDefault(a) => own_names(names, a),
         ActionNode::TestElse(_, a, b) => {
             own_names(names, a)?;
-            own_names(names, b)?;
-            Ok(())
+            own_names(names, b)
         }
         ActionNode::Block(_, _)
         | ActionNode::Reach(_)
@@ -83,6 +78,5 @@ pub fn plan_labels(
 {
     let names = block_names(alloc, list)?;
     let places = planned_all(plan, names.len());
-    let labels = place_all(alloc, names.as_slice(), places)?;
-    Ok(labels)
+    place_all(alloc, names.as_slice(), places)
 }

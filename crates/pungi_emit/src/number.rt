@@ -18,5 +18,5 @@ pub fn small(n: u64) -> Result<u32, Memory>
 pub fn behind(n: u32, steps: u32) -> Result<u32, Memory>
     ensures { IfOk result (λ m. m ≡ n + steps) }
 {
-    Ok(small(n as u64 + steps as u64)?)
+    small(n as u64 + steps as u64)
 }

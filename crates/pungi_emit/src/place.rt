@@ -26,7 +26,7 @@ pub fn emit_fit(
     if is_same_kind(to, from) {
         Ok(())
     } else {
-        Ok(put(code, pos, Instr::Fit(Var(target), to, atom(value)))?)
+        put(code, pos, Instr::Fit(Var(target), to, atom(value)))
     }
 }
 
@@ -43,15 +43,15 @@ pub fn emit_old(
     match place {
         Place::Local(pos, local) => {
             let local = small(*local as u64)?;
-            Ok(put(code, *pos, Instr::Set(Var(target), atom(local)))?)
+            put(code, *pos, Instr::Set(Var(target), atom(local)))
         }
         Place::Global(pos, name) => {
             let slot = Slot::Global(*name, slot_kind(kind));
-            Ok(put(code, *pos, Instr::Load(Var(target), slot))?)
+            put(code, *pos, Instr::Load(Var(target), slot))
         }
         Place::Field(pos, _, tag, field) => {
             let slot = Slot::Field(atom(base), *tag, *field, slot_kind(kind));
-            Ok(put(code, *pos, Instr::Load(Var(target), slot))?)
+            put(code, *pos, Instr::Load(Var(target), slot))
         }
     }
 }
@@ -71,17 +71,17 @@ pub fn emit_store(
         Place::Local(pos, local) => {
             let local = small(*local as u64)?;
             put(code, *pos, Instr::Set(Var(local), atom(value)))?;
-            Ok(put(code, *pos, Instr::Set(Var(target), atom(value)))?)
+            put(code, *pos, Instr::Set(Var(target), atom(value)))
         }
         Place::Global(pos, name) => {
             let slot = Slot::Global(*name, slot_kind(kind));
             put(code, *pos, Instr::Store(slot, atom(value)))?;
-            Ok(put(code, *pos, Instr::Set(Var(target), atom(value)))?)
+            put(code, *pos, Instr::Set(Var(target), atom(value)))
         }
         Place::Field(pos, _, tag, field) => {
             let slot = Slot::Field(atom(base), *tag, *field, slot_kind(kind));
             put(code, *pos, Instr::Store(slot, atom(value)))?;
-            Ok(put(code, *pos, Instr::Set(Var(target), atom(value)))?)
+            put(code, *pos, Instr::Set(Var(target), atom(value)))
         }
     }
 }

@@ -27,7 +27,7 @@ pub fn place_size(place: &Place) -> Result<u32, Memory>
     ensures { IfOk result (λ n. n ≡ place_length (place_view place.now)) }
 {
     match place {
-        Place::Field(_, base, _, _) => Ok(value_size(base)?),
+        Place::Field(_, base, _, _) => value_size(base),
         _ => Ok(0),
     }
 }
@@ -43,55 +43,55 @@ pub fn value_size(node: &Node) -> Result<u32, Memory>
         | ValueNode::Null
         | ValueNode::Static(_)
         | ValueNode::Module(_) => Ok(1),
-        ValueNode::Read(_, place) => Ok(behind(place_size(place)?, 1)?),
+        ValueNode::Read(_, place) => behind(place_size(place)?, 1),
         ValueNode::Inner(part) | ValueNode::Cast(part) | ValueNode::Dropped(part) => {
-            Ok(value_size(part)?)
+            value_size(part)
         }
         ValueNode::Signed(mark, _, part) => {
             let size = value_size(part)?;
             if is_minus(*mark) {
-                Ok(behind(size, 1)?)
+                behind(size, 1)
             } else {
                 Ok(size)
             }
         }
-        ValueNode::Negated(part) => Ok(behind(value_size(part)?, 3)?),
+        ValueNode::Negated(part) => behind(value_size(part)?, 3),
         ValueNode::Stepped(behind_it, _, kind, place) => {
             let keep = if *behind_it { 2 } else { 0 };
             let base = place_size(place)?;
             let fit = fit_size(*kind, wide(*kind));
-            Ok(behind(base, keep + 2 + fit + STORE_SIZE)?)
+            behind(base, keep + 2 + fit + STORE_SIZE)
         }
         ValueNode::Computed(_, _, a, b) | ValueNode::Compared(_, a, b) => {
             let first = value_size(a)?;
             let second = behind(value_size(b)?, 1)?;
-            Ok(behind(first, second)?)
+            behind(first, second)
         }
         ValueNode::Joined(_, a, b) => {
             let first = value_size(a)?;
             let second = behind(value_size(b)?, 4)?;
-            Ok(behind(first, second)?)
+            behind(first, second)
         }
         ValueNode::Stored(_, place, part) => {
             let base = place_size(place)?;
             let last = behind(value_size(part)?, STORE_SIZE)?;
-            Ok(behind(base, last)?)
+            behind(base, last)
         }
         ValueNode::Updated(_, counted, kind, place, part) => {
             let base = place_size(place)?;
             let fit = fit_size(*kind, *counted);
             let last = behind(value_size(part)?, 2 + fit + STORE_SIZE)?;
-            Ok(behind(base, last)?)
+            behind(base, last)
         }
         ValueNode::Chosen(c, a, b) => {
             let test = value_size(c)?;
             let first = value_size(a)?;
             let second = behind(value_size(b)?, 2)?;
-            Ok(behind(test, behind(first, second)?)?)
+            behind(test, behind(first, second)?)
         }
-        ValueNode::Converted(_, part) => Ok(behind(value_size(part)?, 1)?),
+        ValueNode::Converted(_, part) => behind(value_size(part)?, 1),
         ValueNode::Called(_, _) => Ok(1),
-        ValueNode::CalledRow(_, _, args) => Ok(behind(values_size(args)?, 1)?),
+        ValueNode::CalledRow(_, _, args) => behind(values_size(args)?, 1),
     }
 }
 

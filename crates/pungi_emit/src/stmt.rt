@@ -36,11 +36,9 @@ fn emit_give(
 {
     if let Some(node) = node {
         let value = emit_alone(code, around, node)?;
-        put(code, pos, Instr::Return(Some(atom(value))))?;
-        Ok(())
+        put(code, pos, Instr::Return(Some(atom(value))))
     } else {
-        put(code, pos, Instr::Return(None))?;
-        Ok(())
+        put(code, pos, Instr::Return(None))
     }
 }
 
@@ -401,62 +399,26 @@ pub fn emit_stmt(
 {
     let pos = action.pos;
     match &action.node {
-        ActionNode::Block(list, _) => {
-            emit_block(code, around, list, scope, plan, action.pos)?;
-            Ok(())
-        }
-        ActionNode::Reach(list) => {
-            emit_reached(code, around, list)?;
-            Ok(())
-        }
-        ActionNode::Evaluate(node) => {
-            emit_option(code, around, node)?;
-            Ok(())
-        }
-        ActionNode::Test(c, a) => {
-            emit_if(code, around, scope, plan, pos, c, a)?;
-            Ok(())
-        }
-        ActionNode::TestElse(c, a, b) => {
-            emit_else(code, around, scope, plan, pos, c, a, b)?;
-            Ok(())
-        }
-        ActionNode::RepeatWhile(c, a) => {
-            emit_while(code, around, scope, plan, pos, c, a)?;
-            Ok(())
-        }
-        ActionNode::RepeatUntil(a, c) => {
-            emit_until(code, around, scope, plan, pos, a, c)?;
-            Ok(())
-        }
+        ActionNode::Block(list, _) => emit_block(code, around, list, scope, plan, action.pos),
+        ActionNode::Reach(list) => emit_reached(code, around, list),
+        ActionNode::Evaluate(node) => emit_option(code, around, node),
+        ActionNode::Test(c, a) => emit_if(code, around, scope, plan, pos, c, a),
+        ActionNode::TestElse(c, a, b) => emit_else(code, around, scope, plan, pos, c, a, b),
+        ActionNode::RepeatWhile(c, a) => emit_while(code, around, scope, plan, pos, c, a),
+        ActionNode::RepeatUntil(a, c) => emit_until(code, around, scope, plan, pos, a, c),
         ActionNode::RepeatFor(rs, u, c, w, a) => {
-            emit_for(code, around, scope, plan, pos, rs, u, c, w, a)?;
-            Ok(())
+            emit_for(code, around, scope, plan, pos, rs, u, c, w, a)
         }
-        ActionNode::SwitchOn(node, a) => {
-            emit_choice(code, around, scope, plan, pos, node, a)?;
-            Ok(())
-        }
+        ActionNode::SwitchOn(node, a) => emit_choice(code, around, scope, plan, pos, node, a),
         ActionNode::AtCase(_, a) | ActionNode::AtDefault(a) | ActionNode::AtLabel(_, a) => {
-            emit_stmt(code, around, scope, plan, a)?;
-            Ok(())
+            emit_stmt(code, around, scope, plan, a)
         }
         ActionNode::Jump(name) => {
             let place = goto_place(*name, scope.labels);
-            put(code, pos, Instr::Jump(Label(place)))?;
-            Ok(())
+            put(code, pos, Instr::Jump(Label(place)))
         }
-        ActionNode::Leave => {
-            put(code, pos, Instr::Jump(Label(scope.breaks)))?;
-            Ok(())
-        }
-        ActionNode::NextTurn => {
-            put(code, pos, Instr::Jump(Label(scope.continues)))?;
-            Ok(())
-        }
-        ActionNode::Give(node) => {
-            emit_give(code, around, pos, node)?;
-            Ok(())
-        }
+        ActionNode::Leave => put(code, pos, Instr::Jump(Label(scope.breaks))),
+        ActionNode::NextTurn => put(code, pos, Instr::Jump(Label(scope.continues))),
+        ActionNode::Give(node) => emit_give(code, around, pos, node),
     }
 }

@@ -34,7 +34,7 @@ fn option_size(node: &Option<Box<Node>>) -> Result<u32, Memory>
     ensures { IfOk result (λ n. n ≡ option_length (optional_view node.now)) }
 {
     match node {
-        Some(node) => Ok(value_size(node)?),
+        Some(node) => value_size(node),
         None => Ok(0),
     }
 }
@@ -43,7 +43,7 @@ fn test_size(node: &Option<Box<Node>>) -> Result<u32, Memory>
     ensures { IfOk result (λ n. n ≡ test_length (optional_view node.now)) }
 {
     match node {
-        Some(node) => Ok(behind(value_size(node)?, 1)?),
+        Some(node) => behind(value_size(node)?, 1),
         None => Ok(0),
     }
 }
@@ -193,10 +193,7 @@ fn survey_choice(
     ensures places { OnOk result (places.new ≡ places.old ++ switch_plan place (action_view body.now)) }
 {
     match &body.node {
-        ActionNode::Block(list, _) => {
-            let next = survey_switched(alloc, marks, places, list, place)?;
-            Ok(next)
-        }
+        ActionNode::Block(list, _) => survey_switched(alloc, marks, places, list, place),
         ActionNode::Reach(_)
         | ActionNode::Evaluate(_)
         | ActionNode::Test(_, _)
@@ -211,10 +208,7 @@ fn survey_choice(
         | ActionNode::Jump(_)
         | ActionNode::Leave
         | ActionNode::NextTurn
-        | ActionNode::Give(_) => {
-            let next = survey_skipped(alloc, marks, places, labels, body, place)?;
-            Ok(next)
-        }
+        | ActionNode::Give(_) => survey_skipped(alloc, marks, places, labels, body, place),
     }
 }
 
@@ -436,45 +430,32 @@ pub fn survey_stmt(
 {
     let pos = action.pos;
     match &action.node {
-        ActionNode::Block(list, _) => {
-            let next = survey_inner(alloc, marks, places, list, pc)?;
-            Ok(next)
-        }
-        ActionNode::Reach(list) => Ok(behind(pc, reach_size(list)?)?),
-        ActionNode::Evaluate(node) => Ok(behind(pc, option_size(node)?)?),
-        ActionNode::Test(c, a) => {
-            let next = survey_if(alloc, marks, places, labels, a, pc, pos, c)?;
-            Ok(next)
-        }
+        ActionNode::Block(list, _) => survey_inner(alloc, marks, places, list, pc),
+        ActionNode::Reach(list) => behind(pc, reach_size(list)?),
+        ActionNode::Evaluate(node) => behind(pc, option_size(node)?),
+        ActionNode::Test(c, a) => survey_if(alloc, marks, places, labels, a, pc, pos, c),
         ActionNode::TestElse(c, a, b) => {
-            let next = survey_else(alloc, marks, places, labels, a, b, pc, pos, c)?;
-            Ok(next)
+            survey_else(alloc, marks, places, labels, a, b, pc, pos, c)
         }
         ActionNode::RepeatWhile(c, a) => {
-            let next = survey_while(alloc, marks, places, labels, a, pc, pos, c)?;
-            Ok(next)
+            survey_while(alloc, marks, places, labels, a, pc, pos, c)
         }
         ActionNode::RepeatUntil(a, c) => {
-            let next = survey_until(alloc, marks, places, labels, a, pc, pos, c)?;
-            Ok(next)
+            survey_until(alloc, marks, places, labels, a, pc, pos, c)
         }
         ActionNode::RepeatFor(rs, u, c, w, a) => {
-            let next = survey_for(alloc, marks, places, labels, a, pc, pos, rs, u, c, w)?;
-            Ok(next)
+            survey_for(alloc, marks, places, labels, a, pc, pos, rs, u, c, w)
         }
         ActionNode::SwitchOn(node, a) => {
-            let next = survey_switch(alloc, marks, places, labels, a, pc, pos, node)?;
-            Ok(next)
+            survey_switch(alloc, marks, places, labels, a, pc, pos, node)
         }
         ActionNode::AtCase(_, a) | ActionNode::AtDefault(a) => {
-            let next = survey_stmt(alloc, marks, places, labels, a, pc)?;
-            Ok(next)
+            survey_stmt(alloc, marks, places, labels, a, pc)
         }
         ActionNode::AtLabel(name, a) => {
-            let next = survey_label(alloc, marks, places, labels, a, pc, pos, *name)?;
-            Ok(next)
+            survey_label(alloc, marks, places, labels, a, pc, pos, *name)
         }
-        ActionNode::Jump(_) | ActionNode::Leave | ActionNode::NextTurn => Ok(behind(pc, 1)?),
-        ActionNode::Give(node) => Ok(behind(pc, behind(option_size(node)?, 1)?)?),
+        ActionNode::Jump(_) | ActionNode::Leave | ActionNode::NextTurn => behind(pc, 1),
+        ActionNode::Give(node) => behind(pc, behind(option_size(node)?, 1)?),
     }
 }

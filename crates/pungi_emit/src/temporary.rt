@@ -24,21 +24,21 @@ pub fn atom(var: u32) -> Atom
 pub fn temp_in(locals: u32, depth: u32, column: u32) -> Result<u32, Memory>
     ensures { IfOk result (λ x. x ≡ temporary locals depth column) }
 {
-    Ok(small(locals as u64 + 5 * (depth as u64) + column as u64)?)
+    small(locals as u64 + 5 * (depth as u64) + column as u64)
 }
 
 /// The variable of a value of this kind that has so many values below it.
 pub fn temp(locals: u32, depth: u32, kind: ValueKind) -> Result<u32, Memory>
     ensures { IfOk result (λ x. x ≡ temporary locals depth (column_of kind)) }
 {
-    Ok(temp_in(locals, depth, column(kind))?)
+    temp_in(locals, depth, column(kind))
 }
 
 /// The variable of the value of an expression.
 pub fn temp_of(locals: u32, depth: u32, node: &Node) -> Result<u32, Memory>
     ensures { IfOk result (λ x. x ≡ temporary_of locals depth (value_view node.now)) }
 {
-    Ok(temp_in(locals, depth, value_column(node))?)
+    temp_in(locals, depth, value_column(node))
 }
 
 /// The column of an operand where one of the column `want` is wanted: `NULL` is a pointer of either kind.
@@ -52,7 +52,7 @@ pub fn fitting_column(want: u32, own: u32) -> u32
 pub fn operand(locals: u32, depth: u32, want: u32, node: &Node) -> Result<u32, Memory>
     ensures { IfOk result (λ x. x ≡ operand_of locals depth want (value_view node.now)) }
 {
-    Ok(temp_in(locals, depth, fitting_column(want, value_column(node)))?)
+    temp_in(locals, depth, fitting_column(want, value_column(node)))
 }
 
 /// The column that a local of this kind wants.
@@ -100,7 +100,7 @@ pub fn above(place: &Place, depth: u32) -> Result<u32, Memory>
     ensures { IfOk result (λ x. x ≡ level_above (place_view place.now) depth) }
 {
     match place {
-        Place::Field(_, _, _, _) => Ok(behind(depth, 1)?),
+        Place::Field(_, _, _, _) => behind(depth, 1),
         _ => Ok(depth),
     }
 }
@@ -110,7 +110,7 @@ pub fn base_var(locals: u32, place: &Place, depth: u32) -> Result<u32, Memory>
     ensures { IfOk result (λ x. x ≡ base_variable locals (place_view place.now) depth) }
 {
     match place {
-        Place::Field(_, base, _, _) => Ok(temp_of(locals, depth, base)?),
+        Place::Field(_, base, _, _) => temp_of(locals, depth, base),
         _ => Ok(0),
     }
 }
@@ -119,7 +119,7 @@ pub fn base_var(locals: u32, place: &Place, depth: u32) -> Result<u32, Memory>
 pub fn stored_var(locals: u32, place: &Place, depth: u32, kind: ValueKind) -> Result<u32, Memory>
     ensures { IfOk result (λ x. x ≡ stored_variable locals (place_view place.now) depth kind) }
 {
-    Ok(temp(locals, above(place, depth)?, kind)?)
+    temp(locals, above(place, depth)?, kind)
 }
 
 /// The variable of a value before it is converted to the kind of its place.
@@ -133,9 +133,9 @@ pub fn counted_var(
     ensures { IfOk result (λ x. x ≡ counted_variable locals (place_view place.now) depth kind counted) }
 {
     if is_same_kind(kind, counted) {
-        Ok(stored_var(locals, place, depth, kind)?)
+        stored_var(locals, place, depth, kind)
     } else {
-        Ok(temp(locals, above(place, depth)?, counted)?)
+        temp(locals, above(place, depth)?, counted)
     }
 }
 
