@@ -25,9 +25,9 @@ use Rattle.pungi_types.specs.Exprs.{kind_of, cast_kind, names_type_object, names
 use Rattle.pungi_types.specs.Resolved.{Value, Values, called_row, converted, cast_of, dropped, convert, convert_some, is_same_kind, cast_value, static_behind, module_behind, resolve, want_kind, expr_pos}
 use Rattle.pungi_code.specs.WellFormed.{form_params, wanted_params}
 use Rattle.pungi_resolve.proofs.Clean.{and_right}
-use Rattle.pungi_lower.specs.Temporaries.{form_column, value_column}
-use Rattle.pungi_lower.specs.Typed.{IsArgument, IsTyped, AreTyped}
-use Rattle.pungi_lower.specs.TypedCalls.{calls_none, call_none}
+use Rattle.pungi_layout.specs.Temporaries.{form_column, value_column}
+use Rattle.pungi_layout.specs.Typed.{IsArgument, IsTyped, AreTyped}
+use Rattle.pungi_layout.specs.TypedCalls.{calls_none, call_none}
 use Rattle.pungi_lower.proofs.KindsParts.{Kin, kin_number, kin_column, kin_if, Typed, convert_going}
 use Rattle.pungi_lower.proofs.KindsOperators.{found, kin_cast, cast_numbers, number_column, counted_kept}
 

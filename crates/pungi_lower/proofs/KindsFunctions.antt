@@ -21,12 +21,12 @@ use Rattle.pungi_resolve.proofs.Clean.{Clean, left, right, not_when, or_left, an
 use Rattle.pungi_resolve.proofs.Known.{one_more, declared-not_void}
 use Rattle.pungi_resolve.proofs.SoundStmts.{site, value_kind}
 use Rattle.pungi_resolve.proofs.SoundFunctions.{text-clean, result-known, names-passed, params-site}
-use Rattle.pungi_lower.specs.Sound.{stmt_nodes}
-use Rattle.pungi_lower.specs.Typed.{IsHeld, IsStmtTyped}
-use Rattle.pungi_lower.specs.TypedCalls.{has_no_call}
-use Rattle.pungi_lower.specs.TypedCode.{code_of, HasLocals}
-use Rattle.pungi_lower.specs.VarKinds.{held_kind, kind_held, stmt_reached, temp_kinds, var_kinds}
-use Rattle.pungi_lower.proofs.KindsCode.{well-formed}
+use Rattle.pungi_layout.specs.Sound.{stmt_nodes}
+use Rattle.pungi_layout.specs.Typed.{IsHeld, IsStmtTyped}
+use Rattle.pungi_layout.specs.TypedCalls.{has_no_call}
+use Rattle.pungi_layout.specs.TypedCode.{code_of, HasLocals}
+use Rattle.pungi_layout.specs.VarKinds.{held_kind, kind_held, stmt_reached, temp_kinds, var_kinds}
+use Rattle.pungi_layout.proofs.KindsCode.{well-formed}
 use Rattle.pungi_lower.proofs.KindsWords.{may_be_kept, plain_kept, declared_kept, IsLocalHeld, HasVars}
 use Rattle.pungi_lower.proofs.KindsLocals.{stmts_count, AreHeld, kind_of_held, Knows, one_more_held}
 use Rattle.pungi_lower.proofs.KindsPassedStmts.{stmts_kinds}

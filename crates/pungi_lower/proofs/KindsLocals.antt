@@ -22,9 +22,9 @@ use Rattle.pungi_resolve.proofs.Known.{HasKinds, one_more, declared-not_void}
 use Rattle.pungi_resolve.proofs.UsedValues.{one-asked}
 use Rattle.pungi_resolve.proofs.SoundExprs.{expr-good}
 use Rattle.pungi_resolve.proofs.SoundStmts.{site, value_kind}
-use Rattle.pungi_lower.specs.Typed.{is_kept, IsHeld, IsInitial, IsReachedTyped, AreReachedTyped}
-use Rattle.pungi_lower.specs.TypedCalls.{calls_none, is_free_option, are_free_locals}
-use Rattle.pungi_lower.specs.VarKinds.{held_kind, kind_held, stmt_reached, stmts_reached}
+use Rattle.pungi_layout.specs.Typed.{is_kept, IsHeld, IsInitial, IsReachedTyped, AreReachedTyped}
+use Rattle.pungi_layout.specs.TypedCalls.{calls_none, is_free_option, are_free_locals}
+use Rattle.pungi_layout.specs.VarKinds.{held_kind, kind_held, stmt_reached, stmts_reached}
 use Rattle.pungi_lower.proofs.KindsParts.{Going, convert_going}
 use Rattle.pungi_lower.proofs.KindsWords.{may_be_kept, declared_kept, IsKindHeld, IsLocalHeld, HasVars}
 use Rattle.pungi_lower.proofs.KindsCalls.{HasRows}

@@ -15,11 +15,11 @@ use Rattle.pungi_types.specs.Resolved.{Value, Place, computed, compared, joined_
 use Rattle.pungi_meaning.specs.Values.{cmp_of}
 use Rattle.pungi_code.specs.WellFormed as code
 use Rattle.pungi_resolve.proofs.Clean.{and_true, and_left, and_right}
-use Rattle.pungi_lower.specs.Temporaries.{value_column}
-use Rattle.pungi_lower.specs.Typed.{is_counted, is_kept, IsNumber, IsText, IsObject, Alike, are_numbers, are_objects, are_texts, IsPlaceTyped}
-use Rattle.pungi_lower.specs.TypedCalls.{calls_none, is_free_place}
-use Rattle.pungi_lower.proofs.KindsColumns.{null_column, joined_numbers, joined_is}
-use Rattle.pungi_lower.specs.Typed.{AreComparable}
+use Rattle.pungi_layout.specs.Temporaries.{value_column}
+use Rattle.pungi_layout.specs.Typed.{is_counted, is_kept, IsNumber, IsText, IsObject, Alike, are_numbers, are_objects, are_texts, IsPlaceTyped}
+use Rattle.pungi_layout.specs.TypedCalls.{calls_none, is_free_place}
+use Rattle.pungi_layout.proofs.KindsColumns.{null_column, joined_numbers, joined_is}
+use Rattle.pungi_layout.specs.Typed.{AreComparable}
 use Rattle.pungi_lower.proofs.KindsParts.{Kin, kin_number, kin_column, kin_if, Typed, convert_going}
 
 -- .. kinds that were found

@@ -9,10 +9,10 @@ use Rattle.pungi_types.specs.declared.kind.ValueKind.TheVariants as kinds
 use Rattle.pungi_types.specs.Operators.{is_integer, fits}
 use Rattle.pungi_types.specs.Resolved.{Value, converted, convert, convert_some, is_same_kind}
 use Rattle.pungi_meaning.specs.Values.{slot_kind}
-use Rattle.pungi_lower.specs.Temporaries.{column, value_column}
-use Rattle.pungi_lower.specs.Typed.{is_counted, is_kept, is_null, IsNumber, IsText, IsObject, GoesIn, IsTyped}
-use Rattle.pungi_lower.specs.TypedCalls.{calls_none}
-use Rattle.pungi_lower.proofs.KindsColumns.{null_column}
+use Rattle.pungi_layout.specs.Temporaries.{column, value_column}
+use Rattle.pungi_layout.specs.Typed.{is_counted, is_kept, is_null, IsNumber, IsText, IsObject, GoesIn, IsTyped}
+use Rattle.pungi_layout.specs.TypedCalls.{calls_none}
+use Rattle.pungi_layout.proofs.KindsColumns.{null_column}
 
 -- a value is of a kind that the rules know
 abbrev pub Kin : Option ValueKind → Value → Type 0

@@ -24,8 +24,8 @@ use Rattle.pungi_resolve.proofs.Known.{HasKinds}
 use Rattle.pungi_resolve.proofs.UsedValues.{argument-met}
 use Rattle.pungi_resolve.proofs.SoundParts.{word-callable, call-holds}
 use Rattle.pungi_resolve.proofs.SoundExprs.{expr-good, node, unless, answered}
-use Rattle.pungi_lower.specs.Typed.{AreTyped}
-use Rattle.pungi_lower.specs.TypedCalls.{calls_none, is_free_place, call_none}
+use Rattle.pungi_layout.specs.Typed.{AreTyped}
+use Rattle.pungi_layout.specs.TypedCalls.{calls_none, is_free_place, call_none}
 use Rattle.pungi_lower.proofs.KindsParts.{Kin, Typed, kin_if}
 use Rattle.pungi_lower.proofs.KindsOperators.{IsPlaceOf, found, binary_typed, assign_typed, step_typed, sign_typed, negation_typed, cond_typed}
 use Rattle.pungi_lower.proofs.KindsWords.{HasVars, char_typed, int_typed, word_typed, field_typed}

@@ -20,11 +20,11 @@ use Rattle.pungi_resolve.proofs.Clean.{Clean, left, right, not_when, or_right, a
 use Rattle.pungi_resolve.proofs.UsedValues.{one-asked}
 use Rattle.pungi_resolve.proofs.SoundExprs.{expr-good, node, unless}
 use Rattle.pungi_resolve.proofs.SoundStmts.{site, start-site, stmt-site}
-use Rattle.pungi_lower.specs.Typed.{IsNumber, IsTyped, IsOptionTyped, AreReachedTyped, IsStmtTyped, AreStmtsTyped}
-use Rattle.pungi_lower.specs.TypedCalls.{calls_none, is_free_option, are_free_locals, has_no_call, have_no_call}
-use Rattle.pungi_lower.specs.VarKinds.{stmt_reached, stmts_reached}
+use Rattle.pungi_layout.specs.Typed.{IsNumber, IsTyped, IsOptionTyped, AreReachedTyped, IsStmtTyped, AreStmtsTyped}
+use Rattle.pungi_layout.specs.TypedCalls.{calls_none, is_free_option, are_free_locals, has_no_call, have_no_call}
+use Rattle.pungi_layout.specs.VarKinds.{stmt_reached, stmts_reached}
 use Rattle.pungi_lower.proofs.KindsParts.{kin_number, convert_going}
-use Rattle.pungi_lower.proofs.KindsBase.{le_true}
+use Rattle.pungi_layout.proofs.KindsBase.{le_true}
 use Rattle.pungi_lower.proofs.KindsWords.{bounded, byte_low, fits_pos, not_less}
 use Rattle.pungi_lower.proofs.KindsLocals.{start_count, stmt_count, AreHeld, held_front, held_behind, Knows, vars_kinds}
 use Rattle.pungi_lower.proofs.KindsPassed.{expr_kinds}

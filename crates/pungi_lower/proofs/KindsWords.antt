@@ -19,10 +19,10 @@ use Rattle.pungi_types.specs.Operators.{struct_part}
 use Rattle.pungi_types.specs.Resolved.{Value, local_place, field_place, constant, read, read_as, field_of, word_place, word_value, int_value}
 use Rattle.pungi_meaning.specs.Values.{fits, slot_kind}
 use Rattle.pungi_resolve.proofs.Clean.{or_right}
-use Rattle.pungi_lower.specs.Temporaries.{value_column}
-use Rattle.pungi_lower.specs.Typed.{is_kept, IsObject, IsHeld, IsTyped}
-use Rattle.pungi_lower.specs.TypedCalls.{calls_none, is_free_place}
-use Rattle.pungi_lower.proofs.KindsBase.{le_true}
+use Rattle.pungi_layout.specs.Temporaries.{value_column}
+use Rattle.pungi_layout.specs.Typed.{is_kept, IsObject, IsHeld, IsTyped}
+use Rattle.pungi_layout.specs.TypedCalls.{calls_none, is_free_place}
+use Rattle.pungi_layout.proofs.KindsBase.{le_true}
 use Rattle.pungi_lower.proofs.KindsParts.{kin_column, Typed}
 use Rattle.pungi_lower.proofs.KindsOperators.{IsPlaceOf}
 

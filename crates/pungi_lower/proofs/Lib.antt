@@ -1,33 +1,3 @@
-pub mod ListLemmas
-pub mod ArgLemmas
-pub mod Lengths
-pub mod StmtLengths
-pub mod EmitLemmas
-pub mod DeclLemmas
-pub mod CaseLemmas
-pub mod LabelLemmas
-pub mod StmtLemmas
-pub mod ActionLemmas
-pub mod SurveyLemmas
-pub mod KindLemmas
-pub mod Relation
-pub mod Match
-pub mod Answers
-pub mod Steps
-pub mod SimOperators
-pub mod SimPlaces
-pub mod SimCalls
-pub mod SimEval
-pub mod Jumps
-pub mod SimStmts
-pub mod SimSwitch
-pub mod Sim
-pub mod Light
-pub mod Whole
-pub mod PlacedExprs
-pub mod PlacedStmts
-pub mod WeightCounts
-pub mod Final
 pub mod NodesExprs
 pub mod NodesStmts
 pub mod TypedParts
@@ -35,24 +5,6 @@ pub mod TypedExprs
 pub mod TypedStmts
 pub mod TypedFunctions
 pub mod NodesCode
-pub mod LivenessLemmas
-pub mod LivenessExprs
-pub mod KindsBase
-pub mod KindsColumns
-pub mod KindsExprs
-pub mod KindsPlaces
-pub mod KindsStmts
-pub mod KindsCode
-pub mod FoundPlaces
-pub mod LivenessStmts
-pub mod BoundaryExprs
-pub mod BoundaryStmts
-pub mod BoundaryHeads
-pub mod EntryKinds
-mod Worked
-mod WorkedOperators
-mod WorkedSlots
-mod WorkedStatements
 pub mod KindsParts
 pub mod KindsOperators
 pub mod KindsWords
@@ -61,8 +13,5 @@ pub mod KindsPassed
 pub mod KindsLocals
 pub mod KindsPassedStmts
 pub mod KindsFunctions
-pub mod KindsSlots
 pub mod TypedLaws
 pub mod Lowered
-pub mod PlanLists
-pub mod PlanLemmas

@@ -21,18 +21,18 @@ use Rattle.pungi_meaning.specs.Entries.{entry_fits}
 use Rattle.pungi_code.specs.declared.code.Code.{Code}
 use Rattle.pungi_code.specs.declared.code.Codes.{Codes}
 use Rattle.pungi_code.specs.WellFormed.{IsWellFormed, AgreeOnKinds, AreWellFormed}
-use Rattle.pungi_lower.specs.Codes.{code_for}
-use Rattle.pungi_lower.specs.Correct.{temps_of, Behaves}
+use Rattle.pungi_layout.specs.Codes.{code_for}
+use Rattle.pungi_layout.specs.Correct.{temps_of, Behaves}
 use Rattle.pungi_lower.specs.Lowered.{codes_of, names_of, IsEachPassed, IsLowered, AreLowered}
-use Rattle.pungi_lower.specs.Sound.{IsStmtSound, stmt_nodes}
-use Rattle.pungi_lower.specs.StmtCode.{body_code}
-use Rattle.pungi_lower.specs.VarKinds.{kind_held, stmt_reached, temp_kinds, var_kinds}
-use Rattle.pungi_lower.specs.TypedCalls.{has_no_call}
-use Rattle.pungi_lower.specs.TypedCode.{code_of, HasLocals}
-use Rattle.pungi_lower.proofs.BoundaryHeads.{keeps_nothing}
-use Rattle.pungi_lower.proofs.EntryKinds.{entries_alike, fit-count}
-use Rattle.pungi_lower.proofs.Final.{laid_out}
-use Rattle.pungi_lower.proofs.KindsCode.{vars_long}
+use Rattle.pungi_layout.specs.Sound.{IsStmtSound, stmt_nodes}
+use Rattle.pungi_layout.specs.StmtCode.{body_code}
+use Rattle.pungi_layout.specs.VarKinds.{kind_held, stmt_reached, temp_kinds, var_kinds}
+use Rattle.pungi_layout.specs.TypedCalls.{has_no_call}
+use Rattle.pungi_layout.specs.TypedCode.{code_of, HasLocals}
+use Rattle.pungi_layout.proofs.BoundaryHeads.{keeps_nothing}
+use Rattle.pungi_layout.proofs.EntryKinds.{entries_alike, fit-count}
+use Rattle.pungi_layout.proofs.Final.{laid_out}
+use Rattle.pungi_layout.proofs.KindsCode.{vars_long}
 use Rattle.pungi_lower.proofs.KindsFunctions.{function-locals, function-well-formed}
 use Rattle.pungi_lower.proofs.NodesCode.{code-few}
 use Rattle.pungi_lower.proofs.TypedFunctions.{function-works, nodes-bounded}

@@ -18,9 +18,9 @@ use Rattle.pungi_types.specs.Operators.{prefix_of, is_integer, is_void, is_order
 use Rattle.pungi_types.specs.Exprs.{Callee, no_word, a_value, defined, a_row, no_function, callee, int_kind, kind_of, is_module_address, wants, wants_module, other_wants}
 use Rattle.pungi_types.specs.Resolved.{Value, Values, Place, computed, compared, joined_by, updated, stored, dropped, cast_of, resolve, place_of, resolve_all, convert, convert_some, is_same_kind, cast_value, read_as, field_of, word_place, word_value, int_value, or_int, binary_value, assign_value, call_value, callee_name, static_behind, module_behind, unary_value, want_kind, expr_pos}
 use Rattle.pungi_meaning.specs.Values.{wide}
-use Rattle.pungi_lower.specs.Parts.{is_minus}
-use Rattle.pungi_lower.specs.Sizes.{expr_size, place_size, values_size, fit_size, store_size}
-use Rattle.pungi_lower.specs.Sound.{expr_nodes, place_nodes, values_nodes}
+use Rattle.pungi_layout.specs.Parts.{is_minus}
+use Rattle.pungi_layout.specs.Sizes.{expr_size, place_size, values_size, fit_size, store_size}
+use Rattle.pungi_layout.specs.Sound.{expr_nodes, place_nodes, values_nodes}
 
 -- a value that n nodes of the text become, with one conversion more
 pub record Few (v : Value) (n : ℕ) : Type 0 where

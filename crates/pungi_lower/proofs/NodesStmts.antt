@@ -13,8 +13,8 @@ use Rattle.pungi_types.specs.ResolvedStmts.{Site, Reached, Action, Actions, bloc
 use Rattle.pungi_meaning.specs.Todo.{listed}
 use Rattle.pungi_meaning.specs.Stmts.{cases_of, block_cases}
 use Rattle.pungi_meaning.specs.Work.{declared, declared_by}
-use Rattle.pungi_lower.specs.Sizes.{expr_size, option_size, reach_size, test_size, stmt_size, stmts_size, switch_size}
-use Rattle.pungi_lower.specs.Sound.{option_nodes, reach_nodes, stmt_nodes, stmts_nodes}
+use Rattle.pungi_layout.specs.Sizes.{expr_size, option_size, reach_size, test_size, stmt_size, stmts_size, switch_size}
+use Rattle.pungi_layout.specs.Sound.{option_nodes, reach_nodes, stmt_nodes, stmts_nodes}
 use Rattle.pungi_lower.proofs.NodesExprs.{convert-few, expr-few}
 
 record FewOption (o : Option Value) (n : ℕ) : Type 0 where

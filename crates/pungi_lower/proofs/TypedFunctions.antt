@@ -19,8 +19,8 @@ use Rattle.pungi_resolve.proofs.Clean.{Clean, clean, left, right, not_when}
 use Rattle.pungi_resolve.proofs.Known.{HasKinds}
 use Rattle.pungi_resolve.proofs.SoundStmts.{site}
 use Rattle.pungi_resolve.proofs.SoundFunctions.{text-clean, result-known, names-passed, params-names, params-site}
-use Rattle.pungi_lower.specs.Sound.{IsStmtSound, stmt_nodes}
-use Rattle.pungi_lower.specs.Sizes.{stmt_size}
+use Rattle.pungi_layout.specs.Sound.{IsStmtSound, stmt_nodes}
+use Rattle.pungi_layout.specs.Sizes.{stmt_size}
 use Rattle.pungi_lower.proofs.TypedParts.{IsBelow, HasNumbers}
 use Rattle.pungi_lower.proofs.TypedStmts.{one_more-numbered, stmts-work}
 use Rattle.pungi_lower.proofs.NodesStmts.{stmts-few}

@@ -26,8 +26,8 @@ use Rattle.pungi_types.specs.Resolved.{Value, Values, Place, computed, compared,
 use Rattle.pungi_resolve.proofs.Clean.{or_left, or_right}
 use Rattle.pungi_resolve.proofs.OperatorKinds.{step-kept}
 use Rattle.pungi_resolve.proofs.SoundExprs.{Good}
-use Rattle.pungi_lower.specs.Parts.{gives, gives_form}
-use Rattle.pungi_lower.specs.Sound.{IsSound, IsPlaceSound, AreSound}
+use Rattle.pungi_layout.specs.Parts.{gives, gives_form}
+use Rattle.pungi_layout.specs.Sound.{IsSound, IsPlaceSound, AreSound}
 
 -- a local that a name stands for is one of the first n
 abbrev pub IsBelow : ℕ → Option Local → Type 0

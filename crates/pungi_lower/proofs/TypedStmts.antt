@@ -21,7 +21,7 @@ use Rattle.pungi_resolve.proofs.Known.{HasKinds, one_more, declared-not_void}
 use Rattle.pungi_resolve.proofs.UsedValues.{one-asked}
 use Rattle.pungi_resolve.proofs.SoundExprs.{expr-good}
 use Rattle.pungi_resolve.proofs.SoundStmts.{site, value_kind, vars-sound, start-site, stmt-site, names-behind}
-use Rattle.pungi_lower.specs.Sound.{IsWanted, IsOptionSound, IsOptionWanted, AreReached, IsStmtSound, AreStmtsSound}
+use Rattle.pungi_layout.specs.Sound.{IsWanted, IsOptionSound, IsOptionWanted, AreReached, IsStmtSound, AreStmtsSound}
 use Rattle.pungi_lower.proofs.TypedParts.{IsBelow, HasNumbers, Works, convert-works, fits-not_void}
 use Rattle.pungi_lower.proofs.TypedExprs.{expr-works}
 

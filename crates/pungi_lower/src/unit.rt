@@ -1,5 +1,5 @@
-//! The codes of functions, and of a checked file.
-ghost use Rattle.std.specs.Prelude.{◌≡◌, ◌+◌, ◌≤◌, ◌^◌, [], map, option_map, length, IfOk, IsTrue};
+//! The codes of a checked file.
+ghost use Rattle.std.specs.Prelude.{◌≡◌, ◌+◌, ◌≤◌, ◌^◌, [], map, length, IfOk, IsTrue};
 ghost use Rattle.pungi_api.specs.Rows.{are_rows};
 ghost use Rattle.pungi_check.specs.CheckedView.{checked_view};
 ghost use Rattle.pungi_check.specs.Distinct.{are_new};
@@ -7,55 +7,17 @@ ghost use Rattle.pungi_declared.specs.DeclaredView.{function_view as definition_
 ghost use Rattle.pungi_types.specs.Files.{definitions as definitions_of};
 ghost use Rattle.pungi_types.specs.Names.{type_objects};
 ghost use Rattle.pungi_types.specs.Refused.{IsRefusedSet};
-ghost use Rattle.pungi_resolved.specs.ActionView.{function_view};
 ghost use Rattle.pungi_code.specs.WellFormed.{AreWellFormed};
-ghost use Rattle.pungi_lower.specs.TypedCode.{code_of};
-ghost use Rattle.pungi_lower.specs.Codes.{code_for};
 ghost use Rattle.pungi_lower.specs.Lowered.{codes_of, names_of, AreLowered};
 
-use crate::calls::has_no_call;
-use crate::function::lower_function;
 use pungi_base::{Memory, Name, Seq};
 use pungi_check::Checked;
-use pungi_code::{Code, Codes};
+use pungi_code::Codes;
 use pungi_declared::definitions;
+use pungi_emit::lower_functions;
 use pungi_resolve::resolve_unit;
-use pungi_resolved::Function;
 use pungi_tree::FunctionDef;
 use std::alloc::Global;
-
-/// The code of a function that may be refused.
-fn lower_one(alloc: Global, f: &Option<Function>) -> Result<Option<Code>, Memory>
-    ensures { IfOk result (λ code. code ≡ code_for (option_map function_view f.now)) }
-{
-    match f {
-        Some(f) => {
-            if has_no_call(&f.body) {
-                let code = lower_function(alloc, f)?;
-                Ok(Some(code))
-            } else {
-                Ok(None)
-            }
-        }
-        None => Ok(None),
-    }
-}
-
-/// The codes of the functions of a file. There is none of a function that is refused, and none of one that calls a
-/// function of the file.
-pub fn lower_functions(
-    alloc: Global,
-    functions: &[Option<Function>],
-) -> Result<Seq<Option<Code>>, Memory>
-    ensures { IfOk result (λ codes. codes ≡ map code_for (map (option_map function_view) functions.now)) }
-{
-    let mut codes = Seq::new(Vec::new(alloc));
-    for f in functions {
-        let code = lower_one(alloc, f)?;
-        codes.push(code)?;
-    }
-    Ok(codes)
-}
 
 /// The names of functions.
 fn names(alloc: Global, list: &[&FunctionDef]) -> Result<Seq<Name>, Memory>

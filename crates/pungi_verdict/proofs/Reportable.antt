@@ -13,7 +13,7 @@ use Rattle.pungi_types.specs.Functions.{refusal}
 use Rattle.pungi_types.specs.ResolvedStmts.{ResolvedFunction, resolved}
 use Rattle.pungi_check.specs.CheckedFile.{CheckedFile}
 use Rattle.pungi_code.specs.declared.code.Code.{Code}
-use Rattle.pungi_lower.specs.Codes.{code_for}
+use Rattle.pungi_layout.specs.Codes.{code_for}
 use Rattle.pungi_verdict.specs.Verdicts.{IsRight, IsShown, object_code, statics_of, HasFewTraces, HasManyTraces, IsTold, IsJudged, IsReportable}
 
 refused-reportable : (v : Verdict) (at : Pos) (rule : Rule) → v ≡ verdict.Refused at rule → IsReportable v

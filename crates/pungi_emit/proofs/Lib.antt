@@ -1,0 +1,12 @@
+pub mod ListLemmas
+pub mod ArgLemmas
+pub mod EmitLemmas
+pub mod DeclLemmas
+pub mod CaseLemmas
+pub mod LabelLemmas
+pub mod StmtLemmas
+pub mod ActionLemmas
+pub mod SurveyLemmas
+pub mod KindLemmas
+pub mod PlanLists
+pub mod PlanLemmas

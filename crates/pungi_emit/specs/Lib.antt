@@ -1,0 +1,3 @@
+pub mod LabelPlaces
+pub mod Plans
+pub mod Cases

@@ -1,0 +1,54 @@
+// Calls of the API.
+ghost use Rattle.std.specs.Prelude.{◌≡◌, IfOk, map};
+ghost use Rattle.pungi_resolved.specs.ValueView.{value_view};
+ghost use Rattle.pungi_meaning.specs.Work.{shape_of as plain_shape};
+ghost use Rattle.pungi_layout.specs.ExprCode.{var as var_atom};
+ghost use Rattle.pungi_layout.specs.Temporaries.{arg_vars};
+
+use crate::number::small;
+use crate::temporary::{atom, front_column, operand, tail};
+use pungi_api::{Param, Row, Shape};
+use pungi_base::Memory;
+use pungi_code::Atom;
+use pungi_resolved::Value as Node;
+use std::alloc::Global;
+
+/// A call of a row that writes no variable.
+pub fn shape_of(alloc: Global, row: &Row) -> Result<Shape, Memory>
+    ensures { IfOk result (λ shape. shape ≡ plain_shape row.now) }
+{
+    let row = Row {
+        form: row.form,
+        params: row.params.copy(alloc)?,
+        takes: row.takes.copy(alloc)?,
+        answer: row.answer,
+    };
+    Ok(Shape {
+        row,
+        units_in: None,
+        units_out: None,
+        least: 0,
+        outputs: 0,
+    })
+}
+
+/// The variables of the arguments of a call, in order.
+#[tactic(auto, using(crate::proofs::ArgLemmas::args_step))]
+pub fn arg_atoms(
+    alloc: Global,
+    locals: u32,
+    depth: u32,
+    params: &[Param],
+    args: &[Node],
+) -> Result<Vec<Atom>, Memory>
+    ensures { IfOk result (λ atoms. atoms.items ≡ map var_atom (arg_vars locals depth params.now (map value_view args.now))) }
+{
+    let mut atoms = Vec::new(alloc);
+    let mut left = params;
+    for (i, arg) in args.iter().enumerate() {
+        let level = small(depth as u64 + i as u64)?;
+        atoms.push(atom(operand(locals, level, front_column(left), arg)?))?;
+        left = tail(left);
+    }
+    Ok(atoms)
+}

@@ -1,0 +1,6 @@
+use Rattle.pungi_resolved.specs.ActionView.{function_view}
+use Rattle.pungi_layout.proofs.KindsCode.{well-formed}
+use Rattle.pungi_layout.proofs.kinds.layout_is_well_formed.Goals as goal
+
+pub returns : goal.returns
+returns c = λ file. well-formed file (function_view c.args.f.now)

@@ -1,0 +1,25 @@
+// What the layout of a function promises.
+ghost use Rattle.std.specs.Prelude.{◌≡◌, ◌+◌, ◌*◌, ◌≤◌};
+ghost use Rattle.pungi_resolved.specs.ActionView.{function_view};
+ghost use Rattle.pungi_layout.specs.StmtCode.{body_code};
+ghost use Rattle.pungi_layout.specs.Sound.{IsStmtSound, stmt_nodes};
+ghost use Rattle.pungi_layout.specs.Correct.{temps_of, Behaves};
+ghost use Rattle.pungi_layout.specs.Boundaries.{KeepsNothing};
+ghost use Rattle.pungi_layout.specs.Heads.{heads_of};
+
+use pungi_resolved::Function;
+
+/// The law of the layout: from any entry and with any answers of the outside, the run of a function and the run of the
+/// instructions that are laid out for it are alike.
+pub fn layout_is_alike(f: &Function)
+    requires sound { IsStmtSound (function_view f.now).locals (function_view f.now).body }
+    requires nodes { 5 * stmt_nodes (function_view f.now).body ≤ 65536 }
+    ensures { Behaves (function_view f.now) (body_code (function_view f.now)) ((function_view f.now).locals + temps_of (function_view f.now)) 65536 }
+{}
+
+/// The law of its temporaries: where one instruction leads to another, and no statement has own nodes at the places of both,
+/// and at each loop's head, no path reads a temporary before it writes it.
+pub fn layout_keeps_nothing(f: &Function)
+    requires { IsStmtSound (function_view f.now).locals (function_view f.now).body }
+    ensures { KeepsNothing (function_view f.now) (body_code (function_view f.now)) (heads_of (function_view f.now)) (function_view f.now).locals }
+{}

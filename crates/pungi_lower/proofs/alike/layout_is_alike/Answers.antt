@@ -1,6 +1,0 @@
-use Rattle.pungi_resolved.specs.ActionView.{function_view}
-use Rattle.pungi_lower.proofs.Final.{laid_out}
-use Rattle.pungi_lower.proofs.alike.layout_is_alike.Goals as goal
-
-pub returns : goal.returns
-returns c = laid_out (function_view c.args.f.now) c.requires.sound c.requires.nodes

@@ -1,6 +1,0 @@
-use Rattle.pungi_resolved.specs.ActionView.{function_view}
-use Rattle.pungi_lower.proofs.BoundaryHeads.{keeps_nothing}
-use Rattle.pungi_lower.proofs.alike.layout_keeps_nothing.Goals as goal
-
-pub returns : goal.returns
-returns c = keeps_nothing (function_view c.args.f.now) c.requires

@@ -1,7 +1,0 @@
-use Rattle.std.proofs.Common.{◌≡◌, ◌+◌, drop, map}
-use Rattle.pungi_resolved.specs.ValueView.{value_view, values_of}
-use Rattle.pungi_lower.specs.Sound.{values_nodes}
-use Rattle.pungi_lower.proofs.nodes.+nodes.Given as goal
-
-abbrev pub invariant-values_nodes-loop-arg : goal.invariant-values_nodes-loop-arg
-invariant-values_nodes-loop-arg l = l.total + values_nodes (values_of (map value_view (drop l.arg-index l.args))) ≡ values_nodes (values_of (map value_view l.args))

@@ -1,7 +1,0 @@
-use Rattle.std.proofs.Common.{◌≡◌, ◌+◌, drop, map}
-use Rattle.pungi_resolved.specs.ActionView.{action_view, actions_of}
-use Rattle.pungi_lower.specs.Sound.{stmts_nodes}
-use Rattle.pungi_lower.proofs.nodes.+stmt_nodes.Given as goal
-
-abbrev pub invariant-list_nodes-loop-action : goal.invariant-list_nodes-loop-action
-invariant-list_nodes-loop-action l = l.total + stmts_nodes (actions_of (map action_view (drop l.action-index l.list))) ≡ stmts_nodes (actions_of (map action_view l.list))
