@@ -1,5 +1,5 @@
 /// A punctuator of the subset (C11 6.4.6).
-#[derive(Clone, Copy, PartialEq, Eq)]
+#[derive(Clone, Copy, Debug, PartialEq, Eq)]
 pub enum Punct {
     LeftParen,
     RightParen,
