@@ -1,12 +1,8 @@
 //! What the states of small functions show.
 
-use crate::symbol_codes::{
-    appends, compares, compares_statics, hands_over, loads_through_two, puts,
-};
-use pungi_api::Take;
+use crate::source::codes_of;
 use pungi_base::{Memory, Witness};
 use pungi_code::Codes;
-use pungi_meaning::Cmp;
 use pungi_symbol::{Decision, Sym, SymEnd, end, is_balanced, solve, start, step, step_from};
 use std::alloc::Global;
 use std::test::Fail;
@@ -103,73 +99,94 @@ fn show(alloc: Global, codes: &Codes) -> Result<Shown, Memory> {
     Ok(NOTHING)
 }
 
-fn counts(even: u32, uneven: u32, stopped: u32) -> Shown {
-    Shown {
-        even,
-        uneven,
-        stopped,
+fn text_shows(alloc: Global, text: &str) -> Result<Shown, Fail> {
+    let codes = codes_of(alloc, text)?;
+    Ok(show(alloc, &codes)?)
+}
+
+/// An object is put into a field, and the one that was there is given up.
+const PUTS: &str =
+    "typedef struct { PyObject_HEAD PyObject *first; } Box; void f(Box *self, PyObject *x) { PyObject *tmp = self->first; Py_INCREF(x); self->first = x; Py_XDECREF(tmp); }";
+
+/// Functions, and how many of their states return balanced, return unbalanced, and stop.
+const SHOWN: &[(&str, u32, u32, u32)] = &[
+    // An argument leaks.
+    (
+        "PyObject *f(PyObject *l) { if (PyList_Append(l, PyLong_FromLong(1)) < 0) return NULL; Py_INCREF(l); return l; }",
+        0,
+        2,
+        3,
+    ),
+    // An argument is taken over always, where the call succeeds, and never.
+    (
+        "int f(PyObject *l, PyObject *x) { Py_INCREF(x); if (PyList_SetItem(l, 0, x) < 0) { Py_DECREF(x); return -1; } return 0; }",
+        1,
+        1,
+        2,
+    ),
+    (
+        "int f(PyObject *l, PyObject *x) { Py_INCREF(x); if (PyList_SetItem(l, 0, x) < 0) { return -1; } return 0; }",
+        2,
+        0,
+        2,
+    ),
+    (
+        "int f(PyObject *m, PyObject *x) { Py_INCREF(x); if (PyModule_AddObject(m, \"x\", x) < 0) { Py_DECREF(x); return -1; } return 0; }",
+        2,
+        0,
+        2,
+    ),
+    (
+        "int f(PyObject *m, PyObject *x) { Py_INCREF(x); if (PyModule_AddObject(m, \"x\", x) < 0) { return -1; } return 0; }",
+        1,
+        1,
+        2,
+    ),
+    (
+        "int f(PyObject *l, PyObject *x) { Py_INCREF(x); if (PyList_Insert(l, 0, x) < 0) { return -1; } return 0; }",
+        0,
+        2,
+        2,
+    ),
+    // A field is overwritten.
+    (PUTS, 2, 0, 2),
+    (
+        "typedef struct { PyObject_HEAD PyObject *first; } Box; void f(Box *self, PyObject *x) { PyObject *tmp = self->first; Py_INCREF(x); self->first = x; }",
+        1,
+        1,
+        2,
+    ),
+    // Objects are compared.
+    (
+        "void f(PyObject *x, PyObject *y) { if (x == y) { Py_INCREF(x); Py_DECREF(y); } }",
+        4,
+        0,
+        1,
+    ),
+    (
+        "void f(PyObject *x, PyObject *y) { if (x != y) { Py_INCREF(x); Py_DECREF(y); } }",
+        2,
+        1,
+        2,
+    ),
+    ("int f(void) { return Py_None == Py_True; }", 1, 0, 0),
+    // A field is reached through two bases.
+    (
+        "typedef struct { PyObject_HEAD PyObject *first; } Box; PyObject *f(Box *self, Box *other) { PyObject *y; self->first = NULL; y = other->first; Py_XINCREF(y); return y; }",
+        3,
+        3,
+        3,
+    ),
+];
+
+#[test]
+fn states_of_functions(rt: HostRuntime) -> Result<(), Fail> {
+    for (text, even, uneven, stopped) in SHOWN {
+        let shown = text_shows(rt.alloc(), text)?;
+        assert_eq!(rt; shown.even, *even, "at {text}");
+        assert_eq!(rt; shown.uneven, *uneven, "at {text}");
+        assert_eq!(rt; shown.stopped, *stopped, "at {text}");
     }
-}
-
-#[test]
-fn an_argument_leaks(rt: HostRuntime) -> Result<(), Fail> {
-    assert_eq!(rt; show(rt.alloc(), &appends(rt.alloc())?)?, counts(0, 2, 3));
-    Ok(())
-}
-
-fn show_hand(alloc: Global, take: Take, gives_back: bool) -> Result<Shown, Memory> {
-    Ok(show(alloc, &hands_over(alloc, take, gives_back)?)?)
-}
-
-#[test]
-fn an_argument_is_taken_over(rt: HostRuntime) -> Result<(), Fail> {
-    let table = [
-        (Take::Always, true, counts(1, 1, 2)),
-        (Take::Always, false, counts(2, 0, 2)),
-        (Take::OnSuccess, true, counts(2, 0, 2)),
-        (Take::OnSuccess, false, counts(1, 1, 2)),
-        (Take::Never, false, counts(0, 2, 2)),
-    ];
-    for (take, gives_back, wanted) in table {
-        assert_eq!(rt; show_hand(rt.alloc(), take, gives_back)?, wanted);
-    }
-    Ok(())
-}
-
-#[test]
-fn a_field_is_overwritten(rt: HostRuntime) -> Result<(), Fail> {
-    assert_eq!(rt;
-        show(rt.alloc(), &puts(rt.alloc(), true)?)?,
-        counts(2, 0, 2)
-    );
-    assert_eq!(rt;
-        show(rt.alloc(), &puts(rt.alloc(), false)?)?,
-        counts(1, 1, 2)
-    );
-    Ok(())
-}
-
-#[test]
-fn objects_are_compared(rt: HostRuntime) -> Result<(), Fail> {
-    assert_eq!(rt;
-        show(rt.alloc(), &compares(rt.alloc(), Cmp::Equal)?)?,
-        counts(4, 0, 1)
-    );
-    assert_eq!(rt;
-        show(rt.alloc(), &compares(rt.alloc(), Cmp::NotEqual)?)?,
-        counts(2, 1, 2)
-    );
-    assert_eq!(rt;
-        show(rt.alloc(), &compares_statics(rt.alloc())?)?,
-        counts(1, 0, 0)
-    );
-    Ok(())
-}
-
-#[test]
-fn a_field_is_reached_through_two_bases(rt: HostRuntime) -> Result<(), Fail> {
-    let codes = loads_through_two(rt.alloc())?;
-    assert_eq!(rt; show(rt.alloc(), &codes)?, counts(3, 3, 3));
     Ok(())
 }
 
@@ -181,13 +198,17 @@ fn first_run(alloc: Global, codes: &Codes) -> Result<Option<Witness>, Memory> {
     }
 }
 
+/// How many objects there are where that run begins.
+fn objects_of_run(alloc: Global, codes: &Codes) -> Result<Option<u32>, Memory> {
+    match first_run(alloc, codes)? {
+        Some(witness) => Ok(Some(witness.input.objects)),
+        None => Ok(None),
+    }
+}
+
 #[test]
 fn a_state_has_a_run(rt: HostRuntime) -> Result<(), Fail> {
-    let run = first_run(rt.alloc(), &puts(rt.alloc(), true)?)?;
-    let objects = match run {
-        Some(witness) => witness.input.objects,
-        None => 0,
-    };
-    assert_eq!(rt; objects, 26);
+    let codes = codes_of(rt.alloc(), PUTS)?;
+    assert_eq!(rt; objects_of_run(rt.alloc(), &codes)?, Some(26));
     Ok(())
 }
