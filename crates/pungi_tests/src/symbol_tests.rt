@@ -52,14 +52,6 @@ fn with_end(shown: Shown, state: &Sym) -> Shown {
     }
 }
 
-fn first(alloc: Global, codes: &Codes) -> Result<Vec<Sym>, Memory> {
-    let mut pending = Vec::new(alloc);
-    for (_, state) in start(alloc, codes, 0)? {
-        pending.push(state)?;
-    }
-    Ok(pending)
-}
-
 /// Whether these are the same answers, of states that show the same.
 fn agree(copies: &[(Decision, Sym)], moved: &[(Decision, Sym)]) -> bool {
     copies.len() == moved.len()
@@ -67,36 +59,53 @@ fn agree(copies: &[(Decision, Sym)], moved: &[(Decision, Sym)]) -> bool {
             && with_end(NOTHING, &a.1) == with_end(NOTHING, &b.1))
 }
 
+/// Adds the next states of a state, and tells whether they are the same as these.
+fn add_same(
+    copies: &[(Decision, Sym)],
+    moved: Vec<(Decision, Sym)>,
+    pending: &mut Vec<(Decision, Sym)>,
+) -> Result<bool, Memory> {
+    let same = agree(copies, moved.as_slice());
+    let mut moved = moved;
+    pending.append(&mut moved)?;
+    Ok(same)
+}
+
 /// Adds the next states of a state, and tells whether they are the same where it is used up and where not.
 fn add_next(
     alloc: Global,
     codes: &Codes,
     state: Sym,
-    pending: &mut Vec<Sym>,
+    pending: &mut Vec<(Decision, Sym)>,
 ) -> Result<bool, Memory> {
     let copies = step(alloc, codes, &state)?;
     let moved = step_from(alloc, codes, state)?;
-    let same = agree(copies.as_slice(), moved.as_slice());
-    for (_, next) in moved {
-        pending.push(next)?;
-    }
-    Ok(same)
+    add_same(copies.as_slice(), moved, pending)
 }
 
-/// What all states of the one function show, if the next states of each are the same where it is used up and where not.
-fn show(alloc: Global, codes: &Codes) -> Result<Shown, Memory> {
-    let mut pending = first(alloc, codes)?;
+/// What these states and all behind them show, if the next states of each are the same where it is used up and where not.
+fn show_all(
+    alloc: Global,
+    codes: &Codes,
+    pending: &mut Vec<(Decision, Sym)>,
+) -> Result<Shown, Memory> {
     let mut shown = NOTHING;
     for _ in 0..1000 {
-        let Some(state) = pending.pop() else {
+        let Some((_, state)) = pending.pop() else {
             return Ok(shown);
         };
         shown = with_end(shown, &state);
-        if !add_next(alloc, codes, state, &mut pending)? {
+        if !add_next(alloc, codes, state, pending)? {
             return Ok(NOTHING);
         }
     }
     Ok(NOTHING)
+}
+
+/// What all states of the one function show.
+fn show(alloc: Global, codes: &Codes) -> Result<Shown, Memory> {
+    let mut pending = start(alloc, codes, 0)?;
+    show_all(alloc, codes, &mut pending)
 }
 
 fn text_shows(alloc: Global, text: &str) -> Result<Shown, Fail> {
@@ -190,25 +199,27 @@ fn states_of_functions(rt: HostRuntime) -> Result<(), Fail> {
     Ok(())
 }
 
-/// The run of the first state of a function.
+/// The run of the last of the first states of a function.
 fn first_run(alloc: Global, codes: &Codes) -> Result<Option<Witness>, Memory> {
-    match first(alloc, codes)?.pop() {
-        Some(state) => Ok(solve(alloc, codes, &state)?),
+    let states = start(alloc, codes, 0)?;
+    match states.last() {
+        Some((_, state)) => solve(alloc, codes, state),
         None => Ok(None),
     }
 }
 
-/// How many objects there are where that run begins.
-fn objects_of_run(alloc: Global, codes: &Codes) -> Result<Option<u32>, Memory> {
-    match first_run(alloc, codes)? {
-        Some(witness) => Ok(Some(witness.input.objects)),
-        None => Ok(None),
+/// Whether so many objects are there where that run begins.
+fn begins_with(alloc: Global, codes: &Codes, objects: u32) -> Result<bool, Memory> {
+    let run = first_run(alloc, codes)?;
+    match run {
+        Some(witness) => Ok(witness.input.objects == objects),
+        None => Ok(false),
     }
 }
 
 #[test]
 fn a_state_has_a_run(rt: HostRuntime) -> Result<(), Fail> {
     let codes = codes_of(rt.alloc(), PUTS)?;
-    assert_eq!(rt; objects_of_run(rt.alloc(), &codes)?, Some(26));
+    assert!(rt; begins_with(rt.alloc(), &codes, 26)?);
     Ok(())
 }
