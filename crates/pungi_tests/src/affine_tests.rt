@@ -70,7 +70,7 @@ fn tells(outcome: Result<Span, DomainFault>, row: &[i128]) -> bool {
 }
 
 // How many vectors span the outcome.
-fn dimension_of(outcome: Result<Span, DomainFault>) -> Option<usize> {
+fn dimension_of(outcome: Result<Span, DomainFault>) -> Option<u32> {
     match outcome {
         Ok(span) => Some(span.dimension()),
         Err(_) => None,

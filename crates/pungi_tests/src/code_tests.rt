@@ -15,7 +15,7 @@ fn at(col: u32) -> Pos {
 /// The instructions of `int f(int n) { while (n) n = n - 1; return n; }`.
 fn lines(alloc: Global) -> Result<Vec<Line>, AllocError> {
     let n = Atom::Var(NUMBER);
-    vec![in alloc;
+    Ok(vec![in alloc;
         Line {
             pos: at(16),
             instr: Instr::Branch(n, Label(1), Label(3))
@@ -32,7 +32,7 @@ fn lines(alloc: Global) -> Result<Vec<Line>, AllocError> {
             pos: at(37),
             instr: Instr::Return(Some(n))
         },
-    ]
+    ]?)
 }
 
 fn counting(alloc: Global) -> Result<Code, AllocError> {
