@@ -121,20 +121,31 @@ fn host(alloc: Global) -> Result<Unit, Fail> {
     Ok(parse(alloc, &tokens)?)
 }
 
-/// Puts a statement in the place of the one that the function of `host` has.
-fn put(host: &mut Unit, stmt: Stmt) -> bool {
-    match host.items.as_mut_slice() {
-        [_, Item::Function(f)] => match &mut f.body.node {
-            StmtNode::Block(list, _) => match list.as_mut_slice() {
-                [only] => {
-                    *only = stmt;
-                    true
-                }
-                _ => false,
-            },
+fn put_last(list: &mut Vec<Stmt>, stmt: Stmt) -> bool {
+    match list.last_mut() {
+        Some(last) => {
+            *last = stmt;
+            true
+        }
+        None => false,
+    }
+}
+
+fn put_in(item: &mut Item, stmt: Stmt) -> bool {
+    match item {
+        Item::Function(f) => match &mut f.body.node {
+            StmtNode::Block(list, _) => put_last(list, stmt),
             _ => false,
         },
         _ => false,
+    }
+}
+
+/// Puts a statement in the place of the last one of the function of `host`.
+fn put(host: &mut Unit, stmt: Stmt) -> bool {
+    match host.items.last_mut() {
+        Some(item) => put_in(item, stmt),
+        None => false,
     }
 }
 

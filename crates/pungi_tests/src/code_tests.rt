@@ -3,7 +3,7 @@ use pungi_base::{Entry, Memory, Name, Pos, Seq, Value};
 use pungi_code::{Atom, Code, Codes, Head, Instr, Label, Line, Var, code_run, loop_heads};
 use pungi_meaning::{Op, Outcome};
 use pungi_types::ValueKind;
-use std::alloc::Global;
+use std::alloc::{AllocError, Global};
 use std::test::Fail;
 
 const NUMBER: Var = Var(0);
@@ -13,59 +13,52 @@ fn at(col: u32) -> Pos {
 }
 
 /// The instructions of `int f(int n) { while (n) n = n - 1; return n; }`.
-fn lines(alloc: Global) -> Result<Vec<Line>, Memory> {
-    let mut lines = Vec::new(alloc);
-    let one = Atom::Int(1);
-    lines.push(Line {
-        pos: at(16),
-        instr: Instr::Branch(Atom::Var(NUMBER), Label(1), Label(3)),
-    })?;
-    lines.push(Line {
-        pos: at(32),
-        instr: Instr::Arith(NUMBER, ValueKind::Int, Op::Sub, Atom::Var(NUMBER), one),
-    })?;
-    lines.push(Line {
-        pos: at(16),
-        instr: Instr::Jump(Label(0)),
-    })?;
-    lines.push(Line {
-        pos: at(37),
-        instr: Instr::Return(Some(Atom::Var(NUMBER))),
-    })?;
-    Ok(lines)
+fn lines(alloc: Global) -> Result<Vec<Line>, AllocError> {
+    let n = Atom::Var(NUMBER);
+    Ok(vec![in alloc;
+        Line {
+            pos: at(16),
+            instr: Instr::Branch(n, Label(1), Label(3))
+        },
+        Line {
+            pos: at(32),
+            instr: Instr::Arith(NUMBER, ValueKind::Int, Op::Sub, n, Atom::Int(1))
+        },
+        Line {
+            pos: at(16),
+            instr: Instr::Jump(Label(0))
+        },
+        Line {
+            pos: at(37),
+            instr: Instr::Return(Some(n))
+        },
+    ]?)
 }
 
-fn counting(alloc: Global) -> Result<Code, Memory> {
+fn counting(alloc: Global) -> Result<Code, AllocError> {
     let head = Head {
         label: Label(0),
         pos: at(16),
     };
+    let vars = vec![in alloc; Param::Int]?;
+    let heads = vec![in alloc; head]?;
     Ok(Code {
         instrs: Seq::new(lines(alloc)?),
-        vars: Seq::new(vec![in alloc; Param::Int]?),
+        vars: Seq::new(vars),
         params: 1,
         locals: 1,
-        heads: Seq::new(vec![in alloc; head]?),
+        heads: Seq::new(heads),
     })
 }
 
-fn codes(alloc: Global) -> Result<Codes, Memory> {
-    let mut list = Vec::new(alloc);
-    list.push(Some(counting(alloc)?))?;
+fn codes(alloc: Global) -> Result<Codes, AllocError> {
+    let names = vec![in alloc; Name(200)]?;
+    let code = counting(alloc)?;
     Ok(Codes {
-        codes: Seq::new(list),
+        codes: Seq::new(vec![in alloc; Some(code)]?),
         statics: 24,
-        names: Seq::new(vec![in alloc; Name(200)]?),
+        names: Seq::new(names),
     })
-}
-
-/// The run of the function from a number.
-fn run_from(alloc: Global, n: i64, fuel: u32) -> Result<Outcome, Memory> {
-    let entry = Entry {
-        objects: 24,
-        args: Seq::new(vec![in alloc; Value::Int(n)]?),
-    };
-    Ok(code_run(alloc, &codes(alloc)?, 0, &entry, &[], fuel)?)
 }
 
 fn returns(outcome: &Outcome, wanted: i64, place: Pos) -> bool {
@@ -75,27 +68,44 @@ fn returns(outcome: &Outcome, wanted: i64, place: Pos) -> bool {
     }
 }
 
-#[test]
-fn a_code_runs_to_its_end(rt: HostRuntime) -> Result<(), Fail> {
-    let outcome = run_from(rt.alloc(), 3, 11)?;
-    assert!(rt; returns(&outcome, 0, at(37)));
-    Ok(())
+fn is_spent(outcome: &Outcome) -> bool {
+    match outcome {
+        Outcome::OutOfFuel => true,
+        _ => false,
+    }
+}
+
+/// The run of the function from 3.
+fn run_from_three(alloc: Global, codes: &Codes, fuel: u32) -> Result<Outcome, Memory> {
+    let entry = Entry {
+        objects: 24,
+        args: Seq::new(vec![in alloc; Value::Int(3)]?),
+    };
+    code_run(alloc, codes, 0, &entry, &[], fuel)
+}
+
+/// Whether 11 steps are enough, and 10 are not.
+fn takes_eleven_steps(alloc: Global, codes: &Codes) -> Result<bool, Memory> {
+    let spent = is_spent(&run_from_three(alloc, codes, 10)?);
+    Ok(spent && returns(&run_from_three(alloc, codes, 11)?, 0, at(37)))
 }
 
 #[test]
-fn a_code_uses_its_fuel(rt: HostRuntime) -> Result<(), Fail> {
-    let spent = match run_from(rt.alloc(), 3, 10)? {
-        Outcome::OutOfFuel => true,
-        _ => false,
-    };
-    assert!(rt; spent);
+fn a_code_runs_to_its_end(rt: HostRuntime) -> Result<(), Fail> {
+    let codes = codes(rt.alloc())?;
+    assert!(rt; takes_eleven_steps(rt.alloc(), &codes)?);
     Ok(())
+}
+
+/// Whether the first instruction alone is the head of a loop.
+fn has_one_head(alloc: Global, code: &Code) -> Result<bool, Memory> {
+    let labels = loop_heads(alloc, code)?;
+    Ok(labels.as_slice() == [Label(0)].as_slice())
 }
 
 #[test]
 fn heads_of_loops(rt: HostRuntime) -> Result<(), Fail> {
     let code = counting(rt.alloc())?;
-    let labels = loop_heads(rt.alloc(), &code)?;
-    assert!(rt; labels.as_slice() == [Label(0)].as_slice());
+    assert!(rt; has_one_head(rt.alloc(), &code)?);
     Ok(())
 }

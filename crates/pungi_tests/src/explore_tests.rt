@@ -1,64 +1,19 @@
-//! What the states of small functions show.
+//! What is found of small functions.
 
-use crate::codes::{POINTER, V0, V1, V2, add, add_call, add_count, file, row};
-use pungi_api::{Answer, Form, Param, Special};
+use crate::source::codes_of;
 use pungi_base::{Choice, Memory, Value, Witness};
-use pungi_code::{Atom, Codes, Instr, Label, Var};
+use pungi_code::Codes;
 use pungi_explore::{Explored, explore};
-use pungi_meaning::Cmp;
 use std::alloc::Global;
 use std::test::Fail;
 
-/// `y = f(); if (y == NULL) return NULL; return y;`, and where it leaks, with `Py_INCREF(x)` before the first return.
-fn calls(alloc: Global, leaks: bool) -> Result<Codes, Memory> {
-    let made = row(alloc, Form::Plain, &[], &[], Answer::New)?;
-    let mut lines = Vec::new(alloc);
-    add_call(alloc, &mut lines, Some(Var(1)), made, &[])?;
-    add(
-        &mut lines,
-        30,
-        Instr::Compare(Var(2), Cmp::Equal, V1, Atom::Null),
-    )?;
-    add(&mut lines, 30, Instr::Branch(V2, Label(3), Label(5)))?;
-    if leaks {
-        add_count(alloc, &mut lines, Special::XIncRef, V0)?;
-    } else {
-        add(&mut lines, 40, Instr::Jump(Label(4)))?;
-    }
-    add(&mut lines, 50, Instr::Return(Some(Atom::Null)))?;
-    add(&mut lines, 60, Instr::Return(Some(V1)))?;
-    Ok(file(alloc, lines, 1, &[POINTER, POINTER, Param::Int])?)
-}
-
-/// What is found, without the run of a fault.
+/// What is found: nothing, a fault, or one whose run has an argument of its own as its object and a call that fails.
 #[derive(Clone, Copy, Debug, PartialEq, Eq)]
 enum Kind {
     AllBalanced,
+    Leak,
     Fault,
     TooMany,
-}
-
-fn kind_found(alloc: Global, codes: &Codes) -> Result<Kind, Memory> {
-    match explore(alloc, codes, 0)? {
-        Explored::AllBalanced => Ok(Kind::AllBalanced),
-        Explored::Fault(_) => Ok(Kind::Fault),
-        Explored::TooMany => Ok(Kind::TooMany),
-    }
-}
-
-#[test]
-fn a_failed_call_is_balanced(rt: HostRuntime) -> Result<(), Fail> {
-    let codes = calls(rt.alloc(), false)?;
-    assert_eq!(rt; kind_found(rt.alloc(), &codes)?, Kind::AllBalanced);
-    Ok(())
-}
-
-fn run(alloc: Global, codes: &Codes) -> Result<Option<Witness>, Memory> {
-    match explore(alloc, codes, 0)? {
-        Explored::AllBalanced => Ok(None),
-        Explored::Fault(witness) => Ok(Some(witness)),
-        Explored::TooMany => Ok(None),
-    }
 }
 
 /// The argument is an object of its own, and the call fails.
@@ -68,12 +23,46 @@ fn is_leak(run: &Witness) -> bool {
         && run.choices.as_slice() == [Choice::Null].as_slice()
 }
 
+fn kind_of(explored: &Explored) -> Kind {
+    match explored {
+        Explored::AllBalanced => Kind::AllBalanced,
+        Explored::Fault(run) => {
+            if is_leak(run) {
+                Kind::Leak
+            } else {
+                Kind::Fault
+            }
+        }
+        Explored::TooMany => Kind::TooMany,
+    }
+}
+
+fn kind_among(alloc: Global, codes: &Codes) -> Result<Kind, Memory> {
+    let explored = explore(alloc, codes, 0)?;
+    Ok(kind_of(&explored))
+}
+
+fn kind_found(alloc: Global, text: &str) -> Result<Kind, Fail> {
+    let codes = codes_of(alloc, text)?;
+    Ok(kind_among(alloc, &codes)?)
+}
+
+/// Functions, and what is found of them.
+const FOUND: &[(&str, Kind)] = &[
+    (
+        "PyObject *f(PyObject *x) { PyObject *y = PyDict_New(); if (y == NULL) return NULL; return y; }",
+        Kind::AllBalanced,
+    ),
+    (
+        "PyObject *f(PyObject *x) { PyObject *y = PyDict_New(); if (y == NULL) { Py_XINCREF(x); return NULL; } return y; }",
+        Kind::Leak,
+    ),
+];
+
 #[test]
-fn a_failed_call_leaks(rt: HostRuntime) -> Result<(), Fail> {
-    let codes = calls(rt.alloc(), true)?;
-    match run(rt.alloc(), &codes)? {
-        Some(run) => assert!(rt; is_leak(&run)),
-        None => assert!(rt; false),
+fn a_failed_call(rt: HostRuntime) -> Result<(), Fail> {
+    for (text, kind) in FOUND {
+        assert_eq!(rt; kind_found(rt.alloc(), text)?, *kind, "at {text}");
     }
     Ok(())
 }

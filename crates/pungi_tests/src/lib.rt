@@ -1,13 +1,12 @@
-//! Tests of the crates below the program that stand on no text: the worlds, the meaning, the code, the states and the
-//! verdicts of functions, and the domains. They show what no clause says, each in a file named for its crate.
+//! Tests of the crates below the program: the worlds, the meaning, the code and the states of functions, and the
+//! domains. They show what no clause says, each in a file named for its crate. What is said of whole files stands in the
+//! tests of `pungi`.
 #![tactic(auto)]
 
 #[cfg(test)]
 mod affine_tests;
 #[cfg(test)]
 mod code_tests;
-#[cfg(test)]
-mod codes;
 #[cfg(test)]
 mod diff_tests;
 #[cfg(test)]
@@ -17,13 +16,9 @@ mod equations;
 #[cfg(test)]
 mod explore_tests;
 #[cfg(test)]
-mod functions;
-#[cfg(test)]
 mod links_tests;
 #[cfg(test)]
 mod lower_tests;
-#[cfg(test)]
-mod meaning_functions;
 #[cfg(test)]
 mod meaning_tests;
 #[cfg(test)]
@@ -31,13 +26,9 @@ mod report_tests;
 #[cfg(test)]
 mod resolve_tests;
 #[cfg(test)]
-mod symbol_codes;
+mod source;
 #[cfg(test)]
 mod symbol_tests;
-#[cfg(test)]
-mod units;
-#[cfg(test)]
-mod verdict_tests;
 #[cfg(test)]
 mod world_call_tests;
 #[cfg(test)]

@@ -1,11 +1,13 @@
 ghost use Rattle.pungi_meaning.specs.Outcomes.{IsCounted};
 
-use crate::functions::{at, summing};
-use crate::meaning_functions::{BOX, FIRST, one, setting};
-use pungi_base::{Choice, Entry, Memory, Pos, Seq, Value};
+use crate::source::{SUM, function_of};
+use pungi_base::words::WORDS;
+use pungi_base::{Choice, Entry, Memory, Name, Pos, Seq, Value};
+use pungi_meaning::Op::{Add, Div, Mul, Rem, Sub};
 use pungi_meaning::{Op, Outcome, arithmetic, entry_ok, fits, run};
 use pungi_resolved::Function;
 use pungi_types::ValueKind;
+use pungi_types::ValueKind::{Int, Long, Size};
 use pungi_world::{Account, Content, Slot, World};
 use std::alloc::Global;
 use std::test::Fail;
@@ -53,35 +55,51 @@ fn runs(alloc: Global, f: &Function, told: Told) -> Result<bool, Memory> {
     Ok(entry_ok(f, 24, &entry) && shows(&outcome, told.4))
 }
 
-#[test]
-fn a_loop_ends_or_uses_its_fuel(rt: HostRuntime) -> Result<(), Fail> {
-    let f = summing(rt.alloc())?;
-    let six = Shown::Returns(Some(Value::Int(6)), at(63), &[]);
-    assert!(rt; runs(rt.alloc(), &f, Told(24, &[Value::Int(3)], &[], 1000, six))?);
-    assert!(rt;
-        runs(
-            rt.alloc(),
-            &f,
-            Told(24, &[Value::Int(-1)], &[], 1000, Shown::Goes)
-        )?
-    );
-    Ok(())
+fn text_runs(alloc: Global, text: &str, told: Told) -> Result<bool, Fail> {
+    let f = function_of(alloc, text)?;
+    Ok(runs(alloc, &f, told)?)
 }
 
-#[test]
-fn a_call_uses_a_choice(rt: HostRuntime) -> Result<(), Fail> {
-    let f = one(rt.alloc())?;
-    let null = Shown::Returns(Some(NULL), at(48), &[at(55)]);
-    let rows = [
-        Told(24, &[NULL, NULL], &[], 100, Shown::Wants),
-        Told(24, &[NULL, NULL], &[Choice::Null], 100, null),
+const ONE: &str = "PyObject *f(PyObject *self, PyObject *args) { return PyLong_FromLong(1); }";
+
+const SIX: Shown = Shown::Returns(Some(Value::Int(6)), Pos { line: 1, col: 63 }, &[]);
+
+/// A call that failed.
+const FAILED: Shown = Shown::Returns(
+    Some(NULL),
+    Pos { line: 1, col: 47 },
+    &[Pos { line: 1, col: 54 }],
+);
+
+/// Functions and their runs.
+const RUNS: &[(&str, Told)] = &[
+    (SUM, Told(24, &[Value::Int(3)], &[], 1000, SIX)),
+    (SUM, Told(24, &[Value::Int(-1)], &[], 1000, Shown::Goes)),
+    (ONE, Told(24, &[NULL, NULL], &[], 100, Shown::Wants)),
+    (ONE, Told(24, &[NULL, NULL], &[Choice::Null], 100, FAILED)),
+    (
+        ONE,
         Told(24, &[NULL, NULL], &[Choice::Null], 0, Shown::Goes),
-    ];
-    for row in rows {
-        assert!(rt; runs(rt.alloc(), &f, row)?);
+    ),
+];
+
+#[test]
+fn runs_of_functions(rt: HostRuntime) -> Result<(), Fail> {
+    for (text, told) in RUNS {
+        assert!(rt; text_runs(rt.alloc(), text, *told)?, "at {text}");
     }
     Ok(())
 }
+
+/// A field of an object is replaced. The first words of the text are `box` and `first`.
+const REPLACES: &str = concat!(
+    "struct box { PyObject_HEAD PyObject *first; }; typedef struct box Box;\n",
+    "void f(Box *self, PyObject *x) { PyObject *tmp = self->first; Py_INCREF(x); self->first = x; Py_XDECREF(tmp); }",
+);
+
+const BOX: Name = Name(WORDS);
+
+const FIRST: Name = Name(WORDS + 1);
 
 /// Whether one field was touched, which held `NULL` and holds an object now, whose count rose by one.
 fn is_set(world: &World) -> bool {
@@ -119,77 +137,90 @@ fn replaces(outcome: &Outcome) -> bool
     }
 }
 
+/// Where the function of `REPLACES` ends, and where its field is loaded first.
+const END: Pos = Pos { line: 2, col: 111 };
+
+const LOADED: Pos = Pos { line: 2, col: 54 };
+
+fn runs_and_replaces(alloc: Global, f: &Function) -> Result<bool, Memory> {
+    let args = [Value::Object(24), Value::Object(25)];
+    let returns = Shown::Returns(None, END, &[LOADED]);
+    let told = Told(26, &args, &[Choice::Null], 100, returns);
+    let entry = entry_of(alloc, told)?;
+    let outcome = run(alloc, f, &entry, told.2, told.3)?;
+    Ok(shows(&outcome, told.4) && replaces(&outcome))
+}
+
 #[test]
 fn a_field_is_replaced(rt: HostRuntime) -> Result<(), Fail> {
-    let f = setting(rt.alloc())?;
-    let args = [Value::Object(24), Value::Object(25)];
-    let told = Told(
-        26,
-        &args,
-        &[Choice::Null],
-        100,
-        Shown::Returns(None, at(111), &[at(54)]),
-    );
-    let entry = entry_of(rt.alloc(), told)?;
-    let outcome = run(rt.alloc(), &f, &entry, told.2, told.3)?;
-    assert!(rt; shows(&outcome, told.4));
-    assert!(rt; replaces(&outcome));
+    let f = function_of(rt.alloc(), REPLACES)?;
+    assert!(rt; runs_and_replaces(rt.alloc(), &f)?);
     Ok(())
+}
+
+/// How many objects there are, arguments, and whether `SUM` can be entered so.
+const ENTRIES: &[(u32, &[Value], bool)] = &[
+    (24, &[Value::Int(2147483647)], true),
+    (24, &[Value::Int(2147483648)], false),
+    (23, &[Value::Int(0)], false),
+    (24, &[], false),
+    (24, &[NULL], false),
+];
+
+fn entries_are_told(alloc: Global, f: &Function) -> Result<bool, Memory> {
+    for (objects, args, fits) in ENTRIES {
+        let entry = entry_of(alloc, Told(*objects, args, &[], 0, Shown::Goes))?;
+        if entry_ok(f, 24, &entry) != *fits {
+            return Ok(false);
+        }
+    }
+    Ok(true)
 }
 
 #[test]
 fn entries_fit_a_function(rt: HostRuntime) -> Result<(), Fail> {
-    let f = summing(rt.alloc())?;
-    let rows: [(u32, &[Value], bool); 5] = [
-        (24, &[Value::Int(2147483647)], true),
-        (24, &[Value::Int(2147483648)], false),
-        (23, &[Value::Int(0)], false),
-        (24, &[], false),
-        (24, &[NULL], false),
-    ];
-    for (objects, args, fits) in rows {
-        let entry = entry_of(rt.alloc(), Told(objects, args, &[], 0, Shown::Goes))?;
-        assert_eq!(rt; entry_ok(&f, 24, &entry), fits);
-    }
+    let f = function_of(rt.alloc(), SUM)?;
+    assert!(rt; entries_are_told(rt.alloc(), &f)?);
     Ok(())
 }
 
 /// Results that C11 6.5 and 6.5.5 give in 32 and 64 bits, and none past the ends or of a division by 0.
+const RESULTS: &[(Op, ValueKind, i64, i64, Option<i64>)] = &[
+    (Add, Int, 2147483646, 1, Some(2147483647)),
+    (Add, Int, 2147483647, 1, None),
+    (Add, Long, 2147483647, 1, Some(2147483648)),
+    (Add, Size, i64::MAX, 1, None),
+    (Sub, Int, -2147483648, 1, None),
+    (Mul, Int, 65536, 32768, None),
+    (Mul, Long, 65536, 32768, Some(2147483648)),
+    (Div, Int, -7, 2, Some(-3)),
+    (Rem, Int, -7, 2, Some(-1)),
+    (Div, Int, 7, 0, None),
+    (Rem, Int, 7, 0, None),
+    (Div, Int, -2147483648, -1, None),
+    (Div, Long, i64::MIN, -1, None),
+];
+
 #[test]
 fn results_of_operators(rt: HostRuntime) {
-    use Op::{Add, Div, Mul, Rem, Sub};
-    use ValueKind::{Int, Long, Size};
-    let rows = [
-        (Add, Int, 2147483646, 1, Some(2147483647)),
-        (Add, Int, 2147483647, 1, None),
-        (Add, Long, 2147483647, 1, Some(2147483648)),
-        (Add, Size, i64::MAX, 1, None),
-        (Sub, Int, -2147483648, 1, None),
-        (Mul, Int, 65536, 32768, None),
-        (Mul, Long, 65536, 32768, Some(2147483648)),
-        (Div, Int, -7, 2, Some(-3)),
-        (Rem, Int, -7, 2, Some(-1)),
-        (Div, Int, 7, 0, None),
-        (Rem, Int, 7, 0, None),
-        (Div, Int, -2147483648, -1, None),
-        (Div, Long, i64::MIN, -1, None),
-    ];
-    for (op, kind, left, right, result) in rows {
-        assert_eq!(rt; arithmetic(op, kind, left, right), result);
+    for (op, kind, left, right, result) in RESULTS {
+        assert_eq!(rt; arithmetic(*op, *kind, *left, *right), *result);
     }
 }
 
+/// Kinds, numbers, and whether they fit.
+const FITTING: &[(ValueKind, i64, bool)] = &[
+    (Int, 2147483647, true),
+    (Int, 2147483648, false),
+    (Int, -2147483648, true),
+    (Int, -2147483649, false),
+    (Long, i64::MIN, true),
+    (Size, i64::MAX, true),
+];
+
 #[test]
 fn numbers_fit_a_kind(rt: HostRuntime) {
-    let rows = [
-        (ValueKind::Int, 2147483647, true),
-        (ValueKind::Int, 2147483648, false),
-        (ValueKind::Int, -2147483648, true),
-        (ValueKind::Int, -2147483649, false),
-        (ValueKind::Long, i64::MIN, true),
-        (ValueKind::Size, i64::MAX, true),
-    ];
-    for (kind, number, is_so) in rows {
-        assert_eq!(rt; fits(kind, number), is_so);
+    for (kind, number, is_so) in FITTING {
+        assert_eq!(rt; fits(*kind, *number), *is_so);
     }
 }

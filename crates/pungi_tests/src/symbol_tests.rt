@@ -1,12 +1,8 @@
 //! What the states of small functions show.
 
-use crate::symbol_codes::{
-    appends, compares, compares_statics, hands_over, loads_through_two, puts,
-};
-use pungi_api::Take;
+use crate::source::codes_of;
 use pungi_base::{Memory, Witness};
 use pungi_code::Codes;
-use pungi_meaning::Cmp;
 use pungi_symbol::{Decision, Sym, SymEnd, end, is_balanced, solve, start, step, step_from};
 use std::alloc::Global;
 use std::test::Fail;
@@ -56,14 +52,6 @@ fn with_end(shown: Shown, state: &Sym) -> Shown {
     }
 }
 
-fn first(alloc: Global, codes: &Codes) -> Result<Vec<Sym>, Memory> {
-    let mut pending = Vec::new(alloc);
-    for (_, state) in start(alloc, codes, 0)? {
-        pending.push(state)?;
-    }
-    Ok(pending)
-}
-
 /// Whether these are the same answers, of states that show the same.
 fn agree(copies: &[(Decision, Sym)], moved: &[(Decision, Sym)]) -> bool {
     copies.len() == moved.len()
@@ -71,123 +59,167 @@ fn agree(copies: &[(Decision, Sym)], moved: &[(Decision, Sym)]) -> bool {
             && with_end(NOTHING, &a.1) == with_end(NOTHING, &b.1))
 }
 
+/// Adds the next states of a state, and tells whether they are the same as these.
+fn add_same(
+    copies: &[(Decision, Sym)],
+    moved: Vec<(Decision, Sym)>,
+    pending: &mut Vec<(Decision, Sym)>,
+) -> Result<bool, Memory> {
+    let same = agree(copies, moved.as_slice());
+    let mut moved = moved;
+    pending.append(&mut moved)?;
+    Ok(same)
+}
+
 /// Adds the next states of a state, and tells whether they are the same where it is used up and where not.
 fn add_next(
     alloc: Global,
     codes: &Codes,
     state: Sym,
-    pending: &mut Vec<Sym>,
+    pending: &mut Vec<(Decision, Sym)>,
 ) -> Result<bool, Memory> {
     let copies = step(alloc, codes, &state)?;
     let moved = step_from(alloc, codes, state)?;
-    let same = agree(copies.as_slice(), moved.as_slice());
-    for (_, next) in moved {
-        pending.push(next)?;
-    }
-    Ok(same)
+    add_same(copies.as_slice(), moved, pending)
 }
 
-/// What all states of the one function show, if the next states of each are the same where it is used up and where not.
-fn show(alloc: Global, codes: &Codes) -> Result<Shown, Memory> {
-    let mut pending = first(alloc, codes)?;
+/// What these states and all behind them show, if the next states of each are the same where it is used up and where not.
+fn show_all(
+    alloc: Global,
+    codes: &Codes,
+    pending: &mut Vec<(Decision, Sym)>,
+) -> Result<Shown, Memory> {
     let mut shown = NOTHING;
     for _ in 0..1000 {
-        let Some(state) = pending.pop() else {
+        let Some((_, state)) = pending.pop() else {
             return Ok(shown);
         };
         shown = with_end(shown, &state);
-        if !add_next(alloc, codes, state, &mut pending)? {
+        if !add_next(alloc, codes, state, pending)? {
             return Ok(NOTHING);
         }
     }
     Ok(NOTHING)
 }
 
-fn counts(even: u32, uneven: u32, stopped: u32) -> Shown {
-    Shown {
-        even,
-        uneven,
-        stopped,
+/// What all states of the one function show.
+fn show(alloc: Global, codes: &Codes) -> Result<Shown, Memory> {
+    let mut pending = start(alloc, codes, 0)?;
+    show_all(alloc, codes, &mut pending)
+}
+
+fn text_shows(alloc: Global, text: &str) -> Result<Shown, Fail> {
+    let codes = codes_of(alloc, text)?;
+    Ok(show(alloc, &codes)?)
+}
+
+/// An object is put into a field, and the one that was there is given up.
+const PUTS: &str =
+    "typedef struct { PyObject_HEAD PyObject *first; } Box; void f(Box *self, PyObject *x) { PyObject *tmp = self->first; Py_INCREF(x); self->first = x; Py_XDECREF(tmp); }";
+
+/// Functions, and how many of their states return balanced, return unbalanced, and stop.
+const SHOWN: &[(&str, u32, u32, u32)] = &[
+    // An argument leaks.
+    (
+        "PyObject *f(PyObject *l) { if (PyList_Append(l, PyLong_FromLong(1)) < 0) return NULL; Py_INCREF(l); return l; }",
+        0,
+        2,
+        3,
+    ),
+    // An argument is taken over always, where the call succeeds, and never.
+    (
+        "int f(PyObject *l, PyObject *x) { Py_INCREF(x); if (PyList_SetItem(l, 0, x) < 0) { Py_DECREF(x); return -1; } return 0; }",
+        1,
+        1,
+        2,
+    ),
+    (
+        "int f(PyObject *l, PyObject *x) { Py_INCREF(x); if (PyList_SetItem(l, 0, x) < 0) { return -1; } return 0; }",
+        2,
+        0,
+        2,
+    ),
+    (
+        "int f(PyObject *m, PyObject *x) { Py_INCREF(x); if (PyModule_AddObject(m, \"x\", x) < 0) { Py_DECREF(x); return -1; } return 0; }",
+        2,
+        0,
+        2,
+    ),
+    (
+        "int f(PyObject *m, PyObject *x) { Py_INCREF(x); if (PyModule_AddObject(m, \"x\", x) < 0) { return -1; } return 0; }",
+        1,
+        1,
+        2,
+    ),
+    (
+        "int f(PyObject *l, PyObject *x) { Py_INCREF(x); if (PyList_Insert(l, 0, x) < 0) { return -1; } return 0; }",
+        0,
+        2,
+        2,
+    ),
+    // A field is overwritten.
+    (PUTS, 2, 0, 2),
+    (
+        "typedef struct { PyObject_HEAD PyObject *first; } Box; void f(Box *self, PyObject *x) { PyObject *tmp = self->first; Py_INCREF(x); self->first = x; }",
+        1,
+        1,
+        2,
+    ),
+    // Objects are compared.
+    (
+        "void f(PyObject *x, PyObject *y) { if (x == y) { Py_INCREF(x); Py_DECREF(y); } }",
+        4,
+        0,
+        1,
+    ),
+    (
+        "void f(PyObject *x, PyObject *y) { if (x != y) { Py_INCREF(x); Py_DECREF(y); } }",
+        2,
+        1,
+        2,
+    ),
+    ("int f(void) { return Py_None == Py_True; }", 1, 0, 0),
+    // A field is reached through two bases.
+    (
+        "typedef struct { PyObject_HEAD PyObject *first; } Box; PyObject *f(Box *self, Box *other) { PyObject *y; self->first = NULL; y = other->first; Py_XINCREF(y); return y; }",
+        3,
+        3,
+        3,
+    ),
+];
+
+#[test]
+fn states_of_functions(rt: HostRuntime) -> Result<(), Fail> {
+    for (text, even, uneven, stopped) in SHOWN {
+        let shown = text_shows(rt.alloc(), text)?;
+        assert_eq!(rt; shown.even, *even, "at {text}");
+        assert_eq!(rt; shown.uneven, *uneven, "at {text}");
+        assert_eq!(rt; shown.stopped, *stopped, "at {text}");
     }
-}
-
-#[test]
-fn an_argument_leaks(rt: HostRuntime) -> Result<(), Fail> {
-    assert_eq!(rt; show(rt.alloc(), &appends(rt.alloc())?)?, counts(0, 2, 3));
     Ok(())
 }
 
-fn show_hand(alloc: Global, take: Take, gives_back: bool) -> Result<Shown, Memory> {
-    Ok(show(alloc, &hands_over(alloc, take, gives_back)?)?)
-}
-
-#[test]
-fn an_argument_is_taken_over(rt: HostRuntime) -> Result<(), Fail> {
-    let table = [
-        (Take::Always, true, counts(1, 1, 2)),
-        (Take::Always, false, counts(2, 0, 2)),
-        (Take::OnSuccess, true, counts(2, 0, 2)),
-        (Take::OnSuccess, false, counts(1, 1, 2)),
-        (Take::Never, false, counts(0, 2, 2)),
-    ];
-    for (take, gives_back, wanted) in table {
-        assert_eq!(rt; show_hand(rt.alloc(), take, gives_back)?, wanted);
-    }
-    Ok(())
-}
-
-#[test]
-fn a_field_is_overwritten(rt: HostRuntime) -> Result<(), Fail> {
-    assert_eq!(rt;
-        show(rt.alloc(), &puts(rt.alloc(), true)?)?,
-        counts(2, 0, 2)
-    );
-    assert_eq!(rt;
-        show(rt.alloc(), &puts(rt.alloc(), false)?)?,
-        counts(1, 1, 2)
-    );
-    Ok(())
-}
-
-#[test]
-fn objects_are_compared(rt: HostRuntime) -> Result<(), Fail> {
-    assert_eq!(rt;
-        show(rt.alloc(), &compares(rt.alloc(), Cmp::Equal)?)?,
-        counts(4, 0, 1)
-    );
-    assert_eq!(rt;
-        show(rt.alloc(), &compares(rt.alloc(), Cmp::NotEqual)?)?,
-        counts(2, 1, 2)
-    );
-    assert_eq!(rt;
-        show(rt.alloc(), &compares_statics(rt.alloc())?)?,
-        counts(1, 0, 0)
-    );
-    Ok(())
-}
-
-#[test]
-fn a_field_is_reached_through_two_bases(rt: HostRuntime) -> Result<(), Fail> {
-    let codes = loads_through_two(rt.alloc())?;
-    assert_eq!(rt; show(rt.alloc(), &codes)?, counts(3, 3, 3));
-    Ok(())
-}
-
-/// The run of the first state of a function.
+/// The run of the last of the first states of a function.
 fn first_run(alloc: Global, codes: &Codes) -> Result<Option<Witness>, Memory> {
-    match first(alloc, codes)?.pop() {
-        Some(state) => Ok(solve(alloc, codes, &state)?),
+    let states = start(alloc, codes, 0)?;
+    match states.last() {
+        Some((_, state)) => solve(alloc, codes, state),
         None => Ok(None),
+    }
+}
+
+/// Whether so many objects are there where that run begins.
+fn begins_with(alloc: Global, codes: &Codes, objects: u32) -> Result<bool, Memory> {
+    let run = first_run(alloc, codes)?;
+    match run {
+        Some(witness) => Ok(witness.input.objects == objects),
+        None => Ok(false),
     }
 }
 
 #[test]
 fn a_state_has_a_run(rt: HostRuntime) -> Result<(), Fail> {
-    let run = first_run(rt.alloc(), &puts(rt.alloc(), true)?)?;
-    let objects = match run {
-        Some(witness) => witness.input.objects,
-        None => 0,
-    };
-    assert_eq!(rt; objects, 26);
+    let codes = codes_of(rt.alloc(), PUTS)?;
+    assert!(rt; begins_with(rt.alloc(), &codes, 26)?);
     Ok(())
 }

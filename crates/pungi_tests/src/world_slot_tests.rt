@@ -65,36 +65,38 @@ fn loads(
     }
 }
 
+const LEAST: i64 = i32::MIN as i64;
+
 /// What may stand in a slot at entry, by its kind.
+const FIRST_LOADS: &[(Param, Choice, Option<Value>)] = &[
+    (Param::Object, Choice::Null, Some(Value::Null)),
+    (Param::Object, Choice::Object(0), Some(Value::Object(0))),
+    (Param::Object, Choice::Object(24), Some(Value::Object(24))),
+    (Param::Object, Choice::Object(25), None),
+    (Param::Object, Choice::Object(26), Some(Value::Object(26))),
+    (Param::Object, Choice::Object(27), None),
+    (Param::Object, Choice::Text, None),
+    (Param::Int, Choice::Int(LEAST), Some(Value::Int(LEAST))),
+    (Param::Int, Choice::Int(LEAST - 1), None),
+    (Param::Int, Choice::Int(2147483648), None),
+    (
+        Param::Long,
+        Choice::Int(i64::MIN),
+        Some(Value::Int(i64::MIN)),
+    ),
+    (Param::Size, Choice::Int(-1), Some(Value::Int(-1))),
+    (Param::Size, Choice::Null, None),
+    (Param::Text, Choice::Text, Some(Value::Text)),
+    (Param::Text, Choice::Null, Some(Value::Null)),
+    (Param::Text, Choice::Object(0), None),
+];
+
 #[test]
 fn first_loads(rt: HostRuntime) -> Result<(), Fail> {
     let alloc = rt.alloc();
-    let least = i32::MIN as i64;
-    let cases = [
-        (Param::Object, Choice::Null, Some(Value::Null)),
-        (Param::Object, Choice::Object(0), Some(Value::Object(0))),
-        (Param::Object, Choice::Object(24), Some(Value::Object(24))),
-        (Param::Object, Choice::Object(25), None),
-        (Param::Object, Choice::Object(26), Some(Value::Object(26))),
-        (Param::Object, Choice::Object(27), None),
-        (Param::Object, Choice::Text, None),
-        (Param::Int, Choice::Int(least), Some(Value::Int(least))),
-        (Param::Int, Choice::Int(least - 1), None),
-        (Param::Int, Choice::Int(2147483648), None),
-        (
-            Param::Long,
-            Choice::Int(i64::MIN),
-            Some(Value::Int(i64::MIN)),
-        ),
-        (Param::Size, Choice::Int(-1), Some(Value::Int(-1))),
-        (Param::Size, Choice::Null, None),
-        (Param::Text, Choice::Text, Some(Value::Text)),
-        (Param::Text, Choice::Null, Some(Value::Null)),
-        (Param::Text, Choice::Object(0), None),
-    ];
-    for (kind, choice, value) in cases {
-        assert!(rt; loads(alloc, GLOBAL, kind, &[choice], value)?);
-        assert!(rt; loads(alloc, FIELD, kind, &[choice], value)?);
+    for (kind, choice, value) in FIRST_LOADS {
+        assert!(rt; loads(alloc, GLOBAL, *kind, &[*choice], *value)?);
+        assert!(rt; loads(alloc, FIELD, *kind, &[*choice], *value)?);
     }
     assert!(rt; loads(alloc, GLOBAL, Param::Object, &[], None)?);
     Ok(())

@@ -188,12 +188,14 @@ fn row_shows(
     Ok(true)
 }
 
-pub(crate) fn all_show(
-    alloc: Global,
-    rows: &[(u32, &[Value], &[usize])],
-    ways: &[(Option<Choice>, Shown)],
-) -> Result<bool, Memory> {
-    let table = Table::builtin(alloc)?;
+/// Rows with their arguments and the places of those that may not be `NULL`; and what each shows by each choice.
+pub(crate) type Group = (
+    &'static [(u32, &'static [Value], &'static [usize])],
+    &'static [(Option<Choice>, Shown)],
+);
+
+fn all_show_in(alloc: Global, table: &Table, group: Group) -> Result<bool, Memory> {
+    let (rows, ways) = group;
     for (name, args, needed) in rows {
         let Some(row) = table.row(Name(*name)) else {
             return Ok(false);
@@ -205,10 +207,7 @@ pub(crate) fn all_show(
     Ok(true)
 }
 
-pub(crate) fn ends(value: Value, objects: usize, touched: Option<(u32, Account)>) -> Shown {
-    Shown::Ends(Some(value), 1, objects, touched)
-}
-
-pub(crate) fn without_choice(value: Option<Value>, touched: Option<(u32, Account)>) -> Shown {
-    Shown::Ends(value, 0, 26, touched)
+pub(crate) fn all_show(alloc: Global, group: Group) -> Result<bool, Memory> {
+    let table = Table::builtin(alloc)?;
+    all_show_in(alloc, &table, group)
 }
