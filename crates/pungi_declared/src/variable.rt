@@ -2,7 +2,7 @@ use pungi_base::{Name, Pos};
 use pungi_tree::{Declr, Spec};
 
 /// A variable or table outside functions (C11 6.9.2).
-#[derive(Clone, Copy, Debug)]
+#[derive(Clone, Copy)]
 pub struct Variable<'u> {
     pub spec: &'u Spec,
     pub declr: &'u Declr,

@@ -1,7 +1,7 @@
 use pungi_base::Witness;
 
 /// What the runs of a function show.
-#[derive(Debug, Drop)]
+#[derive(Drop)]
 pub enum Explored {
     /// Each run that returns is balanced, and there are at most 16,384 traces.
     AllBalanced,

@@ -9,7 +9,8 @@ use crate::trees::{
     stmt, with_stmt, with_value, word,
 };
 use pungi_base::{Kind, Memory};
-use pungi_tree::{ExprNode, StmtNode, Unit, depth, flat, levels_ok};
+use pungi_spelling::{depth, flat, levels_ok};
+use pungi_tree::{ExprNode, StmtNode, Unit};
 use std::alloc::Global;
 use std::test::Fail;
 
