@@ -7,7 +7,7 @@ use Rattle.pungi_types.specs.Kinds.{typedef_in, tagged_in}
 use Rattle.pungi_types.specs.TypesView.{typedef_view}
 use Rattle.pungi_names.specs.Depth.{known_at}
 use Rattle.pungi_names.proofs.CoresLemmas.{followed-found}
-use Rattle.pungi_names.proofs.typedefs.cores.Goals as goal
+use Rattle.pungi_names.proofs.typedefs.followed_typedefs.Goals as goal
 
 pub invariant_of-result : goal.invariant_of-result
 invariant_of-result c =
