@@ -120,10 +120,7 @@ fn untagged_head_kinds(
     ensures { IfOk result (λ found. (w : ℕ) → kind_in w found ≡ field_in_some (unit_view kinds.now.cores.unit.now) (if is_struct of then Some (fields_list fields.now) else None) w) }
 {
     match of {
-        Key::Struct => {
-            let found = field_kinds(alloc, kinds, fields)?;
-            Ok(found)
-        }
+        Key::Struct => field_kinds(alloc, kinds, fields),
         _ => Ok(IndexMap::new(alloc)),
     }
 }
@@ -142,10 +139,7 @@ fn untagged_kinds(
             of,
             tag: None,
             fields: Some(fields),
-        } => {
-            let found = untagged_head_kinds(alloc, kinds, *of, fields)?;
-            Ok(found)
-        }
+        } => untagged_head_kinds(alloc, kinds, *of, fields),
         Base::Tagged {
             tag: None,
             fields: None,

@@ -17,7 +17,7 @@ invariant_of-result c =
     record {
       tags_found = λ w. c.in_ok-words.ensures w ∙ ap (λ ts. is_some (tagged_in ts w)) c.requires.tags;
       followed = λ w h.
-          followed-found file (get nat_eq c.in_ok-reached.reached) c.in_ok-reached.ensures.reach
-          (λ q. c.in_ok-reached.ensures.words q ∙ ap (λ ts. is_some (typedef_in ts q)) c.requires.typedefs) w h c.len.result
+          followed-found file (get nat_eq c.in-Ok.reached) c.in-Ok.ensures.reach
+          (λ q. c.in-Ok.ensures.words q ∙ ap (λ ts. is_some (typedef_in ts q)) c.requires.typedefs) w h c.len.result
           ∙ ap (λ n. known_at file n w) count;
     }
