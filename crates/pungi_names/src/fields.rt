@@ -1,6 +1,6 @@
 // The kinds of the fields of structs.
 ghost use Rattle.std.specs.Prelude.{◌≡◌, ℕ, ◌==◌, ◌&&◌, nat_eq, map, option_map, Option, Some, None, OnOk, IfOk, if◌then◌else◌};
-ghost use Rattle.indexmap.specs.IndexMap.{get};
+ghost use Rattle.indexmap.specs.IndexMap.{get, IsEmpty};
 ghost use Rattle.pungi_declared.specs.DeclaredView.{tag_view};
 ghost use Rattle.pungi_names.specs.First.{or_first};
 ghost use Rattle.pungi_names.specs.FieldsView.{kind_in};
@@ -188,19 +188,20 @@ fn note_typedefs(
     Ok(())
 }
 
-/// The kinds of the fields of each struct, by the word that names it.
-pub(crate) fn struct_kinds(
+/// Adds the kinds of the fields of each struct to none, by the word that names it.
+pub(crate) fn note_structs(
     alloc: Global,
     kinds: &Kinds,
+    structs: &mut IndexMap<u32, IndexMap<u32, Option<ValueKind>>>,
     typedefs: &Vec<Typedef>,
     tags: &Vec<Tag>,
-) -> Result<IndexMap<u32, IndexMap<u32, Option<ValueKind>>>, Memory>
+) -> Result<(), Memory>
     requires typedefs { map typedef_view typedefs.now.items ≡ typedefs_of (unit_view kinds.now.cores.unit.now) }
     requires tags { map tag_view tags.now.items ≡ tags_of (unit_view kinds.now.cores.unit.now) }
-    ensures { IfOk result (λ structs. (s : ℕ) (w : ℕ) → kept_or (option_map (kind_in w) (get nat_eq structs s)) None ≡ field_in_some (unit_view kinds.now.cores.unit.now) (struct_fields (unit_view kinds.now.cores.unit.now) s) w) }
+    requires empty { IsEmpty structs.old }
+    ensures { OnOk result ((s : ℕ) (w : ℕ) → kept_or (option_map (kind_in w) (get nat_eq structs.new s)) None ≡ field_in_some (unit_view kinds.now.cores.unit.now) (struct_fields (unit_view kinds.now.cores.unit.now) s) w) }
 {
-    let mut structs = IndexMap::new(alloc);
-    note_tags(alloc, kinds, &mut structs, tags)?;
-    note_typedefs(alloc, kinds, &mut structs, typedefs)?;
-    Ok(structs)
+    note_tags(alloc, kinds, structs, tags)?;
+    note_typedefs(alloc, kinds, structs, typedefs)?;
+    Ok(())
 }

@@ -1,7 +1,7 @@
 //! Names of a file are gathered.
-ghost use Rattle.std.specs.Prelude.{◌≡◌, ◌+◌, ◌<◌, ◌^◌, ℕ, None, IfOk, length, map, option_map, nat_eq};
-ghost use Rattle.indexmap.specs.IndexMap.{get};
-ghost use Rattle.indexmap.specs.IndexSet.{contains};
+ghost use Rattle.std.specs.Prelude.{◌≡◌, ◌+◌, ◌<◌, ◌^◌, ℕ, None, IfOk, OnOk, length, map, option_map, nat_eq};
+ghost use Rattle.indexmap.specs.IndexMap.{get, IsEmpty};
+ghost use Rattle.indexmap.specs.IndexSet.{contains, IsEmpty as IsEmptySet};
 ghost use Rattle.pungi_api.specs.Rows.{row_in};
 ghost use Rattle.pungi_declared.specs.DeclaredView.{tag_view, variable_view};
 ghost use Rattle.pungi_names.specs.CallsView.{signature_view, signature_of};
@@ -17,9 +17,9 @@ ghost use Rattle.pungi_types.specs.Tags.{tags as tags_of};
 ghost use Rattle.pungi_types.specs.TypesView.{typedef_view};
 
 use crate::UnitNames;
-use crate::fields::struct_kinds;
+use crate::fields::note_structs;
 use crate::functions::{prototype_words, signatures};
-use crate::globals::{global_kinds, module_words, type_object_words};
+use crate::globals::{note_globals, note_modules, note_type_objects};
 use crate::heads::object_structs;
 use crate::kinds::Kinds;
 use crate::rows::{RowCall, row_calls};
@@ -66,50 +66,35 @@ struct ValueParts {
     type_objects: IndexSet<u32>,
 }
 
-fn few_type_objects(
-    alloc: Global,
-    kinds: &Kinds,
-    variables: &Vec<Variable>,
-) -> Result<IndexSet<u32>, Memory>
-    requires { map variable_view variables.now.items ≡ variables_of (unit_view kinds.now.cores.unit.now) }
-    ensures found { IfOk result (λ words. words.keys ≡ type_objects_of (unit_view kinds.now.cores.unit.now)) }
-    ensures few { IfOk result (λ words. length words.keys + 24 < 2 ^ 32) }
-{
-    let words = type_object_words(alloc, kinds, variables)?;
-    if words.len() <= MOST_TYPE_OBJECTS {
-        Ok(words)
-    } else {
-        drop(words);
-        Err(Memory)
-    }
-}
-
-fn value_parts(
+fn fill_values(
     alloc: Global,
     kinds: &Kinds,
     typedefs: &Vec<Typedef>,
     tags: &Vec<Tag>,
     variables: &Vec<Variable>,
-) -> Result<ValueParts, Memory>
+    parts: &mut ValueParts,
+) -> Result<(), Memory>
     requires typedefs { map typedef_view typedefs.now.items ≡ typedefs_of (unit_view kinds.now.cores.unit.now) }
     requires tags { map tag_view tags.now.items ≡ tags_of (unit_view kinds.now.cores.unit.now) }
     requires variables { map variable_view variables.now.items ≡ variables_of (unit_view kinds.now.cores.unit.now) }
-    ensures fields { IfOk result (λ parts. (s : ℕ) (w : ℕ) → kept_or (option_map (kind_in w) (get nat_eq parts.fields s)) None ≡ field_in_some (unit_view kinds.now.cores.unit.now) (struct_fields (unit_view kinds.now.cores.unit.now) s) w) }
-    ensures globals { IfOk result (λ parts. (w : ℕ) → kept_or (get nat_eq parts.globals w) None ≡ global_kind_of (unit_view kinds.now.cores.unit.now) w) }
-    ensures modules { IfOk result (λ parts. (w : ℕ) → contains nat_eq parts.modules w ≡ is_module_of (unit_view kinds.now.cores.unit.now) w) }
-    ensures type_objects { IfOk result (λ parts. parts.type_objects.keys ≡ type_objects_of (unit_view kinds.now.cores.unit.now)) }
-    ensures few { IfOk result (λ parts. length parts.type_objects.keys + 24 < 2 ^ 32) }
+    requires no_fields { IsEmpty parts.old.fields }
+    requires no_globals { IsEmpty parts.old.globals }
+    requires no_modules { IsEmptySet parts.old.modules }
+    requires no_type_objects { IsEmptySet parts.old.type_objects }
+    ensures fields { OnOk result ((s : ℕ) (w : ℕ) → kept_or (option_map (kind_in w) (get nat_eq parts.new.fields s)) None ≡ field_in_some (unit_view kinds.now.cores.unit.now) (struct_fields (unit_view kinds.now.cores.unit.now) s) w) }
+    ensures globals { OnOk result ((w : ℕ) → kept_or (get nat_eq parts.new.globals w) None ≡ global_kind_of (unit_view kinds.now.cores.unit.now) w) }
+    ensures modules { OnOk result ((w : ℕ) → contains nat_eq parts.new.modules w ≡ is_module_of (unit_view kinds.now.cores.unit.now) w) }
+    ensures type_objects { OnOk result (parts.new.type_objects.keys ≡ type_objects_of (unit_view kinds.now.cores.unit.now)) }
+    ensures few { OnOk result (length parts.new.type_objects.keys + 24 < 2 ^ 32) }
 {
-    let modules = module_words(alloc, kinds, variables)?;
-    let type_objects = few_type_objects(alloc, kinds, variables)?;
-    let globals = global_kinds(alloc, kinds, variables)?;
-    let fields = struct_kinds(alloc, kinds, typedefs, tags)?;
-    Ok(ValueParts {
-        fields,
-        globals,
-        modules,
-        type_objects,
-    })
+    note_structs(alloc, kinds, &mut parts.fields, typedefs, tags)?;
+    note_globals(kinds, &mut parts.globals, variables)?;
+    note_modules(kinds, &mut parts.modules, variables)?;
+    note_type_objects(kinds, &mut parts.type_objects, variables)?;
+    if parts.type_objects.len() > MOST_TYPE_OBJECTS {
+        return Err(Memory);
+    }
+    Ok(())
 }
 
 fn gather_values<'u>(
@@ -124,8 +109,14 @@ fn gather_values<'u>(
     requires variables { map variable_view variables.now.items ≡ variables_of (unit_view kinds.cores.unit.now) }
     ensures { IfOk result (λ values. unit_view values.kinds.cores.unit.now ≡ unit_view kinds.entry.cores.unit.now) }
 {
-    match value_parts(alloc, &kinds, typedefs, tags, variables) {
-        Ok(parts) => Ok(Values {
+    let mut parts = ValueParts {
+        fields: IndexMap::new(alloc),
+        globals: IndexMap::new(alloc),
+        modules: IndexSet::new(alloc),
+        type_objects: IndexSet::new(alloc),
+    };
+    match fill_values(alloc, &kinds, typedefs, tags, variables, &mut parts) {
+        Ok(()) => Ok(Values {
             kinds,
             fields: parts.fields,
             globals: parts.globals,
@@ -134,6 +125,7 @@ fn gather_values<'u>(
         }),
         Err(memory) => {
             drop(kinds);
+            drop(parts);
             Err(memory)
         }
     }
