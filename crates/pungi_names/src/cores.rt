@@ -15,7 +15,7 @@ use pungi_tree::{Base, Unit};
 use pungi_types::{Core, is_listed_type, written_core, written_tag};
 
 /// A type once typedefs are followed.
-#[derive(Clone, Copy, Debug)]
+#[derive(Clone, Copy)]
 pub(crate) struct Followed<'u> {
     pub(crate) core: Core<'u>,
     pub(crate) stars: usize,

@@ -1,6 +1,6 @@
 // The kinds of the fields of structs.
 ghost use Rattle.std.specs.Prelude.{◌≡◌, ℕ, ◌==◌, ◌&&◌, nat_eq, map, option_map, Option, Some, None, OnOk, IfOk, if◌then◌else◌};
-ghost use Rattle.indexmap.specs.IndexMap.{get};
+ghost use Rattle.indexmap.specs.IndexMap.{get, IsEmpty};
 ghost use Rattle.pungi_declared.specs.DeclaredView.{tag_view};
 ghost use Rattle.pungi_names.specs.First.{or_first};
 ghost use Rattle.pungi_names.specs.FieldsView.{kind_in};
@@ -120,10 +120,7 @@ fn untagged_head_kinds(
     ensures { IfOk result (λ found. (w : ℕ) → kind_in w found ≡ field_in_some (unit_view kinds.now.cores.unit.now) (if is_struct of then Some (fields_list fields.now) else None) w) }
 {
     match of {
-        Key::Struct => {
-            let found = field_kinds(alloc, kinds, fields)?;
-            Ok(found)
-        }
+        Key::Struct => field_kinds(alloc, kinds, fields),
         _ => Ok(IndexMap::new(alloc)),
     }
 }
@@ -142,10 +139,7 @@ fn untagged_kinds(
             of,
             tag: None,
             fields: Some(fields),
-        } => {
-            let found = untagged_head_kinds(alloc, kinds, *of, fields)?;
-            Ok(found)
-        }
+        } => untagged_head_kinds(alloc, kinds, *of, fields),
         Base::Tagged {
             tag: None,
             fields: None,
@@ -194,19 +188,20 @@ fn note_typedefs(
     Ok(())
 }
 
-/// The kinds of the fields of each struct, by the word that names it.
-pub(crate) fn struct_kinds(
+/// Adds the kinds of the fields of each struct to none, by the word that names it.
+pub(crate) fn note_structs(
     alloc: Global,
     kinds: &Kinds,
+    structs: &mut IndexMap<u32, IndexMap<u32, Option<ValueKind>>>,
     typedefs: &Vec<Typedef>,
     tags: &Vec<Tag>,
-) -> Result<IndexMap<u32, IndexMap<u32, Option<ValueKind>>>, Memory>
+) -> Result<(), Memory>
     requires typedefs { map typedef_view typedefs.now.items ≡ typedefs_of (unit_view kinds.now.cores.unit.now) }
     requires tags { map tag_view tags.now.items ≡ tags_of (unit_view kinds.now.cores.unit.now) }
-    ensures { IfOk result (λ structs. (s : ℕ) (w : ℕ) → kept_or (option_map (kind_in w) (get nat_eq structs s)) None ≡ field_in_some (unit_view kinds.now.cores.unit.now) (struct_fields (unit_view kinds.now.cores.unit.now) s) w) }
+    requires empty { IsEmpty structs.old }
+    ensures { OnOk result ((s : ℕ) (w : ℕ) → kept_or (option_map (kind_in w) (get nat_eq structs.new s)) None ≡ field_in_some (unit_view kinds.now.cores.unit.now) (struct_fields (unit_view kinds.now.cores.unit.now) s) w) }
 {
-    let mut structs = IndexMap::new(alloc);
-    note_tags(alloc, kinds, &mut structs, tags)?;
-    note_typedefs(alloc, kinds, &mut structs, typedefs)?;
-    Ok(structs)
+    note_tags(alloc, kinds, structs, tags)?;
+    note_typedefs(alloc, kinds, structs, typedefs)?;
+    Ok(())
 }

@@ -1,22 +1,28 @@
 //! Names of a file are gathered.
-ghost use Rattle.std.specs.Prelude.{◌≡◌, ℕ, IfOk, map, option_map, nat_eq};
-ghost use Rattle.indexmap.specs.IndexMap.{get};
-ghost use Rattle.indexmap.specs.IndexSet.{contains};
+ghost use Rattle.std.specs.Prelude.{◌≡◌, ◌+◌, ◌<◌, ◌^◌, ℕ, None, IfOk, OnOk, length, map, option_map, nat_eq};
+ghost use Rattle.indexmap.specs.IndexMap.{get, IsEmpty};
+ghost use Rattle.indexmap.specs.IndexSet.{contains, IsEmpty as IsEmptySet};
+ghost use Rattle.pungi_api.specs.Rows.{row_in};
 ghost use Rattle.pungi_declared.specs.DeclaredView.{tag_view, variable_view};
 ghost use Rattle.pungi_names.specs.CallsView.{signature_view, signature_of};
+ghost use Rattle.pungi_names.specs.FieldsView.{kind_in};
 ghost use Rattle.pungi_names.specs.NamesView.{file_of, rows_of};
+ghost use Rattle.pungi_names.specs.RowsView.{call_view, row_seen};
+ghost use Rattle.pungi_names.specs.StructsView.{kept_or};
 ghost use Rattle.pungi_tree.specs.UnitView.{unit_view};
 ghost use Rattle.pungi_types.specs.Files.{typedefs as typedefs_of, variables_of, definitions as definitions_of, definition_in, prototypes as prototypes_of, is_place_in};
+ghost use Rattle.pungi_types.specs.Kinds.{field_in_some, struct_fields};
+ghost use Rattle.pungi_types.specs.Names.{global_kind as global_kind_of, is_module as is_module_of, type_objects as type_objects_of};
 ghost use Rattle.pungi_types.specs.Tags.{tags as tags_of};
 ghost use Rattle.pungi_types.specs.TypesView.{typedef_view};
 
 use crate::UnitNames;
-use crate::fields::struct_kinds;
+use crate::fields::note_structs;
 use crate::functions::{prototype_words, signatures};
-use crate::globals::{global_kinds, module_words, type_object_words};
+use crate::globals::{note_globals, note_modules, note_type_objects};
 use crate::heads::object_structs;
 use crate::kinds::Kinds;
-use crate::rows::row_calls;
+use crate::rows::{RowCall, row_calls};
 use crate::signature::Signature;
 use crate::typedefs::cores;
 use crate::values::Values;
@@ -25,7 +31,7 @@ use pungi_api::Table;
 use pungi_base::Memory;
 use pungi_declared::{Tag, Variable, definitions, prototypes, tags, typedefs, variables};
 use pungi_tree::Unit;
-use pungi_types::Typedef;
+use pungi_types::{Typedef, ValueKind};
 use std::alloc::Global;
 
 /// So many type objects have numbers behind those of the API.
@@ -42,8 +48,53 @@ fn gather_kinds<'u>(
     ensures { IfOk result (λ kinds. unit_view kinds.cores.unit.now ≡ unit_view unit.now) }
 {
     let cores = cores(alloc, unit, typedefs, tags)?;
-    let objects = object_structs(alloc, &cores, typedefs, tags)?;
-    Ok(Kinds { cores, objects })
+    match object_structs(alloc, &cores, typedefs, tags) {
+        Ok(objects) => Ok(Kinds { cores, objects }),
+        Err(memory) => {
+            drop(cores);
+            Err(memory)
+        }
+    }
+}
+
+/// What is gathered of variables and of the fields of structs.
+#[derive(Drop)]
+struct ValueParts {
+    fields: IndexMap<u32, IndexMap<u32, Option<ValueKind>>>,
+    globals: IndexMap<u32, Option<ValueKind>>,
+    modules: IndexSet<u32>,
+    type_objects: IndexSet<u32>,
+}
+
+fn fill_values(
+    alloc: Global,
+    kinds: &Kinds,
+    typedefs: &Vec<Typedef>,
+    tags: &Vec<Tag>,
+    variables: &Vec<Variable>,
+    parts: &mut ValueParts,
+) -> Result<(), Memory>
+    requires typedefs { map typedef_view typedefs.now.items ≡ typedefs_of (unit_view kinds.now.cores.unit.now) }
+    requires tags { map tag_view tags.now.items ≡ tags_of (unit_view kinds.now.cores.unit.now) }
+    requires variables { map variable_view variables.now.items ≡ variables_of (unit_view kinds.now.cores.unit.now) }
+    requires no_fields { IsEmpty parts.old.fields }
+    requires no_globals { IsEmpty parts.old.globals }
+    requires no_modules { IsEmptySet parts.old.modules }
+    requires no_type_objects { IsEmptySet parts.old.type_objects }
+    ensures fields { OnOk result ((s : ℕ) (w : ℕ) → kept_or (option_map (kind_in w) (get nat_eq parts.new.fields s)) None ≡ field_in_some (unit_view kinds.now.cores.unit.now) (struct_fields (unit_view kinds.now.cores.unit.now) s) w) }
+    ensures globals { OnOk result ((w : ℕ) → kept_or (get nat_eq parts.new.globals w) None ≡ global_kind_of (unit_view kinds.now.cores.unit.now) w) }
+    ensures modules { OnOk result ((w : ℕ) → contains nat_eq parts.new.modules w ≡ is_module_of (unit_view kinds.now.cores.unit.now) w) }
+    ensures type_objects { OnOk result (parts.new.type_objects.keys ≡ type_objects_of (unit_view kinds.now.cores.unit.now)) }
+    ensures few { OnOk result (length parts.new.type_objects.keys + 24 < 2 ^ 32) }
+{
+    note_structs(alloc, kinds, &mut parts.fields, typedefs, tags)?;
+    note_globals(kinds, &mut parts.globals, variables)?;
+    note_modules(kinds, &mut parts.modules, variables)?;
+    note_type_objects(kinds, &mut parts.type_objects, variables)?;
+    if parts.type_objects.len() > MOST_TYPE_OBJECTS {
+        return Err(Memory);
+    }
+    Ok(())
 }
 
 fn gather_values<'u>(
@@ -58,20 +109,26 @@ fn gather_values<'u>(
     requires variables { map variable_view variables.now.items ≡ variables_of (unit_view kinds.cores.unit.now) }
     ensures { IfOk result (λ values. unit_view values.kinds.cores.unit.now ≡ unit_view kinds.entry.cores.unit.now) }
 {
-    let fields = struct_kinds(alloc, &kinds, typedefs, tags)?;
-    let globals = global_kinds(alloc, &kinds, variables)?;
-    let modules = module_words(alloc, &kinds, variables)?;
-    let type_objects = type_object_words(alloc, &kinds, variables)?;
-    if type_objects.len() > MOST_TYPE_OBJECTS {
-        return Err(Memory);
+    let mut parts = ValueParts {
+        fields: IndexMap::new(alloc),
+        globals: IndexMap::new(alloc),
+        modules: IndexSet::new(alloc),
+        type_objects: IndexSet::new(alloc),
+    };
+    match fill_values(alloc, &kinds, typedefs, tags, variables, &mut parts) {
+        Ok(()) => Ok(Values {
+            kinds,
+            fields: parts.fields,
+            globals: parts.globals,
+            modules: parts.modules,
+            type_objects: parts.type_objects,
+        }),
+        Err(memory) => {
+            drop(kinds);
+            drop(parts);
+            Err(memory)
+        }
     }
-    Ok(Values {
-        kinds,
-        fields,
-        globals,
-        modules,
-        type_objects,
-    })
 }
 
 fn typed_values<'u>(
@@ -86,8 +143,7 @@ fn typed_values<'u>(
 {
     let variables = variables(alloc, unit)?;
     let kinds = gather_kinds(alloc, unit, typedefs, tags)?;
-    let values = gather_values(alloc, kinds, typedefs, tags, &variables)?;
-    Ok(values)
+    gather_values(alloc, kinds, typedefs, tags, &variables)
 }
 
 fn unit_values<'u>(alloc: Global, unit: &'u Unit) -> Result<Values<'u>, Memory>
@@ -95,8 +151,7 @@ fn unit_values<'u>(alloc: Global, unit: &'u Unit) -> Result<Values<'u>, Memory>
 {
     let typedefs = typedefs(alloc, unit)?;
     let tags = tags(alloc, unit)?;
-    let values = typed_values(alloc, unit, &typedefs, &tags)?;
-    Ok(values)
+    typed_values(alloc, unit, &typedefs, &tags)
 }
 
 fn unit_signatures(
@@ -108,16 +163,43 @@ fn unit_signatures(
     ensures { IfOk result (λ all. (w : ℕ) → option_map signature_view (get nat_eq all w) ≡ option_map (signature_of (unit_view kinds.now.cores.unit.now)) (definition_in (definitions_of (unit_view kinds.now.cores.unit.now)) w)) }
 {
     let functions = definitions(alloc, unit)?;
-    let all = signatures(alloc, kinds, &functions)?;
-    Ok(all)
+    signatures(alloc, kinds, &functions)
 }
 
 fn unit_prototypes(alloc: Global, unit: &Unit) -> Result<IndexSet<u32>, Memory>
     ensures { IfOk result (λ words. (w : ℕ) → contains nat_eq words w ≡ is_place_in (prototypes_of (unit_view unit.now)) w) }
 {
     let places = prototypes(alloc, unit)?;
-    let words = prototype_words(alloc, &places)?;
-    Ok(words)
+    prototype_words(alloc, &places)
+}
+
+/// What is gathered of functions and of the rows of the API.
+#[derive(Drop)]
+struct CallParts<'u> {
+    prototypes: IndexSet<u32>,
+    signatures: IndexMap<u32, Signature>,
+    calls: IndexMap<u32, RowCall<'u>>,
+}
+
+fn call_parts<'u>(
+    alloc: Global,
+    unit: &Unit,
+    rows: &'u Table,
+    kinds: &Kinds,
+) -> Result<CallParts<'u>, Memory>
+    requires { unit_view kinds.now.cores.unit.now ≡ unit_view unit.now }
+    ensures prototypes { IfOk result (λ parts. (w : ℕ) → contains nat_eq parts.prototypes w ≡ is_place_in (prototypes_of (unit_view kinds.now.cores.unit.now)) w) }
+    ensures signatures { IfOk result (λ parts. (w : ℕ) → option_map signature_view (get nat_eq parts.signatures w) ≡ option_map (signature_of (unit_view kinds.now.cores.unit.now)) (definition_in (definitions_of (unit_view kinds.now.cores.unit.now)) w)) }
+    ensures calls { IfOk result (λ parts. (w : ℕ) → option_map call_view (get nat_eq parts.calls w) ≡ option_map row_seen (row_in rows.now w)) }
+{
+    let prototypes = unit_prototypes(alloc, unit)?;
+    let signatures = unit_signatures(alloc, unit, kinds)?;
+    let calls = row_calls(alloc, rows)?;
+    Ok(CallParts {
+        prototypes,
+        signatures,
+        calls,
+    })
 }
 
 /// Gathers the names of a file.
@@ -128,15 +210,18 @@ pub fn unit_names<'u>(
 ) -> Result<UnitNames<'u>, Memory>
     ensures { IfOk result (λ names. (file_of names ≡ unit_view unit.now) × (rows_of names ≡ rows.now)) }
 {
-    let calls = row_calls(alloc, rows)?;
-    let prototypes = unit_prototypes(alloc, unit)?;
     let values = unit_values(alloc, unit)?;
-    let signatures = unit_signatures(alloc, unit, &values.kinds)?;
-    Ok(UnitNames {
-        values,
-        rows,
-        prototypes,
-        signatures,
-        calls,
-    })
+    match call_parts(alloc, unit, rows, &values.kinds) {
+        Ok(parts) => Ok(UnitNames {
+            values,
+            rows,
+            prototypes: parts.prototypes,
+            signatures: parts.signatures,
+            calls: parts.calls,
+        }),
+        Err(memory) => {
+            drop(values);
+            Err(memory)
+        }
+    }
 }

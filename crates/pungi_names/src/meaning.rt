@@ -7,7 +7,7 @@ ghost use Rattle.pungi_types.specs.Standing.{standing_of};
 use pungi_types::{Standing, ValueKind};
 
 /// What a word of the file is where it stands as a value.
-#[derive(Clone, Copy, Debug)]
+#[derive(Clone, Copy)]
 pub(crate) enum Meaning {
     Function,
     Global(ValueKind),

@@ -19,7 +19,6 @@ use pungi_api::Table;
 use pungi_tree::{Declr, Spec};
 
 /// The names that a file declares, and the rows of the API, each found at once.
-#[derive(Drop)]
 pub struct UnitNames<'u> {
     pub(crate) values: Values<'u>,
     pub(crate) rows: &'u Table,
@@ -29,6 +28,23 @@ pub struct UnitNames<'u> {
     pub(crate) ghost prototypes_found: { (w : ℕ) → contains nat_eq prototypes w ≡ is_place_in (prototypes_of (unit_view values.kinds.cores.unit.now)) w },
     pub(crate) ghost signatures_found: { (w : ℕ) → option_map signature_view (get nat_eq signatures w) ≡ option_map (signature_of (unit_view values.kinds.cores.unit.now)) (definition_in (definitions_of (unit_view values.kinds.cores.unit.now)) w) },
     pub(crate) ghost calls_found: { (w : ℕ) → option_map call_view (get nat_eq calls w) ≡ option_map row_seen (row_in rows.now w) },
+}
+
+/// By hand, so that a function that owns the names lets them go by one call.
+impl Drop for UnitNames<'_> {
+    fn drop(self) {
+        let UnitNames {
+            values,
+            rows: _,
+            prototypes,
+            signatures,
+            calls,
+        } = self;
+        drop(values);
+        drop(prototypes);
+        drop(signatures);
+        drop(calls);
+    }
 }
 
 impl<'u> UnitNames<'u> {

@@ -16,7 +16,7 @@ use pungi_tree::Unit;
 use pungi_types::{Core, Typedef, is_listed_type};
 
 /// What the word of a typedef stands for, and how many typedefs lead there.
-#[derive(Clone, Copy, Debug)]
+#[derive(Clone, Copy)]
 pub(crate) struct Reached<'u> {
     pub(crate) core: Core<'u>,
     pub(crate) stars: usize,
@@ -24,7 +24,7 @@ pub(crate) struct Reached<'u> {
 }
 
 /// What a word is at once, or the word that it leads to with so many stars more.
-#[derive(Clone, Copy, Debug)]
+#[derive(Clone, Copy)]
 pub(crate) enum Step<'u> {
     Ends(Reached<'u>),
     Leads(usize, u32),

@@ -119,8 +119,43 @@ fn reached_words<'u>(
 {
     let mut done = IndexMap::new(alloc);
     let mut all = IndexMap::new(alloc);
-    reach_words(alloc, unit, typedefs, first, tags, &mut done, &mut all)?;
-    Ok(all)
+    let reached = reach_words(alloc, unit, typedefs, first, tags, &mut done, &mut all);
+    drop(done);
+    match reached {
+        Ok(()) => Ok(all),
+        Err(memory) => {
+            drop(all);
+            Err(memory)
+        }
+    }
+}
+
+/// The typedefs of a file, each followed to its end, where the first of each word is found at once.
+fn followed_typedefs<'u>(
+    alloc: Global,
+    unit: &'u Unit,
+    typedefs: &Vec<Typedef<'u>>,
+    first: &IndexMap<u32, Typedef<'u>>,
+    tags: &Vec<Tag<'u>>,
+) -> Result<Cores<'u>, Memory>
+    requires typedefs { map typedef_view typedefs.now.items ≡ typedefs_of (unit_view unit.now) }
+    requires first { FindsTypedefs (get nat_eq first.now) (unit_view unit.now) }
+    requires tags { map tag_view tags.now.items ≡ tags_of (unit_view unit.now) }
+    ensures { IfOk result (λ cores. cores.unit.now ≡ unit.now) }
+{
+    let words = struct_tags(alloc, tags)?;
+    match reached_words(alloc, unit, typedefs, first, &words) {
+        Ok(reached) => Ok(Cores {
+            unit,
+            tags: words,
+            reached,
+            count: typedefs.len(),
+        }),
+        Err(memory) => {
+            drop(words);
+            Err(memory)
+        }
+    }
 }
 
 /// The typedefs of a file, each followed to its end.
@@ -135,12 +170,7 @@ pub(crate) fn cores<'u>(
     ensures { IfOk result (λ cores. cores.unit.now ≡ unit.now) }
 {
     let first = first_typedefs(alloc, typedefs)?;
-    let words = struct_tags(alloc, tags)?;
-    let reached = reached_words(alloc, unit, typedefs, &first, &words)?;
-    Ok(Cores {
-        unit,
-        tags: words,
-        reached,
-        count: typedefs.len(),
-    })
+    let cores = followed_typedefs(alloc, unit, typedefs, &first, tags);
+    drop(first);
+    cores
 }

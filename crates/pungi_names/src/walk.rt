@@ -1,10 +1,10 @@
 // A chain of typedefs is followed to its end.
-ghost use Rattle.std.specs.Prelude.{◌≡◌, ℕ, ◌+◌, nat_eq, reverse, option_map, IfOk, OnOk};
+ghost use Rattle.std.specs.Prelude.{◌≡◌, ℕ, ◌+◌, nat_eq, [], reverse, option_map, IfOk, OnOk};
 ghost use Rattle.indexmap.specs.IndexMap.{get};
 ghost use Rattle.indexmap.specs.IndexSet.{contains};
 ghost use Rattle.pungi_names.specs.Depth.{known_at, Reaches};
 ghost use Rattle.pungi_names.specs.Finds.{FindsTypedefs, FindsTags, reached_view};
-ghost use Rattle.pungi_names.specs.Walk.{AllReach, IsPath};
+ghost use Rattle.pungi_names.specs.Walk.{AllReach, IsPath, EndsAt};
 ghost use Rattle.pungi_names.specs.WalkView.{IsWalk, one_behind};
 ghost use Rattle.pungi_tree.specs.UnitView.{unit_view};
 
@@ -24,6 +24,43 @@ pub(crate) struct Walk<'u> {
     pub(crate) end: Option<Reached<'u>>,
 }
 
+/// Walks on to a word whose end is known, or in a circle: the word where the walk ends, and what that word reaches.
+fn walk_on<'u>(
+    unit: &Unit,
+    typedefs: &IndexMap<u32, Typedef<'u>>,
+    tags: &IndexSet<u32>,
+    done: &IndexMap<u32, Reached<'u>>,
+    path: &mut Vec<(u32, usize)>,
+    seen: &mut IndexSet<u32>,
+    start: u32,
+) -> Result<(u32, Option<Reached<'u>>), Memory>
+    requires typedefs { FindsTypedefs (get nat_eq typedefs.now) (unit_view unit.now) }
+    requires tags { FindsTags (contains nat_eq tags.now) (unit_view unit.now) }
+    requires done { AllReach (known_at (unit_view unit.now)) (λ w. option_map reached_view (get nat_eq done.now w)) }
+    requires path { path.old.items ≡ [] }
+    requires seen { seen.old.keys ≡ [] }
+    ensures path { IfOk result (λ end. IsPath (known_at (unit_view unit.now)) start (reverse path.new.items) end.0) }
+    ensures end { IfOk result (λ end. EndsAt (known_at (unit_view unit.now)) (reverse path.new.items) end.0 (option_map reached_view end.1)) }
+{
+    let mut at = start;
+    'words: loop {
+        if let Some(found) = done.get(&at) {
+            return Ok((at, Some(*found)));
+        }
+        if seen.contains(&at) {
+            return Ok((at, None));
+        }
+        match next_step(unit, typedefs, tags, at) {
+            Step::Ends(reached) => return Ok((at, Some(reached))),
+            Step::Leads(stars, next) => {
+                seen.insert(at)?;
+                path.push((at, stars))?;
+                at = next;
+            }
+        }
+    }
+}
+
 /// Walks from a word to one whose end is known, or in a circle.
 fn walk_from<'u>(
     alloc: Global,
@@ -40,29 +77,13 @@ fn walk_from<'u>(
 {
     let mut path: Vec<(u32, usize)> = Vec::new(alloc);
     let mut seen: IndexSet<u32> = IndexSet::new(alloc);
-    let mut at = start;
-    'words: loop {
-        if let Some(found) = done.get(&at) {
-            let end = Some(*found);
-            return Ok(Walk { path, at, end });
-        }
-        if seen.contains(&at) {
-            return Ok(Walk {
-                path,
-                at,
-                end: None,
-            });
-        }
-        match next_step(unit, typedefs, tags, at) {
-            Step::Ends(reached) => {
-                let end = Some(reached);
-                return Ok(Walk { path, at, end });
-            }
-            Step::Leads(stars, next) => {
-                seen.insert(at)?;
-                path.push((at, stars))?;
-                at = next;
-            }
+    let walked = walk_on(unit, typedefs, tags, done, &mut path, &mut seen, start);
+    drop(seen);
+    match walked {
+        Ok((at, end)) => Ok(Walk { path, at, end }),
+        Err(memory) => {
+            drop(path);
+            Err(memory)
         }
     }
 }

@@ -7,7 +7,7 @@ use Rattle.pungi_types.specs.Kinds.{typedef_in, tagged_in}
 use Rattle.pungi_types.specs.TypesView.{typedef_view}
 use Rattle.pungi_names.specs.Depth.{known_at}
 use Rattle.pungi_names.proofs.CoresLemmas.{followed-found}
-use Rattle.pungi_names.proofs.typedefs.cores.Goals as goal
+use Rattle.pungi_names.proofs.typedefs.followed_typedefs.Goals as goal
 
 pub invariant_of-result : goal.invariant_of-result
 invariant_of-result c =
@@ -17,7 +17,7 @@ invariant_of-result c =
     record {
       tags_found = λ w. c.in_ok-words.ensures w ∙ ap (λ ts. is_some (tagged_in ts w)) c.requires.tags;
       followed = λ w h.
-          followed-found file (get nat_eq c.in_ok-reached.reached) c.in_ok-reached.ensures.reach
-          (λ q. c.in_ok-reached.ensures.words q ∙ ap (λ ts. is_some (typedef_in ts q)) c.requires.typedefs) w h c.len.result
+          followed-found file (get nat_eq c.in-Ok.reached) c.in-Ok.ensures.reach
+          (λ q. c.in-Ok.ensures.words q ∙ ap (λ ts. is_some (typedef_in ts q)) c.requires.typedefs) w h c.len.result
           ∙ ap (λ n. known_at file n w) count;
     }

@@ -3,7 +3,7 @@ use Rattle.indexmap.specs.IndexSet.{contains}
 use Rattle.pungi_tree.specs.UnitView.{unit_view}
 use Rattle.pungi_names.specs.Depth.{known_at}
 use Rattle.pungi_names.specs.Walk.{IsPath, on_path}
-use Rattle.pungi_names.proofs.walk.walk_from.Given as goal
+use Rattle.pungi_names.proofs.walk.walk_on.Given as goal
 
 abbrev pub invariant-words : goal.invariant-words
 invariant-words l = record {

@@ -7,14 +7,14 @@ use Rattle.pungi_names.specs.FieldsView.{kind_in}
 use Rattle.pungi_names.specs.First.{or_first}
 use Rattle.pungi_names.specs.StructsView.{fields_kept, typedef_kept}
 use Rattle.pungi_names.proofs.StructLemmas.{fields-found}
-use Rattle.pungi_names.proofs.fields.struct_kinds.Goals as goal
+use Rattle.pungi_names.proofs.fields.note_structs.Goals as goal
 
 pub returns : goal.returns
 returns c =
     let file = unit_view c.args.kinds.now.cores.unit.now in
     λ s w.
-    fields-found file s w (option_map (kind_in w) (get nat_eq c.new-structs.result s)) (option_map (kind_in w) (get nat_eq c.note_tags.new.structs s))
+    fields-found file s w (option_map (kind_in w) (get nat_eq c.args.structs.now s)) (option_map (kind_in w) (get nat_eq c.note_tags.new.structs s))
     (option_map (kind_in w) (get nat_eq c.note_typedefs.new.structs s))
-    (ap (λ es. option_map (kind_in w) (lookup (nat_eq s) es)) c.new-structs.ensures.empty)
-    (c.in_ok-note_tags.ensures s w ∙ ap (λ ts. or_first (option_map (kind_in w) (get nat_eq c.new-structs.result s)) (fields_kept file (tagged_in ts s) w)) c.requires.tags)
+    (ap (λ es. option_map (kind_in w) (lookup (nat_eq s) es)) c.requires.empty)
+    (c.in_ok-note_tags.ensures s w ∙ ap (λ ts. or_first (option_map (kind_in w) (get nat_eq c.args.structs.now s)) (fields_kept file (tagged_in ts s) w)) c.requires.tags)
     (c.in_ok-note_typedefs.ensures s w ∙ ap (λ ts. or_first (option_map (kind_in w) (get nat_eq c.note_tags.new.structs s)) (typedef_kept file (typedef_in ts s) w)) c.requires.typedefs)
