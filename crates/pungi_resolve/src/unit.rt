@@ -73,12 +73,11 @@ pub fn resolve_unit(alloc: Global, checked: &Checked) -> Result<Vec<Option<Funct
 {
     let names = unit_names(alloc, checked.unit(), checked.table())?;
     let list = definitions(alloc, checked.unit())?;
-    let all = resolve_all(
+    resolve_all(
         alloc,
         &names,
         checked.refused(),
         list.as_slice(),
         checked.refusals(),
-    )?;
-    Ok(all)
+    )
 }

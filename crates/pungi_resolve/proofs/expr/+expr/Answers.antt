@@ -1,13 +1,13 @@
 use borrow.Author.Rules.{get_or_read}
 use Rattle.std.proofs.Common.{◌≡◌, ◌∙◌, ◌<◌, ◌≤◌, ◌+◌, ◌&&◌, true, false, List, [], ◌∷◌, ◌++◌, length, get_or, drop, map, sym, ap, subst, arith, rules}
 use Rattle.std.proofs.lemmas.List.{drop_all}
-use Rattle.pungi_tree.specs.ExprView.{expr_view, exprs_of}
+use Rattle.pungi_tree.specs.ExprView.{expr_view, exprs_of, type_name_view}
 use Rattle.pungi_tree.specs.declared.declr.Tail.TheFolds.{the_lemmas}
 use Rattle.pungi_tree.specs.declared.expr.Expr.{Expr}
 use Rattle.pungi_types.specs.Exprs.{is_module_address, wants_module, other_wants, kind_of}
 use Rattle.pungi_types.specs.Resolved.{value_and, resolve, place_of, resolve_all, convert, want_kind, expr_pos}
 use Rattle.pungi_types.specs.Sound.{is_sound, are_sound, is_sound_place}
-use Rattle.pungi_resolved.specs.ValueView.{value_view}
+use Rattle.pungi_resolved.specs.ValueView.{value_view, boxed_view}
 use Rattle.pungi_resolve.specs.Arguments.{argument_in}
 use Rattle.pungi_resolve.proofs.Clean.{and_left, and_right}
 use Rattle.pungi_resolve.proofs.ListLemmas.{values_before, values_before-one, values_before-all, next_one}
@@ -15,69 +15,52 @@ use Rattle.pungi_resolve.proofs.OperandLemmas.{binary-operands, assign-sides, co
 use Rattle.pungi_resolve.proofs.expr.+expr.Goals as goal
 use Rattle.pungi_resolve.proofs.expr.+expr.Goals.{resolve_arg-else-wants_module-via-then-wants_module+else-is_module, resolve_arg-else-wants_module-via-else-wants_module}
 
-pub resolve_expr-resolve_expr-requires-in-Binary : goal.resolve_expr-resolve_expr-requires-in-Binary
-resolve_expr-resolve_expr-requires-in-Binary g t c κs within =
+pub resolve_binary-resolve_expr-requires : goal.resolve_binary-resolve_expr-requires
+resolve_binary-resolve_expr-requires g t c κs within =
     let env = g.N.Lookup.env c.args.names.now in
-    let P : Expr → Type 0 = λ x. is_sound (resolve env (expr_view x)) ≡ true in
-    let k = binary-operands env c.args.e.now c.in-Binary.operator c.in-Binary.a c.in-Binary.b c.in-Binary.is c.requires in
-    let h : is_sound (resolve env (expr_view c.deref-in-Binary.result.now)) ≡ true = subst P (sym c.deref-in-Binary.ensures) k.first in
-    (search (rules, the_lemmas), (search rules, h))
+    let k = binary-operands env c.args.pos c.args.operator (expr_view c.args.a.now) (expr_view c.args.b.now) c.requires in
+    (search (rules, the_lemmas), (search rules, k.first))
 
-pub resolve_expr-resolve_expr-requires-in-Binary-2 : goal.resolve_expr-resolve_expr-requires-in-Binary-2
-resolve_expr-resolve_expr-requires-in-Binary-2 g t c κs within =
+pub resolve_binary-resolve_expr-requires-2 : goal.resolve_binary-resolve_expr-requires-2
+resolve_binary-resolve_expr-requires-2 g t c κs within =
     let env = g.N.Lookup.env c.args.names.now in
-    let P : Expr → Type 0 = λ x. is_sound (resolve env (expr_view x)) ≡ true in
-    let k = binary-operands env c.args.e.now c.in-Binary.operator c.in-Binary.a c.in-Binary.b c.in-Binary.is c.requires in
-    let h : is_sound (resolve env (expr_view c.deref-in-Binary-2.result.now)) ≡ true = subst P (sym c.deref-in-Binary-2.ensures) k.second in
-    (search (rules, the_lemmas), (search rules, h))
+    let k = binary-operands env c.args.pos c.args.operator (expr_view c.args.a.now) (expr_view c.args.b.now) c.requires in
+    (search (rules, the_lemmas), (search rules, k.second))
 
-pub resolve_expr-resolve_place-requires-in-Assign : goal.resolve_expr-resolve_place-requires-in-Assign
-resolve_expr-resolve_place-requires-in-Assign g t c κs within =
+pub resolve_assign-resolve_place-requires : goal.resolve_assign-resolve_place-requires
+resolve_assign-resolve_place-requires g t c κs within =
     let env = g.N.Lookup.env c.args.names.now in
-    let P : Expr → Type 0 = λ x. is_sound_place (place_of env (expr_view x)) ≡ true in
-    let k = assign-sides env c.args.e.now c.in-Assign.operator c.in-Assign.a c.in-Assign.b c.in-Assign.is c.requires in
-    let h : is_sound_place (place_of env (expr_view c.deref-in-Assign-2.result.now)) ≡ true = subst P (sym c.deref-in-Assign-2.ensures) k.place in
-    (search (rules, the_lemmas), (search rules, h))
+    let k = assign-sides env c.args.pos c.args.operator (expr_view c.args.a.now) (expr_view c.args.b.now) c.requires in
+    (search (rules, the_lemmas), (search rules, k.place))
 
-pub resolve_expr-resolve_expr-requires-in-Assign : goal.resolve_expr-resolve_expr-requires-in-Assign
-resolve_expr-resolve_expr-requires-in-Assign g t c κs within =
+pub resolve_assign-resolve_expr-requires : goal.resolve_assign-resolve_expr-requires
+resolve_assign-resolve_expr-requires g t c κs within =
     let env = g.N.Lookup.env c.args.names.now in
-    let P : Expr → Type 0 = λ x. is_sound (resolve env (expr_view x)) ≡ true in
-    let k = assign-sides env c.args.e.now c.in-Assign.operator c.in-Assign.a c.in-Assign.b c.in-Assign.is c.requires in
-    let h : is_sound (resolve env (expr_view c.deref-in-Assign-3.result.now)) ≡ true = subst P (sym c.deref-in-Assign-3.ensures) k.value in
-    (search (rules, the_lemmas), (search rules, h))
+    let k = assign-sides env c.args.pos c.args.operator (expr_view c.args.a.now) (expr_view c.args.b.now) c.requires in
+    (search (rules, the_lemmas), (search rules, k.value))
 
-pub resolve_expr-resolve_expr-requires-in-Cond : goal.resolve_expr-resolve_expr-requires-in-Cond
-resolve_expr-resolve_expr-requires-in-Cond g t c κs within =
+pub resolve_cond-resolve_expr-requires : goal.resolve_cond-resolve_expr-requires
+resolve_cond-resolve_expr-requires g t c κs within =
     let env = g.N.Lookup.env c.args.names.now in
-    let P : Expr → Type 0 = λ x. is_sound (resolve env (expr_view x)) ≡ true in
-    let k = cond-choices env c.args.e.now c.in-Cond.test c.in-Cond.yes c.in-Cond.no c.in-Cond.is c.requires in
-    let h : is_sound (resolve env (expr_view c.deref-in-Cond.result.now)) ≡ true = subst P (sym c.deref-in-Cond.ensures) k.test in
-    (search (rules, the_lemmas), (search rules, h))
+    let k = cond-choices env c.args.pos (expr_view c.args.test.now) (expr_view c.args.yes.now) (expr_view c.args.no.now) c.requires in
+    (search (rules, the_lemmas), (search rules, k.test))
 
-pub resolve_expr-resolve_expr-requires-in-Cond-2 : goal.resolve_expr-resolve_expr-requires-in-Cond-2
-resolve_expr-resolve_expr-requires-in-Cond-2 g t c κs within =
+pub resolve_cond-resolve_expr-requires-2 : goal.resolve_cond-resolve_expr-requires-2
+resolve_cond-resolve_expr-requires-2 g t c κs within =
     let env = g.N.Lookup.env c.args.names.now in
-    let P : Expr → Type 0 = λ x. is_sound (resolve env (expr_view x)) ≡ true in
-    let k = cond-choices env c.args.e.now c.in-Cond.test c.in-Cond.yes c.in-Cond.no c.in-Cond.is c.requires in
-    let h : is_sound (resolve env (expr_view c.deref-in-Cond-2.result.now)) ≡ true = subst P (sym c.deref-in-Cond-2.ensures) k.yes in
-    (search (rules, the_lemmas), (search rules, h))
+    let k = cond-choices env c.args.pos (expr_view c.args.test.now) (expr_view c.args.yes.now) (expr_view c.args.no.now) c.requires in
+    (search (rules, the_lemmas), (search rules, k.yes))
 
-pub resolve_expr-resolve_expr-requires-in-Cond-3 : goal.resolve_expr-resolve_expr-requires-in-Cond-3
-resolve_expr-resolve_expr-requires-in-Cond-3 g t c κs within =
+pub resolve_cond-resolve_expr-requires-3 : goal.resolve_cond-resolve_expr-requires-3
+resolve_cond-resolve_expr-requires-3 g t c κs within =
     let env = g.N.Lookup.env c.args.names.now in
-    let P : Expr → Type 0 = λ x. is_sound (resolve env (expr_view x)) ≡ true in
-    let k = cond-choices env c.args.e.now c.in-Cond.test c.in-Cond.yes c.in-Cond.no c.in-Cond.is c.requires in
-    let h : is_sound (resolve env (expr_view c.deref-in-Cond-3.result.now)) ≡ true = subst P (sym c.deref-in-Cond-3.ensures) k.no in
-    (search (rules, the_lemmas), (search rules, h))
+    let k = cond-choices env c.args.pos (expr_view c.args.test.now) (expr_view c.args.yes.now) (expr_view c.args.no.now) c.requires in
+    (search (rules, the_lemmas), (search rules, k.no))
 
-pub resolve_expr-resolve_expr-requires-in-Cast : goal.resolve_expr-resolve_expr-requires-in-Cast
-resolve_expr-resolve_expr-requires-in-Cast g t c κs within =
+pub resolve_cast-resolve_expr-requires : goal.resolve_cast-resolve_expr-requires
+resolve_cast-resolve_expr-requires g t c κs within =
     let env = g.N.Lookup.env c.args.names.now in
-    let P : Expr → Type 0 = λ x. is_sound (resolve env (expr_view x)) ≡ true in
-    let k = cast-operand env c.args.e.now c.in-Cast.name c.in-Cast.a c.in-Cast.is c.requires in
-    let h : is_sound (resolve env (expr_view c.deref-in-Cast.result.now)) ≡ true = subst P (sym c.deref-in-Cast.ensures) k in
-    (search (rules, the_lemmas), (search rules, h))
+    (search (rules, the_lemmas), (search rules, cast-operand env c.args.pos (type_name_view c.args.name.now) (expr_view c.args.a.now) c.requires))
 
 pub resolve_arg-resolve_expr-requires : goal.resolve_arg-resolve_expr-requires
 resolve_arg-resolve_expr-requires g t c κs within =
@@ -101,9 +84,9 @@ resolve_arg-returns-clause-value g t c =
       | resolve_arg-else-wants_module-via-else-wants_module w ↦ neither-left _ _ (sym c.wants_module.ensures ∙ w.if-wants_module.false)
     ] in
     c.in_ok-value.ensures
-    ∙ ap (λ p. convert p c.wanted_kind.result c.in_ok-a.a.kind (value_view c.in_ok-a.a.value)) c.pos_of-pos.ensures
-    ∙ ap (λ k. convert (expr_pos e) k c.in_ok-a.a.kind (value_view c.in_ok-a.a.value)) c.wanted_kind.ensures
-    ∙ ap (λ k. convert (expr_pos e) (want_kind ws) k (value_view c.in_ok-a.a.value)) c.in_ok-a.ensures.kind
+    ∙ ap (λ p. convert p c.wanted_kind.result c.in_ok-a.a.kind (boxed_view c.in_ok-a.a.value)) c.pos_of-pos.ensures
+    ∙ ap (λ k. convert (expr_pos e) k c.in_ok-a.a.kind (boxed_view c.in_ok-a.a.value)) c.wanted_kind.ensures
+    ∙ ap (λ k. convert (expr_pos e) (want_kind ws) k (boxed_view c.in_ok-a.a.value)) c.in_ok-a.ensures.kind
     ∙ ap (convert (expr_pos e) (want_kind ws) (kind_of env e)) c.in_ok-a.ensures.value
     ∙ sym (argument-value env ws e f)
 
@@ -147,9 +130,9 @@ resolve_args-loop-e-preserved g t c =
     record {
       values =
           ap (λ ys. values_before (map value_view ys) (resolve_all env c.other_wants-rest.result.now left)) c.in_ok-push.ensures.items
-          ∙ ap (λ ws. values_before (map value_view (done ++ c.in_ok-arg.arg.value ∷ [])) (resolve_all env ws left)) others
-          ∙ values_before-one value_view done c.in_ok-arg.arg.value (resolve_all env (other_wants rest) left)
-          ∙ ap (λ v. values_before (map value_view done) (value_and v (resolve_all env (other_wants rest) left))) c.in_ok-arg.ensures.value
+          ∙ ap (λ ws. values_before (map value_view (done ++ c.into_inner.result ∷ [])) (resolve_all env ws left)) others
+          ∙ values_before-one value_view done c.into_inner.result (resolve_all env (other_wants rest) left)
+          ∙ ap (λ v. values_before (map value_view done) (value_and v (resolve_all env (other_wants rest) left))) (ap value_view c.into_inner.ensures ∙ c.in_ok-arg.ensures.value)
           ∙ ap (λ ys. values_before (map value_view done) (resolve_all env rest (exprs_of (map expr_view ys)))) (sym d)
           ∙ c.loop-e.invariant.values;
       met = search rules;
