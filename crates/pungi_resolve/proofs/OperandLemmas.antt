@@ -1,9 +1,16 @@
 -- The operands of what is sound are sound, and the trees that operators stand for.
-use Rattle.std.proofs.Common.{◌≡◌, ◌∙◌, Bool, true, false, List, refl, sym, ap}
+use Rattle.std.proofs.Common.{◌≡◌, ◌∙◌, Bool, true, false, List, refl, sym, ap, rules}
 use Rattle.std.specs.Prelude.{◌&&◌, if◌then◌else◌}
+use Rattle.std.specs.declared.alloc.Global.{Global}
+use Rattle.std.specs.declared.boxed.Box.{Box as Boxed}
 use Rattle.pungi_base.specs.declared.pos.Pos.{Pos}
 use Rattle.pungi_base.specs.declared.punct.Punct.{Punct}
 use Rattle.pungi_tree.specs.Syntax as plain
+use Rattle.pungi_tree.specs.ExprView.{expr_view}
+use Rattle.pungi_tree.specs.declared.expr.Expr.{Expr}
+use Rattle.pungi_tree.specs.declared.expr.ExprNode.TheVariants.{Binary, Assign, Cond}
+use Rattle.pungi_tree.specs.declared.declr.Tail.TheViews.{the_lemmas}
+use Rattle.pungi_tree.specs.declared.declr.Tail.TheFolds.{fold_out-Expr, fold_out-ExprNode, fold-roll-ExprNode, fold-roll-Expr}
 use Rattle.pungi_types.specs.Names.{Env}
 use Rattle.pungi_types.specs.Kinds.{type_name_kind}
 use Rattle.pungi_types.specs.Exprs.{kind_of, is_module_address, wants_module}
@@ -14,14 +21,25 @@ use Rattle.pungi_resolve.specs.Arguments.{argument_in}
 use Rattle.pungi_resolve.proofs.Clean.{and_left, and_right}
 use Rattle.pungi_resolve.proofs.SoundParts.{binary-same, assign-same, cast-same, convert-same}
 
+expr_view-binary : (e : Expr) (m : Punct) (a b : Boxed Expr Global) → e.node ≡ Binary m a b → expr_view e ≡ plain.binary e.pos m (expr_view a.value) (expr_view b.value)
+expr_view-binary e m a b h = search (rules, the_lemmas, fold_out-Expr, fold_out-ExprNode, fold-roll-ExprNode, fold-roll-Expr)
+
+expr_view-assign : (e : Expr) (m : Punct) (a b : Boxed Expr Global) → e.node ≡ Assign m a b → expr_view e ≡ plain.assign e.pos m (expr_view a.value) (expr_view b.value)
+expr_view-assign e m a b h = search (rules, the_lemmas, fold_out-Expr, fold_out-ExprNode, fold-roll-ExprNode, fold-roll-Expr)
+
+expr_view-cond : (e : Expr) (t a b : Boxed Expr Global) → e.node ≡ Cond t a b → expr_view e ≡ plain.conditional e.pos (expr_view t.value) (expr_view a.value) (expr_view b.value)
+expr_view-cond e t a b h = search (rules, the_lemmas, fold_out-Expr, fold_out-ExprNode, fold-roll-ExprNode, fold-roll-Expr)
+
 -- the operands of a binary operator
 pub record Operands (env : Env) (a b : plain.Expr) : Type 0 where
   pub first : is_sound (resolve env a) ≡ true
   pub second : is_sound (resolve env b) ≡ true
 
-pub binary-operands : (env : Env) (p : Pos) (m : Punct) (a b : plain.Expr) → is_sound (resolve env (plain.binary p m a b)) ≡ true → Operands env a b
-binary-operands env p m a b h =
-    let k = sym (binary-same p m (kind_of env (plain.binary p m a b)) (resolve env a) (resolve env b)) ∙ h in
+pub binary-operands : (env : Env) (e : Expr) (m : Punct) (a b : Boxed Expr Global) → e.node ≡ Binary m a b → is_sound (resolve env (expr_view e)) ≡ true → Operands env (expr_view a.value) (expr_view b.value)
+binary-operands env e m a b n h =
+    let v = expr_view-binary e m a b n in
+    let k = sym (binary-same e.pos m (kind_of env (plain.binary e.pos m (expr_view a.value) (expr_view b.value))) (resolve env (expr_view a.value)) (resolve env (expr_view b.value)))
+    ∙ sym (ap (λ x. is_sound (resolve env x)) v) ∙ h in
     record { first = and_left _ _ k; second = and_right _ _ k }
 
 -- the sides of an assignment
@@ -29,9 +47,11 @@ pub record Sides (env : Env) (a b : plain.Expr) : Type 0 where
   pub place : is_sound_place (place_of env a) ≡ true
   pub value : is_sound (resolve env b) ≡ true
 
-pub assign-sides : (env : Env) (p : Pos) (m : Punct) (a b : plain.Expr) → is_sound (resolve env (plain.assign p m a b)) ≡ true → Sides env a b
-assign-sides env p m a b h =
-    let k = sym (assign-same p m (kind_of env a) (kind_of env b) (place_of env a) (resolve env b)) ∙ h in
+pub assign-sides : (env : Env) (e : Expr) (m : Punct) (a b : Boxed Expr Global) → e.node ≡ Assign m a b → is_sound (resolve env (expr_view e)) ≡ true → Sides env (expr_view a.value) (expr_view b.value)
+assign-sides env e m a b n h =
+    let v = expr_view-assign e m a b n in
+    let k = sym (assign-same e.pos m (kind_of env (expr_view a.value)) (kind_of env (expr_view b.value)) (place_of env (expr_view a.value)) (resolve env (expr_view b.value)))
+    ∙ sym (ap (λ x. is_sound (resolve env x)) v) ∙ h in
     record { place = and_left _ _ k; value = and_right _ _ k }
 
 -- the three operands of `?:`
@@ -40,9 +60,10 @@ pub record Choices (env : Env) (t a b : plain.Expr) : Type 0 where
   pub yes : is_sound (resolve env a) ≡ true
   pub no : is_sound (resolve env b) ≡ true
 
-pub cond-choices : (env : Env) (p : Pos) (t a b : plain.Expr) → is_sound (resolve env (plain.conditional p t a b)) ≡ true → Choices env t a b
-cond-choices env p t a b h =
-    let k : (is_sound (resolve env t) && (is_sound (resolve env a) && is_sound (resolve env b))) ≡ true = h in
+pub cond-choices : (env : Env) (e : Expr) (t a b : Boxed Expr Global) → e.node ≡ Cond t a b → is_sound (resolve env (expr_view e)) ≡ true → Choices env (expr_view t.value) (expr_view a.value) (expr_view b.value)
+cond-choices env e t a b n h =
+    let v = expr_view-cond e t a b n in
+    let k : (is_sound (resolve env (expr_view t.value)) && (is_sound (resolve env (expr_view a.value)) && is_sound (resolve env (expr_view b.value)))) ≡ true = sym (ap (λ x. is_sound (resolve env x)) v) ∙ h in
     let r = and_right _ _ k in
     record { test = and_left _ _ k; yes = and_left _ _ r; no = and_right _ _ r }
 

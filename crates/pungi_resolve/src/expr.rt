@@ -17,7 +17,7 @@ use crate::operators::{assign, binary, cast, conditional, negation, paren, sign,
 use crate::place::{field_of, read_as, word_place};
 use crate::typed::{Argument, Arguments, Typed, TypedPlace};
 use crate::word::{address, character, int, module_behind, null, text, word};
-use pungi_base::{Kind, Memory, Name, Pos, Punct};
+use pungi_base::{Kind, Memory, Name, Pos};
 use pungi_tree::{Expr, ExprNode, TypeName};
 use pungi_types::operator::{first_met, other_wants, prefix_of, wants_module};
 use pungi_types::{
@@ -84,11 +84,25 @@ pub(crate) fn resolve_expr<N: Lookup>(alloc: Global, names: &N, e: &Expr) -> Res
         ExprNode::Post(operator, a) => {
             resolve_step(alloc, names, e.pos, true, Kind::Punct(*operator), a)
         }
-        ExprNode::Binary(operator, a, b) => resolve_binary(alloc, names, e.pos, *operator, a, b),
-        ExprNode::Assign(operator, a, b) => resolve_assign(alloc, names, e.pos, *operator, a, b),
-        ExprNode::Cond(test, yes, no) => resolve_cond(alloc, names, e.pos, test, yes, no),
-        ExprNode::Cast(name, a) => resolve_cast(alloc, names, e.pos, name, a),
-        ExprNode::Call(f, list) => resolve_call(alloc, names, e.pos, f, list),
+        ExprNode::Binary(operator, a, b) => {
+            let a = resolve_expr(alloc, names, a)?;
+            let b = resolve_expr(alloc, names, b)?;
+            Ok(binary(alloc, e.pos, *operator, a, b)?)
+        }
+        ExprNode::Assign(operator, a, b) => {
+            let is_place = is_place(names, a);
+            let a = resolve_place(alloc, names, a)?;
+            let b = resolve_expr(alloc, names, b)?;
+            Ok(assign(alloc, e.pos, *operator, is_place, a, b)?)
+        }
+        ExprNode::Cond(test, yes, no) => {
+            let test = resolve_expr(alloc, names, test)?;
+            let yes = resolve_expr(alloc, names, yes)?;
+            let no = resolve_expr(alloc, names, no)?;
+            Ok(conditional(alloc, e.pos, test, yes, no)?)
+        }
+        ExprNode::Cast(name, a) => resolve_cast(alloc, names, e.pos, a, name),
+        ExprNode::Call(f, list) => resolve_call(alloc, names, e.pos, list, f),
         ExprNode::Arrow(a, name) => resolve_arrow(alloc, names, e.pos, a, *name),
         ExprNode::Float
         | ExprNode::Comma(_, _)
@@ -156,68 +170,12 @@ fn resolve_step<N: Lookup>(
 }
 
 #[cycle(expr)]
-fn resolve_binary<N: Lookup>(
-    alloc: Global,
-    names: &N,
-    pos: Pos,
-    operator: Punct,
-    a: &Expr,
-    b: &Expr,
-) -> Result<Typed, Memory>
-    requires { is_sound (resolve_of (N.env names.now) (plain.binary pos operator (expr_view a.now) (expr_view b.now))) ≡ true }
-    ensures value { IfOk result (λ x. boxed_view x.value ≡ resolve_of (N.env names.now) (plain.binary pos operator (expr_view a.now) (expr_view b.now))) }
-    ensures kind { IfOk result (λ x. x.kind ≡ kind_of (N.env names.now) (plain.binary pos operator (expr_view a.now) (expr_view b.now))) }
-{
-    let a = resolve_expr(alloc, names, a)?;
-    let b = resolve_expr(alloc, names, b)?;
-    binary(alloc, pos, operator, a, b)
-}
-
-#[cycle(expr)]
-fn resolve_assign<N: Lookup>(
-    alloc: Global,
-    names: &N,
-    pos: Pos,
-    operator: Punct,
-    a: &Expr,
-    b: &Expr,
-) -> Result<Typed, Memory>
-    requires { is_sound (resolve_of (N.env names.now) (plain.assign pos operator (expr_view a.now) (expr_view b.now))) ≡ true }
-    ensures value { IfOk result (λ x. boxed_view x.value ≡ resolve_of (N.env names.now) (plain.assign pos operator (expr_view a.now) (expr_view b.now))) }
-    ensures kind { IfOk result (λ x. x.kind ≡ kind_of (N.env names.now) (plain.assign pos operator (expr_view a.now) (expr_view b.now))) }
-{
-    let is_place = is_place(names, a);
-    let a = resolve_place(alloc, names, a)?;
-    let b = resolve_expr(alloc, names, b)?;
-    assign(alloc, pos, operator, is_place, a, b)
-}
-
-#[cycle(expr)]
-fn resolve_cond<N: Lookup>(
-    alloc: Global,
-    names: &N,
-    pos: Pos,
-    test: &Expr,
-    yes: &Expr,
-    no: &Expr,
-) -> Result<Typed, Memory>
-    requires { is_sound (resolve_of (N.env names.now) (plain.conditional pos (expr_view test.now) (expr_view yes.now) (expr_view no.now))) ≡ true }
-    ensures value { IfOk result (λ x. boxed_view x.value ≡ resolve_of (N.env names.now) (plain.conditional pos (expr_view test.now) (expr_view yes.now) (expr_view no.now))) }
-    ensures kind { IfOk result (λ x. x.kind ≡ kind_of (N.env names.now) (plain.conditional pos (expr_view test.now) (expr_view yes.now) (expr_view no.now))) }
-{
-    let test = resolve_expr(alloc, names, test)?;
-    let yes = resolve_expr(alloc, names, yes)?;
-    let no = resolve_expr(alloc, names, no)?;
-    conditional(alloc, pos, test, yes, no)
-}
-
-#[cycle(expr)]
 fn resolve_cast<N: Lookup>(
     alloc: Global,
     names: &N,
     pos: Pos,
-    name: &TypeName,
     a: &Expr,
+    name: &TypeName,
 ) -> Result<Typed, Memory>
     requires { is_sound (resolve_of (N.env names.now) (plain.cast pos (type_name_view name.now) (expr_view a.now))) ≡ true }
     ensures value { IfOk result (λ x. boxed_view x.value ≡ resolve_of (N.env names.now) (plain.cast pos (type_name_view name.now) (expr_view a.now))) }
@@ -233,8 +191,8 @@ fn resolve_call<N: Lookup>(
     alloc: Global,
     names: &N,
     pos: Pos,
-    f: &Expr,
     list: &Vec<Expr>,
+    f: &Expr,
 ) -> Result<Typed, Memory>
     requires { is_sound (resolve_of (N.env names.now) (plain.call pos (expr_view f.now) (exprs_of (map expr_view list.now.items)))) ≡ true }
     ensures value { IfOk result (λ x. boxed_view x.value ≡ resolve_of (N.env names.now) (plain.call pos (expr_view f.now) (exprs_of (map expr_view list.now.items)))) }
@@ -344,6 +302,7 @@ fn resolve_arg<N: Lookup>(
     }
     let a = resolve_expr(alloc, names, e)?;
     let met = first_met(wants, is_module, operand(a.kind, e));
-    let value = convert(alloc, pos_of(e), wanted_kind(wants), a.kind, a.value)?;
+    let pos = pos_of(e);
+    let value = convert(alloc, pos, wanted_kind(wants), a.kind, a.value)?;
     Ok(Argument { value, met })
 }

@@ -175,15 +175,21 @@ pub(crate) fn resolve_stmt<N: Lookup>(
         StmtNode::Block(list, end) => resolve_block(names, around, walk, pos, list, *end),
         StmtNode::Declare(d) => resolve_decl(names, around, walk, pos, d),
         StmtNode::Do(e) => resolve_do(names, around, walk, pos, e),
-        StmtNode::If(e, yes, None) => resolve_if(names, around, walk, pos, e, yes),
-        StmtNode::If(e, yes, Some(no)) => resolve_if_else(names, around, walk, pos, e, yes, no),
-        StmtNode::While(e, body) => resolve_while(names, around, walk, pos, e, body),
+        StmtNode::If(e, yes, None) => resolve_if(names, around, walk, pos, yes, e),
+        StmtNode::If(e, yes, Some(no)) => {
+            let test = value(names, around, walk, e)?;
+            let yes = resolve_part(names, around, walk, yes)?;
+            let no = resolve_part(names, around, walk, no)?;
+            let node = ActionNode::TestElse(test, yes, no);
+            Ok(Action { pos, node })
+        }
+        StmtNode::While(e, body) => resolve_while(names, around, walk, pos, body, e),
         StmtNode::DoWhile(body, e) => resolve_do_while(names, around, walk, pos, body, e),
         StmtNode::For(start, test, step, body) => {
-            resolve_for(names, around, walk, pos, start, test, step, body)
+            resolve_for(names, around, walk, pos, body, start, test, step)
         }
-        StmtNode::Switch(e, body) => resolve_switch(names, around, walk, pos, e, body),
-        StmtNode::Case(e, inner) => resolve_case(names, around, walk, pos, e, inner),
+        StmtNode::Switch(e, body) => resolve_switch(names, around, walk, pos, body, e),
+        StmtNode::Case(e, inner) => resolve_case(names, around, walk, pos, inner, e),
         StmtNode::Default(inner) => resolve_default(names, around, walk, pos, inner),
         StmtNode::Label(name, inner) => resolve_label(names, around, walk, pos, *name, inner),
         StmtNode::Goto(name, _) => Ok(Action {
@@ -208,8 +214,8 @@ fn resolve_if<N: Lookup>(
     around: Around,
     walk: &mut Walk,
     pos: Pos,
-    e: &Expr,
     yes: &Stmt,
+    e: &Expr,
 ) -> Result<Action, Memory>
     requires { IsSoundAction (action (site_of (N.env names.now) walk.old around.result) (plain.if_only pos (expr_view e.now) (stmt_view yes.now))) }
     ensures action { IfOk result (λ x. action_view x ≡ action (site_of (N.env names.now) walk.old around.result) (plain.if_only pos (expr_view e.now) (stmt_view yes.now))) }
@@ -222,34 +228,13 @@ fn resolve_if<N: Lookup>(
 }
 
 #[cycle(stmt)]
-fn resolve_if_else<N: Lookup>(
-    names: &N,
-    around: Around,
-    walk: &mut Walk,
-    pos: Pos,
-    e: &Expr,
-    yes: &Stmt,
-    no: &Stmt,
-) -> Result<Action, Memory>
-    requires { IsSoundAction (action (site_of (N.env names.now) walk.old around.result) (plain.if_else pos (expr_view e.now) (stmt_view yes.now) (stmt_view no.now))) }
-    ensures action { IfOk result (λ x. action_view x ≡ action (site_of (N.env names.now) walk.old around.result) (plain.if_else pos (expr_view e.now) (stmt_view yes.now) (stmt_view no.now))) }
-    ensures after { OnOk result ((site_of (N.env names.now) walk.new around.result) ≡ after (site_of (N.env names.now) walk.old around.result) (plain.if_else pos (expr_view e.now) (stmt_view yes.now) (stmt_view no.now))) }
-{
-    let test = value(names, around, walk, e)?;
-    let yes = resolve_part(names, around, walk, yes)?;
-    let no = resolve_part(names, around, walk, no)?;
-    let node = ActionNode::TestElse(test, yes, no);
-    Ok(Action { pos, node })
-}
-
-#[cycle(stmt)]
 fn resolve_while<N: Lookup>(
     names: &N,
     around: Around,
     walk: &mut Walk,
     pos: Pos,
-    e: &Expr,
     body: &Stmt,
+    e: &Expr,
 ) -> Result<Action, Memory>
     requires { IsSoundAction (action (site_of (N.env names.now) walk.old around.result) (plain.while pos (expr_view e.now) (stmt_view body.now))) }
     ensures action { IfOk result (λ x. action_view x ≡ action (site_of (N.env names.now) walk.old around.result) (plain.while pos (expr_view e.now) (stmt_view body.now))) }
@@ -286,10 +271,10 @@ fn resolve_for<N: Lookup>(
     around: Around,
     walk: &mut Walk,
     pos: Pos,
+    body: &Stmt,
     start: &ForStart,
     test: &Option<Expr>,
     step: &Option<Expr>,
-    body: &Stmt,
 ) -> Result<Action, Memory>
     requires { IsSoundAction (action (site_of (N.env names.now) walk.old around.result) (plain.for pos (for_start_view start.now) (optional_expr_view test.now) (optional_expr_view step.now) (stmt_view body.now))) }
     ensures action { IfOk result (λ x. action_view x ≡ action (site_of (N.env names.now) walk.old around.result) (plain.for pos (for_start_view start.now) (optional_expr_view test.now) (optional_expr_view step.now) (stmt_view body.now))) }
@@ -315,8 +300,8 @@ fn resolve_switch<N: Lookup>(
     around: Around,
     walk: &mut Walk,
     pos: Pos,
-    e: &Expr,
     body: &Stmt,
+    e: &Expr,
 ) -> Result<Action, Memory>
     requires { IsSoundAction (action (site_of (N.env names.now) walk.old around.result) (plain.switch pos (expr_view e.now) (stmt_view body.now))) }
     ensures action { IfOk result (λ x. action_view x ≡ action (site_of (N.env names.now) walk.old around.result) (plain.switch pos (expr_view e.now) (stmt_view body.now))) }
@@ -334,8 +319,8 @@ fn resolve_case<N: Lookup>(
     around: Around,
     walk: &mut Walk,
     pos: Pos,
-    e: &Expr,
     inner: &Stmt,
+    e: &Expr,
 ) -> Result<Action, Memory>
     requires { IsSoundAction (action (site_of (N.env names.now) walk.old around.result) (plain.case pos (expr_view e.now) (stmt_view inner.now))) }
     ensures action { IfOk result (λ x. action_view x ≡ action (site_of (N.env names.now) walk.old around.result) (plain.case pos (expr_view e.now) (stmt_view inner.now))) }

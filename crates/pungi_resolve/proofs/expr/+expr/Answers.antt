@@ -15,47 +15,61 @@ use Rattle.pungi_resolve.proofs.OperandLemmas.{binary-operands, assign-sides, co
 use Rattle.pungi_resolve.proofs.expr.+expr.Goals as goal
 use Rattle.pungi_resolve.proofs.expr.+expr.Goals.{resolve_arg-else-wants_module-via-then-wants_module+else-is_module, resolve_arg-else-wants_module-via-else-wants_module}
 
-pub resolve_binary-resolve_expr-requires : goal.resolve_binary-resolve_expr-requires
-resolve_binary-resolve_expr-requires g t c κs within =
+pub resolve_expr-resolve_expr-requires-in-Binary : goal.resolve_expr-resolve_expr-requires-in-Binary
+resolve_expr-resolve_expr-requires-in-Binary g t c κs within =
     let env = g.N.Lookup.env c.args.names.now in
-    let k = binary-operands env c.args.pos c.args.operator (expr_view c.args.a.now) (expr_view c.args.b.now) c.requires in
-    (search (rules, the_lemmas), (search rules, k.first))
+    let P : Expr → Type 0 = λ x. is_sound (resolve env (expr_view x)) ≡ true in
+    let k = binary-operands env c.args.e.now c.in-Binary.operator c.in-Binary.a c.in-Binary.b c.in-Binary.is c.requires in
+    let h : is_sound (resolve env (expr_view c.deref-in-Binary.result.now)) ≡ true = subst P (sym c.deref-in-Binary.ensures) k.first in
+    (search (rules, the_lemmas), (search rules, h))
 
-pub resolve_binary-resolve_expr-requires-2 : goal.resolve_binary-resolve_expr-requires-2
-resolve_binary-resolve_expr-requires-2 g t c κs within =
+pub resolve_expr-resolve_expr-requires-in-Binary-2 : goal.resolve_expr-resolve_expr-requires-in-Binary-2
+resolve_expr-resolve_expr-requires-in-Binary-2 g t c κs within =
     let env = g.N.Lookup.env c.args.names.now in
-    let k = binary-operands env c.args.pos c.args.operator (expr_view c.args.a.now) (expr_view c.args.b.now) c.requires in
-    (search (rules, the_lemmas), (search rules, k.second))
+    let P : Expr → Type 0 = λ x. is_sound (resolve env (expr_view x)) ≡ true in
+    let k = binary-operands env c.args.e.now c.in-Binary.operator c.in-Binary.a c.in-Binary.b c.in-Binary.is c.requires in
+    let h : is_sound (resolve env (expr_view c.deref-in-Binary-2.result.now)) ≡ true = subst P (sym c.deref-in-Binary-2.ensures) k.second in
+    (search (rules, the_lemmas), (search rules, h))
 
-pub resolve_assign-resolve_place-requires : goal.resolve_assign-resolve_place-requires
-resolve_assign-resolve_place-requires g t c κs within =
+pub resolve_expr-resolve_place-requires-in-Assign : goal.resolve_expr-resolve_place-requires-in-Assign
+resolve_expr-resolve_place-requires-in-Assign g t c κs within =
     let env = g.N.Lookup.env c.args.names.now in
-    let k = assign-sides env c.args.pos c.args.operator (expr_view c.args.a.now) (expr_view c.args.b.now) c.requires in
-    (search (rules, the_lemmas), (search rules, k.place))
+    let P : Expr → Type 0 = λ x. is_sound_place (place_of env (expr_view x)) ≡ true in
+    let k = assign-sides env c.args.e.now c.in-Assign.operator c.in-Assign.a c.in-Assign.b c.in-Assign.is c.requires in
+    let h : is_sound_place (place_of env (expr_view c.deref-in-Assign-2.result.now)) ≡ true = subst P (sym c.deref-in-Assign-2.ensures) k.place in
+    (search (rules, the_lemmas), (search rules, h))
 
-pub resolve_assign-resolve_expr-requires : goal.resolve_assign-resolve_expr-requires
-resolve_assign-resolve_expr-requires g t c κs within =
+pub resolve_expr-resolve_expr-requires-in-Assign : goal.resolve_expr-resolve_expr-requires-in-Assign
+resolve_expr-resolve_expr-requires-in-Assign g t c κs within =
     let env = g.N.Lookup.env c.args.names.now in
-    let k = assign-sides env c.args.pos c.args.operator (expr_view c.args.a.now) (expr_view c.args.b.now) c.requires in
-    (search (rules, the_lemmas), (search rules, k.value))
+    let P : Expr → Type 0 = λ x. is_sound (resolve env (expr_view x)) ≡ true in
+    let k = assign-sides env c.args.e.now c.in-Assign.operator c.in-Assign.a c.in-Assign.b c.in-Assign.is c.requires in
+    let h : is_sound (resolve env (expr_view c.deref-in-Assign-3.result.now)) ≡ true = subst P (sym c.deref-in-Assign-3.ensures) k.value in
+    (search (rules, the_lemmas), (search rules, h))
 
-pub resolve_cond-resolve_expr-requires : goal.resolve_cond-resolve_expr-requires
-resolve_cond-resolve_expr-requires g t c κs within =
+pub resolve_expr-resolve_expr-requires-in-Cond : goal.resolve_expr-resolve_expr-requires-in-Cond
+resolve_expr-resolve_expr-requires-in-Cond g t c κs within =
     let env = g.N.Lookup.env c.args.names.now in
-    let k = cond-choices env c.args.pos (expr_view c.args.test.now) (expr_view c.args.yes.now) (expr_view c.args.no.now) c.requires in
-    (search (rules, the_lemmas), (search rules, k.test))
+    let P : Expr → Type 0 = λ x. is_sound (resolve env (expr_view x)) ≡ true in
+    let k = cond-choices env c.args.e.now c.in-Cond.test c.in-Cond.yes c.in-Cond.no c.in-Cond.is c.requires in
+    let h : is_sound (resolve env (expr_view c.deref-in-Cond.result.now)) ≡ true = subst P (sym c.deref-in-Cond.ensures) k.test in
+    (search (rules, the_lemmas), (search rules, h))
 
-pub resolve_cond-resolve_expr-requires-2 : goal.resolve_cond-resolve_expr-requires-2
-resolve_cond-resolve_expr-requires-2 g t c κs within =
+pub resolve_expr-resolve_expr-requires-in-Cond-2 : goal.resolve_expr-resolve_expr-requires-in-Cond-2
+resolve_expr-resolve_expr-requires-in-Cond-2 g t c κs within =
     let env = g.N.Lookup.env c.args.names.now in
-    let k = cond-choices env c.args.pos (expr_view c.args.test.now) (expr_view c.args.yes.now) (expr_view c.args.no.now) c.requires in
-    (search (rules, the_lemmas), (search rules, k.yes))
+    let P : Expr → Type 0 = λ x. is_sound (resolve env (expr_view x)) ≡ true in
+    let k = cond-choices env c.args.e.now c.in-Cond.test c.in-Cond.yes c.in-Cond.no c.in-Cond.is c.requires in
+    let h : is_sound (resolve env (expr_view c.deref-in-Cond-2.result.now)) ≡ true = subst P (sym c.deref-in-Cond-2.ensures) k.yes in
+    (search (rules, the_lemmas), (search rules, h))
 
-pub resolve_cond-resolve_expr-requires-3 : goal.resolve_cond-resolve_expr-requires-3
-resolve_cond-resolve_expr-requires-3 g t c κs within =
+pub resolve_expr-resolve_expr-requires-in-Cond-3 : goal.resolve_expr-resolve_expr-requires-in-Cond-3
+resolve_expr-resolve_expr-requires-in-Cond-3 g t c κs within =
     let env = g.N.Lookup.env c.args.names.now in
-    let k = cond-choices env c.args.pos (expr_view c.args.test.now) (expr_view c.args.yes.now) (expr_view c.args.no.now) c.requires in
-    (search (rules, the_lemmas), (search rules, k.no))
+    let P : Expr → Type 0 = λ x. is_sound (resolve env (expr_view x)) ≡ true in
+    let k = cond-choices env c.args.e.now c.in-Cond.test c.in-Cond.yes c.in-Cond.no c.in-Cond.is c.requires in
+    let h : is_sound (resolve env (expr_view c.deref-in-Cond-3.result.now)) ≡ true = subst P (sym c.deref-in-Cond-3.ensures) k.no in
+    (search (rules, the_lemmas), (search rules, h))
 
 pub resolve_cast-resolve_expr-requires : goal.resolve_cast-resolve_expr-requires
 resolve_cast-resolve_expr-requires g t c κs within =

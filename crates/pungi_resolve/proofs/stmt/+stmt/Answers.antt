@@ -3,7 +3,7 @@ use Rattle.std.proofs.lemmas.List.{drop_all}
 use Rattle.pungi_tree.specs.StmtView.{stmt_view, stmts_of, for_start_view}
 use Rattle.pungi_tree.specs.declared.stmt.Stmt.{Stmt}
 use Rattle.pungi_types.specs.Labels.{stmt_locals, stmts_locals}
-use Rattle.pungi_types.specs.ResolvedStmts.{Site, action_and, block_of, action, actions as actions_in, after}
+use Rattle.pungi_types.specs.ResolvedStmts.{Site, action_and, action, actions as actions_in, after}
 use Rattle.pungi_resolved.specs.ActionView.{action_view, actions_of}
 use Rattle.pungi_resolve.specs.Sites.{site_of, after_all}
 use Rattle.pungi_resolve.specs.SoundActions.{IsSoundAction, AreSoundActions}
@@ -21,10 +21,6 @@ pub resolve_block-returns-clause-walk : goal.resolve_block-returns-clause-walk
 resolve_block-returns-clause-walk g t c =
     left_block (g.N.Lookup.env c.args.names.now) c.args.walk.now c.resolve_list.new.walk c.leave.new.self c.args.around.result (stmts_of (map stmt_view c.args.list.now.items)) c.len-kept.result
     c.len-kept.ensures c.in_ok-found.ensures.after c.leave.ensures
-
-pub resolve_block-returns-clause-action : goal.resolve_block-returns-clause-action
-resolve_block-returns-clause-action g t c =
-    ap (λ as'. block_of c.args.pos as' c.args.end) c.in_ok-found.ensures.actions
 
 pub resolve_list-returns-clause-actions : goal.resolve_list-returns-clause-actions
 resolve_list-returns-clause-actions g t c =
