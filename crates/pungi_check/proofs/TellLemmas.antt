@@ -19,7 +19,7 @@ callees-same f g same [] = refl
 callees-same f g same (w ∷ ws) =
     ap (λ (o : Option ℕ). found o ++ callees f ws) (same w) ∙ ap (λ (js : List ℕ). found (g w) ++ js) (callees-same f g same ws)
 
-graph-same : (file : List Item) (rows : List (ℕ × Row)) (f g : ℕ → Option ℕ) → ((w : ℕ) → f w ≡ g w) → (ds : List Definition)
+pub graph-same : (file : List Item) (rows : List (ℕ × Row)) (f g : ℕ → Option ℕ) → ((w : ℕ) → f w ≡ g w) → (ds : List Definition)
     → map (node_of file rows f) ds ≡ map (node_of file rows g) ds
 graph-same file rows f g same [] = refl
 graph-same file rows f g same (d ∷ ds) =
@@ -27,15 +27,13 @@ graph-same file rows f g same (d ∷ ds) =
     ∙ ap (λ (ns : List Node). node_of file rows g d ∷ ns) (graph-same file rows f g same ds)
 
 -- what the worklist marks is the least set of refused functions
-pub told-set : (file : List Item) (rows : List (ℕ × Row)) (listed : List Definition) (fs : List Function) (find : ℕ → Option ℕ) (marks : List Bool) (keys : List ℕ)
-    → listed ≡ definitions file → are_new [] (definitions file) ≡ true → ((w : ℕ) → find w ≡ number_in 0 listed w)
-    → map node_view fs ≡ map (node_of file rows find) listed
+pub told-set : (file : List Item) (rows : List (ℕ × Row)) (listed : List Definition) (fs : List Function) (marks : List Bool) (keys : List ℕ)
+    → listed ≡ definitions file → are_new [] (definitions file) ≡ true → map node_view fs ≡ map (node_of file rows (number_in 0 listed)) listed
     → ((other : List Item) (others : List (ℕ × Row)) → IsCallGraph other others fs → IsRefusedSet other others (refused_names (definitions other) marks))
     → keys ≡ gathered [] listed marks → IsRefusedSet file rows keys
-told-set file rows listed fs find marks keys same new numbers made least kept =
-    let found-in : (w : ℕ) → find w ≡ number_in 0 (definitions file) w = λ w. numbers w ∙ ap (λ (ds : List Definition). number_in 0 ds w) same in
+told-set file rows listed fs marks keys same new made least kept =
     let graph : map node_view fs ≡ graph_of file rows =
-    made ∙ ap (λ (ds : List Definition). map (node_of file rows find) ds) same ∙ graph-same file rows find (number_in 0 (definitions file)) found-in (definitions file) in
+    made ∙ ap (λ (ds : List Definition). map (node_of file rows (number_in 0 ds)) ds) same in
     let is : keys ≡ refused_names (definitions file) marks =
     kept ∙ ap (λ (ds : List Definition). gathered [] ds marks) same ∙ refused-gathered (definitions file) marks new in
     subst (λ (ws : List ℕ). IsRefusedSet file rows ws) (sym is) (least file rows (call-graph file rows fs new graph))

@@ -3,3 +3,4 @@ pub mod CheckedView
 pub mod Distinct
 pub mod Faults
 pub mod Graph
+pub mod Told

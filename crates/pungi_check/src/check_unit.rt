@@ -4,6 +4,7 @@ ghost use Rattle.pungi_check.specs.CheckedFile.{IsAccepted, function_places};
 ghost use Rattle.pungi_check.specs.CheckedView.{checked_view, texts_of};
 ghost use Rattle.pungi_check.specs.Distinct.{are_new};
 ghost use Rattle.pungi_check.specs.Faults.{IsFaultOf};
+ghost use Rattle.pungi_check.specs.Told.{IsTold};
 ghost use Rattle.pungi_check.specs.declared.fault.UnitFault.TheVariants.{DuplicateName, TooManyFunctions};
 ghost use Rattle.pungi_declared.specs.DeclaredView.{function_view};
 ghost use Rattle.pungi_names.specs.NamesView.{file_of, rows_of};
@@ -16,7 +17,6 @@ ghost use Rattle.pungi_types.specs.Names.{type_objects};
 ghost use Rattle.pungi_types.specs.Refused.{IsRefusedSet};
 
 use crate::graph::graph;
-use crate::numbers::numbers;
 use crate::refusals::refusals;
 use crate::refused_words::refused_words;
 use crate::{Checked, UnitFault};
@@ -90,6 +90,22 @@ fn statics(names: &UnitNames<'_>) -> Result<u32, Memory>
     }
 }
 
+/// The names of the refused functions.
+fn refused_set(
+    alloc: Global,
+    names: &UnitNames<'_>,
+    list: &[&FunctionDef],
+) -> Result<IndexSet<u32>, Memory>
+    requires listed { map function_view list.now ≡ definitions_of (file_of names.now) }
+    requires distinct { IsTrue (are_new [] (definitions_of (file_of names.now))) }
+    ensures { IfOk result (λ refused. IsRefusedSet (file_of names.now) (rows_of names.now) refused.keys) }
+{
+    let graph = graph(alloc, names, list)?;
+    let marks = least_set(alloc, &graph)?;
+    let refused = refused_words(alloc, list, &marks)?;
+    Ok(refused)
+}
+
 /// Looks at each function.
 fn tell(alloc: Global, names: &UnitNames<'_>, list: &[&FunctionDef]) -> Result<Told, Memory>
     requires listed { map function_view list.now ≡ definitions_of (file_of names.now) }
@@ -99,12 +115,9 @@ fn tell(alloc: Global, names: &UnitNames<'_>, list: &[&FunctionDef]) -> Result<T
     ensures counted { IfOk result (λ t. t.statics ≡ 24 + length (type_objects (file_of names.now))) }
     ensures few_statics { IfOk result (λ t. t.statics ≤ 2 ^ 30 + 24) }
 {
-    let numbers = numbers(alloc, list)?;
-    let graph = graph(alloc, names, &numbers, list)?;
-    let marks = least_set(alloc, &graph)?;
-    let refused = refused_words(alloc, list, &marks)?;
-    let refusals = refusals(alloc, names, &refused, list)?;
     let statics = statics(names)?;
+    let refused = refused_set(alloc, names, list)?;
+    let refusals = refusals(alloc, names, &refused, list)?;
     Ok(Told {
         refused,
         refusals,
@@ -125,16 +138,10 @@ fn refuse_fault(alloc: Global, names: &UnitNames<'_>, unit: &Unit) -> Result<(),
     }
 }
 
-/// What is told of the functions of a unit with these names.
+/// What is told of a unit with these names and of its functions.
 fn look_at(alloc: Global, names: &UnitNames<'_>, unit: &Unit) -> Result<Told, UnitFault>
     requires { unit_view unit.now ≡ file_of names.now }
-    ensures none { IfOk result (λ t. least (faults_of (file_of names.now) (rows_of names.now)) ≡ None) }
-    ensures few { IfOk result (λ t. length (definitions_of (file_of names.now)) ≤ 4096) }
-    ensures distinct { IfOk result (λ t. IsTrue (are_new [] (definitions_of (file_of names.now)))) }
-    ensures least { IfOk result (λ t. IsRefusedSet (file_of names.now) (rows_of names.now) t.refused.keys) }
-    ensures told { IfOk result (λ t. t.refusals.items ≡ map (refusal (file_of names.now) (rows_of names.now) t.refused.keys) (definitions_of (file_of names.now))) }
-    ensures counted { IfOk result (λ t. t.statics ≡ 24 + length (type_objects (file_of names.now))) }
-    ensures few_statics { IfOk result (λ t. t.statics ≤ 2 ^ 30 + 24) }
+    ensures told { IfOk result (λ t. IsTold (file_of names.now) (rows_of names.now) t.refused.keys t.refusals.items t.statics) }
     ensures fault { IfErr result (λ e. IsFaultOf (file_of names.now) (rows_of names.now) e) }
 {
     refuse_fault(alloc, names, unit)?;
@@ -145,17 +152,36 @@ fn look_at(alloc: Global, names: &UnitNames<'_>, unit: &Unit) -> Result<Told, Un
 
 /// What is told of a unit and its functions.
 fn look(alloc: Global, unit: &Unit, rows: &Table) -> Result<Told, UnitFault>
-    ensures none { IfOk result (λ t. least (faults_of (unit_view unit.now) rows.now) ≡ None) }
-    ensures few { IfOk result (λ t. length (definitions_of (unit_view unit.now)) ≤ 4096) }
-    ensures distinct { IfOk result (λ t. IsTrue (are_new [] (definitions_of (unit_view unit.now)))) }
-    ensures least { IfOk result (λ t. IsRefusedSet (unit_view unit.now) rows.now t.refused.keys) }
-    ensures told { IfOk result (λ t. t.refusals.items ≡ map (refusal (unit_view unit.now) rows.now t.refused.keys) (definitions_of (unit_view unit.now))) }
-    ensures counted { IfOk result (λ t. t.statics ≡ 24 + length (type_objects (unit_view unit.now))) }
-    ensures few_statics { IfOk result (λ t. t.statics ≤ 2 ^ 30 + 24) }
+    ensures told { IfOk result (λ t. IsTold (unit_view unit.now) rows.now t.refused.keys t.refusals.items t.statics) }
     ensures fault { IfErr result (λ e. IsFaultOf (unit_view unit.now) rows.now e) }
 {
     let names = unit_names(alloc, unit, rows)?;
     look_at(alloc, &names, unit)
+}
+
+/// What is told of a unit and its functions, where its functions stand, and the texts of names.
+#[derive(Drop)]
+struct Parts {
+    told: Told,
+    places: Vec<usize>,
+    texts: Vec<Vec<u8>>,
+}
+
+/// What a checked unit knows besides its unit and rows.
+fn gather(alloc: Global, names: &Names, unit: &Unit, rows: &Table) -> Result<Parts, UnitFault>
+    ensures told { IfOk result (λ p. IsTold (unit_view unit.now) rows.now p.told.refused.keys p.told.refusals.items p.told.statics) }
+    ensures places { IfOk result (λ p. p.places.items ≡ function_places 0 (unit_view unit.now)) }
+    ensures texts { IfOk result (λ p. map (λ t. t.items) p.texts.items ≡ names.now) }
+    ensures fault { IfErr result (λ e. IsFaultOf (unit_view unit.now) rows.now e) }
+{
+    let told = look(alloc, unit, rows)?;
+    let places = function_places_of(alloc, unit)?;
+    let texts = texts(alloc, names)?;
+    Ok(Parts {
+        told,
+        places,
+        texts,
+    })
 }
 
 /// A unit that is accepted, with what is told of each of its functions and the texts of its names. One with a fault is refused:
@@ -165,9 +191,11 @@ pub fn check(alloc: Global, names: &Names, unit: Unit, rows: Table) -> Result<Ch
     ensures texts { IfOk result (λ c. texts_of c ≡ names.now) }
     ensures fault { IfErr result (λ e. IsFaultOf (unit_view unit) rows e) }
 {
-    let told = look(alloc, &unit, &rows)?;
-    let places = function_places_of(alloc, &unit)?;
-    let texts = texts(alloc, names)?;
+    let Parts {
+        told,
+        places,
+        texts,
+    } = gather(alloc, names, &unit, &rows)?;
     rows.rows_are_well_formed();
     Ok(Checked {
         unit,

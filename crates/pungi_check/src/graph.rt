@@ -6,8 +6,9 @@ ghost use Rattle.pungi_names.specs.NamesView.{file_of, rows_of};
 ghost use Rattle.pungi_refused.specs.Calls.{called_words as called_words_of};
 ghost use Rattle.pungi_types.specs.Functions.{refusal};
 ghost use Rattle.pungi_types.specs.TypesView.{definition_view};
-ghost use Rattle.pungi_check.specs.Graph.{callees as callees_of, node_view, node_of};
+ghost use Rattle.pungi_check.specs.Graph.{callees as callees_of, node_view, node_of, number_in};
 
+use crate::numbers::numbers;
 use crate::refusals::told;
 use indexmap::{IndexMap, IndexSet};
 use pungi_base::Memory;
@@ -51,8 +52,7 @@ fn called(
     ensures { IfOk result (λ js. js.items ≡ callees_of (λ (w : ℕ). get nat_eq numbers.now w) (called_words_of (definition_view f.now))) }
 {
     let words = called_words(alloc, &f.body)?;
-    let callees = callees(alloc, numbers, words.as_slice())?;
-    Ok(callees)
+    callees(alloc, numbers, words.as_slice())
 }
 
 /// Whether a rule holds in a function where no other one is refused, and what it calls.
@@ -72,8 +72,8 @@ fn node(
     })
 }
 
-/// The call graph.
-pub(crate) fn graph(
+/// The nodes of functions, where these are the numbers of all.
+fn nodes(
     alloc: Global,
     names: &UnitNames<'_>,
     numbers: &IndexMap<u32, usize>,
@@ -86,4 +86,16 @@ pub(crate) fn graph(
         nodes.push(node(alloc, names, numbers, f)?)?;
     }
     Ok(nodes)
+}
+
+/// The call graph.
+pub(crate) fn graph(
+    alloc: Global,
+    names: &UnitNames<'_>,
+    list: &[&FunctionDef],
+) -> Result<Vec<Function>, Memory>
+    ensures { IfOk result (λ ns. map node_view ns.items ≡ map (node_of (file_of names.now) (rows_of names.now) (number_in 0 (map function_view list.now))) (map function_view list.now)) }
+{
+    let numbers = numbers(alloc, list)?;
+    nodes(alloc, names, &numbers, list)
 }

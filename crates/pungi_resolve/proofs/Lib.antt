@@ -10,6 +10,5 @@ pub mod ListLemmas
 pub mod SiteLemmas
 pub mod OperandLemmas
 pub mod SoundActionLemmas
-pub mod ForLemmas
 pub mod WholeFunctions
 mod ToldAt

@@ -3,12 +3,12 @@ use Rattle.std.proofs.Common.{◌≡◌, ◌∙◌, Bool, true, false, List, ref
 use Rattle.std.specs.Prelude.{◌&&◌, if◌then◌else◌}
 use Rattle.std.specs.declared.alloc.Global.{Global}
 use Rattle.std.specs.declared.boxed.Box.{Box as Boxed}
+use Rattle.pungi_base.specs.declared.pos.Pos.{Pos}
 use Rattle.pungi_base.specs.declared.punct.Punct.{Punct}
 use Rattle.pungi_tree.specs.Syntax as plain
-use Rattle.pungi_tree.specs.ExprView.{expr_view, type_name_view}
+use Rattle.pungi_tree.specs.ExprView.{expr_view}
 use Rattle.pungi_tree.specs.declared.expr.Expr.{Expr}
-use Rattle.pungi_tree.specs.declared.expr.ExprNode.TheVariants.{Binary, Assign, Cond, Cast}
-use Rattle.pungi_tree.specs.declared.spec.TypeName.{TypeName}
+use Rattle.pungi_tree.specs.declared.expr.ExprNode.TheVariants.{Binary, Assign, Cond}
 use Rattle.pungi_tree.specs.declared.declr.Tail.TheViews.{the_lemmas}
 use Rattle.pungi_tree.specs.declared.declr.Tail.TheFolds.{fold_out-Expr, fold_out-ExprNode, fold-roll-ExprNode, fold-roll-Expr}
 use Rattle.pungi_types.specs.Names.{Env}
@@ -29,9 +29,6 @@ expr_view-assign e m a b h = search (rules, the_lemmas, fold_out-Expr, fold_out-
 
 expr_view-cond : (e : Expr) (t a b : Boxed Expr Global) → e.node ≡ Cond t a b → expr_view e ≡ plain.conditional e.pos (expr_view t.value) (expr_view a.value) (expr_view b.value)
 expr_view-cond e t a b h = search (rules, the_lemmas, fold_out-Expr, fold_out-ExprNode, fold-roll-ExprNode, fold-roll-Expr)
-
-expr_view-cast : (e : Expr) (t : TypeName) (a : Boxed Expr Global) → e.node ≡ Cast t a → expr_view e ≡ plain.cast e.pos (type_name_view t) (expr_view a.value)
-expr_view-cast e t a h = search (rules, the_lemmas, fold_out-Expr, fold_out-ExprNode, fold-roll-ExprNode, fold-roll-Expr)
 
 -- the operands of a binary operator
 pub record Operands (env : Env) (a b : plain.Expr) : Type 0 where
@@ -70,10 +67,8 @@ cond-choices env e t a b n h =
     let r = and_right _ _ k in
     record { test = and_left _ _ k; yes = and_left _ _ r; no = and_right _ _ r }
 
-pub cast-operand : (env : Env) (e : Expr) (t : TypeName) (a : Boxed Expr Global) → e.node ≡ Cast t a → is_sound (resolve env (expr_view e)) ≡ true → is_sound (resolve env (expr_view a.value)) ≡ true
-cast-operand env e t a n h =
-    let v = expr_view-cast e t a n in
-    sym (cast-same e.pos (type_name_kind env.file (type_name_view t)) (kind_of env (expr_view a.value)) (resolve env (expr_view a.value))) ∙ sym (ap (λ x. is_sound (resolve env x)) v) ∙ h
+pub cast-operand : (env : Env) (p : Pos) (t : plain.TypeName) (a : plain.Expr) → is_sound (resolve env (plain.cast p t a)) ≡ true → is_sound (resolve env a) ≡ true
+cast-operand env p t a h = sym (cast-same p (type_name_kind env.file t) (kind_of env a) (resolve env a)) ∙ h
 
 -- .. arguments
 other_value : (b : Bool) (x y : Value) → b ≡ false → (if b then x else y) ≡ y

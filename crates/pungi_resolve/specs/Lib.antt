@@ -1,4 +1,5 @@
 pub mod Arguments
+pub mod Nodes
 pub mod Passed
 pub mod Sites
 pub mod SoundActions

@@ -5,19 +5,19 @@ ghost use Rattle.pungi_types.specs.Exprs.{callee, callee_of};
 ghost use Rattle.pungi_types.specs.Resolved.{call_value, callee_name};
 ghost use Rattle.pungi_types.specs.Sound.{is_sound};
 ghost use Rattle.pungi_tree.specs.ExprView.{expr_view};
-ghost use Rattle.pungi_resolved.specs.ValueView.{value_view, values_of};
+ghost use Rattle.pungi_resolved.specs.ValueView.{boxed_view, value_view, values_of};
 
-use crate::nodes;
+use crate::typed::Typed;
 use pungi_api::{Row, Shape};
 use pungi_base::{Memory, Name, Pos};
-use pungi_resolved::Value;
+use pungi_resolved::{Value, ValueNode};
 use pungi_tree::{Expr, ExprNode};
-use pungi_types::Lookup;
+use pungi_types::{Lookup, ValueKind};
 use std::alloc::Global;
 
 /// The shape of a call of a row without a format.
-fn shape_of(alloc: Global, row: &Row) -> Result<Shape, Memory>
-    ensures { IfOk result (λ s. s.row ≡ row.now) }
+fn shape_of(alloc: Global, row: &Row) -> Result<Box<Shape>, Memory>
+    ensures { IfOk result (λ s. s.value.row ≡ row.now) }
 {
     let row = Row {
         form: row.form,
@@ -25,65 +25,60 @@ fn shape_of(alloc: Global, row: &Row) -> Result<Shape, Memory>
         takes: row.takes.copy(alloc)?,
         answer: row.answer,
     };
-    Ok(Shape {
+    let shape = Shape {
         row,
         units_in: None,
         units_out: None,
         least: 0,
         outputs: 0,
-    })
+    };
+    Ok(Box::new(alloc, shape)?)
 }
 
+/// A call of the API.
 fn call_row<N: Lookup>(
     alloc: Global,
     names: &N,
     pos: Pos,
     name: Name,
     args: Vec<Value>,
-) -> Result<Value, Memory>
+    kind: Option<ValueKind>,
+) -> Result<Typed, Memory>
     requires other { is_defined (callee_of (N.env names.now) name.0) ≡ false }
     requires sound { is_sound (call_value pos (callee_of (N.env names.now) name.0) name (values_of (map value_view args.items))) ≡ true }
-    ensures { IfOk result (λ x. value_view x ≡ call_value pos (callee_of (N.env names.now) name.0) name (values_of (map value_view args.items))) }
+    ensures value { IfOk result (λ x. boxed_view x.value ≡ call_value pos (callee_of (N.env names.now) name.0) name (values_of (map value_view args.items))) }
+    ensures kind { IfOk result (λ x. x.kind ≡ kind) }
 {
     match names.row(name.0) {
         None => unreachable!(),
         Some(row) => {
             let shape = shape_of(alloc, row)?;
-            Ok(nodes::called_row(alloc, pos, name, shape, args)?)
+            Typed::new(alloc, pos, ValueNode::CalledRow(name, shape, args), kind)
         }
     }
 }
 
-fn call_word<N: Lookup>(
-    alloc: Global,
-    names: &N,
-    pos: Pos,
-    name: Name,
-    args: Vec<Value>,
-) -> Result<Value, Memory>
-    requires { is_sound (call_value pos (callee_of (N.env names.now) name.0) name (values_of (map value_view args.items))) ≡ true }
-    ensures { IfOk result (λ x. value_view x ≡ call_value pos (callee_of (N.env names.now) name.0) name (values_of (map value_view args.items))) }
-{
-    if names.is_defined_call(name.0) {
-        Ok(nodes::called(pos, name, args))
-    } else {
-        Ok(call_row(alloc, names, pos, name, args)?)
-    }
-}
-
-/// A call with these arguments.
+/// A call of this kind with these arguments.
 pub(crate) fn call<N: Lookup>(
     alloc: Global,
     names: &N,
     pos: Pos,
     f: &Expr,
     args: Vec<Value>,
-) -> Result<Value, Memory>
+    kind: Option<ValueKind>,
+) -> Result<Typed, Memory>
     requires { is_sound (call_value pos (callee (N.env names.now) (expr_view f.now)) (callee_name (expr_view f.now)) (values_of (map value_view args.items))) ≡ true }
-    ensures { IfOk result (λ x. value_view x ≡ call_value pos (callee (N.env names.now) (expr_view f.now)) (callee_name (expr_view f.now)) (values_of (map value_view args.items))) }
+    ensures value { IfOk result (λ x. boxed_view x.value ≡ call_value pos (callee (N.env names.now) (expr_view f.now)) (callee_name (expr_view f.now)) (values_of (map value_view args.items))) }
+    ensures kind { IfOk result (λ x. x.kind ≡ kind) }
 {
     match &f.node {
-        ExprNode::Word(name) => Ok(call_word(alloc, names, pos, *name, args)?),
+        ExprNode::Word(name) => {
+            if names.is_defined_call(name.0) {
+                Typed::new(alloc, pos, ValueNode::Called(*name, args), kind)
+            } else {
+                call_row(alloc, names, pos, *name, args, kind)
+            }
+        }
         _ => unreachable!(),
     }
 }

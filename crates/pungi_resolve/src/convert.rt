@@ -1,11 +1,10 @@
 //! Conversions between integer kinds (C11 6.3.1.3).
 ghost use Rattle.std.specs.Prelude.{◌≡◌, IfOk};
 ghost use Rattle.pungi_types.specs.Resolved.{is_same_kind as is_same_kind_of, convert_some as convert_some_of, convert as convert_of};
-ghost use Rattle.pungi_resolved.specs.ValueView.{value_view};
+ghost use Rattle.pungi_resolved.specs.ValueView.{boxed_view};
 
-use crate::nodes;
 use pungi_base::{Memory, Pos};
-use pungi_resolved::Value;
+use pungi_resolved::{Value, ValueNode};
 use pungi_types::ValueKind;
 use pungi_types::operator::is_integer;
 use std::alloc::Global;
@@ -25,12 +24,20 @@ pub(crate) fn is_same_kind(a: Known, b: Known) -> bool
 }
 
 /// A value as one of this kind, if there is one.
-pub(crate) fn convert_some(alloc: Global, pos: Pos, to: Known, v: Value) -> Result<Value, Memory>
-    ensures { IfOk result (λ x. value_view x ≡ convert_some_of pos to (value_view v)) }
+pub(crate) fn convert_some(
+    alloc: Global,
+    pos: Pos,
+    to: Known,
+    v: Box<Value>,
+) -> Result<Box<Value>, Memory>
+    ensures { IfOk result (λ x. boxed_view x ≡ convert_some_of pos to (boxed_view v)) }
 {
     match to {
         None => Ok(v),
-        Some(kind) => Ok(nodes::converted(alloc, pos, kind, v)?),
+        Some(kind) => {
+            let node = ValueNode::Converted(kind, v);
+            Ok(Box::new(alloc, Value { pos, node })?)
+        }
     }
 }
 
@@ -40,12 +47,12 @@ pub(crate) fn convert(
     pos: Pos,
     to: Known,
     from: Known,
-    v: Value,
-) -> Result<Value, Memory>
-    ensures { IfOk result (λ x. value_view x ≡ convert_of pos to from (value_view v)) }
+    v: Box<Value>,
+) -> Result<Box<Value>, Memory>
+    ensures { IfOk result (λ x. boxed_view x ≡ convert_of pos to from (boxed_view v)) }
 {
     if is_integer(to) && (is_integer(from) && !is_same_kind(to, from)) {
-        Ok(convert_some(alloc, pos, to, v)?)
+        convert_some(alloc, pos, to, v)
     } else {
         Ok(v)
     }

@@ -34,7 +34,7 @@ fn first_value<N: Lookup>(
         Some(Init::Table(_)) => Ok(None),
         Some(Init::Value(e)) => {
             let found = value_as(names, around, walk, pos, kind, e)?;
-            Ok(Some(Box::new(around.alloc, found)?))
+            Ok(Some(found))
         }
     }
 }

@@ -2,24 +2,24 @@
 ghost use Rattle.std.specs.Prelude.{◌≡◌, IfOk, map, true};
 ghost use Rattle.pungi_types.specs.Operators.{struct_part};
 ghost use Rattle.pungi_types.specs.Kinds.{field_kind};
-ghost use Rattle.pungi_types.specs.Exprs.{kind_of, operand as operand_of, are_met, first_met as first_met_of, is_module_address as is_module_address_of};
-ghost use Rattle.pungi_types.specs.Resolved.{resolve as resolve_of, expr_pos, want_kind, place_of, resolve_all, field_of as field_of_of};
+ghost use Rattle.pungi_types.specs.Exprs.{kind_of, step_kind, is_place as is_place_of, operand as operand_of, are_met, first_met as first_met_of, is_module_address as is_module_address_of};
+ghost use Rattle.pungi_types.specs.Resolved.{resolve as resolve_of, expr_pos, or_int, want_kind, place_of, resolve_all, field_of as field_of_of};
+ghost use Rattle.pungi_types.specs.Resolved as values;
 ghost use Rattle.pungi_types.specs.Sound.{is_sound, are_sound, is_sound_place};
 ghost use Rattle.pungi_tree.specs.Syntax as plain;
-ghost use Rattle.pungi_tree.specs.ExprView.{expr_view, exprs_of};
-ghost use Rattle.pungi_resolved.specs.ValueView.{value_view, values_of, place_view};
+ghost use Rattle.pungi_tree.specs.ExprView.{expr_view, exprs_of, type_name_view};
+ghost use Rattle.pungi_resolved.specs.ValueView.{boxed_view, value_view, values_of, place_view};
 ghost use Rattle.pungi_resolve.specs.Arguments.{argument_in};
 
 use crate::call::call;
 use crate::convert::convert;
-use crate::nodes;
-use crate::operators::{assign, binary, cast, conditional, negation, paren, post, sign, step};
+use crate::operators::{assign, binary, cast, conditional, negation, paren, sign, step};
 use crate::place::{field_of, read_as, word_place};
 use crate::typed::{Argument, Arguments, Typed, TypedPlace};
-use crate::word::{address, int, module_behind, word};
+use crate::word::{address, character, int, module_behind, null, text, word};
 use pungi_base::{Kind, Memory, Name, Pos};
-use pungi_tree::{Expr, ExprNode};
-use pungi_types::operator::{byte_value, first_met, other_wants, prefix_of, wants_module};
+use pungi_tree::{Expr, ExprNode, TypeName};
+use pungi_types::operator::{first_met, other_wants, prefix_of, wants_module};
 use pungi_types::{
     Lookup, Prefix, ValueKind, Want, call_kind, callee_wants, is_module_address, is_place, operand,
 };
@@ -66,40 +66,23 @@ fn pos_of(e: &Expr) -> Pos
 #[cycle(expr)]
 pub(crate) fn resolve_expr<N: Lookup>(alloc: Global, names: &N, e: &Expr) -> Result<Typed, Memory>
     requires { is_sound (resolve_of (N.env names.now) (expr_view e.now)) ≡ true }
-    ensures value { IfOk result (λ x. value_view x.value ≡ resolve_of (N.env names.now) (expr_view e.now)) }
+    ensures value { IfOk result (λ x. boxed_view x.value ≡ resolve_of (N.env names.now) (expr_view e.now)) }
     ensures kind { IfOk result (λ x. x.kind ≡ kind_of (N.env names.now) (expr_view e.now)) }
 {
     match &e.node {
-        ExprNode::Word(name) => Ok(word(names, e.pos, *name)),
+        ExprNode::Word(name) => word(alloc, names, e.pos, *name),
         ExprNode::Int {
             value,
             long,
             unsigned,
-        } => Ok(int(e.pos, *value, *long, *unsigned)),
-        ExprNode::Char(code) => Ok(Typed {
-            value: nodes::constant(e.pos, byte_value(*code)),
-            kind: Some(ValueKind::Int),
-        }),
-        ExprNode::Text(parts) => {
-            let value = nodes::text(alloc, e.pos, parts)?;
-            Ok(Typed {
-                value,
-                kind: Some(ValueKind::Text),
-            })
-        }
-        ExprNode::Null => Ok(Typed {
-            value: nodes::null(e.pos),
-            kind: Some(ValueKind::Null),
-        }),
-        ExprNode::Paren(a) => {
-            let a = resolve_expr(alloc, names, a)?;
-            Ok(paren(alloc, e.pos, a)?)
-        }
-        ExprNode::Unary(operator, a) => Ok(resolve_unary(alloc, names, e.pos, *operator, a)?),
+        } => int(alloc, e.pos, *value, *long, *unsigned),
+        ExprNode::Char(code) => character(alloc, e.pos, *code),
+        ExprNode::Text(parts) => text(alloc, e.pos, parts),
+        ExprNode::Null => null(alloc, e.pos),
+        ExprNode::Paren(a) => resolve_paren(alloc, names, e.pos, a),
+        ExprNode::Unary(operator, a) => resolve_unary(alloc, names, e.pos, *operator, a),
         ExprNode::Post(operator, a) => {
-            let is_place = is_place(names, a);
-            let a = resolve_place(alloc, names, a)?;
-            Ok(post(e.pos, *operator, is_place, a))
+            resolve_step(alloc, names, e.pos, true, Kind::Punct(*operator), a)
         }
         ExprNode::Binary(operator, a, b) => {
             let a = resolve_expr(alloc, names, a)?;
@@ -118,24 +101,9 @@ pub(crate) fn resolve_expr<N: Lookup>(alloc: Global, names: &N, e: &Expr) -> Res
             let no = resolve_expr(alloc, names, no)?;
             Ok(conditional(alloc, e.pos, test, yes, no)?)
         }
-        ExprNode::Cast(name, a) => {
-            let to = names.type_kind(&name.spec, name.stars.len());
-            let a = resolve_expr(alloc, names, a)?;
-            Ok(cast(alloc, e.pos, to, a)?)
-        }
-        ExprNode::Call(f, list) => {
-            let args = resolve_args(alloc, names, callee_wants(names, f), list)?;
-            let kind = call_kind(names, f, args.met);
-            let value = call(alloc, names, e.pos, f, args.values)?;
-            Ok(Typed { value, kind })
-        }
-        ExprNode::Arrow(a, name) => {
-            let field = resolve_field(alloc, names, e.pos, a, *name)?;
-            Ok(Typed {
-                value: read_as(e.pos, field.kind, field.place),
-                kind: field.kind,
-            })
-        }
+        ExprNode::Cast(name, a) => resolve_cast(alloc, names, e.pos, a, name),
+        ExprNode::Call(f, list) => resolve_call(alloc, names, e.pos, list, f),
+        ExprNode::Arrow(a, name) => resolve_arrow(alloc, names, e.pos, a, *name),
         ExprNode::Float
         | ExprNode::Comma(_, _)
         | ExprNode::SizeOfType(_)
@@ -143,6 +111,16 @@ pub(crate) fn resolve_expr<N: Lookup>(alloc: Global, names: &N, e: &Expr) -> Res
         | ExprNode::Index(_, _)
         | ExprNode::Dot(_, _) => unreachable!(),
     }
+}
+
+#[cycle(expr)]
+fn resolve_paren<N: Lookup>(alloc: Global, names: &N, pos: Pos, a: &Expr) -> Result<Typed, Memory>
+    requires { is_sound (resolve_of (N.env names.now) (expr_view a.now)) ≡ true }
+    ensures value { IfOk result (λ x. boxed_view x.value ≡ values.inner pos (resolve_of (N.env names.now) (expr_view a.now))) }
+    ensures kind { IfOk result (λ x. x.kind ≡ kind_of (N.env names.now) (expr_view a.now)) }
+{
+    let a = resolve_expr(alloc, names, a)?;
+    paren(alloc, pos, a)
 }
 
 #[cycle(expr)]
@@ -154,26 +132,91 @@ fn resolve_unary<N: Lookup>(
     a: &Expr,
 ) -> Result<Typed, Memory>
     requires { is_sound (resolve_of (N.env names.now) (plain.unary pos operator (expr_view a.now))) ≡ true }
-    ensures value { IfOk result (λ x. value_view x.value ≡ resolve_of (N.env names.now) (plain.unary pos operator (expr_view a.now))) }
+    ensures value { IfOk result (λ x. boxed_view x.value ≡ resolve_of (N.env names.now) (plain.unary pos operator (expr_view a.now))) }
     ensures kind { IfOk result (λ x. x.kind ≡ kind_of (N.env names.now) (plain.unary pos operator (expr_view a.now))) }
 {
     match prefix_of(operator) {
-        Prefix::Address => Ok(address(names, pos, a)),
-        Prefix::Step => {
-            let is_place = is_place(names, a);
-            let a = resolve_place(alloc, names, a)?;
-            Ok(step(pos, operator, is_place, a))
-        }
+        Prefix::Address => address(alloc, names, pos, a),
+        Prefix::Step => resolve_step(alloc, names, pos, false, operator, a),
         Prefix::Sign => {
             let a = resolve_expr(alloc, names, a)?;
-            Ok(sign(alloc, pos, operator, a)?)
+            sign(alloc, pos, operator, a)
         }
         Prefix::Negation => {
             let a = resolve_expr(alloc, names, a)?;
-            Ok(negation(alloc, pos, a)?)
+            negation(alloc, pos, a)
         }
         Prefix::LeftOut => unreachable!(),
     }
+}
+
+/// `++` or `--`, behind the place where `behind` is true.
+#[cycle(expr)]
+fn resolve_step<N: Lookup>(
+    alloc: Global,
+    names: &N,
+    pos: Pos,
+    behind: bool,
+    operator: Kind,
+    a: &Expr,
+) -> Result<Typed, Memory>
+    requires { is_sound_place (place_of (N.env names.now) (expr_view a.now)) ≡ true }
+    ensures value { IfOk result (λ x. boxed_view x.value ≡ values.stepped pos behind operator (or_int (kind_of (N.env names.now) (expr_view a.now))) (place_of (N.env names.now) (expr_view a.now))) }
+    ensures kind { IfOk result (λ x. x.kind ≡ step_kind (is_place_of (N.env names.now) (expr_view a.now)) (kind_of (N.env names.now) (expr_view a.now))) }
+{
+    let is_place = is_place(names, a);
+    let a = resolve_place(alloc, names, a)?;
+    step(alloc, pos, behind, operator, is_place, a)
+}
+
+#[cycle(expr)]
+fn resolve_cast<N: Lookup>(
+    alloc: Global,
+    names: &N,
+    pos: Pos,
+    a: &Expr,
+    name: &TypeName,
+) -> Result<Typed, Memory>
+    requires { is_sound (resolve_of (N.env names.now) (plain.cast pos (type_name_view name.now) (expr_view a.now))) ≡ true }
+    ensures value { IfOk result (λ x. boxed_view x.value ≡ resolve_of (N.env names.now) (plain.cast pos (type_name_view name.now) (expr_view a.now))) }
+    ensures kind { IfOk result (λ x. x.kind ≡ kind_of (N.env names.now) (plain.cast pos (type_name_view name.now) (expr_view a.now))) }
+{
+    let to = names.type_kind(&name.spec, name.stars.len());
+    let a = resolve_expr(alloc, names, a)?;
+    cast(alloc, pos, to, a)
+}
+
+#[cycle(expr)]
+fn resolve_call<N: Lookup>(
+    alloc: Global,
+    names: &N,
+    pos: Pos,
+    list: &Vec<Expr>,
+    f: &Expr,
+) -> Result<Typed, Memory>
+    requires { is_sound (resolve_of (N.env names.now) (plain.call pos (expr_view f.now) (exprs_of (map expr_view list.now.items)))) ≡ true }
+    ensures value { IfOk result (λ x. boxed_view x.value ≡ resolve_of (N.env names.now) (plain.call pos (expr_view f.now) (exprs_of (map expr_view list.now.items)))) }
+    ensures kind { IfOk result (λ x. x.kind ≡ kind_of (N.env names.now) (plain.call pos (expr_view f.now) (exprs_of (map expr_view list.now.items)))) }
+{
+    let args = resolve_args(alloc, names, callee_wants(names, f), list)?;
+    let kind = call_kind(names, f, args.met);
+    call(alloc, names, pos, f, args.values, kind)
+}
+
+#[cycle(expr)]
+fn resolve_arrow<N: Lookup>(
+    alloc: Global,
+    names: &N,
+    pos: Pos,
+    a: &Expr,
+    name: Name,
+) -> Result<Typed, Memory>
+    requires { is_sound (resolve_of (N.env names.now) (plain.arrow pos (expr_view a.now) name)) ≡ true }
+    ensures value { IfOk result (λ x. boxed_view x.value ≡ resolve_of (N.env names.now) (plain.arrow pos (expr_view a.now) name)) }
+    ensures kind { IfOk result (λ x. x.kind ≡ kind_of (N.env names.now) (plain.arrow pos (expr_view a.now) name)) }
+{
+    let field = resolve_field(alloc, names, pos, a, name)?;
+    read_as(alloc, pos, field.kind, field.place)
 }
 
 /// What an expression is as a place.
@@ -188,7 +231,7 @@ fn resolve_place<N: Lookup>(alloc: Global, names: &N, e: &Expr) -> Result<TypedP
             place: word_place(names, e.pos, *name),
             kind: names.word_kind(name.0),
         }),
-        ExprNode::Arrow(a, name) => Ok(resolve_field(alloc, names, e.pos, a, *name)?),
+        ExprNode::Arrow(a, name) => resolve_field(alloc, names, e.pos, a, *name),
         _ => unreachable!(),
     }
 }
@@ -208,7 +251,7 @@ fn resolve_field<N: Lookup>(
 {
     let base = resolve_expr(alloc, names, a)?;
     let kind = names.field_kind(base.kind, name.0);
-    let place = field_of(alloc, pos, base, name)?;
+    let place = field_of(pos, base, name);
     Ok(TypedPlace { place, kind })
 }
 
@@ -229,7 +272,7 @@ fn resolve_args<N: Lookup>(
     for e in list {
         let arg = resolve_arg(alloc, names, rest, e)?;
         met = met && arg.met;
-        values.push(arg.value)?;
+        values.push(Box::into_inner(arg.value))?;
         rest = other_wants(rest);
     }
     Ok(Arguments {
@@ -246,13 +289,16 @@ fn resolve_arg<N: Lookup>(
     e: &Expr,
 ) -> Result<Argument, Memory>
     requires { is_sound (argument_in (N.env names.now) wants.now (expr_view e.now)) ≡ true }
-    ensures value { IfOk result (λ x. value_view x.value ≡ argument_in (N.env names.now) wants.now (expr_view e.now)) }
+    ensures value { IfOk result (λ x. boxed_view x.value ≡ argument_in (N.env names.now) wants.now (expr_view e.now)) }
     ensures met { IfOk result (λ x. x.met ≡ first_met_of wants.now (is_module_address_of (N.env names.now) (expr_view e.now)) (operand_of (kind_of (N.env names.now) (expr_view e.now)) (expr_view e.now))) }
 {
     let is_module = is_module_address(names, e);
     if wants_module(wants) && is_module {
-        let value = module_behind(e);
-        return Ok(Argument { value, met: true });
+        let module = module_behind(alloc, e)?;
+        return Ok(Argument {
+            value: module,
+            met: true,
+        });
     }
     let a = resolve_expr(alloc, names, e)?;
     let met = first_met(wants, is_module, operand(a.kind, e));

@@ -10,12 +10,11 @@ ghost use Rattle.pungi_resolve.specs.Passed.{IsPassed};
 ghost use Rattle.pungi_resolve.specs.Sites.{site_of};
 ghost use Rattle.pungi_resolve.specs.SoundActions.{IsSoundAction};
 
-use crate::action_nodes::block_of;
 use crate::params::resolve_params;
 use crate::stmt::resolve_stmt;
 use crate::walk::{Around, Walk};
 use pungi_base::{Memory, Pos, Seq};
-use pungi_resolved::{Action, Function};
+use pungi_resolved::{Action, ActionNode, Function};
 use pungi_scope::LocalNames;
 use pungi_tree::{FunctionDef, Stmt, StmtNode};
 use pungi_types::Lookup;
@@ -34,7 +33,7 @@ fn resolve_body<N: Lookup>(
     ensures locals { OnOk result (walk.new.next ≡ walk.old.next + body_locals (stmt_view body.now)) }
 {
     match &body.node {
-        StmtNode::Block(_, _) => Ok(resolve_stmt(names, around, walk, body)?),
+        StmtNode::Block(_, _) => resolve_stmt(names, around, walk, body),
         StmtNode::Declare(_)
         | StmtNode::Do(_)
         | StmtNode::If(_, _, None)
@@ -49,7 +48,10 @@ fn resolve_body<N: Lookup>(
         | StmtNode::Goto(_, _)
         | StmtNode::Break
         | StmtNode::Continue
-        | StmtNode::Return(_) => Ok(block_of(pos, Vec::new(around.alloc), pos)),
+        | StmtNode::Return(_) => Ok(Action {
+            pos,
+            node: ActionNode::Block(Vec::new(around.alloc), pos),
+        }),
     }
 }
 

@@ -1,13 +1,11 @@
 //! What a function does of which no rule is told: names resolved to locals by number, and conversions written out.
 #![tactic(auto)]
 
-mod action_nodes;
 mod call;
 mod convert;
 mod decl;
 mod expr;
 mod function;
-mod nodes;
 mod operators;
 mod params;
 mod place;

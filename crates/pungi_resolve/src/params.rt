@@ -61,5 +61,5 @@ pub(crate) fn resolve_params<N: Lookup>(
     ensures kinds { IfOk result (λ x. x.items ≡ params_kinds (N.env names.now).file (params_view params.now)) }
     ensures after { OnOk result (site_of (N.env names.now) walk.new around.result ≡ params_site (site_of (N.env names.now) walk.old around.result) (params_view params.now)) }
 {
-    Ok(resolve_list(names, around, walk, &params.list)?)
+    resolve_list(names, around, walk, &params.list)
 }

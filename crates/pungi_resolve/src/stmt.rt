@@ -6,20 +6,20 @@ ghost use Rattle.pungi_types.specs.ResolvedStmts.{action, actions as actions_in,
 ghost use Rattle.pungi_types.specs.Sound.{is_sound_option};
 ghost use Rattle.pungi_resolve.specs.SoundActions.{AreSoundLocals, IsSoundAction, AreSoundActions};
 ghost use Rattle.pungi_scope.specs.ScopeEnv.{inner_env};
+ghost use Rattle.pungi_tree.specs.Syntax as plain;
 ghost use Rattle.pungi_tree.specs.ExprView.{expr_view, optional_view as optional_expr_view};
-ghost use Rattle.pungi_tree.specs.StmtView.{for_start_view, stmt_view, stmts_of};
+ghost use Rattle.pungi_tree.specs.StmtView.{decl_view, for_start_view, stmt_view, stmts_of};
 ghost use Rattle.pungi_resolved.specs.ValueView.{optional_view};
 ghost use Rattle.pungi_resolved.specs.ActionView.{action_view, actions_of, reached_view};
 ghost use Rattle.pungi_resolve.specs.Sites.{site_of, after_all};
 
-use crate::action_nodes as nodes;
 use crate::decl::resolve_vars;
 use crate::values::{optional_value, returned, value};
 use crate::walk::{Around, Walk};
-use pungi_base::{Memory, Pos};
-use pungi_resolved::{Action, Reached, Value};
+use pungi_base::{Memory, Name, Pos};
+use pungi_resolved::{Action, ActionNode, Reached, Value};
 use pungi_scope::constant;
-use pungi_tree::{Expr, ForStart, Stmt, StmtNode};
+use pungi_tree::{Decl, Expr, ForStart, Stmt, StmtNode};
 use pungi_types::Lookup;
 
 /// What stands before the body of a `for`.
@@ -38,13 +38,13 @@ struct Start {
     first: Option<Box<Value>>,
 }
 
-/// The value of a `case`, and 0 where it has none.
-fn case_number(e: &Expr) -> i128
-    ensures { result ≡ case_value (constant_of (expr_view e.now)) }
+/// The value of a `case`, which is that of an integer kind, and 0 where it has none.
+fn case_number(e: &Expr) -> Result<i64, Memory>
+    ensures { IfOk result (λ n. n ≡ case_value (constant_of (expr_view e.now))) }
 {
     match constant(e) {
-        None => 0,
-        Some(number) => number,
+        None => Ok(0),
+        Some(number) => i64::try_from(number).map_err(|_| Memory),
     }
 }
 
@@ -109,6 +109,55 @@ fn resolve_head<N: Lookup>(
     })
 }
 
+/// A declaration.
+fn resolve_decl<N: Lookup>(
+    names: &N,
+    around: Around,
+    walk: &mut Walk,
+    pos: Pos,
+    d: &Decl,
+) -> Result<Action, Memory>
+    requires { IsSoundAction (action (site_of (N.env names.now) walk.old around.result) (plain.declare pos (decl_view d.now))) }
+    ensures action { IfOk result (λ x. action_view x ≡ action (site_of (N.env names.now) walk.old around.result) (plain.declare pos (decl_view d.now))) }
+    ensures after { OnOk result ((site_of (N.env names.now) walk.new around.result) ≡ after (site_of (N.env names.now) walk.old around.result) (plain.declare pos (decl_view d.now))) }
+{
+    let locals = resolve_vars(names, around, walk, &d.type_name, &d.vars)?;
+    let node = ActionNode::Reach(locals);
+    Ok(Action { pos, node })
+}
+
+/// An expression statement.
+fn resolve_do<N: Lookup>(
+    names: &N,
+    around: Around,
+    walk: &Walk,
+    pos: Pos,
+    e: &Option<Expr>,
+) -> Result<Action, Memory>
+    requires { IsSoundAction (action (site_of (N.env names.now) walk.now around.result) (plain.do_expr pos (optional_expr_view e.now))) }
+    ensures { IfOk result (λ x. action_view x ≡ action (site_of (N.env names.now) walk.now around.result) (plain.do_expr pos (optional_expr_view e.now))) }
+{
+    let found = optional_value(names, around, walk, e)?;
+    let node = ActionNode::Evaluate(found);
+    Ok(Action { pos, node })
+}
+
+/// A `return`.
+fn resolve_return<N: Lookup>(
+    names: &N,
+    around: Around,
+    walk: &Walk,
+    pos: Pos,
+    e: &Option<Expr>,
+) -> Result<Action, Memory>
+    requires { IsSoundAction (action (site_of (N.env names.now) walk.now around.result) (plain.return pos (optional_expr_view e.now))) }
+    ensures { IfOk result (λ x. action_view x ≡ action (site_of (N.env names.now) walk.now around.result) (plain.return pos (optional_expr_view e.now))) }
+{
+    let found = returned(names, around, walk, pos, e)?;
+    let node = ActionNode::Give(found);
+    Ok(Action { pos, node })
+}
+
 /// What a statement of a block does.
 #[cycle(stmt)]
 pub(crate) fn resolve_stmt<N: Lookup>(
@@ -119,81 +168,203 @@ pub(crate) fn resolve_stmt<N: Lookup>(
 ) -> Result<Action, Memory>
     requires { IsSoundAction (action (site_of (N.env names.now) walk.old around.result) (stmt_view s.now)) }
     ensures action { IfOk result (λ x. action_view x ≡ action (site_of (N.env names.now) walk.old around.result) (stmt_view s.now)) }
-    ensures after { OnOk result (site_of (N.env names.now) walk.new around.result ≡ after (site_of (N.env names.now) walk.old around.result) (stmt_view s.now)) }
+    ensures after { OnOk result ((site_of (N.env names.now) walk.new around.result) ≡ after (site_of (N.env names.now) walk.old around.result) (stmt_view s.now)) }
 {
+    let pos = s.pos;
     match &s.node {
-        StmtNode::Block(list, end) => {
-            let block = resolve_block(names, around, walk, s.pos, list, *end)?;
-            Ok(block)
-        }
-        StmtNode::Declare(d) => {
-            let locals = resolve_vars(names, around, walk, &d.type_name, &d.vars)?;
-            Ok(nodes::reach(s.pos, locals))
-        }
-        StmtNode::Do(e) => {
-            let found = optional_value(names, around, walk, e)?;
-            Ok(nodes::evaluate(s.pos, found))
-        }
-        StmtNode::If(e, yes, None) => {
-            let test = value(names, around, walk, e)?;
-            let yes = resolve_part(names, around, walk, yes)?;
-            Ok(nodes::test(around.alloc, s.pos, test, yes)?)
-        }
+        StmtNode::Block(list, end) => resolve_block(names, around, walk, pos, list, *end),
+        StmtNode::Declare(d) => resolve_decl(names, around, walk, pos, d),
+        StmtNode::Do(e) => resolve_do(names, around, walk, pos, e),
+        StmtNode::If(e, yes, None) => resolve_if(names, around, walk, pos, yes, e),
         StmtNode::If(e, yes, Some(no)) => {
             let test = value(names, around, walk, e)?;
             let yes = resolve_part(names, around, walk, yes)?;
             let no = resolve_part(names, around, walk, no)?;
-            Ok(nodes::test_else(around.alloc, s.pos, test, yes, no)?)
+            let node = ActionNode::TestElse(test, yes, no);
+            Ok(Action { pos, node })
         }
-        StmtNode::While(e, body) => {
-            let test = value(names, around, walk, e)?;
-            let body = resolve_part(names, around, walk, body)?;
-            Ok(nodes::repeat_while(around.alloc, s.pos, test, body)?)
-        }
-        StmtNode::DoWhile(body, e) => {
-            let test = value(names, around, walk, e)?;
-            let body = resolve_part(names, around, walk, body)?;
-            Ok(nodes::repeat_until(around.alloc, s.pos, body, test)?)
-        }
+        StmtNode::While(e, body) => resolve_while(names, around, walk, pos, body, e),
+        StmtNode::DoWhile(body, e) => resolve_do_while(names, around, walk, pos, body, e),
         StmtNode::For(start, test, step, body) => {
-            let kept = walk.locals.len();
-            let head = resolve_head(names, around, walk, start, test, step)?;
-            let body = resolve_part(names, around, walk, body)?;
-            walk.leave(kept);
-            let Head {
-                locals,
-                first,
-                test,
-                step,
-            } = head;
-            Ok(nodes::repeat_for(around.alloc, s.pos, locals, first, test, step, body)?)
+            resolve_for(names, around, walk, pos, body, start, test, step)
         }
-        StmtNode::Switch(e, body) => {
-            let number = value(names, around, walk, e)?;
-            let body = resolve_part(names, around, walk, body)?;
-            Ok(nodes::switch_on(around.alloc, s.pos, number, body)?)
-        }
-        StmtNode::Case(e, inner) => {
-            let number = case_number(e);
-            let inner = resolve_part(names, around, walk, inner)?;
-            Ok(nodes::at_case(around.alloc, s.pos, number, inner)?)
-        }
-        StmtNode::Default(inner) => {
-            let inner = resolve_part(names, around, walk, inner)?;
-            Ok(nodes::at_default(around.alloc, s.pos, inner)?)
-        }
-        StmtNode::Label(name, inner) => {
-            let inner = resolve_part(names, around, walk, inner)?;
-            Ok(nodes::at_label(around.alloc, s.pos, *name, inner)?)
-        }
-        StmtNode::Goto(name, _) => Ok(nodes::jump(s.pos, *name)),
-        StmtNode::Break => Ok(nodes::leave(s.pos)),
-        StmtNode::Continue => Ok(nodes::next_turn(s.pos)),
-        StmtNode::Return(e) => {
-            let found = returned(names, around, walk, s.pos, e)?;
-            Ok(nodes::give(s.pos, found))
-        }
+        StmtNode::Switch(e, body) => resolve_switch(names, around, walk, pos, body, e),
+        StmtNode::Case(e, inner) => resolve_case(names, around, walk, pos, inner, e),
+        StmtNode::Default(inner) => resolve_default(names, around, walk, pos, inner),
+        StmtNode::Label(name, inner) => resolve_label(names, around, walk, pos, *name, inner),
+        StmtNode::Goto(name, _) => Ok(Action {
+            pos,
+            node: ActionNode::Jump(*name),
+        }),
+        StmtNode::Break => Ok(Action {
+            pos,
+            node: ActionNode::Leave,
+        }),
+        StmtNode::Continue => Ok(Action {
+            pos,
+            node: ActionNode::NextTurn,
+        }),
+        StmtNode::Return(e) => resolve_return(names, around, walk, pos, e),
     }
+}
+
+#[cycle(stmt)]
+fn resolve_if<N: Lookup>(
+    names: &N,
+    around: Around,
+    walk: &mut Walk,
+    pos: Pos,
+    yes: &Stmt,
+    e: &Expr,
+) -> Result<Action, Memory>
+    requires { IsSoundAction (action (site_of (N.env names.now) walk.old around.result) (plain.if_only pos (expr_view e.now) (stmt_view yes.now))) }
+    ensures action { IfOk result (λ x. action_view x ≡ action (site_of (N.env names.now) walk.old around.result) (plain.if_only pos (expr_view e.now) (stmt_view yes.now))) }
+    ensures after { OnOk result ((site_of (N.env names.now) walk.new around.result) ≡ after (site_of (N.env names.now) walk.old around.result) (plain.if_only pos (expr_view e.now) (stmt_view yes.now))) }
+{
+    let test = value(names, around, walk, e)?;
+    let yes = resolve_part(names, around, walk, yes)?;
+    let node = ActionNode::Test(test, yes);
+    Ok(Action { pos, node })
+}
+
+#[cycle(stmt)]
+fn resolve_while<N: Lookup>(
+    names: &N,
+    around: Around,
+    walk: &mut Walk,
+    pos: Pos,
+    body: &Stmt,
+    e: &Expr,
+) -> Result<Action, Memory>
+    requires { IsSoundAction (action (site_of (N.env names.now) walk.old around.result) (plain.while pos (expr_view e.now) (stmt_view body.now))) }
+    ensures action { IfOk result (λ x. action_view x ≡ action (site_of (N.env names.now) walk.old around.result) (plain.while pos (expr_view e.now) (stmt_view body.now))) }
+    ensures after { OnOk result ((site_of (N.env names.now) walk.new around.result) ≡ after (site_of (N.env names.now) walk.old around.result) (plain.while pos (expr_view e.now) (stmt_view body.now))) }
+{
+    let test = value(names, around, walk, e)?;
+    let body = resolve_part(names, around, walk, body)?;
+    let node = ActionNode::RepeatWhile(test, body);
+    Ok(Action { pos, node })
+}
+
+#[cycle(stmt)]
+fn resolve_do_while<N: Lookup>(
+    names: &N,
+    around: Around,
+    walk: &mut Walk,
+    pos: Pos,
+    body: &Stmt,
+    e: &Expr,
+) -> Result<Action, Memory>
+    requires { IsSoundAction (action (site_of (N.env names.now) walk.old around.result) (plain.do_while pos (stmt_view body.now) (expr_view e.now))) }
+    ensures action { IfOk result (λ x. action_view x ≡ action (site_of (N.env names.now) walk.old around.result) (plain.do_while pos (stmt_view body.now) (expr_view e.now))) }
+    ensures after { OnOk result ((site_of (N.env names.now) walk.new around.result) ≡ after (site_of (N.env names.now) walk.old around.result) (plain.do_while pos (stmt_view body.now) (expr_view e.now))) }
+{
+    let test = value(names, around, walk, e)?;
+    let body = resolve_part(names, around, walk, body)?;
+    let node = ActionNode::RepeatUntil(body, test);
+    Ok(Action { pos, node })
+}
+
+#[cycle(stmt)]
+fn resolve_for<N: Lookup>(
+    names: &N,
+    around: Around,
+    walk: &mut Walk,
+    pos: Pos,
+    body: &Stmt,
+    start: &ForStart,
+    test: &Option<Expr>,
+    step: &Option<Expr>,
+) -> Result<Action, Memory>
+    requires { IsSoundAction (action (site_of (N.env names.now) walk.old around.result) (plain.for pos (for_start_view start.now) (optional_expr_view test.now) (optional_expr_view step.now) (stmt_view body.now))) }
+    ensures action { IfOk result (λ x. action_view x ≡ action (site_of (N.env names.now) walk.old around.result) (plain.for pos (for_start_view start.now) (optional_expr_view test.now) (optional_expr_view step.now) (stmt_view body.now))) }
+    ensures after { OnOk result ((site_of (N.env names.now) walk.new around.result) ≡ after (site_of (N.env names.now) walk.old around.result) (plain.for pos (for_start_view start.now) (optional_expr_view test.now) (optional_expr_view step.now) (stmt_view body.now))) }
+{
+    let kept = walk.locals.len();
+    let head = resolve_head(names, around, walk, start, test, step)?;
+    let body = resolve_part(names, around, walk, body)?;
+    walk.leave(kept);
+    let Head {
+        locals,
+        first,
+        test,
+        step,
+    } = head;
+    let node = ActionNode::RepeatFor(locals, first, test, step, body);
+    Ok(Action { pos, node })
+}
+
+#[cycle(stmt)]
+fn resolve_switch<N: Lookup>(
+    names: &N,
+    around: Around,
+    walk: &mut Walk,
+    pos: Pos,
+    body: &Stmt,
+    e: &Expr,
+) -> Result<Action, Memory>
+    requires { IsSoundAction (action (site_of (N.env names.now) walk.old around.result) (plain.switch pos (expr_view e.now) (stmt_view body.now))) }
+    ensures action { IfOk result (λ x. action_view x ≡ action (site_of (N.env names.now) walk.old around.result) (plain.switch pos (expr_view e.now) (stmt_view body.now))) }
+    ensures after { OnOk result ((site_of (N.env names.now) walk.new around.result) ≡ after (site_of (N.env names.now) walk.old around.result) (plain.switch pos (expr_view e.now) (stmt_view body.now))) }
+{
+    let test = value(names, around, walk, e)?;
+    let body = resolve_part(names, around, walk, body)?;
+    let node = ActionNode::SwitchOn(test, body);
+    Ok(Action { pos, node })
+}
+
+#[cycle(stmt)]
+fn resolve_case<N: Lookup>(
+    names: &N,
+    around: Around,
+    walk: &mut Walk,
+    pos: Pos,
+    inner: &Stmt,
+    e: &Expr,
+) -> Result<Action, Memory>
+    requires { IsSoundAction (action (site_of (N.env names.now) walk.old around.result) (plain.case pos (expr_view e.now) (stmt_view inner.now))) }
+    ensures action { IfOk result (λ x. action_view x ≡ action (site_of (N.env names.now) walk.old around.result) (plain.case pos (expr_view e.now) (stmt_view inner.now))) }
+    ensures after { OnOk result ((site_of (N.env names.now) walk.new around.result) ≡ after (site_of (N.env names.now) walk.old around.result) (plain.case pos (expr_view e.now) (stmt_view inner.now))) }
+{
+    let number = case_number(e)?;
+    let inner = resolve_part(names, around, walk, inner)?;
+    let node = ActionNode::AtCase(number, inner);
+    Ok(Action { pos, node })
+}
+
+#[cycle(stmt)]
+fn resolve_default<N: Lookup>(
+    names: &N,
+    around: Around,
+    walk: &mut Walk,
+    pos: Pos,
+    inner: &Stmt,
+) -> Result<Action, Memory>
+    requires { IsSoundAction (action (site_of (N.env names.now) walk.old around.result) (plain.default pos (stmt_view inner.now))) }
+    ensures action { IfOk result (λ x. action_view x ≡ action (site_of (N.env names.now) walk.old around.result) (plain.default pos (stmt_view inner.now))) }
+    ensures after { OnOk result ((site_of (N.env names.now) walk.new around.result) ≡ after (site_of (N.env names.now) walk.old around.result) (plain.default pos (stmt_view inner.now))) }
+{
+    let inner = resolve_part(names, around, walk, inner)?;
+    let node = ActionNode::AtDefault(inner);
+    Ok(Action { pos, node })
+}
+
+#[cycle(stmt)]
+fn resolve_label<N: Lookup>(
+    names: &N,
+    around: Around,
+    walk: &mut Walk,
+    pos: Pos,
+    name: Name,
+    inner: &Stmt,
+) -> Result<Action, Memory>
+    requires { IsSoundAction (action (site_of (N.env names.now) walk.old around.result) (plain.label pos name (stmt_view inner.now))) }
+    ensures action { IfOk result (λ x. action_view x ≡ action (site_of (N.env names.now) walk.old around.result) (plain.label pos name (stmt_view inner.now))) }
+    ensures after { OnOk result ((site_of (N.env names.now) walk.new around.result) ≡ after (site_of (N.env names.now) walk.old around.result) (plain.label pos name (stmt_view inner.now))) }
+{
+    let inner = resolve_part(names, around, walk, inner)?;
+    let node = ActionNode::AtLabel(name, inner);
+    Ok(Action { pos, node })
 }
 
 /// What a statement that is part of another does. What it declares is in force in it alone.
@@ -203,15 +374,15 @@ fn resolve_part<N: Lookup>(
     around: Around,
     walk: &mut Walk,
     s: &Stmt,
-) -> Result<Action, Memory>
+) -> Result<Box<Action>, Memory>
     requires { IsSoundAction (action (site_of (N.env names.now) walk.old around.result) (stmt_view s.now)) }
-    ensures action { IfOk result (λ x. action_view x ≡ action (site_of (N.env names.now) walk.old around.result) (stmt_view s.now)) }
+    ensures action { IfOk result (λ x. action_view x.value ≡ action (site_of (N.env names.now) walk.old around.result) (stmt_view s.now)) }
     ensures walk { OnOk result (walk.new ≡ record walk.old { next = walk.old.next + stmt_locals (stmt_view s.now) }) }
 {
     let kept = walk.locals.len();
     let part = resolve_stmt(names, around, walk, s)?;
     walk.leave(kept);
-    Ok(part)
+    Ok(Box::new(around.alloc, part)?)
 }
 
 /// What a block does.
@@ -231,7 +402,8 @@ fn resolve_block<N: Lookup>(
     let kept = walk.locals.len();
     let found = resolve_list(names, around, walk, list)?;
     walk.leave(kept);
-    Ok(nodes::block_of(pos, found, end))
+    let node = ActionNode::Block(found, end);
+    Ok(Action { pos, node })
 }
 
 /// What statements of a block do, one after another.

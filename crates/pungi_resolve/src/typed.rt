@@ -1,11 +1,33 @@
-use pungi_resolved::{Place, Value};
+ghost use Rattle.std.specs.Prelude.{◌≡◌, IfOk};
+ghost use Rattle.pungi_resolve.specs.Nodes.{node_view};
+ghost use Rattle.pungi_resolved.specs.ValueView.{boxed_view};
+
+use pungi_base::{Memory, Pos};
+use pungi_resolved::{Place, Value, ValueNode};
 use pungi_types::ValueKind;
+use std::alloc::Global;
 
 /// A value, with the kind by which the rules know it.
 #[derive(Drop)]
 pub(crate) struct Typed {
-    pub(crate) value: Value,
+    pub(crate) value: Box<Value>,
     pub(crate) kind: Option<ValueKind>,
+}
+
+impl Typed {
+    /// A node at this place.
+    pub(crate) fn new(
+        alloc: Global,
+        pos: Pos,
+        node: ValueNode,
+        kind: Option<ValueKind>,
+    ) -> Result<Typed, Memory>
+        ensures value { IfOk result (λ x. boxed_view x.value ≡ node_view node pos) }
+        ensures kind { IfOk result (λ x. x.kind ≡ kind) }
+    {
+        let value = Box::new(alloc, Value { pos, node })?;
+        Ok(Typed { value, kind })
+    }
 }
 
 /// A place, with the kind of what it holds.
@@ -18,7 +40,7 @@ pub(crate) struct TypedPlace {
 /// An argument, and whether it is what is wanted.
 #[derive(Drop)]
 pub(crate) struct Argument {
-    pub(crate) value: Value,
+    pub(crate) value: Box<Value>,
     pub(crate) met: bool,
 }
 

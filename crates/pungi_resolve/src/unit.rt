@@ -67,18 +67,31 @@ fn resolve_all(
     Ok(all)
 }
 
-/// What each function of a unit does in which no rule holds, with its names resolved and its conversions written out.
-pub fn resolve_unit(alloc: Global, checked: &Checked) -> Result<Vec<Option<Function>>, Memory>
+/// What each function of a unit with these names does in which no rule holds.
+fn resolve_definitions(
+    alloc: Global,
+    names: &UnitNames<'_>,
+    checked: &Checked,
+) -> Result<Vec<Option<Function>>, Memory>
+    requires file { file_of names.now ≡ (checked_view checked.now).file }
+    requires rows { rows_of names.now ≡ (checked_view checked.now).rows }
     ensures { IfOk result (λ all. map resolution_view all.items ≡ map (resolution_of (checked_view checked.now).file (checked_view checked.now).rows (checked_view checked.now).refused) (definitions_of (checked_view checked.now).file)) }
 {
-    let names = unit_names(alloc, checked.unit(), checked.table())?;
     let list = definitions(alloc, checked.unit())?;
     let all = resolve_all(
         alloc,
-        &names,
+        names,
         checked.refused(),
         list.as_slice(),
         checked.refusals(),
     )?;
     Ok(all)
+}
+
+/// What each function of a unit does in which no rule holds, with its names resolved and its conversions written out.
+pub fn resolve_unit(alloc: Global, checked: &Checked) -> Result<Vec<Option<Function>>, Memory>
+    ensures { IfOk result (λ all. map resolution_view all.items ≡ map (resolution_of (checked_view checked.now).file (checked_view checked.now).rows (checked_view checked.now).refused) (definitions_of (checked_view checked.now).file)) }
+{
+    let names = unit_names(alloc, checked.unit(), checked.table())?;
+    resolve_definitions(alloc, &names, checked)
 }

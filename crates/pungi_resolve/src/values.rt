@@ -6,7 +6,7 @@ ghost use Rattle.pungi_types.specs.ResolvedStmts.{option_value, returned as retu
 ghost use Rattle.pungi_types.specs.Sound.{is_sound, is_sound_option};
 ghost use Rattle.pungi_scope.specs.ScopeEnv.{inner_env};
 ghost use Rattle.pungi_tree.specs.ExprView.{expr_view, optional_view as optional_expr_view};
-ghost use Rattle.pungi_resolved.specs.ValueView.{value_view, optional_view};
+ghost use Rattle.pungi_resolved.specs.ValueView.{boxed_view, optional_view};
 ghost use Rattle.pungi_resolve.specs.Sites.{site_of};
 
 use crate::convert::convert;
@@ -24,9 +24,9 @@ pub(crate) fn value<N: Lookup>(
     around: Around,
     walk: &Walk,
     e: &Expr,
-) -> Result<Value, Memory>
+) -> Result<Box<Value>, Memory>
     requires { is_sound (resolve_of (inner_env (N.env names.now) walk.now.locals) (expr_view e.now)) ≡ true }
-    ensures { IfOk result (λ x. value_view x ≡ resolve_of (inner_env (N.env names.now) walk.now.locals) (expr_view e.now)) }
+    ensures { IfOk result (λ x. boxed_view x ≡ resolve_of (inner_env (N.env names.now) walk.now.locals) (expr_view e.now)) }
 {
     let scope = Scope {
         names,
@@ -50,7 +50,7 @@ pub(crate) fn optional_value<N: Lookup>(
         None => Ok(None),
         Some(e) => {
             let found = value(names, around, walk, e)?;
-            Ok(Some(Box::new(around.alloc, found)?))
+            Ok(Some(found))
         }
     }
 }
@@ -63,16 +63,16 @@ pub(crate) fn value_as<N: Lookup>(
     pos: Pos,
     kind: Option<ValueKind>,
     e: &Expr,
-) -> Result<Value, Memory>
+) -> Result<Box<Value>, Memory>
     requires { is_sound (convert_of pos kind (kind_of (inner_env (N.env names.now) walk.now.locals) (expr_view e.now)) (resolve_of (inner_env (N.env names.now) walk.now.locals) (expr_view e.now))) ≡ true }
-    ensures { IfOk result (λ x. value_view x ≡ convert_of pos kind (kind_of (inner_env (N.env names.now) walk.now.locals) (expr_view e.now)) (resolve_of (inner_env (N.env names.now) walk.now.locals) (expr_view e.now))) }
+    ensures { IfOk result (λ x. boxed_view x ≡ convert_of pos kind (kind_of (inner_env (N.env names.now) walk.now.locals) (expr_view e.now)) (resolve_of (inner_env (N.env names.now) walk.now.locals) (expr_view e.now))) }
 {
     let scope = Scope {
         names,
         locals: &walk.locals,
     };
     let found = resolve_expr(around.alloc, &scope, e)?;
-    Ok(convert(around.alloc, pos, kind, found.kind, found.value)?)
+    convert(around.alloc, pos, kind, found.kind, found.value)
 }
 
 /// What a `return` at this place gives back.
@@ -90,7 +90,7 @@ pub(crate) fn returned<N: Lookup>(
         None => Ok(None),
         Some(e) => {
             let found = value_as(names, around, walk, pos, around.result, e)?;
-            Ok(Some(Box::new(around.alloc, found)?))
+            Ok(Some(found))
         }
     }
 }

@@ -1,13 +1,13 @@
 use borrow.Author.Rules.{get_or_read}
 use Rattle.std.proofs.Common.{◌≡◌, ◌∙◌, ◌<◌, ◌≤◌, ◌+◌, ◌&&◌, true, false, List, [], ◌∷◌, ◌++◌, length, get_or, drop, map, sym, ap, subst, arith, rules}
 use Rattle.std.proofs.lemmas.List.{drop_all}
-use Rattle.pungi_tree.specs.ExprView.{expr_view, exprs_of}
+use Rattle.pungi_tree.specs.ExprView.{expr_view, exprs_of, type_name_view}
 use Rattle.pungi_tree.specs.declared.declr.Tail.TheFolds.{the_lemmas}
 use Rattle.pungi_tree.specs.declared.expr.Expr.{Expr}
 use Rattle.pungi_types.specs.Exprs.{is_module_address, wants_module, other_wants, kind_of}
 use Rattle.pungi_types.specs.Resolved.{value_and, resolve, place_of, resolve_all, convert, want_kind, expr_pos}
 use Rattle.pungi_types.specs.Sound.{is_sound, are_sound, is_sound_place}
-use Rattle.pungi_resolved.specs.ValueView.{value_view}
+use Rattle.pungi_resolved.specs.ValueView.{value_view, boxed_view}
 use Rattle.pungi_resolve.specs.Arguments.{argument_in}
 use Rattle.pungi_resolve.proofs.Clean.{and_left, and_right}
 use Rattle.pungi_resolve.proofs.ListLemmas.{values_before, values_before-one, values_before-all, next_one}
@@ -71,13 +71,10 @@ resolve_expr-resolve_expr-requires-in-Cond-3 g t c κs within =
     let h : is_sound (resolve env (expr_view c.deref-in-Cond-3.result.now)) ≡ true = subst P (sym c.deref-in-Cond-3.ensures) k.no in
     (search (rules, the_lemmas), (search rules, h))
 
-pub resolve_expr-resolve_expr-requires-in-Cast : goal.resolve_expr-resolve_expr-requires-in-Cast
-resolve_expr-resolve_expr-requires-in-Cast g t c κs within =
+pub resolve_cast-resolve_expr-requires : goal.resolve_cast-resolve_expr-requires
+resolve_cast-resolve_expr-requires g t c κs within =
     let env = g.N.Lookup.env c.args.names.now in
-    let P : Expr → Type 0 = λ x. is_sound (resolve env (expr_view x)) ≡ true in
-    let k = cast-operand env c.args.e.now c.in-Cast.name c.in-Cast.a c.in-Cast.is c.requires in
-    let h : is_sound (resolve env (expr_view c.deref-in-Cast.result.now)) ≡ true = subst P (sym c.deref-in-Cast.ensures) k in
-    (search (rules, the_lemmas), (search rules, h))
+    (search (rules, the_lemmas), (search rules, cast-operand env c.args.pos (type_name_view c.args.name.now) (expr_view c.args.a.now) c.requires))
 
 pub resolve_arg-resolve_expr-requires : goal.resolve_arg-resolve_expr-requires
 resolve_arg-resolve_expr-requires g t c κs within =
@@ -101,9 +98,9 @@ resolve_arg-returns-clause-value g t c =
       | resolve_arg-else-wants_module-via-else-wants_module w ↦ neither-left _ _ (sym c.wants_module.ensures ∙ w.if-wants_module.false)
     ] in
     c.in_ok-value.ensures
-    ∙ ap (λ p. convert p c.wanted_kind.result c.in_ok-a.a.kind (value_view c.in_ok-a.a.value)) c.pos_of-pos.ensures
-    ∙ ap (λ k. convert (expr_pos e) k c.in_ok-a.a.kind (value_view c.in_ok-a.a.value)) c.wanted_kind.ensures
-    ∙ ap (λ k. convert (expr_pos e) (want_kind ws) k (value_view c.in_ok-a.a.value)) c.in_ok-a.ensures.kind
+    ∙ ap (λ p. convert p c.wanted_kind.result c.in_ok-a.a.kind (boxed_view c.in_ok-a.a.value)) c.pos_of-pos.ensures
+    ∙ ap (λ k. convert (expr_pos e) k c.in_ok-a.a.kind (boxed_view c.in_ok-a.a.value)) c.wanted_kind.ensures
+    ∙ ap (λ k. convert (expr_pos e) (want_kind ws) k (boxed_view c.in_ok-a.a.value)) c.in_ok-a.ensures.kind
     ∙ ap (convert (expr_pos e) (want_kind ws) (kind_of env e)) c.in_ok-a.ensures.value
     ∙ sym (argument-value env ws e f)
 
@@ -147,9 +144,9 @@ resolve_args-loop-e-preserved g t c =
     record {
       values =
           ap (λ ys. values_before (map value_view ys) (resolve_all env c.other_wants-rest.result.now left)) c.in_ok-push.ensures.items
-          ∙ ap (λ ws. values_before (map value_view (done ++ c.in_ok-arg.arg.value ∷ [])) (resolve_all env ws left)) others
-          ∙ values_before-one value_view done c.in_ok-arg.arg.value (resolve_all env (other_wants rest) left)
-          ∙ ap (λ v. values_before (map value_view done) (value_and v (resolve_all env (other_wants rest) left))) c.in_ok-arg.ensures.value
+          ∙ ap (λ ws. values_before (map value_view (done ++ c.into_inner.result ∷ [])) (resolve_all env ws left)) others
+          ∙ values_before-one value_view done c.into_inner.result (resolve_all env (other_wants rest) left)
+          ∙ ap (λ v. values_before (map value_view done) (value_and v (resolve_all env (other_wants rest) left))) (ap value_view c.into_inner.ensures ∙ c.in_ok-arg.ensures.value)
           ∙ ap (λ ys. values_before (map value_view done) (resolve_all env rest (exprs_of (map expr_view ys)))) (sym d)
           ∙ c.loop-e.invariant.values;
       met = search rules;

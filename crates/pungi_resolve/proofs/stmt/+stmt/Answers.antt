@@ -2,13 +2,12 @@ use Rattle.std.proofs.Common.{◌≡◌, ◌∙◌, ◌<◌, ◌≤◌, ◌+◌,
 use Rattle.std.proofs.lemmas.List.{drop_all}
 use Rattle.pungi_tree.specs.StmtView.{stmt_view, stmts_of, for_start_view}
 use Rattle.pungi_tree.specs.declared.stmt.Stmt.{Stmt}
-use Rattle.pungi_types.specs.Labels.{stmt_locals, stmts_locals, start_locals}
-use Rattle.pungi_types.specs.ResolvedStmts.{Site, action_and, block_of, action, actions as actions_in, after}
+use Rattle.pungi_types.specs.Labels.{stmt_locals, stmts_locals}
+use Rattle.pungi_types.specs.ResolvedStmts.{Site, action_and, action, actions as actions_in, after}
 use Rattle.pungi_resolved.specs.ActionView.{action_view, actions_of}
 use Rattle.pungi_resolve.specs.Sites.{site_of, after_all}
 use Rattle.pungi_resolve.specs.SoundActions.{IsSoundAction, AreSoundActions}
 use Rattle.pungi_resolve.specs.declared.walk.Walk.{Walk}
-use Rattle.pungi_resolve.proofs.ForLemmas.{stmt_view-for}
 use Rattle.pungi_resolve.proofs.ListLemmas.{actions_before, actions_before-one, actions_before-all, next_one}
 use Rattle.pungi_resolve.proofs.SiteLemmas.{left_part, left_block, left_for}
 use Rattle.pungi_resolve.proofs.stmt.+stmt.Goals as goal
@@ -22,10 +21,6 @@ pub resolve_block-returns-clause-walk : goal.resolve_block-returns-clause-walk
 resolve_block-returns-clause-walk g t c =
     left_block (g.N.Lookup.env c.args.names.now) c.args.walk.now c.resolve_list.new.walk c.leave.new.self c.args.around.result (stmts_of (map stmt_view c.args.list.now.items)) c.len-kept.result
     c.len-kept.ensures c.in_ok-found.ensures.after c.leave.ensures
-
-pub resolve_block-returns-clause-action : goal.resolve_block-returns-clause-action
-resolve_block-returns-clause-action g t c =
-    c.block_of.ensures ∙ ap (λ as'. block_of c.args.pos as' c.args.end) c.in_ok-found.ensures.actions
 
 pub resolve_list-returns-clause-actions : goal.resolve_list-returns-clause-actions
 resolve_list-returns-clause-actions g t c =
@@ -68,14 +63,9 @@ resolve_list-loop-s-preserved g t c =
       after = ap (λ (h : Site). after_all h left) there ∙ ap (λ ys. after_all F (stmts_of (map stmt_view ys))) (sym d) ∙ c.loop-s.invariant.after;
     }
 
-pub resolve_stmt-returns-in_ok-repeat_for-in-For-clause-after : goal.resolve_stmt-returns-in_ok-repeat_for-in-For-clause-after
-resolve_stmt-returns-in_ok-repeat_for-in-For-clause-after g t c =
+pub resolve_for-returns-clause-after : goal.resolve_for-returns-clause-after
+resolve_for-returns-clause-after g t c =
     let env = g.N.Lookup.env c.args.names.now in
-    let F = site_of env c.args.walk.now c.args.around.result in
-    let a = for_start_view c.in-For.start in
-    let body : c.deref-in-For.result.now ≡ c.in-For.body.value = c.deref-in-For.ensures in
     ap (λ (w : Walk). site_of env w c.args.around.result)
-    (left_for env c.args.walk.now c.resolve_head.new.walk c.resolve_part-in-For.new.walk c.leave.new.self c.args.around.result a (stmt_locals (stmt_view c.deref-in-For.result.now))
-    c.len-kept.result c.len-kept.ensures c.in_ok-head-in-For.ensures.after c.in_ok-body-in-For.ensures.walk c.leave.ensures)
-    ∙ ap (λ (s : Stmt). record F { next = F.next + (start_locals a + stmt_locals (stmt_view s)) }) body
-    ∙ sym (ap (after F) (stmt_view-for c.args.s.now c.in-For.start c.in-For.test c.in-For.step c.in-For.body c.in-For.is))
+    (left_for env c.args.walk.now c.resolve_head.new.walk c.resolve_part.new.walk c.leave.new.self c.args.around.result (for_start_view c.args.start.now) (stmt_locals (stmt_view c.args.body.now))
+    c.len-kept.result c.len-kept.ensures c.in_ok-head.ensures.after c.in_ok-body.ensures.walk c.leave.ensures)

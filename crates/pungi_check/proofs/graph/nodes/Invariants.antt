@@ -3,7 +3,7 @@ use Rattle.indexmap.specs.IndexMap.{get}
 use Rattle.pungi_declared.specs.DeclaredView.{function_view}
 use Rattle.pungi_names.specs.NamesView.{file_of, rows_of}
 use Rattle.pungi_check.specs.Graph.{node_view, node_of}
-use Rattle.pungi_check.proofs.graph.graph.Given as goal
+use Rattle.pungi_check.proofs.graph.nodes.Given as goal
 
 abbrev pub invariant-loop-f : goal.invariant-loop-f
 invariant-loop-f l =
