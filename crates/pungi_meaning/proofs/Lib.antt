@@ -6,3 +6,4 @@ pub mod ListLemmas
 pub mod RunLemmas
 pub mod LocalLemmas
 pub mod NewestLemmas
+pub mod NumberLemmas

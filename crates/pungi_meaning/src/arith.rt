@@ -1,12 +1,10 @@
 // Arithmetic, comparisons and truth.
-ghost use Rattle.std.specs.Prelude.{◌≡◌, ◌∷◌, [], not, reverse, IfOk};
+ghost use Rattle.std.specs.Prelude.{◌≡◌, [], not, reverse, IfOk};
 ghost use Rattle.pungi_resolved.specs.ValueView.{value_view, place_view};
-ghost use Rattle.pungi_meaning.specs.Exprs.{minus as minus_step, step_one as one_step, compute as compute_step, compare as compare_step, fit as fit_step, right as right_step, is_wanted as is_wanted_side};
+ghost use Rattle.pungi_meaning.specs.Exprs.{keep as kept, minus as minus_step, step_one as one_step, compute as compute_step, compare as compare_step, fit as fit_step, right as right_step, is_wanted as is_wanted_side};
 ghost use Rattle.pungi_meaning.specs.Machine.{todos, state_of, Tells};
-ghost use Rattle.pungi_meaning.specs.Run.{act};
-ghost use Rattle.pungi_meaning.specs.Todo.{ToKeep};
 ghost use Rattle.pungi_meaning.specs.Values.{arithmetic as arithmetic_result, number_of as value_number, truth as truth_value, is_true as is_true_value};
-ghost use Rattle.pungi_meaning.specs.Work.{top, below, for_two};
+ghost use Rattle.pungi_meaning.specs.Work.{top, below, for_two, left as goes_on};
 
 use crate::cmp::number_of;
 use crate::expr::one;
@@ -144,7 +142,7 @@ pub fn right<'a>(m: &mut Machine<'a>, on: bool, part: &'a Node) -> Result<Option
 
 /// The old content goes to where the value of `++` or `--` behind its operand waits.
 pub fn keep(m: &mut Machine, place: &Place) -> Result<Option<Ending>, Memory>
-    ensures { IfOk result (λ halt. Tells (act [] (ToKeep (place_view place.now) ∷ todos m.old.tasks.items) (state_of m.old)) halt m.new) }
+    ensures { IfOk result (λ halt. Tells (goes_on (todos m.old.tasks.items) (record (state_of m.old) { values = kept (place_view place.now) (reverse m.old.values.items) })) halt m.new) }
 {
     let old = take(&mut m.values);
     match place {

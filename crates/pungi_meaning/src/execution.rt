@@ -1,5 +1,5 @@
 // The run of a function.
-ghost use Rattle.std.specs.Prelude.{◌≡◌, ◌∷◌, ◌+◌, ◌-◌, ◌++◌, [], IfOk, OnOk, length, map, replicate};
+ghost use Rattle.std.specs.Prelude.{◌≡◌, ◌∷◌, ◌+◌, ◌++◌, [], IfOk, OnOk, map, replicate};
 ghost use Rattle.pungi_resolved.specs.ActionView.{action_view, function_view};
 ghost use Rattle.pungi_types.specs.Operators.{is_void as is_void_kind};
 ghost use Rattle.pungi_world.specs.declared.content.Content.TheVariants.{Unset as UnsetContent, Holds as HoldsContent};
@@ -61,24 +61,14 @@ pub fn add_unset(locals: &mut Vec<Content>, count: usize) -> Result<(), Memory>
     Ok(())
 }
 
-/// What the locals hold at the start: the parameters their arguments, the others nothing.
-fn first_locals(alloc: Global, args: &[Value], count: usize) -> Result<Vec<Content>, Memory>
-    ensures { IfOk result (λ locals. locals.items ≡ map HoldsContent args.now ++ replicate (count - length args.now) UnsetContent) }
-{
-    let mut locals = held(alloc, args)?;
-    let unset = count.saturating_sub(args.len());
-    match add_unset(&mut locals, unset) {
-        Ok(()) => Ok(locals),
-        Err(fault) => Err(fault),
-    }
-}
-
 /// The run of a function before its first step, where nothing is to be done yet.
 fn begin<'a>(alloc: Global, f: &Function, entry: &Entry) -> Result<Machine<'a>, Memory>
     ensures todos { IfOk result (λ m. todos m.tasks.items ≡ []) }
     ensures state { IfOk result (λ m. state_of m ≡ start (function_view f.now) entry.now) }
 {
-    let locals = first_locals(alloc, entry.args.as_slice(), f.locals)?;
+    let mut locals = held(alloc, entry.args.as_slice())?;
+    let unset = f.locals.saturating_sub(entry.args.len());
+    add_unset(&mut locals, unset)?;
     let world = CountedWorld::start(alloc, entry)?;
     Ok(Machine {
         world,
@@ -89,8 +79,25 @@ fn begin<'a>(alloc: Global, f: &Function, entry: &Entry) -> Result<Machine<'a>, 
     })
 }
 
-/// Does the body of a function, for at most `fuel` steps. How the run ended, if it did.
-fn go<'a>(
+/// Makes at most `fuel` steps. How the run ended, if it did.
+fn go(
+    m: &mut Machine,
+    alloc: Global,
+    choices: &[Choice],
+    fuel: u32,
+) -> Result<Option<Ending>, Memory>
+    ensures { IfOk result (λ ending. end_after ending m.new ≡ (run_from choices.now fuel (todos m.old.tasks.items) (state_of m.old)).end) }
+{
+    for i in 0..fuel {
+        if let Some(ending) = step(m, alloc, choices)? {
+            return Ok(Some(ending));
+        }
+    }
+    Ok(None)
+}
+
+/// Does the body of a function, in at most `fuel` steps. How the run ended, if it did.
+fn do_body<'a>(
     m: &mut Machine<'a>,
     alloc: Global,
     f: &'a Function,
@@ -101,12 +108,7 @@ fn go<'a>(
 {
     later(m, Task::End(closing(&f.body), is_void(f.result)))?;
     later(m, Task::Exec(&f.body))?;
-    for i in 0..fuel {
-        if let Some(ending) = step(m, alloc, choices)? {
-            return Ok(Some(ending));
-        }
-    }
-    Ok(None)
+    go(m, alloc, choices, fuel)
 }
 
 /// The outcome of a run that ends here.
@@ -139,7 +141,7 @@ pub fn run(
     ensures counted { IfOk result (λ outcome. IsCounted outcome) }
 {
     let mut m = begin(alloc, f, entry)?;
-    match go(&mut m, alloc, f, choices, fuel)? {
+    match do_body(&mut m, alloc, f, choices, fuel)? {
         Some(ending) => Ok(ended(m, ending)),
         None => Ok(Outcome::OutOfFuel),
     }

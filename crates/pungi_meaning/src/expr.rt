@@ -55,12 +55,20 @@ pub fn give(m: &mut Machine, value: Value) -> Result<Option<Ending>, Memory>
 }
 
 /// One thing more comes first.
+pub fn push<'a>(tasks: &mut Vec<Task<'a>>, task: Task<'a>) -> Result<(), Memory>
+    ensures { OnOk result (todos tasks.new.items ≡ todo_of task.entry ∷ todos tasks.old.items) }
+{
+    tasks.push(task)?;
+    Ok(())
+}
+
+/// One thing more comes first, and the run goes on.
 pub fn later<'a>(m: &mut Machine<'a>, task: Task<'a>) -> Result<Option<Ending>, Memory>
     ensures goes { IfOk result (λ halt. halt ≡ None) }
     ensures todos { OnOk result (todos m.new.tasks.items ≡ todo_of task.entry ∷ todos m.old.tasks.items) }
     ensures state { OnOk result (state_of m.new ≡ state_of m.old) }
 {
-    m.tasks.push(task)?;
+    push(&mut m.tasks, task)?;
     Ok(None)
 }
 

@@ -60,5 +60,8 @@ fn long_arithmetic(op: Op, left: i64, right: i64) -> Option<i64>
 pub fn arithmetic(op: Op, kind: ValueKind, left: i64, right: i64) -> Option<i64>
     ensures { result ≡ arithmetic_result op kind left right }
 {
-    in_range(kind, long_arithmetic(op, left, right)?)
+    match long_arithmetic(op, left, right) {
+        Some(number) => in_range(kind, number),
+        None => None,
+    }
 }

@@ -287,7 +287,7 @@ fn begin_for<'a>(
 }
 
 /// A loop with a test that does nothing behind its body.
-fn tested_by<'a>(test: &'a Node, body: &'a Action) -> Turns<'a>
+pub fn tested_by<'a>(test: &'a Node, body: &'a Action) -> Turns<'a>
     ensures { loop_of result ≡ a_loop (Some (value_view test.now)) None (action_view body.now) }
 {
     Turns {

@@ -4,8 +4,9 @@ ghost use Rattle.pungi_resolved.specs.ActionView.{action_view};
 ghost use Rattle.pungi_meaning.specs.Machine.{todo_of, todos};
 ghost use Rattle.pungi_meaning.specs.Jumps.{entered, entered_among, found_or, from_label, after_break, after_continue};
 
+use crate::expr::push;
 use crate::machine::Ending;
-use crate::stmt::unboxed;
+use crate::stmt::{tested_by, unboxed};
 use crate::task::{Task, Turns};
 use pungi_base::{Memory, Name};
 use pungi_resolved::{Action, ActionNode};
@@ -21,7 +22,7 @@ fn enter_before<'a>(
     ensures found { IfOk result (λ found. found ≡ is_some (entered label (action_view part.now) (todo_of then.entry ∷ todos tasks.old.items))) }
     ensures tasks { OnOk result (todos tasks.new.items ≡ found_or (entered label (action_view part.now) (todo_of then.entry ∷ todos tasks.old.items)) (todos tasks.old.items)) }
 {
-    tasks.push(then)?;
+    push(tasks, then)?;
     let found = enter(tasks, label, part)?;
     if !found {
         tasks.pop();
@@ -38,7 +39,7 @@ fn enter<'a>(tasks: &mut Vec<Task<'a>>, label: Name, action: &'a Action) -> Resu
     match &action.node {
         ActionNode::AtLabel(name, part) => {
             if name.0 == label.0 {
-                tasks.push(Task::Exec(part))?;
+                push(tasks, Task::Exec(part))?;
                 return Ok(true);
             }
             enter(tasks, label, part)
@@ -53,27 +54,14 @@ fn enter<'a>(tasks: &mut Vec<Task<'a>>, label: Name, action: &'a Action) -> Resu
             enter_before(tasks, label, other, Task::Join)
         }
         ActionNode::RepeatWhile(test, body) => {
-            let again = Task::Again(Turns {
-                test: Some(&**test),
-                behind: None,
-                body,
-            });
-            enter_before(tasks, label, body, again)
+            enter_before(tasks, label, body, Task::Again(tested_by(test, body)))
         }
         ActionNode::RepeatUntil(body, test) => {
-            let again = Task::Again(Turns {
-                test: Some(&**test),
-                behind: None,
-                body,
-            });
-            enter_before(tasks, label, body, again)
+            enter_before(tasks, label, body, Task::Again(tested_by(test, body)))
         }
         ActionNode::RepeatFor(_, _, test, behind, body) => {
-            let again = Task::Again(Turns {
-                test: unboxed(test),
-                behind: unboxed(behind),
-                body,
-            });
+            let (test, behind) = (unboxed(test), unboxed(behind));
+            let again = Task::Again(Turns { test, behind, body });
             enter_before(tasks, label, body, again)
         }
         ActionNode::SwitchOn(_, body) => enter_before(tasks, label, body, Task::SwitchEnd),
@@ -106,7 +94,7 @@ pub fn jump(tasks: &mut Vec<Task>, label: Name) -> Result<Option<Ending>, Memory
     while let Some(task) = tasks.pop() {
         match task {
             Task::End(_, _) => {
-                tasks.push(task)?;
+                push(tasks, task)?;
                 return Ok(None);
             }
             Task::Rest(block, _) => {
@@ -128,7 +116,7 @@ pub fn leave(tasks: &mut Vec<Task>) -> Result<Option<Ending>, Memory>
     while let Some(task) = tasks.pop() {
         match task {
             Task::End(_, _) => {
-                tasks.push(task)?;
+                push(tasks, task)?;
                 return Ok(None);
             }
             Task::Again(_) | Task::SwitchEnd => return Ok(None),
@@ -146,7 +134,7 @@ pub fn next_turn(tasks: &mut Vec<Task>) -> Result<Option<Ending>, Memory>
     while let Some(task) = tasks.pop() {
         match task {
             Task::End(_, _) | Task::Again(_) => {
-                tasks.push(task)?;
+                push(tasks, task)?;
                 return Ok(None);
             }
             _ => {}
