@@ -4,7 +4,7 @@ use Rattle.pungi_base.specs.declared.key.Key.TheVariants as keys
 use Rattle.pungi_base.specs.declared.names.Name.{Name}
 use Rattle.pungi_base.specs.declared.pos.Pos.{Pos}
 use Rattle.pungi_base.specs.declared.punct.Punct.TheVariants as puncts
-use Rattle.pungi_parse.specs.Begun.{Begun, whole, braced, branched, headed, while_head, do_head, for_head, switch_head, case_head, default_head, label_head, branch_front, while_front, for_front, switch_front, case_front, default_front, whole_at, label_or_whole, begin_at, do_end, finish_at, branch_rest, go_on}
+use Rattle.pungi_parse.specs.Begun.{Head, Begun, whole, braced, branched, headed, while_head, do_head, for_head, switch_head, case_head, default_head, label_head, branch_front, while_front, for_head_at, for_front, switch_front, case_front, default_front, whole_at, label_or_whole, begin_at, do_end, finish_at, branch_rest, go_on}
 use Rattle.pungi_parse.specs.Eat.{eat, eat_key}
 use Rattle.pungi_parse.specs.Gives.{Fails}
 use Rattle.pungi_parse.specs.Reading.{Read, ◌>>=◌, chain, on_some}
@@ -47,13 +47,15 @@ module _ (types : List Name) (low : Lower) (stmt element : List Placed → Read 
   do_goes p ts = refl
 
   for_goes : (p : Pos) (ts : List Placed) → chain (for_front types low p ts) Rest ≡ for_at types low stmt element p ts
-  unfolding for_front for_at
+  unfolding for_front for_head_at for_at
   for_goes p ts =
+      let Then : Head × List Placed → Read Stmt = λ h. Rest (headed p h.0, h.1) in
       chain_then (eat puncts.LeftParen ts) _ Rest _ (λ o.
-      chain_then (start_at types low o.1) _ Rest _ (λ a.
-      chain_then (optional types low puncts.Semicolon a.1) _ Rest _ (λ b.
-      chain_then (optional types low puncts.RightParen b.1) _ Rest _ (λ c.
-      some_then (headed p (for_head a.0 b.0 c.0), c.1) Rest))))
+      chain_then (for_head_at types low o.1) _ Rest Then (λ h. some_then (headed p h.0, h.1) Rest) ∙
+      chain_then (start_at types low o.1) _ Then _ (λ a.
+      chain_then (optional types low puncts.Semicolon a.1) _ Then _ (λ b.
+      chain_then (optional types low puncts.RightParen b.1) _ Then _ (λ c.
+      some_then (for_head a.0 b.0 c.0, c.1) Then))))
 
   switch_goes : (p : Pos) (ts : List Placed) → chain (switch_front types low p ts) Rest ≡ switch_at types low stmt element p ts
   unfolding switch_front switch_at

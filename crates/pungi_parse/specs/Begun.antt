@@ -1,6 +1,7 @@
 -- What of a statement stands in front of the first statement in it, and how the statement goes on from there.
 --   Head, Begun       a statement in front of its one body; a whole statement, a block, an `if`, or a statement with one body, each as far as it is read
---   head_view, begun_view    those that the parser's stand for
+--   for_head_view, head_view, begun_view    those that the parser's stand for
+--   for_head_at       what stands between the parentheses of a `for`, with the closing one
 --   branch_front, while_front, for_front, switch_front, case_front, default_front    what stands behind the keyword
 --   label_or_whole    a statement with a label in front, as far as it is read, or a whole one that holds no other one
 --   begin_at          a statement, up to the first one in it
@@ -19,6 +20,7 @@ use Rattle.pungi_parse.specs.StmtReader.{optional, condition, start_at, label_fr
 use Rattle.pungi_parse.specs.TypeReader.{Lower}
 use Rattle.pungi_parse.specs.declared.begun.Begun.{Begun as TheBegun}
 use Rattle.pungi_parse.specs.declared.begun.Begun.TheVariants as begun
+use Rattle.pungi_parse.specs.declared.begun.ForHead.{ForHead}
 use Rattle.pungi_parse.specs.declared.begun.StmtHead.{StmtHead}
 use Rattle.pungi_parse.specs.declared.begun.StmtHead.TheVariants as heads
 use Rattle.pungi_tree.specs.ExprView.{expr_view, optional_view}
@@ -41,9 +43,12 @@ pub data Begun : Type 0 where
   branched : Pos → Expr → Begun
   headed : Pos → Head → Begun
 
+abbrev pub for_head_view : ForHead → Head
+for_head_view h = for_head (for_start_view h.start) (optional_view h.test) (optional_view h.step)
+
 abbrev pub head_view : StmtHead → Head
 head_view (heads.While e) = while_head (expr_view e.value)
-head_view (heads.For h) = for_head (for_start_view h.value.start) (optional_view h.value.test) (optional_view h.value.step)
+head_view (heads.For h) = for_head_view h.value
 head_view (heads.Switch e) = switch_head (expr_view e.value)
 head_view (heads.Case e) = case_head (expr_view e.value)
 head_view heads.Default = default_head
@@ -63,10 +68,13 @@ module _ (types : List Name) (low : Lower) where
   unfoldable pub while_front : Pos → List Placed → Read Begun
   while_front p ts = condition types low ts >>= λ e. Some (headed p (while_head e.0), e.1)
 
+  unfoldable pub for_head_at : List Placed → Read Head
+  for_head_at ts =
+      start_at types low ts >>= λ a. optional types low puncts.Semicolon a.1 >>= λ b. optional types low puncts.RightParen b.1 >>= λ c.
+      Some (for_head a.0 b.0 c.0, c.1)
+
   unfoldable pub for_front : Pos → List Placed → Read Begun
-  for_front p ts =
-      eat puncts.LeftParen ts >>= λ o. start_at types low o.1 >>= λ a. optional types low puncts.Semicolon a.1 >>= λ b.
-      optional types low puncts.RightParen b.1 >>= λ c. Some (headed p (for_head a.0 b.0 c.0), c.1)
+  for_front p ts = eat puncts.LeftParen ts >>= λ o. for_head_at o.1 >>= λ h. Some (headed p h.0, h.1)
 
   unfoldable pub switch_front : Pos → List Placed → Read Begun
   switch_front p ts = condition types low ts >>= λ e. Some (headed p (switch_head e.0), e.1)

@@ -4,7 +4,7 @@ ghost use Rattle.pungi_tree.specs.ExprView.{expr_view};
 ghost use Rattle.pungi_tree.specs.Operators as operators;
 ghost use Rattle.pungi_tree.specs.Placed.{placed, first_place as first_place_of};
 
-use crate::numbers::{key_number, punct_number};
+use crate::numbers::{is_same_key, is_same_punct};
 use crate::operators;
 use pungi_base::{Key, Kind, Name, Pos, Punct, Token};
 use pungi_tree::{Expr, ExprNode};
@@ -24,13 +24,7 @@ pub(crate) fn eat<'a>(mark: Punct, tokens: &'a [Token]) -> Option<(Pos, &'a [Tok
 {
     let (first, rest) = tokens.split_first()?;
     match first.kind {
-        Kind::Punct(found) => {
-            if punct_number(mark) == punct_number(found) {
-                Some((first.pos, rest))
-            } else {
-                None
-            }
-        }
+        Kind::Punct(found) => is_same_punct(mark, found).then_some((first.pos, rest)),
         _ => None,
     }
 }
@@ -42,13 +36,7 @@ pub(crate) fn eat_key<'a>(key: Key, tokens: &'a [Token]) -> Option<(Pos, &'a [To
 {
     let (first, rest) = tokens.split_first()?;
     match first.kind {
-        Kind::Key(found) => {
-            if key_number(key) == key_number(found) {
-                Some((first.pos, rest))
-            } else {
-                None
-            }
-        }
+        Kind::Key(found) => is_same_key(key, found).then_some((first.pos, rest)),
         _ => None,
     }
 }

@@ -1,5 +1,5 @@
 ghost use Rattle.std.specs.Prelude.{◌≡◌, ◌≤◌, ◌<◌, length, IfOk};
-ghost use Rattle.pungi_parse.specs.Begun.{begun_view, branch_front as branch_front_of, while_front as while_front_of, for_front as for_front_of, switch_front as switch_front_of, case_front as case_front_of, default_front as default_front_of, whole_at, label_or_whole as label_or_whole_of, begin_at, do_end as do_end_of};
+ghost use Rattle.pungi_parse.specs.Begun.{for_head_view, begun_view, branch_front as branch_front_of, while_front as while_front_of, for_head_at, for_front as for_front_of, switch_front as switch_front_of, case_front as case_front_of, default_front as default_front_of, whole_at, label_or_whole as label_or_whole_of, begin_at, do_end as do_end_of};
 ghost use Rattle.pungi_parse.specs.Gives.{Gives};
 ghost use Rattle.pungi_parse.specs.Readers.{readers};
 ghost use Rattle.pungi_parse.specs.StmtReader.{read_stmt, read_element};
@@ -49,6 +49,19 @@ impl Parser<'_> {
         Ok((Begun::Before(pos, StmtHead::Switch(test)), rest))
     }
 
+    /// What stands between the parentheses of a `for`, with the closing one.
+    #[tactic(auto, unfolding(crate::specs::Begun::for_head_at, crate::specs::Reading::chain))]
+    fn for_head<'t>(&self, tokens: &'t [Token]) -> Front<'t, ForHead>
+        ensures tree { Gives (λ x. (for_head_view x.0, placed x.1.now)) result
+            (for_head_at self.now.types.now (readers self.now.types.now self.now.nest self.now.most) (placed tokens.now)) }
+        ensures shorter { IfOk result (λ x. length x.1.now < length tokens.now) }
+    {
+        let (start, after) = self.start(tokens)?;
+        let (test, behind) = self.optional(Punct::Semicolon, after)?;
+        let (step, rest) = self.optional(Punct::RightParen, behind)?;
+        Ok((ForHead { start, test, step }, rest))
+    }
+
     /// What stands behind `for`, up to the body.
     #[tactic(auto, unfolding(crate::specs::Begun::for_front, crate::specs::Reading::chain))]
     fn for_front<'t>(&self, pos: Pos, tokens: &'t [Token]) -> Front<'t, Begun>
@@ -59,10 +72,8 @@ impl Parser<'_> {
         let Some((_, inner)) = eat(Punct::LeftParen, tokens) else {
             return Err(Stop::NothingRead);
         };
-        let (start, after) = self.start(inner)?;
-        let (test, behind) = self.optional(Punct::Semicolon, after)?;
-        let (step, rest) = self.optional(Punct::RightParen, behind)?;
-        let head = Box::new(self.alloc, ForHead { start, test, step })?;
+        let (head, rest) = self.for_head(inner)?;
+        let head = Box::new(self.alloc, head)?;
         Ok((Begun::Before(pos, StmtHead::For(head)), rest))
     }
 
