@@ -1,18 +1,19 @@
 -- A statement only adds locals, and counts those that it declares; what is left behind it is what was there before.
-use Rattle.std.proofs.Common.{◌≡◌, ℕ, ◌+◌, ◌-◌, List, [], ◌∷◌, ◌++◌, length, drop, refl, sym, ap, ◌∙◌, append_assoc, add_assoc, add-zero, arith, length-append, Option, suc, subst, Bool, false}
-use Rattle.pungi_tree.specs.Syntax.{Spec, VarDecl, var_decl, decl, ForStart, start_decl, start_expr, Stmt, declare, Stmts, no_stmts, stmt_and, Params, params, ParamDecl, param_decl, ParamDecls, no_params, param_and, named, bare, unused}
+use Rattle.std.proofs.Common.{◌≡◌, ℕ, ◌+◌, ◌-◌, List, [], ◌∷◌, ◌++◌, length, drop, refl, sym, ap, ◌∙◌, append_assoc, add_assoc, add-zero, arith, length-append, Option, Some, None, suc, subst, Bool, true, false, Result, Ok, Err, OnOk}
+use Rattle.pungi_tree.specs.Syntax.{Spec, VarDecl, var_decl, Decl, decl, ForStart, start_decl, start_expr, Expr, Stmt, declare, for, Stmts, no_stmts, stmt_and, Params, params, ParamDecl, param_decl, ParamDecls, no_params, param_and, named, bare, unused}
 use Rattle.std.specs.declared.alloc.Global.{Global}
 use Rattle.pungi_types.specs.Files.{Definition, declr_name}
 use Rattle.pungi_types.specs.Functions.{after_param, after_params, params_frame, params_count, result_kind, first_frame}
+use Rattle.pungi_base.specs.declared.pos.Pos.{Pos}
 use Rattle.pungi_scope.specs.declared.labels.Labels.TheVariants.{Outside}
 use Rattle.pungi_types.specs.Kinds.{declared_kind}
 use Rattle.pungi_types.specs.Names.{Env}
 use Rattle.pungi_types.specs.Labels.{stmt_locals, stmts_locals, start_locals, block_labels, param_count}
-use Rattle.pungi_types.specs.Stmts.{Frame, in_block, stmt_findings, stmts_findings, after_var, after_vars, after_stmt, after_stmts, start_frame}
+use Rattle.pungi_types.specs.Stmts.{Frame, in_block, after_decl, decl_findings, stmt_findings, stmts_findings, after_var, after_vars, after_stmt, after_stmts, start_frame, in_loop, start_findings, option_condition, option_findings}
 use Rattle.pungi_types.specs.declared.local.Local.{Local}
-use Rattle.pungi_types.specs.Findings.{least_from}
+use Rattle.pungi_types.specs.Findings.{Findings, least_from, ◌and◌}
 use Rattle.pungi_types.specs.declared.finding.Finding.{Finding}
-use Rattle.pungi_scope.specs.Frames.{frame_of, labels_of}
+use Rattle.pungi_scope.specs.Frames.{frame_of, labels_of, declaration_of}
 use Rattle.pungi_scope.specs.ScopeEnv.{inner_env}
 use Rattle.pungi_types.specs.declared.kind.ValueKind.{ValueKind}
 use Rattle.pungi_scope.specs.declared.walk.Around.{Around}
@@ -97,72 +98,107 @@ left env old new b c around inner n x a e =
     ap (λ l. made l new.next new.first) back ∙ ap (λ k. made old.locals k new.first) a.next ∙ ap (λ y. made old.locals (old.next + n) y) e
 
 -- behind a statement that is part of another
-pub left_part : (env : Env) (old new final : Walk) (b c : List ℕ) (around : Around) (s : Stmt) (k : ℕ) → b ≡ [] → k ≡ length old.locals
-    → frame_of env new c around ≡ after_stmt (frame_of env old b around) s → new.first ≡ least_from old.first (stmt_findings (frame_of env old b around) s)
+pub left_part : {T E : Type 0} (r : Result T E) (env : Env) (old new final : Walk) (b c : List ℕ) (around : Around) (s : Stmt) (k : ℕ) → b ≡ [] → k ≡ length old.locals
+    → OnOk r (frame_of env new c around ≡ after_stmt (frame_of env old b around) s) → OnOk r (new.first ≡ least_from old.first (stmt_findings (frame_of env old b around) s))
     → final ≡ record new { locals = drop (length new.locals - k) new.locals }
-    → final ≡ record old { first = least_from old.first (stmt_findings (frame_of env old [] around) s); next = old.next + stmt_locals s }
-left_part env old new final b c around s k none kept frame found e =
+    → OnOk r (final ≡ record old { first = least_from old.first (stmt_findings (frame_of env old [] around) s); next = old.next + stmt_locals s })
+left_part (Err x) env old new final b c around s k none kept frame found e = tt
+left_part (Ok x) env old new final b c around s k none kept frame found e =
     let F = frame_of env old b around in
     let P : Frame → Type 0 = λ g. Adds F g (stmt_locals s) in
     let adds : Adds F (frame_of env new c around) (stmt_locals s) = subst P (sym frame) (adds-stmt F s) in
-    let at_k : Walk = record new { locals = drop (length new.locals - k) new.locals } in
     e ∙ ap (λ (n : ℕ). record new { locals = drop (length new.locals - n) new.locals }) kept
     ∙ left env old new b c around around (stmt_locals s) (least_from old.first (stmt_findings F s)) adds found
     ∙ ap (λ (ws : List ℕ). record old { first = least_from old.first (stmt_findings (frame_of env old ws around) s); next = old.next + stmt_locals s }) none
 
--- behind a block
-pub left_block : (env : Env) (old new final : Walk) (b c : List ℕ) (around inner : Around) (ss : Stmts) (k : ℕ) → b ≡ [] → k ≡ length old.locals
-    → frame_of env old [] inner ≡ in_block (frame_of env old [] around) ss
-    → frame_of env new c inner ≡ after_stmts (frame_of env old b inner) ss → new.first ≡ least_from old.first (stmts_findings (frame_of env old b inner) ss)
+-- behind the statements of a block
+pub left_list : {T E : Type 0} (r : Result T E) (env : Env) (old new final : Walk) (b c : List ℕ) (around : Around) (ss : Stmts) (k : ℕ) → b ≡ [] → k ≡ length old.locals
+    → OnOk r (frame_of env new c around ≡ after_stmts (frame_of env old b around) ss) → OnOk r (new.first ≡ least_from old.first (stmts_findings (frame_of env old b around) ss))
     → final ≡ record new { locals = drop (length new.locals - k) new.locals }
-    → final ≡ record old { first = least_from old.first (stmts_findings (in_block (frame_of env old [] around) ss) ss); next = old.next + stmts_locals ss }
-left_block env old new final b c around inner ss k none kept entered frame found e =
-    let F = frame_of env old b inner in
+    → OnOk r (final ≡ record old { first = least_from old.first (stmts_findings (frame_of env old [] around) ss); next = old.next + stmts_locals ss })
+left_list (Err x) env old new final b c around ss k none kept frame found e = tt
+left_list (Ok x) env old new final b c around ss k none kept frame found e =
+    let F = frame_of env old b around in
     let P : Frame → Type 0 = λ g. Adds F g (stmts_locals ss) in
-    let adds : Adds F (frame_of env new c inner) (stmts_locals ss) = subst P (sym frame) (adds-stmts F ss) in
+    let adds : Adds F (frame_of env new c around) (stmts_locals ss) = subst P (sym frame) (adds-stmts F ss) in
     e ∙ ap (λ (n : ℕ). record new { locals = drop (length new.locals - n) new.locals }) kept
-    ∙ left env old new b c inner inner (stmts_locals ss) (least_from old.first (stmts_findings F ss)) adds found
-    ∙ ap (λ (vs : List ℕ). record old { first = least_from old.first (stmts_findings (frame_of env old vs inner) ss); next = old.next + stmts_locals ss }) none
-    ∙ ap (λ (g : Frame). record old { first = least_from old.first (stmts_findings g ss); next = old.next + stmts_locals ss }) entered
+    ∙ left env old new b c around around (stmts_locals ss) (least_from old.first (stmts_findings F ss)) adds found
+    ∙ ap (λ (vs : List ℕ). record old { first = least_from old.first (stmts_findings (frame_of env old vs around) ss); next = old.next + stmts_locals ss }) none
 
 of_parts : Env → List ℕ → ℕ → Option ValueKind → List ℕ → Bool → Bool → Bool → Bool → Frame
 of_parts env b n r ls t u v w = record { env = env; block = b; next = n; result = r; labels = ls; breaks = t; continues = u; cases = v; switched = w }
 
--- as a block is entered
-pub entered_block : (env : Env) (old : Walk) (around inner : Around) (ls : List ℕ) (ss : Stmts) → ls ≡ block_labels [] ss
+-- as a block is entered, of which these names are declared
+pub entered_block : (env : Env) (old : Walk) (around inner : Around) (ls bs : List ℕ) (ss : Stmts) → ls ≡ block_labels [] ss
     → inner.result ≡ around.result → labels_of inner.labels ≡ ls ++ labels_of around.labels → inner.breaks ≡ around.breaks → inner.continues ≡ around.continues
-    → inner.cases ≡ around.switched → inner.switched ≡ false → frame_of env old [] inner ≡ in_block (frame_of env old [] around) ss
+    → inner.cases ≡ around.switched → inner.switched ≡ false → frame_of env old bs inner ≡ record (in_block (frame_of env old [] around) ss) { block = bs }
 unfolding of_parts
-entered_block env old around inner ls ss known r l t u v w =
+entered_block env old around inner ls bs ss known r l t u v w =
     let e = inner_env env old.locals in
-    ap (λ x. of_parts e [] old.next x (labels_of inner.labels) inner.breaks inner.continues inner.cases inner.switched) r
-    ∙ ap (λ x. of_parts e [] old.next around.result x inner.breaks inner.continues inner.cases inner.switched) (l ∙ ap (λ y. y ++ labels_of around.labels) known)
-    ∙ ap (λ x. of_parts e [] old.next around.result (block_labels [] ss ++ labels_of around.labels) x inner.continues inner.cases inner.switched) t
-    ∙ ap (λ x. of_parts e [] old.next around.result (block_labels [] ss ++ labels_of around.labels) around.breaks x inner.cases inner.switched) u
-    ∙ ap (λ x. of_parts e [] old.next around.result (block_labels [] ss ++ labels_of around.labels) around.breaks around.continues x inner.switched) v
-    ∙ ap (λ x. of_parts e [] old.next around.result (block_labels [] ss ++ labels_of around.labels) around.breaks around.continues around.switched x) w
+    ap (λ x. of_parts e bs old.next x (labels_of inner.labels) inner.breaks inner.continues inner.cases inner.switched) r
+    ∙ ap (λ x. of_parts e bs old.next around.result x inner.breaks inner.continues inner.cases inner.switched) (l ∙ ap (λ y. y ++ labels_of around.labels) known)
+    ∙ ap (λ x. of_parts e bs old.next around.result (block_labels [] ss ++ labels_of around.labels) x inner.continues inner.cases inner.switched) t
+    ∙ ap (λ x. of_parts e bs old.next around.result (block_labels [] ss ++ labels_of around.labels) around.breaks x inner.cases inner.switched) u
+    ∙ ap (λ x. of_parts e bs old.next around.result (block_labels [] ss ++ labels_of around.labels) around.breaks around.continues x inner.switched) v
+    ∙ ap (λ x. of_parts e bs old.next around.result (block_labels [] ss ++ labels_of around.labels) around.breaks around.continues around.switched x) w
+
+-- the frame behind a statement, and what it finds, by the declaration that it is
+abbrev pub after_of : Frame → ℕ → Option Decl → Frame
+after_of f n (Some d) = after_decl f d
+after_of f n None = record f { next = f.next + n }
+
+pub after_split : (f : Frame) (s : Stmt) → after_of f (stmt_locals s) (declaration_of s) ≡ after_stmt f s
+after_split f (declare p d) = refl
+after_split f s = refl
+
+abbrev pub findings_of : Frame → Stmt → Option Decl → Findings
+findings_of f s (Some d) = decl_findings f d
+findings_of f s None = stmt_findings (record f { block = [] }) s
+
+pub findings_split : (f : Frame) (s : Stmt) → findings_of f s (declaration_of s) ≡ stmt_findings f s
+findings_split f (declare p d) = refl
+findings_split f (for p (start_decl d) b c s) = refl
+findings_split f (for p (start_expr e) b c s) = refl
+findings_split f s = refl
+
+adds-head : (f : Frame) (a : ForStart) → Adds f (record (start_frame f a) { block = [] }) (start_locals a)
+adds-head f a = let s = adds-start f a in record { more = s.more; locals = s.locals; next = s.next }
 
 -- behind a `for`
-pub left_for : (env : Env) (old one two final : Walk) (b c : List ℕ) (around : Around) (a : ForStart) (n k : ℕ) (x : Option Finding) → k ≡ length old.locals
-    → frame_of env one c around ≡ start_frame (frame_of env old b around) a → two ≡ record one { first = x; next = one.next + n }
+pub left_for : {T E : Type 0} (r : Result T E) (env : Env) (old one two final : Walk) (around loop : Around) (p : Pos) (a : ForStart) (b c : Option Expr) (s : Stmt) (k : ℕ)
+    → k ≡ length old.locals
+    → one.first ≡ least_from old.first (start_findings (frame_of env old [] around) a and (option_condition (start_frame (frame_of env old [] around) a).env p b and option_findings (start_frame (frame_of env old [] around) a).env c))
+    → frame_of env one [] around ≡ record (start_frame (frame_of env old [] around) a) { block = [] }
+    → loop ≡ record around { breaks = true; continues = true; cases = false; switched = false }
+    → OnOk r (two ≡ record one { first = least_from one.first (stmt_findings (frame_of env one [] loop) s); next = one.next + stmt_locals s })
     → final ≡ record two { locals = drop (length two.locals - k) two.locals }
-    → final ≡ record old { first = x; next = old.next + (start_locals a + n) }
-left_for env old one two final b c around a n k x kept frame part e =
-    let F = frame_of env old b around in
+    → OnOk r (final ≡ record old { first = least_from old.first (stmt_findings (frame_of env old [] around) (for p a b c s)); next = old.next + (start_locals a + stmt_locals s) })
+left_for (Err v) env old one two final around loop p a b c s k kept first frame is_loop part e = tt
+left_for (Ok v) env old one two final around loop p a b c s k kept first frame is_loop part e =
+    let F = frame_of env old [] around in
+    let n = stmt_locals s in
+    let x : Option Finding = least_from one.first (stmt_findings (frame_of env one [] loop) s) in
     let P : Frame → Type 0 = λ g. Adds F g (start_locals a) in
-    let adds : Adds F (frame_of env one c around) (start_locals a) = subst P (sym frame) (adds-start F a) in
-    let there : Adds F (frame_of env (record one { first = x; next = one.next + n }) c around) (start_locals a + n) =
-    adds-both F (frame_of env one c around) (frame_of env (record one { first = x; next = one.next + n }) c around) (start_locals a) n adds
-    (adds-count (frame_of env one c around) n)
+    let adds : Adds F (frame_of env one [] around) (start_locals a) = subst P (sym frame) (adds-head F a) in
+    let there : Adds F (frame_of env (record one { first = x; next = one.next + n }) [] around) (start_locals a + n) =
+    adds-both F (frame_of env one [] around) (frame_of env (record one { first = x; next = one.next + n }) [] around) (start_locals a) n adds
+    (adds-count (frame_of env one [] around) n)
+    in
+    let found : x ≡ least_from old.first (stmt_findings F (for p a b c s)) =
+    ap (λ (l : Around). least_from one.first (stmt_findings (frame_of env one [] l) s)) is_loop
+    ∙ ap (λ (g : Frame). least_from one.first (stmt_findings (in_loop g) s)) frame
+    ∙ ap (λ (y : Option Finding). least_from y (stmt_findings (in_loop (start_frame F a)) s)) first
     in
     e ∙ ap (λ (m : ℕ). record two { locals = drop (length two.locals - m) two.locals }) kept
     ∙ ap (λ (w : Walk). record w { locals = drop (length w.locals - length old.locals) w.locals }) part
-    ∙ left env old (record one { first = x; next = one.next + n }) b c around around (start_locals a + n) x there refl
+    ∙ left env old (record one { first = x; next = one.next + n }) [] [] around around (start_locals a + n) x there refl
+    ∙ ap (λ (y : Option Finding). record old { first = y; next = old.next + (start_locals a + n) }) found
 
 -- how many locals are counted behind the statements of a block
-pub counted : (env : Env) (old new : Walk) (b c : List ℕ) (inner : Around) (ss : Stmts) → frame_of env new c inner ≡ after_stmts (frame_of env old b inner) ss
-    → new.next ≡ old.next + stmts_locals ss
-counted env old new b c inner ss frame = ap (λ (f : Frame). f.next) frame ∙ (adds-stmts (frame_of env old b inner) ss).next
+pub counted : {T E : Type 0} (r : Result T E) (env : Env) (old new : Walk) (b c : List ℕ) (inner : Around) (ss : Stmts)
+    → OnOk r (frame_of env new c inner ≡ after_stmts (frame_of env old b inner) ss) → OnOk r (new.next ≡ old.next + stmts_locals ss)
+counted (Err x) env old new b c inner ss frame = tt
+counted (Ok x) env old new b c inner ss frame = ap (λ (f : Frame). f.next) frame ∙ (adds-stmts (frame_of env old b inner) ss).next
 
 param_added : (f : Frame) (d : ParamDecl) → (after_param f d).next ≡ f.next + 1
 param_added f (param_decl qs s (named d)) = refl

@@ -3,7 +3,9 @@
 --   frame_at env locals next block around    the names of the file and the locals before them, the number of the next local, the names that the block has
 --                                     declared so far, and what surrounds it
 --   frame_of env walk block around    the same at a place of a walk
-use Rattle.std.specs.Prelude.{ℕ, List, [], ◌++◌}
+--   declaration_of s                  the declaration that a statement is
+use Rattle.std.specs.Prelude.{ℕ, List, [], ◌++◌, Option, Some, None}
+use Rattle.pungi_tree.specs.Syntax.{Stmt, declare, Decl}
 use Rattle.pungi_types.specs.Names.{Env}
 use Rattle.pungi_types.specs.Stmts.{Frame}
 use Rattle.pungi_types.specs.declared.local.Local.{Local}
@@ -32,3 +34,7 @@ frame_at env locals next block around = record {
 
 abbrev pub frame_of : Env → Walk → List ℕ → Around → Frame
 frame_of env walk block around = frame_at env walk.locals walk.next block around
+
+abbrev pub declaration_of : Stmt → Option Decl
+declaration_of (declare p d) = Some d
+declaration_of _ = None

@@ -119,12 +119,14 @@ pub(crate) fn note_switch(
 ) -> Result<(), Memory>
     ensures { OnOk result (first.new ≡ least_from first.old (switch_findings (stmt_view body.now))) }
 {
-    if let StmtNode::Block(list, _) = &body.node {
-        let mut seen = SeenCases {
-            values: IndexSet::new(alloc),
-            has_default: false,
-        };
-        note_all_cases(&mut seen, first, list)?;
+    match &body.node {
+        StmtNode::Block(list, _) => {
+            let mut seen = SeenCases {
+                values: IndexSet::new(alloc),
+                has_default: false,
+            };
+            note_all_cases(&mut seen, first, list)
+        }
+        _ => Ok(()),
     }
-    Ok(())
 }

@@ -10,7 +10,7 @@ ghost use Rattle.pungi_tree.specs.ExprView.{params_view};
 ghost use Rattle.pungi_tree.specs.StmtView.{stmt_view, stmts_of};
 
 use crate::LocalNames;
-use crate::labels::{Labels, block_labels, note_labels};
+use crate::labels::{Labels, block_labels, note_repeated_labels};
 use crate::nodes::function_size;
 use crate::params::check_params;
 use crate::stmt::{check_list, in_block_with};
@@ -39,9 +39,7 @@ fn check_statements<N: Lookup>(
     ensures next { OnOk result (walk.new.next ≡ walk.old.next + stmts_locals (stmts_of (map stmt_view list.now.items))) }
 {
     let labels = block_labels(around.alloc, list)?;
-    let inner = in_block_with(&*around, &labels);
-    check_list(names, &inner, walk, block, list)?;
-    Ok(())
+    check_list(names, &in_block_with(&*around, &labels), walk, block, list)
 }
 
 /// Walks through the body of a function.
@@ -64,22 +62,21 @@ fn check_body<N: Lookup>(
     }
 }
 
-/// Walks through the parameters and the body of a function.
+/// Walks through the parameters and the body of a function, and answers the number of the next local.
 fn check_parts<N: Lookup>(
     names: &N,
     around: &Around<'_>,
     walk: &mut Walk,
     block: &mut IndexSet<u32>,
     f: &FunctionDef,
-) -> Result<(), Memory>
+) -> Result<usize, Memory>
     ensures found { OnOk result (walk.new.first ≡ least_from walk.old.first (parts_findings (frame_of (N.env names.now) walk.old block.old.keys around.now) (definition_view f.now))) }
-    ensures next { OnOk result (walk.new.next ≡ walk.old.next + params_count (params_view f.now.params) + body_locals (stmt_view f.now.body)) }
+    ensures next { IfOk result (λ next. next ≡ walk.old.next + params_count (params_view f.now.params) + body_locals (stmt_view f.now.body)) }
 {
-    let mut labels = IndexSet::new(around.alloc);
     check_params(names, around, walk, block, &f.params)?;
-    note_labels(&mut labels, &mut walk.first, &f.body)?;
+    note_repeated_labels(around.alloc, &mut walk.first, &f.body)?;
     check_body(names, around, walk, block, &f.body)?;
-    Ok(())
+    Ok(walk.next)
 }
 
 /// What holds at the type of a function's result, and its kind.
@@ -122,9 +119,9 @@ fn check_text<N: Lookup>(
         first: *first,
     };
     let mut block = IndexSet::new(alloc);
-    check_parts(names, &around, &mut walk, &mut block, f)?;
+    let locals = check_parts(names, &around, &mut walk, &mut block, f);
     *first = walk.first;
-    Ok(walk.next)
+    locals
 }
 
 /// The rule that is told of a function with the place where it holds, or `None` where it holds to all rules.

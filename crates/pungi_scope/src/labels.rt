@@ -73,9 +73,21 @@ pub(crate) fn block_labels(alloc: Global, list: &Vec<Stmt>) -> Result<IndexSet<u
     Ok(labels)
 }
 
+/// What holds at the labels of a function's body: one that stands in it twice.
+pub(crate) fn note_repeated_labels(
+    alloc: Global,
+    first: &mut Option<Finding>,
+    body: &Stmt,
+) -> Result<(), Memory>
+    ensures { OnOk result (first.new ≡ least_from first.old (label_findings [] (stmt_view body.now))) }
+{
+    let mut labels = IndexSet::new(alloc);
+    note_labels(&mut labels, first, body)
+}
+
 /// Keeps all labels of a statement. One that was kept before is a label twice.
 #[cycle(all_labels)]
-pub(crate) fn note_labels(
+fn note_labels(
     kept: &mut IndexSet<u32>,
     first: &mut Option<Finding>,
     s: &Stmt,

@@ -1,11 +1,12 @@
 //! Where rules hold in statements.
-ghost use Rattle.std.specs.Prelude.{◌≡◌, ◌++◌, ◌+◌, ◌-◌, [], length, drop, map, OnOk, true, false};
+ghost use Rattle.std.specs.Prelude.{◌≡◌, ◌++◌, ◌+◌, ◌-◌, [], length, drop, map, option_map, OnOk, true, false};
 ghost use Rattle.pungi_types.specs.Findings.{least_from, ◌and◌};
-ghost use Rattle.pungi_types.specs.Labels.{stmt_locals, stmts_locals};
-ghost use Rattle.pungi_types.specs.Stmts.{stmt_findings, stmts_findings, after_stmt, after_stmts, start_findings, start_frame, option_condition, option_findings, inside as inside_of, in_loop as in_loop_of, in_switch as in_switch_of, labelled as labelled_of, in_block};
-ghost use Rattle.pungi_scope.specs.Frames.{frame_of, labels_of};
+ghost use Rattle.pungi_types.specs.Labels.{start_locals, stmt_locals, stmts_locals};
+ghost use Rattle.pungi_types.specs.Stmts.{decl_findings, stmt_findings, stmts_findings, after_stmt, after_stmts, start_findings, start_frame, option_condition, option_findings, inside as inside_of, in_loop as in_loop_of, in_switch as in_switch_of, labelled as labelled_of, in_block};
+ghost use Rattle.pungi_scope.specs.Frames.{frame_of, labels_of, declaration_of};
+ghost use Rattle.pungi_tree.specs.Syntax as plain;
 ghost use Rattle.pungi_tree.specs.ExprView.{optional_view};
-ghost use Rattle.pungi_tree.specs.StmtView.{for_start_view, stmt_view, stmts_of};
+ghost use Rattle.pungi_tree.specs.StmtView.{decl_view, var_decl_view, for_start_view, stmt_view, stmts_of};
 
 use crate::cases::{constant, note_switch};
 use crate::decl::check_decl;
@@ -17,7 +18,7 @@ use crate::steps::{
 use crate::walk::{Around, Walk};
 use indexmap::IndexSet;
 use pungi_base::{Memory, Pos};
-use pungi_tree::{Expr, ForStart, Stmt, StmtNode};
+use pungi_tree::{Decl, Expr, ForStart, Stmt, StmtNode};
 use pungi_types::Lookup;
 
 /// What surrounds a part that is no part of a block.
@@ -88,17 +89,15 @@ fn check_start<N: Lookup>(
     names: &N,
     around: &Around<'_>,
     walk: &mut Walk,
-    block: &mut IndexSet<u32>,
     start: &ForStart,
 ) -> Result<(), Memory>
-    requires { block.old.keys ≡ [] }
-    ensures found { OnOk result (walk.new.first ≡ least_from walk.old.first (start_findings (frame_of (N.env names.now) walk.old block.old.keys around.now) (for_start_view start.now))) }
-    ensures frame { OnOk result (frame_of (N.env names.now) walk.new block.new.keys around.now ≡ start_frame (frame_of (N.env names.now) walk.old block.old.keys around.now) (for_start_view start.now)) }
+    ensures found { OnOk result (walk.new.first ≡ least_from walk.old.first (start_findings (frame_of (N.env names.now) walk.old [] around.now) (for_start_view start.now))) }
+    ensures frame { OnOk result (frame_of (N.env names.now) walk.new [] around.now ≡ record (start_frame (frame_of (N.env names.now) walk.old [] around.now) (for_start_view start.now)) { block = [] }) }
 {
     match start {
         ForStart::Decl(d) => {
-            check_decl(names, around, walk, block, d)?;
-            Ok(())
+            let mut block = IndexSet::new(around.alloc);
+            check_decl(names, around, walk, &mut block, d)
         }
         ForStart::Expr(e) => {
             visit_optional(names, walk, e);
@@ -112,20 +111,44 @@ fn check_head<N: Lookup>(
     names: &N,
     around: &Around<'_>,
     walk: &mut Walk,
-    block: &mut IndexSet<u32>,
     pos: Pos,
     start: &ForStart,
     test: &Option<Expr>,
     step: &Option<Expr>,
 ) -> Result<(), Memory>
-    requires { block.old.keys ≡ [] }
-    ensures found { OnOk result (walk.new.first ≡ least_from walk.old.first (start_findings (frame_of (N.env names.now) walk.old block.old.keys around.now) (for_start_view start.now) and (option_condition (start_frame (frame_of (N.env names.now) walk.old block.old.keys around.now) (for_start_view start.now)).env pos (optional_view test.now) and option_findings (start_frame (frame_of (N.env names.now) walk.old block.old.keys around.now) (for_start_view start.now)).env (optional_view step.now)))) }
-    ensures frame { OnOk result (frame_of (N.env names.now) walk.new block.new.keys around.now ≡ start_frame (frame_of (N.env names.now) walk.old block.old.keys around.now) (for_start_view start.now)) }
+    ensures found { OnOk result (walk.new.first ≡ least_from walk.old.first (start_findings (frame_of (N.env names.now) walk.old [] around.now) (for_start_view start.now) and (option_condition (start_frame (frame_of (N.env names.now) walk.old [] around.now) (for_start_view start.now)).env pos (optional_view test.now) and option_findings (start_frame (frame_of (N.env names.now) walk.old [] around.now) (for_start_view start.now)).env (optional_view step.now)))) }
+    ensures frame { OnOk result (frame_of (N.env names.now) walk.new [] around.now ≡ record (start_frame (frame_of (N.env names.now) walk.old [] around.now) (for_start_view start.now)) { block = [] }) }
 {
-    check_start(names, around, walk, block, start)?;
+    check_start(names, around, walk, start)?;
     visit_optional_condition(names, walk, pos, test);
     visit_optional(names, walk, step);
     Ok(())
+}
+
+/// The declaration that a statement is.
+fn declaration(s: &Stmt) -> Option<&Decl>
+    ensures { option_map (λ d. decl_view d.now) result ≡ declaration_of (stmt_view s.now) }
+{
+    match &s.node {
+        StmtNode::Declare(d) => Some(d),
+        _ => None,
+    }
+}
+
+/// Walks through a declaration that stands in no block. What it declares is in force in it alone.
+fn check_alone<N: Lookup>(
+    names: &N,
+    around: &Around<'_>,
+    walk: &mut Walk,
+    d: &Decl,
+) -> Result<(), Memory>
+    ensures { OnOk result (walk.new ≡ record walk.old { first = least_from walk.old.first (decl_findings (frame_of (N.env names.now) walk.old [] around.now) (decl_view d.now)); next = walk.old.next + length (map var_decl_view d.now.vars.items) }) }
+{
+    let kept = walk.locals.len();
+    let mut block = IndexSet::new(around.alloc);
+    let result = check_decl(names, around, walk, &mut block, d);
+    walk.leave(kept);
+    result
 }
 
 /// Walks through a statement of a block.
@@ -140,13 +163,35 @@ pub(crate) fn check_stmt<N: Lookup>(
     ensures found { OnOk result (walk.new.first ≡ least_from walk.old.first (stmt_findings (frame_of (N.env names.now) walk.old block.old.keys around.now) (stmt_view s.now))) }
     ensures frame { OnOk result (frame_of (N.env names.now) walk.new block.new.keys around.now ≡ after_stmt (frame_of (N.env names.now) walk.old block.old.keys around.now) (stmt_view s.now)) }
 {
+    match declaration(s) {
+        Some(d) => {
+            check_decl(names, around, walk, block, d)?;
+            Ok(())
+        }
+        None => {
+            check_part(names, around, walk, s)?;
+            Ok(())
+        }
+    }
+}
+
+/// Walks through a statement that is part of another. What it declares is in force in it alone.
+#[cycle(stmt)]
+fn check_part<N: Lookup>(
+    names: &N,
+    around: &Around<'_>,
+    walk: &mut Walk,
+    s: &Stmt,
+) -> Result<(), Memory>
+    ensures { OnOk result (walk.new ≡ record walk.old { first = least_from walk.old.first (stmt_findings (frame_of (N.env names.now) walk.old [] around.now) (stmt_view s.now)); next = walk.old.next + stmt_locals (stmt_view s.now) }) }
+{
     match &s.node {
         StmtNode::Block(list, _) => {
             check_block(names, around, walk, list)?;
             Ok(())
         }
         StmtNode::Declare(d) => {
-            check_decl(names, around, walk, block, d)?;
+            check_alone(names, around, walk, d)?;
             Ok(())
         }
         StmtNode::Do(e) => {
@@ -175,11 +220,7 @@ pub(crate) fn check_stmt<N: Lookup>(
             Ok(())
         }
         StmtNode::For(start, test, step, body) => {
-            let kept = walk.locals.len();
-            let mut head = IndexSet::new(around.alloc);
-            check_head(names, around, walk, &mut head, s.pos, start, test, step)?;
-            check_part(names, &in_loop(around), walk, body)?;
-            walk.leave(kept);
+            check_for(names, around, walk, s.pos, body, start, test, step)?;
             Ok(())
         }
         StmtNode::Switch(e, body) => {
@@ -224,21 +265,25 @@ pub(crate) fn check_stmt<N: Lookup>(
     }
 }
 
-/// Walks through a statement that is part of another. What it declares is in force in it alone.
+/// Walks through a `for`. What its head declares is in force in it alone.
 #[cycle(stmt)]
-fn check_part<N: Lookup>(
+fn check_for<N: Lookup>(
     names: &N,
     around: &Around<'_>,
     walk: &mut Walk,
-    s: &Stmt,
+    pos: Pos,
+    body: &Stmt,
+    start: &ForStart,
+    test: &Option<Expr>,
+    step: &Option<Expr>,
 ) -> Result<(), Memory>
-    ensures { OnOk result (walk.new ≡ record walk.old { first = least_from walk.old.first (stmt_findings (frame_of (N.env names.now) walk.old [] around.now) (stmt_view s.now)); next = walk.old.next + stmt_locals (stmt_view s.now) }) }
+    ensures { OnOk result (walk.new ≡ record walk.old { first = least_from walk.old.first (stmt_findings (frame_of (N.env names.now) walk.old [] around.now) (plain.for pos (for_start_view start.now) (optional_view test.now) (optional_view step.now) (stmt_view body.now))); next = walk.old.next + (start_locals (for_start_view start.now) + stmt_locals (stmt_view body.now)) }) }
 {
     let kept = walk.locals.len();
-    let mut block = IndexSet::new(around.alloc);
-    check_stmt(names, around, walk, &mut block, s)?;
+    check_head(names, around, walk, pos, start, test, step)?;
+    let result = check_part(names, &in_loop(around), walk, body);
     walk.leave(kept);
-    Ok(())
+    result
 }
 
 /// Walks through a block.
@@ -252,12 +297,24 @@ fn check_block<N: Lookup>(
     ensures { OnOk result (walk.new ≡ record walk.old { first = least_from walk.old.first (stmts_findings (in_block (frame_of (N.env names.now) walk.old [] around.now) (stmts_of (map stmt_view list.now.items))) (stmts_of (map stmt_view list.now.items))); next = walk.old.next + stmts_locals (stmts_of (map stmt_view list.now.items)) }) }
 {
     let labels = block_labels(around.alloc, list)?;
-    let inner = in_block_with(&*around, &labels);
+    check_inside(names, &in_block_with(&*around, &labels), walk, list)
+}
+
+/// Walks through the statements of a block. What they declare is in force in it alone.
+#[cycle(stmt)]
+fn check_inside<N: Lookup>(
+    names: &N,
+    around: &Around<'_>,
+    walk: &mut Walk,
+    list: &Vec<Stmt>,
+) -> Result<(), Memory>
+    ensures { OnOk result (walk.new ≡ record walk.old { first = least_from walk.old.first (stmts_findings (frame_of (N.env names.now) walk.old [] around.now) (stmts_of (map stmt_view list.now.items))); next = walk.old.next + stmts_locals (stmts_of (map stmt_view list.now.items)) }) }
+{
     let kept = walk.locals.len();
     let mut block = IndexSet::new(around.alloc);
-    check_list(names, &inner, walk, &mut block, list)?;
+    let result = check_list(names, around, walk, &mut block, list);
     walk.leave(kept);
-    Ok(())
+    result
 }
 
 /// Walks through statements of a block, one after another.
