@@ -1,11 +1,6 @@
-pub mod Calls
-pub mod MemShelf
-pub mod MemSink
 pub mod Names
 pub mod Shelf
 pub mod Sink
-pub mod SureShelf
-pub mod SureSink
 pub mod Token
 pub mod Witness
 pub mod Words

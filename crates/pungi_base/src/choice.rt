@@ -5,7 +5,7 @@ use std::fmt;
 
 /// What the outside answers at one point of a run: the outcome of an API call, or the content of a slot at its first
 /// touch.
-#[derive(Clone, Copy, Debug, PartialEq, Eq)]
+#[derive(Clone, Copy, PartialEq, Eq)]
 pub enum Choice {
     /// The pointer `NULL`.
     Null,

@@ -1,7 +1,7 @@
 use crate::{Pos, Seq, Witness};
 
 /// A return that isn't balanced, with the run that leads to it.
-#[derive(Debug, Drop)]
+#[derive(Drop)]
 pub struct Fault {
     /// The place of the return.
     pub pos: Pos,

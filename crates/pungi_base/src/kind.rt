@@ -1,7 +1,7 @@
 use crate::{Key, Name, Punct};
 
 /// What a token is (C11 6.4).
-#[derive(Clone, Copy, Debug, PartialEq, Eq)]
+#[derive(Clone, Copy, PartialEq, Eq)]
 pub enum Kind {
     /// A keyword.
     Key(Key),

@@ -1,7 +1,7 @@
 use crate::{Kind, Pos};
 
 /// A token and where it begins in the text as it stands.
-#[derive(Clone, Copy, Debug, PartialEq, Eq)]
+#[derive(Clone, Copy, PartialEq, Eq)]
 pub struct Token {
     pub kind: Kind,
     pub pos: Pos,

@@ -1,7 +1,7 @@
 use crate::{Fault, Pos, Rule, Why};
 
 /// What is said of a function.
-#[derive(Debug, Drop)]
+#[derive(Drop)]
 pub enum Verdict {
     /// No run that returns loses or doubles a reference.
     Clean,

@@ -1,7 +1,7 @@
 use crate::{Name, Pos, Seq};
 
 /// Why a function is neither clean nor faulty.
-#[derive(Debug, Drop)]
+#[derive(Drop)]
 pub enum Why {
     /// It has too many short traces.
     Traces,

@@ -7,7 +7,7 @@ use std::alloc::Global;
 use std::fmt::Write;
 
 /// A run, by its entry and its choices in the order of their use.
-#[derive(Debug, Drop)]
+#[derive(Drop)]
 pub struct Witness {
     pub input: Entry,
     pub choices: Seq<Choice>,

@@ -1,9 +1,9 @@
 ghost use Rattle.std.specs.Prelude.{◌≡◌, ◌≤◌, ◌<◌, ◌+◌, ℕ, [], List, length, take, IfOk, OnErr, OnOk, Some, is_err, OnErr};
 ghost use Rattle.pungi_base.specs.Shelf.{Rose};
 ghost use Rattle.pungi_base.specs.Sink.{WriteTakes};
-ghost use Rattle.pungi_base.specs.MemSink.{SinkState, write_fails, write_count, sink_failed, sink_wrote};
+ghost use Rattle.pungi_in_memory.specs.MemSink.{SinkState, write_fails, write_count, sink_failed, sink_wrote};
 
-use crate::{Failed, Memory, Sink};
+use pungi_base::{Failed, Memory, Sink};
 use std::alloc::Global;
 use std::marker::Model;
 
@@ -20,7 +20,7 @@ pub struct MemSink {
 
 impl Model for MemSink {
     ghost use Rattle.std.specs.Prelude.{◌≤◌, ◌<◌, vec_len, vec_capacity};
-    ghost use Rattle.pungi_base.specs.MemSink.{SinkState};
+    ghost use Rattle.pungi_in_memory.specs.MemSink.{SinkState};
 
     ghost Value = { SinkState };
 

@@ -5,7 +5,7 @@
 --   sink_failed s      after a write that failed
 --   sink_wrote s b     after a write that took these bytes
 use Rattle.std.specs.Prelude.{ℕ, ◌-◌, ◌==◌, min, Bool, ◌&&◌, ◌||◌, List, ◌++◌, length, nat_lt}
-use Rattle.pungi_base.specs.Calls.{next_call, is_failing}
+use Rattle.pungi_in_memory.specs.Calls.{next_call, is_failing}
 
 pub record SinkState : Type 0 where
   pub room : ℕ

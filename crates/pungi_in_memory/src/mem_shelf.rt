@@ -2,10 +2,10 @@ ghost use Rattle.std.specs.Prelude.{◌≡◌, ◌≤◌, ◌<◌, ◌+◌, ◌^
 ghost use Rattle.std.specs.Io.KnownBytes.{ReadConsumes};
 ghost use Rattle.std.specs.Option.{option_map_or};
 ghost use Rattle.pungi_base.specs.Shelf.{Rose, Opens};
-ghost use Rattle.pungi_base.specs.MemShelf.{ShelfState, text_named, pairs_of, left_at, open_fails, shelf_failed, shelf_gave, shelf_left};
-ghost use Rattle.pungi_base.specs.Calls.{is_failing};
+ghost use Rattle.pungi_in_memory.specs.MemShelf.{ShelfState, text_named, pairs_of, left_at, open_fails, shelf_failed, shelf_gave, shelf_left};
+ghost use Rattle.pungi_in_memory.specs.Calls.{is_failing};
 
-use crate::{Failed, OpenFault, Shelf};
+use pungi_base::{Failed, OpenFault, Shelf};
 use std::alloc::Global;
 use std::marker::Model;
 
@@ -23,7 +23,7 @@ pub struct MemShelf {
 
 impl Model for MemShelf {
     ghost use Rattle.std.specs.Prelude.{map};
-    ghost use Rattle.pungi_base.specs.MemShelf.{ShelfState, pairs_of, left_at};
+    ghost use Rattle.pungi_in_memory.specs.MemShelf.{ShelfState, pairs_of, left_at};
 
     ghost Value = { ShelfState };
 

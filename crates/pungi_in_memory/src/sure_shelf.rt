@@ -1,11 +1,11 @@
 ghost use Rattle.std.specs.Prelude.{◌≡◌, ◌≤◌, ◌∷◌, ◌++◌, [], List, ℕ, length, min, drop, Some, None, Ok, Err, OnOk, OnErr, IfOk, option_map, unwrap_or, true, false};
 ghost use Rattle.std.specs.Io.KnownBytes.{ReadConsumes};
 ghost use Rattle.pungi_base.specs.Shelf.{Rose, Opens};
-ghost use Rattle.pungi_base.specs.SureShelf.{SureState, sure_text};
-ghost use Rattle.pungi_base.specs.MemShelf.{text_named, pairs_of, left_at};
+ghost use Rattle.pungi_in_memory.specs.SureShelf.{SureState, sure_text};
+ghost use Rattle.pungi_in_memory.specs.MemShelf.{text_named, pairs_of, left_at};
 
 use crate::mem_shelf::{copy_front, place_of, rest_of};
-use crate::{Failed, OpenFault, Shelf};
+use pungi_base::{Failed, OpenFault, Shelf};
 use std::alloc::Global;
 use std::marker::Model;
 
@@ -20,8 +20,8 @@ pub struct SureShelf {
 
 impl Model for SureShelf {
     ghost use Rattle.std.specs.Prelude.{map};
-    ghost use Rattle.pungi_base.specs.SureShelf.{SureState};
-    ghost use Rattle.pungi_base.specs.MemShelf.{pairs_of, left_at};
+    ghost use Rattle.pungi_in_memory.specs.SureShelf.{SureState};
+    ghost use Rattle.pungi_in_memory.specs.MemShelf.{pairs_of, left_at};
 
     ghost Value = { SureState };
 

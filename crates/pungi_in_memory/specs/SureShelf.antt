@@ -2,7 +2,7 @@
 --   SureState               its texts, the names given, and what is left to read
 --   sure_text texts name    each name has a text: its own, or the empty one
 use Rattle.std.specs.Prelude.{ℕ, List, [], Option, Some, unwrap_or}
-use Rattle.pungi_base.specs.MemShelf.{text_named}
+use Rattle.pungi_in_memory.specs.MemShelf.{text_named}
 
 pub record SureState : Type 0 where
   pub texts : List (List ℕ × List ℕ)

@@ -1,9 +1,9 @@
 ghost use Rattle.std.specs.Prelude.{◌≡◌, ◌≤◌, ◌<◌, [], List, length, false, IfOk, OnErr, Ok};
 ghost use Rattle.pungi_base.specs.Shelf.{Rose};
 ghost use Rattle.pungi_base.specs.Sink.{WriteTakes};
-ghost use Rattle.pungi_base.specs.SureSink.{KeptState, kept_told, kept_wrote};
+ghost use Rattle.pungi_in_memory.specs.SureSink.{KeptState, kept_told, kept_wrote};
 
-use crate::{Failed, Memory, Sink};
+use pungi_base::{Failed, Memory, Sink};
 use std::alloc::Global;
 use std::marker::Model;
 
@@ -17,7 +17,7 @@ pub struct SureSink {
 
 impl Model for SureSink {
     ghost use Rattle.std.specs.Prelude.{◌≤◌, vec_len, vec_capacity};
-    ghost use Rattle.pungi_base.specs.SureSink.{KeptState};
+    ghost use Rattle.pungi_in_memory.specs.SureSink.{KeptState};
 
     ghost Value = { KeptState };
 

@@ -4,7 +4,7 @@ use Rattle.std.specs.Prelude.{slice_get, string_bytes}
 use Rattle.std.specs.Str.{bytes_eq}
 use Rattle.std.specs.declared.alloc.Global.{Global}
 use Rattle.std.proofs.lemmas.Option.{slice_get-get_or}
-use Rattle.pungi_base.specs.MemShelf.{text_named, pairs_of, left_at}
+use Rattle.pungi_in_memory.specs.MemShelf.{text_named, pairs_of, left_at}
 
 abbrev pub Named : Type 0
 Named = String Global × Vec ℕ Global

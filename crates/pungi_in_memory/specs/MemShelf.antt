@@ -11,7 +11,7 @@ use Rattle.std.specs.Prelude.{ℕ, Bool, ◌||◌, List, [], ◌∷◌, ◌++◌
 use Rattle.std.specs.Option.{option_map_or}
 use Rattle.std.specs.declared.alloc.Global.{Global}
 use Rattle.std.specs.Str.{bytes_eq}
-use Rattle.pungi_base.specs.Calls.{next_call, is_failing}
+use Rattle.pungi_in_memory.specs.Calls.{next_call, is_failing}
 
 abbrev pub text_named : List (List ℕ × List ℕ) → List ℕ → Option (List ℕ)
 text_named [] name = None

@@ -1,0 +1,5 @@
+pub mod Calls
+pub mod MemShelf
+pub mod MemSink
+pub mod SureShelf
+pub mod SureSink
