@@ -1,13 +1,22 @@
-ghost use Rattle.std.specs.Prelude.{◌≡◌, ◌<◌, [], get_or, IfOk};
+ghost use Rattle.std.specs.Prelude.{◌≡◌, ◌<◌, ◌≤◌, [], get_or, IfOk};
 ghost use Rattle.pungi_base.specs.Words.{builtin_words};
 
-use crate::words::WORDS;
+use crate::words::{KEYWORDS, MACROS, PLAIN_ROWS, STATICS, TYPE_WORDS, WORDS};
 use crate::{Memory, Names};
 use std::alloc::Global;
 
-/// The word of a number.
-fn word_of(number: u32) -> &'static str
-    requires { number < WORDS }
+/// The first number of a static.
+const FIRST_STATIC: u32 = KEYWORDS + MACROS + TYPE_WORDS;
+
+/// The first number of an API call.
+const FIRST_ROW: u32 = FIRST_STATIC + STATICS;
+
+/// The first number of an API call with a row of its own.
+const FIRST_SPECIAL: u32 = FIRST_ROW + PLAIN_ROWS;
+
+/// A keyword, by its number.
+fn keyword(number: u32) -> &'static str
+    requires { number < KEYWORDS }
     ensures { result.now ≡ get_or builtin_words number [] }
 {
     match number {
@@ -45,6 +54,17 @@ fn word_of(number: u32) -> &'static str
         31 => "goto",
         32 => "sizeof",
         33 => "NULL",
+        _ => unreachable!(),
+    }
+}
+
+/// A predefined macro or the name of a type, by its number.
+fn macro_or_type(number: u32) -> &'static str
+    requires from { KEYWORDS ≤ number }
+    requires below { number < FIRST_STATIC }
+    ensures { result.now ≡ get_or builtin_words number [] }
+{
+    match number {
         34 => "Py_RETURN_NONE",
         35 => "Py_RETURN_TRUE",
         36 => "Py_RETURN_FALSE",
@@ -90,6 +110,17 @@ fn word_of(number: u32) -> &'static str
         76 => "uint64_t",
         77 => "bool",
         78 => "FILE",
+        _ => unreachable!(),
+    }
+}
+
+/// A static, by its number.
+fn static_object(number: u32) -> &'static str
+    requires from { FIRST_STATIC ≤ number }
+    requires below { number < FIRST_ROW }
+    ensures { result.now ≡ get_or builtin_words number [] }
+{
+    match number {
         79 => "Py_None",
         80 => "Py_True",
         81 => "Py_False",
@@ -114,6 +145,17 @@ fn word_of(number: u32) -> &'static str
         100 => "PyUnicode_Type",
         101 => "PyLong_Type",
         102 => "PyBytes_Type",
+        _ => unreachable!(),
+    }
+}
+
+/// An API call with a plain row, by its number.
+fn plain_row(number: u32) -> &'static str
+    requires from { FIRST_ROW ≤ number }
+    requires below { number < FIRST_SPECIAL }
+    ensures { result.now ≡ get_or builtin_words number [] }
+{
+    match number {
         103 => "PyLong_FromLong",
         104 => "PyUnicode_FromString",
         105 => "PyBytes_FromString",
@@ -178,6 +220,17 @@ fn word_of(number: u32) -> &'static str
         164 => "PyErr_SetNone",
         165 => "PyErr_Clear",
         166 => "PyErr_NoMemory",
+        _ => unreachable!(),
+    }
+}
+
+/// An API call with a row of its own or a further word, by its number.
+fn other_word(number: u32) -> &'static str
+    requires from { FIRST_SPECIAL ≤ number }
+    requires below { number < WORDS }
+    ensures { result.now ≡ get_or builtin_words number [] }
+{
+    match number {
         167 => "Py_INCREF",
         168 => "Py_DECREF",
         169 => "Py_XINCREF",
@@ -199,6 +252,24 @@ fn word_of(number: u32) -> &'static str
         185 => "include",
         186 => "define",
         _ => unreachable!(),
+    }
+}
+
+/// The word of a number.
+fn word_of(number: u32) -> &'static str
+    requires { number < WORDS }
+    ensures { result.now ≡ get_or builtin_words number [] }
+{
+    if number < KEYWORDS {
+        keyword(number)
+    } else if number < FIRST_STATIC {
+        macro_or_type(number)
+    } else if number < FIRST_ROW {
+        static_object(number)
+    } else if number < FIRST_SPECIAL {
+        plain_row(number)
+    } else {
+        other_word(number)
     }
 }
 

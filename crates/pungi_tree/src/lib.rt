@@ -1,4 +1,6 @@
 //! Syntax trees of a file, and the grammar of C that they spell (`specs`).
+//!
+//! A derived `Drop` is proved again in each crate that drops a tree, so each type writes its own, which is proved here.
 #![tactic(auto)]
 
 mod decl;
