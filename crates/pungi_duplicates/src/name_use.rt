@@ -1,7 +1,7 @@
 use pungi_base::{Name, Pos};
 
 /// What a name outside functions stands for.
-#[derive(Clone, Copy, Debug)]
+#[derive(Clone, Copy)]
 pub enum Use {
     Function,
     Variable,
@@ -9,7 +9,7 @@ pub enum Use {
 }
 
 /// A name outside functions, where it stands, and what for (C11 6.9).
-#[derive(Clone, Copy, Debug)]
+#[derive(Clone, Copy)]
 pub struct NameUse {
     pub name: Name,
     pub pos: Pos,

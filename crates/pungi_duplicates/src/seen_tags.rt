@@ -43,11 +43,10 @@ fn see(seen: &mut KeptTags, of: Key, word: u32) -> Result<(), Memory>
     ensures { OnOk result (kept_tags seen.new ≡ with_tag (kept_tags seen.old) (is_struct_of of) word) }
 {
     if is_struct(of) {
-        keep(&mut seen.structs, word)?;
+        keep(&mut seen.structs, word)
     } else {
-        keep(&mut seen.unions, word)?;
+        keep(&mut seen.unions, word)
     }
-    Ok(())
 }
 
 fn note_tag(
@@ -63,8 +62,7 @@ fn note_tag(
         None => Ok(()),
         Some((name, pos)) => {
             note(first, is_seen(seen, of, name.0), pos, 1);
-            see(seen, of, name.0)?;
-            Ok(())
+            see(seen, of, name.0)
         }
     }
 }
@@ -94,6 +92,7 @@ pub(crate) fn note_tags(
         structs: IndexSet::new(alloc),
         unions: IndexSet::new(alloc),
     };
-    note_all(&mut seen, first, list)?;
-    Ok(())
+    let noted = note_all(&mut seen, first, list);
+    drop(seen);
+    noted
 }

@@ -35,11 +35,10 @@ fn see(seen: &mut KeptUses, word: u32, as_what: Use) -> Result<(), Memory>
     ensures { OnOk result (words_of seen.new ≡ with_use (words_of seen.old) word (use_view as_what)) }
 {
     match as_what {
-        Use::Function => keep(&mut seen.functions, word)?,
-        Use::Variable => keep(&mut seen.variables, word)?,
-        Use::Table => keep(&mut seen.tables, word)?,
+        Use::Function => keep(&mut seen.functions, word),
+        Use::Variable => keep(&mut seen.variables, word),
+        Use::Table => keep(&mut seen.tables, word),
     }
-    Ok(())
 }
 
 fn note_use(seen: &mut KeptUses, first: &mut Option<Finding>, name: &NameUse) -> Result<(), Memory>
@@ -52,8 +51,7 @@ fn note_use(seen: &mut KeptUses, first: &mut Option<Finding>, name: &NameUse) ->
         name.pos,
         1,
     );
-    see(seen, name.name.0, name.as_what)?;
-    Ok(())
+    see(seen, name.name.0, name.as_what)
 }
 
 fn note_all(
@@ -82,6 +80,7 @@ pub(crate) fn note_uses(
         variables: IndexSet::new(alloc),
         tables: IndexSet::new(alloc),
     };
-    note_all(&mut seen, first, names)?;
-    Ok(())
+    let noted = note_all(&mut seen, first, names);
+    drop(seen);
+    noted
 }

@@ -1,12 +1,12 @@
 // Functions by their names.
-ghost use Rattle.std.specs.Prelude.{◌≡◌, ℕ, ◌==◌, ◌||◌, nat_eq, map, option_map, OnOk, IfOk};
+ghost use Rattle.std.specs.Prelude.{◌≡◌, ℕ, ◌==◌, ◌||◌, nat_eq, map, option_map, OnOk};
 ghost use Rattle.indexmap.specs.IndexMap.{get};
 ghost use Rattle.indexmap.specs.IndexSet.{contains};
 ghost use Rattle.pungi_declared.specs.DeclaredView.{function_view, place_view};
 ghost use Rattle.pungi_names.specs.CallsView.{signature_view, signature_of};
 ghost use Rattle.pungi_names.specs.First.{or_first};
 ghost use Rattle.pungi_tree.specs.UnitView.{unit_view};
-ghost use Rattle.pungi_types.specs.Files.{definitions as definitions_of, definition_in, is_place_in};
+ghost use Rattle.pungi_types.specs.Files.{definition_in, is_place_in};
 
 use crate::first::keep_first;
 use crate::kinds::Kinds;
@@ -17,7 +17,8 @@ use pungi_declared::Place;
 use pungi_tree::FunctionDef;
 use std::alloc::Global;
 
-fn note_definitions(
+/// Adds what a call of each function takes and gives.
+pub(crate) fn note_definitions(
     alloc: Global,
     kinds: &Kinds,
     signatures: &mut IndexMap<u32, Signature>,
@@ -32,20 +33,6 @@ fn note_definitions(
     Ok(())
 }
 
-/// What a call of each function of the file takes and gives.
-pub(crate) fn signatures(
-    alloc: Global,
-    kinds: &Kinds,
-    functions: &Vec<&FunctionDef>,
-) -> Result<IndexMap<u32, Signature>, Memory>
-    requires { map function_view functions.now.items ≡ definitions_of (unit_view kinds.now.cores.unit.now) }
-    ensures { IfOk result (λ all. (w : ℕ) → option_map signature_view (get nat_eq all w) ≡ option_map (signature_of (unit_view kinds.now.cores.unit.now)) (definition_in (definitions_of (unit_view kinds.now.cores.unit.now)) w)) }
-{
-    let mut all = IndexMap::new(alloc);
-    note_definitions(alloc, kinds, &mut all, functions)?;
-    Ok(all)
-}
-
 fn note_place(words: &mut IndexSet<u32>, place: &Place) -> Result<(), Memory>
     ensures { OnOk result ((w : ℕ) → contains nat_eq words.new w ≡ (contains nat_eq words.old w || place.now.name.0 == w)) }
 {
@@ -53,20 +40,12 @@ fn note_place(words: &mut IndexSet<u32>, place: &Place) -> Result<(), Memory>
     Ok(())
 }
 
-fn note_places(words: &mut IndexSet<u32>, places: &Vec<Place>) -> Result<(), Memory>
+/// Adds the names of prototypes.
+pub(crate) fn note_places(words: &mut IndexSet<u32>, places: &Vec<Place>) -> Result<(), Memory>
     ensures { OnOk result ((w : ℕ) → contains nat_eq words.new w ≡ (contains nat_eq words.old w || is_place_in (map place_view places.now.items) w)) }
 {
     for place in places {
         note_place(words, place)?;
     }
     Ok(())
-}
-
-/// The names of prototypes.
-pub(crate) fn prototype_words(alloc: Global, places: &Vec<Place>) -> Result<IndexSet<u32>, Memory>
-    ensures { IfOk result (λ words. (w : ℕ) → contains nat_eq words w ≡ is_place_in (map place_view places.now.items) w) }
-{
-    let mut words = IndexSet::new(alloc);
-    note_places(&mut words, places)?;
-    Ok(words)
 }

@@ -18,11 +18,11 @@ ghost use Rattle.pungi_types.specs.TypesView.{typedef_view};
 
 use crate::UnitNames;
 use crate::fields::note_structs;
-use crate::functions::{prototype_words, signatures};
+use crate::functions::{note_definitions, note_places};
 use crate::globals::{note_globals, note_modules, note_type_objects};
 use crate::heads::object_structs;
 use crate::kinds::Kinds;
-use crate::rows::{RowCall, row_calls};
+use crate::rows::{RowCall, note_row_calls};
 use crate::signature::Signature;
 use crate::typedefs::cores;
 use crate::values::Values;
@@ -154,23 +154,28 @@ fn unit_values<'u>(alloc: Global, unit: &'u Unit) -> Result<Values<'u>, Memory>
     typed_values(alloc, unit, &typedefs, &tags)
 }
 
-fn unit_signatures(
+fn note_signatures(
     alloc: Global,
     unit: &Unit,
     kinds: &Kinds,
-) -> Result<IndexMap<u32, Signature>, Memory>
-    requires { unit_view kinds.now.cores.unit.now ≡ unit_view unit.now }
-    ensures { IfOk result (λ all. (w : ℕ) → option_map signature_view (get nat_eq all w) ≡ option_map (signature_of (unit_view kinds.now.cores.unit.now)) (definition_in (definitions_of (unit_view kinds.now.cores.unit.now)) w)) }
+    signatures: &mut IndexMap<u32, Signature>,
+) -> Result<(), Memory>
+    requires unit { unit_view kinds.now.cores.unit.now ≡ unit_view unit.now }
+    requires empty { IsEmpty signatures.old }
+    ensures { OnOk result ((w : ℕ) → option_map signature_view (get nat_eq signatures.new w) ≡ option_map (signature_of (unit_view kinds.now.cores.unit.now)) (definition_in (definitions_of (unit_view kinds.now.cores.unit.now)) w)) }
 {
     let functions = definitions(alloc, unit)?;
-    signatures(alloc, kinds, &functions)
+    note_definitions(alloc, kinds, signatures, &functions)?;
+    Ok(())
 }
 
-fn unit_prototypes(alloc: Global, unit: &Unit) -> Result<IndexSet<u32>, Memory>
-    ensures { IfOk result (λ words. (w : ℕ) → contains nat_eq words w ≡ is_place_in (prototypes_of (unit_view unit.now)) w) }
+fn note_prototypes(alloc: Global, unit: &Unit, words: &mut IndexSet<u32>) -> Result<(), Memory>
+    requires empty { IsEmptySet words.old }
+    ensures { OnOk result ((w : ℕ) → contains nat_eq words.new w ≡ is_place_in (prototypes_of (unit_view unit.now)) w) }
 {
     let places = prototypes(alloc, unit)?;
-    prototype_words(alloc, &places)
+    note_places(words, &places)?;
+    Ok(())
 }
 
 /// What is gathered of functions and of the rows of the API.
@@ -181,25 +186,25 @@ struct CallParts<'u> {
     calls: IndexMap<u32, RowCall<'u>>,
 }
 
-fn call_parts<'u>(
+fn fill_calls<'u>(
     alloc: Global,
     unit: &Unit,
     rows: &'u Table,
     kinds: &Kinds,
-) -> Result<CallParts<'u>, Memory>
-    requires { unit_view kinds.now.cores.unit.now ≡ unit_view unit.now }
-    ensures prototypes { IfOk result (λ parts. (w : ℕ) → contains nat_eq parts.prototypes w ≡ is_place_in (prototypes_of (unit_view kinds.now.cores.unit.now)) w) }
-    ensures signatures { IfOk result (λ parts. (w : ℕ) → option_map signature_view (get nat_eq parts.signatures w) ≡ option_map (signature_of (unit_view kinds.now.cores.unit.now)) (definition_in (definitions_of (unit_view kinds.now.cores.unit.now)) w)) }
-    ensures calls { IfOk result (λ parts. (w : ℕ) → option_map call_view (get nat_eq parts.calls w) ≡ option_map row_seen (row_in rows.now w)) }
+    parts: &mut CallParts<'u>,
+) -> Result<(), Memory>
+    requires unit { unit_view kinds.now.cores.unit.now ≡ unit_view unit.now }
+    requires no_prototypes { IsEmptySet parts.old.prototypes }
+    requires no_signatures { IsEmpty parts.old.signatures }
+    requires no_calls { IsEmpty parts.old.calls }
+    ensures prototypes { OnOk result ((w : ℕ) → contains nat_eq parts.new.prototypes w ≡ is_place_in (prototypes_of (unit_view kinds.now.cores.unit.now)) w) }
+    ensures signatures { OnOk result ((w : ℕ) → option_map signature_view (get nat_eq parts.new.signatures w) ≡ option_map (signature_of (unit_view kinds.now.cores.unit.now)) (definition_in (definitions_of (unit_view kinds.now.cores.unit.now)) w)) }
+    ensures calls { OnOk result ((w : ℕ) → option_map call_view (get nat_eq parts.new.calls w) ≡ option_map row_seen (row_in rows.now w)) }
 {
-    let prototypes = unit_prototypes(alloc, unit)?;
-    let signatures = unit_signatures(alloc, unit, kinds)?;
-    let calls = row_calls(alloc, rows)?;
-    Ok(CallParts {
-        prototypes,
-        signatures,
-        calls,
-    })
+    note_prototypes(alloc, unit, &mut parts.prototypes)?;
+    note_signatures(alloc, unit, kinds, &mut parts.signatures)?;
+    note_row_calls(alloc, rows, &mut parts.calls)?;
+    Ok(())
 }
 
 /// Gathers the names of a file.
@@ -211,8 +216,13 @@ pub fn unit_names<'u>(
     ensures { IfOk result (λ names. (file_of names ≡ unit_view unit.now) × (rows_of names ≡ rows.now)) }
 {
     let values = unit_values(alloc, unit)?;
-    match call_parts(alloc, unit, rows, &values.kinds) {
-        Ok(parts) => Ok(UnitNames {
+    let mut parts = CallParts {
+        prototypes: IndexSet::new(alloc),
+        signatures: IndexMap::new(alloc),
+        calls: IndexMap::new(alloc),
+    };
+    match fill_calls(alloc, unit, rows, &values.kinds, &mut parts) {
+        Ok(()) => Ok(UnitNames {
             values,
             rows,
             prototypes: parts.prototypes,
@@ -221,6 +231,7 @@ pub fn unit_names<'u>(
         }),
         Err(memory) => {
             drop(values);
+            drop(parts);
             Err(memory)
         }
     }

@@ -1,6 +1,6 @@
 // What calls of the API take and give.
 ghost use Rattle.std.specs.Prelude.{◌≡◌, ◌++◌, ℕ, ◌==◌, ◌∷◌, [], nat_eq, map, option_map, slice_get, Some, None, OnOk, IfOk, if◌then◌else◌};
-ghost use Rattle.indexmap.specs.IndexMap.{get};
+ghost use Rattle.indexmap.specs.IndexMap.{get, IsEmpty};
 ghost use Rattle.std.specs.Option.{option_to_list};
 ghost use Rattle.pungi_api.specs.Rows.{row_in};
 ghost use Rattle.pungi_names.specs.First.{or_first};
@@ -106,16 +106,17 @@ fn note_rows<'u>(
     Ok(())
 }
 
-/// The rows by their names.
-pub(crate) fn row_calls<'u>(
+/// Adds the rows to none, by their names.
+pub(crate) fn note_row_calls<'u>(
     alloc: Global,
     rows: &'u Table,
-) -> Result<IndexMap<u32, RowCall<'u>>, Memory>
-    ensures { IfOk result (λ calls. (w : ℕ) → option_map call_view (get nat_eq calls w) ≡ option_map row_seen (row_in rows.now w)) }
+    calls: &mut IndexMap<u32, RowCall<'u>>,
+) -> Result<(), Memory>
+    requires { IsEmpty calls.old }
+    ensures { OnOk result ((w : ℕ) → option_map call_view (get nat_eq calls.new w) ≡ option_map row_seen (row_in rows.now w)) }
 {
     let mut entries = Vec::new(alloc);
     put_rows(&mut entries, rows)?;
-    let mut calls = IndexMap::new(alloc);
-    note_rows(alloc, &mut calls, &entries)?;
-    Ok(calls)
+    note_rows(alloc, calls, &entries)?;
+    Ok(())
 }
