@@ -1,7 +1,9 @@
 -- The outcomes of the executor as the ends of the meaning.
 --   end_of o      what an outcome stands for
 --   end_at e m    how a run ends that stands so and ends for this reason
+--   end_after o m   how a run ends for this reason, if there is one; else it is out of fuel
 --   IsCounted o   the world that a run returns can be counted
+use Rattle.std.specs.Prelude.{Option, Some, None}
 use Rattle.pungi_world.specs.Escapes.{IsCountable}
 use Rattle.pungi_meaning.specs.declared.machine.Machine.{Machine}
 use Rattle.pungi_meaning.specs.declared.machine.Ending.{Ending}
@@ -20,6 +22,10 @@ abbrev pub end_at : Ending → Machine → End
 end_at (endings.Leave p v) m = Returned m.world v p m.used.items
 end_at (endings.Stop p) m = Stopped p
 end_at endings.Want m = NeedsChoice
+
+abbrev pub end_after : Option Ending → Machine → End
+end_after (Some e) m = end_at e m
+end_after None m = OutOfFuel
 
 abbrev pub IsCounted : Outcome → Type 0
 IsCounted (outcomes.Returned w v p used) = IsCountable w

@@ -1,12 +1,13 @@
 // Arithmetic, comparisons and truth.
-ghost use Rattle.std.specs.Prelude.{◌≡◌, [], not, reverse, IfOk, OnOk, None};
+ghost use Rattle.std.specs.Prelude.{◌≡◌, [], not, reverse, IfOk};
 ghost use Rattle.pungi_resolved.specs.ValueView.{value_view, place_view};
 ghost use Rattle.pungi_meaning.specs.Exprs.{keep as kept, minus as minus_step, step_one as one_step, compute as compute_step, compare as compare_step, fit as fit_step, right as right_step, is_wanted as is_wanted_side};
 ghost use Rattle.pungi_meaning.specs.Machine.{todos, state_of, Tells};
 ghost use Rattle.pungi_meaning.specs.Values.{arithmetic as arithmetic_result, number_of as value_number, truth as truth_value, is_true as is_true_value};
-ghost use Rattle.pungi_meaning.specs.Work.{top, below, for_two};
+ghost use Rattle.pungi_meaning.specs.Work.{top, below, for_two, left as goes_on};
 
 use crate::cmp::number_of;
+use crate::expr::one;
 use crate::machine::{Ending, Machine};
 use crate::stack::take;
 use crate::task::Task;
@@ -93,33 +94,33 @@ pub fn fit(m: &mut Machine, pos: Pos, kind: ValueKind) -> Result<Option<Ending>,
 }
 
 /// A comparison of the two newest values.
-pub fn compare(m: &mut Machine, pos: Pos, cmp: Cmp) -> Result<(), Memory>
-    ensures { OnOk result (Tells (compare_step pos cmp (top (below (reverse m.old.values.items))) (top (reverse m.old.values.items)) (todos m.old.tasks.items) (state_of m.old)) None m.new) }
+pub fn compare(m: &mut Machine, pos: Pos, cmp: Cmp) -> Result<Option<Ending>, Memory>
+    ensures { IfOk result (λ halt. Tells (compare_step pos cmp (top (below (reverse m.old.values.items))) (top (reverse m.old.values.items)) (todos m.old.tasks.items) (state_of m.old)) halt m.new) }
 {
     let right = take(&mut m.values);
     let left = take(&mut m.values);
     m.values.push(truth(cmp.holds(left, right)))?;
-    Ok(())
+    Ok(None)
 }
 
 /// The newest value is false, in place of the two newest.
-pub fn negate(m: &mut Machine) -> Result<(), Memory>
-    ensures { OnOk result (Tells (for_two [] (truth_value (not (is_true_value (top (reverse m.old.values.items))))) (todos m.old.tasks.items) (state_of m.old)) None m.new) }
+pub fn negate(m: &mut Machine) -> Result<Option<Ending>, Memory>
+    ensures { IfOk result (λ halt. Tells (for_two [] (truth_value (not (is_true_value (top (reverse m.old.values.items))))) (todos m.old.tasks.items) (state_of m.old)) halt m.new) }
 {
     let value = take(&mut m.values);
     take(&mut m.values);
     m.values.push(truth(!is_true(value)))?;
-    Ok(())
+    Ok(None)
 }
 
 /// The newest value is true, in place of the two newest.
-pub fn to_truth(m: &mut Machine) -> Result<(), Memory>
-    ensures { OnOk result (Tells (for_two [] (truth_value (is_true_value (top (reverse m.old.values.items)))) (todos m.old.tasks.items) (state_of m.old)) None m.new) }
+pub fn to_truth(m: &mut Machine) -> Result<Option<Ending>, Memory>
+    ensures { IfOk result (λ halt. Tells (for_two [] (truth_value (is_true_value (top (reverse m.old.values.items)))) (todos m.old.tasks.items) (state_of m.old)) halt m.new) }
 {
     let value = take(&mut m.values);
     take(&mut m.values);
     m.values.push(truth(is_true(value)))?;
-    Ok(())
+    Ok(None)
 }
 
 fn is_wanted(on: bool, left: bool) -> bool
@@ -129,33 +130,33 @@ fn is_wanted(on: bool, left: bool) -> bool
 }
 
 /// The right side of `&&` or `||`, where it is wanted.
-pub fn right<'a>(m: &mut Machine<'a>, on: bool, part: &'a Node) -> Result<(), Memory>
-    ensures { OnOk result (Tells (right_step on (top (reverse m.old.values.items)) (value_view part.now) (todos m.old.tasks.items) (state_of m.old)) None m.new) }
+pub fn right<'a>(m: &mut Machine<'a>, on: bool, part: &'a Node) -> Result<Option<Ending>, Memory>
+    ensures { IfOk result (λ halt. Tells (right_step on (top (reverse m.old.values.items)) (value_view part.now) (todos m.old.tasks.items) (state_of m.old)) halt m.new) }
 {
     if is_wanted(on, is_true(take(&mut m.values))) {
-        m.tasks.push(Task::Truth)?;
-        m.tasks.push(Task::Eval(part))?;
+        one(m, Task::Truth, part)
+    } else {
+        Ok(None)
     }
-    Ok(())
 }
 
 /// The old content goes to where the value of `++` or `--` behind its operand waits.
-pub fn keep(values: &mut Vec<Value>, place: &Place) -> Result<(), Memory>
-    ensures { OnOk result (reverse values.new.items ≡ kept (place_view place.now) (reverse values.old.items)) }
+pub fn keep(m: &mut Machine, place: &Place) -> Result<Option<Ending>, Memory>
+    ensures { IfOk result (λ halt. Tells (goes_on (todos m.old.tasks.items) (record (state_of m.old) { values = kept (place_view place.now) (reverse m.old.values.items) })) halt m.new) }
 {
-    let old = take(values);
+    let old = take(&mut m.values);
     match place {
         Place::Field(_, _, _, _) => {
-            let base = take(values);
-            take(values);
-            values.push(old)?;
-            values.push(base)?;
+            let base = take(&mut m.values);
+            take(&mut m.values);
+            m.values.push(old)?;
+            m.values.push(base)?;
         }
         _ => {
-            take(values);
-            values.push(old)?;
+            take(&mut m.values);
+            m.values.push(old)?;
         }
     }
-    values.push(old)?;
-    Ok(())
+    m.values.push(old)?;
+    Ok(None)
 }

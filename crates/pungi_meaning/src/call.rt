@@ -92,27 +92,11 @@ fn go_on<'a>(
     args: &'a [Node],
     i: usize,
     arg: &'a Node,
-) -> Result<(), Memory>
-    requires { i < length args.now }
-    ensures { OnOk result (Tells (next_arg_step [] pos shape.now.row (map value_view args.now) i (Some (value_view arg.now)) (todos m.old.tasks.items) (state_of m.old)) None m.new) }
-{
-    one(m, Task::Args(pos, shape, args, i + 1), arg)?;
-    Ok(())
-}
-
-/// The call, once its arguments are known.
-fn call_with(
-    m: &mut Machine,
-    alloc: Global,
-    choices: &[Choice],
-    pos: Pos,
-    shape: &Shape,
-    args: &[Node],
-    i: usize,
 ) -> Result<Option<Ending>, Memory>
-    ensures { IfOk result (λ halt. Tells (next_arg_step choices.now pos shape.now.row (map value_view args.now) i None (todos m.old.tasks.items) (state_of m.old)) halt m.new) }
+    requires { i < length args.now }
+    ensures { IfOk result (λ halt. Tells (next_arg_step [] pos shape.now.row (map value_view args.now) i (Some (value_view arg.now)) (todos m.old.tasks.items) (state_of m.old)) halt m.new) }
 {
-    Ok(call(m, alloc, choices, pos, shape, args.len())?)
+    one(m, Task::Args(pos, shape, args, i + 1), arg)
 }
 
 /// The next argument of a call, or the call.
@@ -129,10 +113,7 @@ pub fn next_arg<'a>(
     ensures { IfOk result (λ halt. Tells (next_arg_step choices.now pos shape.now.row (map value_view args.now) i (slice_get (map value_view args.now) i) (todos m.old.tasks.items) (state_of m.old)) halt m.new) }
 {
     match arg_at(args, i) {
-        Some(arg) => {
-            go_on(m, pos, shape, args, i, arg)?;
-            Ok(None)
-        }
-        None => Ok(call_with(m, alloc, choices, pos, shape, args, i)?),
+        Some(arg) => go_on(m, pos, shape, args, i, arg),
+        None => call(m, alloc, choices, pos, shape, args.len()),
     }
 }

@@ -4,7 +4,7 @@ ghost use Rattle.pungi_meaning.specs.Values.{cmp_of as named_cmp, is_equal as is
 use pungi_base::{Punct, Value};
 
 /// A comparison (C11 6.5.8, 6.5.9).
-#[derive(Clone, Copy, Debug, PartialEq, Eq)]
+#[derive(Clone, Copy)]
 pub enum Cmp {
     Equal,
     NotEqual,

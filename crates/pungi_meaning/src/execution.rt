@@ -1,14 +1,16 @@
 // The run of a function.
-ghost use Rattle.std.specs.Prelude.{◌≡◌, ◌+◌, ◌++◌, IfOk, OnOk, map, replicate};
+ghost use Rattle.std.specs.Prelude.{◌≡◌, ◌∷◌, ◌+◌, ◌++◌, [], IfOk, OnOk, map, replicate};
 ghost use Rattle.pungi_resolved.specs.ActionView.{action_view, function_view};
 ghost use Rattle.pungi_types.specs.Operators.{is_void as is_void_kind};
 ghost use Rattle.pungi_world.specs.declared.content.Content.TheVariants.{Unset as UnsetContent, Holds as HoldsContent};
 ghost use Rattle.pungi_meaning.specs.Machine.{todos, state_of};
-ghost use Rattle.pungi_meaning.specs.Outcomes.{end_of, end_at, IsCounted};
-ghost use Rattle.pungi_meaning.specs.Run.{closing as closing_of, start, body_of, run_of};
+ghost use Rattle.pungi_meaning.specs.Outcomes.{end_of, end_at, end_after, IsCounted};
+ghost use Rattle.pungi_meaning.specs.Run.{closing as closing_of, start, run_from, run_of};
+ghost use Rattle.pungi_meaning.specs.Todo.{ToEnd, ToExec};
 
 use crate::Outcome;
 use crate::counted_world::CountedWorld;
+use crate::expr::later;
 use crate::machine::{Ending, Machine};
 use crate::step::step;
 use crate::task::Task;
@@ -59,25 +61,54 @@ pub fn add_unset(locals: &mut Vec<Content>, count: usize) -> Result<(), Memory>
     Ok(())
 }
 
-/// The run of a function before its first step.
-fn begin<'a>(alloc: Global, f: &'a Function, entry: &Entry) -> Result<Machine<'a>, Memory>
-    ensures todos { IfOk result (λ m. todos m.tasks.items ≡ body_of (function_view f.now)) }
+/// The run of a function before its first step, where nothing is to be done yet.
+fn begin<'a>(alloc: Global, f: &Function, entry: &Entry) -> Result<Machine<'a>, Memory>
+    ensures todos { IfOk result (λ m. todos m.tasks.items ≡ []) }
     ensures state { IfOk result (λ m. state_of m ≡ start (function_view f.now) entry.now) }
 {
-    let world = CountedWorld::start(alloc, entry)?;
     let mut locals = held(alloc, entry.args.as_slice())?;
     let unset = f.locals.saturating_sub(entry.args.len());
     add_unset(&mut locals, unset)?;
-    let mut tasks = Vec::new(alloc);
-    tasks.push(Task::End(closing(&f.body), is_void(f.result)))?;
-    tasks.push(Task::Exec(&f.body))?;
+    let world = CountedWorld::start(alloc, entry)?;
     Ok(Machine {
         world,
         used: Vec::new(alloc),
         locals,
         values: Vec::new(alloc),
-        tasks,
+        tasks: Vec::new(alloc),
     })
+}
+
+/// Makes at most `fuel` steps. How the run ended, if it did.
+fn go(
+    m: &mut Machine,
+    alloc: Global,
+    choices: &[Choice],
+    fuel: u32,
+) -> Result<Option<Ending>, Memory>
+    ensures { IfOk result (λ ending. end_after ending m.new ≡ (run_from choices.now fuel (todos m.old.tasks.items) (state_of m.old)).end) }
+{
+    for i in 0..fuel {
+        if let Some(ending) = step(m, alloc, choices)? {
+            return Ok(Some(ending));
+        }
+    }
+    Ok(None)
+}
+
+/// Does the body of a function, in at most `fuel` steps. How the run ended, if it did.
+fn do_body<'a>(
+    m: &mut Machine<'a>,
+    alloc: Global,
+    f: &'a Function,
+    choices: &[Choice],
+    fuel: u32,
+) -> Result<Option<Ending>, Memory>
+    ensures { IfOk result (λ ending. end_after ending m.new ≡ (run_from choices.now fuel (ToExec (action_view f.now.body) ∷ ToEnd (closing_of (action_view f.now.body)) (is_void_kind f.now.result) ∷ todos m.old.tasks.items) (state_of m.old)).end) }
+{
+    later(m, Task::End(closing(&f.body), is_void(f.result)))?;
+    later(m, Task::Exec(&f.body))?;
+    go(m, alloc, choices, fuel)
 }
 
 /// The outcome of a run that ends here.
@@ -110,10 +141,8 @@ pub fn run(
     ensures counted { IfOk result (λ outcome. IsCounted outcome) }
 {
     let mut m = begin(alloc, f, entry)?;
-    for i in 0..fuel {
-        if let Some(ending) = step(&mut m, alloc, choices)? {
-            return Ok(ended(m, ending));
-        }
+    match do_body(&mut m, alloc, f, choices, fuel)? {
+        Some(ending) => Ok(ended(m, ending)),
+        None => Ok(Outcome::OutOfFuel),
     }
-    Ok(Outcome::OutOfFuel)
 }

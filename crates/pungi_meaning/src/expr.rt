@@ -1,9 +1,10 @@
 // Expressions.
-ghost use Rattle.std.specs.Prelude.{◌≡◌, ◌∷◌, IfOk, OnOk, Some, map};
+ghost use Rattle.std.specs.Prelude.{◌≡◌, ◌∷◌, IfOk, OnOk, None, Some, map};
 ghost use Rattle.pungi_resolved.specs.ValueView.{value_view, values_of, place_view};
 ghost use Rattle.pungi_types.specs.Resolved.{is_same_kind as is_one_kind};
-ghost use Rattle.pungi_meaning.specs.Todo.{ToArgs, ToEval, listed_values};
+ghost use Rattle.pungi_meaning.specs.Todo.{ToArgs, ToCompute, ToEval, ToOld, ToStore, listed_values};
 ghost use Rattle.pungi_meaning.specs.Machine.{todo_of, todos, state_of, Tells};
+ghost use Rattle.pungi_meaning.specs.Work.{given};
 ghost use Rattle.pungi_meaning.specs.Exprs.{before as before_place, converting, signing, stepping, is_and as is_and_mark, step_op as op_of_step, evaluate as evaluated, fetch as fetched, step_place as place_stepped};
 
 use crate::machine::{Ending, Machine};
@@ -45,23 +46,44 @@ fn step_op(mark: Kind) -> Op
     }
 }
 
-/// One thing more comes first.
-pub fn later<'a>(m: &mut Machine<'a>, task: Task<'a>) -> Result<(), Memory>
-    ensures todos { OnOk result (todos m.new.tasks.items ≡ todo_of task.entry ∷ todos m.old.tasks.items) }
-    ensures state { OnOk result (state_of m.new ≡ state_of m.old) }
+/// One value more waits.
+pub fn give(m: &mut Machine, value: Value) -> Result<Option<Ending>, Memory>
+    ensures { IfOk result (λ halt. Tells (given value (todos m.old.tasks.items) (state_of m.old)) halt m.new) }
 {
-    m.tasks.push(task)?;
+    m.values.push(value)?;
+    Ok(None)
+}
+
+/// One thing more comes first.
+pub fn push<'a>(tasks: &mut Vec<Task<'a>>, task: Task<'a>) -> Result<(), Memory>
+    ensures { OnOk result (todos tasks.new.items ≡ todo_of task.entry ∷ todos tasks.old.items) }
+{
+    tasks.push(task)?;
     Ok(())
 }
 
+/// One thing more comes first, and the run goes on.
+pub fn later<'a>(m: &mut Machine<'a>, task: Task<'a>) -> Result<Option<Ending>, Memory>
+    ensures goes { IfOk result (λ halt. halt ≡ None) }
+    ensures todos { OnOk result (todos m.new.tasks.items ≡ todo_of task.entry ∷ todos m.old.tasks.items) }
+    ensures state { OnOk result (state_of m.new ≡ state_of m.old) }
+{
+    push(&mut m.tasks, task)?;
+    Ok(None)
+}
+
 /// A part, and what comes behind it.
-pub fn one<'a>(m: &mut Machine<'a>, then: Task<'a>, part: &'a Node) -> Result<(), Memory>
+pub fn one<'a>(
+    m: &mut Machine<'a>,
+    then: Task<'a>,
+    part: &'a Node,
+) -> Result<Option<Ending>, Memory>
+    ensures goes { IfOk result (λ halt. halt ≡ None) }
     ensures todos { OnOk result (todos m.new.tasks.items ≡ ToEval (value_view part.now) ∷ todo_of then.entry ∷ todos m.old.tasks.items) }
     ensures state { OnOk result (state_of m.new ≡ state_of m.old) }
 {
-    m.tasks.push(then)?;
-    m.tasks.push(Task::Eval(part))?;
-    Ok(())
+    later(m, then)?;
+    later(m, Task::Eval(part))
 }
 
 /// Two parts, from left to right, and what comes behind them.
@@ -70,49 +92,74 @@ fn two<'a>(
     then: Task<'a>,
     left: &'a Node,
     right: &'a Node,
-) -> Result<(), Memory>
+) -> Result<Option<Ending>, Memory>
+    ensures goes { IfOk result (λ halt. halt ≡ None) }
     ensures todos { OnOk result (todos m.new.tasks.items ≡ ToEval (value_view left.now) ∷ ToEval (value_view right.now) ∷ todo_of then.entry ∷ todos m.old.tasks.items) }
     ensures state { OnOk result (state_of m.new ≡ state_of m.old) }
 {
-    m.tasks.push(then)?;
-    m.tasks.push(Task::Eval(right))?;
-    m.tasks.push(Task::Eval(left))?;
-    Ok(())
+    one(m, then, right)?;
+    later(m, Task::Eval(left))
+}
+
+/// A value waits, and a part comes in front of what is made of both.
+fn beside<'a>(
+    m: &mut Machine<'a>,
+    value: Value,
+    then: Task<'a>,
+    part: &'a Node,
+) -> Result<Option<Ending>, Memory>
+    ensures { IfOk result (λ halt. Tells (given value (ToEval (value_view part.now) ∷ todo_of then.entry ∷ todos m.old.tasks.items) (state_of m.old)) halt m.new) }
+{
+    m.values.push(value)?;
+    one(m, then, part)
 }
 
 /// The base of a field comes first.
-fn before<'a>(m: &mut Machine<'a>, place: &'a Place) -> Result<(), Memory>
+fn before<'a>(m: &mut Machine<'a>, place: &'a Place) -> Result<Option<Ending>, Memory>
+    ensures goes { IfOk result (λ halt. halt ≡ None) }
     ensures todos { OnOk result (todos m.new.tasks.items ≡ before_place (place_view place.now) (todos m.old.tasks.items)) }
     ensures state { OnOk result (state_of m.new ≡ state_of m.old) }
 {
     match place {
-        Place::Field(_, base, _, _) => m.tasks.push(Task::Eval(base))?,
-        _ => {}
+        Place::Field(_, base, _, _) => later(m, Task::Eval(base)),
+        _ => Ok(None),
     }
-    Ok(())
 }
 
 /// A conversion to another kind comes first.
-fn convert(m: &mut Machine, pos: Pos, to: ValueKind, from: ValueKind) -> Result<(), Memory>
+fn convert(
+    m: &mut Machine,
+    pos: Pos,
+    to: ValueKind,
+    from: ValueKind,
+) -> Result<Option<Ending>, Memory>
+    ensures goes { IfOk result (λ halt. halt ≡ None) }
     ensures todos { OnOk result (todos m.new.tasks.items ≡ converting pos to from (todos m.old.tasks.items)) }
     ensures state { OnOk result (state_of m.new ≡ state_of m.old) }
 {
-    if !is_same_kind(to, from) {
-        m.tasks.push(Task::Fit(pos, to))?;
+    if is_same_kind(to, from) {
+        Ok(None)
+    } else {
+        later(m, Task::Fit(pos, to))
     }
-    Ok(())
 }
 
-/// A minus does something, a plus does nothing.
-fn sign(m: &mut Machine, pos: Pos, mark: Kind, kind: ValueKind) -> Result<(), Memory>
-    ensures todos { OnOk result (todos m.new.tasks.items ≡ signing pos mark kind (todos m.old.tasks.items)) }
+/// A part with a sign. A minus does something, a plus does nothing.
+fn signed<'a>(
+    m: &mut Machine<'a>,
+    pos: Pos,
+    mark: Kind,
+    kind: ValueKind,
+    part: &'a Node,
+) -> Result<Option<Ending>, Memory>
+    ensures goes { IfOk result (λ halt. halt ≡ None) }
+    ensures todos { OnOk result (todos m.new.tasks.items ≡ ToEval (value_view part.now) ∷ signing pos mark kind (todos m.old.tasks.items)) }
     ensures state { OnOk result (state_of m.new ≡ state_of m.old) }
 {
     match mark {
-        Kind::Punct(Punct::Minus) => m.tasks.push(Task::Minus(pos, kind))?,
-        _ => {}
+        Kind::Punct(Punct::Minus) => one(m, Task::Minus(pos, kind), part),
+        _ => later(m, Task::Eval(part)),
     }
-    Ok(())
 }
 
 /// An expression that reads a place.
@@ -127,10 +174,9 @@ fn fetch<'a>(
 {
     match place {
         Place::Field(pos, base, tag, field) => {
-            one(m, Task::Load(*pos, kind, *tag, *field), base)?;
-            Ok(None)
+            one(m, Task::Load(*pos, kind, *tag, *field), base)
         }
-        _ => Ok(load_old(m, alloc, choices, kind, place)?),
+        _ => load_old(m, alloc, choices, kind, place),
     }
 }
 
@@ -141,14 +187,28 @@ fn step<'a>(
     mark: Kind,
     kind: ValueKind,
     place: &'a Place,
-) -> Result<(), Memory>
+) -> Result<Option<Ending>, Memory>
+    ensures goes { IfOk result (λ halt. halt ≡ None) }
     ensures todos { OnOk result (todos m.new.tasks.items ≡ stepping pos mark kind (place_view place.now) (todos m.old.tasks.items)) }
     ensures state { OnOk result (state_of m.new ≡ state_of m.old) }
 {
-    m.tasks.push(Task::Store(kind, place))?;
+    later(m, Task::Store(kind, place))?;
     convert(m, pos, kind, wide(kind))?;
-    m.tasks.push(Task::Step(pos, step_op(mark), wide(kind)))?;
-    Ok(())
+    later(m, Task::Step(pos, step_op(mark), wide(kind)))
+}
+
+/// What a place holds is wanted before it is written.
+fn look_first<'a>(
+    m: &mut Machine<'a>,
+    kind: ValueKind,
+    place: &'a Place,
+) -> Result<Option<Ending>, Memory>
+    ensures goes { IfOk result (λ halt. halt ≡ None) }
+    ensures todos { OnOk result (todos m.new.tasks.items ≡ before_place (place_view place.now) (ToOld kind (place_view place.now) ∷ todos m.old.tasks.items)) }
+    ensures state { OnOk result (state_of m.new ≡ state_of m.old) }
+{
+    later(m, Task::Old(kind, place))?;
+    before(m, place)
 }
 
 /// `++` and `--`.
@@ -164,15 +224,48 @@ fn step_place<'a>(
 {
     if behind {
         m.values.push(Value::Int(0))?;
-        m.tasks.push(Task::Pop)?;
+        later(m, Task::Pop)?;
         step(m, pos, mark, kind, place)?;
-        m.tasks.push(Task::Keep(place))?;
+        later(m, Task::Keep(place))?;
     } else {
         step(m, pos, mark, kind, place)?;
     }
-    m.tasks.push(Task::Old(kind, place))?;
-    before(m, place)?;
-    Ok(None)
+    look_first(m, kind, place)
+}
+
+/// `=`.
+fn assign<'a>(
+    m: &mut Machine<'a>,
+    kind: ValueKind,
+    place: &'a Place,
+    part: &'a Node,
+) -> Result<Option<Ending>, Memory>
+    ensures goes { IfOk result (λ halt. halt ≡ None) }
+    ensures todos { OnOk result (todos m.new.tasks.items ≡ before_place (place_view place.now) (ToEval (value_view part.now) ∷ ToStore kind (place_view place.now) ∷ todos m.old.tasks.items)) }
+    ensures state { OnOk result (state_of m.new ≡ state_of m.old) }
+{
+    one(m, Task::Store(kind, place), part)?;
+    before(m, place)
+}
+
+/// `+=` and its kin.
+fn update<'a>(
+    m: &mut Machine<'a>,
+    pos: Pos,
+    op: Op,
+    counted: ValueKind,
+    kind: ValueKind,
+    place: &'a Place,
+    part: &'a Node,
+) -> Result<Option<Ending>, Memory>
+    ensures goes { IfOk result (λ halt. halt ≡ None) }
+    ensures todos { OnOk result (todos m.new.tasks.items ≡ before_place (place_view place.now) (ToOld kind (place_view place.now) ∷ ToEval (value_view part.now) ∷ ToCompute pos op counted ∷ converting pos kind counted (ToStore kind (place_view place.now) ∷ todos m.old.tasks.items))) }
+    ensures state { OnOk result (state_of m.new ≡ state_of m.old) }
+{
+    later(m, Task::Store(kind, place))?;
+    convert(m, pos, kind, counted)?;
+    one(m, Task::Compute(pos, op, counted), part)?;
+    look_first(m, kind, place)
 }
 
 /// The arguments of a call come first.
@@ -181,12 +274,12 @@ fn prepare<'a>(
     pos: Pos,
     shape: &'a Shape,
     args: &'a [Node],
-) -> Result<(), Memory>
+) -> Result<Option<Ending>, Memory>
+    ensures goes { IfOk result (λ halt. halt ≡ None) }
     ensures todos { OnOk result (todos m.new.tasks.items ≡ ToArgs pos shape.now.row (listed_values (values_of (map value_view args.now))) 0 ∷ todos m.old.tasks.items) }
     ensures state { OnOk result (state_of m.new ≡ state_of m.old) }
 {
-    later(m, Task::Args(pos, shape, args, 0))?;
-    Ok(())
+    later(m, Task::Args(pos, shape, args, 0))
 }
 
 /// An expression is evaluated, or leaves its parts and its remainder.
@@ -199,51 +292,34 @@ pub fn evaluate<'a>(
     ensures { IfOk result (λ halt. Tells (evaluated choices.now (value_view node.now) (todos m.old.tasks.items) (state_of m.old)) halt m.new) }
 {
     match &node.node {
-        ValueNode::Constant(n) => m.values.push(Value::Int(*n))?,
-        ValueNode::Text(_) => m.values.push(Value::Text)?,
-        ValueNode::Null => m.values.push(Value::Null)?,
-        ValueNode::Static(n) => m.values.push(Value::Object(*n))?,
-        ValueNode::Module(_) => m.values.push(Value::Text)?,
-        ValueNode::Read(kind, place) => return Ok(fetch(m, alloc, choices, *kind, place)?),
-        ValueNode::Inner(part) => m.tasks.push(Task::Eval(part))?,
-        ValueNode::Signed(mark, kind, part) => {
-            sign(m, node.pos, *mark, *kind)?;
-            m.tasks.push(Task::Eval(part))?;
-        }
-        ValueNode::Negated(part) => {
-            m.values.push(Value::Int(1))?;
-            one(m, Task::Negate, part)?;
-        }
+        ValueNode::Constant(n) => give(m, Value::Int(*n)),
+        ValueNode::Text(_) => give(m, Value::Text),
+        ValueNode::Null => give(m, Value::Null),
+        ValueNode::Static(n) => give(m, Value::Object(*n)),
+        ValueNode::Module(_) => give(m, Value::Text),
+        ValueNode::Read(kind, place) => fetch(m, alloc, choices, *kind, place),
+        ValueNode::Inner(part) => later(m, Task::Eval(part)),
+        ValueNode::Signed(mark, kind, part) => signed(m, node.pos, *mark, *kind, part),
+        ValueNode::Negated(part) => beside(m, Value::Int(1), Task::Negate, part),
         ValueNode::Stepped(behind, mark, kind, place) => {
-            return Ok(step_place(m, *behind, node.pos, *mark, *kind, place)?);
+            step_place(m, *behind, node.pos, *mark, *kind, place)
         }
         ValueNode::Computed(mark, kind, a, b) => {
-            two(m, Task::Compute(node.pos, Op::of(*mark), *kind), a, b)?;
+            two(m, Task::Compute(node.pos, Op::of(*mark), *kind), a, b)
         }
-        ValueNode::Compared(mark, a, b) => {
-            two(m, Task::Compare(node.pos, Cmp::of(*mark)), a, b)?;
-        }
+        ValueNode::Compared(mark, a, b) => { two(m, Task::Compare(node.pos, Cmp::of(*mark)), a, b) }
         ValueNode::Joined(mark, a, b) => {
-            m.values.push(truth(!is_and(*mark)))?;
-            one(m, Task::Right(is_and(*mark), b), a)?;
+            beside(m, truth(!is_and(*mark)), Task::Right(is_and(*mark), b), a)
         }
-        ValueNode::Stored(kind, place, part) => {
-            one(m, Task::Store(*kind, place), part)?;
-            before(m, place)?;
-        }
+        ValueNode::Stored(kind, place, part) => assign(m, *kind, place, part),
         ValueNode::Updated(mark, counted, kind, place, part) => {
-            m.tasks.push(Task::Store(*kind, place))?;
-            convert(m, node.pos, *kind, *counted)?;
-            one(m, Task::Compute(node.pos, Op::of(*mark), *counted), part)?;
-            m.tasks.push(Task::Old(*kind, place))?;
-            before(m, place)?;
+            update(m, node.pos, Op::of(*mark), *counted, *kind, place, part)
         }
-        ValueNode::Chosen(c, a, b) => one(m, Task::Pick(a, b), c)?,
-        ValueNode::Converted(kind, part) => one(m, Task::Fit(node.pos, *kind), part)?,
-        ValueNode::Cast(part) => m.tasks.push(Task::Eval(part))?,
-        ValueNode::Dropped(part) => m.tasks.push(Task::Eval(part))?,
-        ValueNode::Called(_, _) => return Ok(Some(Ending::Stop(node.pos))),
-        ValueNode::CalledRow(_, shape, args) => prepare(m, node.pos, shape, args)?,
+        ValueNode::Chosen(c, a, b) => one(m, Task::Pick(a, b), c),
+        ValueNode::Converted(kind, part) => one(m, Task::Fit(node.pos, *kind), part),
+        ValueNode::Cast(part) => later(m, Task::Eval(part)),
+        ValueNode::Dropped(part) => later(m, Task::Eval(part)),
+        ValueNode::Called(_, _) => Ok(Some(Ending::Stop(node.pos))),
+        ValueNode::CalledRow(_, shape, args) => prepare(m, node.pos, shape, args),
     }
-    Ok(None)
 }

@@ -4,7 +4,7 @@ ghost use Rattle.pungi_meaning.specs.Values.{op_of as named_op};
 use pungi_base::Punct;
 
 /// An arithmetic operator (C11 6.5.5, 6.5.6).
-#[derive(Clone, Copy, Debug, PartialEq, Eq)]
+#[derive(Clone, Copy)]
 pub enum Op {
     Add,
     Sub,

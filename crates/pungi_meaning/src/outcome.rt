@@ -2,7 +2,7 @@ use pungi_base::{Pos, Value};
 use pungi_world::World;
 
 /// How the run of a function ends.
-#[derive(Debug, Drop)]
+#[derive(Drop)]
 pub enum Outcome {
     /// It returns: the world then, the value where there is one, where it returned, and the place of each choice that was
     /// used, in order.

@@ -69,7 +69,7 @@ pub fn load_field(
     match base {
         Value::Object(object) => {
             let slot = Slot::Field { object, tag, field };
-            Ok(load_slot(m, alloc, choices, pos, kind, slot)?)
+            load_slot(m, alloc, choices, pos, kind, slot)
         }
         _ => Ok(Some(Ending::Stop(pos))),
     }
@@ -94,11 +94,11 @@ pub fn load_old(
             Content::Unset => Ok(Some(Ending::Stop(*pos))),
         },
         Place::Global(pos, name) => {
-            Ok(load_slot(m, alloc, choices, *pos, kind, Slot::Global(*name))?)
+            load_slot(m, alloc, choices, *pos, kind, Slot::Global(*name))
         }
         Place::Field(pos, _, tag, field) => {
             let base = newest(&m.values);
-            Ok(load_field(m, alloc, choices, *pos, kind, base, *tag, *field)?)
+            load_field(m, alloc, choices, *pos, kind, base, *tag, *field)
         }
     }
 }
@@ -146,7 +146,7 @@ pub fn store(
         }
         Place::Global(pos, name) => {
             let value = take(&mut m.values);
-            Ok(store_slot(m, alloc, choices, *pos, kind, Slot::Global(*name), value)?)
+            store_slot(m, alloc, choices, *pos, kind, Slot::Global(*name), value)
         }
         Place::Field(pos, _, tag, field) => {
             let value = take(&mut m.values);
@@ -157,7 +157,7 @@ pub fn store(
                         tag: *tag,
                         field: *field,
                     };
-                    Ok(store_slot(m, alloc, choices, *pos, kind, slot, value)?)
+                    store_slot(m, alloc, choices, *pos, kind, slot, value)
                 }
                 _ => Ok(Some(Ending::Stop(*pos))),
             }

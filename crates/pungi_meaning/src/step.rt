@@ -1,20 +1,20 @@
 // One step.
-ghost use Rattle.std.specs.Prelude.{◌≡◌, ◌<◌, ◌∷◌, [], IfOk, OnOk, MatchOption, None, Some, length, map, option_map, reverse, slice_get};
+ghost use Rattle.std.specs.Prelude.{◌≡◌, ◌<◌, ◌∷◌, [], IfOk, MatchOption, None, Some, length, map, option_map, reverse, slice_get};
 ghost use Rattle.pungi_resolved.specs.ValueView.{value_view};
 ghost use Rattle.pungi_resolved.specs.ActionView.{action_view};
 ghost use Rattle.pungi_meaning.specs.Machine.{loop_of, todo_of, todos, state_of, Tells};
 ghost use Rattle.pungi_meaning.specs.Run.{act};
 ghost use Rattle.pungi_meaning.specs.Stmts.{bind as bind_step, next_stmt as next_stmt_step};
-ghost use Rattle.pungi_meaning.specs.Todo.{ToChoose, ToPick, ToTurn};
+ghost use Rattle.pungi_meaning.specs.Todo.{ToAgain, ToChoose, ToPick, ToTurn};
 
 use crate::arith::{compare, compute, fit, keep, minus, negate, right, step_one, to_truth};
 use crate::call::next_arg;
-use crate::expr::{evaluate, later};
+use crate::expr::{evaluate, later, one};
 use crate::is_true;
 use crate::machine::{Ending, Machine};
 use crate::slot::{load_field, load_old, store};
 use crate::stack::{newest, put, take};
-use crate::stmt::{execute, reach_next, start, switch, test};
+use crate::stmt::{body_first, execute, reach_next, start, switch, test};
 use crate::task::{Task, Turns};
 use pungi_base::{Choice, Memory, Pos};
 use pungi_resolved::{Action, Value as Node};
@@ -34,40 +34,37 @@ fn go_on<'a>(
     list: &'a [Action],
     i: usize,
     action: &'a Action,
-) -> Result<(), Memory>
+) -> Result<Option<Ending>, Memory>
     requires { i < length list.now }
-    ensures { OnOk result (Tells (next_stmt_step (map action_view list.now) i (Some (action_view action.now)) (todos m.old.tasks.items) (state_of m.old)) None m.new) }
+    ensures { IfOk result (λ halt. Tells (next_stmt_step (map action_view list.now) i (Some (action_view action.now)) (todos m.old.tasks.items) (state_of m.old)) halt m.new) }
 {
-    later(m, Task::Rest(list, i + 1))?;
-    later(m, Task::Exec(action))?;
-    Ok(())
+    body_first(m, Task::Rest(list, i + 1), action)
 }
 
 /// The next statement of a block.
 #[tactic(auto, using(crate::proofs::ListLemmas::mapped_get))]
-fn next_stmt<'a>(m: &mut Machine<'a>, list: &'a [Action], i: usize) -> Result<(), Memory>
-    ensures { OnOk result (Tells (next_stmt_step (map action_view list.now) i (slice_get (map action_view list.now) i) (todos m.old.tasks.items) (state_of m.old)) None m.new) }
+fn next_stmt<'a>(
+    m: &mut Machine<'a>,
+    list: &'a [Action],
+    i: usize,
+) -> Result<Option<Ending>, Memory>
+    ensures { IfOk result (λ halt. Tells (next_stmt_step (map action_view list.now) i (slice_get (map action_view list.now) i) (todos m.old.tasks.items) (state_of m.old)) halt m.new) }
 {
     match action_at(list, i) {
-        Some(action) => {
-            go_on(m, list, i, action)?;
-            Ok(())
-        }
-        None => Ok(()),
+        Some(action) => go_on(m, list, i, action),
+        None => Ok(None),
     }
 }
 
 /// One of two values.
-fn pick<'a>(m: &mut Machine<'a>, part: &'a Node, other: &'a Node) -> Result<(), Memory>
-    ensures { OnOk result (Tells (act [] (ToPick (value_view part.now) (value_view other.now) ∷ todos m.old.tasks.items) (state_of m.old)) None m.new) }
+fn pick<'a>(m: &mut Machine<'a>, part: &'a Node, other: &'a Node) -> Result<Option<Ending>, Memory>
+    ensures { IfOk result (λ halt. Tells (act [] (ToPick (value_view part.now) (value_view other.now) ∷ todos m.old.tasks.items) (state_of m.old)) halt m.new) }
 {
-    m.tasks.push(Task::Join)?;
     if is_true(take(&mut m.values)) {
-        m.tasks.push(Task::Eval(part))?;
+        one(m, Task::Join, part)
     } else {
-        m.tasks.push(Task::Eval(other))?;
+        one(m, Task::Join, other)
     }
-    Ok(())
 }
 
 /// One of two statements.
@@ -75,27 +72,35 @@ fn choose<'a>(
     m: &mut Machine<'a>,
     part: &'a Action,
     other: Option<&'a Action>,
-) -> Result<(), Memory>
-    ensures { OnOk result (Tells (act [] (ToChoose (action_view part.now) (option_map (λ b. action_view b.now) other.entry) ∷ todos m.old.tasks.items) (state_of m.old)) None m.new) }
+) -> Result<Option<Ending>, Memory>
+    ensures { IfOk result (λ halt. Tells (act [] (ToChoose (action_view part.now) (option_map (λ b. action_view b.now) other.entry) ∷ todos m.old.tasks.items) (state_of m.old)) halt m.new) }
 {
-    m.tasks.push(Task::Join)?;
     if is_true(take(&mut m.values)) {
-        m.tasks.push(Task::Exec(part))?;
-    } else if let Some(other) = other {
-        m.tasks.push(Task::Exec(other))?;
+        return body_first(m, Task::Join, part);
     }
-    Ok(())
+    match other {
+        Some(other) => body_first(m, Task::Join, other),
+        None => later(m, Task::Join),
+    }
 }
 
 /// The body of a loop, where its test holds.
-fn turn<'a>(m: &mut Machine<'a>, turns: Turns<'a>) -> Result<(), Memory>
-    ensures { OnOk result (Tells (act [] (ToTurn (loop_of turns.entry) ∷ todos m.old.tasks.items) (state_of m.old)) None m.new) }
+fn turn<'a>(m: &mut Machine<'a>, turns: Turns<'a>) -> Result<Option<Ending>, Memory>
+    ensures { IfOk result (λ halt. Tells (act [] (ToTurn (loop_of turns.entry) ∷ todos m.old.tasks.items) (state_of m.old)) halt m.new) }
 {
     if is_true(take(&mut m.values)) {
-        m.tasks.push(Task::Again(turns))?;
-        m.tasks.push(Task::Exec(turns.body))?;
+        body_first(m, Task::Again(turns), turns.body)
+    } else {
+        Ok(None)
     }
-    Ok(())
+}
+
+/// What a loop does behind its body, and then its next turn.
+fn turn_again<'a>(m: &mut Machine<'a>, turns: Turns<'a>) -> Result<Option<Ending>, Memory>
+    ensures { IfOk result (λ halt. Tells (act [] (ToAgain (loop_of turns.entry) ∷ todos m.old.tasks.items) (state_of m.old)) halt m.new) }
+{
+    later(m, Task::Back(turns))?;
+    start(m, turns.behind)
 }
 
 /// A variable gets its first value.
@@ -116,53 +121,54 @@ fn operate<'a>(
     ensures { IfOk result (λ halt. Tells (act choices.now (todo_of task.entry ∷ todos m.old.tasks.items) (state_of m.old)) halt m.new) }
 {
     match task {
-        Task::Eval(node) => return Ok(evaluate(m, alloc, choices, node)?),
+        Task::Eval(node) => evaluate(m, alloc, choices, node),
         Task::Load(pos, kind, tag, field) => {
             let base = take(&mut m.values);
-            return Ok(load_field(m, alloc, choices, pos, kind, base, tag, field)?);
+            load_field(m, alloc, choices, pos, kind, base, tag, field)
         }
-        Task::Old(kind, place) => return Ok(load_old(m, alloc, choices, kind, place)?),
-        Task::Keep(place) => keep(&mut m.values, place)?,
-        Task::Step(pos, op, kind) => return Ok(step_one(m, pos, op, kind)?),
-        Task::Minus(pos, kind) => return Ok(minus(m, pos, kind)?),
-        Task::Compute(pos, op, kind) => return Ok(compute(m, pos, op, kind)?),
-        Task::Fit(pos, kind) => return Ok(fit(m, pos, kind)?),
-        Task::Compare(pos, cmp) => compare(m, pos, cmp)?,
-        Task::Negate => negate(m)?,
-        Task::Right(on, part) => right(m, on, part)?,
-        Task::Truth => to_truth(m)?,
-        Task::Pick(a, b) => pick(m, a, b)?,
-        Task::Store(kind, place) => return Ok(store(m, alloc, choices, kind, place)?),
+        Task::Old(kind, place) => load_old(m, alloc, choices, kind, place),
+        Task::Keep(place) => keep(m, place),
+        Task::Step(pos, op, kind) => step_one(m, pos, op, kind),
+        Task::Minus(pos, kind) => minus(m, pos, kind),
+        Task::Compute(pos, op, kind) => compute(m, pos, op, kind),
+        Task::Fit(pos, kind) => fit(m, pos, kind),
+        Task::Compare(pos, cmp) => compare(m, pos, cmp),
+        Task::Negate => negate(m),
+        Task::Right(on, part) => right(m, on, part),
+        Task::Truth => to_truth(m),
+        Task::Pick(a, b) => pick(m, a, b),
+        Task::Store(kind, place) => store(m, alloc, choices, kind, place),
         Task::Pop => {
             take(&mut m.values);
+            Ok(None)
         }
-        Task::Args(pos, shape, args, i) => {
-            return Ok(next_arg(m, alloc, choices, pos, shape, args, i)?);
+        Task::Args(pos, shape, args, i) => next_arg(m, alloc, choices, pos, shape, args, i),
+        Task::Exec(action) => execute(m, action),
+        Task::Forget => {
+            m.values.clear();
+            Ok(None)
         }
-        Task::Exec(action) => return Ok(execute(m, action)?),
-        Task::Forget => m.values.clear(),
-        Task::Reach(list) => reach_next(m, list)?,
-        Task::Bind(local) => bind(m, local),
-        Task::Choose(part, other) => choose(m, part, other)?,
-        Task::Join => {}
-        Task::Rest(list, i) => next_stmt(m, list, i)?,
-        Task::Test(turns) => test(m, turns)?,
-        Task::Turn(turns) => turn(m, turns)?,
-        Task::Again(turns) => {
-            m.tasks.push(Task::Back(turns))?;
-            start(m, turns.behind)?;
+        Task::Reach(list) => reach_next(m, list),
+        Task::Bind(local) => {
+            bind(m, local);
+            Ok(None)
         }
-        Task::Back(turns) => test(m, turns)?,
+        Task::Choose(part, other) => choose(m, part, other),
+        Task::Join => Ok(None),
+        Task::Rest(list, i) => next_stmt(m, list, i),
+        Task::Test(turns) => test(m, turns),
+        Task::Turn(turns) => turn(m, turns),
+        Task::Again(turns) => turn_again(m, turns),
+        Task::Back(turns) => test(m, turns),
         Task::Switch(pos, body) => {
             let value = newest(&m.values);
-            switch(m, pos, value, body)?;
+            switch(m, pos, value, body)
         }
-        Task::SwitchEnd => {}
-        Task::Return(pos) => return Ok(Some(Ending::Leave(pos, Some(newest(&m.values))))),
-        Task::End(pos, true) => return Ok(Some(Ending::Leave(pos, None))),
-        Task::End(pos, false) => return Ok(Some(Ending::Stop(pos))),
+        Task::SwitchEnd => Ok(None),
+        Task::Return(pos) => Ok(Some(Ending::Leave(pos, Some(newest(&m.values))))),
+        Task::End(pos, true) => Ok(Some(Ending::Leave(pos, None))),
+        Task::End(pos, false) => Ok(Some(Ending::Stop(pos))),
     }
-    Ok(None)
 }
 
 /// One step: what is to be done next is done, or leaves its parts and its remainder.
@@ -174,7 +180,7 @@ pub fn step<'a>(
     ensures { IfOk result (λ halt. Tells (act choices.now (todos m.old.tasks.items) (state_of m.old)) halt m.new) }
 {
     match m.tasks.pop() {
-        Some(task) => Ok(operate(m, alloc, choices, task)?),
+        Some(task) => operate(m, alloc, choices, task),
         None => Ok(Some(Ending::Stop(Pos { line: 0, col: 0 }))),
     }
 }

@@ -1,10 +1,11 @@
 // Statements.
-ghost use Rattle.std.specs.Prelude.{◌≡◌, ◌∷◌, IfOk, OnOk, map, option_map, None};
+ghost use Rattle.std.specs.Prelude.{◌≡◌, ◌∷◌, IfOk, OnOk, map, option_map, None, Some};
 ghost use Rattle.pungi_resolved.specs.ValueView.{value_view, optional_view};
 ghost use Rattle.pungi_resolved.specs.ActionView.{action_view, actions_of, reached_view};
 ghost use Rattle.pungi_meaning.specs.Machine.{loop_of, todo_of, todos, state_of, Tells};
 ghost use Rattle.pungi_meaning.specs.Stmts.{started, tested as tested_loop, reach_next as reached_next, bears_case as bears_this_case, is_default as is_default_action, first_from, target as target_of, enter_at as entered_at, switch as switched, execute as executed};
-ghost use Rattle.pungi_meaning.specs.Todo.{ToReach, ToRest, ToTest, listed};
+ghost use Rattle.pungi_meaning.specs.Todo.{ToExec, ToReach, ToRest, ToTest, listed};
+ghost use Rattle.pungi_meaning.specs.Jumps.{a_loop};
 ghost use Rattle.pungi_meaning.specs.Work.{below, declared_by, declared, unset_reached};
 
 use crate::Cmp;
@@ -70,51 +71,58 @@ pub fn unboxed(value: &Option<Box<Node>>) -> Option<&Node>
 }
 
 /// What is done first, if anything.
-pub fn start<'a>(m: &mut Machine<'a>, first: Option<&'a Node>) -> Result<(), Memory>
+pub fn start<'a>(m: &mut Machine<'a>, first: Option<&'a Node>) -> Result<Option<Ending>, Memory>
+    ensures goes { IfOk result (λ halt. halt ≡ None) }
     ensures todos { OnOk result (todos m.new.tasks.items ≡ started (option_map (λ v. value_view v.now) first.entry) (todos m.old.tasks.items)) }
     ensures state { OnOk result (state_of m.new ≡ state_of m.old) }
 {
-    if let Some(value) = first {
-        m.tasks.push(Task::Forget)?;
-        m.tasks.push(Task::Eval(value))?;
+    match first {
+        Some(value) => one(m, Task::Forget, value),
+        None => Ok(None),
     }
-    Ok(())
+}
+
+/// A statement, and what comes behind it.
+pub fn body_first<'a>(
+    m: &mut Machine<'a>,
+    then: Task<'a>,
+    body: &'a Action,
+) -> Result<Option<Ending>, Memory>
+    ensures goes { IfOk result (λ halt. halt ≡ None) }
+    ensures todos { OnOk result (todos m.new.tasks.items ≡ ToExec (action_view body.now) ∷ todo_of then.entry ∷ todos m.old.tasks.items) }
+    ensures state { OnOk result (state_of m.new ≡ state_of m.old) }
+{
+    later(m, then)?;
+    later(m, Task::Exec(body))
 }
 
 /// A loop's test, or its body where it has none.
-pub fn test<'a>(m: &mut Machine<'a>, turns: Turns<'a>) -> Result<(), Memory>
+pub fn test<'a>(m: &mut Machine<'a>, turns: Turns<'a>) -> Result<Option<Ending>, Memory>
+    ensures goes { IfOk result (λ halt. halt ≡ None) }
     ensures todos { OnOk result (todos m.new.tasks.items ≡ tested_loop (loop_of turns.entry) (todos m.old.tasks.items)) }
     ensures state { OnOk result (state_of m.new ≡ state_of m.old) }
 {
     match turns.test {
-        Some(value) => {
-            m.tasks.push(Task::Turn(turns))?;
-            m.tasks.push(Task::Eval(value))?;
-        }
-        None => {
-            m.tasks.push(Task::Again(turns))?;
-            m.tasks.push(Task::Exec(turns.body))?;
-        }
+        Some(value) => one(m, Task::Turn(turns), value),
+        None => body_first(m, Task::Again(turns), turns.body),
     }
-    Ok(())
 }
 
 /// The next declared variable: its value comes first, and without one it holds nothing.
-pub fn reach_next<'a>(m: &mut Machine<'a>, list: &'a [Reached]) -> Result<(), Memory>
-    ensures { OnOk result (Tells (reached_next (map reached_view list.now) (todos m.old.tasks.items) (state_of m.old)) None m.new) }
+pub fn reach_next<'a>(m: &mut Machine<'a>, list: &'a [Reached]) -> Result<Option<Ending>, Memory>
+    ensures { IfOk result (λ halt. Tells (reached_next (map reached_view list.now) (todos m.old.tasks.items) (state_of m.old)) halt m.new) }
 {
     let Some((reached, rest)) = list.split_first() else {
-        return Ok(());
+        return Ok(None);
     };
-    m.tasks.push(Task::Reach(rest))?;
+    later(m, Task::Reach(rest))?;
     match &reached.value {
-        Some(value) => {
-            m.tasks.push(Task::Bind(reached.number))?;
-            m.tasks.push(Task::Eval(value))?;
+        Some(value) => one(m, Task::Bind(reached.number), value),
+        None => {
+            put(&mut m.locals, reached.number, Content::Unset);
+            Ok(None)
         }
-        None => put(&mut m.locals, reached.number, Content::Unset),
     }
-    Ok(())
 }
 
 /// A statement stands behind the case of this value.
@@ -178,44 +186,50 @@ fn target(value: Value, block: &[Action]) -> Option<usize>
 }
 
 /// A `switch` goes on at this place of its block, or past it.
-fn enter_at<'a>(m: &mut Machine<'a>, list: &'a [Action], place: Option<usize>) -> Result<(), Memory>
+fn enter_at<'a>(
+    m: &mut Machine<'a>,
+    list: &'a [Action],
+    place: Option<usize>,
+) -> Result<Option<Ending>, Memory>
+    ensures goes { IfOk result (λ halt. halt ≡ None) }
     ensures todos { OnOk result (todos m.new.tasks.items ≡ entered_at (map action_view list.now) place (todos m.old.tasks.items)) }
     ensures state { OnOk result (state_of m.new ≡ state_of m.old) }
 {
-    if let Some(place) = place {
-        m.tasks.push(Task::SwitchEnd)?;
-        m.tasks.push(Task::Rest(list, place))?;
+    match place {
+        Some(place) => {
+            later(m, Task::SwitchEnd)?;
+            later(m, Task::Rest(list, place))
+        }
+        None => Ok(None),
     }
-    Ok(())
 }
 
-/// A `switch` of this value goes on in a block.
-fn to_case<'a>(m: &mut Machine<'a>, value: Value, list: &'a [Action]) -> Result<(), Memory>
-    ensures todos { OnOk result (todos m.new.tasks.items ≡ entered_at (map action_view list.now) (target_of value (map action_view list.now)) (todos m.old.tasks.items)) }
-    ensures state { OnOk result (state_of m.new ≡ state_of m.old) }
-{
-    enter_at(m, list, target(value, list))?;
-    Ok(())
-}
-
-/// The same of the block as the definition lists it.
-fn to_listed<'a>(m: &mut Machine<'a>, value: Value, list: &'a [Action]) -> Result<(), Memory>
+/// A `switch` of this value goes on in a block, as the definition lists it.
+fn to_case<'a>(
+    m: &mut Machine<'a>,
+    value: Value,
+    list: &'a [Action],
+) -> Result<Option<Ending>, Memory>
+    ensures goes { IfOk result (λ halt. halt ≡ None) }
     ensures todos { OnOk result (todos m.new.tasks.items ≡ entered_at (listed (actions_of (map action_view list.now))) (target_of value (listed (actions_of (map action_view list.now)))) (todos m.old.tasks.items)) }
     ensures state { OnOk result (state_of m.new ≡ state_of m.old) }
 {
-    to_case(m, value, list)?;
-    Ok(())
+    enter_at(m, list, target(value, list))
 }
 
 /// The block of a `switch`, once its value is known.
-fn switch_block<'a>(m: &mut Machine<'a>, value: Value, list: &'a [Action]) -> Result<(), Memory>
+fn switch_block<'a>(
+    m: &mut Machine<'a>,
+    value: Value,
+    list: &'a [Action],
+) -> Result<Option<Ending>, Memory>
+    ensures goes { IfOk result (λ halt. halt ≡ None) }
     ensures todos { OnOk result (todos m.new.tasks.items ≡ entered_at (listed (actions_of (map action_view list.now))) (target_of value (listed (actions_of (map action_view list.now)))) (todos m.old.tasks.items)) }
     ensures state { OnOk result (state_of m.new ≡ record (state_of m.old) { locals = unset_reached (declared (listed (actions_of (map action_view list.now)))) (state_of m.old).locals; values = below (state_of m.old).values }) }
 {
     take(&mut m.values);
     clear(&mut m.locals, list);
-    to_listed(m, value, list)?;
-    Ok(())
+    to_case(m, value, list)
 }
 
 /// A `switch`, once its value is known.
@@ -224,38 +238,35 @@ pub fn switch<'a>(
     pos: Pos,
     value: Value,
     body: &'a Action,
-) -> Result<(), Memory>
-    ensures { OnOk result (Tells (switched pos value (action_view body.now) (todos m.old.tasks.items) (state_of m.old)) None m.new) }
+) -> Result<Option<Ending>, Memory>
+    ensures { IfOk result (λ halt. Tells (switched pos value (action_view body.now) (todos m.old.tasks.items) (state_of m.old)) halt m.new) }
 {
     match &body.node {
-        ActionNode::Block(list, _) => {
-            switch_block(m, value, list)?;
-            Ok(())
-        }
+        ActionNode::Block(list, _) => switch_block(m, value, list),
         _ => {
             take(&mut m.values);
-            Ok(())
+            Ok(None)
         }
     }
 }
 
 /// All statements of a block come first.
-fn all_of<'a>(m: &mut Machine<'a>, list: &'a [Action]) -> Result<(), Memory>
+fn all_of<'a>(m: &mut Machine<'a>, list: &'a [Action]) -> Result<Option<Ending>, Memory>
+    ensures goes { IfOk result (λ halt. halt ≡ None) }
     ensures todos { OnOk result (todos m.new.tasks.items ≡ ToRest (listed (actions_of (map action_view list.now))) 0 ∷ todos m.old.tasks.items) }
     ensures state { OnOk result (state_of m.new ≡ state_of m.old) }
 {
-    later(m, Task::Rest(list, 0))?;
-    Ok(())
+    later(m, Task::Rest(list, 0))
 }
 
 /// A block is entered: its locals hold nothing.
-fn enter_block<'a>(m: &mut Machine<'a>, list: &'a [Action]) -> Result<(), Memory>
+fn enter_block<'a>(m: &mut Machine<'a>, list: &'a [Action]) -> Result<Option<Ending>, Memory>
+    ensures goes { IfOk result (λ halt. halt ≡ None) }
     ensures todos { OnOk result (todos m.new.tasks.items ≡ ToRest (listed (actions_of (map action_view list.now))) 0 ∷ todos m.old.tasks.items) }
     ensures state { OnOk result (state_of m.new ≡ record (state_of m.old) { locals = unset_reached (declared (listed (actions_of (map action_view list.now)))) (state_of m.old).locals }) }
 {
     clear(&mut m.locals, list);
-    all_of(m, list)?;
-    Ok(())
+    all_of(m, list)
 }
 
 /// A `for` begins: the locals that it declares hold nothing.
@@ -264,15 +275,26 @@ fn begin_for<'a>(
     list: &'a [Reached],
     first: Option<&'a Node>,
     turns: Turns<'a>,
-) -> Result<(), Memory>
+) -> Result<Option<Ending>, Memory>
+    ensures goes { IfOk result (λ halt. halt ≡ None) }
     ensures todos { OnOk result (todos m.new.tasks.items ≡ ToReach (map reached_view list.now) ∷ started (option_map (λ v. value_view v.now) first.entry) (ToTest (loop_of turns.entry) ∷ todos m.old.tasks.items)) }
     ensures state { OnOk result (state_of m.new ≡ record (state_of m.old) { locals = unset_reached (map reached_view list.now) (state_of m.old).locals }) }
 {
     clear_reached(&mut m.locals, list);
     later(m, Task::Test(turns))?;
     start(m, first)?;
-    later(m, Task::Reach(list))?;
-    Ok(())
+    later(m, Task::Reach(list))
+}
+
+/// A loop with a test that does nothing behind its body.
+pub fn tested_by<'a>(test: &'a Node, body: &'a Action) -> Turns<'a>
+    ensures { loop_of result ≡ a_loop (Some (value_view test.now)) None (action_view body.now) }
+{
+    Turns {
+        test: Some(test),
+        behind: None,
+        body,
+    }
 }
 
 /// A statement is done, or leaves its parts and its remainder.
@@ -280,47 +302,27 @@ pub fn execute<'a>(m: &mut Machine<'a>, action: &'a Action) -> Result<Option<End
     ensures { IfOk result (λ halt. Tells (executed (action_view action.now) (todos m.old.tasks.items) (state_of m.old)) halt m.new) }
 {
     match &action.node {
-        ActionNode::Block(list, _) => enter_block(m, list)?,
-        ActionNode::Reach(list) => later(m, Task::Reach(list))?,
-        ActionNode::Evaluate(value) => start(m, unboxed(value))?,
-        ActionNode::Test(test, part) => one(m, Task::Choose(part, None), test)?,
-        ActionNode::TestElse(test, part, other) => {
-            one(m, Task::Choose(part, Some(other)), test)?;
-        }
-        ActionNode::RepeatWhile(value, body) => {
-            let test = Some(&**value);
-            let turns = Turns {
-                test,
-                behind: None,
-                body,
-            };
-            one(m, Task::Turn(turns), value)?;
-        }
+        ActionNode::Block(list, _) => enter_block(m, list),
+        ActionNode::Reach(list) => later(m, Task::Reach(list)),
+        ActionNode::Evaluate(value) => start(m, unboxed(value)),
+        ActionNode::Test(test, part) => one(m, Task::Choose(part, None), test),
+        ActionNode::TestElse(test, part, other) => one(m, Task::Choose(part, Some(other)), test),
+        ActionNode::RepeatWhile(value, body) => one(m, Task::Turn(tested_by(value, body)), value),
         ActionNode::RepeatUntil(body, value) => {
-            let test = Some(&**value);
-            later(
-                m,
-                Task::Again(Turns {
-                    test,
-                    behind: None,
-                    body,
-                }),
-            )?;
-            later(m, Task::Exec(body))?;
+            body_first(m, Task::Again(tested_by(value, body)), body)
         }
         ActionNode::RepeatFor(list, first, test, behind, body) => {
             let (test, behind) = (unboxed(test), unboxed(behind));
-            begin_for(m, list, unboxed(first), Turns { test, behind, body })?;
+            begin_for(m, list, unboxed(first), Turns { test, behind, body })
         }
-        ActionNode::SwitchOn(value, body) => one(m, Task::Switch(action.pos, body), value)?,
-        ActionNode::AtCase(_, part) => later(m, Task::Exec(part))?,
-        ActionNode::AtDefault(part) => later(m, Task::Exec(part))?,
-        ActionNode::AtLabel(_, part) => later(m, Task::Exec(part))?,
-        ActionNode::Jump(label) => jump(&mut m.tasks, *label)?,
-        ActionNode::Leave => leave(&mut m.tasks)?,
-        ActionNode::NextTurn => next_turn(&mut m.tasks)?,
-        ActionNode::Give(None) => return Ok(Some(Ending::Leave(action.pos, None))),
-        ActionNode::Give(Some(value)) => one(m, Task::Return(action.pos), value)?,
+        ActionNode::SwitchOn(value, body) => one(m, Task::Switch(action.pos, body), value),
+        ActionNode::AtCase(_, part) => later(m, Task::Exec(part)),
+        ActionNode::AtDefault(part) => later(m, Task::Exec(part)),
+        ActionNode::AtLabel(_, part) => later(m, Task::Exec(part)),
+        ActionNode::Jump(label) => jump(&mut m.tasks, *label),
+        ActionNode::Leave => leave(&mut m.tasks),
+        ActionNode::NextTurn => next_turn(&mut m.tasks),
+        ActionNode::Give(None) => Ok(Some(Ending::Leave(action.pos, None))),
+        ActionNode::Give(Some(value)) => one(m, Task::Return(action.pos), value),
     }
-    Ok(None)
 }

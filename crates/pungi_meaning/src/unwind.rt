@@ -1,10 +1,12 @@
 // Where `goto`, `break` and `continue` lead.
-ghost use Rattle.std.specs.Prelude.{◌≡◌, ◌∷◌, IfOk, OnOk, is_some, map};
+ghost use Rattle.std.specs.Prelude.{◌≡◌, ◌∷◌, IfOk, None, OnOk, is_some, map};
 ghost use Rattle.pungi_resolved.specs.ActionView.{action_view};
 ghost use Rattle.pungi_meaning.specs.Machine.{todo_of, todos};
 ghost use Rattle.pungi_meaning.specs.Jumps.{entered, entered_among, found_or, from_label, after_break, after_continue};
 
-use crate::stmt::unboxed;
+use crate::expr::push;
+use crate::machine::Ending;
+use crate::stmt::{tested_by, unboxed};
 use crate::task::{Task, Turns};
 use pungi_base::{Memory, Name};
 use pungi_resolved::{Action, ActionNode};
@@ -20,7 +22,7 @@ fn enter_before<'a>(
     ensures found { IfOk result (λ found. found ≡ is_some (entered label (action_view part.now) (todo_of then.entry ∷ todos tasks.old.items))) }
     ensures tasks { OnOk result (todos tasks.new.items ≡ found_or (entered label (action_view part.now) (todo_of then.entry ∷ todos tasks.old.items)) (todos tasks.old.items)) }
 {
-    tasks.push(then)?;
+    push(tasks, then)?;
     let found = enter(tasks, label, part)?;
     if !found {
         tasks.pop();
@@ -37,45 +39,32 @@ fn enter<'a>(tasks: &mut Vec<Task<'a>>, label: Name, action: &'a Action) -> Resu
     match &action.node {
         ActionNode::AtLabel(name, part) => {
             if name.0 == label.0 {
-                tasks.push(Task::Exec(part))?;
+                push(tasks, Task::Exec(part))?;
                 return Ok(true);
             }
-            Ok(enter(tasks, label, part)?)
+            enter(tasks, label, part)
         }
-        ActionNode::AtCase(_, part) => Ok(enter(tasks, label, part)?),
-        ActionNode::AtDefault(part) => Ok(enter(tasks, label, part)?),
-        ActionNode::Test(_, part) => Ok(enter_before(tasks, label, part, Task::Join)?),
+        ActionNode::AtCase(_, part) => enter(tasks, label, part),
+        ActionNode::AtDefault(part) => enter(tasks, label, part),
+        ActionNode::Test(_, part) => enter_before(tasks, label, part, Task::Join),
         ActionNode::TestElse(_, part, other) => {
             if enter_before(tasks, label, part, Task::Join)? {
                 return Ok(true);
             }
-            Ok(enter_before(tasks, label, other, Task::Join)?)
+            enter_before(tasks, label, other, Task::Join)
         }
         ActionNode::RepeatWhile(test, body) => {
-            let again = Task::Again(Turns {
-                test: Some(&**test),
-                behind: None,
-                body,
-            });
-            Ok(enter_before(tasks, label, body, again)?)
+            enter_before(tasks, label, body, Task::Again(tested_by(test, body)))
         }
         ActionNode::RepeatUntil(body, test) => {
-            let again = Task::Again(Turns {
-                test: Some(&**test),
-                behind: None,
-                body,
-            });
-            Ok(enter_before(tasks, label, body, again)?)
+            enter_before(tasks, label, body, Task::Again(tested_by(test, body)))
         }
         ActionNode::RepeatFor(_, _, test, behind, body) => {
-            let again = Task::Again(Turns {
-                test: unboxed(test),
-                behind: unboxed(behind),
-                body,
-            });
-            Ok(enter_before(tasks, label, body, again)?)
+            let (test, behind) = (unboxed(test), unboxed(behind));
+            let again = Task::Again(Turns { test, behind, body });
+            enter_before(tasks, label, body, again)
         }
-        ActionNode::SwitchOn(_, body) => Ok(enter_before(tasks, label, body, Task::SwitchEnd)?),
+        ActionNode::SwitchOn(_, body) => enter_before(tasks, label, body, Task::SwitchEnd),
         _ => Ok(false),
     }
 }
@@ -98,55 +87,58 @@ fn enter_block<'a>(
 }
 
 /// What remains from a label on.
-pub fn jump(tasks: &mut Vec<Task>, label: Name) -> Result<(), Memory>
-    ensures { OnOk result (todos tasks.new.items ≡ from_label label (todos tasks.old.items)) }
+pub fn jump(tasks: &mut Vec<Task>, label: Name) -> Result<Option<Ending>, Memory>
+    ensures goes { IfOk result (λ halt. halt ≡ None) }
+    ensures tasks { OnOk result (todos tasks.new.items ≡ from_label label (todos tasks.old.items)) }
 {
     while let Some(task) = tasks.pop() {
         match task {
             Task::End(_, _) => {
-                tasks.push(task)?;
-                return Ok(());
+                push(tasks, task)?;
+                return Ok(None);
             }
             Task::Rest(block, _) => {
                 if enter_block(tasks, label, block)? {
-                    return Ok(());
+                    return Ok(None);
                 }
             }
             _ => {}
         }
     }
-    Ok(())
+    Ok(None)
 }
 
 /// What remains behind the innermost loop or `switch`.
-pub fn leave(tasks: &mut Vec<Task>) -> Result<(), Memory>
-    ensures { OnOk result (todos tasks.new.items ≡ after_break (todos tasks.old.items)) }
+pub fn leave(tasks: &mut Vec<Task>) -> Result<Option<Ending>, Memory>
+    ensures goes { IfOk result (λ halt. halt ≡ None) }
+    ensures tasks { OnOk result (todos tasks.new.items ≡ after_break (todos tasks.old.items)) }
 {
     while let Some(task) = tasks.pop() {
         match task {
             Task::End(_, _) => {
-                tasks.push(task)?;
-                return Ok(());
+                push(tasks, task)?;
+                return Ok(None);
             }
-            Task::Again(_) | Task::SwitchEnd => return Ok(()),
+            Task::Again(_) | Task::SwitchEnd => return Ok(None),
             _ => {}
         }
     }
-    Ok(())
+    Ok(None)
 }
 
 /// What remains from the next turn of the innermost loop on.
-pub fn next_turn(tasks: &mut Vec<Task>) -> Result<(), Memory>
-    ensures { OnOk result (todos tasks.new.items ≡ after_continue (todos tasks.old.items)) }
+pub fn next_turn(tasks: &mut Vec<Task>) -> Result<Option<Ending>, Memory>
+    ensures goes { IfOk result (λ halt. halt ≡ None) }
+    ensures tasks { OnOk result (todos tasks.new.items ≡ after_continue (todos tasks.old.items)) }
 {
     while let Some(task) = tasks.pop() {
         match task {
             Task::End(_, _) | Task::Again(_) => {
-                tasks.push(task)?;
-                return Ok(());
+                push(tasks, task)?;
+                return Ok(None);
             }
             _ => {}
         }
     }
-    Ok(())
+    Ok(None)
 }

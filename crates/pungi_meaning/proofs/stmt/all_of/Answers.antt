@@ -1,4 +1,4 @@
-use Rattle.std.proofs.Common.{◌∷◌, map, sym, ap, ◌∙◌}
+use Rattle.std.proofs.Common.{◌≡◌, ◌∷◌, OnOk, map, subst, sym}
 use Rattle.pungi_resolved.specs.ActionView.{action_view}
 use Rattle.pungi_meaning.specs.Machine.{todos}
 use Rattle.pungi_meaning.specs.Todo.{ToRest}
@@ -7,5 +7,4 @@ use Rattle.pungi_meaning.proofs.stmt.all_of.Goals as goal
 
 pub returns-clause-todos : goal.returns-clause-todos
 returns-clause-todos c =
-    c.in_ok-later.ensures.todos
-    ∙ ap (λ l. ToRest l 0 ∷ todos c.args.m.now.tasks.items) (sym (actions_listed (map action_view c.args.list.now)))
+    subst (λ l. OnOk c.later.result (todos c.later.new.m.tasks.items ≡ ToRest l 0 ∷ todos c.args.m.now.tasks.items)) (sym (actions_listed (map action_view c.args.list.now))) c.later.ensures.todos
