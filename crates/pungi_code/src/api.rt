@@ -62,7 +62,7 @@ pub fn call_api(
     ensures { IfOk result (λ after. Does (λ next. with_values (all_values args.now (regs_of m.old).vars) pos (calling choices.now x shape.now outs.now pos next pc (regs_of m.old))) after m.new) }
 {
     match values_of(alloc, args, &m.vars)? {
-        Some(values) => Ok(call(m, alloc, choices, x, shape, outs, pos, pc, &values)?),
+        Some(values) => call(m, alloc, choices, x, shape, outs, pos, pc, &values),
         None => Ok(After::Stops(pos)),
     }
 }

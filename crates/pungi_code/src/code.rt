@@ -3,7 +3,7 @@ use pungi_api::Param;
 use pungi_base::{Name, Pos, Seq};
 
 /// An instruction, and the place in the text of the node that it does.
-#[derive(Debug, Drop)]
+#[derive(Drop)]
 pub struct Line {
     pub pos: Pos,
     pub instr: Instr,
@@ -11,14 +11,14 @@ pub struct Line {
 
 /// A loop's head: the label of its test, or the target of a backward jump; and a place in the text that it is told by, that of
 /// a loop or of a label in front of a statement.
-#[derive(Clone, Copy, Debug, PartialEq, Eq)]
+#[derive(Clone, Copy)]
 pub struct Head {
     pub label: Label,
     pub pos: Pos,
 }
 
 /// The code of a function.
-#[derive(Debug, Drop)]
+#[derive(Drop)]
 pub struct Code {
     pub instrs: Seq<Line>,
     /// What each variable holds. The parameters come first, then the other locals, then what is temporary.
@@ -31,7 +31,7 @@ pub struct Code {
 }
 
 /// The codes of a file's functions.
-#[derive(Debug, Drop)]
+#[derive(Drop)]
 pub struct Codes {
     /// No code for a function that is refused or calls one of the file.
     pub codes: Seq<Option<Code>>,

@@ -37,10 +37,10 @@ fn code_at(codes: &Codes, f: usize) -> Option<&Code>
 fn begin(alloc: Global, code: &Code, entry: &Entry) -> Result<Registers, Memory>
     ensures { IfOk result (λ m. regs_of m ≡ start code.now entry.now) }
 {
-    let world = CountedWorld::start(alloc, entry)?;
     let mut vars = held(alloc, entry.args.as_slice())?;
     let unset = code.vars.len().saturating_sub(entry.args.len());
     add_unset(&mut vars, unset)?;
+    let world = CountedWorld::start(alloc, entry)?;
     Ok(Registers {
         world,
         used: Vec::new(alloc),
@@ -56,6 +56,30 @@ fn place_after(after: After) -> Option<usize>
         After::Goes(next) => Some(next),
         _ => None,
     }
+}
+
+/// Does at most `fuel` instructions, from the first on. Where the last of them led.
+fn go(
+    m: &mut Registers,
+    alloc: Global,
+    choices: &[Choice],
+    instrs: &[Line],
+    fuel: u32,
+) -> Result<After, Memory>
+    ensures { IfOk result (λ after. end_at after m.new ≡ (exec choices.now instrs.now fuel 0 (regs_of m.old)).end) }
+{
+    let mut pc = 0;
+    for i in 0..fuel {
+        let Some(line) = line_at(instrs, pc) else {
+            return Ok(After::Stops(Pos { line: 0, col: 0 }));
+        };
+        let after = perform(m, alloc, choices, line, pc)?;
+        match place_after(after) {
+            Some(next) => pc = next,
+            None => return Ok(after),
+        }
+    }
+    Ok(After::Goes(pc))
 }
 
 /// The outcome of a run that leads nowhere any more.
@@ -88,19 +112,8 @@ fn run_code(
     ensures counted { IfOk result (λ outcome. IsCounted outcome) }
 {
     let mut m = begin(alloc, code, entry)?;
-    let instrs = code.instrs.as_slice();
-    let mut pc = 0;
-    for i in 0..fuel {
-        let Some(line) = line_at(instrs, pc) else {
-            return Ok(Outcome::Stopped(Pos { line: 0, col: 0 }));
-        };
-        let after = perform(&mut m, alloc, choices, line, pc)?;
-        match place_after(after) {
-            Some(next) => pc = next,
-            None => return Ok(ended(m, after)),
-        }
-    }
-    Ok(Outcome::OutOfFuel)
+    let after = go(&mut m, alloc, choices, code.instrs.as_slice(), fuel)?;
+    Ok(ended(m, after))
 }
 
 /// Runs the code of a function from an entry, for at most `fuel` instructions, with these answers of the outside. The world
@@ -117,7 +130,7 @@ pub fn code_run(
     ensures counted { IfOk result (λ outcome. IsCounted outcome) }
 {
     match code_at(codes, f) {
-        Some(code) => Ok(run_code(alloc, code, entry, choices, fuel)?),
+        Some(code) => run_code(alloc, code, entry, choices, fuel),
         None => Ok(Outcome::Stopped(Pos { line: 0, col: 0 })),
     }
 }

@@ -5,11 +5,11 @@ use pungi_meaning::{Cmp, Op};
 use pungi_types::ValueKind;
 
 /// A place in the list of instructions.
-#[derive(Clone, Copy, Debug, PartialEq, Eq)]
+#[derive(Clone, Copy, PartialEq, Eq)]
 pub struct Label(pub u32);
 
 /// One instruction. What it writes comes first. To read an unset variable stops the run.
-#[derive(Debug, Drop)]
+#[derive(Drop)]
 pub enum Instr {
     /// A copy.
     Set(Var, Atom),

@@ -122,7 +122,7 @@ fn load_place(
     ensures { IfOk result (λ after. Does (λ next. with_slot (slot_at place (regs_of m.old).vars) pos (loading choices.now x pos next pc (regs_of m.old))) after m.new) }
 {
     match slot_of(place, &m.vars) {
-        Some((slot, kind)) => Ok(load(m, alloc, choices, x, pos, pc, slot, kind)?),
+        Some((slot, kind)) => load(m, alloc, choices, x, pos, pc, slot, kind),
         None => Ok(After::Stops(pos)),
     }
 }
@@ -143,7 +143,7 @@ fn store_place(
         return Ok(After::Stops(pos));
     };
     match slot_of(place, &m.vars) {
-        Some((slot, kind)) => Ok(store(m, alloc, choices, pos, pc, value, slot, kind)?),
+        Some((slot, kind)) => store(m, alloc, choices, pos, pc, value, slot, kind),
         None => Ok(After::Stops(pos)),
     }
 }
@@ -168,11 +168,11 @@ pub fn perform(
         Instr::Arith(x, kind, op, a, b) => Ok(arith(m, *x, *kind, *op, *a, *b, pos, pc)),
         Instr::Fit(x, kind, a) => Ok(fit(m, *x, *kind, *a, pos, pc)),
         Instr::Compare(x, cmp, a, b) => Ok(compare(m, *x, *cmp, *a, *b, pos, pc)),
-        Instr::Load(x, place) => Ok(load_place(m, alloc, choices, *x, *place, pos, pc)?),
-        Instr::Store(place, a) => Ok(store_place(m, alloc, choices, *place, *a, pos, pc)?),
+        Instr::Load(x, place) => load_place(m, alloc, choices, *x, *place, pos, pc),
+        Instr::Store(place, a) => store_place(m, alloc, choices, *place, *a, pos, pc),
         Instr::Api(x, shape, args, outs) => {
             let (args, outs) = (args.as_slice(), outs.as_slice());
-            Ok(call_api(m, alloc, choices, *x, shape, args, outs, pos, pc)?)
+            call_api(m, alloc, choices, *x, shape, args, outs, pos, pc)
         }
         Instr::Call(_, _, _) => Ok(After::Stops(pos)),
         Instr::Unset(x) => Ok(put(m, *x, Content::Unset, pc)),

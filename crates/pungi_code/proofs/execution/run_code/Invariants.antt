@@ -1,7 +1,0 @@
-use Rattle.std.proofs.Common.{◌≡◌, ◌-◌}
-use Rattle.pungi_code.specs.Machine.{regs_of}
-use Rattle.pungi_code.specs.Run.{exec, start}
-use Rattle.pungi_code.proofs.execution.run_code.Given as goal
-
-abbrev pub invariant-loop-i : goal.invariant-loop-i
-invariant-loop-i l = (exec l.choices l.code.instrs (l.fuel - l.i) l.pc (regs_of l.m)).end ≡ (exec l.choices l.code.instrs l.fuel 0 (start l.code l.entry)).end
