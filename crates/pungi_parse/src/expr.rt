@@ -8,7 +8,7 @@ ghost use Rattle.pungi_tree.specs.Placed.{placed};
 
 use crate::begins::cast_front;
 use crate::eat::{eat, eat_assign, eat_operator};
-use crate::nodes::boxed;
+use crate::nodes::{self, boxed};
 use crate::operators::{binary_level, level as level_of};
 use crate::parser::{Parser, Read};
 use crate::stop::Stop;
@@ -82,8 +82,7 @@ impl Parser<'_> {
                 return Err(Stop::NothingRead);
             }
             let (right, right_depth, behind) = self.expr(1, after)?;
-            let node = ExprNode::Comma(left, right);
-            left = boxed(self.alloc, Expr { pos, node })?;
+            left = nodes::comma(self.alloc, pos, left, right)?;
             left_depth = left_depth.max(right_depth) + 1;
             rest = behind;
         }
@@ -162,8 +161,7 @@ impl Parser<'_> {
                 return Err(Stop::NothingRead);
             }
             let (right, right_depth, behind) = self.expr(binary_level(operator) + 1, after)?;
-            let node = ExprNode::Binary(operator, left, right);
-            left = boxed(self.alloc, Expr { pos, node })?;
+            left = nodes::binary(self.alloc, pos, operator, left, right)?;
             left_depth = left_depth.max(right_depth) + 1;
             rest = behind;
         }

@@ -18,11 +18,7 @@ use pungi_tree::{Expr, ForStart, Stmt, StmtNode};
 impl Parser<'_> {
     /// An expression, where one stands there, and the punctuator behind it.
     #[tactic(auto, unfolding(crate::specs::StmtReader::optional, crate::specs::Reading::chain, crate::specs::Reading::on_some))]
-    pub(crate) fn optional<'t>(
-        &self,
-        mark: Punct,
-        tokens: &'t [Token],
-    ) -> Front<'t, Option<Expr>>
+    pub(crate) fn optional<'t>(&self, mark: Punct, tokens: &'t [Token]) -> Front<'t, Option<Expr>>
         ensures tree { Gives (λ x. (optional_view x.0, placed x.1.now)) result
             (optional_of self.now.types.now (readers self.now.types.now self.now.nest self.now.most) mark (placed tokens.now)) }
         ensures shorter { IfOk result (λ x. length x.1.now < length tokens.now) }

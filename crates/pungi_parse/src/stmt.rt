@@ -12,7 +12,7 @@ use crate::begun::Begun;
 use crate::decl::Front;
 use crate::eat::{eat, eat_key};
 use crate::parser::Parser;
-use crate::stmt_nodes::{boxed, headed, push};
+use crate::stmt_nodes::{block, boxed, headed, push};
 use crate::stop::Stop;
 use pungi_base::{Key, Pos, Punct, Token};
 use pungi_tree::{Expr, Stmt, StmtNode};
@@ -94,8 +94,7 @@ impl Parser<'_> {
         let mut rest = tokens;
         'each: loop {
             if let Some((close, behind)) = eat(Punct::RightBrace, rest) {
-                let node = StmtNode::Block(list, close);
-                return Ok((boxed(self.alloc, Stmt { pos, node })?, behind));
+                return Ok((block(self.alloc, pos, list, close)?, behind));
             }
             let (more, behind) = self.element(rest)?;
             push(&mut list, more)?;

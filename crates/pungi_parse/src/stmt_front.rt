@@ -164,7 +164,12 @@ impl Parser<'_> {
 
     /// What stands behind the body of a `do`.
     #[tactic(auto, unfolding(crate::specs::Begun::do_end, crate::specs::Reading::chain))]
-    pub(crate) fn do_end<'t>(&self, pos: Pos, body: Box<Stmt>, tokens: &'t [Token]) -> Front<'t, Box<Stmt>>
+    pub(crate) fn do_end<'t>(
+        &self,
+        pos: Pos,
+        body: Box<Stmt>,
+        tokens: &'t [Token],
+    ) -> Front<'t, Box<Stmt>>
         ensures tree { Gives (λ x. (stmt_view x.0.value, placed x.1.now)) result
             (do_end_of self.now.types.now (readers self.now.types.now self.now.nest self.now.most) pos (stmt_view body.value) (placed tokens.now)) }
         ensures shorter { IfOk result (λ x. length x.1.now < length tokens.now) }

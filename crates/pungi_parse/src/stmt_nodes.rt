@@ -1,9 +1,10 @@
-ghost use Rattle.std.specs.Prelude.{◌≡◌, ◌++◌, ◌∷◌, [], List, Some, IfOk, OnOk};
+ghost use Rattle.std.specs.Prelude.{◌≡◌, ◌++◌, ◌∷◌, [], List, Some, IfOk, OnOk, map};
 ghost use Rattle.pungi_parse.specs.Begun.{head_view, finish_at};
 ghost use Rattle.pungi_parse.specs.TypeReader.{Lower};
 ghost use Rattle.pungi_base.specs.declared.names.Name.{Name as TheName};
 ghost use Rattle.pungi_tree.specs.Placed.{Placed};
-ghost use Rattle.pungi_tree.specs.StmtView.{stmt_view};
+ghost use Rattle.pungi_tree.specs.StmtView.{stmt_view, stmts_of};
+ghost use Rattle.pungi_tree.specs.Syntax as plain;
 
 use crate::begun::{ForHead, StmtHead};
 use pungi_base::{Memory, Pos};
@@ -15,6 +16,18 @@ pub(crate) fn boxed(alloc: Global, stmt: Stmt) -> Result<Box<Stmt>, Memory>
     ensures { IfOk result (λ x. stmt_view x.value ≡ stmt_view stmt) }
 {
     Ok(Box::new(alloc, stmt)?)
+}
+
+pub(crate) fn block(
+    alloc: Global,
+    pos: Pos,
+    list: Vec<Stmt>,
+    close: Pos,
+) -> Result<Box<Stmt>, Memory>
+    ensures { IfOk result (λ x. stmt_view x.value ≡ plain.block pos (stmts_of (map stmt_view list.items)) close) }
+{
+    let node = StmtNode::Block(list, close);
+    Ok(Box::new(alloc, Stmt { pos, node })?)
 }
 
 /// A statement with one body, by what stands in front of the body.

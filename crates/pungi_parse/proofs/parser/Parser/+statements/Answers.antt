@@ -78,5 +78,5 @@ block-each-preserved t c =
 pub block-returns-in-Some-clause-tree : goal.block-returns-in-Some-clause-tree
 block-returns-in-Some-clause-tree t c =
     let s = c.args.self.now in
-    rw c.in_ok-boxed.ensures (block_end s.types.now s.nest s.most (placed c.args.tokens.now) c.args.pos (map stmt_view c.each.list.items) (placed c.each.rest.now)
+    rw c.in_ok-block.ensures (block_end s.types.now s.nest s.most (placed c.args.tokens.now) c.args.pos (map stmt_view c.each.list.items) (placed c.each.rest.now)
     c.in-Some.close (placed c.in-Some.behind.now) c.each.invariant.to (sym c.in-Some.ensures.token))
