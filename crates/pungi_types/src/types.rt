@@ -23,7 +23,7 @@ pub enum Core<'a> {
 }
 
 /// A typedef of the file.
-#[derive(Clone, Copy, Debug)]
+#[derive(Clone, Copy)]
 pub struct Typedef<'a> {
     pub name: Name,
     pub pos: Pos,
