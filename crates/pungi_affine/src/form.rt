@@ -16,7 +16,7 @@ use crate::row::Row;
 use std::alloc::{AllocError, Global};
 
 /// Rows that are scaled and reduced, but have perhaps a common divisor.
-#[derive(Debug, Drop)]
+#[derive(Drop)]
 pub(crate) struct WideForm {
     pub(crate) scale: i128,
     pub(crate) rows: Vec<WideRow>,
@@ -102,8 +102,8 @@ pub(crate) fn narrowed(alloc: Global, row: &WideRow) -> Result<Row, AllocError>
 {
     let mut entries = Vec::with_capacity(alloc, row.entries.len())?;
     let wide = row.entries.as_slice();
-    for i in 0..wide.len() {
-        entries.push(wide[i] as i64)?;
+    for entry in wide {
+        entries.push(*entry as i64)?;
     }
     Ok(Row {
         pivot: row.pivot,

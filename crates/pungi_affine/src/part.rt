@@ -9,7 +9,7 @@ use crate::divisor::{divisor, take_out};
 use std::alloc::{AllocError, Global};
 
 /// A row whose entries may be over 2^31, with its pivot.
-#[derive(Debug, Drop)]
+#[derive(Drop)]
 pub(crate) struct WideRow {
     pub(crate) pivot: u32,
     pub(crate) entries: Vec<i128>,

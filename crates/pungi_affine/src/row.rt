@@ -5,7 +5,7 @@ ghost use Rattle.pungi_affine.specs.Forms.{line, lines, IsBox, WithinBox};
 ghost use Rattle.pungi_affine.specs.Mixes.{IsNarrow, IsWide};
 
 /// A kept row, with its pivot.
-#[derive(Debug, Drop)]
+#[derive(Drop)]
 pub(crate) struct Row {
     pub(crate) pivot: u32,
     pub(crate) entries: Vec<i64>,

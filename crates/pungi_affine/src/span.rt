@@ -21,7 +21,7 @@ use std::marker::Model;
 /// The vectors that fulfil some homogeneous linear equations over the fractions, as the span of scaled rows.
 ///
 /// It describes at most 256 coordinates. A row has entries up to 2^31 in absolute value.
-#[derive(Debug, Drop)]
+#[derive(Drop)]
 pub struct Span {
     pub(crate) width: u32,
     pub(crate) scale: i64,

@@ -14,13 +14,13 @@ use pungi_domain::DomainFault;
 use std::alloc::{AllocError, Global};
 
 /// A vector to be added.
-#[derive(Debug, Drop)]
+#[derive(Drop)]
 pub(crate) struct Given {
     pub(crate) entries: Vec<i128>,
 }
 
 /// A span to which vectors were added, and whether that changed it.
-#[derive(Debug, Drop)]
+#[derive(Drop)]
 pub(crate) struct Grown {
     pub(crate) span: Span,
     pub(crate) changed: bool,
@@ -64,8 +64,8 @@ pub(crate) fn widened(alloc: Global, row: &Row) -> Result<Given, AllocError>
 {
     let mut entries = Vec::with_capacity(alloc, row.entries.len())?;
     let kept = row.entries.as_slice();
-    for i in 0..kept.len() {
-        entries.push(i128::from(kept[i]))?;
+    for entry in kept {
+        entries.push(i128::from(*entry))?;
     }
     Ok(Given { entries })
 }

@@ -95,13 +95,13 @@ impl Bounds {
         ensures { IfOk result (λ b. b ≡ record { nodes = nodes; room = room; held = []; cycle = [] }) }
     {
         let count = nodes as usize;
-        let held = Held::new(alloc, nodes, room)?;
         let round = Vec::with_capacity(alloc, count + 1)?;
         let fringe = Vec::with_capacity(alloc, count)?;
         let value = filled(alloc, count, 0i128)?;
         let gap = filled(alloc, count, 0i128)?;
         let rank = filled(alloc, count, 0u32)?;
         let via = filled(alloc, count, NO_CONSTRAINT)?;
+        let held = Held::new(alloc, nodes, room)?;
         Ok(Bounds {
             held,
             value,
@@ -167,7 +167,6 @@ impl Bounds {
         ensures { IfOk result (λ b. b ≡ record { nodes = nodes; room = room; held = self.now.held; cycle = [] }) }
     {
         let count = nodes as usize;
-        let held = self.held.copy(alloc, nodes, room)?;
         let round = Vec::with_capacity(alloc, count + 1)?;
         let fringe = Vec::with_capacity(alloc, count)?;
         let mut value = Vec::from_slice(alloc, self.value.as_slice())?;
@@ -175,6 +174,7 @@ impl Bounds {
         let gap = filled(alloc, count, 0i128)?;
         let rank = filled(alloc, count, 0u32)?;
         let via = filled(alloc, count, NO_CONSTRAINT)?;
+        let held = self.held.copy(alloc, nodes, room)?;
         Ok(Bounds {
             held,
             value,

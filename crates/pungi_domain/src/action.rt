@@ -2,7 +2,7 @@ use crate::Matrix;
 use pungi_base::Seq;
 
 /// What an edge does to a vector that meets its guard.
-#[derive(Debug, Drop)]
+#[derive(Drop)]
 pub enum Action {
     /// The vector's image.
     Map(Matrix),

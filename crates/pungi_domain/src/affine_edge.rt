@@ -2,7 +2,7 @@ use crate::{Action, Equation, Target};
 use pungi_base::Seq;
 
 /// A step of an affine program.
-#[derive(Debug, Drop)]
+#[derive(Drop)]
 pub struct AffineEdge {
     /// The place that it leaves.
     pub from: u32,

@@ -2,7 +2,7 @@ use crate::AffineEdge;
 use pungi_base::{Pos, Seq};
 
 /// A control-flow graph whose states are vectors of whole numbers.
-#[derive(Debug, Drop)]
+#[derive(Drop)]
 pub struct AffineProgram {
     /// How many coordinates the vectors of each place have.
     pub widths: Seq<u32>,

@@ -74,7 +74,7 @@ pub(crate) fn known_sum(constants: &[Option<i64>], coefficients: &[i64]) -> i128
 }
 
 /// Where an equation has a coefficient other than 0 at a coordinate without a known constant.
-#[derive(Clone, Copy, Debug)]
+#[derive(Clone, Copy)]
 pub(crate) enum Unsettled {
     Nowhere,
     At(usize),
@@ -149,7 +149,7 @@ pub(crate) fn solution(coefficient: i64, sum: i128) -> Option<i64>
 }
 
 /// A coordinate without a known constant, and the one that an equation tells of it.
-#[derive(Clone, Copy, Debug)]
+#[derive(Clone, Copy)]
 pub(crate) struct Told {
     place: usize,
     constant: i64,

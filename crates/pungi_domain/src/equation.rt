@@ -4,7 +4,7 @@ use pungi_base::Seq;
 ///
 /// It has one coefficient a coordinate. Coordinate 0 stands for the constant. The coefficients of the others lie within
 /// 2^20.
-#[derive(Debug, Drop)]
+#[derive(Drop)]
 pub struct Equation {
     pub coefficients: Seq<i64>,
 }

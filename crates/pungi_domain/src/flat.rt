@@ -15,7 +15,7 @@ use std::marker::Model;
 
 /// The domain of constants: a value knows of some coordinates which constant multiple of the leading one they are
 /// (Kildall 1973). A constant over 2^31 in absolute value is not kept. The calls never answer `Range`.
-#[derive(Debug, Drop)]
+#[derive(Drop)]
 pub struct Flat {
     width: u32,
     constants: Option<Seq<Option<i64>>>,

@@ -1,5 +1,5 @@
 /// Where an edge leads to.
-#[derive(Clone, Copy, Debug, PartialEq, Eq)]
+#[derive(Clone, Copy)]
 pub enum Target {
     /// A place of the program, by number.
     Place(u32),

@@ -16,3 +16,4 @@ pub mod ResolvedStmts
 pub mod TypesView
 pub mod Sound
 pub mod Standing
+pub mod ExprParts

@@ -1,7 +1,9 @@
 //! The kind of an expression, and where rules hold in it.
 ghost use Rattle.std.specs.Prelude.{◌≡◌, ◌&&◌, ◌||◌, not, map, None, if◌then◌else◌};
-ghost use Rattle.pungi_types.specs.Findings.{least_from};
-ghost use Rattle.pungi_types.specs.Exprs.{is_place as is_place_of, names_type_object as names_type_object_of, is_module_address as is_module_address_of, operand as operand_of, kind_of, expr_findings, args_findings, arg_findings, are_met, first_met as first_met_of, wants_module as wants_module_of, is_word as is_word_of, called_findings, cast_findings, cast_kind as cast_kind_of, callee, wants, is_unknown_call, result_kind, is_value_called, takes_arguments};
+ghost use Rattle.pungi_types.specs.Findings.{least_from, ◌and◌};
+ghost use Rattle.pungi_types.specs.Exprs.{is_place as is_place_of, names_type_object as names_type_object_of, is_module_address as is_module_address_of, operand as operand_of, kind_of, expr_findings, args_findings, arg_findings, are_met, first_met as first_met_of, wants_module as wants_module_of, is_word as is_word_of, called_findings, cast_findings, cast_kind as cast_kind_of, callee, wants, is_unknown_call, result_kind, is_value_called, takes_arguments, meaning_kind, step_kind as step_kind_of};
+ghost use Rattle.pungi_types.specs.ExprParts.{used_of, word_findings, step_findings, binary_findings, assign_findings, cond_findings, call_findings};
+ghost use Rattle.pungi_types.specs.Names.{meaning_of};
 ghost use Rattle.pungi_types.specs.Kinds.{type_name_kind};
 ghost use Rattle.pungi_tree.specs.Syntax as plain;
 ghost use Rattle.pungi_tree.specs.ExprView.{expr_view, exprs_of, type_name_view};
@@ -61,11 +63,7 @@ pub fn check_expr<N: Lookup>(names: &N, first: &mut Option<Finding>, e: &Expr) -
     ensures found { first.new ≡ least_from first.old (expr_findings (N.env names.now) (expr_view e.now)) }
 {
     match &e.node {
-        ExprNode::Word(name) => {
-            note(first, names.is_function(name.0), e.pos, 3);
-            note(first, names.is_unknown(name.0), e.pos, 9);
-            names.word_kind(name.0)
-        }
+        ExprNode::Word(name) => word(names, first, e.pos, name.0),
         ExprNode::Int {
             value,
             long,
@@ -85,61 +83,26 @@ pub fn check_expr<N: Lookup>(names: &N, first: &mut Option<Finding>, e: &Expr) -
         ExprNode::Unary(op, a) => unary(names, first, e.pos, *op, a),
         ExprNode::Post(_, a) => {
             let kind = check_expr(names, first, a);
-            let place = is_place(names, a);
-            note(
-                first,
-                unary_wrong(Prefix::Step, place, operand(kind, a)),
-                e.pos,
-                10,
-            );
-            note_used(first, kind, a);
-            note(first, is_pointer(kind), e.pos, 13);
-            step_kind(place, kind)
+            step(first, e.pos, is_place(names, a), kind, a)
         }
         ExprNode::Binary(m, a, b) => {
             let left = check_expr(names, first, a);
             let right = check_expr(names, first, b);
-            note(first, is_bits(*m), e.pos, 2);
-            note(
-                first,
-                binary_wrong(*m, operand(left, a), operand(right, b)),
-                e.pos,
-                10,
-            );
-            note_used(first, left, a);
-            note_used(first, right, b);
-            note(first, on_pointers(*m, left, right), e.pos, 13);
+            note_binary(first, e.pos, *m, left, a, right, b);
             binary_kind(*m, left, right)
         }
         ExprNode::Assign(m, a, b) => {
             let left = check_expr(names, first, a);
             let right = check_expr(names, first, b);
             let place = is_place(names, a);
-            note(first, is_bits_assign(*m), e.pos, 2);
-            note(
-                first,
-                assign_wrong(*m, place, operand(left, a), operand(right, b)),
-                e.pos,
-                10,
-            );
-            note_used(first, left, a);
-            note_used(first, right, b);
-            note(first, assigns_pointers(*m, left, right), e.pos, 13);
+            note_assign(first, e.pos, *m, place, left, a, right, b);
             assign_kind(*m, place, left, right)
         }
         ExprNode::Cond(c, a, b) => {
             let test = check_expr(names, first, c);
             let left = check_expr(names, first, a);
             let right = check_expr(names, first, b);
-            note(
-                first,
-                cond_wrong(operand(test, c), operand(left, a), operand(right, b)),
-                e.pos,
-                10,
-            );
-            note_used(first, test, c);
-            note_used(first, left, a);
-            note_used(first, right, b);
+            note_cond(first, e.pos, test, c, left, a, right, b);
             cond_kind(test, left, right)
         }
         ExprNode::Comma(a, b) => {
@@ -155,9 +118,7 @@ pub fn check_expr<N: Lookup>(names: &N, first: &mut Option<Finding>, e: &Expr) -
         ExprNode::Call(f, list) => {
             let met = args(names, first, callee_wants(names, f), list);
             called(names, first, f);
-            note(first, !is_word(f), e.pos, 3);
-            note(first, is_unknown_callee(names, f), e.pos, 9);
-            note(first, is_wrong_call(names, f, met), e.pos, 10);
+            note_call(names, first, e.pos, f, met);
             call_kind(names, f, met)
         }
         ExprNode::New(_, a) => {
@@ -169,8 +130,7 @@ pub fn check_expr<N: Lookup>(names: &N, first: &mut Option<Finding>, e: &Expr) -
             let left = check_expr(names, first, a);
             let right = check_expr(names, first, b);
             note(first, true, e.pos, 2);
-            note_used(first, left, a);
-            note_used(first, right, b);
+            note_both_used(first, left, a, right, b);
             None
         }
         ExprNode::Dot(a, _) => {
@@ -187,6 +147,102 @@ pub fn check_expr<N: Lookup>(names: &N, first: &mut Option<Finding>, e: &Expr) -
             field
         }
     }
+}
+
+fn word<N: Lookup>(names: &N, first: &mut Option<Finding>, pos: Pos, word: u32) -> Known
+    ensures kind { result ≡ meaning_kind (meaning_of (N.env names.now) word) }
+    ensures found { first.new ≡ least_from first.old (word_findings (meaning_of (N.env names.now) word) pos) }
+{
+    note(first, names.is_function(word), pos, 3);
+    note(first, names.is_unknown(word), pos, 9);
+    names.word_kind(word)
+}
+
+/// The values of two expressions are used.
+fn note_both_used(first: &mut Option<Finding>, left: Known, a: &Expr, right: Known, b: &Expr)
+    ensures { first.new ≡ least_from first.old (used_of left (expr_view a.now) and used_of right (expr_view b.now)) }
+{
+    note_used(first, left, a);
+    note_used(first, right, b);
+}
+
+/// What holds at `++` or `--` behind an operand of this kind, and the kind of the whole.
+fn step(first: &mut Option<Finding>, pos: Pos, place: bool, kind: Known, a: &Expr) -> Known
+    ensures kind { result ≡ step_kind_of place kind }
+    ensures found { first.new ≡ least_from first.old (step_findings pos place kind (expr_view a.now)) }
+{
+    let wrong = unary_wrong(Prefix::Step, place, operand(kind, a));
+    note(first, wrong, pos, 10);
+    note_used(first, kind, a);
+    note(first, is_pointer(kind), pos, 13);
+    step_kind(place, kind)
+}
+
+/// What holds at a binary operator between operands of these kinds.
+fn note_binary(
+    first: &mut Option<Finding>,
+    pos: Pos,
+    m: Punct,
+    left: Known,
+    a: &Expr,
+    right: Known,
+    b: &Expr,
+)
+    ensures { first.new ≡ least_from first.old (binary_findings pos m left (expr_view a.now) right (expr_view b.now)) }
+{
+    let wrong = binary_wrong(m, operand(left, a), operand(right, b));
+    note(first, is_bits(m), pos, 2);
+    note(first, wrong, pos, 10);
+    note_both_used(first, left, a, right, b);
+    note(first, on_pointers(m, left, right), pos, 13);
+}
+
+/// What holds at an assignment to an operand of the first kind, which is a place or not.
+fn note_assign(
+    first: &mut Option<Finding>,
+    pos: Pos,
+    m: Punct,
+    place: bool,
+    left: Known,
+    a: &Expr,
+    right: Known,
+    b: &Expr,
+)
+    ensures { first.new ≡ least_from first.old (assign_findings pos m place left (expr_view a.now) right (expr_view b.now)) }
+{
+    let wrong = assign_wrong(m, place, operand(left, a), operand(right, b));
+    note(first, is_bits_assign(m), pos, 2);
+    note(first, wrong, pos, 10);
+    note_both_used(first, left, a, right, b);
+    note(first, assigns_pointers(m, left, right), pos, 13);
+}
+
+/// What holds at a `?:` over operands of these kinds.
+fn note_cond(
+    first: &mut Option<Finding>,
+    pos: Pos,
+    test: Known,
+    c: &Expr,
+    left: Known,
+    a: &Expr,
+    right: Known,
+    b: &Expr,
+)
+    ensures { first.new ≡ least_from first.old (cond_findings pos test (expr_view c.now) left (expr_view a.now) right (expr_view b.now)) }
+{
+    let wrong = cond_wrong(operand(test, c), operand(left, a), operand(right, b));
+    note(first, wrong, pos, 10);
+    note_used(first, test, c);
+    note_both_used(first, left, a, right, b);
+}
+
+/// What holds at a call whose arguments are met or not.
+fn note_call<N: Lookup>(names: &N, first: &mut Option<Finding>, pos: Pos, f: &Expr, met: bool)
+    ensures { first.new ≡ least_from first.old (call_findings (N.env names.now) pos (expr_view f.now) met) }
+{
+    note(first, !is_word(f), pos, 3);
+    note(first, is_unknown_callee(names, f), pos, 9);
+    note(first, is_wrong_call(names, f, met), pos, 10);
 }
 
 #[cycle(expr)]

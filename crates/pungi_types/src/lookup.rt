@@ -6,7 +6,7 @@ use pungi_api::Row;
 use pungi_tree::Spec;
 
 /// What an argument is to be.
-#[derive(Clone, Copy, Debug, PartialEq, Eq)]
+#[derive(Clone, Copy)]
 pub enum Want {
     Anything,
     OfKind(ValueKind),

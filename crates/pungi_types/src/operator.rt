@@ -11,7 +11,7 @@ use pungi_base::{Kind, Name, Punct};
 type Known = Option<ValueKind>;
 
 /// An operator before its operand: `&`, `++ --`, `+ -`, `!`, or one that the subset leaves out.
-#[derive(Clone, Copy, Debug, PartialEq, Eq)]
+#[derive(Clone, Copy)]
 pub enum Prefix {
     Address,
     Step,

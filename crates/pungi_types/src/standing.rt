@@ -1,5 +1,5 @@
 /// What a word is where it stands as a value.
-#[derive(Clone, Copy, Debug, PartialEq, Eq)]
+#[derive(Clone, Copy)]
 pub enum Standing {
     /// A local, by its number.
     Local(usize),
