@@ -9,7 +9,7 @@ ghost use Rattle.pungi_layout.specs.StmtCode.{unset_code, value_code, option_cod
 
 use crate::emit::{Around, next_place, put};
 use crate::expr::emit_value;
-use crate::number::{behind, small};
+use crate::number::small;
 use crate::temporary::{atom, local_column, operand, temp_of};
 use pungi_base::{Memory, Pos, Seq};
 use pungi_code::{Instr, Label, Line, Var};
@@ -109,7 +109,7 @@ pub fn emit_test(
 {
     let value = emit_alone(code, around, test)?;
     let place = next_place(code)?;
-    let go = behind(place, 1)?;
+    let go = place + 1;
     put(
         code,
         pos,

@@ -1,8 +1,7 @@
 // Emitting instructions.
-ghost use Rattle.std.specs.Prelude.{◌≡◌, ◌∷◌, ◌++◌, [], length, slice_set, IfOk, OnOk};
+ghost use Rattle.std.specs.Prelude.{◌≡◌, ◌+◌, ◌^◌, ◌<◌, ◌∷◌, ◌++◌, [], length, slice_set, IfOk, OnOk};
 ghost use Rattle.pungi_layout.specs.ExprCode.{line as line_at};
 
-use crate::number::small;
 use pungi_base::{Memory, Pos, Seq};
 use pungi_code::{Instr, Line};
 use std::alloc::Global;
@@ -21,11 +20,17 @@ pub fn put(code: &mut Seq<Line>, pos: Pos, instr: Instr) -> Result<(), Memory>
     code.push(Line { pos, instr })
 }
 
-/// The place of the next instruction.
+/// The place of the next instruction. The two behind it have numbers of 32 bits, too.
 pub fn next_place(code: &Seq<Line>) -> Result<u32, Memory>
-    ensures { IfOk result (λ n. n ≡ length code.now) }
+    ensures place { IfOk result (λ n. n ≡ length code.now) }
+    ensures room { IfOk result (λ n. n + 2 < 2 ^ 32) }
 {
-    small(code.len() as u64)
+    let place = code.len();
+    if place < u32::MAX as usize - 2 {
+        Ok(place as u32)
+    } else {
+        Err(Memory)
+    }
 }
 
 /// Another instruction at this place.

@@ -255,9 +255,7 @@ fn emit_negated(
     put(code, pos, Instr::Set(Var(target), bit(true)))?;
     emit_value(code, around, level, value, part)?;
     let test = next_place(code)?;
-    let this = behind(test, 1)?;
-    let other = behind(test, 2)?;
-    let branch = branch_on(true, value, this, other);
+    let branch = branch_on(true, value, test + 1, test + 2);
     put(code, pos, branch)?;
     put(code, pos, Instr::Set(Var(target), bit(false)))?;
     Ok(())
@@ -287,11 +285,9 @@ fn emit_joined(
     put(code, pos, Instr::Fall)?;
     emit_value(code, around, level, right, b)?;
     let last = next_place(code)?;
-    let this = behind(test, 1)?;
-    let next = behind(last, 1)?;
-    let end = behind(last, 2)?;
-    let first = branch_on(on, left, this, end);
-    let second = branch_on(on, right, next, end);
+    let end = last + 2;
+    let first = branch_on(on, left, test + 1, end);
+    let second = branch_on(on, right, last + 1, end);
     replace(code, test, pos, first);
     put(code, pos, second)?;
     put(code, pos, Instr::Set(Var(target), bit(on)))?;
@@ -321,9 +317,7 @@ fn emit_chosen(
     put(code, pos, Instr::Fall)?;
     emit_value(code, around, depth, target, b)?;
     let end = next_place(code)?;
-    let this = behind(test, 1)?;
-    let other = behind(jump, 1)?;
-    let branch = branch_on(true, value, this, other);
+    let branch = branch_on(true, value, test + 1, jump + 1);
     replace(code, jump, pos, Instr::Jump(Label(end)));
     replace(code, test, pos, branch);
     Ok(())

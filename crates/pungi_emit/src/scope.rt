@@ -5,7 +5,7 @@ ghost use Rattle.pungi_emit.specs.LabelPlaces.{found as found_in, labels_of};
 use pungi_base::Name;
 
 /// A label of a block, and its place in the code.
-#[derive(Clone, Copy, PartialEq, Eq)]
+#[derive(Clone, Copy)]
 pub struct Placed {
     pub name: Name,
     pub place: u32,

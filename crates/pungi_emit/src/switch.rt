@@ -7,7 +7,6 @@ ghost use Rattle.pungi_layout.specs.Scopes.{placed_cases, label_or};
 ghost use Rattle.pungi_layout.specs.StmtCode.{case_code};
 
 use crate::emit::{next_place, put};
-use crate::number::behind;
 use crate::temporary::atom;
 use pungi_base::{Memory, Pos, Seq};
 use pungi_code::{Atom, Instr, Label, Line, Var};
@@ -26,7 +25,7 @@ fn emit_case(
     ensures { OnOk result (code.new ≡ code.old ++ case_lines pos value outcome (length code.old) number place) }
 {
     let here = next_place(code)?;
-    let next = behind(here, 2)?;
+    let next = here + 2;
     let compare = Instr::Compare(Var(outcome), Cmp::Equal, atom(value), number);
     put(code, pos, compare)?;
     put(

@@ -10,26 +10,26 @@ pub emit_chosen-returns : goal.emit_chosen-returns
 emit_chosen-returns t c =
     let hole = line c.args.pos Fall in
     let e1 = rw c.in_ok-value.ensures at c.in_ok-emit_value.ensures in
-    let e10 = rw (c.branch_on-branch.ensures, c.in_ok-this.ensures, c.in_ok-other.ensures, c.in_ok-value.ensures) at c.replace-2.ensures in
-    chosen_emitted c.args.around.locals c.args.depth c.args.target c.in_ok-test.test c.in_ok-jump.jump c.in_ok-end.end c.args.pos (value_view c.args.c.now) (value_view c.args.a.now) (value_view c.args.b.now) hole hole c.args.code.now c.emit_value.new.code c.put.new.code c.emit_value-2.new.code c.put-2.new.code c.emit_value-3.new.code c.replace.new.code c.replace-2.new.code e1 c.in_ok-test.ensures c.in_ok-put.ensures c.in_ok-emit_value-2.ensures c.in_ok-jump.ensures c.in_ok-put-2.ensures c.in_ok-emit_value-3.ensures c.in_ok-end.ensures c.replace.ensures e10
+    let e10 = rw (c.branch_on-branch.ensures, c.in_ok-value.ensures) at c.replace-2.ensures in
+    chosen_emitted c.args.around.locals c.args.depth c.args.target c.in_ok-test.test c.in_ok-jump.jump c.in_ok-end.end c.args.pos (value_view c.args.c.now) (value_view c.args.a.now) (value_view c.args.b.now) hole hole c.args.code.now c.emit_value.new.code c.put.new.code c.emit_value-2.new.code c.put-2.new.code c.emit_value-3.new.code c.replace.new.code c.replace-2.new.code e1 c.in_ok-test.ensures.place c.in_ok-put.ensures c.in_ok-emit_value-2.ensures c.in_ok-jump.ensures.place c.in_ok-put-2.ensures c.in_ok-emit_value-3.ensures c.in_ok-end.ensures.place c.replace.ensures e10
 
 pub emit_joined-returns : goal.emit_joined-returns
 emit_joined-returns t c =
     let e1 = rw (c.bit.ensures, c.is_and-on.ensures) at c.in_ok-put.ensures in
     let e2 = rw (c.in_ok-left.ensures, c.in_ok-level.ensures) at c.in_ok-emit_value.ensures in
     let e5 = rw (c.in_ok-right.ensures, c.in_ok-level.ensures) at c.in_ok-emit_value-2.ensures in
-    let e7 = rw (c.branch_on-first.ensures, c.is_and-on.ensures, c.in_ok-left.ensures, c.in_ok-level.ensures, c.in_ok-this.ensures, c.in_ok-end.ensures) at c.replace.ensures in
-    let e8 = rw (c.branch_on-second.ensures, c.is_and-on.ensures, c.in_ok-right.ensures, c.in_ok-level.ensures, c.in_ok-next.ensures, c.in_ok-end.ensures) at c.in_ok-put-3.ensures in
+    let e7 = rw (c.branch_on-first.ensures, c.is_and-on.ensures, c.in_ok-left.ensures, c.in_ok-level.ensures) at c.replace.ensures in
+    let e8 = rw (c.branch_on-second.ensures, c.is_and-on.ensures, c.in_ok-right.ensures, c.in_ok-level.ensures) at c.in_ok-put-3.ensures in
     let e9 = rw (c.bit-2.ensures, c.is_and-on.ensures) at c.in_ok-put-4.ensures in
-    joined_emitted c.args.around.locals c.args.depth c.args.target c.in_ok-test.test c.in_ok-last.last c.args.pos c.args.mark (value_view c.args.a.now) (value_view c.args.b.now) (line c.args.pos Fall) c.args.code.now c.put.new.code c.emit_value.new.code c.put-2.new.code c.emit_value-2.new.code c.replace.new.code c.put-3.new.code c.put-4.new.code e1 e2 c.in_ok-test.ensures c.in_ok-put-2.ensures e5 c.in_ok-last.ensures e7 e8 e9
+    joined_emitted c.args.around.locals c.args.depth c.args.target c.in_ok-test.test c.in_ok-last.last c.args.pos c.args.mark (value_view c.args.a.now) (value_view c.args.b.now) (line c.args.pos Fall) c.args.code.now c.put.new.code c.emit_value.new.code c.put-2.new.code c.emit_value-2.new.code c.replace.new.code c.put-3.new.code c.put-4.new.code e1 e2 c.in_ok-test.ensures.place c.in_ok-put-2.ensures e5 c.in_ok-last.ensures.place e7 e8 e9
 
 pub emit_negated-returns : goal.emit_negated-returns
 emit_negated-returns t c =
     let e1 = rw c.bit.ensures at c.in_ok-put.ensures in
     let e2 = rw (c.in_ok-value.ensures, c.in_ok-level.ensures) at c.in_ok-emit_value.ensures in
-    let e4 = rw (c.branch_on-branch.ensures, c.in_ok-this.ensures, c.in_ok-other.ensures, c.in_ok-value.ensures, c.in_ok-level.ensures) at c.in_ok-put-2.ensures in
+    let e4 = rw (c.branch_on-branch.ensures, c.in_ok-value.ensures, c.in_ok-level.ensures) at c.in_ok-put-2.ensures in
     let e5 = rw c.bit-2.ensures at c.in_ok-put-3.ensures in
-    negated_emitted c.args.around.locals c.args.depth c.args.target c.in_ok-test.test c.args.pos (value_view c.args.part.now) c.args.code.now c.put.new.code c.emit_value.new.code c.put-2.new.code c.put-3.new.code e1 e2 c.in_ok-test.ensures e4 e5
+    negated_emitted c.args.around.locals c.args.depth c.args.target c.in_ok-test.test c.args.pos (value_view c.args.part.now) c.args.code.now c.put.new.code c.emit_value.new.code c.put-2.new.code c.put-3.new.code e1 e2 c.in_ok-test.ensures.place e4 e5
 
 pub emit_operands-returns : goal.emit_operands-returns
 emit_operands-returns t c =

@@ -105,7 +105,7 @@ emit_while-returns-clause-code t c =
     let a = action_view c.args.body.now in
     let go = length c.args.code.now + (expr_size v + 1) in
     let o = one_place (plan_of go a) c.args.plan.now.left.now c.planned-again.new.plan.left.now (go + stmt_size a) c.planned-again.result c.requires.plan c.planned-again.ensures in
-    while_laid c.args.around.locals (env_of c.args.scope.now) c.args.pos v a c.in_ok-head.head c.planned-again.result c.in_ok-end.end c.args.code.now c.emit_test.new.code c.emit_stmt.new.code c.put.new.code c.in_ok-head.ensures c.in_ok-end.ensures c.in_ok-emit_test.ensures c.in_ok-emit_stmt.ensures.code o c.in_ok-put.ensures
+    while_laid c.args.around.locals (env_of c.args.scope.now) c.args.pos v a c.in_ok-head.head c.planned-again.result c.in_ok-end.end c.args.code.now c.emit_test.new.code c.emit_stmt.new.code c.put.new.code c.in_ok-head.ensures.place c.in_ok-end.ensures c.in_ok-emit_test.ensures c.in_ok-emit_stmt.ensures.code o c.in_ok-put.ensures
 
 pub emit_while-returns-clause-plan : goal.emit_while-returns-clause-plan
 emit_while-returns-clause-plan t c =
@@ -131,7 +131,7 @@ emit_until-returns-clause-code t c =
     let go = length c.args.code.now + 1 + (expr_size v + 1) in
     let o = two_first (plan_of go a) c.args.plan.now.left.now c.planned-go.new.plan.left.now go (go + stmt_size a) c.planned-go.result c.requires.plan c.planned-go.ensures in
     let q = two_second (plan_of go a) c.args.plan.now.left.now c.planned-go.new.plan.left.now c.planned-again.new.plan.left.now go (go + stmt_size a) c.planned-go.result c.planned-again.result c.requires.plan c.planned-go.ensures c.planned-again.ensures in
-    until_laid c.args.around.locals (env_of c.args.scope.now) c.args.pos v a c.in_ok-head.head c.planned-go.result c.planned-again.result c.in_ok-end.end c.args.code.now c.put.new.code c.emit_test.new.code c.emit_stmt.new.code c.put-2.new.code c.in_ok-end.ensures c.in_ok-put.ensures c.in_ok-head.ensures c.in_ok-emit_test.ensures o c.in_ok-emit_stmt.ensures.code q c.in_ok-put-2.ensures
+    until_laid c.args.around.locals (env_of c.args.scope.now) c.args.pos v a c.in_ok-head.head c.planned-go.result c.planned-again.result c.in_ok-end.end c.args.code.now c.put.new.code c.emit_test.new.code c.emit_stmt.new.code c.put-2.new.code c.in_ok-end.ensures c.in_ok-put.ensures c.in_ok-head.ensures.place c.in_ok-emit_test.ensures o c.in_ok-emit_stmt.ensures.code q c.in_ok-put-2.ensures
 
 pub emit_until-returns-clause-plan : goal.emit_until-returns-clause-plan
 emit_until-returns-clause-plan t c =
@@ -164,7 +164,7 @@ emit_for-returns-clause-code t c =
     let last = go + stmt_size a in
     let o = two_first (plan_of go a) c.args.plan.now.left.now c.planned-again.new.plan.left.now last (last + option_size w + 1) c.planned-again.result c.requires.plan c.planned-again.ensures in
     let q = two_second (plan_of go a) c.args.plan.now.left.now c.planned-again.new.plan.left.now c.planned-end.new.plan.left.now last (last + option_size w + 1) c.planned-again.result c.planned-end.result c.requires.plan c.planned-again.ensures c.planned-end.ensures in
-    for_laid c.args.around.locals (env_of c.args.scope.now) c.args.pos rs u v w a c.in_ok-head.head c.planned-again.result c.planned-end.result c.args.code.now c.emit_unset.new.code c.emit_reached.new.code c.emit_option.new.code c.emit_tested.new.code c.emit_stmt.new.code c.emit_option-2.new.code c.put.new.code c.in_ok-emit_unset.ensures c.in_ok-emit_reached.ensures c.in_ok-emit_option.ensures c.in_ok-head.ensures c.in_ok-emit_tested.ensures c.in_ok-emit_stmt.ensures.code o c.in_ok-emit_option-2.ensures c.in_ok-put.ensures q
+    for_laid c.args.around.locals (env_of c.args.scope.now) c.args.pos rs u v w a c.in_ok-head.head c.planned-again.result c.planned-end.result c.args.code.now c.emit_unset.new.code c.emit_reached.new.code c.emit_option.new.code c.emit_tested.new.code c.emit_stmt.new.code c.emit_option-2.new.code c.put.new.code c.in_ok-emit_unset.ensures c.in_ok-emit_reached.ensures c.in_ok-emit_option.ensures c.in_ok-head.ensures.place c.in_ok-emit_tested.ensures c.in_ok-emit_stmt.ensures.code o c.in_ok-emit_option-2.ensures c.in_ok-put.ensures q
 
 pub emit_for-returns-clause-plan : goal.emit_for-returns-clause-plan
 emit_for-returns-clause-plan t c =
