@@ -141,6 +141,10 @@ const RULE_5: &[(&str, &str)] = &[
         "int fe(void) { return (PyObject *)&BoxType == NULL; }\n",
         "clean fe\n",
     ),
+    (
+        "PyObject *ff(void) { return PyModule_Create(&total); }\n",
+        "refused ff 7:45 N5\n",
+    ),
 ];
 
 /// `goto`.
@@ -198,6 +202,18 @@ const RULE_7: &[(&str, &str)] = &[
         "int fi(int n) { switch (n) { case 1: case -2: default: return n; } }\n",
         "refused fi 10:5 N0\n",
     ),
+    (
+        "int fj(int n) { switch (n) { case 'c': case 99: return n; } }\n",
+        "refused fj 11:40 N7\n",
+    ),
+    (
+        "int fk(int n) { switch (n) { case -5: case 5: case -5: return n; } }\n",
+        "refused fk 12:47 N7\n",
+    ),
+    (
+        "int fl(int n) { switch (n) { case 5 - 1: return 1; } return n; }\n",
+        "refused fl 13:30 N7\n",
+    ),
 ];
 
 /// Declared names.
@@ -229,6 +245,10 @@ const RULE_8: &[(&str, &str)] = &[
     (
         "int fg(int n) { int PyList_New; return n; }\n",
         "refused fg 8:21 N8\n",
+    ),
+    (
+        "PyObject *fh(int n) { { PyObject *n = NULL; if (n == NULL) return n; } return n; }\n",
+        "refused fh 9:72 N10\n",
     ),
 ];
 
@@ -266,6 +286,10 @@ const RULE_9: &[(&str, &str)] = &[
         "int fk(void) { return (void)u; }\n",
         "refused fk 12:29 N9\n",
     ),
+    ("int fl(int n) { return fm(n); }\n", "refused fl 13:24 N9\n"),
+    ("int fm(int n) { return fn(n); }\n", "refused fm 14:24 N9\n"),
+    ("int fn(int n) { return n & 1; }\n", "refused fn 15:26 N2\n"),
+    ("int fo(int n) { return fo(n); }\n", "refused fo 16:5 N0\n"),
 ];
 
 /// Kinds of operands, arguments and values.
@@ -331,6 +355,18 @@ const RULE_10: &[(&str, &str)] = &[
     (
         "int fr(PyObject *x) { int n; n = (Py_INCREF(x)); return n; }\n",
         "refused fr 18:35 N10\n",
+    ),
+    (
+        "PyObject *fs(void) { return total - 1; }\n",
+        "refused fs 19:22 N10\n",
+    ),
+    (
+        "int ft(void) { return total - 1; }\n",
+        "refused ft 20:5 N0\n",
+    ),
+    (
+        "int fu(void) { return Py_None; }\n",
+        "refused fu 21:16 N10\n",
     ),
 ];
 

@@ -27,29 +27,32 @@ fn named(alloc: Global, text: &[u8]) -> Result<Vec<(String, Vec<u8>)>, Memory> {
     Ok(texts)
 }
 
+/// Judges a file that is read without a fault.
+fn judge<O: Sink>(alloc: Global, text: &[u8], out: &mut O) -> Result<u8, Memory> {
+    let words = words(alloc, &["pungi", "x.c"])?;
+    let mut shelf = SureShelf::new(alloc, named(alloc, text)?);
+    Ok(pungi(alloc, &words, &mut shelf, out))
+}
+
 /// The status and the text on a file that is read and answered without a fault.
 fn told(alloc: Global, text: &[u8]) -> Result<(u8, Vec<u8>), Memory> {
-    let mut shelf = SureShelf::new(alloc, named(alloc, text)?);
     let mut out = SureSink::new(alloc, 4096)?;
-    let status = pungi(
-        alloc,
-        &words(alloc, &["pungi", "x.c"])?,
-        &mut shelf,
-        &mut out,
-    );
+    let status = judge(alloc, text, &mut out)?;
     Ok((status, Vec::from_slice(alloc, out.bytes())?))
 }
 
-/// The same, where the shelf fails at a call, or the sink, which takes four bytes at a time.
+/// Judges a file where the shelf fails at a call.
+fn judge_failing(alloc: Global, text: &str, read: u64, out: &mut MemSink) -> Result<u8, Memory> {
+    let words = words(alloc, &["pungi", "x.c"])?;
+    let faults = vec![in alloc; read]?;
+    let mut shelf = MemShelf::new(alloc, named(alloc, text.as_bytes())?, faults);
+    Ok(pungi(alloc, &words, &mut shelf, out))
+}
+
+/// The status and the text, where the shelf fails at a call, or the sink, which takes four bytes at a time.
 fn failing(alloc: Global, text: &str, read: u64, write: u64) -> Result<(u8, Vec<u8>), Memory> {
-    let mut shelf = MemShelf::new(alloc, named(alloc, text.as_bytes())?, vec![in alloc; read]?);
     let mut out = MemSink::new(alloc, 64, 4, vec![in alloc; write]?)?;
-    let status = pungi(
-        alloc,
-        &words(alloc, &["pungi", "x.c"])?,
-        &mut shelf,
-        &mut out,
-    );
+    let status = judge_failing(alloc, text, read, &mut out)?;
     Ok((status, Vec::from_slice(alloc, out.bytes())?))
 }
 
@@ -85,107 +88,179 @@ pub(crate) fn is_told(alloc: Global, text: &str, status: u8, lines: &str) -> Res
 }
 
 /// Files with a line for each function. What is no function is passed over.
+const REPORTS: &[(&str, u8, &str)] = &[
+    ("", 0, ""),
+    (NUMBER, 0, "clean f\n"),
+    (
+        "// a comment\nvoid f(void) { }\n/* and\none more */ void g(PyObject *x) { Py_INCREF(x); Py_DECREF(x); }",
+        0,
+        "clean f\nclean g\n",
+    ),
+    (
+        "PyObject *f(PyObject *self, PyObject *args) { return Py_None; }",
+        1,
+        "faulty f 1:47 object K change 0 escaped 1\n",
+    ),
+    (
+        "PyObject *keep(PyObject *self, PyObject *x) { return Py_NewRef(x); }\nPyObject *lose(PyObject *self, PyObject *x) { Py_INCREF(x); return PyLong_FromLong(1); }",
+        1,
+        "clean keep\nfaulty lose 2:61 object K change 1 escaped 0\n",
+    ),
+    (
+        "int g(double d) { return 1; }\nint f(void) { return g(1); }",
+        2,
+        "refused g 1:7 N1\nrefused f 2:22 N9\n",
+    ),
+    (
+        "int f(int a) { goto in; { in: return a; } }",
+        2,
+        "refused f 1:21 N6\n",
+    ),
+    ("void f(void) { g(); }", 2, "refused f 1:16 N9\n"),
+    (
+        "int f(int a, int b, int c) { return a - b - c; }",
+        2,
+        "refused f 1:5 N0\n",
+    ),
+    (
+        "int f(int a) { if (a) if (a) return 1; else return 2; return 3; }",
+        2,
+        "refused f 1:5 N0\n",
+    ),
+    (
+        "typedef struct { int a; } Box; static int n; int g(int a); ; void f(void) { }",
+        0,
+        "clean f\n",
+    ),
+    (
+        "#define NEW Py_NewRef\nPyObject *f(PyObject *a) { return NEW(a); }\nvoid g(PyObject *a) { NEW(a); }",
+        1,
+        "clean f\nfaulty g 3:31 object K change 1 escaped 0\n",
+    ),
+    (
+        PAIR,
+        2,
+        "refused Pair_first 13:1 N0\nrefused Pair_put 25:10 N9\nclean Pair_twice\nrefused Pair_new 47:12 N3\nclean PyInit_pair\n",
+    ),
+    (
+        POOL,
+        1,
+        "clean hold\nfaulty release 26:1 object K change -1 escaped 0\nrefused pool_size 29:30 N1\n",
+    ),
+];
+
 #[test]
 fn reports(rt: HostRuntime) -> Result<(), Fail> {
-    let rows = [
-        ("", 0, ""),
-        (NUMBER, 0, "clean f\n"),
-        (
-            "// a comment\nvoid f(void) { }\n/* and\none more */ void g(PyObject *x) { Py_INCREF(x); Py_DECREF(x); }",
-            0,
-            "clean f\nclean g\n",
+    for (text, status, lines) in REPORTS {
+        assert!(rt; is_told(rt.alloc(), text, *status, lines)?, "at {text}");
+    }
+    Ok(())
+}
+
+/// Files with a whole report: an object struct, a static type object, a global, a prototype and three functions; and
+/// functions without a static.
+const WHOLE: &[(&str, u8, &str)] = &[
+    (
+        concat!(
+            "typedef struct box { PyObject_HEAD PyObject *held; } Box;\n",
+            "static PyTypeObject BoxType = { 1 };\n",
+            "static int total;\n",
+            "int twice(int n);\n",
+            "PyObject *one(PyObject *self, PyObject *args) { return PyLong_FromLong(1); }\n",
+            "int odd(int n) { return n & 1; }\n",
+            "void keep(PyObject *x) { Py_INCREF(x); }\n",
         ),
-        (
-            "PyObject *f(PyObject *self, PyObject *args) { return Py_None; }",
-            1,
-            "faulty f 1:47 object K change 0 escaped 1\n",
+        1,
+        concat!(
+            "clean one\n",
+            "refused odd 6:27 N2\n",
+            "faulty keep 7:40 object 25 change 1 escaped 0\n",
+            "  objects 26\n",
+            "  argument object 25\n",
         ),
-        (
-            "PyObject *keep(PyObject *self, PyObject *x) { return Py_NewRef(x); }\nPyObject *lose(PyObject *self, PyObject *x) { Py_INCREF(x); return PyLong_FromLong(1); }",
-            1,
-            "clean keep\nfaulty lose 2:61 object K change 1 escaped 0\n",
+    ),
+    (
+        "void a(void) { }\nvoid b(void) { break; }\nvoid c(PyObject *x) { Py_INCREF(x); }\n",
+        1,
+        concat!(
+            "clean a\n",
+            "refused b 2:16 N7\n",
+            "faulty c 3:37 object 24 change 1 escaped 0\n",
+            "  objects 25\n",
+            "  argument object 24\n",
         ),
-        (
-            "int g(double d) { return 1; }\nint f(void) { return g(1); }",
-            2,
-            "refused g 1:7 N1\nrefused f 2:22 N9\n",
-        ),
-        (
-            "int f(int a) { goto in; { in: return a; } }",
-            2,
-            "refused f 1:21 N6\n",
-        ),
-        ("void f(void) { g(); }", 2, "refused f 1:16 N9\n"),
-        (
-            "int f(int a, int b, int c) { return a - b - c; }",
-            2,
-            "refused f 1:5 N0\n",
-        ),
-        (
-            "int f(int a) { if (a) if (a) return 1; else return 2; return 3; }",
-            2,
-            "refused f 1:5 N0\n",
-        ),
-        (
-            "typedef struct { int a; } Box; static int n; int g(int a); ; void f(void) { }",
-            0,
-            "clean f\n",
-        ),
-        (
-            "#define NEW Py_NewRef\nPyObject *f(PyObject *a) { return NEW(a); }\nvoid g(PyObject *a) { NEW(a); }",
-            1,
-            "clean f\nfaulty g 3:31 object K change 1 escaped 0\n",
-        ),
-        (
-            PAIR,
-            2,
-            "refused Pair_first 13:1 N0\nrefused Pair_put 25:10 N9\nclean Pair_twice\nrefused Pair_new 47:12 N3\nclean PyInit_pair\n",
-        ),
-        (
-            POOL,
-            1,
-            "clean hold\nfaulty release 26:1 object K change -1 escaped 0\nrefused pool_size 29:30 N1\n",
-        ),
-    ];
-    for (text, status, lines) in rows {
-        assert!(rt; is_told(rt.alloc(), text, status, lines)?, "at {text}");
+    ),
+];
+
+fn is_whole(alloc: Global, text: &str, status: u8, lines: &str) -> Result<bool, Memory> {
+    let (found, report) = told(alloc, text.as_bytes())?;
+    Ok(found == status && report.as_slice() == lines.as_bytes())
+}
+
+#[test]
+fn whole_reports(rt: HostRuntime) -> Result<(), Fail> {
+    for (text, status, lines) in WHOLE {
+        assert!(rt; is_whole(rt.alloc(), text, *status, lines)?, "at {text}");
     }
     Ok(())
 }
 
 /// Files that are refused as a whole, each at its place and for its reason.
+const REFUSALS: &[(&str, &str)] = &[
+    ("int a; /* cut", "file refused 1:8 open comment\n"),
+    ("int f( {", "file refused 1:1 not a unit\n"),
+    ("#pragma once", "file refused 1:1 directive\n"),
+    (
+        "void f(PyObject *x) { x = ; }",
+        "file refused 1:1 not a unit\n",
+    ),
+    (
+        "void f(void) { }\nvoid g(void) { x",
+        "file refused 2:1 not a unit\n",
+    ),
+    ("void f(void) { } @", "file refused 1:18 byte\n"),
+    ("int a = \"x", "file refused 1:9 open text\n"),
+    ("int a = 08;", "file refused 1:9 number\n"),
+    ("#define F(x) x", "file refused 1:9 function macro\n"),
+    (
+        "void f(void) { }\nvoid f(void) { }",
+        "file refused 2:6 duplicate name\n",
+    ),
+    ("#define A 1\n#define A 2", "file refused 2:9 redefined\n"),
+    (
+        "((((((((((((((((((((((((((((((((((((((((((((((((((((((((((((((((((",
+        "file refused 1:65 nested over 64\n",
+    ),
+    (
+        "int f(int n) { return n; }\nvoid f(void) { }\n",
+        "file refused 2:6 duplicate name\n",
+    ),
+    (
+        "struct box { int a; };\ntypedef struct box { PyObject *held; } Box;",
+        "file refused 2:16 duplicate name\n",
+    ),
+    (
+        "typedef int Box;\ntypedef struct box { PyObject_HEAD PyObject *held; } Box;",
+        "file refused 2:54 duplicate name\n",
+    ),
+    (
+        "int total(void);\nstatic int total;",
+        "file refused 2:12 duplicate name\n",
+    ),
+    (
+        "static int twice;\nint twice(int n);",
+        "file refused 2:5 duplicate name\n",
+    ),
+    (
+        "static int odd;\nint odd(int n) { return n & 1; }",
+        "file refused 2:5 duplicate name\n",
+    ),
+];
+
 #[test]
 fn refusals(rt: HostRuntime) -> Result<(), Fail> {
-    let rows = [
-        ("int a; /* cut", "file refused 1:8 open comment\n"),
-        ("int f( {", "file refused 1:1 not a unit\n"),
-        ("#pragma once", "file refused 1:1 directive\n"),
-        (
-            "void f(PyObject *x) { x = ; }",
-            "file refused 1:1 not a unit\n",
-        ),
-        (
-            "void f(void) { }\nvoid g(void) { x",
-            "file refused 2:1 not a unit\n",
-        ),
-        ("void f(void) { } @", "file refused 1:18 byte\n"),
-        ("int a = \"x", "file refused 1:9 open text\n"),
-        ("int a = 08;", "file refused 1:9 number\n"),
-        ("#define F(x) x", "file refused 1:9 function macro\n"),
-        (
-            "void f(void) { }\nvoid f(void) { }",
-            "file refused 2:6 duplicate name\n",
-        ),
-        ("#define A 1\n#define A 2", "file refused 2:9 redefined\n"),
-        (
-            "((((((((((((((((((((((((((((((((((((((((((((((((((((((((((((((((((",
-            "file refused 1:65 nested over 64\n",
-        ),
-    ];
-    for (text, line) in rows {
-        let (status, found) = told(rt.alloc(), text.as_bytes())?;
-        assert_eq!(rt; status, 6, "at {text}");
-        assert_eq!(rt; found.as_slice(), line.as_bytes(), "at {text}");
+    for (text, line) in REFUSALS {
+        assert!(rt; is_whole(rt.alloc(), text, 6, line)?, "at {text}");
     }
     Ok(())
 }

@@ -1,6 +1,9 @@
 ghost use Rattle.std.specs.Prelude.{◌≡◌, ◌∷◌, [], map, IfOk, IsTrue, is_none};
 ghost use Rattle.pungi_api.specs.Rows.{are_plain_rows, named_row, are_new, row_in};
 
+use pungi_api::Param::{Long, ModuleDef, Object, ObjectOrNull, Size, Text};
+use pungi_api::Take::{Always, Never, OnSuccess};
+use pungi_api::row_words::*;
 use pungi_api::{Answer, Form, Param, Row, Special, Table, Take};
 use pungi_base::{Memory, Name, Seq, words};
 use std::alloc::Global;
@@ -25,78 +28,65 @@ fn is_special(table: &Table, name: u32, special: Special) -> bool {
     }
 }
 
+/// Rows with a call that gives back what the manual says: their parameters, what they take over, and what they answer.
+const PLAIN: &[(u32, &[Param], &[Take], Answer)] = &[
+    (words::PY_LONG_FROM_LONG, &[Long], &[Never], Answer::New),
+    (PY_DICT_NEW, &[], &[], Answer::New),
+    (
+        PY_OBJECT_CALL,
+        &[Object, Object, ObjectOrNull],
+        &[Never, Never, Never],
+        Answer::New,
+    ),
+    (PY_MODULE_CREATE, &[ModuleDef], &[Never], Answer::New),
+    (
+        PY_LIST_GET_ITEM,
+        &[Object, Size],
+        &[Never, Never],
+        Answer::Borrowed,
+    ),
+    (
+        PY_LIST_SET_ITEM,
+        &[Object, Size, Object],
+        &[Never, Never, Always],
+        Answer::Status,
+    ),
+    (
+        PY_MODULE_ADD_OBJECT,
+        &[Object, Text, Object],
+        &[Never, Never, OnSuccess],
+        Answer::Status,
+    ),
+    (PY_ERR_NO_MEMORY, &[], &[], Answer::Null),
+];
+
+fn are_plain(table: &Table) -> bool {
+    for (name, params, takes, answer) in PLAIN {
+        if !is_row(table, *name, params, takes, *answer) {
+            return false;
+        }
+    }
+    true
+}
+
 #[test]
 fn plain_rows(rt: HostRuntime) -> Result<(), Fail> {
-    use pungi_api::row_words::*;
-    use Param::{Long, ModuleDef, Object, ObjectOrNull, Size, Text};
-    use Take::{Always, Never, OnSuccess};
     let table = Table::builtin(rt.alloc())?;
-    assert!(rt;
-        is_row(
-            &table,
-            words::PY_LONG_FROM_LONG,
-            &[Long],
-            &[Never],
-            Answer::New
-        )
-    );
-    assert!(rt; is_row(&table, PY_DICT_NEW, &[], &[], Answer::New));
-    assert!(rt;
-        is_row(
-            &table,
-            PY_OBJECT_CALL,
-            &[Object, Object, ObjectOrNull],
-            &[Never, Never, Never],
-            Answer::New
-        )
-    );
-    assert!(rt;
-        is_row(
-            &table,
-            PY_MODULE_CREATE,
-            &[ModuleDef],
-            &[Never],
-            Answer::New
-        )
-    );
-    assert!(rt;
-        is_row(
-            &table,
-            PY_LIST_GET_ITEM,
-            &[Object, Size],
-            &[Never, Never],
-            Answer::Borrowed
-        )
-    );
-    assert!(rt;
-        is_row(
-            &table,
-            PY_LIST_SET_ITEM,
-            &[Object, Size, Object],
-            &[Never, Never, Always],
-            Answer::Status
-        )
-    );
-    assert!(rt;
-        is_row(
-            &table,
-            PY_MODULE_ADD_OBJECT,
-            &[Object, Text, Object],
-            &[Never, Never, OnSuccess],
-            Answer::Status
-        )
-    );
-    assert!(rt; is_row(&table, PY_ERR_NO_MEMORY, &[], &[], Answer::Null));
+    assert!(rt; are_plain(&table));
     Ok(())
+}
+
+fn are_special(table: &Table) -> bool {
+    is_special(table, words::PY_INCREF, Special::IncRef)
+        && is_special(table, words::PY_XNEW_REF, Special::XNewRef)
+        && table.row(Name(words::PY_CLEAR)).is_none()
+        && table.row(Name(words::PY_NONE)).is_none()
 }
 
 #[test]
 fn special_rows(rt: HostRuntime) -> Result<(), Fail> {
     let table = Table::builtin(rt.alloc())?;
-    assert!(rt; is_special(&table, words::PY_INCREF, Special::IncRef));
-    assert!(rt; is_special(&table, words::PY_XNEW_REF, Special::XNewRef));
-    assert!(rt; table.row(Name(words::PY_CLEAR)).is_none());
-    assert!(rt; table.row(Name(words::PY_NONE)).is_none());
+    assert!(rt; are_special(&table));
     Ok(())
 }
 
@@ -119,21 +109,18 @@ fn truth_row(alloc: Global, name: u32) -> Result<Vec<(Name, Row)>, Memory>
     Ok(rows)
 }
 
+/// Whether a table has this row of one object and a row that it had before.
+fn has_both(table: &Table, name: u32) -> bool {
+    is_row(table, name, &[Object], &[Never], Answer::Truth)
+        && is_special(table, words::PY_INCREF, Special::IncRef)
+}
+
 #[test]
 fn an_added_row(rt: HostRuntime) -> Result<(), Fail> {
     let name = 200;
     let table = Table::builtin(rt.alloc())?;
     let rows = truth_row(rt.alloc(), name)?;
     let table = table.with(rows)?;
-    assert!(rt;
-        is_row(
-            &table,
-            name,
-            &[Param::Object],
-            &[Take::Never],
-            Answer::Truth
-        )
-    );
-    assert!(rt; is_special(&table, words::PY_INCREF, Special::IncRef));
+    assert!(rt; has_both(&table, name));
     Ok(())
 }

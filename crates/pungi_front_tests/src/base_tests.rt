@@ -1,37 +1,64 @@
 use pungi_base::words::{PY_NONE, WORDS};
 use pungi_base::{Memory, Name, Names, Seq};
+use std::alloc::Global;
 use std::test::Fail;
+
+/// Texts in the order in which they come, with their numbers.
+const NUMBERED: &[(&str, u32)] = &[("self", 0), ("args", 1), ("self", 0), ("", 2), ("args", 1)];
+
+fn is_numbered(alloc: Global, names: &mut Names, text: &str, number: u32) -> Result<bool, Fail> {
+    if names.len() > 8 {
+        return Ok(false);
+    }
+    Ok(names.number(alloc, text.as_bytes())? == Name(number))
+}
+
+fn are_numbered(alloc: Global, names: &mut Names) -> Result<bool, Fail> {
+    for (text, number) in NUMBERED {
+        if !is_numbered(alloc, names, text, *number)? {
+            return Ok(false);
+        }
+    }
+    Ok(true)
+}
+
+/// Whether the three texts are kept.
+fn are_kept(names: &Names) -> bool {
+    if names.len() != 3 {
+        return false;
+    }
+    names.find(b"args") == Some(Name(1))
+        && names.find(b"arg") == None
+        && names.text(Name(0)) == b"self".as_slice()
+}
+
+fn keep_their_numbers(alloc: Global, names: &mut Names) -> Result<bool, Fail> {
+    Ok(are_numbered(alloc, names)? && are_kept(names))
+}
 
 #[test]
 fn texts_keep_their_numbers(rt: HostRuntime) -> Result<(), Fail> {
-    let alloc = rt.alloc();
-    let mut names = Names::new(alloc);
-    for (text, number) in [("self", 0), ("args", 1), ("self", 0), ("", 2), ("args", 1)] {
-        assert!(rt; names.len() < 8);
-        assert_eq!(rt;
-            names.number(alloc, text.as_bytes())?,
-            Name(number),
-            "of {text}"
-        );
-    }
-    assert_eq!(rt; names.len(), 3);
-    assert_eq!(rt; names.find(b"args"), Some(Name(1)));
-    assert_eq!(rt; names.find(b"arg"), None);
-    assert!(rt; names.text(Name(0)) == b"self".as_slice());
+    let mut names = Names::new(rt.alloc());
+    assert!(rt; keep_their_numbers(rt.alloc(), &mut names)?);
     Ok(())
+}
+
+/// The first word, the last keyword and an object.
+const FOUND: &[(&str, u32)] = &[("int", 0), ("NULL", 33), ("Py_None", PY_NONE)];
+
+fn are_found(names: &Names) -> bool {
+    for (text, number) in FOUND {
+        if names.find(text.as_bytes()) != Some(Name(*number)) {
+            return false;
+        }
+    }
+    names.len() == WORDS as usize
 }
 
 #[test]
 fn words_are_found(rt: HostRuntime) -> Result<(), Fail> {
     let names = Names::builtin(rt.alloc())?;
-    assert_eq!(rt; names.len(), WORDS as usize);
-    for (text, number) in [("int", 0), ("NULL", 33), ("Py_None", PY_NONE)] {
-        assert_eq!(rt;
-            names.find(text.as_bytes()),
-            Some(Name(number)),
-            "of {text}"
-        );
-    }
+    assert!(rt; are_found(&names));
     Ok(())
 }
 

@@ -1,6 +1,9 @@
 //! Texts and what C11 makes of them, worked out by hand.
+ghost use Rattle.std.specs.Prelude.{◌≡◌};
+ghost use Rattle.pungi_base.specs.Words.{builtin_words, BeginWithWords};
+
 use pungi_base::{Kind, Name, Names, Pos, Token};
-use pungi_lex::{LexFault, MacroFault, expand, lex};
+use pungi_lex::{LexFault, MacroFault, TEXT_LIMIT, expand, lex};
 use std::alloc::Global;
 use std::fmt::Write;
 use std::test::Fail;
@@ -15,11 +18,43 @@ fn push_name(out: &mut String, names: &Names, name: Name) -> Result<(), Fail> {
     Ok(())
 }
 
+/// What is told of tokens.
+#[derive(Clone, Copy)]
+enum Told {
+    /// Their kinds, or the fault of their text.
+    Kinds,
+    /// Their places.
+    Places,
+}
+
+/// Which tokens of a text are meant.
+#[derive(Clone, Copy)]
+enum Stage {
+    /// Those that it is cut into.
+    Cut,
+    /// Those once their macros are replaced.
+    Replaced,
+}
+
+#[derive(Clone, Copy)]
+struct Asked {
+    stage: Stage,
+    told: Told,
+}
+
+/// A text in quotes.
+fn push_text(out: &mut String, names: &Names, name: Name) -> Result<(), Fail> {
+    out.push('"')?;
+    push_name(out, names, name)?;
+    Ok(out.push('"')?)
+}
+
 /// A word as it is spelled, an integer with L or U behind it, a text in quotes; what else there is by its own name.
 fn push_kind(out: &mut String, names: &Names, kind: Kind) -> Result<(), Fail> {
     match kind {
+        Kind::Word(name) => return push_name(out, names, name),
+        Kind::Text(name) => return push_text(out, names, name),
         Kind::Key(key) => write!(out, "{key:?}")?,
-        Kind::Word(name) => push_name(out, names, name)?,
         Kind::Int {
             value,
             long,
@@ -29,99 +64,133 @@ fn push_kind(out: &mut String, names: &Names, kind: Kind) -> Result<(), Fail> {
             let u = if unsigned { "U" } else { "" };
             write!(out, "{value}{l}{u}")?;
         }
-        Kind::Float => write!(out, "Float")?,
         Kind::Char(b) => write!(out, "'{b}'")?,
-        Kind::Text(name) => {
-            write!(out, "\"")?;
-            push_name(out, names, name)?;
-            write!(out, "\"")?;
-        }
         Kind::Punct(punct) => write!(out, "{punct:?}")?,
-        Kind::Header => write!(out, "Header")?,
+        Kind::Float => out.push_str("Float")?,
+        Kind::Header => out.push_str("Header")?,
     }
     Ok(())
 }
 
-fn kinds_of(alloc: Global, names: &Names, tokens: &[Token]) -> Result<String, Fail> {
-    let mut out = String::new(alloc);
+fn push_kinds(out: &mut String, names: &Names, tokens: &[Token]) -> Result<(), Fail> {
     for (i, token) in tokens.iter().enumerate() {
         if i > 0 {
             out.push(' ')?;
         }
-        push_kind(&mut out, names, token.kind)?;
+        push_kind(out, names, token.kind)?;
     }
-    Ok(out)
+    Ok(())
 }
 
 /// The places of tokens, with ^ before the first of a line, and ~ before one that touches the one before.
-fn places_of(alloc: Global, tokens: &[Token]) -> Result<String, Fail> {
-    let mut out = String::new(alloc);
+fn push_places(out: &mut String, tokens: &[Token]) -> Result<(), Fail> {
     for (i, token) in tokens.iter().enumerate() {
         let blank = if i > 0 { " " } else { "" };
         let first = if token.first { "^" } else { "" };
         let touching = if token.touching { "~" } else { "" };
         let at = token.pos;
-        write!(&mut out, "{blank}{first}{touching}{at}")?;
+        write!(out, "{blank}{first}{touching}{at}")?;
     }
+    Ok(())
+}
+
+/// A fault with its place, which tells no places of tokens.
+fn push_fault(out: &mut String, name: &str, at: Pos, told: Told) -> Result<(), Fail> {
+    match told {
+        Told::Kinds => Ok(write!(out, "{name} {at}")?),
+        Told::Places => Ok(()),
+    }
+}
+
+fn push_lex_fault(out: &mut String, fault: LexFault, told: Told) -> Result<(), Fail> {
+    match fault {
+        LexFault::Memory => Err(Fail::new("memory")),
+        LexFault::Byte(at) => push_fault(out, "Byte", at, told),
+        LexFault::OpenComment(at) => push_fault(out, "OpenComment", at, told),
+        LexFault::OpenText(at) => push_fault(out, "OpenText", at, told),
+        LexFault::Number(at) => push_fault(out, "Number", at, told),
+    }
+}
+
+fn push_macro_fault(out: &mut String, fault: MacroFault, told: Told) -> Result<(), Fail> {
+    match fault {
+        MacroFault::Memory => Err(Fail::new("memory")),
+        MacroFault::Directive(at) => push_fault(out, "Directive", at, told),
+        MacroFault::FunctionMacro(at) => push_fault(out, "FunctionMacro", at, told),
+        MacroFault::Redefined(at) => push_fault(out, "Redefined", at, told),
+        MacroFault::TooManyTokens(at) => push_fault(out, "TooManyTokens", at, told),
+    }
+}
+
+fn push_tokens(out: &mut String, names: &Names, tokens: &[Token], told: Told) -> Result<(), Fail> {
+    match told {
+        Told::Kinds => push_kinds(out, names, tokens),
+        Told::Places => push_places(out, tokens),
+    }
+}
+
+/// Of tokens once their macros are replaced.
+fn push_replaced(
+    alloc: Global,
+    out: &mut String,
+    names: &Names,
+    tokens: &[Token],
+    told: Told,
+) -> Result<(), Fail>
+    requires { BeginWithWords names.now }
+{
+    if names.len() > 1 << 31 {
+        return Err(Fail::new("too many names"));
+    }
+    match expand(alloc, names, tokens) {
+        Ok(replaced) => push_tokens(out, names, &replaced, told),
+        Err(fault) => push_macro_fault(out, fault, told),
+    }
+}
+
+fn push_stage(
+    alloc: Global,
+    out: &mut String,
+    names: &mut Names,
+    text: &str,
+    asked: Asked,
+) -> Result<(), Fail>
+    requires { names.old ≡ builtin_words }
+{
+    if text.len() > TEXT_LIMIT {
+        return Err(Fail::new("a text that is too long"));
+    }
+    match lex(alloc, names, text.as_bytes()) {
+        Ok(tokens) => match asked.stage {
+            Stage::Cut => push_tokens(out, names, &tokens, asked.told),
+            Stage::Replaced => push_replaced(alloc, out, names, &tokens, asked.told),
+        },
+        Err(fault) => push_lex_fault(out, fault, asked.told),
+    }
+}
+
+fn push_asked(alloc: Global, out: &mut String, text: &str, asked: Asked) -> Result<(), Fail> {
+    let mut names = Names::builtin(alloc)?;
+    push_stage(alloc, out, &mut names, text, asked)
+}
+
+/// The line that is told of a text.
+fn line(alloc: Global, text: &str, stage: Stage, told: Told) -> Result<String, Fail> {
+    let mut out = String::new(alloc);
+    push_asked(alloc, &mut out, text, Asked { stage, told })?;
     Ok(out)
 }
 
-fn fault_text(alloc: Global, name: &str, at: Pos) -> Result<String, Fail> {
-    Ok(format!(in alloc; "{name} {at}")?)
-}
-
-fn lex_refusal(alloc: Global, fault: LexFault) -> Result<String, Fail> {
-    match fault {
-        LexFault::Memory => Ok(format!(in alloc; "Memory")?),
-        LexFault::Byte(at) => fault_text(alloc, "Byte", at),
-        LexFault::OpenComment(at) => fault_text(alloc, "OpenComment", at),
-        LexFault::OpenText(at) => fault_text(alloc, "OpenText", at),
-        LexFault::Number(at) => fault_text(alloc, "Number", at),
-    }
-}
-
-fn macro_refusal(alloc: Global, fault: MacroFault) -> Result<String, Fail> {
-    match fault {
-        MacroFault::Memory => Ok(format!(in alloc; "Memory")?),
-        MacroFault::Directive(at) => fault_text(alloc, "Directive", at),
-        MacroFault::FunctionMacro(at) => fault_text(alloc, "FunctionMacro", at),
-        MacroFault::Redefined(at) => fault_text(alloc, "Redefined", at),
-        MacroFault::TooManyTokens(at) => fault_text(alloc, "TooManyTokens", at),
-    }
-}
-
-/// The kinds of a text's tokens and their places; or why it is refused, and nothing.
-fn cut(alloc: Global, text: &str) -> Result<(String, String), Fail> {
-    if text.len() > pungi_lex::TEXT_LIMIT {
-        return Ok((String::new(alloc), String::new(alloc)));
-    }
-    let mut names = Names::builtin(alloc)?;
-    match lex(alloc, &mut names, text.as_bytes()) {
-        Ok(tokens) => Ok((
-            kinds_of(alloc, &names, &tokens)?,
-            places_of(alloc, &tokens)?,
-        )),
-        Err(fault) => Ok((lex_refusal(alloc, fault)?, String::new(alloc))),
-    }
-}
-
-/// The same of the tokens once their macros are replaced.
-fn replaced(alloc: Global, text: &str) -> Result<(String, String), Fail> {
-    if text.len() > pungi_lex::TEXT_LIMIT {
-        return Ok((String::new(alloc), String::new(alloc)));
-    }
-    let mut names = Names::builtin(alloc)?;
-    let tokens = match lex(alloc, &mut names, text.as_bytes()) {
-        Ok(tokens) => tokens,
-        Err(fault) => return Ok((lex_refusal(alloc, fault)?, String::new(alloc))),
-    };
-    if names.len() > 1 << 31 {
-        return Ok((String::new(alloc), String::new(alloc)));
-    }
-    match expand(alloc, &names, &tokens) {
-        Ok(out) => Ok((kinds_of(alloc, &names, &out)?, places_of(alloc, &out)?)),
-        Err(fault) => Ok((macro_refusal(alloc, fault)?, String::new(alloc))),
-    }
+/// Whether this is told of a text.
+fn is_told(
+    alloc: Global,
+    text: &str,
+    stage: Stage,
+    told: Told,
+    wanted: &str,
+) -> Result<bool, Fail> {
+    let line = line(alloc, text, stage, told)?;
+    Ok(line.as_str() == wanted)
 }
 
 /// Texts and the kinds of their tokens, or the fault that refuses them.
@@ -250,8 +319,10 @@ const KINDS: &[(&str, &str)] = &[
 #[test]
 fn cuts_each_kind_of_token(rt: HostRuntime) -> Result<(), Fail> {
     for (text, kinds) in KINDS {
-        let (found, _) = cut(rt.alloc(), text)?;
-        assert_eq!(rt; found.as_str(), *kinds, "at {text}");
+        assert!(rt;
+            is_told(rt.alloc(), text, Stage::Cut, Told::Kinds, kinds)?,
+            "at {text}"
+        );
     }
     Ok(())
 }
@@ -307,9 +378,14 @@ const PLACES: &[(&str, &str, &str)] = &[
 #[test]
 fn tells_places_in_the_text_as_it_stands(rt: HostRuntime) -> Result<(), Fail> {
     for (text, kinds, places) in PLACES {
-        let (found, at) = cut(rt.alloc(), text)?;
-        assert_eq!(rt; found.as_str(), *kinds, "at {text}");
-        assert_eq!(rt; at.as_str(), *places, "at {text}");
+        assert!(rt;
+            is_told(rt.alloc(), text, Stage::Cut, Told::Kinds, kinds)?,
+            "at {text}"
+        );
+        assert!(rt;
+            is_told(rt.alloc(), text, Stage::Cut, Told::Places, places)?,
+            "at {text}"
+        );
     }
     Ok(())
 }
@@ -390,9 +466,14 @@ const REPLACED: &[(&str, &str, &str)] = &[
 #[test]
 fn replaces_macros(rt: HostRuntime) -> Result<(), Fail> {
     for (text, kinds, places) in REPLACED {
-        let (found, at) = replaced(rt.alloc(), text)?;
-        assert_eq!(rt; found.as_str(), *kinds, "at {text}");
-        assert_eq!(rt; at.as_str(), *places, "at {text}");
+        assert!(rt;
+            is_told(rt.alloc(), text, Stage::Replaced, Told::Kinds, kinds)?,
+            "at {text}"
+        );
+        assert!(rt;
+            is_told(rt.alloc(), text, Stage::Replaced, Told::Places, places)?,
+            "at {text}"
+        );
     }
     Ok(())
 }
@@ -410,17 +491,20 @@ fn doubled(alloc: Global, text: &str) -> Result<String, Fail> {
     Ok(out)
 }
 
+/// The kinds of the tokens of a text behind such macros, once they are replaced; or the fault.
+fn doubled_line(alloc: Global, text: &str) -> Result<String, Fail> {
+    let whole = doubled(alloc, text)?;
+    line(alloc, whole.as_str(), Stage::Replaced, Told::Kinds)
+}
+
 #[test]
 fn counts_tokens_and_replacements(rt: HostRuntime) -> Result<(), Fail> {
     // TWICE15 costs 131071 and leaves 65536 words. Twice that and two words are 262144, and leave 131074.
-    let full = doubled(rt.alloc(), "TWICE15 TWICE15\n x y")?;
-    let (found, _) = replaced(rt.alloc(), full.as_str())?;
-    assert_eq!(rt; found.len(), 2 * 131074 - 1);
-    let over = doubled(rt.alloc(), "TWICE15 TWICE15\n x y z")?;
-    let (found, _) = replaced(rt.alloc(), over.as_str())?;
-    assert_eq!(rt; found.as_str(), "TooManyTokens 18:6");
-    let within = doubled(rt.alloc(), "TWICE15 TWICE15\n TWICE0 x")?;
-    let (found, _) = replaced(rt.alloc(), within.as_str())?;
-    assert_eq!(rt; found.as_str(), "TooManyTokens 18:2");
+    let full = doubled_line(rt.alloc(), "TWICE15 TWICE15\n x y")?;
+    assert_eq!(rt; full.len(), 2 * 131074 - 1);
+    let over = doubled_line(rt.alloc(), "TWICE15 TWICE15\n x y z")?;
+    assert_eq!(rt; over.as_str(), "TooManyTokens 18:6");
+    let within = doubled_line(rt.alloc(), "TWICE15 TWICE15\n TWICE0 x")?;
+    assert_eq!(rt; within.as_str(), "TooManyTokens 18:2");
     Ok(())
 }

@@ -1,110 +1,147 @@
 use crate::kinds::{
     ADD, ARROW, ASK, BREAK, CASE, CHAR, COLON, COMMA, CONST, CONTINUE, DEFAULT, DO, DOC, DOT, DOTS,
-    ELSE, FLOAT, FOR, GOTO, IF, INT, LB, LC, LESS, LETTER, LP, NEW, NONE, NOT, NULL, OBJECT, ONE,
-    RB, RC, RETURN, RP, SEMI, SET, SIZEOF, STAR, STATIC, STEP, STRUCT, SWITCH, TEXT, TWO, TYPEDEF,
-    UNION, UNUSED, VOID, WA, WB, WF, WHILE, WT, ZERO,
+    ELSE, FLOAT, FOR, GOTO, IF, INT, LB, LC, LESS, LETTER, LP, MINUS, NEW, NONE, NOT, NULL, OBJECT,
+    ONE, RB, RC, RETURN, RP, SEMI, SET, SIZEOF, STAR, STATIC, STEP, STRUCT, SWITCH, TEXT, TWO,
+    TYPEDEF, UNION, UNUSED, VOID, WA, WB, WF, WHILE, WT, ZERO,
 };
+use crate::parse_tests::{behind_typedef, placed};
 use crate::trees::{
-    A, B, F, T, boxed_stmt, cast, choice, expr, minus, nested, of_each_type, prefix, returns_none,
-    stmt, with_stmt, with_value, word,
+    A, B, T, else_to_the_outer, file_of, label, of_no_text, of_word, prefix_less, size_of_cast,
+    to_the_right,
 };
 use pungi_base::{Kind, Memory};
-use pungi_tree::{ExprNode, StmtNode, Unit, depth, flat, levels_ok};
-use std::alloc::Global;
+use pungi_parse::parse;
+use pungi_tree::{Stmt, Unit, depth, flat, levels_ok};
+use std::alloc::{AllocError, Global};
 use std::test::Fail;
 
-#[test]
-fn a_function_that_returns_none(rt: HostRuntime) -> Result<(), Fail> {
-    let unit = returns_none(rt.alloc())?;
-    assert_eq!(rt; depth(&unit), 3);
-    assert!(rt; levels_ok(&unit));
-    let want = [
-        OBJECT, STAR, WF, LP, OBJECT, STAR, WA, COMMA, OBJECT, STAR, WB, RP, LC, RETURN, NONE,
-        SEMI, RC,
-    ];
-    let kinds = flat(rt.alloc(), &unit)?;
-    assert!(rt; kinds.as_slice() == want.as_slice());
-    Ok(())
+/// The depth of a tree that the grammar allows and that has these tokens.
+fn depth_told(alloc: Global, unit: &Unit, kinds: &[Kind]) -> Result<Option<u32>, Memory> {
+    let found = flat(alloc, unit)?;
+    if found.as_slice() == kinds && levels_ok(unit) {
+        Ok(Some(depth(unit)))
+    } else {
+        Ok(None)
+    }
 }
 
-/// Whether these are the tokens of the tree.
-fn is_flat(alloc: Global, unit: &Unit, want: &[Kind]) -> Result<bool, Memory> {
-    let kinds = flat(alloc, unit)?;
-    Ok(kinds.as_slice() == want)
+/// The same, of the tree of a file with these tokens.
+fn depth_of(alloc: Global, kinds: &[Kind]) -> Result<Option<u32>, Fail> {
+    let tokens = placed(alloc, kinds)?;
+    let unit = parse(alloc, &tokens)?;
+    Ok(depth_told(alloc, &unit, kinds)?)
 }
 
-#[test]
-fn a_tree_of_each_type(rt: HostRuntime) -> Result<(), Fail> {
-    let unit = of_each_type(rt.alloc())?;
+/// `PyObject *f(PyObject *a, PyObject *b) { return Py_None; }`.
+const RETURNS_NONE: &[Kind] = &[
+    OBJECT, STAR, WF, LP, OBJECT, STAR, WA, COMMA, OBJECT, STAR, WB, RP, LC, RETURN, NONE, SEMI, RC,
+];
+
+/// A file with a tree of each type.
+const EACH_TYPE: &[Kind] = &[
+    SEMI, DOC, LP, WA, COMMA, TEXT, TEXT, RP, TYPEDEF, STRUCT, WB, LC, SEMI, CONST, INT, WA, LB,
+    TWO, RB, LB, RB, COMMA, LP, STAR, WF, RP, LP, VOID, RP, SEMI, RC, CONST, STAR, CONST, WT, SEMI,
+    STATIC, UNION, WA, SEMI, WT, STAR, WA, SET, LP, WT, STAR, RP, NULL, COMMA, WB, LB, RB, SET, LC,
+    LP, RP, RC, SEMI, INT, WF, LP, WT, UNUSED, LP, WA, RP, COMMA, CHAR, STAR, COMMA, DOTS, RP,
+    SEMI, VOID, WF, LP, VOID, RP, LC, FOR, LP, INT, WA, SET, ONE, SEMI, WA, LESS, TWO, SEMI, WA,
+    STEP, RP, IF, LP, WA, DOT, WB, RP, BREAK, SEMI, ELSE, CONTINUE, SEMI, DO, SEMI, WHILE, LP,
+    SIZEOF, LP, WT, RP, RP, SEMI, SWITCH, LP, WA, RP, CASE, LETTER, COLON, DEFAULT, COLON, WB,
+    COLON, GOTO, WB, SEMI, WHILE, LP, NOT, WA, RP, WA, ADD, FLOAT, SEMI, RETURN, LP, WF, LP, TEXT,
+    RP, ARROW, WB, LB, ZERO, RB, ASK, NEW, LP, WT, COMMA, WA, RP, COLON, TWO, COMMA, ONE, RP, SEMI,
+    RC,
+];
+
+/// `typedef int T; int a = f - a - b; int b = !(T *)NULL;`.
+const VALUES: &[Kind] = &[
+    TYPEDEF, INT, WT, SEMI, INT, WA, SET, WF, MINUS, WA, MINUS, WB, SEMI, INT, WB, SET, NOT, LP,
+    WT, STAR, RP, NULL, SEMI,
+];
+
+/// `void f(void) { if (a) if (a) ; else ; b: break; }`.
+const STATEMENTS: &[Kind] = &[
+    VOID, WF, LP, VOID, RP, LC, IF, LP, WA, RP, IF, LP, WA, RP, SEMI, ELSE, SEMI, WB, COLON, BREAK,
+    SEMI, RC,
+];
+
+/// Files, and how deep their trees are: expressions and statements on one path.
+const DEPTHS: &[(&[Kind], u32)] = &[
+    // The block, `return` and the word.
+    (RETURNS_NONE, 3),
     // The block, `return`, `( )`, the comma, `? :`, `[ ]`, `->`, the call and `f`.
-    assert_eq!(rt; depth(&unit), 9);
-    assert!(rt; levels_ok(&unit));
-    let want = [
-        SEMI, DOC, LP, WA, COMMA, TEXT, TEXT, RP, TYPEDEF, STRUCT, WB, LC, SEMI, CONST, INT, WA,
-        LB, TWO, RB, LB, RB, COMMA, LP, STAR, WF, RP, LP, VOID, RP, SEMI, RC, CONST, STAR, CONST,
-        WT, SEMI, STATIC, UNION, WA, SEMI, WT, STAR, WA, SET, LP, WT, STAR, RP, NULL, COMMA, WB,
-        LB, RB, SET, LC, LP, RP, RC, SEMI, INT, WF, LP, WT, UNUSED, LP, WA, RP, COMMA, CHAR, STAR,
-        COMMA, DOTS, RP, SEMI, VOID, WF, LP, VOID, RP, LC, FOR, LP, INT, WA, SET, ONE, SEMI, WA,
-        LESS, TWO, SEMI, WA, STEP, RP, IF, LP, WA, DOT, WB, RP, BREAK, SEMI, ELSE, CONTINUE, SEMI,
-        DO, SEMI, WHILE, LP, SIZEOF, LP, WT, RP, RP, SEMI, SWITCH, LP, WA, RP, CASE, LETTER, COLON,
-        DEFAULT, COLON, WB, COLON, GOTO, WB, SEMI, WHILE, LP, NOT, WA, RP, WA, ADD, FLOAT, SEMI,
-        RETURN, LP, WF, LP, TEXT, RP, ARROW, WB, LB, ZERO, RB, ASK, NEW, LP, WT, COMMA, WA, RP,
-        COLON, TWO, COMMA, ONE, RP, SEMI, RC,
-    ];
-    assert!(rt; is_flat(rt.alloc(), &unit, &want)?);
-    Ok(())
-}
+    (EACH_TYPE, 9),
+    // Two differences and the word.
+    (VALUES, 3),
+    // The block, two `if`s and the word.
+    (STATEMENTS, 4),
+];
 
 #[test]
-fn what_the_grammar_allows(rt: HostRuntime) -> Result<(), Fail> {
-    let alloc = rt.alloc();
-    let left = minus(alloc, word(A), word(B))?;
-    let right = minus(alloc, word(A), word(B))?;
-    let values = vec![in alloc;
-        (minus(alloc, left, word(F))?, true),
-        (minus(alloc, word(F), right)?, false),
-        (word(T), false),
-        (expr(ExprNode::Text(Vec::new(alloc))), false),
-        (prefix(alloc, SIZEOF, cast(alloc)?)?, false),
-        (prefix(alloc, NOT, cast(alloc)?)?, true),
-        (prefix(alloc, LESS, word(A))?, false),
-    ]?;
-    for (value, want) in values {
-        assert_eq!(rt; levels_ok(&with_value(alloc, value)?), want);
-    }
-    let inner = choice(
-        alloc,
-        stmt(StmtNode::Do(None)),
-        Some(boxed_stmt(alloc, StmtNode::Do(None))?),
-    )?;
-    let outer = choice(alloc, stmt(StmtNode::Do(None)), None)?;
-    let body = boxed_stmt(alloc, StmtNode::Do(None))?;
-    let stmts = vec![in alloc;
-        (choice(alloc, inner, None)?, true),
-        (choice(alloc, outer, Some(body))?, false),
-        (
-            stmt(StmtNode::Label(B, boxed_stmt(alloc, StmtNode::Break)?)),
-            true
-        ),
-        (
-            stmt(StmtNode::Label(T, boxed_stmt(alloc, StmtNode::Break)?)),
-            false
-        ),
-    ]?;
-    for (body, want) in stmts {
-        assert_eq!(rt; levels_ok(&with_stmt(alloc, body)?), want);
+fn trees_of_files(rt: HostRuntime) -> Result<(), Fail> {
+    for (kinds, depth) in DEPTHS {
+        assert_eq!(rt; depth_of(rt.alloc(), kinds)?, Some(*depth));
     }
     Ok(())
 }
 
+/// `return` behind so many `if`s, of a word behind so many `!` and in so many parentheses.
+fn nested(alloc: Global, ifs: u32, nots: u32, parens: u32) -> Result<Vec<Kind>, AllocError> {
+    let mut kinds = Vec::new(alloc);
+    for _ in 0..ifs {
+        kinds.extend_from_slice(&[IF, LP, WA, RP])?;
+    }
+    kinds.push(RETURN)?;
+    for _ in 0..nots {
+        kinds.push(NOT)?;
+    }
+    for _ in 0..parens {
+        kinds.push(LP)?;
+    }
+    kinds.push(WA)?;
+    for _ in 0..parens {
+        kinds.push(RP)?;
+    }
+    kinds.push(SEMI)?;
+    behind_typedef(alloc, kinds.as_slice())
+}
+
+/// The block, `return` and the word are three nodes of 256.
 #[test]
 fn the_deepest_trees(rt: HostRuntime) -> Result<(), Fail> {
-    for (ifs, parens) in [(0, 253), (253, 0), (100, 153)] {
-        let unit = nested(rt.alloc(), ifs, parens)?;
-        assert_eq!(rt; depth(&unit), 256);
-        assert!(rt; levels_ok(&unit));
-        let kinds = flat(rt.alloc(), &unit)?;
-        assert_eq!(rt; kinds.len(), 14 + 4 * ifs as usize + 2 * parens as usize);
+    for (ifs, nots, parens) in [(0, 253, 0), (253, 0, 0), (0, 190, 63), (100, 100, 53)] {
+        let kinds = nested(rt.alloc(), ifs, nots, parens)?;
+        assert_eq!(rt; depth_of(rt.alloc(), kinds.as_slice())?, Some(256));
     }
+    Ok(())
+}
+
+/// Whether the grammar allows the file whose function has this statement.
+fn allowed(alloc: Global, stmt: Stmt) -> Result<bool, AllocError> {
+    let unit = file_of(alloc, stmt)?;
+    Ok(levels_ok(&unit))
+}
+
+fn words_are_told(alloc: Global) -> Result<bool, AllocError> {
+    Ok(
+        allowed(alloc, of_word(A))?
+            && !allowed(alloc, of_word(T))?
+            && allowed(alloc, label(alloc, B)?)?
+            && !allowed(alloc, label(alloc, T)?)?,
+    )
+}
+
+fn levels_are_told(alloc: Global) -> Result<bool, AllocError> {
+    Ok(
+        !allowed(alloc, to_the_right(alloc)?)?
+            && !allowed(alloc, size_of_cast(alloc)?)?
+            && !allowed(alloc, prefix_less(alloc)?)?
+            && !allowed(alloc, of_no_text(alloc))?
+            && !allowed(alloc, else_to_the_outer(alloc)?)?,
+    )
+}
+
+#[test]
+fn what_the_grammar_forbids(rt: HostRuntime) -> Result<(), Fail> {
+    assert!(rt; words_are_told(rt.alloc())?);
+    assert!(rt; levels_are_told(rt.alloc())?);
     Ok(())
 }
