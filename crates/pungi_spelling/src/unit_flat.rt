@@ -1,5 +1,4 @@
-ghost use Rattle.std.specs.Bool.{OnTrue};
-ghost use Rattle.std.specs.Prelude.{◌≡◌, ◌++◌, IfOk};
+ghost use Rattle.std.specs.Prelude.{◌≡◌, ◌++◌, OnOk, IfOk};
 ghost use Rattle.pungi_tree.specs.ExprView.{spec_view, params_view};
 ghost use Rattle.pungi_tree.specs.UnitFlat.{item_flat, items_flat, signature_flat};
 ghost use Rattle.pungi_tree.specs.UnitView.{item_view, unit_view};
@@ -18,25 +17,23 @@ pub fn flat(alloc: Global, unit: &Unit) -> Result<Vec<Kind>, Memory>
 {
     let mut out = Vec::new(alloc);
     for i in &unit.items {
-        if !item(&mut out, i) {
-            return Err(Memory);
-        }
+        item(&mut out, i)?;
     }
     Ok(out)
 }
 
-fn item(out: &mut Vec<Kind>, i: &Item) -> bool
-    ensures { OnTrue result (out.new.items ≡ out.old.items ++ item_flat (item_view i.now)) }
+fn item(out: &mut Vec<Kind>, i: &Item) -> Result<(), Memory>
+    ensures { OnOk result (out.new.items ≡ out.old.items ++ item_flat (item_view i.now)) }
 {
     match i {
         Item::Empty(_) => mark(out, Punct::Semicolon),
         Item::Doc { name, texts, .. } => {
-            word(out, Name(PY_DOC_STRVAR))
-                && mark(out, Punct::LeftParen)
-                && word(out, *name)
-                && mark(out, Punct::Comma)
-                && put_texts(out, texts)
-                && mark(out, Punct::RightParen)
+            word(out, Name(PY_DOC_STRVAR))?;
+            mark(out, Punct::LeftParen)?;
+            word(out, *name)?;
+            mark(out, Punct::Comma)?;
+            put_texts(out, texts)?;
+            mark(out, Punct::RightParen)
         }
         Item::Typedef {
             spec: s,
@@ -44,22 +41,25 @@ fn item(out: &mut Vec<Kind>, i: &Item) -> bool
             name,
             ..
         } => {
-            keyword(out, Key::Typedef)
-                && spec(out, s)
-                && put_stars(out, stars)
-                && word(out, *name)
-                && mark(out, Punct::Semicolon)
+            keyword(out, Key::Typedef)?;
+            spec(out, s)?;
+            put_stars(out, stars)?;
+            word(out, *name)?;
+            mark(out, Punct::Semicolon)
         }
         Item::Tag { quals, spec: s } => {
-            put_keys(out, quals) && spec(out, s) && mark(out, Punct::Semicolon)
+            put_keys(out, quals)?;
+            spec(out, s)?;
+            mark(out, Punct::Semicolon)
         }
         Item::Vars(d) => decl(out, d),
         Item::Prototype(h) => {
-            signature(out, &h.quals, &h.result, &h.stars, h.name, &h.params)
-                && mark(out, Punct::Semicolon)
+            signature(out, &h.quals, &h.result, &h.stars, h.name, &h.params)?;
+            mark(out, Punct::Semicolon)
         }
         Item::Function(f) => {
-            signature(out, &f.quals, &f.result, &f.stars, f.name, &f.params) && stmt(out, &f.body)
+            signature(out, &f.quals, &f.result, &f.stars, f.name, &f.params)?;
+            stmt(out, &f.body)
         }
     }
 }
@@ -71,15 +71,15 @@ fn signature(
     stars: &Vec<u32>,
     name: Name,
     list: &Params,
-) -> bool
-    ensures { OnTrue result (out.new.items ≡ out.old.items
+) -> Result<(), Memory>
+    ensures { OnOk result (out.new.items ≡ out.old.items
         ++ signature_flat quals.now.items (spec_view result_type.now) stars.now.items name (params_view list.now)) }
 {
-    put_keys(out, quals)
-        && spec(out, result_type)
-        && put_stars(out, stars)
-        && word(out, name)
-        && mark(out, Punct::LeftParen)
-        && params(out, list)
-        && mark(out, Punct::RightParen)
+    put_keys(out, quals)?;
+    spec(out, result_type)?;
+    put_stars(out, stars)?;
+    word(out, name)?;
+    mark(out, Punct::LeftParen)?;
+    params(out, list)?;
+    mark(out, Punct::RightParen)
 }
