@@ -7,7 +7,7 @@ ghost use Rattle.pungi_lex.specs.Line.{behind_token as line_behind_token, next_l
 use crate::start::{Start, is_token};
 
 /// How far a line has come.
-#[derive(Clone, Copy, Debug, PartialEq, Eq)]
+#[derive(Clone, Copy)]
 pub enum Line {
     /// No token stands on it yet.
     Fresh,

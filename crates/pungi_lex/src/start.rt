@@ -5,7 +5,7 @@ use crate::bytes::{is_blank, is_digit, is_letter, is_mark, is_plain_mark};
 use crate::line::Line;
 
 /// What may begin at a place.
-#[derive(Clone, Copy, Debug, PartialEq, Eq)]
+#[derive(Clone, Copy)]
 pub enum Start {
     Header,
     Blank,
