@@ -186,33 +186,24 @@ fn check_part<N: Lookup>(
     ensures { OnOk result (walk.new ≡ record walk.old { first = least_from walk.old.first (stmt_findings (frame_of (N.env names.now) walk.old [] around.now) (stmt_view s.now)); next = walk.old.next + stmt_locals (stmt_view s.now) }) }
 {
     match &s.node {
-        StmtNode::Block(list, _) => {
-            check_block(names, around, walk, list)?;
-            Ok(())
-        }
-        StmtNode::Declare(d) => {
-            check_alone(names, around, walk, d)?;
-            Ok(())
-        }
+        StmtNode::Block(list, _) => { check_block(names, around, walk, list) }
+        StmtNode::Declare(d) => { check_alone(names, around, walk, d) }
         StmtNode::Do(e) => {
             visit_optional(names, walk, e);
             Ok(())
         }
         StmtNode::If(e, yes, None) => {
             visit_condition(names, walk, s.pos, e);
-            check_part(names, &inside(around), walk, yes)?;
-            Ok(())
+            check_part(names, &inside(around), walk, yes)
         }
         StmtNode::If(e, yes, Some(no)) => {
             visit_condition(names, walk, s.pos, e);
             check_part(names, &inside(around), walk, yes)?;
-            check_part(names, &inside(around), walk, no)?;
-            Ok(())
+            check_part(names, &inside(around), walk, no)
         }
         StmtNode::While(e, body) => {
             visit_condition(names, walk, s.pos, e);
-            check_part(names, &in_loop(around), walk, body)?;
-            Ok(())
+            check_part(names, &in_loop(around), walk, body)
         }
         StmtNode::DoWhile(body, e) => {
             check_part(names, &in_loop(around), walk, body)?;
@@ -220,31 +211,24 @@ fn check_part<N: Lookup>(
             Ok(())
         }
         StmtNode::For(start, test, step, body) => {
-            check_for(names, around, walk, s.pos, body, start, test, step)?;
-            Ok(())
+            check_for(names, around, walk, s.pos, body, start, test, step)
         }
         StmtNode::Switch(e, body) => {
             visit_switched(names, walk, s.pos, e);
             note_switch(around.alloc, &mut walk.first, body)?;
-            check_part(names, &in_switch(around), walk, body)?;
-            Ok(())
+            check_part(names, &in_switch(around), walk, body)
         }
         StmtNode::Case(e, inner) => {
             let wrong = !around.cases || constant(e).is_none();
             note_at(walk, wrong, s.pos, 7);
             visit(names, walk, e);
-            check_part(names, &labelled(around), walk, inner)?;
-            Ok(())
+            check_part(names, &labelled(around), walk, inner)
         }
         StmtNode::Default(inner) => {
             note_at(walk, !around.cases, s.pos, 7);
-            check_part(names, &labelled(around), walk, inner)?;
-            Ok(())
+            check_part(names, &labelled(around), walk, inner)
         }
-        StmtNode::Label(_, inner) => {
-            check_part(names, &labelled(around), walk, inner)?;
-            Ok(())
-        }
+        StmtNode::Label(_, inner) => { check_part(names, &labelled(around), walk, inner) }
         StmtNode::Goto(name, pos) => {
             let known = has_label(&around.labels, name.0);
             note_at(walk, !known, *pos, 6);

@@ -3,6 +3,7 @@ use Rattle.std.proofs.lemmas.Result.{IfOk-equal}
 use Rattle.pungi_tree.specs.ExprView.{optional_view}
 use Rattle.pungi_tree.specs.StmtView.{stmt_view, stmts_of, for_start_view}
 use Rattle.pungi_tree.specs.Syntax as plain
+use Rattle.pungi_tree.specs.declared.stmt.Stmt.{Stmt}
 use Rattle.pungi_types.specs.Labels.{stmt_locals, stmts_locals, start_locals}
 use Rattle.pungi_types.specs.Stmts.{Frame, in_block, stmt_findings, stmts_findings}
 use Rattle.pungi_types.specs.Findings.{least_from}
@@ -35,16 +36,15 @@ check_for-returns g t c =
     c.args.around.now c.in_loop.result c.args.pos (for_start_view c.args.start.now) (optional_view c.args.test.now) (optional_view c.args.step.now) (stmt_view c.args.body.now)
     c.len-kept.result c.len-kept.ensures c.in_ok-check_head.ensures.found c.in_ok-check_head.ensures.frame c.in_loop.ensures c.check_part-result.ensures c.leave.ensures
 
-pub check_part-returns-in_ok-check_for-in-For : goal.check_part-returns-in_ok-check_for-in-For
-check_part-returns-in_ok-check_for-in-For g t c =
+pub check_part-returns-in-For : goal.check_part-returns-in-For
+check_part-returns-in-For g t c =
     let old = c.args.walk.now in
     let F = frame_of (g.N.Lookup.env c.args.names.now) old [] c.args.around.now in
-    let a = for_start_view c.in-For.start in
     let at : plain.Stmt → Walk = λ s. record old { first = least_from old.first (stmt_findings F s); next = old.next + stmt_locals s } in
+    let whole : Stmt → plain.Stmt = λ s. plain.for c.args.s.now.pos (for_start_view c.in-For.start) (optional_view c.in-For.test) (optional_view c.in-For.step) (stmt_view s) in
     let body : c.deref-in-For.result.now ≡ c.in-For.body.value = c.deref-in-For.ensures in
-    c.in_ok-check_for-in-For.ensures
-    ∙ ap (λ s. at (plain.for c.args.s.now.pos a (optional_view c.in-For.test) (optional_view c.in-For.step) (stmt_view s))) body
-    ∙ sym (ap at (stmt_view-for c.args.s.now c.in-For.start c.in-For.test c.in-For.step c.in-For.body c.in-For.is))
+    IfOk-equal c.check_for.result c.check_for.new.walk (at (whole c.deref-in-For.result.now)) (at (stmt_view c.args.s.now)) c.check_for.ensures
+    (ap (λ (s : Stmt). at (whole s)) body ∙ sym (ap at (stmt_view-for c.args.s.now c.in-For.start c.in-For.test c.in-For.step c.in-For.body c.in-For.is)))
 
 pub check_stmt-returns-in_ok-check_decl-in-Some-clause-found : goal.check_stmt-returns-in_ok-check_decl-in-Some-clause-found
 check_stmt-returns-in_ok-check_decl-in-Some-clause-found g t c =
