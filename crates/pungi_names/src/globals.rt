@@ -1,5 +1,5 @@
 // Variables and tables outside functions.
-ghost use Rattle.std.specs.Prelude.{◌≡◌, ℕ, ◌==◌, ◌&&◌, ◌||◌, nat_eq, map, List, [], Option, None, OnOk, IfOk, if◌then◌else◌};
+ghost use Rattle.std.specs.Prelude.{◌≡◌, ℕ, ◌==◌, ◌&&◌, ◌||◌, nat_eq, map, List, [], Option, None, OnOk, if◌then◌else◌};
 ghost use Rattle.indexmap.specs.IndexMap.{get, IsEmpty};
 ghost use Rattle.indexmap.specs.IndexSet.{contains, IsEmpty as IsEmptySet};
 ghost use Rattle.pungi_declared.specs.DeclaredView.{variable_view};
