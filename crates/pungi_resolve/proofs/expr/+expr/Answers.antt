@@ -15,24 +15,24 @@ use Rattle.pungi_resolve.proofs.OperandLemmas.{binary-operands, assign-sides, co
 use Rattle.pungi_resolve.proofs.expr.+expr.Goals as goal
 use Rattle.pungi_resolve.proofs.expr.+expr.Goals.{resolve_arg-else-wants_module-via-then-wants_module+else-is_module, resolve_arg-else-wants_module-via-else-wants_module}
 
-pub resolve_expr-resolve_expr-requires-in-Binary : goal.resolve_expr-resolve_expr-requires-in-Binary
-resolve_expr-resolve_expr-requires-in-Binary g t c κs within =
+pub resolve_expr-resolve_expr-requires : goal.resolve_expr-resolve_expr-requires
+resolve_expr-resolve_expr-requires g t c κs within =
     let env = g.N.Lookup.env c.args.names.now in
     let P : Expr → Type 0 = λ x. is_sound (resolve env (expr_view x)) ≡ true in
     let k = binary-operands env c.args.e.now c.in-Binary.operator c.in-Binary.a c.in-Binary.b c.in-Binary.is c.requires in
     let h : is_sound (resolve env (expr_view c.deref-in-Binary.result.now)) ≡ true = subst P (sym c.deref-in-Binary.ensures) k.first in
     (search (rules, the_lemmas), (search rules, h))
 
-pub resolve_expr-resolve_expr-requires-in-Binary-2 : goal.resolve_expr-resolve_expr-requires-in-Binary-2
-resolve_expr-resolve_expr-requires-in-Binary-2 g t c κs within =
+pub resolve_expr-resolve_expr-requires-in-Binary : goal.resolve_expr-resolve_expr-requires-in-Binary
+resolve_expr-resolve_expr-requires-in-Binary g t c κs within =
     let env = g.N.Lookup.env c.args.names.now in
     let P : Expr → Type 0 = λ x. is_sound (resolve env (expr_view x)) ≡ true in
     let k = binary-operands env c.args.e.now c.in-Binary.operator c.in-Binary.a c.in-Binary.b c.in-Binary.is c.requires in
     let h : is_sound (resolve env (expr_view c.deref-in-Binary-2.result.now)) ≡ true = subst P (sym c.deref-in-Binary-2.ensures) k.second in
     (search (rules, the_lemmas), (search rules, h))
 
-pub resolve_expr-resolve_place-requires-in-Assign : goal.resolve_expr-resolve_place-requires-in-Assign
-resolve_expr-resolve_place-requires-in-Assign g t c κs within =
+pub resolve_expr-resolve_place-requires : goal.resolve_expr-resolve_place-requires
+resolve_expr-resolve_place-requires g t c κs within =
     let env = g.N.Lookup.env c.args.names.now in
     let P : Expr → Type 0 = λ x. is_sound_place (place_of env (expr_view x)) ≡ true in
     let k = assign-sides env c.args.e.now c.in-Assign.operator c.in-Assign.a c.in-Assign.b c.in-Assign.is c.requires in
