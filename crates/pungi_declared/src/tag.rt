@@ -5,7 +5,7 @@ use pungi_base::{Key, Memory, Name, Pos};
 use pungi_tree::Field;
 
 /// A struct or union with fields: the word before its tag, its tag with its place, and its fields (C11 6.7.2.1).
-#[derive(Clone, Copy, Debug)]
+#[derive(Clone, Copy)]
 pub struct Tag<'u> {
     pub of: Key,
     pub tag: Option<(Name, Pos)>,
