@@ -1,15 +1,13 @@
 //! Structs and unions with fields in expressions, types and declarators.
 ghost use Rattle.std.specs.Prelude.{◌≡◌, ◌++◌, OnOk, map};
 ghost use Rattle.pungi_declared.specs.DeclaredView.{tag_view};
-ghost use Rattle.pungi_tree.specs.ExprView.{expr_view, exprs_of, type_name_view, spec_view, base_view, field_view, fields_of, declr_view, declrs_of, tail_view, sizes_of, optional_view, params_view, param_decl_view, param_decls_of, param_declr_view};
-ghost use Rattle.pungi_types.specs.Tags.{expr_tags, exprs_tags, type_name_tags, spec_tags, base_tags, field_tags, fields_tags, declr_tags, declrs_tags, tail_tags, sizes_tags, params_tags, param_decl_tags, param_decls_tags, param_declr_tags};
+ghost use Rattle.pungi_tree.specs.ExprView.{expr_view, exprs_of, spec_view, field_view, fields_of, declr_view, declrs_of, sizes_of, optional_view, param_decl_view, param_decls_of};
+ghost use Rattle.pungi_types.specs.Tags.{expr_tags, exprs_tags, spec_tags, field_tags, fields_tags, declr_tags, declrs_tags, sizes_tags, param_decl_tags, param_decls_tags};
 
 use crate::Tag;
 use crate::tag::put;
 use pungi_base::Memory;
-use pungi_tree::{
-    Base, Declr, Expr, ExprNode, Field, ParamDecl, ParamDeclr, Params, Spec, Tail, TypeName,
-};
+use pungi_tree::{Base, Declr, Expr, ExprNode, Field, ParamDecl, ParamDeclr, Spec, Tail};
 
 #[cycle(expr_tags)]
 pub(crate) fn expr<'u>(out: &mut Vec<Tag<'u>>, e: &'u Expr) -> Result<(), Memory>
@@ -40,10 +38,10 @@ pub(crate) fn expr<'u>(out: &mut Vec<Tag<'u>>, e: &'u Expr) -> Result<(), Memory
             expr(out, b)
         }
         ExprNode::Cast(name, a) | ExprNode::New(name, a) => {
-            type_name(out, name)?;
+            spec(out, &name.spec)?;
             expr(out, a)
         }
-        ExprNode::SizeOfType(name) => type_name(out, name),
+        ExprNode::SizeOfType(name) => spec(out, &name.spec),
         ExprNode::Call(f, args) => {
             expr(out, f)?;
             exprs(out, args)
@@ -62,24 +60,10 @@ fn exprs<'u>(out: &mut Vec<Tag<'u>>, list: &'u Vec<Expr>) -> Result<(), Memory>
 }
 
 #[cycle(expr_tags)]
-fn type_name<'u>(out: &mut Vec<Tag<'u>>, name: &'u TypeName) -> Result<(), Memory>
-    ensures { OnOk result (map tag_view out.new.items ≡ map tag_view out.old.items ++ type_name_tags (type_name_view name.now)) }
-{
-    spec(out, &name.spec)
-}
-
-#[cycle(expr_tags)]
 pub(crate) fn spec<'u>(out: &mut Vec<Tag<'u>>, s: &'u Spec) -> Result<(), Memory>
     ensures { OnOk result (map tag_view out.new.items ≡ map tag_view out.old.items ++ spec_tags (spec_view s.now)) }
 {
-    base(out, &s.base)
-}
-
-#[cycle(expr_tags)]
-fn base<'u>(out: &mut Vec<Tag<'u>>, b: &'u Base) -> Result<(), Memory>
-    ensures { OnOk result (map tag_view out.new.items ≡ map tag_view out.old.items ++ base_tags (base_view b.now)) }
-{
-    match b {
+    match &s.base {
         Base::Words(_) | Base::Alias(_) => Ok(()),
         Base::Tagged { fields: None, .. } => Ok(()),
         Base::Tagged {
@@ -141,16 +125,9 @@ fn declrs<'u>(out: &mut Vec<Tag<'u>>, list: &'u Vec<Declr>) -> Result<(), Memory
 pub(crate) fn declr<'u>(out: &mut Vec<Tag<'u>>, d: &'u Declr) -> Result<(), Memory>
     ensures { OnOk result (map tag_view out.new.items ≡ map tag_view out.old.items ++ declr_tags (declr_view d.now)) }
 {
-    tail(out, &d.tail)
-}
-
-#[cycle(expr_tags)]
-fn tail<'u>(out: &mut Vec<Tag<'u>>, t: &'u Tail) -> Result<(), Memory>
-    ensures { OnOk result (map tag_view out.new.items ≡ map tag_view out.old.items ++ tail_tags (tail_view t.now)) }
-{
-    match t {
+    match &d.tail {
         Tail::Sizes(list) => sizes(out, list),
-        Tail::Function(list) => params(out, list),
+        Tail::Function(list) => params(out, &list.list),
     }
 }
 
@@ -167,35 +144,21 @@ fn sizes<'u>(out: &mut Vec<Tag<'u>>, list: &'u Vec<Option<Expr>>) -> Result<(), 
 }
 
 #[cycle(expr_tags)]
-pub(crate) fn params<'u>(out: &mut Vec<Tag<'u>>, p: &'u Params) -> Result<(), Memory>
-    ensures { OnOk result (map tag_view out.new.items ≡ map tag_view out.old.items ++ params_tags (params_view p.now)) }
-{
-    param_decls(out, &p.list)
-}
-
-#[cycle(expr_tags)]
-fn param_decls<'u>(out: &mut Vec<Tag<'u>>, list: &'u Vec<ParamDecl>) -> Result<(), Memory>
+pub(crate) fn params<'u>(out: &mut Vec<Tag<'u>>, list: &'u Vec<ParamDecl>) -> Result<(), Memory>
     ensures { OnOk result (map tag_view out.new.items ≡ map tag_view out.old.items ++ param_decls_tags (param_decls_of (map param_decl_view list.now.items))) }
 {
     for d in list {
-        param_decl(out, d)?;
+        param(out, d)?;
     }
     Ok(())
 }
 
 #[cycle(expr_tags)]
-fn param_decl<'u>(out: &mut Vec<Tag<'u>>, d: &'u ParamDecl) -> Result<(), Memory>
+fn param<'u>(out: &mut Vec<Tag<'u>>, d: &'u ParamDecl) -> Result<(), Memory>
     ensures { OnOk result (map tag_view out.new.items ≡ map tag_view out.old.items ++ param_decl_tags (param_decl_view d.now)) }
 {
     spec(out, &d.spec)?;
-    param_declr(out, &d.declr)
-}
-
-#[cycle(expr_tags)]
-fn param_declr<'u>(out: &mut Vec<Tag<'u>>, d: &'u ParamDeclr) -> Result<(), Memory>
-    ensures { OnOk result (map tag_view out.new.items ≡ map tag_view out.old.items ++ param_declr_tags (param_declr_view d.now)) }
-{
-    match d {
+    match &d.declr {
         ParamDeclr::Named(named) => declr(out, named),
         ParamDeclr::Bare(_) | ParamDeclr::Unused { .. } => Ok(()),
     }

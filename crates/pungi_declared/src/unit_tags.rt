@@ -20,11 +20,11 @@ fn item<'u>(out: &mut Vec<Tag<'u>>, i: &'u Item) -> Result<(), Memory>
         Item::Vars(d) => decl(out, d),
         Item::Prototype(h) => {
             spec(out, &h.result)?;
-            params(out, &h.params)
+            params(out, &h.params.list)
         }
         Item::Function(f) => {
             spec(out, &f.result)?;
-            params(out, &f.params)?;
+            params(out, &f.params.list)?;
             stmt(out, &f.body)
         }
     }

@@ -9,7 +9,7 @@ pub struct Variable<'u> {
 }
 
 /// A name and where it stands.
-#[derive(Clone, Copy, Debug)]
+#[derive(Clone, Copy)]
 pub struct Place {
     pub name: Name,
     pub pos: Pos,

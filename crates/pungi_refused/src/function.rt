@@ -1,5 +1,5 @@
 /// What the call graph holds of a defined function. Functions have numbers, in the order of their definitions.
-#[derive(Debug, Drop)]
+#[derive(Drop)]
 pub struct Function {
     /// Whether a rule holds in the function where no other function is refused.
     pub refused_alone: bool,

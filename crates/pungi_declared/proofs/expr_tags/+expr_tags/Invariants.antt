@@ -20,6 +20,6 @@ abbrev pub invariant-sizes-loop-size : goal.invariant-sizes-loop-size
 invariant-sizes-loop-size l =
     map tag_view l.out.items ++ sizes_tags (sizes_of (map optional_view (drop l.size-index l.list.items))) ≡ map tag_view l.fn.out.items ++ sizes_tags (sizes_of (map optional_view l.list.items))
 
-abbrev pub invariant-param_decls-loop-d : goal.invariant-param_decls-loop-d
-invariant-param_decls-loop-d l =
+abbrev pub invariant-params-loop-d : goal.invariant-params-loop-d
+invariant-params-loop-d l =
     map tag_view l.out.items ++ param_decls_tags (param_decls_of (map param_decl_view (drop l.d-index l.list.items))) ≡ map tag_view l.fn.out.items ++ param_decls_tags (param_decls_of (map param_decl_view l.list.items))
