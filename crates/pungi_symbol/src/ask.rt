@@ -95,7 +95,7 @@ impl Known {
             Instr::Fit(_, kind, a) => Ok(self.asks_conversion(*kind, *a)),
             Instr::Compare(_, _, a, b) => Ok(self.asks_compare(self.term(*a), self.term(*b))),
             Instr::Load(_, place) => Ok(self.asks_place_load(*place)?),
-            Instr::Store(place, a) => Ok(self.asks_place_store(*place, *a)?),
+            Instr::Store(place, a) => self.asks_place_store(*place, *a),
             Instr::Api(_, shape, args, _) => Ok(self.asks_call(shape, args.as_slice())),
             Instr::Call(_, _, _) => Ok(Question::Stops(Decision::Quiet)),
             Instr::Unset(_) => Ok(Question::Does(Decision::Quiet)),
@@ -111,7 +111,7 @@ impl Known {
     {
         match line_at(code, self.pc) {
             None => Ok(Question::Stops(Decision::Quiet)),
-            Some(line) => Ok(self.asks_instr(&line.instr)?),
+            Some(line) => self.asks_instr(&line.instr),
         }
     }
 
@@ -120,7 +120,7 @@ impl Known {
         ensures { IfOk result (λ q. q ≡ ask code.now self.now) }
     {
         match self.status {
-            Status::Going => Ok(self.asks_line(code)?),
+            Status::Going => self.asks_line(code),
             Status::Returned(_, _) => Ok(Question::Over),
             Status::Stopped(_) => Ok(Question::Over),
         }

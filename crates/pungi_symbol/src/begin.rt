@@ -118,10 +118,10 @@ fn known_at_start(alloc: Global, statics: u32, f: usize, code: &Code) -> Result<
 pub fn first_state(alloc: Global, statics: u32, f: usize, code: &Code) -> Result<State, Memory>
     ensures { IfOk result (λ s. s ≡ start_state statics f code.now) }
 {
-    let known = known_at_start(alloc, statics, f, code)?;
     let end = token_after(statics, argument_count(code))?;
     let classes = classes_at(alloc, end)?;
     let balances = vec![in alloc; 0i64; end as usize]?;
+    let known = known_at_start(alloc, statics, f, code)?;
     Ok(State {
         known,
         statics,

@@ -1,7 +1,7 @@
 use std::cmp::Ordering;
 
 /// An answer of a trace, or none: where an instruction's work is done and nothing was asked.
-#[derive(Clone, Copy, Debug, PartialEq, Eq)]
+#[derive(Clone, Copy, PartialEq, Eq)]
 pub enum Decision {
     /// Nothing was asked.
     Quiet,

@@ -95,8 +95,7 @@ impl Known {
         ensures { OnOk result (self.new ≡ next (put x c self.old)) }
     {
         self.put(x, c);
-        self.go_on()?;
-        Ok(())
+        self.go_on()
     }
 
     /// A variable gets the answer of a call, where there is one.
@@ -138,24 +137,21 @@ impl Known {
     {
         let (left, right) = (self.number(self.term(a)), self.number(self.term(b)));
         let n = number_there(arithmetic(op, kind, left, right));
-        self.assign(x.0, Term::Number(n))?;
-        Ok(())
+        self.assign(x.0, Term::Number(n))
     }
 
     fn do_fit(&mut self, x: Var, kind: ValueKind, a: Atom) -> Result<(), Memory>
         ensures { OnOk result (self.new ≡ does self.old (FitOf x kind a)) }
     {
         let n = self.number(self.term(a));
-        self.assign(x.0, Term::Number(n))?;
-        Ok(())
+        self.assign(x.0, Term::Number(n))
     }
 
     fn do_compare(&mut self, x: Var, cmp: Cmp, a: Atom, b: Atom) -> Result<(), Memory>
         ensures { OnOk result (self.new ≡ does self.old (CompareOf x cmp a b)) }
     {
         let holds = self.compares(cmp, self.term(a), self.term(b));
-        self.assign(x.0, truth_term(holds))?;
-        Ok(())
+        self.assign(x.0, truth_term(holds))
     }
 
     fn do_load(&mut self, x: Var, place: Place) -> Result<(), Memory>
@@ -163,8 +159,7 @@ impl Known {
     {
         let found = self.seek(place)?;
         let held = self.held(found);
-        self.assign(x.0, held)?;
-        Ok(())
+        self.assign(x.0, held)
     }
 
     fn do_store(&mut self, place: Place, a: Atom) -> Result<(), Memory>
@@ -173,8 +168,7 @@ impl Known {
         let found = self.seek(place)?;
         let c = self.term(a);
         self.store_at(place_found(found), c);
-        self.go_on()?;
-        Ok(())
+        self.go_on()
     }
 
     fn do_call(&mut self, x: Option<Var>, shape: &Shape, atoms: &[Atom]) -> Result<(), Memory>
@@ -183,8 +177,7 @@ impl Known {
         let first = self.first_of(atoms);
         let answer = answer_of_form(shape.row.form, shape.row.answer, first);
         self.put_answer(x, answer);
-        self.go_on()?;
-        Ok(())
+        self.go_on()
     }
 
     fn do_branch(&mut self, a: Atom, this: Label, other: Label)
@@ -204,21 +197,26 @@ impl Known {
         match instr {
             Instr::Set(x, a) => {
                 let c = self.term(*a);
-                self.assign(x.0, c)?;
+                self.assign(x.0, c)
             }
-            Instr::Arith(x, kind, op, a, b) => self.do_arith(*x, *kind, *op, *a, *b)?,
-            Instr::Fit(x, kind, a) => self.do_fit(*x, *kind, *a)?,
-            Instr::Compare(x, cmp, a, b) => self.do_compare(*x, *cmp, *a, *b)?,
-            Instr::Load(x, place) => self.do_load(*x, *place)?,
-            Instr::Store(place, a) => self.do_store(*place, *a)?,
-            Instr::Api(x, shape, args, _) => self.do_call(*x, shape, args.as_slice())?,
-            Instr::Call(_, _, _) => {}
-            Instr::Unset(x) => self.assign(x.0, Term::Unset)?,
-            Instr::Jump(to) => self.go_to(*to),
-            Instr::Branch(a, this, other) => self.do_branch(*a, *this, *other),
-            Instr::Return(_) => {}
-            Instr::Fall => {}
+            Instr::Arith(x, kind, op, a, b) => self.do_arith(*x, *kind, *op, *a, *b),
+            Instr::Fit(x, kind, a) => self.do_fit(*x, *kind, *a),
+            Instr::Compare(x, cmp, a, b) => self.do_compare(*x, *cmp, *a, *b),
+            Instr::Load(x, place) => self.do_load(*x, *place),
+            Instr::Store(place, a) => self.do_store(*place, *a),
+            Instr::Api(x, shape, args, _) => self.do_call(*x, shape, args.as_slice()),
+            Instr::Call(_, _, _) => Ok(()),
+            Instr::Unset(x) => self.assign(x.0, Term::Unset),
+            Instr::Jump(to) => {
+                self.go_to(*to);
+                Ok(())
+            }
+            Instr::Branch(a, this, other) => {
+                self.do_branch(*a, *this, *other);
+                Ok(())
+            }
+            Instr::Return(_) => Ok(()),
+            Instr::Fall => Ok(()),
         }
-        Ok(())
     }
 }

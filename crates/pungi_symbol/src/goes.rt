@@ -125,21 +125,19 @@ impl Known {
         let spot = self.spot(place);
         self.touch(spot, token)?;
         self.arrive(m)?;
-        self.assign(x.0, token)?;
-        Ok(())
+        self.assign(x.0, token)
     }
 
     fn load_line(&mut self, code: &[Line], m: Mark) -> Result<(), Memory>
         ensures { OnOk result (self.new ≡ load_first (instr_of (slice_get code.now self.old.pc)) m self.old) }
     {
         match line_at(code, self.pc) {
-            None => self.arrive(m)?,
+            None => self.arrive(m),
             Some(line) => match &line.instr {
-                Instr::Load(x, place) => self.load_place(*x, *place, m)?,
-                _ => self.arrive(m)?,
+                Instr::Load(x, place) => self.load_place(*x, *place, m),
+                _ => self.arrive(m),
             },
         }
-        Ok(())
     }
 
     fn store_place(&mut self, place: Place, a: Atom, m: Mark) -> Result<(), Memory>
@@ -149,31 +147,28 @@ impl Known {
         let spot = self.spot(place);
         self.touch(spot, held)?;
         self.arrive(m)?;
-        self.go_on()?;
-        Ok(())
+        self.go_on()
     }
 
     fn store_line(&mut self, code: &[Line], m: Mark) -> Result<(), Memory>
         ensures { OnOk result (self.new ≡ store_first (instr_of (slice_get code.now self.old.pc)) m self.old) }
     {
         match line_at(code, self.pc) {
-            None => self.arrive(m)?,
+            None => self.arrive(m),
             Some(line) => match &line.instr {
-                Instr::Store(place, a) => self.store_place(*place, *a, m)?,
-                _ => self.arrive(m)?,
+                Instr::Store(place, a) => self.store_place(*place, *a, m),
+                _ => self.arrive(m),
             },
         }
-        Ok(())
     }
 
     fn perform_line(&mut self, code: &[Line]) -> Result<(), Memory>
         ensures { OnOk result (self.new ≡ with_line (slice_get code.now self.old.pc) (λ i. does self.old i) self.old) }
     {
         match line_at(code, self.pc) {
-            None => {}
-            Some(line) => self.perform(&line.instr)?,
+            None => Ok(()),
+            Some(line) => self.perform(&line.instr),
         }
-        Ok(())
     }
 
     fn note(&mut self, t: u32, k: u32)
@@ -209,8 +204,7 @@ impl Known {
         let answer = answered_term(m, self.tokens()?);
         self.arrive(m)?;
         self.put_answer(x, Some(answer));
-        self.go_on()?;
-        Ok(())
+        self.go_on()
     }
 
     fn take_same(&mut self, code: &[Line], same: bool) -> Result<(), Memory>
@@ -218,8 +212,7 @@ impl Known {
     {
         let x = comparison_var(code, self.pc);
         let c = comparison_term(same, code, self.pc);
-        self.assign(x, c)?;
-        Ok(())
+        self.assign(x, c)
     }
 
     fn returns(&mut self, code: &[Line], x: Option<Term>)
@@ -241,17 +234,25 @@ impl Known {
         let k = number_of_outcome(d);
         let same = says_same(d);
         match q {
-            Question::Does(_) => self.perform_line(code)?,
-            Question::Touches(m) => self.load_line(code, m)?,
-            Question::Overwrites(m) => self.store_line(code, mark_after(m, k))?,
-            Question::Null(t) => self.note(t, k),
-            Question::Base(_, _, i) => self.walk(same, i)?,
-            Question::Answers(answer) => self.take_answer(code, mark_of_answer(answer, k))?,
-            Question::Same(_, _) => self.take_same(code, same)?,
-            Question::Returns(x) => self.returns(code, x),
-            Question::Stops(_) => self.stops(code),
-            Question::Over => {}
+            Question::Does(_) => self.perform_line(code),
+            Question::Touches(m) => self.load_line(code, m),
+            Question::Overwrites(m) => self.store_line(code, mark_after(m, k)),
+            Question::Null(t) => {
+                self.note(t, k);
+                Ok(())
+            }
+            Question::Base(_, _, i) => self.walk(same, i),
+            Question::Answers(answer) => self.take_answer(code, mark_of_answer(answer, k)),
+            Question::Same(_, _) => self.take_same(code, same),
+            Question::Returns(x) => {
+                self.returns(code, x);
+                Ok(())
+            }
+            Question::Stops(_) => {
+                self.stops(code);
+                Ok(())
+            }
+            Question::Over => Ok(()),
         }
-        Ok(())
     }
 }

@@ -102,6 +102,5 @@ pub fn run_of(alloc: Global, codes: &Codes, state: &Sym) -> Result<Witness, Memo
 {
     let state = state.state();
     let arguments = arguments_of(codes, state.known.function);
-    let witness = witness_of(alloc, codes.statics, arguments, state)?;
-    Ok(witness)
+    witness_of(alloc, codes.statics, arguments, state)
 }

@@ -147,7 +147,7 @@ impl Known {
             Mark::Pointer => Ok(Finding::Waits(Question::Null(t))),
             Mark::TextPointer => Ok(Finding::Waits(Question::Null(t))),
             Mark::IsNull => Ok(Finding::Waits(Question::Stops(Decision::Quiet))),
-            Mark::IsObject => Ok(sought(self.progress, t, tag, field, self.slots.as_slice())?),
+            Mark::IsObject => sought(self.progress, t, tag, field, self.slots.as_slice()),
             Mark::IsText => Ok(Finding::Waits(Question::Stops(Decision::Quiet))),
             Mark::IsNumber(_) => Ok(Finding::Waits(Question::Stops(Decision::Quiet))),
         }
@@ -161,7 +161,7 @@ impl Known {
             Term::Null => Ok(Finding::Waits(Question::Stops(Decision::Quiet))),
             Term::Text => Ok(Finding::Waits(Question::Stops(Decision::Quiet))),
             Term::Number(_) => Ok(Finding::Waits(Question::Stops(Decision::Quiet))),
-            Term::Token(t) => Ok(self.seek_token(t, self.mark_of(t), tag, field)?),
+            Term::Token(t) => self.seek_token(t, self.mark_of(t), tag, field),
         }
     }
 

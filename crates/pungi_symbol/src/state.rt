@@ -38,10 +38,10 @@ impl State {
     pub fn copy(&self, alloc: Global) -> Result<State, Memory>
         ensures { IfOk result (λ s. s ≡ self.now) }
     {
-        let known = self.known.copy(alloc)?;
         let classes = self.classes.copy(alloc)?;
         let balances = self.balances.copy(alloc)?;
         let others = self.others.copy(alloc)?;
+        let known = self.known.copy(alloc)?;
         Ok(State {
             known,
             statics: self.statics,
@@ -78,31 +78,27 @@ impl State {
         ensures { OnOk result (self.new ≡ joined (one_for m) (lowered self.old.classes self.old.known (stored_term (instr_of (slice_get code.now self.old.known.pc)) self.old.known) self.old.balances) self.old) }
     {
         self.lower_stored(code)?;
-        self.join(owed_for(m))?;
-        Ok(())
+        self.join(owed_for(m))
     }
 
     fn take_answer(&mut self, code: &[Line], answer: Answer, m: Mark) -> Result<(), Memory>
         ensures { OnOk result (self.new ≡ answers (instr_of (slice_get code.now self.old.known.pc)) answer m self.old) }
     {
         self.lower_call(code, succeeds(answer, m))?;
-        self.join(owed_for_answer(answer, m))?;
-        Ok(())
+        self.join(owed_for_answer(answer, m))
     }
 
     fn gathered(&mut self, c: u32, d: u32) -> Result<(), Memory>
         ensures { OnOk result (self.new ≡ record self.old { balances = gather c d self.old.balances }) }
     {
-        gather_at(&mut self.balances, c, d)?;
-        Ok(())
+        gather_at(&mut self.balances, c, d)
     }
 
     fn merge_classes(&mut self, alloc: Global, c: u32, d: u32) -> Result<(), Memory>
         ensures { OnOk result (self.new ≡ merge c d self.old) }
     {
         self.classes = redirected(alloc, self.classes.as_slice(), c, d)?;
-        self.gathered(c, d)?;
-        Ok(())
+        self.gathered(c, d)
     }
 
     /// The older token stands for both.
@@ -110,11 +106,10 @@ impl State {
         ensures { OnOk result (self.new ≡ merge_older c d self.old) }
     {
         if d < c {
-            self.merge_classes(alloc, d, c)?;
+            self.merge_classes(alloc, d, c)
         } else {
-            self.merge_classes(alloc, c, d)?;
+            self.merge_classes(alloc, c, d)
         }
-        Ok(())
     }
 
     fn part(&mut self, t: u32, u: u32) -> Result<(), Memory>
@@ -131,19 +126,17 @@ impl State {
             return Ok(());
         }
         let (c, d) = (self.class_of(t), self.class_of(u));
-        self.merge_two(alloc, c, d)?;
-        Ok(())
+        self.merge_two(alloc, c, d)
     }
 
     fn take_same(&mut self, alloc: Global, same: bool, t: u32, u: u32) -> Result<(), Memory>
         ensures { OnOk result (self.new ≡ apply_same (are_one self.old.classes t u) same t u self.old) }
     {
         if same {
-            self.unite(alloc, t, u)?;
+            self.unite(alloc, t, u)
         } else {
-            self.part(t, u)?;
+            self.part(t, u)
         }
-        Ok(())
     }
 
     fn follow(
@@ -158,18 +151,17 @@ impl State {
         let k = number_of_outcome(d);
         let same = says_same(d);
         match q {
-            Question::Does(_) => self.weigh_line(code)?,
-            Question::Touches(_) => self.join(0)?,
-            Question::Overwrites(m) => self.overwrite(code, mark_after(m, k))?,
-            Question::Null(_) => {}
-            Question::Base(t, u, _) => self.take_same(alloc, same, t, u)?,
-            Question::Answers(answer) => self.take_answer(code, answer, mark_of_answer(answer, k))?,
-            Question::Same(t, u) => self.take_same(alloc, same, t, u)?,
-            Question::Returns(_) => {}
-            Question::Stops(_) => {}
-            Question::Over => {}
+            Question::Does(_) => self.weigh_line(code),
+            Question::Touches(_) => self.join(0),
+            Question::Overwrites(m) => self.overwrite(code, mark_after(m, k)),
+            Question::Null(_) => Ok(()),
+            Question::Base(t, u, _) => self.take_same(alloc, same, t, u),
+            Question::Answers(answer) => self.take_answer(code, answer, mark_of_answer(answer, k)),
+            Question::Same(t, u) => self.take_same(alloc, same, t, u),
+            Question::Returns(_) => Ok(()),
+            Question::Stops(_) => Ok(()),
+            Question::Over => Ok(()),
         }
-        Ok(())
     }
 
     /// The state after an answer to a question.
@@ -183,7 +175,6 @@ impl State {
         ensures { OnOk result (self.new ≡ apply (slice_get code.now self.old.known.pc) q d self.old) }
     {
         self.follow(alloc, code, q, d)?;
-        self.known.go(code, q, d)?;
-        Ok(())
+        self.known.go(code, q, d)
     }
 }

@@ -44,10 +44,9 @@ impl State {
         ensures { OnOk result (next.new.items ≡ next.old.items ++ after_left (slice_get code.now self.known.pc) q self left) }
     {
         match left {
-            None => {}
-            Some(d) => self.put_next(alloc, code, q, d, next)?,
+            None => Ok(()),
+            Some(d) => self.put_next(alloc, code, q, d, next),
         }
-        Ok(())
     }
 
     /// The same, in a copy of the state.
@@ -62,13 +61,12 @@ impl State {
         ensures { OnOk result (next.new.items ≡ next.old.items ++ after_left (slice_get code.now self.now.known.pc) q self.now left) }
     {
         match left {
-            None => {}
+            None => Ok(()),
             Some(d) => {
                 let state = self.copy(alloc)?;
-                state.put_next(alloc, code, q, d, next)?;
+                state.put_next(alloc, code, q, d, next)
             }
         }
-        Ok(())
     }
 
     /// One more answer, if the question still has it. It is left over in place of the one that was.
@@ -131,8 +129,7 @@ impl State {
             Decision::Same(false),
             Decision::Same(true),
         ];
-        let left = self.put_answers(alloc, code, q, &decisions, next)?;
-        Ok(left)
+        self.put_answers(alloc, code, q, &decisions, next)
     }
 
     /// The next states, each with its answer. The last one takes the place of the state, which isn't copied for it.
@@ -153,8 +150,7 @@ pub fn next_from(alloc: Global, codes: &Codes, state: Sym) -> Result<Vec<(Decisi
 {
     let state = state.into_state();
     let code = lines(codes, state.known.function);
-    let next = state.next_states(alloc, code)?;
-    Ok(next)
+    state.next_states(alloc, code)
 }
 
 /// The next states of a symbolic state.
@@ -162,6 +158,5 @@ pub fn next_of(alloc: Global, codes: &Codes, state: &Sym) -> Result<Vec<(Decisio
     ensures { IfOk result (λ next. next.items ≡ next_states codes.now state.now) }
 {
     let copy = Sym::new(state.state().copy(alloc)?);
-    let next = next_from(alloc, codes, copy)?;
-    Ok(next)
+    next_from(alloc, codes, copy)
 }

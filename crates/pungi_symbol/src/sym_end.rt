@@ -1,7 +1,7 @@
 use pungi_base::Pos;
 
 /// How a symbolic state ends.
-#[derive(Clone, Copy, Debug, PartialEq, Eq)]
+#[derive(Clone, Copy)]
 pub enum SymEnd {
     /// It has next states.
     Going,

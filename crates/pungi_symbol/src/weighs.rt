@@ -69,22 +69,18 @@ impl State {
         ensures { OnOk result (self.new ≡ record self.old { balances = add_term self.old.classes self.old.known x d self.old.balances }) }
     {
         match self.known.object(x) {
-            None => {}
+            None => Ok(()),
             Some(t) => {
                 let c = self.class_of(t);
-                add(&mut self.balances, c, d)?;
+                add(&mut self.balances, c, d)
             }
         }
-        Ok(())
     }
 
     fn lower_if(&mut self, taken: bool, x: Term) -> Result<(), Memory>
         ensures { OnOk result (self.new ≡ record self.old { balances = if taken then add_term self.old.classes self.old.known x (negsuc 0) self.old.balances else self.old.balances }) }
     {
-        if taken {
-            self.raise(x, -1)?;
-        }
-        Ok(())
+        if taken { self.raise(x, -1) } else { Ok(()) }
     }
 
     fn lower_taken(&mut self, success: bool, takes: &[Take], atoms: &[Atom]) -> Result<(), Memory>
@@ -105,36 +101,33 @@ impl State {
         let held = self.known.held(found);
         let c = self.known.term(a);
         self.raise(held, 1)?;
-        self.raise(c, -1)?;
-        Ok(())
+        self.raise(c, -1)
     }
 
     fn weigh_special(&mut self, special: Special, x: Term) -> Result<(), Memory>
         ensures { OnOk result (self.new ≡ record self.old { balances = special_weigh self.old.classes self.old.known special x self.old.balances }) }
     {
         match special {
-            Special::IncRef => self.raise(x, 1)?,
-            Special::DecRef => self.raise(x, -1)?,
-            Special::XIncRef => self.raise(x, 1)?,
-            Special::XDecRef => self.raise(x, -1)?,
-            Special::NewRef => self.raise(x, 1)?,
-            Special::XNewRef => self.raise(x, 1)?,
-            _ => {}
+            Special::IncRef => self.raise(x, 1),
+            Special::DecRef => self.raise(x, -1),
+            Special::XIncRef => self.raise(x, 1),
+            Special::XDecRef => self.raise(x, -1),
+            Special::NewRef => self.raise(x, 1),
+            Special::XNewRef => self.raise(x, 1),
+            _ => Ok(()),
         }
-        Ok(())
     }
 
     fn weigh_call(&mut self, shape: &Shape, atoms: &[Atom]) -> Result<(), Memory>
         ensures { OnOk result (self.new ≡ record self.old { balances = form_weigh self.old.classes self.old.known shape.now.row.form shape.now (terms_of self.old.known atoms.now) self.old.balances }) }
     {
         match shape.row.form {
-            Form::Plain => self.lower_taken(false, shape.row.takes.as_slice(), atoms)?,
+            Form::Plain => self.lower_taken(false, shape.row.takes.as_slice(), atoms),
             Form::Special(special) => {
                 let x = self.known.first_of(atoms);
-                self.weigh_special(special, x)?;
+                self.weigh_special(special, x)
             }
         }
-        Ok(())
     }
 
     /// The balances after an instruction that asks nothing.
@@ -142,14 +135,13 @@ impl State {
         ensures { OnOk result (self.new ≡ record self.old { balances = weigh self.old.classes self.old.known (instr_of (slice_get code.now self.old.known.pc)) self.old.balances }) }
     {
         match line_at(code, self.known.pc) {
-            None => {}
+            None => Ok(()),
             Some(line) => match &line.instr {
-                Instr::Store(place, a) => self.weigh_store(*place, *a)?,
-                Instr::Api(_, shape, args, _) => self.weigh_call(shape, args.as_slice())?,
-                _ => {}
+                Instr::Store(place, a) => self.weigh_store(*place, *a),
+                Instr::Api(_, shape, args, _) => self.weigh_call(shape, args.as_slice()),
+                _ => Ok(()),
             },
         }
-        Ok(())
     }
 
     /// The balances after a call that took over some of its arguments.
@@ -157,15 +149,14 @@ impl State {
         ensures { OnOk result (self.new ≡ record self.old { balances = lowered self.old.classes self.old.known (taken_by success (instr_of (slice_get code.now self.old.known.pc)) self.old.known) self.old.balances }) }
     {
         match line_at(code, self.known.pc) {
-            None => {}
+            None => Ok(()),
             Some(line) => match &line.instr {
                 Instr::Api(_, shape, args, _) => {
-                    self.lower_taken(success, shape.row.takes.as_slice(), args.as_slice())?;
+                    self.lower_taken(success, shape.row.takes.as_slice(), args.as_slice())
                 }
-                _ => {}
+                _ => Ok(()),
             },
         }
-        Ok(())
     }
 
     /// The balances after a store to a slot that wasn't touched.
@@ -173,15 +164,14 @@ impl State {
         ensures { OnOk result (self.new ≡ record self.old { balances = lowered self.old.classes self.old.known (stored_term (instr_of (slice_get code.now self.old.known.pc)) self.old.known) self.old.balances }) }
     {
         match line_at(code, self.known.pc) {
-            None => {}
+            None => Ok(()),
             Some(line) => match &line.instr {
                 Instr::Store(_, a) => {
                     let c = self.known.term(*a);
-                    self.raise(c, -1)?;
+                    self.raise(c, -1)
                 }
-                _ => {}
+                _ => Ok(()),
             },
         }
-        Ok(())
     }
 }
