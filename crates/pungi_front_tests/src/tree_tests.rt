@@ -6,11 +6,12 @@ use crate::kinds::{
 };
 use crate::parse_tests::{behind_typedef, placed};
 use crate::trees::{
-    A, B, T, else_to_the_outer, label, of_no_text, of_word, prefix_less, size_of_cast, to_the_right,
+    A, B, T, else_to_the_outer, file_of, label, of_no_text, of_word, prefix_less, size_of_cast,
+    to_the_right,
 };
 use pungi_base::{Kind, Memory};
 use pungi_parse::parse;
-use pungi_tree::{Item, Stmt, StmtNode, Unit, depth, flat, levels_ok};
+use pungi_tree::{Stmt, Unit, depth, flat, levels_ok};
 use std::alloc::{AllocError, Global};
 use std::test::Fail;
 
@@ -113,73 +114,34 @@ fn the_deepest_trees(rt: HostRuntime) -> Result<(), Fail> {
     Ok(())
 }
 
-/// `typedef int T; void f(void) { ; }`.
-fn host(alloc: Global) -> Result<Unit, Fail> {
-    let kinds = behind_typedef(alloc, &[SEMI])?;
-    let tokens = placed(alloc, kinds.as_slice())?;
-    Ok(parse(alloc, &tokens)?)
+/// Whether the grammar allows the file whose function has this statement.
+fn allowed(alloc: Global, stmt: Stmt) -> Result<bool, AllocError> {
+    let unit = file_of(alloc, stmt)?;
+    Ok(levels_ok(&unit))
 }
 
-fn put_last(list: &mut Vec<Stmt>, stmt: Stmt) -> bool {
-    match list.last_mut() {
-        Some(last) => {
-            *last = stmt;
-            true
-        }
-        None => false,
-    }
-}
-
-fn put_in(item: &mut Item, stmt: Stmt) -> bool {
-    match item {
-        Item::Function(f) => match &mut f.body.node {
-            StmtNode::Block(list, _) => put_last(list, stmt),
-            _ => false,
-        },
-        _ => false,
-    }
-}
-
-/// Puts a statement in the place of the last one of the function of `host`.
-fn put(host: &mut Unit, stmt: Stmt) -> bool {
-    match host.items.last_mut() {
-        Some(item) => put_in(item, stmt),
-        None => false,
-    }
-}
-
-/// Whether the grammar allows the file with this statement in it, if there is such a file.
-fn allowed(host: &mut Unit, stmt: Stmt) -> Option<bool> {
-    if put(host, stmt) {
-        Some(levels_ok(host))
-    } else {
-        None
-    }
-}
-
-fn words_are_told(alloc: Global, host: &mut Unit) -> Result<bool, AllocError> {
+fn words_are_told(alloc: Global) -> Result<bool, AllocError> {
     Ok(
-        allowed(host, of_word(A)) == Some(true)
-            && allowed(host, of_word(T)) == Some(false)
-            && allowed(host, label(alloc, B)?) == Some(true)
-            && allowed(host, label(alloc, T)?) == Some(false),
+        allowed(alloc, of_word(A))?
+            && !allowed(alloc, of_word(T))?
+            && allowed(alloc, label(alloc, B)?)?
+            && !allowed(alloc, label(alloc, T)?)?,
     )
 }
 
-fn levels_are_told(alloc: Global, host: &mut Unit) -> Result<bool, AllocError> {
+fn levels_are_told(alloc: Global) -> Result<bool, AllocError> {
     Ok(
-        allowed(host, to_the_right(alloc)?) == Some(false)
-            && allowed(host, size_of_cast(alloc)?) == Some(false)
-            && allowed(host, prefix_less(alloc)?) == Some(false)
-            && allowed(host, of_no_text(alloc)) == Some(false)
-            && allowed(host, else_to_the_outer(alloc)?) == Some(false),
+        !allowed(alloc, to_the_right(alloc)?)?
+            && !allowed(alloc, size_of_cast(alloc)?)?
+            && !allowed(alloc, prefix_less(alloc)?)?
+            && !allowed(alloc, of_no_text(alloc))?
+            && !allowed(alloc, else_to_the_outer(alloc)?)?,
     )
 }
 
 #[test]
 fn what_the_grammar_forbids(rt: HostRuntime) -> Result<(), Fail> {
-    let mut host = host(rt.alloc())?;
-    assert!(rt; words_are_told(rt.alloc(), &mut host)?);
-    assert!(rt; levels_are_told(rt.alloc(), &mut host)?);
+    assert!(rt; words_are_told(rt.alloc())?);
+    assert!(rt; levels_are_told(rt.alloc())?);
     Ok(())
 }

@@ -1,7 +1,10 @@
 //! Trees that no file has: each breaks one rule of the grammar.
 
+use pungi_base::words::PY_OBJECT;
 use pungi_base::{Key, Kind, Name, Pos, Punct};
-use pungi_tree::{Base, Expr, ExprNode, Spec, Stmt, StmtNode, TypeName};
+use pungi_tree::{
+    Base, Expr, ExprNode, FunctionDef, Item, Params, Spec, Stmt, StmtNode, TypeName, Unit,
+};
 use std::alloc::{AllocError, Global};
 
 /// Places are of no account here.
@@ -21,6 +24,14 @@ fn expr(node: ExprNode) -> Expr {
 
 fn stmt(node: StmtNode) -> Stmt {
     Stmt { pos: AT, node }
+}
+
+fn alias(name: Name) -> Spec {
+    Spec {
+        pos: AT,
+        base: Base::Alias(name),
+        consts: 0,
+    }
 }
 
 fn minus(a: Box<Expr>, b: Box<Expr>) -> ExprNode {
@@ -65,11 +76,7 @@ pub(crate) fn to_the_right(alloc: Global) -> Result<Stmt, AllocError> {
 fn cast(alloc: Global) -> Result<Box<Expr>, AllocError> {
     let null = boxed(alloc, ExprNode::Null)?;
     let name = TypeName {
-        spec: Spec {
-            pos: AT,
-            base: Base::Alias(T),
-            consts: 0,
-        },
+        spec: alias(T),
         stars: Vec::new(alloc),
     };
     boxed(alloc, ExprNode::Cast(name, null))
@@ -104,4 +111,38 @@ pub(crate) fn else_to_the_outer(alloc: Global) -> Result<Stmt, AllocError> {
 pub(crate) fn label(alloc: Global, name: Name) -> Result<Stmt, AllocError> {
     let inner = boxed_stmt(alloc, StmtNode::Break)?;
     Ok(stmt(StmtNode::Label(name, inner)))
+}
+
+/// `typedef PyObject T;`.
+fn typedef(alloc: Global) -> Item {
+    Item::Typedef {
+        spec: alias(Name(PY_OBJECT)),
+        stars: Vec::new(alloc),
+        name: T,
+        pos: AT,
+    }
+}
+
+/// `PyObject f(void)` with these statements.
+fn function(alloc: Global, list: Vec<Stmt>) -> Item {
+    Item::Function(FunctionDef {
+        quals: Vec::new(alloc),
+        result: alias(Name(PY_OBJECT)),
+        stars: Vec::new(alloc),
+        name: F,
+        pos: AT,
+        params: Params {
+            list: Vec::new(alloc),
+            void: true,
+            dots: None,
+        },
+        body: stmt(StmtNode::Block(list, AT)),
+    })
+}
+
+/// A file of a type definition and a function of one statement.
+pub(crate) fn file_of(alloc: Global, body: Stmt) -> Result<Unit, AllocError> {
+    let list = vec![in alloc; body]?;
+    let items = vec![in alloc; typedef(alloc), function(alloc, list)]?;
+    Ok(Unit { items })
 }
