@@ -69,50 +69,94 @@ fn tells(outcome: Result<Span, DomainFault>, row: &[i128]) -> bool {
     told.as_slice() == row
 }
 
-#[test]
-fn span_of_two_vectors(rt: HostRuntime) -> Result<(), Fail> {
-    let alloc = rt.alloc();
-    let span = plane(alloc)?;
-    assert_eq!(rt; span.dimension(), 2);
-    assert!(rt; span.holds(&equation(alloc, 0, 1, -1)?));
-    assert!(rt; !span.holds(&equation(alloc, 0, 1, 0)?));
-    Ok(())
+// How many vectors span the outcome.
+fn dimension_of(outcome: Result<Span, DomainFault>) -> Option<u32> {
+    match outcome {
+        Ok(span) => Some(span.dimension()),
+        Err(_) => None,
+    }
+}
+
+fn is_plane(alloc: Global, span: &Span) -> Result<bool, Memory>
+    requires { span.now.width ≡ 3 }
+{
+    let within = equation(alloc, 0, 1, -1)?;
+    let across = equation(alloc, 0, 1, 0)?;
+    Ok(span.dimension() == 2 && span.holds(&within) && !span.holds(&across))
+}
+
+fn has_images(alloc: Global, span: &Span) -> Result<bool, Memory>
+    requires { span.now.width ≡ 3 }
+{
+    let identity = identity(alloc)?;
+    let across = equation(alloc, 0, 1, 0)?;
+    Ok(
+        dimension_of(span.map(alloc, &identity)) == Some(2)
+            && dimension_of(span.free(alloc, 2)) == Some(3)
+            && dimension_of(span.meet(alloc, &across)) == Some(1)
+            && dimension_of(copy_of(alloc, span)) == Some(2),
+    )
 }
 
 #[test]
-fn images_of_a_span(rt: HostRuntime) -> Result<(), Fail> {
-    let alloc = rt.alloc();
-    let span = plane(alloc)?;
-    assert_eq!(rt; span.map(alloc, &identity(alloc)?)?.dimension(), 2);
-    assert_eq!(rt; span.free(alloc, 2)?.dimension(), 3);
-    assert_eq!(rt;
-        span.meet(alloc, &equation(alloc, 0, 1, 0)?)?.dimension(),
-        1
-    );
-    assert_eq!(rt; copy_of(alloc, &span)?.dimension(), 2);
+fn span_of_two_vectors(rt: HostRuntime) -> Result<(), Fail> {
+    let span = plane(rt.alloc())?;
+    assert!(rt; is_plane(rt.alloc(), &span)?);
+    assert!(rt; has_images(rt.alloc(), &span)?);
     Ok(())
+}
+
+fn takes_vectors(alloc: Global, span: &mut Span) -> Result<bool, DomainFault>
+    requires { span.old.width ≡ 3 }
+{
+    let inside = span.add_vector(alloc, &[3, 2, 2])?;
+    let outside = span.add_vector(alloc, &[1, 0, 1])?;
+    Ok(!inside && outside && span.dimension() == 3)
 }
 
 #[test]
 fn vectors_in_and_out_of_a_span(rt: HostRuntime) -> Result<(), Fail> {
-    let alloc = rt.alloc();
-    let mut span = plane(alloc)?;
-    assert!(rt; !span.add_vector(alloc, &[3, 2, 2])?);
-    assert!(rt; span.add_vector(alloc, &[1, 0, 1])?);
-    assert_eq!(rt; span.dimension(), 3);
+    let mut span = plane(rt.alloc())?;
+    assert!(rt; takes_vectors(rt.alloc(), &mut span)?);
     Ok(())
+}
+
+fn grows_once(alloc: Global, span: &mut Span, other: &Span) -> Result<bool, DomainFault>
+    requires span { span.old.width ≡ 3 }
+    requires other { other.now.width ≡ 3 }
+    ensures { span.new.width ≡ 3 }
+{
+    let first = span.grow(alloc, other)?;
+    let second = span.grow(alloc, other)?;
+    Ok(first && !second)
+}
+
+fn grows_by_a_plane(alloc: Global, span: &mut Span) -> Result<bool, DomainFault>
+    requires { span.old.width ≡ 3 }
+    ensures { span.new.width ≡ 3 }
+{
+    let plane = plane(alloc)?;
+    grows_once(alloc, span, &plane)
+}
+
+fn grows_by_all(alloc: Global, span: &mut Span) -> Result<bool, DomainFault>
+    requires { span.old.width ≡ 3 }
+{
+    let all = Span::any(alloc, 3)?;
+    span.grow(alloc, &all)
+}
+
+fn grows_to_all(alloc: Global, span: &mut Span) -> Result<bool, DomainFault>
+    requires { span.old.width ≡ 3 }
+{
+    let by_plane = grows_by_a_plane(alloc, span)? && span.dimension() == 2;
+    Ok(by_plane && grows_by_all(alloc, span)? && span.dimension() == 3)
 }
 
 #[test]
 fn spans_that_grow(rt: HostRuntime) -> Result<(), Fail> {
-    let alloc = rt.alloc();
-    let mut span = Span::none(alloc, 3)?;
-    let other = plane(alloc)?;
-    assert!(rt; span.grow(alloc, &other)?);
-    assert!(rt; !span.grow(alloc, &other)?);
-    assert_eq!(rt; span.dimension(), 2);
-    assert!(rt; span.grow(alloc, &Span::any(alloc, 3)?)?);
-    assert_eq!(rt; span.dimension(), 3);
+    let mut span = Span::none(rt.alloc(), 3)?;
+    assert!(rt; grows_to_all(rt.alloc(), &mut span)?);
     Ok(())
 }
 

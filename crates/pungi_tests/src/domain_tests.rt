@@ -13,31 +13,62 @@ fn multiples(alloc: Global, b: i64, c: i64) -> Result<Flat, Fail>
     requires c { IsWithin (2 ^ 20) c }
     ensures { IfOk result (λ s. s.width ≡ 3) }
 {
+    let second = equation(alloc, b, -1, 0)?;
+    let third = equation(alloc, c, 0, -1)?;
     let all = Flat::any(alloc, 3)?;
-    let first = all.meet(alloc, &equation(alloc, b, -1, 0)?)?;
-    let both = first.meet(alloc, &equation(alloc, c, 0, -1)?)?;
+    let first = all.meet(alloc, &second)?;
+    let both = first.meet(alloc, &third)?;
     Ok(both)
+}
+
+// Whether the constants 0 and 0 are no longer told once 1 and 1 are there too.
+fn drops_constants(alloc: Global, flat: &mut Flat, other: &Flat) -> Result<bool, Fail>
+    requires flat { flat.old.width ≡ 3 }
+    requires other { other.now.width ≡ 3 }
+{
+    let equal = equation(alloc, 0, 1, -1)?;
+    let second = equation(alloc, 0, 1, 0)?;
+    let held = flat.holds(&equal);
+    let grown = flat.grow(alloc, other)?;
+    Ok(held && grown && !flat.holds(&equal) && !flat.holds(&second))
+}
+
+fn drops_constants_of_ones(alloc: Global, flat: &mut Flat) -> Result<bool, Fail>
+    requires { flat.old.width ≡ 3 }
+{
+    let other = multiples(alloc, 1, 1)?;
+    drops_constants(alloc, flat, &other)
 }
 
 #[test]
 fn growth_drops_constants(rt: HostRuntime) -> Result<(), Fail> {
-    let alloc = rt.alloc();
-    let mut flat = multiples(alloc, 0, 0)?;
-    let other = multiples(alloc, 1, 1)?;
-    let equal = equation(alloc, 0, 1, -1)?;
-    assert!(rt; flat.holds(&equal));
-    assert!(rt; flat.grow(alloc, &other)?);
-    assert!(rt; !flat.holds(&equal));
-    assert!(rt; !flat.holds(&equation(alloc, 0, 1, 0)?));
+    let mut flat = multiples(rt.alloc(), 0, 0)?;
+    assert!(rt; drops_constants_of_ones(rt.alloc(), &mut flat)?);
     Ok(())
+}
+
+// Whether the first constant alone is told.
+fn holds_first(alloc: Global, flat: &Flat) -> Result<bool, Fail>
+    requires { flat.now.width ≡ 3 }
+{
+    let first = equation(alloc, -1, 1, 0)?;
+    let equal = equation(alloc, 0, 1, -1)?;
+    Ok(flat.holds(&first) && !flat.holds(&equal))
+}
+
+// Whether it is, of a copy without its third coordinate.
+fn frees_third(alloc: Global, flat: &Flat) -> Result<bool, Fail>
+    requires { flat.now.width ≡ 3 }
+{
+    let copy = flat.copy(alloc)?;
+    let freed = copy.free(alloc, 2)?;
+    holds_first(alloc, &freed)
 }
 
 #[test]
 fn free_drops_a_constant(rt: HostRuntime) -> Result<(), Fail> {
-    let alloc = rt.alloc();
-    let freed = multiples(alloc, 1, 1)?.copy(alloc)?.free(alloc, 2)?;
-    assert!(rt; freed.holds(&equation(alloc, -1, 1, 0)?));
-    assert!(rt; !freed.holds(&equation(alloc, 0, 1, -1)?));
+    let flat = multiples(rt.alloc(), 1, 1)?;
+    assert!(rt; frees_third(rt.alloc(), &flat)?);
     Ok(())
 }
 
