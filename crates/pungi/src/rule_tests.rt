@@ -494,29 +494,33 @@ fn long_function(
     Ok(text)
 }
 
+const SOME: &str = "int a, b, c, d, e, g, h, i, j, k, l, m, o, p, q, r; ";
+
+const MOST: &str =
+    "int a, b, c, d, e, g, h, i, j, k, l, m, o, p, q, r; { int a, b, c, d, e, g, h, i, j, k, l, m, o, p, q; } ";
+
+const OVER: &str =
+    "int a, b, c, d, e, g, h, i, j, k, l, m, o, p, q, r; { int a, b, c, d, e, g, h, i, j, k, l, m, o, p, q, r; } ";
+
 /// The sizes of a function: at most 32 locals with its parameters, and at most 4,096 nodes. A statement here has four; a
 /// declared variable is one.
+const SIZES: &[(&str, usize, &str, &str)] = &[
+    (SOME, 0, "return n;", "refused f 1:5 N0\n"),
+    (MOST, 0, "return n;", "refused f 1:5 N0\n"),
+    (OVER, 0, "return n;", "refused f 1:5 N15\n"),
+    (OVER, 0, "return n & 1;", "refused f 1:133 N2\n"),
+    (SOME, 1000, "return n;", "refused f 1:5 N0\n"),
+    ("", 1023, "return n;", "refused f 1:5 N0\n"),
+    ("int a; ", 1023, "return n;", "refused f 1:5 N16\n"),
+    (SOME, 1100, "return n;", "refused f 1:5 N16\n"),
+    (OVER, 1100, "return n;", "refused f 1:5 N15\n"),
+    ("", 1100, "return n & 1;", "refused f 1:7725 N2\n"),
+];
+
 #[test]
 fn sizes(rt: HostRuntime) -> Result<(), Fail> {
-    let some = "int a, b, c, d, e, g, h, i, j, k, l, m, o, p, q, r; ";
-    let most =
-        "int a, b, c, d, e, g, h, i, j, k, l, m, o, p, q, r; { int a, b, c, d, e, g, h, i, j, k, l, m, o, p, q; } ";
-    let over =
-        "int a, b, c, d, e, g, h, i, j, k, l, m, o, p, q, r; { int a, b, c, d, e, g, h, i, j, k, l, m, o, p, q, r; } ";
-    let rows = [
-        (some, 0, "return n;", "refused f 1:5 N0\n"),
-        (most, 0, "return n;", "refused f 1:5 N0\n"),
-        (over, 0, "return n;", "refused f 1:5 N15\n"),
-        (over, 0, "return n & 1;", "refused f 1:133 N2\n"),
-        (some, 1000, "return n;", "refused f 1:5 N0\n"),
-        ("", 1023, "return n;", "refused f 1:5 N0\n"),
-        ("int a; ", 1023, "return n;", "refused f 1:5 N16\n"),
-        (some, 1100, "return n;", "refused f 1:5 N16\n"),
-        (over, 1100, "return n;", "refused f 1:5 N15\n"),
-        ("", 1100, "return n & 1;", "refused f 1:7725 N2\n"),
-    ];
-    for (declared, statements, last, line) in rows {
-        let text = long_function(rt.alloc(), declared, statements, last)?;
+    for (declared, statements, last, line) in SIZES {
+        let text = long_function(rt.alloc(), declared, *statements, last)?;
         assert!(rt;
             is_told(rt.alloc(), &text, 2, line)?,
             "{statements} statements, {line}"

@@ -283,22 +283,36 @@ fn limit_of_the_file(rt: HostRuntime) -> Result<(), Fail> {
     Ok(())
 }
 
+/// Which call on the shelf and which on the sink fails, and the status and text then.
+const FAILING: &[(u64, u64, u8, &[u8])] = &[
+    (1, 0, 4, b"cannot read x.c\n"),
+    (2, 0, 4, b"cannot read x.c\n"),
+    (3, 0, 4, b"cannot read x.c\n"),
+    (4, 0, 0, b"clean f\n"),
+    (0, 1, 5, b""),
+    (0, 2, 5, b"clea"),
+    (0, 3, 0, b"clean f\n"),
+];
+
+fn is_failing(
+    alloc: Global,
+    (read, write): (u64, u64),
+    status: u8,
+    text: &[u8],
+) -> Result<bool, Memory> {
+    let (found, bytes) = failing(alloc, NUMBER, read, write)?;
+    Ok(found == status && bytes.as_slice() == text)
+}
+
 /// Each call on the shelf and on the sink fails in turn.
 #[test]
 fn failing_calls(rt: HostRuntime) -> Result<(), Fail> {
-    let rows: [(u64, u64, u8, &[u8]); 7] = [
-        (1, 0, 4, b"cannot read x.c\n"),
-        (2, 0, 4, b"cannot read x.c\n"),
-        (3, 0, 4, b"cannot read x.c\n"),
-        (4, 0, 0, b"clean f\n"),
-        (0, 1, 5, b""),
-        (0, 2, 5, b"clea"),
-        (0, 3, 0, b"clean f\n"),
-    ];
-    for (read, write, status, text) in rows {
-        let (found, bytes) = failing(rt.alloc(), NUMBER, read, write)?;
-        assert_eq!(rt; found, status, "at {read} and {write}");
-        assert_eq!(rt; bytes.as_slice(), text, "at {read} and {write}");
+    for (read, write, status, text) in FAILING {
+        let calls = (*read, *write);
+        assert!(rt;
+            is_failing(rt.alloc(), calls, *status, text)?,
+            "at {read} and {write}"
+        );
     }
     Ok(())
 }
