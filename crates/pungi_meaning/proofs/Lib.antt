@@ -6,4 +6,3 @@ pub mod ListLemmas
 pub mod RunLemmas
 pub mod LocalLemmas
 pub mod NewestLemmas
-pub mod NumberLemmas

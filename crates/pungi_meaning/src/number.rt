@@ -1,5 +1,4 @@
 ghost use Rattle.std.specs.Prelude.{◌≡◌};
-ghost use Rattle.pungi_types.specs.declared.kind.ValueKind.TheVariants.{Long as LongKind};
 ghost use Rattle.pungi_meaning.specs.Values.{fits as fits_kind, wide as wide_kind, arithmetic as arithmetic_result, in_range as in_range_of};
 
 use crate::Op;
@@ -36,32 +35,22 @@ fn in_range(kind: ValueKind, number: i64) -> Option<i64>
     }
 }
 
-/// What an operator gives in 64 bits.
-fn long_arithmetic(op: Op, left: i64, right: i64) -> Option<i64>
-    ensures { result ≡ arithmetic_result op LongKind left right }
-{
-    match op {
-        Op::Add => left.checked_add(right),
-        Op::Sub => left.checked_sub(right),
-        Op::Mul => left.checked_mul(right),
-        Op::Div => left.checked_div(right),
-        Op::Rem => {
-            if right == -1 {
-                Some(0)
-            } else {
-                left.checked_rem(right)
-            }
-        }
-    }
-}
-
 /// What an operator gives in a kind. There is no result past the kind's range, and none of a division by 0
 /// (C11 6.5, 6.5.5). `/` cuts towards 0. `%` of the least number by -1, which C11 leaves undefined, is 0 here.
 pub fn arithmetic(op: Op, kind: ValueKind, left: i64, right: i64) -> Option<i64>
     ensures { result ≡ arithmetic_result op kind left right }
 {
-    match long_arithmetic(op, left, right) {
-        Some(number) => in_range(kind, number),
-        None => None,
+    match op {
+        Op::Add => in_range(kind, left.checked_add(right)?),
+        Op::Sub => in_range(kind, left.checked_sub(right)?),
+        Op::Mul => in_range(kind, left.checked_mul(right)?),
+        Op::Div => in_range(kind, left.checked_div(right)?),
+        Op::Rem => {
+            if right == -1 {
+                Some(0)
+            } else {
+                in_range(kind, left.checked_rem(right)?)
+            }
+        }
     }
 }
