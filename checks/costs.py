@@ -7,8 +7,9 @@ With --runs FILE it prints the page from what an earlier run kept there. Of seve
 so that what was measured anew can be added at the end of the file.
 
 A line of checks/runs.tsv is one check: crate, kind (proof, tests or edit), processor seconds (user and system), seconds from
-its begin to its end, and the greatest resident memory in MB, with tabs between them. The budgets stand in checks/budgets.tsv:
-crate and processor minutes of its proof, or of its tests where the crate has tests alone."""
+its begin to its end, and the greatest memory in MB (pages that its processes share counted once), with tabs between them; a
+line that begins with # is a remark, which the page shows. The budgets stand in checks/budgets.tsv: crate and processor minutes
+of its proof, or of its tests where the crate has tests alone."""
 import os
 import subprocess
 import sys
@@ -18,13 +19,21 @@ import time
 HERE = os.path.dirname(os.path.abspath(__file__))
 TOP = os.path.dirname(HERE)
 TICKS = os.sysconf("SC_CLK_TCK")
-PAGE = os.sysconf("SC_PAGE_SIZE")
 # Seconds between two looks at the processes, so a check is measured but for its last half second.
 STEP = 0.5
 
 
+def memory_of(process):
+    """The memory of a process in bytes, its share of what it has together with others."""
+    try:
+        with open(f"/proc/{process}/smaps_rollup") as it:
+            return 1024 * sum(int(line.split()[1]) for line in it if line.startswith("Pss:"))
+    except OSError:
+        return 0
+
+
 def processes():
-    """Each process of the machine: its parent, its name, its processor seconds with those of its ended children, and its memory."""
+    """Each process of the machine: its parent, its name, and its processor seconds with those of its ended children."""
     found = {}
     for name in os.listdir("/proc"):
         if not name.isdigit():
@@ -37,7 +46,7 @@ def processes():
         end = text.rindex(")")
         fields = text[end + 2:].split()
         seconds = sum(int(it) for it in fields[11:15]) / TICKS
-        found[int(name)] = (int(fields[1]), text[text.index("(") + 1:end], seconds, int(fields[21]) * PAGE)
+        found[int(name)] = (int(fields[1]), text[text.index("(") + 1:end], seconds)
     return found
 
 
@@ -72,11 +81,11 @@ class Checks:
     def look(self):
         found, now = processes(), time.time()
         seen = {}
-        for process, (_, _, seconds, memory) in found.items():
+        for process, (_, _, seconds) in found.items():
             check = check_above(found, process, self.root)
             if check is not None:
                 spent, held = seen.get(check, (0, 0))
-                seen[check] = (spent + seconds, held + memory)
+                seen[check] = (spent + seconds, held + memory_of(process))
         for check, (seconds, memory) in seen.items():
             if check not in self.running:
                 try:
@@ -115,6 +124,11 @@ def measure(runs):
 def table(path):
     with open(path) as it:
         return [line.rstrip("\n").split("\t") for line in it if line.strip() and not line.startswith("#")]
+
+
+def remarks(path):
+    with open(path) as it:
+        return [line[1:].strip() for line in it if line.startswith("#")]
 
 
 def crates():
@@ -164,6 +178,9 @@ def page(runs):
     yield "edits. A crate with tests is proved once more with them; that is part of the minutes of its tests. A budget is the most that a"
     yield "crate may cost (its proof, or its tests where it has tests alone); it is lowered when a crate grows cheaper."
     yield ""
+    for remark in remarks(runs):
+        yield remark
+        yield ""
     yield "| Crate | Proof | Budget | Tests | Edits | Memory |"
     yield "|---|---|---|---|---|---|"
     for crate in stands_on:
