@@ -40,23 +40,23 @@ fn loops_have_heads(rt: HostRuntime) -> Result<(), Fail> {
     Ok(())
 }
 
-/// What a run shows: the number that it returns and the column of its `return`, or that it used up its steps.
+/// How a run ends: the number that it returns and the column of its `return`, or that it used up its steps.
 #[derive(Clone, Copy, PartialEq)]
-enum Shown {
+enum Ending {
     Returns(i64, u32),
     Spent,
     Else,
 }
 
-fn shown(outcome: &Outcome) -> Shown {
+fn ending_of(outcome: &Outcome) -> Ending {
     match outcome {
         Outcome::Returned {
             value: Some(Value::Int(n)),
             pos,
             ..
-        } => Shown::Returns(*n, pos.col),
-        Outcome::OutOfFuel => Shown::Spent,
-        _ => Shown::Else,
+        } => Ending::Returns(*n, pos.col),
+        Outcome::OutOfFuel => Ending::Spent,
+        _ => Ending::Else,
     }
 }
 
@@ -67,28 +67,28 @@ fn entry(alloc: Global, n: i64) -> Result<Entry, AllocError> {
     })
 }
 
-fn run_shows(alloc: Global, f: &Function, n: i64) -> Result<Shown, Memory> {
+fn ending_of_run(alloc: Global, f: &Function, n: i64) -> Result<Ending, Memory> {
     let entry = entry(alloc, n)?;
     let outcome = run(alloc, f, &entry, &[], 1000)?;
-    Ok(shown(&outcome))
+    Ok(ending_of(&outcome))
 }
 
-fn code_shows(alloc: Global, codes: &Codes, n: i64) -> Result<Shown, Memory> {
+fn ending_of_code(alloc: Global, codes: &Codes, n: i64) -> Result<Ending, Memory> {
     let entry = entry(alloc, n)?;
     let outcome = code_run(alloc, codes, 0, &entry, &[], 1000)?;
-    Ok(shown(&outcome))
+    Ok(ending_of(&outcome))
 }
 
-/// What a run of a text's one function from a number shows.
-fn function_shows(alloc: Global, text: &str, n: i64) -> Result<Shown, Fail> {
+/// How a run of a text's one function from a number ends.
+fn ending_of_function(alloc: Global, text: &str, n: i64) -> Result<Ending, Fail> {
     let f = function_of(alloc, text)?;
-    Ok(run_shows(alloc, &f, n)?)
+    Ok(ending_of_run(alloc, &f, n)?)
 }
 
-/// What a run of its code shows.
-fn lowered_shows(alloc: Global, text: &str, n: i64) -> Result<Shown, Fail> {
+/// How a run of its code ends.
+fn ending_of_lowered(alloc: Global, text: &str, n: i64) -> Result<Ending, Fail> {
     let codes = codes_of(alloc, text)?;
-    Ok(code_shows(alloc, &codes, n)?)
+    Ok(ending_of_code(alloc, &codes, n)?)
 }
 
 /// Each kind of statement.
@@ -101,26 +101,26 @@ const MIXED: &str = concat!(
     " return s; }",
 );
 
-/// Texts, the number that their function is entered with, and what its run and that of its code show.
-const RUNS: &[(&str, i64, Shown)] = &[
-    (SUM, 3, Shown::Returns(6, 63)),
-    (SUM, -1, Shown::Spent),
-    (MIXED, 0, Shown::Returns(0, 268)),
-    (MIXED, 1, Shown::Returns(1, 268)),
-    (MIXED, 2, Shown::Returns(4, 268)),
-    (MIXED, 3, Shown::Returns(9, 268)),
-    (MIXED, 4, Shown::Returns(16, 268)),
+/// Texts, the number that their function is entered with, and how its run and that of its code end.
+const RUNS: &[(&str, i64, Ending)] = &[
+    (SUM, 3, Ending::Returns(6, 63)),
+    (SUM, -1, Ending::Spent),
+    (MIXED, 0, Ending::Returns(0, 268)),
+    (MIXED, 1, Ending::Returns(1, 268)),
+    (MIXED, 2, Ending::Returns(4, 268)),
+    (MIXED, 3, Ending::Returns(9, 268)),
+    (MIXED, 4, Ending::Returns(16, 268)),
 ];
 
 #[test]
 fn functions_and_their_codes_run_alike(rt: HostRuntime) -> Result<(), Fail> {
-    for (text, n, shown) in RUNS {
+    for (text, n, ending) in RUNS {
         assert!(rt;
-            function_shows(rt.alloc(), text, *n)? == *shown,
+            ending_of_function(rt.alloc(), text, *n)? == *ending,
             "{text} from {n}"
         );
         assert!(rt;
-            lowered_shows(rt.alloc(), text, *n)? == *shown,
+            ending_of_lowered(rt.alloc(), text, *n)? == *ending,
             "{text} from {n}"
         );
     }
