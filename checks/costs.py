@@ -6,7 +6,7 @@ what it measured in checks/runs.tsv; that takes an hour or more, and the figures
 With --runs FILE it prints the page from what an earlier run kept there. Of several runs of one kind in a crate the last counts,
 so that what was measured anew can be added at the end of the file.
 
-A line of checks/runs.tsv is one check: crate, kind (proof, tests or edit), processor seconds (user and system), seconds from
+A line of checks/runs.tsv is one check: crate, kind (proof, tests, edit, or program for a build of what was proved), processor seconds (user and system), seconds from
 its begin to its end, and the greatest memory in MB (pages that its processes share counted once), with tabs between them; a
 line that begins with # is a remark, which the page shows. The budgets stand in checks/budgets.tsv: crate and processor minutes
 of its proof, or of its tests where the crate has tests alone."""
@@ -69,6 +69,8 @@ def kind_of(process):
     crate = words[words.index("--crate-name") + 1]
     if "/rt-edit-" in os.readlink(f"/proc/{process}/cwd"):
         return crate, "edit"
+    if "--crate-checked" in words:
+        return crate, "program"
     return crate, "tests" if "--test" in words else "proof"
 
 
@@ -145,7 +147,7 @@ def costs(runs):
     for crate, kind, seconds, _, memory in table(runs):
         seconds, memory = float(seconds), float(memory)
         count, spent, held = found.get((crate, kind), (0, 0, 0))
-        if kind == "edit":
+        if kind in ("edit", "program"):
             found[crate, kind] = (count + 1, spent + seconds, max(held, memory))
         else:
             found[crate, kind] = (1, seconds, memory)
@@ -168,15 +170,16 @@ def longest_chain(stands_on, seconds):
 def page(runs):
     stands_on, found = crates(), costs(runs)
     budgets = {crate: float(minutes) for crate, minutes in table(f"{HERE}/budgets.tsv")}
-    minutes = lambda crate, kind: found.get((crate, kind), (0, 0, 0))[1] / 60
+    minutes = lambda crate, *kinds: sum(found.get((crate, kind), (0, 0, 0))[1] for kind in kinds) / 60
     shown = lambda value: f"{value:.1f}" if value else ""
     memory = lambda crate: max(found.get((crate, kind), (0, 0, 0))[2] for kind in ("proof", "tests", "edit")) / 1000
     yield "# What the gate costs"
     yield ""
     yield "Processor minutes from nothing, and the greatest memory of one check in GB, as `python3 checks/costs.py` measured them."
-    yield "Where a crate has edits in must-fail/, the gate proves it once more before it tries them; that is part of the minutes of its"
-    yield "edits. A crate with tests is proved once more with them; that is part of the minutes of its tests. A budget is the most that a"
-    yield "crate may cost (its proof, or its tests where it has tests alone); it is lowered when a crate grows cheaper."
+    yield "Where a crate has edits in must-fail/, the gate proves it once more before it tries them; that is part of the minutes of"
+    yield "its edits. A crate with tests is proved once more with them; that, and the builds of a program, is part of the minutes of"
+    yield "its tests. A budget is the most that a crate may cost (its proof, or its tests where it has tests alone); it is lowered"
+    yield "when a crate grows cheaper."
     yield ""
     for remark in remarks(runs):
         yield remark
@@ -184,9 +187,9 @@ def page(runs):
     yield "| Crate | Proof | Budget | Tests | Edits | Memory |"
     yield "|---|---|---|---|---|---|"
     for crate in stands_on:
-        row = [shown(minutes(crate, "proof")), shown(budgets.get(crate, 0)), shown(minutes(crate, "tests")), shown(minutes(crate, "edit")), shown(memory(crate))]
+        row = [shown(minutes(crate, "proof")), shown(budgets.get(crate, 0)), shown(minutes(crate, "tests", "program")), shown(minutes(crate, "edit")), shown(memory(crate))]
         yield f"| `{crate}` | " + " | ".join(row) + " |"
-    sums = [sum(minutes(crate, kind) for crate in stands_on) for kind in ("proof", "tests", "edit")]
+    sums = [sum(minutes(crate, *kinds) for crate in stands_on) for kinds in (["proof"], ["tests", "program"], ["edit"])]
     budget = sum(budgets.get(crate, 0) for crate in stands_on)
     yield f"| Sum | {sums[0]:.1f} | {budget:.1f} | {sums[1]:.1f} | {sums[2]:.1f} | |"
     yield ""
