@@ -14,7 +14,7 @@ TOP = os.path.dirname(HERE)
 
 STATEMENTS = [
     ("what a run of a function is", ["pungi_meaning.specs.Run.run_of"]),
-    ("clean and faulty", ["pungi_verdict.specs.Verdicts.IsClean", "pungi_verdict.specs.Verdicts.IsFaultOf", "pungi_types.specs.ResolvedStmts.resolved"]),
+    ("clean and faulty", ["pungi_verdict.specs.Verdicts.IsClean", "pungi_verdict.specs.Verdicts.IsFaultOf", "pungi_resolve.specs.Functions.resolved"]),
     ("the headline, from the bytes of a file to those of the report", ["pungi.specs.Answer.Answers"]),
 ]
 

@@ -4,7 +4,7 @@ use denote.Param.Weighed.{most}
 use Rattle.std.proofs.lemmas.Grind.{common_steps}
 use Rattle.std.specs.declared.alloc.Global.{Global}
 use Rattle.pungi_base.specs.declared.pos.Pos.{Pos}
-use Rattle.pungi_types.specs.ResolvedStmts as stmt
+use Rattle.pungi_resolved.specs.Actions as stmt
 use Rattle.pungi_resolved.specs.ActionView.{action_view, actions_of}
 use Rattle.pungi_resolved.specs.declared.action.Action.{Action, size-Action}
 use Rattle.pungi_resolved.specs.declared.action.ActionNode.TheVariants.{Block}

@@ -1,7 +1,7 @@
 -- The variables of arguments, one after another.
 use Rattle.std.proofs.Common.{◌≡◌, ℕ, ◌+◌, List, [], ◌∷◌, ◌++◌, map, refl, sym, ap, ◌∙◌, append_assoc, arith}
 use Rattle.pungi_api.specs.declared.param.Param.{Param}
-use Rattle.pungi_types.specs.Resolved as expr
+use Rattle.pungi_resolved.specs.Values as expr
 use Rattle.pungi_code.specs.declared.atom.Atom.{Atom}
 use Rattle.pungi_layout.specs.ExprCode.{var}
 use Rattle.pungi_layout.specs.Temporaries.{tail, arg_var, arg_vars}

@@ -7,7 +7,7 @@ use Rattle.pungi_base.specs.declared.punct.Punct.{Punct}
 use Rattle.pungi_api.specs.declared.param.Param.{Param}
 use Rattle.pungi_api.specs.declared.row.Row.{Row}
 use Rattle.pungi_types.specs.declared.kind.ValueKind.{ValueKind}
-use Rattle.pungi_types.specs.Resolved as expr
+use Rattle.pungi_resolved.specs.Values as expr
 use Rattle.pungi_meaning.specs.Values.{op_of, cmp_of, wide}
 use Rattle.pungi_resolved.specs.ValueView.{values_of}
 use Rattle.pungi_meaning.specs.Exprs.{is_and, step_op}

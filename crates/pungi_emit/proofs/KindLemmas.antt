@@ -2,7 +2,7 @@
 use Rattle.std.proofs.Common.{◌≡◌, ℕ, zero, suc, ◌+◌, List, [], ◌∷◌, ◌++◌, map, refl, sym, ap, ◌∙◌, arith, append_assoc}
 use Rattle.pungi_api.specs.declared.param.Param.{Param}
 use Rattle.pungi_api.specs.declared.param.Param.TheVariants as param
-use Rattle.pungi_types.specs.ResolvedStmts as stmt
+use Rattle.pungi_resolved.specs.Actions as stmt
 use Rattle.pungi_layout.specs.VarKinds.{kind_held, temp_kinds}
 
 held_append : (rs qs : List stmt.Reached) → map kind_held (rs ++ qs) ≡ map kind_held rs ++ map kind_held qs

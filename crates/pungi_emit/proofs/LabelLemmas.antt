@@ -1,7 +1,7 @@
 -- Labels that were found are those of the definition.
 use Rattle.std.proofs.Common.{◌≡◌, ℕ, ◌+◌, List, [], ◌∷◌, ◌++◌, Option, Some, Bool, true, false, if◌then◌else◌, ◌==◌, refl, ap, ◌∙◌}
 use Rattle.pungi_base.specs.declared.names.Name.{Name}
-use Rattle.pungi_types.specs.ResolvedStmts as stmt
+use Rattle.pungi_resolved.specs.Actions as stmt
 use Rattle.pungi_meaning.specs.Work.{or_else}
 use Rattle.pungi_emit.specs.declared.scope.Placed.{Placed}
 use Rattle.pungi_layout.specs.Sizes.{expr_size, test_size, stmt_size}

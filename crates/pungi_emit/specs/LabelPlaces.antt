@@ -7,7 +7,7 @@
 --   list_starts pc list         where each statement of a list begins
 use Rattle.std.specs.Prelude.{ℕ, ◌+◌, ◌==◌, List, [], ◌∷◌, ◌++◌, length, Option, Some, None, if◌then◌else◌}
 use Rattle.pungi_base.specs.declared.names.Name.{Name}
-use Rattle.pungi_types.specs.ResolvedStmts as stmt
+use Rattle.pungi_resolved.specs.Actions as stmt
 use Rattle.pungi_emit.specs.declared.scope.Labels.{Labels}
 use Rattle.pungi_emit.specs.declared.scope.Labels.TheVariants.{Nowhere, Inside'}
 use Rattle.pungi_emit.specs.declared.scope.Placed.{Placed}

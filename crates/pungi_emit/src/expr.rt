@@ -1,7 +1,7 @@
 // The instructions of expressions.
 ghost use Rattle.std.specs.Prelude.{◌≡◌, ◌+◌, ◌++◌, length, map, OnOk};
 ghost use Rattle.pungi_resolved.specs.ValueView.{value_view, values_of, place_view};
-ghost use Rattle.pungi_types.specs.Resolved.{negated, stepped, joined_by, stored, updated, chosen, called_row};
+ghost use Rattle.pungi_resolved.specs.Values.{negated, stepped, joined_by, stored, updated, chosen, called_row};
 ghost use Rattle.pungi_layout.specs.Sizes.{expr_size};
 ghost use Rattle.pungi_layout.specs.ExprCode.{expr_code, base_code, args_code, old_code, sign_code, step_code, row_code, base_var as base_variable};
 

@@ -1,6 +1,6 @@
 // What the lowering asks of a node.
 ghost use Rattle.std.specs.Prelude.{◌≡◌, Some};
-ghost use Rattle.pungi_types.specs.Resolved.{is_same_kind as is_one_kind};
+ghost use Rattle.pungi_types.specs.Operators.{is_same_kind as is_one_kind};
 ghost use Rattle.pungi_meaning.specs.Exprs.{is_and as is_and_mark, step_op as op_of_step};
 ghost use Rattle.pungi_meaning.specs.Values.{slot_kind as kind_of_slot};
 ghost use Rattle.pungi_layout.specs.ExprCode.{bit as bit_atom, branch_on as branch_when};

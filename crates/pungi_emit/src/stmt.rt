@@ -2,7 +2,7 @@
 ghost use Rattle.std.specs.Prelude.{◌≡◌, ◌+◌, ◌++◌, length, map, OnOk};
 ghost use Rattle.pungi_resolved.specs.ActionView.{reached_view, action_view, actions_of};
 ghost use Rattle.pungi_resolved.specs.ValueView.{value_view, optional_view};
-ghost use Rattle.pungi_types.specs.ResolvedStmts.{block_of, test, test_else, repeat_while, repeat_until, repeat_for, switch_on};
+ghost use Rattle.pungi_resolved.specs.Actions.{block_of, test, test_else, repeat_while, repeat_until, repeat_for, switch_on};
 ghost use Rattle.pungi_emit.specs.Cases.{skipped_code};
 ghost use Rattle.pungi_layout.specs.Sizes.{expr_size, stmts_size};
 ghost use Rattle.pungi_emit.specs.LabelPlaces.{list_labels, list_starts, env_of};

@@ -6,7 +6,7 @@ ghost use Rattle.pungi_layout.specs.Sizes.{option_size as option_length, reach_s
 ghost use Rattle.pungi_layout.specs.Heads.{head_at, stmt_marks, stmts_marks, switch_marks};
 ghost use Rattle.pungi_emit.specs.LabelPlaces.{stmt_labels, list_labels, list_starts};
 ghost use Rattle.pungi_emit.specs.Plans.{places_of, plan_of, plans_of, skipped_plan, switch_plan};
-ghost use Rattle.pungi_types.specs.ResolvedStmts.{block_of, test, test_else, repeat_while, repeat_until, repeat_for, switch_on, at_label};
+ghost use Rattle.pungi_resolved.specs.Actions.{block_of, test, test_else, repeat_while, repeat_until, repeat_for, switch_on, at_label};
 ghost use Rattle.pungi_meaning.specs.Run.{nowhere};
 
 use crate::counts::{cases_count, count, declared_count};

@@ -5,8 +5,9 @@ use Rattle.std.proofs.lemmas.Bool.{eqb-true, leb-true}
 use Rattle.pungi_base.specs.declared.names.Name.{Name}
 use Rattle.pungi_base.specs.declared.pos.Pos.{Pos}
 use Rattle.pungi_types.specs.Operators.{is_void}
-use Rattle.pungi_types.specs.Resolved as expr
-use Rattle.pungi_types.specs.ResolvedStmts as stmt
+use Rattle.pungi_resolved.specs.Values as expr
+use Rattle.pungi_resolved.specs.Actions as stmt
+use Rattle.pungi_resolved.specs.Functions.{ResolvedFunction}
 use Rattle.pungi_meaning.specs.Run.{closing}
 use Rattle.pungi_meaning.specs.Stmts.{block_cases}
 use Rattle.pungi_meaning.specs.Todo.{listed}
@@ -286,7 +287,7 @@ everywhere_dead code nl size zero h = tt
 everywhere_dead code nl size (suc n) h = (h n, h n, λ l. h n)
 
 -- .. of the layout of a function
-pub keeps_nothing : (f : stmt.ResolvedFunction) → IsStmtSound f.locals f.body → KeepsNothing f (body_code f) (heads_of f) f.locals
+pub keeps_nothing : (f : ResolvedFunction) → IsStmtSound f.locals f.body → KeepsNothing f (body_code f) (heads_of f) f.locals
 keeps_nothing f s =
     let nl = f.locals in
     let code = body_code f in

@@ -5,7 +5,7 @@ use Rattle.pungi_base.specs.declared.entry.Entry.{Entry}
 use Rattle.pungi_base.specs.declared.pos.Pos.{Pos}
 use Rattle.pungi_base.specs.declared.value.Value.{Value}
 use Rattle.pungi_types.specs.Operators.{is_void}
-use Rattle.pungi_types.specs.ResolvedStmts.{ResolvedFunction}
+use Rattle.pungi_resolved.specs.Functions.{ResolvedFunction}
 use Rattle.pungi_world.specs.declared.content.Content.{Content}
 use Rattle.pungi_world.specs.declared.content.Content.TheVariants.{Unset, Holds}
 use Rattle.pungi_meaning.specs.Run.{closing, start, body_of}

@@ -2,8 +2,8 @@
 use Rattle.std.proofs.Common.{◌≡◌, ℕ, zero, suc, ◌+◌, ◌==◌, ◌⊎◌, List, [], ◌∷◌, drop, length, Option, Some, None, refl, sym, ap, ◌∙◌, subst, arith, inl, inr, Bool, true, false, if◌then◌else◌}
 use Rattle.pungi_base.specs.declared.names.Name.{Name}
 use Rattle.pungi_base.specs.declared.pos.Pos.{Pos}
-use Rattle.pungi_types.specs.Resolved as expr
-use Rattle.pungi_types.specs.ResolvedStmts as stmt
+use Rattle.pungi_resolved.specs.Values as expr
+use Rattle.pungi_resolved.specs.Actions as stmt
 use Rattle.pungi_meaning.specs.Todo.{Loop, Todo, ToEval, ToLoad, ToOld, ToKeep, ToStep, ToMinus, ToCompute, ToFit, ToCompare, ToNot, ToRight, ToTruth, ToPick, ToStore, ToPop, ToArgs, ToExec, ToForget, ToReach, ToBind, ToChoose, ToJoin, ToRest, ToTest, ToTurn, ToAgain, ToBack, ToSwitch, ToSwitchEnd, ToReturn, ToEnd, listed}
 use Rattle.pungi_meaning.specs.Jumps.{a_loop, entered, entered_among, found_or, from_label, after_break, after_continue}
 use Rattle.pungi_meaning.specs.Work.{or_else}

@@ -6,7 +6,7 @@ use Rattle.pungi_api.specs.declared.param.Param.{Param}
 use Rattle.pungi_api.specs.declared.param.Param.TheVariants as param
 use Rattle.pungi_types.specs.declared.kind.ValueKind.{ValueKind}
 use Rattle.pungi_types.specs.declared.kind.ValueKind.TheVariants as kinds
-use Rattle.pungi_types.specs.Resolved as expr
+use Rattle.pungi_types.specs.Operators.{is_same_kind}
 use Rattle.pungi_meaning.specs.declared.op.Op.{Op}
 use Rattle.pungi_meaning.specs.declared.cmp.Cmp.{Cmp}
 use Rattle.pungi_meaning.specs.Values.{fits, slot_kind}
@@ -101,7 +101,7 @@ counted_low kinds.Long h = omega arith
 counted_low kinds.Size h = omega arith
 counted_low _ h = absurd (cc)
 
-pub same_slot : (a b : ValueKind) → expr.is_same_kind (Some a) (Some b) ≡ true → slot_kind a ≡ slot_kind b
+pub same_slot : (a b : ValueKind) → is_same_kind (Some a) (Some b) ≡ true → slot_kind a ≡ slot_kind b
 same_slot kinds.Int kinds.Int h = refl
 same_slot kinds.Long kinds.Long h = refl
 same_slot kinds.Size kinds.Size h = refl

@@ -9,7 +9,7 @@ use Rattle.pungi_tree.specs.Syntax.{Item}
 use Rattle.pungi_api.specs.declared.param.Param.{Param}
 use Rattle.pungi_api.specs.declared.param.Param.TheVariants as param
 use Rattle.pungi_types.specs.Operators.{is_void}
-use Rattle.pungi_types.specs.ResolvedStmts as stmt
+use Rattle.pungi_resolved.specs.Functions.{ResolvedFunction}
 use Rattle.pungi_meaning.specs.Run.{closing}
 use Rattle.pungi_code.specs.declared.code.Code.{Code}
 use Rattle.pungi_code.specs.declared.code.Head.{Head}
@@ -58,10 +58,10 @@ temp_in (suc n) (suc d) c h k =
     ap (λ (i : ℕ). get_or (temp_kinds (suc n)) i param.ModuleDef) e ∙ temp_in n d c (omega (arith, h)) k
 
 -- what stands in front of the temporaries
-front : stmt.ResolvedFunction → List Param
+front : ResolvedFunction → List Param
 front f = map held_kind f.params ++ map kind_held (stmt_reached f.body)
 
-front_long : (f : stmt.ResolvedFunction) → HasLocals f → length (front f) ≡ f.locals
+front_long : (f : ResolvedFunction) → HasLocals f → length (front f) ≡ f.locals
 unfolding front
 front_long f h =
     let a = length-append (map held_kind f.params) (map kind_held (stmt_reached f.body)) in
@@ -69,11 +69,11 @@ front_long f h =
     let c = map_long kind_held (stmt_reached f.body) in
     omega (arith, a, b, c, h)
 
-vars_are : (f : stmt.ResolvedFunction) → var_kinds f ≡ front f ++ temp_kinds (stmt_nodes f.body)
+vars_are : (f : ResolvedFunction) → var_kinds f ≡ front f ++ temp_kinds (stmt_nodes f.body)
 unfolding front
 vars_are f = sym (append_assoc (map held_kind f.params) (map kind_held (stmt_reached f.body)) (temp_kinds (stmt_nodes f.body)))
 
-pub vars_long : (f : stmt.ResolvedFunction) → HasLocals f → length (var_kinds f) ≡ f.locals + 5 * stmt_nodes f.body
+pub vars_long : (f : ResolvedFunction) → HasLocals f → length (var_kinds f) ≡ f.locals + 5 * stmt_nodes f.body
 vars_long f h =
     let a = ap length (vars_are f) in
     let b = length-append (front f) (temp_kinds (stmt_nodes f.body)) in
@@ -81,7 +81,7 @@ vars_long f h =
     let d = temps_long (stmt_nodes f.body) in
     omega (arith, a, b, c, d)
 
-temp_held : (f : stmt.ResolvedFunction) → HasLocals f → (d c : ℕ) → d < stmt_nodes f.body → c ≤ 4 → IsHeld (var_kinds f) (temp f.locals d c) (column_kind c)
+temp_held : (f : ResolvedFunction) → HasLocals f → (d c : ℕ) → d < stmt_nodes f.body → c ≤ 4 → IsHeld (var_kinds f) (temp f.locals d c) (column_kind c)
 temp_held f h d c lt le =
     let l = vars_long f h in
     let e : temp f.locals d c ≡ length (front f) + (5 * d + c) = let g = front_long f h in omega (arith, g) in
@@ -211,7 +211,7 @@ all_back heads place all (l ∷ ls) h f =
     ] refl in
     and_true _ _ one (all_back heads place all ls h.1 f)
 
-back_fine : (f : stmt.ResolvedFunction) (place : ℕ) (l : Line) → slice_get (body_code f) place ≡ Some l → goes_back (heads_of f) place l.instr ≡ true
+back_fine : (f : ResolvedFunction) (place : ℕ) (l : Line) → slice_get (body_code f) place ≡ Some l → goes_back (heads_of f) place l.instr ≡ true
 back_fine f place l e =
     all_back (heads_of f) place (targets l.instr) (targets l.instr) (own_names l.instr) (λ m n le.
     let b = found_back (body_code f) place m 0 l e (omega (arith, le)) n in
@@ -220,7 +220,7 @@ back_fine f place l e =
     (back_some (loop_pos m (stmt_marks 0 f.body)) (leads_back m 0 (body_code f)) (label_pos m (stmt_marks 0 f.body)) b))
 
 -- .. the whole
-body_fine : (file : List Item) (f : stmt.ResolvedFunction) → HasLocals f → IsStmtTyped file (var_kinds f) f.body → has_no_call f.body ≡ true → stmt_nodes f.body ≤ 12288 → AreFine (code_of f) (body_code f)
+body_fine : (file : List Item) (f : ResolvedFunction) → HasLocals f → IsStmtTyped file (var_kinds f) f.body → has_no_call f.body ≡ true → stmt_nodes f.body ≤ 12288 → AreFine (code_of f) (body_code f)
 body_fine file f h t c n =
     let size = stmt_size f.body in
     let l = body-long f in
@@ -230,7 +230,7 @@ body_fine file f h t c n =
     (end_fine (code_of f) (closing f.body) (is_void f.result))
 
 -- a function whose parts are of the kinds that they need, that calls none of the file, and that is within the limits, has well-formed code
-pub well-formed : (file : List Item) (f : stmt.ResolvedFunction) → HasLocals f → IsStmtTyped file (var_kinds f) f.body → has_no_call f.body ≡ true → f.locals ≤ 32 → stmt_nodes f.body ≤ 12288 → stmt_size f.body + 1 ≤ 16384
+pub well-formed : (file : List Item) (f : ResolvedFunction) → HasLocals f → IsStmtTyped file (var_kinds f) f.body → has_no_call f.body ≡ true → f.locals ≤ 32 → stmt_nodes f.body ≤ 12288 → stmt_size f.body + 1 ≤ 16384
     → IsWellFormed (code_of f)
 well-formed file f h t c locals n size =
     let l = body-long f in

@@ -9,7 +9,7 @@ use Rattle.pungi_api.specs.declared.row.Form.{Form}
 use Rattle.pungi_api.specs.declared.row.Form.TheVariants as form
 use Rattle.pungi_types.specs.declared.kind.ValueKind.{ValueKind}
 use Rattle.pungi_types.specs.declared.kind.ValueKind.TheVariants as kinds
-use Rattle.pungi_types.specs.Resolved as expr
+use Rattle.pungi_resolved.specs.Values as expr
 use Rattle.pungi_meaning.specs.Values.{fits, wide, slot_kind}
 use Rattle.pungi_code.specs.WellFormed.{is_wide, form_answer}
 use Rattle.pungi_layout.proofs.BoolLemmas.{and_left, and_right}

@@ -11,7 +11,8 @@ use Rattle.pungi_api.specs.declared.row.Form.{Form}
 use Rattle.pungi_api.specs.declared.row.Form.TheVariants as form
 use Rattle.pungi_api.specs.declared.row.Row.{Row}
 use Rattle.pungi_types.specs.declared.kind.ValueKind.{ValueKind}
-use Rattle.pungi_types.specs.Resolved as expr
+use Rattle.pungi_resolved.specs.Values as expr
+use Rattle.pungi_types.specs.Operators.{is_same_kind}
 use Rattle.pungi_meaning.specs.declared.op.Op.TheVariants as ops
 use Rattle.pungi_meaning.specs.Values.{op_of, cmp_of, wide, slot_kind}
 use Rattle.pungi_meaning.specs.Exprs.{step_op, is_and}
@@ -89,7 +90,7 @@ module _ (file : List Item) (code : Code) (nl n : ℕ) (temps : (d c : ℕ) → 
   -- .. what is counted in another kind and converted
   counted_held : (place : expr.Place) (d t : ℕ) (kind counted : ValueKind) → above place d < n → IsHeld code.vars (counted_var nl place d kind counted) (slot_kind counted)
   counted_held place d t kind counted lt =
-      elim (expr.is_same_kind (Some kind) (Some counted)) as (λ b. (expr.is_same_kind (Some kind) (Some counted) ≡ b) → IsHeld code.vars (if b then stored_var nl place d kind else temp nl (above place d) (column counted)) (slot_kind counted)) [
+      elim (is_same_kind (Some kind) (Some counted)) as (λ b. (is_same_kind (Some kind) (Some counted) ≡ b) → IsHeld code.vars (if b then stored_var nl place d kind else temp nl (above place d) (column counted)) (slot_kind counted)) [
         | true ↦ λ e. subst (λ k. IsHeld code.vars (temp nl (above place d) (column kind)) k) (same_slot kind counted e) (kind_held (above place d) kind lt)
         | false ↦ λ e. kind_held (above place d) counted lt
       ] refl
@@ -97,7 +98,7 @@ module _ (file : List Item) (code : Code) (nl n : ℕ) (temps : (d c : ℕ) → 
   converted_fine : (p : Pos) (kind counted : ValueKind) (s c : ℕ) → is_counted kind ≡ true → is_counted counted ≡ true → IsHeld code.vars s (slot_kind kind) → IsHeld code.vars c (slot_kind counted)
       → AreFine code (fit_code p kind counted s c)
   converted_fine p kind counted s c f g hs hc =
-      elim (expr.is_same_kind (Some kind) (Some counted)) as (λ b. AreFine code (if b then [] else line p (Fit (to_var s) kind (var c)) ∷ [])) [
+      elim (is_same_kind (Some kind) (Some counted)) as (λ b. AreFine code (if b then [] else line p (Fit (to_var s) kind (var c)) ∷ [])) [
         | true ↦ tt
         | false ↦ (fit_fine code s (slot_kind kind) kind (var c) hs (counted_slot kind f) (number_atom code c (slot_kind counted) hc (counted_integer counted g)), tt)
       ]

@@ -9,9 +9,10 @@ use Rattle.pungi_api.specs.declared.param.Param.{Param}
 use Rattle.pungi_types.specs.declared.kind.ValueKind.{ValueKind}
 use Rattle.pungi_types.specs.Kinds.{struct_fields, field_in_some}
 use Rattle.pungi_types.specs.Names.{global_kind}
-use Rattle.pungi_types.specs.Operators.{is_void}
-use Rattle.pungi_types.specs.Resolved as expr
-use Rattle.pungi_types.specs.ResolvedStmts as stmt
+use Rattle.pungi_types.specs.Operators.{is_void, is_same_kind}
+use Rattle.pungi_resolved.specs.Values as expr
+use Rattle.pungi_resolved.specs.Actions as stmt
+use Rattle.pungi_resolved.specs.Functions.{ResolvedFunction}
 use Rattle.pungi_meaning.specs.Values.{wide, slot_kind}
 use Rattle.pungi_meaning.specs.Exprs.{is_and}
 use Rattle.pungi_meaning.specs.Run.{closing}
@@ -87,7 +88,7 @@ module _ (file : List Item) (vars : List Param) (nl : ℕ) where
   store_slots kind expr.no_place t b v h = absurd h
 
   fit_slots : (p : Pos) (to from : ValueKind) (t x : ℕ) → AreOf file (fit_code p to from t x)
-  fit_slots p to from t x = elim (expr.is_same_kind (Some to) (Some from)) as (λ b. AreOf file (if b then [] else line p (Fit (to_var t) to (var x)) ∷ [])) [ true ↦ tt | false ↦ (tt, tt) ]
+  fit_slots p to from t x = elim (is_same_kind (Some to) (Some from)) as (λ b. AreOf file (if b then [] else line p (Fit (to_var t) to (var x)) ∷ [])) [ true ↦ tt | false ↦ (tt, tt) ]
 
   step_slots : (d t : ℕ) (p : Pos) (m : Kind) (kind : ValueKind) (place : expr.Place) → IsPlaceTyped file vars kind place → AreOf file (step_code nl d t p m kind place)
   step_slots d t p m kind place h = (
@@ -278,11 +279,11 @@ module _ (file : List Item) (vars : List Param) (nl : ℕ) where
   at_slot (x ∷ ls) h (suc i) l e = at_slot ls h.1 i l e
 
 -- the instructions of a function of the file
-pub body_slots : (file : List Item) (vars : List Param) (f : stmt.ResolvedFunction) → IsStmtTyped file vars f.body → AreOf file (body_code f)
+pub body_slots : (file : List Item) (vars : List Param) (f : ResolvedFunction) → IsStmtTyped file vars f.body → AreOf file (body_code f)
 body_slots file vars f h =
     joins file vars f.locals (stmt_code f.locals (everywhere (stmt_size f.body)) 0 f.body) _ (stmt_slots file vars f.locals f.body (everywhere (stmt_size f.body)) 0 h) (end_slots file vars f.locals (closing f.body) (is_void f.result))
 
 -- two functions of a file name each slot with one kind
-pub codes-agree : (file : List Item) (us vs : List Param) (f g : stmt.ResolvedFunction) → IsStmtTyped file us f.body → IsStmtTyped file vs g.body → AgreeOnKinds (code_of f) (code_of g)
+pub codes-agree : (file : List Item) (us vs : List Param) (f g : ResolvedFunction) → IsStmtTyped file us f.body → IsStmtTyped file vs g.body → AgreeOnKinds (code_of f) (code_of g)
 codes-agree file us vs f g h k i j l m e n =
     agree file (place_of l.instr) (place_of m.instr) (at_slot file us f.locals (body_code f) (body_slots file us f h) i l e) (at_slot file vs g.locals (body_code g) (body_slots file vs g k) j m n)

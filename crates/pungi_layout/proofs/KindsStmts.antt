@@ -7,8 +7,8 @@ use Rattle.pungi_api.specs.declared.param.Param.{Param}
 use Rattle.pungi_api.specs.declared.param.Param.TheVariants as param
 use Rattle.pungi_types.specs.declared.kind.ValueKind.{ValueKind}
 use Rattle.pungi_types.specs.declared.kind.ValueKind.TheVariants as kinds
-use Rattle.pungi_types.specs.Resolved as expr
-use Rattle.pungi_types.specs.ResolvedStmts as stmt
+use Rattle.pungi_resolved.specs.Values as expr
+use Rattle.pungi_resolved.specs.Actions as stmt
 use Rattle.pungi_meaning.specs.declared.cmp.Cmp.TheVariants as cmps
 use Rattle.pungi_meaning.specs.Values.{slot_kind}
 use Rattle.pungi_meaning.specs.Stmts.{block_cases}

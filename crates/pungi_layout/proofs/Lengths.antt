@@ -3,7 +3,8 @@ use Rattle.std.proofs.Common.{◌≡◌, ℕ, zero, suc, ◌+◌, ◌*◌, List,
 use Rattle.pungi_base.specs.declared.pos.Pos.{Pos}
 use Rattle.pungi_api.specs.declared.param.Param.{Param}
 use Rattle.pungi_types.specs.declared.kind.ValueKind.{ValueKind}
-use Rattle.pungi_types.specs.Resolved as expr
+use Rattle.pungi_resolved.specs.Values as expr
+use Rattle.pungi_types.specs.Operators.{is_same_kind}
 use Rattle.pungi_meaning.specs.Values.{op_of, cmp_of, wide}
 use Rattle.pungi_meaning.specs.Exprs.{is_and}
 use Rattle.pungi_code.specs.declared.code.Line.{Line}
@@ -36,7 +37,7 @@ store_long nl kind expr.no_place t b v = refl
 pub put_long : (nl d t : ℕ) (p : Pos) (kind counted : ValueKind) (place : expr.Place) (b x c : ℕ) → length (fit_code p kind counted x c ++ store_code kind place t b x) ≡ fit_size kind counted + store_size
 put_long nl d t p kind counted place b x c =
     length-append (fit_code p kind counted x c) (store_code kind place t b x)
-    ∙ ap (λ n. n + length (store_code kind place t b x)) (fit_long (expr.is_same_kind (Some kind) (Some counted)) (line p (Fit (to_var x) kind (var c))))
+    ∙ ap (λ n. n + length (store_code kind place t b x)) (fit_long (is_same_kind (Some kind) (Some counted)) (line p (Fit (to_var x) kind (var c))))
     ∙ ap (λ n. fit_size kind counted + n) (store_long nl kind place t b x)
 
 pub more_long : (m n : ℕ) → m ≡ n → suc m ≡ 1 + n

@@ -11,8 +11,9 @@ use Rattle.pungi_base.specs.declared.value.Value.{Value}
 use Rattle.pungi_base.specs.declared.value.Value.TheVariants as value
 use Rattle.pungi_api.specs.declared.row.Row.{Row}
 use Rattle.pungi_types.specs.declared.kind.ValueKind.{ValueKind}
-use Rattle.pungi_types.specs.Resolved as expr
-use Rattle.pungi_types.specs.ResolvedStmts as stmt
+use Rattle.pungi_resolved.specs.Values as expr
+use Rattle.pungi_types.specs.Operators.{is_same_kind}
+use Rattle.pungi_resolved.specs.Actions as stmt
 use Rattle.pungi_world.specs.declared.content.Content.{Content}
 use Rattle.pungi_world.specs.declared.content.Content.TheVariants.{Unset, Holds}
 use Rattle.pungi_world.specs.declared.effect.Effect.{Effect}
@@ -144,7 +145,7 @@ module _ (most : ℕ) where
 
   stepping_light : (p : Pos) (m : Kind) (kind : ValueKind) (place : expr.Place) (k : List Todo) → AreLight k → (weight (stepping p m kind place k) ≤ weight k + 3) × AreLight (stepping p m kind place k)
   stepping_light p m kind place k h =
-      let r = convert_light (expr.is_same_kind (Some kind) (Some (wide kind))) p kind (ToStore kind place ∷ k) (tt, h) in (omega (arith, r.0), (tt, r.1))
+      let r = convert_light (is_same_kind (Some kind) (Some (wide kind))) p kind (ToStore kind place ∷ k) (tt, h) in (omega (arith, r.0), (tt, r.1))
 
   args_listed : (vs : expr.Values) → args_weight (listed_values vs) ≡ values_weight vs + 1
   args_listed expr.no_values = refl
@@ -175,7 +176,7 @@ module _ (most : ℕ) where
   evaluate_light (expr.stored p kind place v) choices k s h =
       let q = before_light place (ToEval v ∷ ToStore kind place ∷ k) (tt, (tt, h)) in (omega (arith, q.0), q.1)
   evaluate_light (expr.updated p m counted kind place v) choices k s h =
-      let r = convert_light (expr.is_same_kind (Some kind) (Some counted)) p kind (ToStore kind place ∷ k) (tt, h) in
+      let r = convert_light (is_same_kind (Some kind) (Some counted)) p kind (ToStore kind place ∷ k) (tt, h) in
       let q = before_light place (ToOld kind place ∷ ToEval v ∷ ToCompute p (op_of m) counted ∷ converting p kind counted (ToStore kind place ∷ k)) (tt, (tt, (tt, r.1))) in (omega (arith, r.0, q.0), q.1)
   evaluate_light (expr.chosen p c a b) choices k s h = (omega arith, (tt, (tt, h)))
   evaluate_light (expr.converted p kind v) choices k s h = (omega arith, (tt, (tt, h)))

@@ -4,8 +4,8 @@ use Rattle.std.specs.Prelude.{slice_get, ◌==◌, eqb}
 use Rattle.pungi_base.specs.declared.names.Name.{Name}
 use Rattle.pungi_base.specs.declared.pos.Pos.{Pos}
 use Rattle.pungi_types.specs.declared.kind.ValueKind.{ValueKind}
-use Rattle.pungi_types.specs.Resolved as expr
-use Rattle.pungi_types.specs.ResolvedStmts as stmt
+use Rattle.pungi_resolved.specs.Values as expr
+use Rattle.pungi_resolved.specs.Actions as stmt
 use Rattle.pungi_meaning.specs.declared.cmp.Cmp.TheVariants as cmps
 use Rattle.pungi_meaning.specs.Stmts.{cases_of, block_cases, is_default}
 use Rattle.pungi_meaning.specs.Todo.{listed}

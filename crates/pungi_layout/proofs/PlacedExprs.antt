@@ -12,7 +12,7 @@ use Rattle.pungi_api.specs.declared.row.Form.TheVariants as form
 use Rattle.pungi_api.specs.declared.param.Param.{Param}
 use Rattle.pungi_types.specs.declared.kind.ValueKind.{ValueKind}
 use Rattle.pungi_types.specs.declared.kind.ValueKind.TheVariants as kinds
-use Rattle.pungi_types.specs.Resolved as expr
+use Rattle.pungi_resolved.specs.Values as expr
 use Rattle.pungi_meaning.specs.declared.op.Op.TheVariants as ops
 use Rattle.pungi_meaning.specs.Values.{fits, op_of, cmp_of, wide, slot_kind}
 use Rattle.pungi_meaning.specs.Exprs.{step_op, is_and}

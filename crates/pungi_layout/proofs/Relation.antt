@@ -7,8 +7,9 @@ use Rattle.pungi_base.specs.declared.names.Name.{Name}
 use Rattle.pungi_base.specs.declared.pos.Pos.{Pos}
 use Rattle.pungi_api.specs.declared.row.Row.{Row}
 use Rattle.pungi_types.specs.declared.kind.ValueKind.{ValueKind}
-use Rattle.pungi_types.specs.Resolved as expr
-use Rattle.pungi_types.specs.ResolvedStmts as stmt
+use Rattle.pungi_resolved.specs.Values as expr
+use Rattle.pungi_types.specs.Operators.{is_same_kind}
+use Rattle.pungi_resolved.specs.Actions as stmt
 use Rattle.pungi_meaning.specs.declared.op.Op.TheVariants as ops
 use Rattle.pungi_meaning.specs.Values.{op_of, cmp_of, wide, slot_kind}
 use Rattle.pungi_meaning.specs.declared.cmp.Cmp.TheVariants as cmps
@@ -87,7 +88,7 @@ One true A B = A
 One false A B = B
 
 abbrev pub is_same : ValueKind → ValueKind → Bool
-is_same to from = expr.is_same_kind (Some to) (Some from)
+is_same to from = is_same_kind (Some to) (Some from)
 
 -- how many values wait below one that is stored
 abbrev pub level : expr.Place → ℕ → ℕ

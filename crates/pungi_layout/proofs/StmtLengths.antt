@@ -3,8 +3,9 @@ use Rattle.std.proofs.Common.{◌≡◌, ℕ, suc, ◌+◌, ◌*◌, ℤ, Bool, 
 use Rattle.pungi_base.specs.declared.pos.Pos.{Pos}
 use Rattle.pungi_types.specs.declared.kind.ValueKind.{ValueKind}
 use Rattle.pungi_types.specs.Operators.{is_void}
-use Rattle.pungi_types.specs.Resolved as expr
-use Rattle.pungi_types.specs.ResolvedStmts as stmt
+use Rattle.pungi_resolved.specs.Values as expr
+use Rattle.pungi_resolved.specs.Actions as stmt
+use Rattle.pungi_resolved.specs.Functions.{ResolvedFunction}
 use Rattle.pungi_meaning.specs.Run.{closing}
 use Rattle.pungi_meaning.specs.Stmts.{cases_of, block_cases}
 use Rattle.pungi_meaning.specs.Todo.{listed}
@@ -164,7 +165,7 @@ end-long p true = refl
 end-long p false = refl
 
 -- the code of a function is its statement and one instruction more
-pub body-long : (f : stmt.ResolvedFunction) → length (body_code f) ≡ stmt_size f.body + 1
+pub body-long : (f : ResolvedFunction) → length (body_code f) ≡ stmt_size f.body + 1
 body-long f =
     long_append (stmt_code f.locals (everywhere (stmt_size f.body)) 0 f.body) (end_code (closing f.body) (is_void f.result)) (stmt_size f.body) 1
     (stmt_long f.body f.locals (everywhere (stmt_size f.body)) 0) (end-long (closing f.body) (is_void f.result))

@@ -1,7 +1,7 @@
 -- At most five steps for a node, each loop taken once.
 use Rattle.std.proofs.Common.{◌+◌, ◌*◌, ◌≤◌, arith, ℕ, List, [], ◌∷◌, Option, Some, None, true, false}
-use Rattle.pungi_types.specs.Resolved as expr
-use Rattle.pungi_types.specs.ResolvedStmts as stmt
+use Rattle.pungi_resolved.specs.Values as expr
+use Rattle.pungi_resolved.specs.Actions as stmt
 use Rattle.pungi_layout.specs.Sound.{expr_nodes, place_nodes, values_nodes, option_nodes, reach_nodes, stmt_nodes, stmts_nodes}
 use Rattle.pungi_layout.specs.Weights.{expr_weight, place_weight, values_weight, option_weight, bind_weight, reach_weight, tested_weight, stmt_weight, stmts_weight}
 

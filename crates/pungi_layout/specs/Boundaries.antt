@@ -10,8 +10,9 @@
 --                               each head, no path reads a temporary before it writes it
 use Rattle.std.specs.Prelude.{◌≡◌, ◌⊎◌, ℕ, List, [], ◌∷◌, ◌++◌, slice_get, Option, Some, None}
 use Rattle.pungi_base.specs.declared.pos.Pos.{Pos}
-use Rattle.pungi_types.specs.Resolved as expr
-use Rattle.pungi_types.specs.ResolvedStmts as stmt
+use Rattle.pungi_resolved.specs.Values as expr
+use Rattle.pungi_resolved.specs.Actions as stmt
+use Rattle.pungi_resolved.specs.Functions.{ResolvedFunction}
 use Rattle.pungi_code.specs.declared.code.Head.{Head}
 use Rattle.pungi_code.specs.declared.code.Line.{Line}
 use Rattle.pungi_layout.specs.Liveness.{Among, following, AreDead}
@@ -112,13 +113,13 @@ abbrev pub IsPart : stmt.Action → List stmt.Action → Type 0
 IsPart a [] = ⊥
 IsPart a (b ∷ bs) = (a ≡ b) ⊎ IsPart a bs
 
-abbrev pub ShareStatement : stmt.ResolvedFunction → Pos → Pos → Type 0
+abbrev pub ShareStatement : ResolvedFunction → Pos → Pos → Type 0
 ShareStatement f p q = (a : stmt.Action) × IsPart a (parts f.body) × IsAmong p (own a) × IsAmong q (own a)
 
 abbrev pub IsHead : Head → List Head → Type 0
 IsHead h [] = ⊥
 IsHead h (k ∷ ks) = (h ≡ k) ⊎ IsHead h ks
 
-pub record KeepsNothing (f : stmt.ResolvedFunction) (code : List Line) (heads : List Head) (nl : ℕ) : Type 0 where
+pub record KeepsNothing (f : ResolvedFunction) (code : List Line) (heads : List Head) (nl : ℕ) : Type 0 where
   pub between : (from to : ℕ) (line next : Line) → slice_get code from ≡ Some line → Among to (following from line.instr) → slice_get code to ≡ Some next → (ShareStatement f line.pos next.pos → ⊥) → AreDead code nl to
   pub at_heads : (h : Head) → IsHead h heads → AreDead code nl h.label.0

@@ -1,7 +1,7 @@
 -- The codes of functions.
 --   code_for o       the code of a function that may be refused; one that calls a function of the file has none
 use Rattle.std.specs.Prelude.{Option, Some, None, if◌then◌else◌}
-use Rattle.pungi_types.specs.ResolvedStmts.{ResolvedFunction}
+use Rattle.pungi_resolved.specs.Functions.{ResolvedFunction}
 use Rattle.pungi_code.specs.declared.code.Code.{Code}
 use Rattle.pungi_layout.specs.TypedCalls.{has_no_call}
 use Rattle.pungi_layout.specs.TypedCode.{code_of}

@@ -21,7 +21,8 @@ use Rattle.pungi_base.specs.declared.punct.Punct.{Punct}
 use Rattle.pungi_api.specs.declared.param.Param.{Param}
 use Rattle.pungi_api.specs.declared.row.Row.{Row}
 use Rattle.pungi_types.specs.declared.kind.ValueKind.{ValueKind}
-use Rattle.pungi_types.specs.Resolved as expr
+use Rattle.pungi_resolved.specs.Values as expr
+use Rattle.pungi_types.specs.Operators.{is_same_kind}
 use Rattle.pungi_meaning.specs.declared.op.Op.TheVariants as ops
 use Rattle.pungi_meaning.specs.Values.{op_of, cmp_of, wide, slot_kind, truth}
 use Rattle.pungi_meaning.specs.Exprs.{step_op, is_and}
@@ -62,7 +63,7 @@ abbrev pub branch_on : Bool → ℕ → ℕ → ℕ → Instr
 branch_on on x go other = if on then Branch (var x) (at_label go) (at_label other) else Branch (var x) (at_label other) (at_label go)
 
 abbrev pub fit_code : Pos → ValueKind → ValueKind → ℕ → ℕ → List Line
-fit_code p to from t x = if expr.is_same_kind (Some to) (Some from) then [] else line p (Fit (to_var t) to (var x)) ∷ []
+fit_code p to from t x = if is_same_kind (Some to) (Some from) then [] else line p (Fit (to_var t) to (var x)) ∷ []
 
 -- b holds the base of a field
 abbrev pub old_code : ValueKind → expr.Place → ℕ → ℕ → List Line
@@ -89,7 +90,7 @@ stored_var nl place d kind = temp nl (above place d) (column kind)
 
 -- where a counted value stands: in the variable that it is stored from, where it isn't converted
 abbrev pub counted_var : ℕ → expr.Place → ℕ → ValueKind → ValueKind → ℕ
-counted_var nl place d kind counted = if expr.is_same_kind (Some kind) (Some counted) then stored_var nl place d kind else temp nl (above place d) (column counted)
+counted_var nl place d kind counted = if is_same_kind (Some kind) (Some counted) then stored_var nl place d kind else temp nl (above place d) (column counted)
 
 abbrev pub base_var : ℕ → expr.Place → ℕ → ℕ
 base_var nl (expr.field_place p base tag field) d = temp_of nl d base

@@ -14,7 +14,8 @@
 --   heads_of f                   the heads of a function
 use Rattle.std.specs.Prelude.{ℕ, zero, suc, ◌+◌, ◌*◌, ◌==◌, nat_le, Bool, true, false, ◌&&◌, ◌||◌, List, [], ◌∷◌, ◌++◌, length, Option, Some, None, if◌then◌else◌}
 use Rattle.pungi_base.specs.declared.pos.Pos.{Pos}
-use Rattle.pungi_types.specs.ResolvedStmts as stmt
+use Rattle.pungi_resolved.specs.Actions as stmt
+use Rattle.pungi_resolved.specs.Functions.{ResolvedFunction}
 use Rattle.pungi_meaning.specs.Run.{nowhere}
 use Rattle.pungi_meaning.specs.Stmts.{block_cases}
 use Rattle.pungi_meaning.specs.Todo.{listed}
@@ -104,5 +105,5 @@ abbrev pub heads_below : List Mark → List Line → ℕ → List Head
 heads_below ms code zero = []
 heads_below ms code (suc n) = heads_below ms code n ++ found_head n (head_pos ms code n)
 
-abbrev pub heads_of : stmt.ResolvedFunction → List Head
+abbrev pub heads_of : ResolvedFunction → List Head
 heads_of f = heads_below (stmt_marks 0 f.body) (body_code f) (length (body_code f))

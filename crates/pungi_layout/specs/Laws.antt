@@ -3,7 +3,7 @@
 --   AgreeIfTyped f g           two of one file read and write each slot with one kind
 use Rattle.std.specs.Prelude.{◌≡◌, ◌+◌, ◌≤◌, true, List}
 use Rattle.pungi_tree.specs.Syntax.{Item}
-use Rattle.pungi_types.specs.ResolvedStmts.{ResolvedFunction}
+use Rattle.pungi_resolved.specs.Functions.{ResolvedFunction}
 use Rattle.pungi_code.specs.WellFormed.{IsWellFormed, AgreeOnKinds}
 use Rattle.pungi_layout.specs.Sizes.{stmt_size}
 use Rattle.pungi_layout.specs.Sound.{stmt_nodes}

@@ -17,7 +17,7 @@ use Rattle.pungi_api.specs.declared.row.Row.{Row}
 use Rattle.pungi_api.specs.declared.special.Special.{Special}
 use Rattle.pungi_api.specs.declared.special.Special.TheVariants as special
 use Rattle.pungi_types.specs.declared.kind.ValueKind.{ValueKind}
-use Rattle.pungi_types.specs.Resolved as expr
+use Rattle.pungi_resolved.specs.Values as expr
 
 abbrev pub is_minus : Kind → Bool
 is_minus (tokens.Punct puncts.Minus) = true

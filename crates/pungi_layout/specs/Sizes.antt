@@ -12,8 +12,9 @@
 --   switch_size a                  a `switch`, behind its value
 use Rattle.std.specs.Prelude.{ℕ, ◌+◌, ◌*◌, Bool, List, [], ◌∷◌, length, Option, Some, None, if◌then◌else◌}
 use Rattle.pungi_types.specs.declared.kind.ValueKind.{ValueKind}
-use Rattle.pungi_types.specs.Resolved as expr
-use Rattle.pungi_types.specs.ResolvedStmts as stmt
+use Rattle.pungi_resolved.specs.Values as expr
+use Rattle.pungi_types.specs.Operators.{is_same_kind}
+use Rattle.pungi_resolved.specs.Actions as stmt
 use Rattle.pungi_meaning.specs.Values.{wide}
 use Rattle.pungi_meaning.specs.Todo.{listed}
 use Rattle.pungi_meaning.specs.Stmts.{block_cases}
@@ -21,7 +22,7 @@ use Rattle.pungi_meaning.specs.Work.{declared}
 use Rattle.pungi_layout.specs.Parts.{is_minus}
 
 abbrev pub fit_size : ValueKind → ValueKind → ℕ
-fit_size to from = if expr.is_same_kind (Some to) (Some from) then 0 else 1
+fit_size to from = if is_same_kind (Some to) (Some from) then 0 else 1
 
 abbrev pub store_size : ℕ
 store_size = 2

@@ -14,8 +14,9 @@ use Rattle.std.specs.Prelude.{ℕ, ◌+◌, ◌*◌, ℤ, Bool, true, false, Lis
 use Rattle.pungi_base.specs.declared.pos.Pos.{Pos}
 use Rattle.pungi_types.specs.declared.kind.ValueKind.{ValueKind}
 use Rattle.pungi_types.specs.Operators.{is_void}
-use Rattle.pungi_types.specs.Resolved as expr
-use Rattle.pungi_types.specs.ResolvedStmts as stmt
+use Rattle.pungi_resolved.specs.Values as expr
+use Rattle.pungi_resolved.specs.Actions as stmt
+use Rattle.pungi_resolved.specs.Functions.{ResolvedFunction}
 use Rattle.pungi_meaning.specs.declared.cmp.Cmp.TheVariants as cmps
 use Rattle.pungi_meaning.specs.Run.{closing}
 use Rattle.pungi_meaning.specs.Stmts.{block_cases}
@@ -104,5 +105,5 @@ end_code p true = line p (Return None) ∷ []
 end_code p false = line p Fall ∷ []
 
 -- a `break` or `goto` with nowhere to go leads to the end, as it leaves nothing in the meaning
-abbrev pub body_code : stmt.ResolvedFunction → List Line
+abbrev pub body_code : ResolvedFunction → List Line
 body_code f = stmt_code f.locals (everywhere (stmt_size f.body)) 0 f.body ++ end_code (closing f.body) (is_void f.result)

@@ -3,8 +3,8 @@
 --   is_free_option o, are_free_locals rs      one that may be missing, declared locals
 --   has_no_call a, have_no_call as            statements
 use Rattle.std.specs.Prelude.{Bool, true, false, ◌&&◌, List, [], ◌∷◌, Option, Some, None}
-use Rattle.pungi_types.specs.Resolved as expr
-use Rattle.pungi_types.specs.ResolvedStmts as stmt
+use Rattle.pungi_resolved.specs.Values as expr
+use Rattle.pungi_resolved.specs.Actions as stmt
 
 abbrev mutual
   pub calls_none : expr.Value → Bool

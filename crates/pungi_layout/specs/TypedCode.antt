@@ -2,7 +2,7 @@
 --   code_of f            its instructions, what its variables hold, and its heads
 --   HasLocals f          its locals are its parameters and what it declares
 use Rattle.std.specs.Prelude.{◌≡◌, ◌+◌, length}
-use Rattle.pungi_types.specs.ResolvedStmts.{ResolvedFunction}
+use Rattle.pungi_resolved.specs.Functions.{ResolvedFunction}
 use Rattle.pungi_code.specs.declared.code.Code.{Code}
 use Rattle.pungi_layout.specs.Heads.{heads_of}
 use Rattle.pungi_layout.specs.StmtCode.{body_code}

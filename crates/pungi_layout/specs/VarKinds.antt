@@ -8,7 +8,8 @@ use Rattle.pungi_api.specs.declared.param.Param.{Param}
 use Rattle.pungi_api.specs.declared.param.Param.TheVariants as param
 use Rattle.pungi_types.specs.declared.kind.ValueKind.{ValueKind}
 use Rattle.pungi_types.specs.declared.kind.ValueKind.TheVariants as kinds
-use Rattle.pungi_types.specs.ResolvedStmts as stmt
+use Rattle.pungi_resolved.specs.Actions as stmt
+use Rattle.pungi_resolved.specs.Functions.{ResolvedFunction}
 use Rattle.pungi_layout.specs.Sound.{stmt_nodes}
 
 -- no local is of the last kinds
@@ -49,5 +50,5 @@ abbrev pub temp_kinds : ℕ → List Param
 temp_kinds zero = []
 temp_kinds (suc n) = param.Int ∷ param.Long ∷ param.Size ∷ param.TextOrNull ∷ param.ObjectOrNull ∷ temp_kinds n
 
-abbrev pub var_kinds : stmt.ResolvedFunction → List Param
+abbrev pub var_kinds : ResolvedFunction → List Param
 var_kinds f = map held_kind f.params ++ (map kind_held (stmt_reached f.body) ++ temp_kinds (stmt_nodes f.body))

@@ -8,8 +8,8 @@
 --   switch_weight a           a `switch` behind its value
 --   item_weight t, weight k   what remains
 use Rattle.std.specs.Prelude.{ℕ, ◌+◌, List, [], ◌∷◌, drop, Option, Some, None}
-use Rattle.pungi_types.specs.Resolved as expr
-use Rattle.pungi_types.specs.ResolvedStmts as stmt
+use Rattle.pungi_resolved.specs.Values as expr
+use Rattle.pungi_resolved.specs.Actions as stmt
 use Rattle.pungi_meaning.specs.Todo.{Loop, Todo, ToEval, ToRight, ToPick, ToArgs, ToExec, ToReach, ToChoose, ToRest, ToTest, ToTurn, ToAgain, ToSwitch, listed}
 
 abbrev mutual

@@ -20,9 +20,10 @@ use Rattle.pungi_types.specs.declared.local.Local.{Local}
 use Rattle.pungi_types.specs.declared.lookup.Want.{Want}
 use Rattle.pungi_types.specs.Files.{Definition, definitions, definition_in}
 use Rattle.pungi_types.specs.Names.{Env, local_in, global_kind, is_plain_static}
-use Rattle.pungi_types.specs.Operators.{prefix_of, is_integer, is_void, fits}
+use Rattle.pungi_types.specs.Operators.{prefix_of, is_integer, is_void, fits, is_same_kind}
 use Rattle.pungi_types.specs.Exprs.{kind_of, cast_kind, names_type_object, names_module, is_address, is_module_address, Callee, a_value, a_row, no_function, callee, local_called_or, defined_or, row_or, param_want, row_wants, row_kind, wants_module, first_met}
-use Rattle.pungi_types.specs.Resolved.{Value, Values, called_row, converted, cast_of, dropped, convert, convert_some, is_same_kind, cast_value, static_behind, module_behind, resolve, want_kind, expr_pos}
+use Rattle.pungi_resolve.specs.Exprs.{convert, convert_some, cast_value, static_behind, module_behind, resolve, want_kind, expr_pos}
+use Rattle.pungi_resolved.specs.Values.{Value, Values, called_row, converted, cast_of, dropped}
 use Rattle.pungi_code.specs.WellFormed.{form_params, wanted_params}
 use Rattle.pungi_resolve.proofs.Clean.{and_right}
 use Rattle.pungi_layout.specs.Temporaries.{form_column, value_column}

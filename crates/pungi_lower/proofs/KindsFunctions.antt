@@ -13,7 +13,9 @@ use Rattle.pungi_types.specs.Names.{Env, local_in}
 use Rattle.pungi_types.specs.Exprs.{param_kind}
 use Rattle.pungi_types.specs.Functions.{first_frame, after_param, after_params, params_frame, name_findings, param_findings, params_findings, dots_findings, body_findings, result_findings, params_count, body_locals}
 use Rattle.pungi_types.specs.Labels.{label_findings, param_count}
-use Rattle.pungi_types.specs.ResolvedStmts.{Site, Reached, with_params, params_site, params_kinds, param_kinds, body_action, first_site, resolved_in}
+use Rattle.pungi_resolve.specs.Functions.{params_kinds, param_kinds, first_site, resolved_in}
+use Rattle.pungi_resolve.specs.Stmts.{Site, with_params, params_site, body_action}
+use Rattle.pungi_resolved.specs.Actions.{Reached}
 use Rattle.pungi_types.specs.Stmts.{Frame, spec_pos, has_file_storage, declared_n1, in_block}
 use Rattle.pungi_code.specs.WellFormed.{IsWellFormed}
 use Rattle.pungi_resolve.specs.Passed.{IsPassed}

@@ -13,8 +13,10 @@ use Rattle.pungi_types.specs.Names.{Env, local_in}
 use Rattle.pungi_types.specs.Operators.{is_void, fits}
 use Rattle.pungi_types.specs.Exprs.{kind_of, expr_findings}
 use Rattle.pungi_types.specs.Labels.{stmt_locals, stmts_locals, start_locals}
-use Rattle.pungi_types.specs.Resolved.{Value, resolve, convert}
-use Rattle.pungi_types.specs.ResolvedStmts.{Site, Reached, with_var, with_start, past, after, initial, reached, start_reached, action, actions}
+use Rattle.pungi_resolve.specs.Exprs.{resolve, convert}
+use Rattle.pungi_resolved.specs.Values.{Value}
+use Rattle.pungi_resolve.specs.Stmts.{Site, with_var, with_start, past, after, initial, reached, start_reached, action, actions}
+use Rattle.pungi_resolved.specs.Actions.{Reached}
 use Rattle.pungi_types.specs.Stmts.{Frame, with_local, spec_pos, has_file_storage, declared_n1, declared_n8, is_wrong_initial, initial_findings, after_var, after_vars, var_findings, vars_findings}
 use Rattle.pungi_meaning.specs.Values.{slot_kind}
 use Rattle.pungi_resolve.proofs.Clean.{Clean, left, right, not_when, is_there, or_left, and_left, and_right}

@@ -9,9 +9,10 @@ use Rattle.pungi_tree.specs.Syntax.{Item}
 use Rattle.pungi_api.specs.declared.param.Param.{Param}
 use Rattle.pungi_types.specs.declared.kind.ValueKind.{ValueKind}
 use Rattle.pungi_types.specs.declared.kind.ValueKind.TheVariants as kinds
-use Rattle.pungi_types.specs.Operators.{is_int, is_integer, is_pointer, is_void, is_bits, is_arithmetic, is_order, is_equality, is_bits_assign, is_arithmetic_assign, wider, fits, comparable, joinable, joined, both_known, has_same}
+use Rattle.pungi_types.specs.Operators.{is_int, is_integer, is_pointer, is_void, is_bits, is_arithmetic, is_order, is_equality, is_bits_assign, is_arithmetic_assign, wider, fits, comparable, joinable, joined, both_known, has_same, is_same_kind}
 use Rattle.pungi_types.specs.Exprs.{binary_kind, assign_kind, cond_kind, step_kind}
-use Rattle.pungi_types.specs.Resolved.{Value, Place, computed, compared, joined_by, stored, updated, chosen, cast_of, signed, stepped, negated, convert, is_same_kind, binary_value, assign_value, or_int}
+use Rattle.pungi_resolve.specs.Exprs.{convert, binary_value, assign_value, or_int}
+use Rattle.pungi_resolved.specs.Values.{Value, Place, computed, compared, joined_by, stored, updated, chosen, cast_of, signed, stepped, negated}
 use Rattle.pungi_meaning.specs.Values.{cmp_of}
 use Rattle.pungi_code.specs.WellFormed as code
 use Rattle.pungi_resolve.proofs.Clean.{and_true, and_left, and_right}

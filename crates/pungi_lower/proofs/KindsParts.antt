@@ -6,8 +6,9 @@ use Rattle.pungi_tree.specs.Syntax.{Item}
 use Rattle.pungi_api.specs.declared.param.Param.{Param}
 use Rattle.pungi_types.specs.declared.kind.ValueKind.{ValueKind}
 use Rattle.pungi_types.specs.declared.kind.ValueKind.TheVariants as kinds
-use Rattle.pungi_types.specs.Operators.{is_integer, fits}
-use Rattle.pungi_types.specs.Resolved.{Value, converted, convert, convert_some, is_same_kind}
+use Rattle.pungi_types.specs.Operators.{is_integer, fits, is_same_kind}
+use Rattle.pungi_resolve.specs.Exprs.{convert, convert_some}
+use Rattle.pungi_resolved.specs.Values.{Value, converted}
 use Rattle.pungi_meaning.specs.Values.{slot_kind}
 use Rattle.pungi_layout.specs.Temporaries.{column, value_column}
 use Rattle.pungi_layout.specs.Typed.{is_counted, is_kept, is_null, IsNumber, IsText, IsObject, GoesIn, IsTyped}

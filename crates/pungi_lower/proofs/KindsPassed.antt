@@ -17,7 +17,8 @@ use Rattle.pungi_types.specs.Kinds.{type_name_kind}
 use Rattle.pungi_types.specs.Findings.{Findings, nothing_found, ◌and◌}
 use Rattle.pungi_types.specs.Operators.{prefix_of, is_integer, is_bits_assign, is_arithmetic_assign}
 use Rattle.pungi_types.specs.Exprs.{Callee, no_word, a_value, defined, a_row, no_function, kind_of, is_place, is_address, names_type_object, is_module_address, callee, param_want, wants, wants_module, first_met, are_met, is_word, operand, result_kind, unary_kind, assign_kind, used, expr_findings, args_findings}
-use Rattle.pungi_types.specs.Resolved.{Value, Values, inner, post_kind, resolve, place_of, resolve_all, call_value, callee_name, unary_value, convert, want_kind, expr_pos, module_behind}
+use Rattle.pungi_resolve.specs.Exprs.{post_kind, resolve, place_of, resolve_all, call_value, callee_name, unary_value, convert, want_kind, expr_pos, module_behind}
+use Rattle.pungi_resolved.specs.Values.{Value, Values, inner}
 use Rattle.pungi_code.specs.WellFormed.{wanted_params}
 use Rattle.pungi_resolve.proofs.Clean.{Clean, left, right, not_when, not_false, and_left, and_right}
 use Rattle.pungi_resolve.proofs.Known.{HasKinds}

@@ -12,8 +12,8 @@ use Rattle.pungi_types.specs.Names.{Env}
 use Rattle.pungi_types.specs.Operators.{prefix_of, is_integer, is_void, fits}
 use Rattle.pungi_types.specs.Exprs.{kind_of, is_address, names_type_object, is_bad_int, expr_findings}
 use Rattle.pungi_types.specs.Labels.{byte, unsigned_constant, negated, is_minus, constant_of, switch_findings, stmt_locals}
-use Rattle.pungi_types.specs.Resolved.{resolve}
-use Rattle.pungi_types.specs.ResolvedStmts.{Site, with_start, after, past, start_reached, start_value, option_value, returned, case_value, action, actions}
+use Rattle.pungi_resolve.specs.Exprs.{resolve}
+use Rattle.pungi_resolve.specs.Stmts.{Site, with_start, after, past, start_reached, start_value, option_value, returned, case_value, action, actions}
 use Rattle.pungi_types.specs.Stmts.{Frame, condition_findings, option_findings, option_condition, is_wrong_return, return_findings, is_no_integer, switched_findings, inside, in_loop, in_switch, in_block, labelled, start_frame, behind, after_stmt, start_findings, stmt_findings, stmts_findings}
 use Rattle.pungi_meaning.specs.Values as range
 use Rattle.pungi_resolve.proofs.Clean.{Clean, left, right, not_when, or_right, and_true, and_left, and_right}

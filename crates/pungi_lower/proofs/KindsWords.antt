@@ -16,7 +16,8 @@ use Rattle.pungi_types.specs.Names.{Env, Meaning, a_global, a_function, a_static
 use Rattle.pungi_types.specs.Exprs.{is_slot, meaning_kind, int_kind, is_bad_int}
 use Rattle.pungi_types.specs.Labels.{byte}
 use Rattle.pungi_types.specs.Operators.{struct_part}
-use Rattle.pungi_types.specs.Resolved.{Value, local_place, field_place, constant, read, read_as, field_of, word_place, word_value, int_value}
+use Rattle.pungi_resolve.specs.Exprs.{read_as, field_of, word_place, word_value, int_value}
+use Rattle.pungi_resolved.specs.Values.{Value, local_place, field_place, constant, read}
 use Rattle.pungi_meaning.specs.Values.{fits, slot_kind}
 use Rattle.pungi_resolve.proofs.Clean.{or_right}
 use Rattle.pungi_layout.specs.Temporaries.{value_column}

@@ -15,3 +15,11 @@ pub mod KindsPassedStmts
 pub mod KindsFunctions
 pub mod TypedLaws
 pub mod Lowered
+pub mod Worked
+pub mod WorkedOperators
+pub mod WorkedStatements
+pub mod WorkedSlots
+pub mod WorkedCode
+pub mod WorkedCodeOperators
+pub mod WorkedCodeStatements
+pub mod WorkedCodeSlots

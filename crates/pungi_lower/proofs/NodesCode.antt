@@ -3,7 +3,7 @@ use Rattle.std.proofs.Common.{◌*◌, ◌≤◌, arith, length}
 use Rattle.pungi_types.specs.Files.{Definition}
 use Rattle.pungi_types.specs.Names.{Env}
 use Rattle.pungi_types.specs.Nodes as written
-use Rattle.pungi_types.specs.ResolvedStmts.{resolved_in}
+use Rattle.pungi_resolve.specs.Functions.{resolved_in}
 use Rattle.pungi_resolve.specs.Passed.{IsPassed}
 use Rattle.pungi_layout.specs.StmtCode.{body_code}
 use Rattle.pungi_layout.proofs.StmtLengths.{body-long}

@@ -14,9 +14,10 @@ use Rattle.pungi_types.specs.declared.operator.Prefix.TheVariants as prefixes
 use Rattle.pungi_types.specs.Kinds.{type_name_kind}
 use Rattle.pungi_types.specs.Names.{Env, Meaning, a_local, a_global, a_function, a_static, unknown, meaning_of}
 use Rattle.pungi_types.specs.Nodes as written
-use Rattle.pungi_types.specs.Operators.{prefix_of, is_integer, is_void, is_order, is_equality, is_arithmetic, is_arithmetic_assign, struct_part, wider}
+use Rattle.pungi_types.specs.Operators.{prefix_of, is_integer, is_void, is_order, is_equality, is_arithmetic, is_arithmetic_assign, struct_part, wider, is_same_kind}
 use Rattle.pungi_types.specs.Exprs.{Callee, no_word, a_value, defined, a_row, no_function, callee, int_kind, kind_of, is_module_address, wants, wants_module, other_wants}
-use Rattle.pungi_types.specs.Resolved.{Value, Values, Place, computed, compared, joined_by, updated, stored, dropped, cast_of, resolve, place_of, resolve_all, convert, convert_some, is_same_kind, cast_value, read_as, field_of, word_place, word_value, int_value, or_int, binary_value, assign_value, call_value, callee_name, static_behind, module_behind, unary_value, want_kind, expr_pos}
+use Rattle.pungi_resolve.specs.Exprs.{resolve, place_of, resolve_all, convert, convert_some, cast_value, read_as, field_of, word_place, word_value, int_value, or_int, binary_value, assign_value, call_value, callee_name, static_behind, module_behind, unary_value, want_kind, expr_pos}
+use Rattle.pungi_resolved.specs.Values.{Value, Values, Place, computed, compared, joined_by, updated, stored, dropped, cast_of}
 use Rattle.pungi_meaning.specs.Values.{wide}
 use Rattle.pungi_layout.specs.Parts.{is_minus}
 use Rattle.pungi_layout.specs.Sizes.{expr_size, place_size, values_size, fit_size, store_size}

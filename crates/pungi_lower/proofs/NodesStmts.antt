@@ -8,8 +8,10 @@ use Rattle.pungi_types.specs.Kinds.{declared_kind}
 use Rattle.pungi_types.specs.Names.{Env}
 use Rattle.pungi_types.specs.Nodes as written
 use Rattle.pungi_types.specs.Exprs.{kind_of}
-use Rattle.pungi_types.specs.Resolved.{Value, resolve}
-use Rattle.pungi_types.specs.ResolvedStmts.{Site, Reached, Action, Actions, block_of, switch_on, with_var, with_start, past, after, initial, reached, start_reached, start_value, option_value, returned, action, actions}
+use Rattle.pungi_resolve.specs.Exprs.{resolve}
+use Rattle.pungi_resolved.specs.Values.{Value}
+use Rattle.pungi_resolve.specs.Stmts.{Site, with_var, with_start, past, after, initial, reached, start_reached, start_value, option_value, returned, action, actions}
+use Rattle.pungi_resolved.specs.Actions.{Reached, Action, Actions, block_of, switch_on}
 use Rattle.pungi_meaning.specs.Todo.{listed}
 use Rattle.pungi_meaning.specs.Stmts.{cases_of, block_cases}
 use Rattle.pungi_meaning.specs.Work.{declared, declared_by}

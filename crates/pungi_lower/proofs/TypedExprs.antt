@@ -11,7 +11,7 @@ use Rattle.pungi_types.specs.Findings.{Findings, nothing_found, ◌and◌}
 use Rattle.pungi_types.specs.Operators.{prefix_of, is_bits, is_bits_assign, is_arithmetic_assign, is_void, struct_part}
 use Rattle.pungi_types.specs.declared.operator.Prefix.TheVariants as prefixes
 use Rattle.pungi_types.specs.Exprs.{kind_of, is_place, is_address, names_type_object, is_module_address, callee, wants, wants_module, other_wants, first_met, are_met, is_word, operand, int_kind, unary_wrong, binary_wrong, assign_wrong, cond_wrong, result_kind, used, expr_findings, args_findings}
-use Rattle.pungi_types.specs.Resolved.{resolve, place_of, resolve_all, int_value, callee_name}
+use Rattle.pungi_resolve.specs.Exprs.{resolve, place_of, resolve_all, int_value, callee_name}
 use Rattle.pungi_layout.specs.Sound.{AreSound}
 use Rattle.pungi_resolve.proofs.Clean.{Clean, left, right, not_when, not_false, is_there, or_left, or_right, and_left, and_right}
 use Rattle.pungi_resolve.proofs.Known.{HasKinds, place-not_void}

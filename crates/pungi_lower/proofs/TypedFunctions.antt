@@ -12,7 +12,10 @@ use Rattle.pungi_types.specs.Nodes as written
 use Rattle.pungi_types.specs.Exprs.{param_kind}
 use Rattle.pungi_types.specs.Functions.{first_frame, after_param, after_params, params_frame, params_findings, dots_findings, body_findings, result_findings, text_findings, size_findings, or_sizes, refusal_in, params_count, body_locals}
 use Rattle.pungi_types.specs.Labels.{label_findings, param_count}
-use Rattle.pungi_types.specs.ResolvedStmts.{Site, Action, ResolvedFunction, params_site, params_kinds, param_kinds, body_action, first_site, resolved_in}
+use Rattle.pungi_resolve.specs.Functions.{params_kinds, param_kinds, first_site, resolved_in}
+use Rattle.pungi_resolve.specs.Stmts.{Site, params_site, body_action}
+use Rattle.pungi_resolved.specs.Actions.{Action}
+use Rattle.pungi_resolved.specs.Functions.{ResolvedFunction}
 use Rattle.pungi_types.specs.Stmts.{Frame, in_block}
 use Rattle.pungi_resolve.specs.Passed.{IsPassed}
 use Rattle.pungi_resolve.proofs.Clean.{Clean, clean, left, right, not_when}

@@ -5,7 +5,8 @@ use Rattle.pungi_tree.specs.Syntax.{Item}
 use Rattle.pungi_types.specs.Files.{Definition}
 use Rattle.pungi_types.specs.Names.{Env}
 use Rattle.pungi_types.specs.Nodes.{function_nodes}
-use Rattle.pungi_types.specs.ResolvedStmts.{ResolvedFunction, resolved_in}
+use Rattle.pungi_resolve.specs.Functions.{resolved_in}
+use Rattle.pungi_resolved.specs.Functions.{ResolvedFunction}
 use Rattle.pungi_code.specs.WellFormed.{IsWellFormed, AgreeOnKinds}
 use Rattle.pungi_layout.specs.Sound.{IsStmtSound, stmt_nodes}
 use Rattle.pungi_layout.specs.StmtCode.{body_code}

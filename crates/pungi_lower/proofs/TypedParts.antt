@@ -20,9 +20,10 @@ use Rattle.pungi_types.specs.declared.operator.Prefix.{Prefix}
 use Rattle.pungi_types.specs.declared.operator.Prefix.TheVariants as prefixes
 use Rattle.pungi_types.specs.Names.{Env, Meaning, a_local, a_global, a_function, a_static, unknown, local_in, local_or, global_or, global_kind, is_function, is_plain_static, is_among, type_objects, static_number}
 use Rattle.pungi_types.specs.Kinds.{field_kind}
-use Rattle.pungi_types.specs.Operators.{is_arithmetic, is_order, is_equality, is_arithmetic_assign, is_integer, is_pointer, is_void, is_object, is_text, fits, wider}
+use Rattle.pungi_types.specs.Operators.{is_arithmetic, is_order, is_equality, is_arithmetic_assign, is_integer, is_pointer, is_void, is_object, is_text, fits, wider, is_same_kind}
 use Rattle.pungi_types.specs.Exprs.{kind_of, is_place, is_slot, is_address, is_step_or_sign, names_type_object, is_module_address, Callee, no_word, a_value, defined, a_row, no_function, wants_module, first_met, unary_wrong, cast_wrong, cast_kind, row_kind, result_kind, meaning_kind}
-use Rattle.pungi_types.specs.Resolved.{Value, Values, Place, computed, compared, joined_by, updated, stored, dropped, cast_of, resolve, place_of, convert, convert_some, is_same_kind, cast_value, read_as, field_of, word_place, word_value, or_int, binary_value, assign_value, call_value, static_behind, module_behind, unary_value, want_kind, expr_pos}
+use Rattle.pungi_resolve.specs.Exprs.{resolve, place_of, convert, convert_some, cast_value, read_as, field_of, word_place, word_value, or_int, binary_value, assign_value, call_value, static_behind, module_behind, unary_value, want_kind, expr_pos}
+use Rattle.pungi_resolved.specs.Values.{Value, Values, Place, computed, compared, joined_by, updated, stored, dropped, cast_of}
 use Rattle.pungi_resolve.proofs.Clean.{or_left, or_right}
 use Rattle.pungi_resolve.proofs.OperatorKinds.{step-kept}
 use Rattle.pungi_resolve.proofs.SoundExprs.{Good}

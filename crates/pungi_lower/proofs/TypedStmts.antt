@@ -13,8 +13,8 @@ use Rattle.pungi_types.specs.Names.{Env, local_in}
 use Rattle.pungi_types.specs.Operators.{is_void, is_integer, fits}
 use Rattle.pungi_types.specs.Exprs.{kind_of, expr_findings}
 use Rattle.pungi_types.specs.Labels.{switch_findings, stmt_locals, stmts_locals, start_locals}
-use Rattle.pungi_types.specs.Resolved.{resolve}
-use Rattle.pungi_types.specs.ResolvedStmts.{Site, with_start, initial, reached, start_reached, start_value, option_value, returned, action, actions}
+use Rattle.pungi_resolve.specs.Exprs.{resolve}
+use Rattle.pungi_resolve.specs.Stmts.{Site, with_start, initial, reached, start_reached, start_value, option_value, returned, action, actions}
 use Rattle.pungi_types.specs.Stmts.{Frame, with_local, spec_pos, has_file_storage, declared_n1, declared_n8, is_wrong_initial, initial_findings, after_var, after_vars, var_findings, vars_findings, condition_findings, option_findings, option_condition, is_wrong_return, return_findings, is_no_integer, switched_findings, inside, in_loop, in_switch, in_block, labelled, start_frame, behind, after_stmt, start_findings, stmt_findings, stmts_findings}
 use Rattle.pungi_resolve.proofs.Clean.{Clean, left, right, not_when, or_left}
 use Rattle.pungi_resolve.proofs.Known.{HasKinds, one_more, declared-not_void}

@@ -10,7 +10,8 @@ use Rattle.pungi_base.specs.declared.names.Name.{Name}
 use Rattle.pungi_types.specs.Files.{Definition, definitions}
 use Rattle.pungi_types.specs.Functions.{file_env, refusal}
 use Rattle.pungi_types.specs.Nodes.{function_nodes}
-use Rattle.pungi_types.specs.ResolvedStmts.{ResolvedFunction, resolved}
+use Rattle.pungi_resolve.specs.Functions.{resolved}
+use Rattle.pungi_resolved.specs.Functions.{ResolvedFunction}
 use Rattle.pungi_check.specs.CheckedFile.{CheckedFile}
 use Rattle.pungi_resolve.specs.Passed.{IsPassed}
 use Rattle.pungi_resolve.specs.Resolutions.{resolution_of}

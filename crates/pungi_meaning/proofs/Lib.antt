@@ -1,7 +1,3 @@
-pub mod Worked
-pub mod WorkedOperators
-pub mod WorkedStatements
-pub mod WorkedSlots
 pub mod ListLemmas
 pub mod RunLemmas
 pub mod LocalLemmas

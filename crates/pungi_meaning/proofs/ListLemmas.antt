@@ -1,8 +1,8 @@
 -- Lists of nodes and back, and lists that grow.
 use Rattle.std.proofs.Common.{◌≡◌, ℕ, suc, ◌+◌, ◌-◌, ◌<◌, List, [], ◌∷◌, ◌++◌, replicate, map, slice_get, option_map, refl, ap, ◌∙◌, append_assoc, arith}
 use Rattle.std.proofs.lemmas.Option.{slice_get-map}
-use Rattle.pungi_types.specs.Resolved as expr
-use Rattle.pungi_types.specs.ResolvedStmts as stmt
+use Rattle.pungi_resolved.specs.Values as expr
+use Rattle.pungi_resolved.specs.Actions as stmt
 use Rattle.pungi_resolved.specs.ValueView.{values_of}
 use Rattle.pungi_resolved.specs.ActionView.{actions_of}
 use Rattle.pungi_meaning.specs.Todo.{listed, listed_values}

@@ -3,7 +3,7 @@ use Rattle.std.proofs.Common.{◌≡◌, ◌≢◌, ℕ, suc, ◌+◌, ◌-◌, 
 use Rattle.std.proofs.lemmas.List.{drop_all}
 use Rattle.std.proofs.Math.Seq.{drop-cons}
 use Rattle.pungi_base.specs.declared.value.Value.{Value}
-use Rattle.pungi_types.specs.ResolvedStmts.{Reached}
+use Rattle.pungi_resolved.specs.Actions.{Reached}
 use Rattle.pungi_types.specs.declared.kind.ValueKind.{ValueKind}
 use Rattle.pungi_resolved.specs.ActionView.{action_view}
 use Rattle.pungi_resolved.specs.declared.action.Action.{Action}

@@ -28,7 +28,8 @@ use Rattle.pungi_base.specs.declared.value.Value.{Value}
 use Rattle.pungi_base.specs.declared.value.Value.TheVariants as value
 use Rattle.pungi_api.specs.declared.row.Row.{Row}
 use Rattle.pungi_types.specs.declared.kind.ValueKind.{ValueKind}
-use Rattle.pungi_types.specs.Resolved as expr
+use Rattle.pungi_resolved.specs.Values as expr
+use Rattle.pungi_types.specs.Operators.{is_same_kind}
 use Rattle.pungi_world.specs.declared.content.Content.{Content}
 use Rattle.pungi_world.specs.declared.content.Content.TheVariants.{Unset, Holds}
 use Rattle.pungi_world.specs.declared.effect.Effect.{Effect}
@@ -94,7 +95,7 @@ store choices kind expr.no_place k s = left k s
 -- ---- operators
 
 abbrev pub converting : Pos → ValueKind → ValueKind → List Todo → List Todo
-converting p to from k = if expr.is_same_kind (Some to) (Some from) then k else ToFit p to ∷ k
+converting p to from k = if is_same_kind (Some to) (Some from) then k else ToFit p to ∷ k
 
 abbrev pub signing : Pos → Kind → ValueKind → List Todo → List Todo
 signing p (tokens.Punct puncts.Minus) kind k = ToMinus p kind ∷ k

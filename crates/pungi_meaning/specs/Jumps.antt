@@ -9,8 +9,8 @@
 --   after_continue k        what remains from the next turn of the innermost loop on
 -- All of them end at the end of the function.
 use Rattle.std.specs.Prelude.{ℕ, ◌+◌, ◌==◌, List, [], ◌∷◌, Option, Some, None, if◌then◌else◌}
-use Rattle.pungi_types.specs.Resolved as expr
-use Rattle.pungi_types.specs.ResolvedStmts as stmt
+use Rattle.pungi_resolved.specs.Values as expr
+use Rattle.pungi_resolved.specs.Actions as stmt
 use Rattle.pungi_base.specs.declared.names.Name.{Name}
 use Rattle.pungi_meaning.specs.Todo.{Loop, Todo, ToExec, ToRest, ToJoin, ToAgain, ToSwitchEnd, ToEnd}
 use Rattle.pungi_meaning.specs.Work.{or_else}

@@ -14,7 +14,8 @@ use Rattle.pungi_base.specs.declared.choice.Choice.{Choice}
 use Rattle.pungi_base.specs.declared.entry.Entry.{Entry}
 use Rattle.pungi_base.specs.declared.pos.Pos.{Pos}
 use Rattle.pungi_base.specs.declared.value.Value.{Value}
-use Rattle.pungi_types.specs.ResolvedStmts as stmt
+use Rattle.pungi_resolved.specs.Actions as stmt
+use Rattle.pungi_resolved.specs.Functions.{ResolvedFunction}
 use Rattle.pungi_types.specs.Operators.{is_void}
 use Rattle.pungi_world.specs.declared.content.Content.TheVariants.{Unset, Holds}
 use Rattle.pungi_world.specs.declared.world.World.{World}
@@ -100,7 +101,7 @@ abbrev pub closing : stmt.Action → Pos
 closing (stmt.block_of p ss q) = q
 closing a = nowhere
 
-abbrev pub start : stmt.ResolvedFunction → Entry → State
+abbrev pub start : ResolvedFunction → Entry → State
 start f entry = record {
   world = world_at entry;
   used = [];
@@ -108,8 +109,8 @@ start f entry = record {
   values = [];
 }
 
-abbrev pub body_of : stmt.ResolvedFunction → List Todo
+abbrev pub body_of : ResolvedFunction → List Todo
 body_of f = ToExec f.body ∷ ToEnd (closing f.body) (is_void f.result) ∷ []
 
-abbrev pub run_of : stmt.ResolvedFunction → Entry → List Choice → ℕ → Run
+abbrev pub run_of : ResolvedFunction → Entry → List Choice → ℕ → Run
 run_of f entry choices fuel = run_from choices fuel (body_of f) (start f entry)

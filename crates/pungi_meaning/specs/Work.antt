@@ -19,7 +19,7 @@ use Rattle.pungi_base.specs.declared.value.Value.{Value}
 use Rattle.pungi_base.specs.declared.value.Value.TheVariants as value
 use Rattle.pungi_api.specs.declared.row.Row.{Row}
 use Rattle.pungi_api.specs.declared.shape.Shape.{Shape}
-use Rattle.pungi_types.specs.ResolvedStmts.{Reached, Action, reach}
+use Rattle.pungi_resolved.specs.Actions.{Reached, Action, reach}
 use Rattle.pungi_world.specs.declared.content.Content.{Content}
 use Rattle.pungi_world.specs.declared.content.Content.TheVariants.{Unset}
 use Rattle.pungi_world.specs.declared.effect.Effect.{Effect}

@@ -1,7 +1,7 @@
 // Expressions.
 ghost use Rattle.std.specs.Prelude.{◌≡◌, ◌∷◌, IfOk, OnOk, None, Some, map};
 ghost use Rattle.pungi_resolved.specs.ValueView.{value_view, values_of, place_view};
-ghost use Rattle.pungi_types.specs.Resolved.{is_same_kind as is_one_kind};
+ghost use Rattle.pungi_types.specs.Operators.{is_same_kind as is_one_kind};
 ghost use Rattle.pungi_meaning.specs.Todo.{ToArgs, ToCompute, ToEval, ToOld, ToStore, listed_values};
 ghost use Rattle.pungi_meaning.specs.Machine.{todo_of, todos, state_of, Tells};
 ghost use Rattle.pungi_meaning.specs.Work.{given};

@@ -1,8 +1,8 @@
 -- Lists of values and of actions that begin with others.
 use Rattle.std.proofs.Common.{◌≡◌, ◌∙◌, ℕ, ◌<◌, ◌+◌, List, [], ◌∷◌, ◌++◌, length, get_or, drop, map, refl, sym, ap}
 use Rattle.std.proofs.lemmas.List.{at_drop_more}
-use Rattle.pungi_types.specs.Resolved.{Value, Values, no_values, value_and}
-use Rattle.pungi_types.specs.ResolvedStmts.{Action, Actions, no_actions, action_and}
+use Rattle.pungi_resolved.specs.Values.{Value, Values, no_values, value_and}
+use Rattle.pungi_resolved.specs.Actions.{Action, Actions, no_actions, action_and}
 use Rattle.pungi_resolved.specs.ValueView.{values_of}
 use Rattle.pungi_resolved.specs.ActionView.{actions_of}
 

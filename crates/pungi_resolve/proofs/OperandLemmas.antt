@@ -14,8 +14,9 @@ use Rattle.pungi_tree.specs.declared.declr.Tail.TheFolds.{fold_out-Expr, fold_ou
 use Rattle.pungi_types.specs.Names.{Env}
 use Rattle.pungi_types.specs.Kinds.{type_name_kind}
 use Rattle.pungi_types.specs.Exprs.{kind_of, is_module_address, wants_module}
-use Rattle.pungi_types.specs.Resolved.{Value, resolve, place_of, convert, expr_pos, want_kind}
-use Rattle.pungi_types.specs.Sound.{is_sound, is_sound_place}
+use Rattle.pungi_resolve.specs.Exprs.{resolve, place_of, convert, expr_pos, want_kind}
+use Rattle.pungi_resolved.specs.Values.{Value}
+use Rattle.pungi_resolve.specs.Sound.{is_sound, is_sound_place}
 use Rattle.pungi_types.specs.declared.lookup.Want.{Want}
 use Rattle.pungi_resolve.specs.Arguments.{argument_in}
 use Rattle.pungi_resolve.proofs.Clean.{and_left, and_right}

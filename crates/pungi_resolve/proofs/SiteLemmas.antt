@@ -6,7 +6,8 @@ use Rattle.pungi_types.specs.Functions.{result_kind}
 use Rattle.pungi_types.specs.Kinds.{declared_kind}
 use Rattle.pungi_types.specs.Names.{Env}
 use Rattle.pungi_types.specs.Labels.{stmt_locals, stmts_locals, start_locals}
-use Rattle.pungi_types.specs.ResolvedStmts.{Site, with_var, with_vars, with_start, after, first_site}
+use Rattle.pungi_resolve.specs.Functions.{first_site}
+use Rattle.pungi_resolve.specs.Stmts.{Site, with_var, with_vars, with_start, after}
 use Rattle.pungi_types.specs.declared.kind.ValueKind.{ValueKind}
 use Rattle.pungi_types.specs.declared.local.Local.{Local}
 use Rattle.pungi_scope.specs.ScopeEnv.{inner_env}

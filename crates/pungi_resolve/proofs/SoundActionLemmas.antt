@@ -1,7 +1,7 @@
 -- What is sound by the test has the fact for each part.
 use Rattle.std.proofs.Common.{◌≡◌, true, List, [], ◌∷◌}
-use Rattle.pungi_types.specs.ResolvedStmts.{Reached, Action, block_of, reach, evaluate, test, test_else, repeat_while, repeat_until, repeat_for, switch_on, at_case, at_default, at_label, jump, leave, next_turn, give, Actions, no_actions, action_and}
-use Rattle.pungi_types.specs.Sound.{is_sound, is_sound_option, are_sound_locals, is_sound_action, are_sound_actions}
+use Rattle.pungi_resolved.specs.Actions.{Reached, Action, block_of, reach, evaluate, test, test_else, repeat_while, repeat_until, repeat_for, switch_on, at_case, at_default, at_label, jump, leave, next_turn, give, Actions, no_actions, action_and}
+use Rattle.pungi_resolve.specs.Sound.{is_sound, is_sound_option, are_sound_locals, is_sound_action, are_sound_actions}
 use Rattle.pungi_resolve.specs.SoundActions.{AreSoundLocals, IsSoundAction, AreSoundActions}
 use Rattle.pungi_resolve.proofs.Clean.{and_left, and_right}
 

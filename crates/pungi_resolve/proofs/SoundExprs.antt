@@ -15,8 +15,8 @@ use Rattle.pungi_types.specs.Kinds.{type_name_kind, field_kind}
 use Rattle.pungi_types.specs.Findings.{Findings, nothing_found, ◌and◌}
 use Rattle.pungi_types.specs.Operators.{prefix_of, is_bits, is_arithmetic, is_order, is_equality, is_bits_assign, is_arithmetic_assign, is_pointer, struct_part}
 use Rattle.pungi_types.specs.Exprs.{kind_of, is_place, is_address, is_left_out, is_step_or_sign, names_type_object, is_module_address, callee, wants, wants_module, other_wants, are_met, is_word, unary_kind, unary_wrong, binary_wrong, assign_wrong, cond_wrong, int_kind, is_bad_int, result_kind, used, n1, n2, n3, n4, n5, n9, n10, n12, n13, n14, node_findings, expr_findings, args_findings}
-use Rattle.pungi_types.specs.Resolved.{resolve, place_of, resolve_all, unary_value, int_value, convert, want_kind, expr_pos, module_behind, callee_name}
-use Rattle.pungi_types.specs.Sound.{is_sound, are_sound, is_sound_place}
+use Rattle.pungi_resolve.specs.Exprs.{resolve, place_of, resolve_all, unary_value, int_value, convert, want_kind, expr_pos, module_behind, callee_name}
+use Rattle.pungi_resolve.specs.Sound.{is_sound, are_sound, is_sound_place}
 use Rattle.pungi_resolve.proofs.Clean.{Clean, left, right, not_when, not_false, is_there, and_true, and_right}
 use Rattle.pungi_resolve.proofs.Known.{HasKinds, answers, place-not_void}
 use Rattle.pungi_resolve.proofs.OperatorKinds.{step-kept, sign-kept, negation-kept, binary-kept, assign-kept, cond-kept, cast-kept}

@@ -16,8 +16,9 @@ use Rattle.pungi_types.specs.Operators.{is_void}
 use Rattle.pungi_types.specs.Exprs.{param_kind, defined_or, row_or, a_value, no_function}
 use Rattle.pungi_types.specs.Functions.{file_env, result_kind, first_frame, after_param, after_params, params_frame, name_findings, param_findings, params_findings, dots_findings, body_findings, result_findings, parts_findings, text_findings, or_sizes, refusal_in, refusal}
 use Rattle.pungi_types.specs.Labels.{label_findings}
-use Rattle.pungi_types.specs.ResolvedStmts.{Site, with_param, with_params, params_site, body_action, resolved_in}
-use Rattle.pungi_types.specs.Sound.{is_sound_action}
+use Rattle.pungi_resolve.specs.Functions.{resolved_in}
+use Rattle.pungi_resolve.specs.Stmts.{Site, with_param, with_params, params_site, body_action}
+use Rattle.pungi_resolve.specs.Sound.{is_sound_action}
 use Rattle.pungi_types.specs.Stmts.{Frame, spec_pos, has_file_storage, declared_n1, in_block}
 use Rattle.pungi_resolve.specs.Passed.{IsPassed}
 use Rattle.pungi_resolve.proofs.Clean.{Clean, clean, left, right, not_when, is_there, or_left}

@@ -14,10 +14,11 @@ use Rattle.pungi_types.specs.declared.local.Local.{Local}
 use Rattle.pungi_types.specs.Files.{Definition, definitions, definition_in}
 use Rattle.pungi_types.specs.Kinds.{field_kind}
 use Rattle.pungi_types.specs.Names.{Env, Meaning, a_local, a_global, a_function, a_static, unknown, local_in, local_or, global_or, global_kind, is_function, is_plain_static, is_among, type_objects, static_number}
-use Rattle.pungi_types.specs.Operators.{prefix_of, is_integer, is_void, is_order, is_equality, is_arithmetic, is_arithmetic_assign, struct_part, wider}
+use Rattle.pungi_types.specs.Operators.{prefix_of, is_integer, is_void, is_order, is_equality, is_arithmetic, is_arithmetic_assign, struct_part, wider, is_same_kind}
 use Rattle.pungi_types.specs.Exprs.{Callee, no_word, a_value, defined, a_row, no_function, callee, local_called_or, defined_or, row_or, is_refused, result_kind, is_unknown_call, is_value_called, takes_arguments, is_function_meaning, is_unknown, is_slot, meaning_kind, is_word, is_address, names_type_object, names_module, is_module_address}
-use Rattle.pungi_types.specs.Resolved.{Value, Values, Place, computed, compared, joined_by, updated, stored, convert, convert_some, is_same_kind, cast_value, dropped, cast_of, read_as, field_of, word_place, word_value, or_int, binary_value, assign_value, call_value, static_behind, module_behind}
-use Rattle.pungi_types.specs.Sound.{is_sound, are_sound, is_sound_place}
+use Rattle.pungi_resolve.specs.Exprs.{convert, convert_some, cast_value, read_as, field_of, word_place, word_value, or_int, binary_value, assign_value, call_value, static_behind, module_behind}
+use Rattle.pungi_resolved.specs.Values.{Value, Values, Place, computed, compared, joined_by, updated, stored, dropped, cast_of}
+use Rattle.pungi_resolve.specs.Sound.{is_sound, are_sound, is_sound_place}
 use Rattle.pungi_resolve.proofs.Clean.{and_right}
 use Rattle.pungi_resolve.proofs.Known.{answers, is_known_local, is_value_kind}
 

@@ -11,9 +11,9 @@ use Rattle.pungi_types.specs.Names.{Env}
 use Rattle.pungi_types.specs.Operators.{is_void}
 use Rattle.pungi_types.specs.Exprs.{kind_of, expr_findings}
 use Rattle.pungi_types.specs.Labels.{switch_findings}
-use Rattle.pungi_types.specs.Resolved.{resolve}
-use Rattle.pungi_types.specs.ResolvedStmts.{Site, with_vars, with_start, after, initial, reached, start_reached, start_value, option_value, returned, action, actions}
-use Rattle.pungi_types.specs.Sound.{is_sound, is_sound_option, are_sound_locals, is_sound_action, are_sound_actions}
+use Rattle.pungi_resolve.specs.Exprs.{resolve}
+use Rattle.pungi_resolve.specs.Stmts.{Site, with_vars, with_start, after, initial, reached, start_reached, start_value, option_value, returned, action, actions}
+use Rattle.pungi_resolve.specs.Sound.{is_sound, is_sound_option, are_sound_locals, is_sound_action, are_sound_actions}
 use Rattle.pungi_types.specs.Stmts.{Frame, spec_pos, has_file_storage, declared_n1, declared_n8, initial_findings, after_var, after_vars, var_findings, vars_findings, condition_findings, option_findings, option_condition, return_findings, switched_findings, inside, in_loop, in_switch, in_block, labelled, start_frame, behind, after_stmt, start_findings, stmt_findings, stmts_findings}
 use Rattle.pungi_resolve.proofs.Clean.{Clean, left, right, not_when, or_left, and_true}
 use Rattle.pungi_resolve.proofs.Known.{HasKinds, one_more, is_value_kind, declared-not_void}

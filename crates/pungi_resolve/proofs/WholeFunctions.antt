@@ -9,8 +9,11 @@ use Rattle.pungi_tree.specs.declared.item.FunctionDef.{FunctionDef}
 use Rattle.pungi_types.specs.Functions.{result_kind, params_count, body_locals}
 use Rattle.pungi_types.specs.Labels.{param_count}
 use Rattle.pungi_types.specs.Names.{Env}
-use Rattle.pungi_types.specs.ResolvedStmts.{Site, Action, ResolvedFunction, body_action, first_site, with_param, with_params, params_site, params_kinds, resolved_in}
-use Rattle.pungi_types.specs.Sound.{is_sound_action}
+use Rattle.pungi_resolve.specs.Functions.{first_site, params_kinds, resolved_in}
+use Rattle.pungi_resolve.specs.Stmts.{Site, body_action, with_param, with_params, params_site}
+use Rattle.pungi_resolved.specs.Actions.{Action}
+use Rattle.pungi_resolved.specs.Functions.{ResolvedFunction}
+use Rattle.pungi_resolve.specs.Sound.{is_sound_action}
 use Rattle.pungi_types.specs.TypesView.{definition_view}
 use Rattle.pungi_types.specs.declared.kind.ValueKind.{ValueKind}
 use Rattle.pungi_types.specs.declared.local.Local.{Local}

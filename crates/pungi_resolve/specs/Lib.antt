@@ -1,3 +1,7 @@
+pub mod Exprs
+pub mod Stmts
+pub mod Functions
+pub mod Sound
 pub mod Arguments
 pub mod Nodes
 pub mod Passed

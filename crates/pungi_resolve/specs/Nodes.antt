@@ -1,6 +1,6 @@
 -- What the node of a value stands for.
 --   node_view    a node, which waits for its place
-use Rattle.pungi_types.specs.Resolved as plain
+use Rattle.pungi_resolved.specs.Values as plain
 use Rattle.pungi_resolved.specs.ValueView.{Node, place_step, node_step, value_step}
 use Rattle.pungi_resolved.specs.declared.value.ValueNode.{ValueNode, fold-ValueNode}
 

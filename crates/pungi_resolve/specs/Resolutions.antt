@@ -6,7 +6,8 @@ use Rattle.pungi_tree.specs.Syntax.{Item}
 use Rattle.pungi_api.specs.declared.row.Row.{Row}
 use Rattle.pungi_types.specs.Files.{Definition}
 use Rattle.pungi_types.specs.Functions.{refusal}
-use Rattle.pungi_types.specs.ResolvedStmts.{ResolvedFunction, resolved}
+use Rattle.pungi_resolve.specs.Functions.{resolved}
+use Rattle.pungi_resolved.specs.Functions.{ResolvedFunction}
 use Rattle.pungi_resolved.specs.ActionView.{function_view}
 use Rattle.pungi_resolved.specs.declared.function.Function.{Function}
 

@@ -8,8 +8,10 @@ use Rattle.pungi_base.specs.declared.pos.Pos.{Pos}
 use Rattle.pungi_tree.specs.Syntax.{Init, value, table, Spec, VarDecl, Stmts, no_stmts, stmt_and}
 use Rattle.pungi_types.specs.Names.{Env}
 use Rattle.pungi_types.specs.Exprs.{kind_of}
-use Rattle.pungi_types.specs.Resolved.{Value, convert, resolve}
-use Rattle.pungi_types.specs.ResolvedStmts.{Site, Reached, initial, var_pos, var_kind, after}
+use Rattle.pungi_resolve.specs.Exprs.{convert, resolve}
+use Rattle.pungi_resolved.specs.Values.{Value}
+use Rattle.pungi_resolve.specs.Stmts.{Site, initial, var_pos, var_kind, after}
+use Rattle.pungi_resolved.specs.Actions.{Reached}
 use Rattle.pungi_types.specs.declared.kind.ValueKind.{ValueKind}
 use Rattle.pungi_scope.specs.ScopeEnv.{inner_env}
 use Rattle.pungi_resolve.specs.declared.walk.Walk.{Walk}

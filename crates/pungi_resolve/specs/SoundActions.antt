@@ -2,8 +2,8 @@
 --   AreSoundLocals rs     locals as they are reached
 --   IsSoundAction a, AreSoundActions as    actions
 use Rattle.std.specs.Prelude.{◌≡◌, true, List, [], ◌∷◌}
-use Rattle.pungi_types.specs.ResolvedStmts.{Reached, Action, block_of, reach, evaluate, test, test_else, repeat_while, repeat_until, repeat_for, switch_on, at_case, at_default, at_label, jump, leave, next_turn, give, Actions, no_actions, action_and}
-use Rattle.pungi_types.specs.Sound.{is_sound, is_sound_option}
+use Rattle.pungi_resolved.specs.Actions.{Reached, Action, block_of, reach, evaluate, test, test_else, repeat_while, repeat_until, repeat_for, switch_on, at_case, at_default, at_label, jump, leave, next_turn, give, Actions, no_actions, action_and}
+use Rattle.pungi_resolve.specs.Sound.{is_sound, is_sound_option}
 
 abbrev pub AreSoundLocals : List Reached → Type 0
 AreSoundLocals [] = Unit {0}

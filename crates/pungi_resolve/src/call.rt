@@ -2,8 +2,8 @@
 ghost use Rattle.std.specs.Prelude.{◌≡◌, IfOk, map, true, false};
 ghost use Rattle.pungi_types.specs.Standing.{is_defined};
 ghost use Rattle.pungi_types.specs.Exprs.{callee, callee_of};
-ghost use Rattle.pungi_types.specs.Resolved.{call_value, callee_name};
-ghost use Rattle.pungi_types.specs.Sound.{is_sound};
+ghost use Rattle.pungi_resolve.specs.Exprs.{call_value, callee_name};
+ghost use Rattle.pungi_resolve.specs.Sound.{is_sound};
 ghost use Rattle.pungi_tree.specs.ExprView.{expr_view};
 ghost use Rattle.pungi_resolved.specs.ValueView.{boxed_view, value_view, values_of};
 

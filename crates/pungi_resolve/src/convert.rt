@@ -1,6 +1,7 @@
 //! Conversions between integer kinds (C11 6.3.1.3).
 ghost use Rattle.std.specs.Prelude.{◌≡◌, IfOk};
-ghost use Rattle.pungi_types.specs.Resolved.{is_same_kind as is_same_kind_of, convert_some as convert_some_of, convert as convert_of};
+ghost use Rattle.pungi_resolve.specs.Exprs.{convert_some as convert_some_of, convert as convert_of};
+ghost use Rattle.pungi_types.specs.Operators.{is_same_kind as is_same_kind_of};
 ghost use Rattle.pungi_resolved.specs.ValueView.{boxed_view};
 
 use pungi_base::{Memory, Pos};

@@ -1,7 +1,7 @@
 //! Locals as their declarations are reached (C11 6.7.9).
 ghost use Rattle.std.specs.Prelude.{◌≡◌, ◌+◌, ◌∷◌, IfOk, OnOk, map, true};
-ghost use Rattle.pungi_types.specs.ResolvedStmts.{with_var, with_vars, reached as reached_of};
-ghost use Rattle.pungi_types.specs.Sound.{is_sound_option};
+ghost use Rattle.pungi_resolve.specs.Stmts.{with_var, with_vars, reached as reached_of};
+ghost use Rattle.pungi_resolve.specs.Sound.{is_sound_option};
 ghost use Rattle.pungi_resolve.specs.SoundActions.{AreSoundLocals};
 ghost use Rattle.pungi_scope.specs.ScopeEnv.{inner_env};
 ghost use Rattle.pungi_tree.specs.ExprView.{spec_view};

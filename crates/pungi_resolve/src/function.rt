@@ -1,8 +1,9 @@
 //! What a function does (C11 6.9.1).
 ghost use Rattle.std.specs.Prelude.{◌≡◌, ◌+◌, IfOk, OnOk, true};
 ghost use Rattle.pungi_types.specs.Functions.{body_locals};
-ghost use Rattle.pungi_types.specs.ResolvedStmts.{body_action, resolved_in};
-ghost use Rattle.pungi_types.specs.Sound.{is_sound_action};
+ghost use Rattle.pungi_resolve.specs.Functions.{resolved_in};
+ghost use Rattle.pungi_resolve.specs.Stmts.{body_action};
+ghost use Rattle.pungi_resolve.specs.Sound.{is_sound_action};
 ghost use Rattle.pungi_types.specs.TypesView.{definition_view};
 ghost use Rattle.pungi_tree.specs.StmtView.{stmt_view};
 ghost use Rattle.pungi_resolved.specs.ActionView.{action_view, function_view};

@@ -4,8 +4,8 @@ ghost use Rattle.pungi_types.specs.Operators.{is_int as is_int_of};
 ghost use Rattle.pungi_types.specs.declared.kind.ValueKind.TheVariants as kinds;
 ghost use Rattle.pungi_types.specs.Exprs.{step_kind as step_kind_of, binary_kind as binary_kind_of, assign_kind as assign_kind_of, cond_kind as cond_kind_of, cast_kind as cast_kind_of, unary_kind as unary_kind_of};
 ghost use Rattle.pungi_types.specs.declared.operator.Prefix.TheVariants as prefixes;
-ghost use Rattle.pungi_types.specs.Resolved as plain;
-ghost use Rattle.pungi_types.specs.Resolved.{or_int as or_int_of, binary_value as binary_value_of, assign_value as assign_value_of, cast_value as cast_value_of};
+ghost use Rattle.pungi_resolved.specs.Values as plain;
+ghost use Rattle.pungi_resolve.specs.Exprs.{or_int as or_int_of, binary_value as binary_value_of, assign_value as assign_value_of, cast_value as cast_value_of};
 ghost use Rattle.pungi_resolved.specs.ValueView.{boxed_view, place_view};
 
 use crate::convert::{convert, convert_some, is_same_kind};

@@ -2,8 +2,8 @@
 ghost use Rattle.std.specs.Prelude.{◌≡◌, IfOk, true};
 ghost use Rattle.pungi_types.specs.Operators.{struct_part as struct_part_of};
 ghost use Rattle.pungi_types.specs.Names.{meaning_of};
-ghost use Rattle.pungi_types.specs.Resolved.{read_as as read_as_of, word_place as word_place_of, field_of as field_of_of};
-ghost use Rattle.pungi_types.specs.Sound.{is_sound, is_sound_place};
+ghost use Rattle.pungi_resolve.specs.Exprs.{read_as as read_as_of, word_place as word_place_of, field_of as field_of_of};
+ghost use Rattle.pungi_resolve.specs.Sound.{is_sound, is_sound_place};
 ghost use Rattle.pungi_resolved.specs.ValueView.{boxed_view, place_view};
 
 use crate::typed::Typed;

@@ -1,9 +1,9 @@
 //! What statements do (C11 6.8).
 ghost use Rattle.std.specs.Prelude.{◌≡◌, ◌+◌, ◌-◌, IfOk, OnOk, map, true, length, drop};
 ghost use Rattle.pungi_types.specs.Labels.{constant_of, stmt_locals, stmts_locals};
-ghost use Rattle.pungi_types.specs.ResolvedStmts as actions;
-ghost use Rattle.pungi_types.specs.ResolvedStmts.{action, actions as actions_in, after, with_start, start_reached, start_value, option_value, case_value};
-ghost use Rattle.pungi_types.specs.Sound.{is_sound_option};
+ghost use Rattle.pungi_resolved.specs.Actions as actions;
+ghost use Rattle.pungi_resolve.specs.Stmts.{action, actions as actions_in, after, with_start, start_reached, start_value, option_value, case_value};
+ghost use Rattle.pungi_resolve.specs.Sound.{is_sound_option};
 ghost use Rattle.pungi_resolve.specs.SoundActions.{AreSoundLocals, IsSoundAction, AreSoundActions};
 ghost use Rattle.pungi_scope.specs.ScopeEnv.{inner_env};
 ghost use Rattle.pungi_tree.specs.Syntax as plain;

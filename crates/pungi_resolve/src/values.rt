@@ -1,9 +1,9 @@
 //! The values of a statement.
 ghost use Rattle.std.specs.Prelude.{◌≡◌, IfOk, true};
 ghost use Rattle.pungi_types.specs.Exprs.{kind_of};
-ghost use Rattle.pungi_types.specs.Resolved.{convert as convert_of, resolve as resolve_of};
-ghost use Rattle.pungi_types.specs.ResolvedStmts.{option_value, returned as returned_of};
-ghost use Rattle.pungi_types.specs.Sound.{is_sound, is_sound_option};
+ghost use Rattle.pungi_resolve.specs.Exprs.{convert as convert_of, resolve as resolve_of};
+ghost use Rattle.pungi_resolve.specs.Stmts.{option_value, returned as returned_of};
+ghost use Rattle.pungi_resolve.specs.Sound.{is_sound, is_sound_option};
 ghost use Rattle.pungi_scope.specs.ScopeEnv.{inner_env};
 ghost use Rattle.pungi_tree.specs.ExprView.{expr_view, optional_view as optional_expr_view};
 ghost use Rattle.pungi_resolved.specs.ValueView.{boxed_view, optional_view};

@@ -6,8 +6,9 @@ ghost use Rattle.pungi_types.specs.Names.{meaning_of};
 ghost use Rattle.pungi_types.specs.Exprs.{meaning_kind, int_kind as int_kind_of, unary_kind as unary_kind_of, names_type_object as names_type_object_of, is_place as is_place_of, kind_of};
 ghost use Rattle.pungi_types.specs.declared.kind.ValueKind.TheVariants as kinds;
 ghost use Rattle.pungi_types.specs.declared.operator.Prefix.TheVariants as prefixes;
-ghost use Rattle.pungi_types.specs.Resolved.{word_value as word_value_of, int_value, constant, null_of, text_of, static_behind as static_behind_of, module_behind as module_behind_of};
-ghost use Rattle.pungi_types.specs.Sound.{is_sound};
+ghost use Rattle.pungi_resolve.specs.Exprs.{word_value as word_value_of, int_value, static_behind as static_behind_of, module_behind as module_behind_of};
+ghost use Rattle.pungi_resolved.specs.Values.{constant, null_of, text_of};
+ghost use Rattle.pungi_resolve.specs.Sound.{is_sound};
 ghost use Rattle.pungi_tree.specs.ExprView.{expr_view};
 ghost use Rattle.pungi_resolved.specs.ValueView.{boxed_view};
 

@@ -6,7 +6,8 @@
 --   Node, action_node_step, action_step    an action that waits for its place, and one level of it
 use Rattle.std.specs.Prelude.{List, [], ◌∷◌, map, Option}
 use Rattle.pungi_base.specs.declared.pos.Pos.{Pos}
-use Rattle.pungi_types.specs.ResolvedStmts as plain
+use Rattle.pungi_resolved.specs.Actions as plain
+use Rattle.pungi_resolved.specs.Functions.{ResolvedFunction}
 use Rattle.pungi_resolved.specs.ValueView.{boxed_view, optional_view}
 use Rattle.pungi_resolved.specs.declared.action.Reached.{Reached}
 use Rattle.pungi_resolved.specs.declared.action.ActionNode.TheOpen.{ActionNode-F, Action-F}
@@ -47,5 +48,5 @@ action_step a = a.node a.pos
 abbrev pub action_view : Action → plain.Action
 action_view = fold-Action Node plain.Action action_node_step action_step
 
-abbrev pub function_view : Function → plain.ResolvedFunction
+abbrev pub function_view : Function → ResolvedFunction
 function_view f = record { name = f.name; pos = f.pos; params = f.params; locals = f.locals; result = f.result; body = action_view f.body }

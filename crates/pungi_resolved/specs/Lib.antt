@@ -1,2 +1,5 @@
+pub mod Values
+pub mod Actions
+pub mod Functions
 pub mod ValueView
 pub mod ActionView

@@ -7,7 +7,7 @@
 use Rattle.std.specs.Prelude.{List, [], ◌∷◌, Option, option_map, Box}
 use Rattle.std.specs.declared.alloc.Global.{Global}
 use Rattle.pungi_base.specs.declared.pos.Pos.{Pos}
-use Rattle.pungi_types.specs.Resolved as plain
+use Rattle.pungi_resolved.specs.Values as plain
 use Rattle.pungi_resolved.specs.declared.value.Place.TheOpen.{Place-F, ValueNode-F, Value-F}
 use Rattle.pungi_resolved.specs.declared.value.Value.{Value, fold-Value}
 use Rattle.pungi_resolved.specs.declared.value.Place.{Place, fold-Place}

@@ -11,8 +11,8 @@ use Rattle.pungi_types.specs.Files.{Definition, definitions}
 use Rattle.pungi_types.specs.Findings.{least}
 use Rattle.pungi_types.specs.Duplicates.{faults}
 use Rattle.pungi_types.specs.Functions.{refusal}
-use Rattle.pungi_types.specs.ResolvedStmts.{resolved}
-use Rattle.pungi_types.specs.Sound.{is_sound_action}
+use Rattle.pungi_resolve.specs.Functions.{resolved}
+use Rattle.pungi_resolve.specs.Sound.{is_sound_action}
 use Rattle.pungi_types.specs.declared.finding.Finding.{Finding}
 
 abbrev at : ℕ → ℕ → Pos

@@ -11,9 +11,6 @@ pub mod Stmts
 pub mod Functions
 pub mod Refused
 pub mod Duplicates
-pub mod Resolved
-pub mod ResolvedStmts
 pub mod TypesView
-pub mod Sound
 pub mod Standing
 pub mod ExprParts

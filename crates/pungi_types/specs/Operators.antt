@@ -2,6 +2,7 @@
 --   is_bits, is_arithmetic, is_order, is_equality, is_bits_assign, is_arithmetic_assign    binary operators and assignments
 --   mark_prefix, prefix_of    what an operator before its operand is
 --   is_int, is_integer, is_pointer, is_object, is_text, is_null, is_void    tests of a kind
+--   is_same_kind        two kinds are one integer kind
 --   wider a b           the kind of arithmetic: Int with Int is Int, any other pair of integers is Long
 --   fits a b            a value of the second kind may be assigned to the first
 --   comparable a b, joinable a b, joined a b    what `==` and `?:` take, and the kind of `?:`
@@ -114,6 +115,12 @@ is_null _ = false
 abbrev pub is_void : Option ValueKind → Bool
 is_void (Some kinds.Void) = true
 is_void _ = false
+
+abbrev pub is_same_kind : Option ValueKind → Option ValueKind → Bool
+is_same_kind (Some kinds.Int) (Some kinds.Int) = true
+is_same_kind (Some kinds.Long) (Some kinds.Long) = true
+is_same_kind (Some kinds.Size) (Some kinds.Size) = true
+is_same_kind _ _ = false
 
 -- Int with Int is Int, any other pair of integers is Long
 abbrev pub wider : Option ValueKind → Option ValueKind → ValueKind

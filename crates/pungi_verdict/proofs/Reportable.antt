@@ -10,7 +10,8 @@ use Rattle.pungi_base.specs.declared.verdict.Verdict.TheVariants as verdict
 use Rattle.pungi_types.specs.declared.finding.Finding.{Finding}
 use Rattle.pungi_types.specs.Files.{Definition}
 use Rattle.pungi_types.specs.Functions.{refusal}
-use Rattle.pungi_types.specs.ResolvedStmts.{ResolvedFunction, resolved}
+use Rattle.pungi_resolve.specs.Functions.{resolved}
+use Rattle.pungi_resolved.specs.Functions.{ResolvedFunction}
 use Rattle.pungi_check.specs.CheckedFile.{CheckedFile}
 use Rattle.pungi_code.specs.declared.code.Code.{Code}
 use Rattle.pungi_layout.specs.Codes.{code_for}

@@ -5,7 +5,7 @@ use Rattle.std.specs.Prelude.{◌≡◌, ℕ, true, List, length, Option}
 use Rattle.pungi_base.specs.declared.pos.Pos.{Pos}
 use Rattle.pungi_base.specs.declared.value.Value.{Value}
 use Rattle.pungi_base.specs.declared.witness.Witness.{Witness}
-use Rattle.pungi_types.specs.ResolvedStmts.{ResolvedFunction}
+use Rattle.pungi_resolved.specs.Functions.{ResolvedFunction}
 use Rattle.pungi_world.specs.declared.world.World.{World}
 use Rattle.pungi_world.specs.Escapes.{IsBalanced}
 use Rattle.pungi_meaning.specs.Run.{Returned}

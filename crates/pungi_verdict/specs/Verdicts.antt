@@ -26,7 +26,8 @@ use Rattle.pungi_types.specs.declared.finding.Finding.{Finding}
 use Rattle.pungi_types.specs.Files.{Definition, definitions}
 use Rattle.pungi_types.specs.Functions.{refusal}
 use Rattle.pungi_types.specs.Names.{type_objects}
-use Rattle.pungi_types.specs.ResolvedStmts.{ResolvedFunction, resolved}
+use Rattle.pungi_resolve.specs.Functions.{resolved}
+use Rattle.pungi_resolved.specs.Functions.{ResolvedFunction}
 use Rattle.pungi_world.specs.declared.world.World.{World}
 use Rattle.pungi_world.specs.World.{account_of}
 use Rattle.pungi_world.specs.Escapes.{escaped_of, IsLevel, IsBalanced}

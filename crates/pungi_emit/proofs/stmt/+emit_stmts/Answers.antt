@@ -1,7 +1,7 @@
 use Rattle.std.proofs.Common.{◌≡◌, List, ◌+◌, ◌<◌, ◌≤◌, ◌∷◌, ◌++◌, length, map, drop, sym, ap, ◌∙◌, subst, arith}
 use Rattle.std.proofs.lemmas.List.{length-map, drop_all}
 use denote.Param.Weighed.{most, at_most}
-use Rattle.pungi_types.specs.ResolvedStmts.{Action, block_of, switch_on}
+use Rattle.pungi_resolved.specs.Actions.{Action, block_of, switch_on}
 use Rattle.pungi_resolved.specs.ActionView.{reached_view, action_view, actions_of}
 use Rattle.pungi_resolved.specs.declared.action.Action.{Action as Node, size-Action}
 use Rattle.pungi_resolved.specs.ValueView.{value_view, optional_view}

@@ -1,5 +1,5 @@
 use Rattle.std.proofs.Common.{◌≡◌, ◌++◌, drop, map}
-use Rattle.pungi_types.specs.ResolvedStmts.{reached as reached_in, with_vars}
+use Rattle.pungi_resolve.specs.Stmts.{reached as reached_in, with_vars}
 use Rattle.pungi_tree.specs.ExprView.{spec_view}
 use Rattle.pungi_tree.specs.StmtView.{var_decl_view}
 use Rattle.pungi_resolved.specs.ActionView.{reached_view}

@@ -5,8 +5,9 @@ use Rattle.pungi_tree.specs.ExprView.{expr_view, exprs_of, type_name_view}
 use Rattle.pungi_tree.specs.declared.declr.Tail.TheFolds.{the_lemmas}
 use Rattle.pungi_tree.specs.declared.expr.Expr.{Expr}
 use Rattle.pungi_types.specs.Exprs.{is_module_address, wants_module, other_wants, kind_of}
-use Rattle.pungi_types.specs.Resolved.{value_and, resolve, place_of, resolve_all, convert, want_kind, expr_pos}
-use Rattle.pungi_types.specs.Sound.{is_sound, are_sound, is_sound_place}
+use Rattle.pungi_resolve.specs.Exprs.{resolve, place_of, resolve_all, convert, want_kind, expr_pos}
+use Rattle.pungi_resolved.specs.Values.{value_and}
+use Rattle.pungi_resolve.specs.Sound.{is_sound, are_sound, is_sound_place}
 use Rattle.pungi_resolved.specs.ValueView.{value_view, boxed_view}
 use Rattle.pungi_resolve.specs.Arguments.{argument_in}
 use Rattle.pungi_resolve.proofs.Clean.{and_left, and_right}

@@ -1,8 +1,8 @@
 use Rattle.std.proofs.Common.{◌≡◌, ◌&&◌, true, drop, map}
 use Rattle.pungi_tree.specs.ExprView.{expr_view, exprs_of}
 use Rattle.pungi_types.specs.Exprs.{are_met}
-use Rattle.pungi_types.specs.Resolved.{resolve_all}
-use Rattle.pungi_types.specs.Sound.{are_sound}
+use Rattle.pungi_resolve.specs.Exprs.{resolve_all}
+use Rattle.pungi_resolve.specs.Sound.{are_sound}
 use Rattle.pungi_resolved.specs.ValueView.{value_view}
 use Rattle.pungi_resolve.proofs.ListLemmas.{values_before}
 use Rattle.pungi_resolve.proofs.expr.+expr.Given as goal

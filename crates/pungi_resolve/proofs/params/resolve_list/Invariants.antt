@@ -1,5 +1,6 @@
 use Rattle.std.proofs.Common.{◌≡◌, ◌++◌, drop, map}
-use Rattle.pungi_types.specs.ResolvedStmts.{param_kinds, with_params}
+use Rattle.pungi_resolve.specs.Functions.{param_kinds}
+use Rattle.pungi_resolve.specs.Stmts.{with_params}
 use Rattle.pungi_tree.specs.ExprView.{param_decl_view, param_decls_of}
 use Rattle.pungi_resolve.specs.Sites.{site_of}
 use Rattle.pungi_resolve.proofs.params.resolve_list.Given as goal

@@ -1,5 +1,5 @@
 use Rattle.std.proofs.Common.{◌≡◌, drop, map}
-use Rattle.pungi_types.specs.ResolvedStmts.{actions as actions_in}
+use Rattle.pungi_resolve.specs.Stmts.{actions as actions_in}
 use Rattle.pungi_tree.specs.StmtView.{stmt_view, stmts_of}
 use Rattle.pungi_resolved.specs.ActionView.{action_view}
 use Rattle.pungi_resolve.specs.Sites.{site_of, after_all}

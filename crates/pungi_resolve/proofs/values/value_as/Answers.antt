@@ -1,7 +1,7 @@
 use Rattle.std.proofs.Common.{◌∙◌, sym}
 use Rattle.pungi_tree.specs.ExprView.{expr_view}
 use Rattle.pungi_types.specs.Exprs.{kind_of}
-use Rattle.pungi_types.specs.Resolved.{resolve}
+use Rattle.pungi_resolve.specs.Exprs.{resolve}
 use Rattle.pungi_scope.specs.ScopeEnv.{inner_env}
 use Rattle.pungi_resolve.proofs.SoundParts.{convert-same}
 use Rattle.pungi_resolve.proofs.values.value_as.Goals as goal

@@ -13,7 +13,7 @@ use Rattle.pungi_world.specs.declared.slot.Slot.{Slot}
 use Rattle.pungi_world.specs.declared.slot.Slot.TheVariants.{Global, Field}
 use Rattle.pungi_world.specs.declared.slot.SlotState.{SlotState}
 use Rattle.pungi_world.specs.World.{account_of}
-use Rattle.pungi_meaning.proofs.Worked.{at, name, gives, stops, wants, goes_on, told, last_run}
+use Rattle.pungi_lower.proofs.Worked.{at, name, gives, stops, wants, goes_on, told, last_run}
 
 abbrev pub slots_of : End → List SlotState
 slots_of (Returned w v p used) = w.slots

@@ -8,7 +8,8 @@ use Rattle.pungi_base.specs.declared.value.Value.{Value}
 use Rattle.pungi_tree.specs.Syntax as plain
 use Rattle.pungi_api.specs.Rows.{builtin_rows}
 use Rattle.pungi_types.specs.Files.{Definition, definitions}
-use Rattle.pungi_types.specs.ResolvedStmts.{ResolvedFunction, resolved}
+use Rattle.pungi_resolve.specs.Functions.{resolved}
+use Rattle.pungi_resolved.specs.Functions.{ResolvedFunction}
 use Rattle.pungi_meaning.specs.Run.{End, Returned, Stopped, NeedsChoice, OutOfFuel, run_of}
 
 abbrev pub at : ℕ → ℕ → Pos

@@ -1,6 +1,5 @@
--- What an expression of a checked function does: names resolved, conversions written out. One node for each node of the text.
---   Value, Values, Place    what an expression does, arguments, and what can be read and assigned to
---   is_same_kind, convert_some, convert p to from v    a conversion between two integer kinds that differ
+-- How an expression of a function in which no rule holds is resolved.
+--   convert_some, convert p to from v    a conversion between two integer kinds that differ
 --   want_kind, expr_pos    the kind of a wanted argument, and where an expression stands
 --   read_as, word_place, word_value, int_value, field_of, or_int, binary_value, assign_value, cast_value, call_value, callee_name, static_behind, module_behind, post_kind,
 --   unary_value         a node from what is known of its parts
@@ -15,7 +14,8 @@ use Rattle.pungi_tree.specs.Syntax.{Expr, word, int, float, char, text, null, pa
 use Rattle.pungi_api.specs.declared.row.Row.{Row}
 use Rattle.pungi_types.specs.Kinds.{type_name_kind}
 use Rattle.pungi_types.specs.Names.{Env, Meaning, a_local, a_global, a_static, meaning_of, static_number}
-use Rattle.pungi_types.specs.Operators.{prefix_of, is_arithmetic, is_order, is_equality, is_arithmetic_assign, is_integer, is_int, is_void, wider, struct_part}
+use Rattle.pungi_types.specs.Operators.{prefix_of, is_arithmetic, is_order, is_equality, is_arithmetic_assign, is_integer, is_int, is_void, is_same_kind, wider, struct_part}
+use Rattle.pungi_resolved.specs.Values.{Value, constant, text_of, null_of, static_of, module_of, read, inner, signed, negated, stepped, computed, compared, joined_by, stored, updated, chosen, converted, cast_of, dropped, called, called_row, nonsense, Values, no_values, value_and, Place, local_place, global_place, field_place, no_place}
 use Rattle.pungi_types.specs.Labels.{byte}
 use Rattle.pungi_types.specs.Exprs.{int_kind, kind_of, is_module_address, wants, wants_module, other_wants, callee, Callee, defined, a_row}
 use Rattle.pungi_types.specs.declared.lookup.Want.{Want}
@@ -24,49 +24,6 @@ use Rattle.pungi_types.specs.declared.operator.Prefix.{Prefix}
 use Rattle.pungi_types.specs.declared.operator.Prefix.TheVariants as prefixes
 use Rattle.pungi_types.specs.declared.kind.ValueKind.{ValueKind}
 use Rattle.pungi_types.specs.declared.kind.ValueKind.TheVariants as kinds
-
-mutual
-  pub data Value : Type 0 where
-    constant : Pos → ℤ → Value
-    text_of : Pos → List Name → Value
-    null_of : Pos → Value
-    static_of : Pos → ℕ → Value  -- a static object, by its number
-    module_of : Pos → Name → Value  -- `&` of a module table
-    read : Pos → ValueKind → Place → Value
-    inner : Pos → Value → Value  -- a parenthesis
-    signed : Pos → Kind → ValueKind → Value → Value  -- `+` and `-`: the kind of the result
-    negated : Pos → Value → Value  -- `!`
-    stepped : Pos → Bool → Kind → ValueKind → Place → Value  -- `++` and `--`, true behind the operand
-    computed : Pos → Punct → ValueKind → Value → Value → Value
-    compared : Pos → Punct → Value → Value → Value
-    joined_by : Pos → Punct → Value → Value → Value  -- `&&` and `||`
-    stored : Pos → ValueKind → Place → Value → Value  -- the kind of the place
-    updated : Pos → Punct → ValueKind → ValueKind → Place → Value → Value  -- `+=` and its kin: the kind of the arithmetic, and that of the place
-    chosen : Pos → Value → Value → Value → Value  -- `?:`
-    converted : Pos → ValueKind → Value → Value  -- to another integer kind; stops at this place where it doesn't fit
-    cast_of : Pos → Value → Value  -- a cast that converts nothing
-    dropped : Pos → Value → Value  -- a cast to void
-    called : Pos → Name → Values → Value  -- a function of the file
-    called_row : Pos → Name → Row → Values → Value
-    nonsense : Pos → Value  -- no checked function has this
-
-  pub data Values : Type 0 where
-    no_values : Values
-    value_and : Value → Values → Values
-
-  -- what can be read and assigned to
-  pub data Place : Type 0 where
-    local_place : Pos → ℕ → Place  -- the place of the word
-    global_place : Pos → Name → Place
-    field_place : Pos → Value → Name → Name → Place  -- the place of `->`, the base, its struct and the field
-    no_place : Place
-
--- .. conversions
-abbrev pub is_same_kind : Option ValueKind → Option ValueKind → Bool
-is_same_kind (Some kinds.Int) (Some kinds.Int) = true
-is_same_kind (Some kinds.Long) (Some kinds.Long) = true
-is_same_kind (Some kinds.Size) (Some kinds.Size) = true
-is_same_kind _ _ = false
 
 abbrev pub convert_some : Pos → Option ValueKind → Value → Value
 convert_some p None v = v

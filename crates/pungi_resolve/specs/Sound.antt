@@ -2,8 +2,8 @@
 --   is_sound, are_sound, is_sound_place, is_sound_option, are_sound_locals    values, places and locals
 --   is_sound_action, are_sound_actions    statements
 use Rattle.std.specs.Prelude.{Bool, true, false, ◌&&◌, List, [], ◌∷◌, Option, Some, None}
-use Rattle.pungi_types.specs.Resolved.{Value, constant, text_of, null_of, static_of, module_of, read, inner, signed, negated, stepped, computed, compared, joined_by, stored, updated, chosen, converted, cast_of, dropped, called, called_row, nonsense, Values, no_values, value_and, Place, local_place, global_place, field_place, no_place}
-use Rattle.pungi_types.specs.ResolvedStmts.{Reached, Action, block_of, reach, evaluate, test, test_else, repeat_while, repeat_until, repeat_for, switch_on, at_case, at_default, at_label, jump, leave, next_turn, give, Actions, no_actions, action_and}
+use Rattle.pungi_resolved.specs.Values.{Value, constant, text_of, null_of, static_of, module_of, read, inner, signed, negated, stepped, computed, compared, joined_by, stored, updated, chosen, converted, cast_of, dropped, called, called_row, nonsense, Values, no_values, value_and, Place, local_place, global_place, field_place, no_place}
+use Rattle.pungi_resolved.specs.Actions.{Reached, Action, block_of, reach, evaluate, test, test_else, repeat_while, repeat_until, repeat_for, switch_on, at_case, at_default, at_label, jump, leave, next_turn, give, Actions, no_actions, action_and}
 
 abbrev mutual
   pub is_sound : Value → Bool

@@ -5,7 +5,7 @@ use Rattle.pungi_base.specs.declared.kind.Kind.TheVariants as tokens
 use Rattle.pungi_base.specs.declared.punct.Punct.TheVariants as puncts
 use Rattle.pungi_base.specs.declared.value.Value.TheVariants as value
 use Rattle.pungi_tree.specs.Syntax as plain
-use Rattle.pungi_meaning.proofs.Worked.{at, name, gives, stops, told, last_run}
+use Rattle.pungi_lower.proofs.Worked.{at, name, gives, stops, told, last_run}
 
 -- ---- Locals without a value
 

@@ -1,16 +1,11 @@
--- What a statement of a checked function does: locals by number, conversions written out.
---   Reached             a local as it is reached
---   Action, Actions     what statements do
+-- How a statement of a function in which no rule holds is resolved.
 --   Site                where a statement stands
---   with_var, with_vars, with_decl, with_start    a site behind variables, a declaration, and what begins a `for`
---   past, after, with_param, with_params, params_site    a site behind a part, a statement of a block, a parameter, and all of them
+--   with_var, with_vars, with_decl, with_start    a site after variables, a declaration, and what begins a `for`
+--   past, after, with_param, with_params, params_site    a site after a part, a statement of a block, a parameter, and all of them
 --   initial, var_pos, var_kind, reached, start_reached    declared locals
 --   option_value, start_value, returned, case_value    the values of a statement
 --   action f s, actions f ss    a statement and statements
 --   body_action p f s   a body, of a function at p
---   param_kinds, params_kinds    the kinds of parameters
---   first_site env d    where the first parameter stands
---   ResolvedFunction, resolved_in env d, resolved file rows refused d    a function
 use Rattle.std.specs.Prelude.{ℕ, ℤ, ◌+◌, pos, List, [], ◌∷◌, Option, Some, None}
 use Rattle.pungi_base.specs.declared.names.Name.{Name}
 use Rattle.pungi_base.specs.declared.pos.Pos.{Pos}
@@ -21,40 +16,11 @@ use Rattle.pungi_types.specs.Names.{Env}
 use Rattle.pungi_types.specs.Kinds.{declared_kind}
 use Rattle.pungi_types.specs.Exprs.{kind_of, param_kind}
 use Rattle.pungi_types.specs.Labels.{constant_of, stmt_locals}
-use Rattle.pungi_types.specs.Resolved.{Value, convert, resolve}
+use Rattle.pungi_resolve.specs.Exprs.{convert, resolve}
+use Rattle.pungi_resolved.specs.Values.{Value}
 use Rattle.pungi_types.specs.Stmts.{with_local}
 use Rattle.pungi_types.specs.Functions.{file_env, result_kind, params_count, body_locals}
 use Rattle.pungi_types.specs.declared.kind.ValueKind.{ValueKind}
-
--- a local as it is reached: its number and place, and its value, if it has one; without one it becomes unset
-pub record Reached : Type 0 where
-  pub number : ℕ
-  pub at : Pos
-  pub kind : Option ValueKind
-  pub value : Option Value
-
-mutual
-  pub data Action : Type 0 where
-    block_of : Pos → Actions → Pos → Action  -- the locals that it declares are unset as it is entered
-    reach : Pos → List Reached → Action
-    evaluate : Pos → Option Value → Action
-    test : Pos → Value → Action → Action
-    test_else : Pos → Value → Action → Action → Action
-    repeat_while : Pos → Value → Action → Action
-    repeat_until : Pos → Action → Value → Action
-    repeat_for : Pos → List Reached → Option Value → Option Value → Option Value → Action → Action
-    switch_on : Pos → Value → Action → Action
-    at_case : Pos → ℤ → Action → Action
-    at_default : Pos → Action → Action
-    at_label : Pos → Name → Action → Action
-    jump : Pos → Name → Action
-    leave : Pos → Action
-    next_turn : Pos → Action
-    give : Pos → Option Value → Action
-
-  pub data Actions : Type 0 where
-    no_actions : Actions
-    action_and : Action → Actions → Actions
 
 -- where a statement stands: the names in force, the number of the next local, and the kind of the function's result
 pub record Site : Type 0 where
@@ -168,36 +134,3 @@ abbrev mutual
 abbrev pub body_action : Pos → Site → Stmt → Action
 body_action p f (block q ss r) = action f (block q ss r)
 body_action p f _ = block_of p no_actions p
-
--- .. functions
-abbrev pub param_kinds : List Item → ParamDecls → List (Option ValueKind)
-param_kinds file no_params = []
-param_kinds file (param_and (param_decl qs s d) ds) = param_kind file s d ∷ param_kinds file ds
-
-abbrev pub params_kinds : List Item → Params → List (Option ValueKind)
-params_kinds file (params ds v dots) = param_kinds file ds
-
-abbrev pub first_site : Env → Definition → Site
-first_site env d = record { env = env; next = 0; result = result_kind env d }
-
--- a function with its names resolved: the parameters are the first of its locals, and are counted among them
-pub record ResolvedFunction : Type 0 where
-  pub name : Name
-  pub pos : Pos
-  pub params : List (Option ValueKind)
-  pub locals : ℕ
-  pub result : Option ValueKind
-  pub body : Action
-
-abbrev pub resolved_in : Env → Definition → ResolvedFunction
-resolved_in env d = record {
-  name = d.name;
-  pos = d.pos;
-  params = params_kinds env.file d.params;
-  locals = params_count d.params + body_locals d.body;
-  result = result_kind env d;
-  body = body_action d.pos (params_site (first_site env d) d.params) d.body;
-}
-
-abbrev pub resolved : List Item → List (ℕ × Row) → List ℕ → Definition → ResolvedFunction
-resolved file rows refused d = resolved_in (file_env file rows refused d.name.0) d

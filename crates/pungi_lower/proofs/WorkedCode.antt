@@ -1,12 +1,12 @@
--- What the definitions say of the code of small functions, by computing: it ends as the functions do (pungi_meaning/proofs/Worked*).
+-- What the definitions say of the code of small functions, by computing: it ends as the functions do (Worked*).
 use Rattle.std.proofs.Common.{ℕ, ◌+◌, List, Option, Some, None}
 use Rattle.pungi_base.specs.declared.choice.Choice.{Choice}
 use Rattle.pungi_base.specs.declared.entry.Entry.{Entry}
 use Rattle.pungi_base.specs.declared.value.Value.{Value}
 use Rattle.pungi_tree.specs.Syntax.{Item}
-use Rattle.pungi_types.specs.ResolvedStmts.{ResolvedFunction}
+use Rattle.pungi_resolved.specs.Functions.{ResolvedFunction}
 use Rattle.pungi_meaning.specs.Run.{End, OutOfFuel}
-use Rattle.pungi_meaning.proofs.Worked.{last_function}
+use Rattle.pungi_lower.proofs.Worked.{last_function}
 use Rattle.pungi_layout.specs.Correct.{temps_of, target}
 use Rattle.pungi_layout.specs.StmtCode.{body_code}
 
