@@ -33,7 +33,7 @@ use Rattle.pungi_parse.specs.declared.fault.ParseFault.TheVariants as parse
 use Rattle.pungi_parse.specs.Units.{IsUnit, StopsAt, too_deep}
 use Rattle.pungi_tree.specs.Placed.{Placed, placed}
 use Rattle.pungi_tree.specs.Syntax.{Item}
-use Rattle.pungi_types.specs.Duplicates.{faults}
+use Rattle.pungi_check.specs.Duplicates.{faults}
 use Rattle.pungi_types.specs.Findings.{least}
 use Rattle.pungi.specs.declared.file_fault.FileFault.{FileFault}
 use Rattle.pungi.specs.declared.file_fault.FileFault.TheVariants as fault

@@ -10,11 +10,11 @@ use Rattle.pungi_types.specs.Files.{Definition, definitions, typedefs}
 use Rattle.pungi_types.specs.Tags.{tags}
 use Rattle.pungi_types.specs.Findings.{Findings, nothing_found, one_found, ◌and◌, when, is_before, earlier, least_from, least}
 use Rattle.pungi_types.specs.Names.{is_among, with_word}
-use Rattle.pungi_types.specs.Duplicates.{is_taken, uses, use_faults, variable_faults, definition_faults, typedef_faults, tag_faults, count_faults, faults}
+use Rattle.pungi_check.specs.Duplicates.{is_taken, uses, use_faults, variable_faults, definition_faults, typedef_faults, tag_faults, count_faults, faults}
 use Rattle.pungi_types.specs.declared.finding.Finding.{Finding}
 use Rattle.pungi_check.specs.Distinct.{are_new}
 use Rattle.pungi_check.specs.Graph.{gathered}
-use Rattle.pungi_refused.specs.CallGraph.{refused_names}
+use Rattle.pungi_check.specs.CallGraph.{refused_names}
 
 earlier-some : (a f : Finding) → earlier (Some a) f ≡ None → ⊥
 earlier-some a f h = elim (is_before f a) as (λ b. (if b then Some f else Some a) ≡ None → ⊥) [ true ↦ λ e. cc | false ↦ λ e. cc ] h

@@ -10,7 +10,7 @@ use Rattle.pungi_types.specs.Files.{Definition, definitions, Typedef, typedefs}
 use Rattle.pungi_types.specs.Findings.{Findings, nothing_found, one_found, ◌and◌, when, is_before, earlier, least_from, least}
 use Rattle.pungi_types.specs.Names.{is_among, with_word}
 use Rattle.pungi_types.specs.Tags.{Tag, tags}
-use Rattle.pungi_types.specs.Duplicates.{NameUse, uses, used_otherwise, use_faults, is_variable_use, is_taken, variable_faults, definition_faults, typedef_faults, tag_seen, one_tag_fault, tag_faults, count_faults, faults}
+use Rattle.pungi_check.specs.Duplicates.{NameUse, uses, used_otherwise, use_faults, is_variable_use, is_taken, variable_faults, definition_faults, typedef_faults, tag_seen, one_tag_fault, tag_faults, count_faults, faults}
 use Rattle.pungi_types.specs.declared.finding.Finding.{Finding}
 use Rattle.pungi_check.specs.Faults.{told, IsFaultOf}
 use Rattle.pungi_check.specs.declared.fault.UnitFault.{UnitFault}

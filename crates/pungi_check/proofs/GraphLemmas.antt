@@ -6,9 +6,9 @@ use Rattle.pungi_tree.specs.Syntax.{Item}
 use Rattle.pungi_api.specs.declared.row.Row.{Row}
 use Rattle.pungi_types.specs.Files.{Definition, definitions}
 use Rattle.pungi_types.specs.Names.{is_among, with_word}
-use Rattle.pungi_refused.specs.Calls.{called_words}
-use Rattle.pungi_refused.specs.CallGraph.{alone_in, callees_in, IsCallGraph}
-use Rattle.pungi_refused.specs.declared.function.Function.{Function}
+use Rattle.pungi_check.specs.Calls.{called_words}
+use Rattle.pungi_check.specs.CallGraph.{alone_in, callees_in, IsCallGraph}
+use Rattle.pungi_check.specs.declared.call_node.CallNode.{CallNode}
 use Rattle.pungi_check.specs.Distinct.{are_new}
 use Rattle.pungi_check.specs.Graph.{number_in, found, callees, Node, node_view, node_of, graph_of}
 use Rattle.pungi_check.proofs.DistinctLemmas.{any-append, and-right, kept, later-new, not-both, is-false, or-false, is_word}
@@ -94,27 +94,27 @@ abbrev node_calls : Option Node → List ℕ
 node_calls None = []
 node_calls (Some n) = n.calls
 
-alone-view : (o : Option Function) → alone_in o ≡ node_alone (option_map node_view o)
+alone-view : (o : Option CallNode) → alone_in o ≡ node_alone (option_map node_view o)
 alone-view None = refl
 alone-view (Some f) = refl
 
-calls-view : (o : Option Function) → callees_in o ≡ node_calls (option_map node_view o)
+calls-view : (o : Option CallNode) → callees_in o ≡ node_calls (option_map node_view o)
 calls-view None = refl
 calls-view (Some f) = refl
 
-node-at : (file : List Item) (rows : List (ℕ × Row)) (fs : List Function) → map node_view fs ≡ graph_of file rows
+node-at : (file : List Item) (rows : List (ℕ × Row)) (fs : List CallNode) → map node_view fs ≡ graph_of file rows
     → (i : ℕ) (d : Definition) → slice_get (definitions file) i ≡ Some d
     → option_map node_view (slice_get fs i) ≡ Some (node_of file rows (number_in 0 (definitions file)) d)
 node-at file rows fs made i d s =
-    sym (slice-map Function Node node_view fs i) ∙ ap (λ ns. slice_get ns i) made
+    sym (slice-map CallNode Node node_view fs i) ∙ ap (λ ns. slice_get ns i) made
     ∙ slice-map Definition Node (node_of file rows (number_in 0 (definitions file))) (definitions file) i
     ∙ ap (λ o. option_map (node_of file rows (number_in 0 (definitions file))) o) s
 
 -- the graph of a file whose functions have distinct names is its call graph
-pub call-graph : (file : List Item) (rows : List (ℕ × Row)) (fs : List Function) → are_new [] (definitions file) ≡ true
+pub call-graph : (file : List Item) (rows : List (ℕ × Row)) (fs : List CallNode) → are_new [] (definitions file) ≡ true
     → map node_view fs ≡ graph_of file rows → IsCallGraph file rows fs
 call-graph file rows fs new made = record {
-  count = sym (length-map Function Node node_view fs) ∙ ap length made ∙ length-map Definition Node (node_of file rows (number_in 0 (definitions file))) (definitions file);
+  count = sym (length-map CallNode Node node_view fs) ∙ ap length made ∙ length-map Definition Node (node_of file rows (number_in 0 (definitions file))) (definitions file);
   alone = λ i d s. alone-view (slice_get fs i) ∙ ap node_alone (node-at file rows fs made i d s);
   calls = λ i j d e s t.
       ap (λ ws. is_among ws j) (calls-view (slice_get fs i) ∙ ap node_calls (node-at file rows fs made i d s))

@@ -6,9 +6,9 @@ use Rattle.pungi_types.specs.Files.{Definition, definitions}
 use Rattle.pungi_types.specs.Functions.{refusal}
 use Rattle.pungi_types.specs.Refused.{IsRefusedSet}
 use Rattle.pungi_types.specs.declared.finding.Finding.{Finding}
-use Rattle.pungi_refused.specs.Calls.{called_words}
-use Rattle.pungi_refused.specs.CallGraph.{IsCallGraph, refused_names}
-use Rattle.pungi_refused.specs.declared.function.Function.{Function}
+use Rattle.pungi_check.specs.Calls.{called_words}
+use Rattle.pungi_check.specs.CallGraph.{IsCallGraph, refused_names}
+use Rattle.pungi_check.specs.declared.call_node.CallNode.{CallNode}
 use Rattle.pungi_check.specs.Distinct.{are_new}
 use Rattle.pungi_check.specs.Graph.{number_in, found, callees, Node, node_view, node_of, graph_of, gathered}
 use Rattle.pungi_check.proofs.DistinctLemmas.{refused-gathered}
@@ -27,7 +27,7 @@ graph-same file rows f g same (d ∷ ds) =
     ∙ ap (λ (ns : List Node). node_of file rows g d ∷ ns) (graph-same file rows f g same ds)
 
 -- what the worklist marks is the least set of refused functions
-pub told-set : (file : List Item) (rows : List (ℕ × Row)) (listed : List Definition) (fs : List Function) (marks : List Bool) (keys : List ℕ)
+pub told-set : (file : List Item) (rows : List (ℕ × Row)) (listed : List Definition) (fs : List CallNode) (marks : List Bool) (keys : List ℕ)
     → listed ≡ definitions file → are_new [] (definitions file) ≡ true → map node_view fs ≡ map (node_of file rows (number_in 0 listed)) listed
     → ((other : List Item) (others : List (ℕ × Row)) → IsCallGraph other others fs → IsRefusedSet other others (refused_names (definitions other) marks))
     → keys ≡ gathered [] listed marks → IsRefusedSet file rows keys

@@ -12,7 +12,7 @@ use Rattle.pungi_types.specs.Files.{Definition, definitions}
 use Rattle.pungi_types.specs.Findings.{least}
 use Rattle.pungi_types.specs.Functions.{refusal}
 use Rattle.pungi_types.specs.Refused.{IsRefusedSet}
-use Rattle.pungi_types.specs.Duplicates.{faults}
+use Rattle.pungi_check.specs.Duplicates.{faults}
 use Rattle.pungi_types.specs.declared.finding.Finding.{Finding}
 
 pub record CheckedFile : Type 0 where

@@ -6,7 +6,7 @@ use Rattle.pungi_base.specs.declared.pos.Pos.{Pos}
 use Rattle.pungi_tree.specs.Syntax.{Item}
 use Rattle.pungi_api.specs.declared.row.Row.{Row}
 use Rattle.pungi_types.specs.Findings.{least}
-use Rattle.pungi_types.specs.Duplicates.{faults}
+use Rattle.pungi_check.specs.Duplicates.{faults}
 use Rattle.pungi_types.specs.declared.finding.Finding.{Finding}
 use Rattle.pungi_check.specs.declared.fault.UnitFault.{UnitFault}
 use Rattle.pungi_check.specs.declared.fault.UnitFault.TheVariants as why

@@ -12,8 +12,8 @@ use Rattle.pungi_api.specs.declared.row.Row.{Row}
 use Rattle.pungi_types.specs.Files.{Definition, definitions}
 use Rattle.pungi_types.specs.Names.{with_word}
 use Rattle.pungi_types.specs.Functions.{refusal}
-use Rattle.pungi_refused.specs.Calls.{called_words}
-use Rattle.pungi_refused.specs.declared.function.Function.{Function}
+use Rattle.pungi_check.specs.Calls.{called_words}
+use Rattle.pungi_check.specs.declared.call_node.CallNode.{CallNode}
 
 abbrev pub number_in : ℕ → List Definition → ℕ → Option ℕ
 number_in i [] w = None
@@ -31,7 +31,7 @@ pub record Node : Type 0 where
   pub alone : Bool
   pub calls : List ℕ
 
-abbrev pub node_view : Function → Node
+abbrev pub node_view : CallNode → Node
 node_view f = record { alone = f.refused_alone; calls = f.callees.items }
 
 abbrev pub node_of : List Item → List (ℕ × Row) → (ℕ → Option ℕ) → Definition → Node

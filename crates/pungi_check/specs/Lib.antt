@@ -1,3 +1,10 @@
+pub mod Duplicates
+pub mod Calls
+pub mod CallGraph
+pub mod Worklist
+pub mod UsesView
+pub mod SeenNames
+pub mod SeenView
 pub mod CheckedFile
 pub mod CheckedView
 pub mod Distinct

@@ -4,7 +4,7 @@ use Rattle.std.specs.Prelude.{◌≡◌, ℕ, ◌+◌, ◌≤◌, ◌^◌, List,
 use Rattle.pungi_tree.specs.Syntax.{Item}
 use Rattle.pungi_api.specs.declared.row.Row.{Row}
 use Rattle.pungi_check.specs.Distinct.{are_new}
-use Rattle.pungi_types.specs.Duplicates.{faults}
+use Rattle.pungi_check.specs.Duplicates.{faults}
 use Rattle.pungi_types.specs.Files.{definitions}
 use Rattle.pungi_types.specs.Findings.{least as least_of}
 use Rattle.pungi_types.specs.Functions.{refusal}

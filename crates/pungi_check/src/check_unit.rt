@@ -9,7 +9,7 @@ ghost use Rattle.pungi_check.specs.declared.fault.UnitFault.TheVariants.{Duplica
 ghost use Rattle.pungi_declared.specs.DeclaredView.{function_view};
 ghost use Rattle.pungi_names.specs.NamesView.{file_of, rows_of};
 ghost use Rattle.pungi_tree.specs.UnitView.{unit_view};
-ghost use Rattle.pungi_types.specs.Duplicates.{faults as faults_of};
+ghost use Rattle.pungi_check.specs.Duplicates.{faults as faults_of};
 ghost use Rattle.pungi_types.specs.Files.{definitions as definitions_of};
 ghost use Rattle.pungi_types.specs.Findings.{least};
 ghost use Rattle.pungi_types.specs.Functions.{refusal};

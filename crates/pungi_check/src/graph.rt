@@ -3,17 +3,18 @@ ghost use Rattle.std.specs.Prelude.{◌≡◌, ℕ, [], is_some, IfOk, map, nat_
 ghost use Rattle.indexmap.specs.IndexMap.{get};
 ghost use Rattle.pungi_declared.specs.DeclaredView.{function_view};
 ghost use Rattle.pungi_names.specs.NamesView.{file_of, rows_of};
-ghost use Rattle.pungi_refused.specs.Calls.{called_words as called_words_of};
+ghost use Rattle.pungi_check.specs.Calls.{called_words as called_words_of};
 ghost use Rattle.pungi_types.specs.Functions.{refusal};
 ghost use Rattle.pungi_types.specs.TypesView.{definition_view};
 ghost use Rattle.pungi_check.specs.Graph.{callees as callees_of, node_view, node_of, number_in};
 
+use crate::call_node::CallNode;
+use crate::calls::called_words;
 use crate::numbers::numbers;
 use crate::refusals::told;
 use indexmap::{IndexMap, IndexSet};
 use pungi_base::Memory;
 use pungi_names::UnitNames;
-use pungi_refused::{Function, called_words};
 use pungi_tree::FunctionDef;
 use std::alloc::Global;
 
@@ -61,12 +62,12 @@ fn node(
     names: &UnitNames<'_>,
     numbers: &IndexMap<u32, usize>,
     f: &FunctionDef,
-) -> Result<Function, Memory>
+) -> Result<CallNode, Memory>
     ensures { IfOk result (λ n. node_view n ≡ node_of (file_of names.now) (rows_of names.now) (λ (w : ℕ). get nat_eq numbers.now w) (definition_view f.now)) }
 {
     let refused_alone = is_refused_alone(alloc, names, f)?;
     let callees = called(alloc, numbers, f)?;
-    Ok(Function {
+    Ok(CallNode {
         refused_alone,
         callees,
     })
@@ -78,7 +79,7 @@ fn nodes(
     names: &UnitNames<'_>,
     numbers: &IndexMap<u32, usize>,
     list: &[&FunctionDef],
-) -> Result<Vec<Function>, Memory>
+) -> Result<Vec<CallNode>, Memory>
     ensures { IfOk result (λ ns. map node_view ns.items ≡ map (node_of (file_of names.now) (rows_of names.now) (λ (w : ℕ). get nat_eq numbers.now w)) (map function_view list.now)) }
 {
     let mut nodes = Vec::new(alloc);
@@ -93,7 +94,7 @@ pub(crate) fn graph(
     alloc: Global,
     names: &UnitNames<'_>,
     list: &[&FunctionDef],
-) -> Result<Vec<Function>, Memory>
+) -> Result<Vec<CallNode>, Memory>
     ensures { IfOk result (λ ns. map node_view ns.items ≡ map (node_of (file_of names.now) (rows_of names.now) (number_in 0 (map function_view list.now))) (map function_view list.now)) }
 {
     let numbers = numbers(alloc, list)?;

@@ -10,7 +10,6 @@ pub mod Nodes
 pub mod Stmts
 pub mod Functions
 pub mod Refused
-pub mod Duplicates
 pub mod TypesView
 pub mod Standing
 pub mod ExprParts

@@ -1,0 +1,62 @@
+//! The fault of a file.
+ghost use Rattle.std.specs.Prelude.{◌≡◌, OnOk, IfOk, []};
+ghost use Rattle.pungi_names.specs.NamesView.{file_of, rows_of};
+ghost use Rattle.pungi_tree.specs.UnitView.{unit_view};
+ghost use Rattle.pungi_check.specs.Duplicates.{faults as faults_of, use_faults, uses as uses_of, variable_faults, typedef_faults, tag_faults};
+ghost use Rattle.pungi_types.specs.Files.{typedefs as typedefs_of};
+ghost use Rattle.pungi_types.specs.Findings.{◌and◌, least, least_from};
+ghost use Rattle.pungi_types.specs.Tags.{tags as tags_of};
+
+use crate::defined::{note_count, note_definitions, note_variables};
+use crate::seen_tags::note_tags;
+use crate::seen_uses::note_uses;
+use crate::typedef_words::note_typedefs;
+use crate::unit_uses::uses;
+use pungi_base::Memory;
+use pungi_declared::{definitions, tags, typedefs};
+use pungi_names::UnitNames;
+use pungi_tree::Unit;
+use pungi_types::Finding;
+use std::alloc::Global;
+
+#[tactic(auto, using(crate::proofs::SeenLemmas::by_names))]
+fn note_names(
+    alloc: Global,
+    names: &UnitNames<'_>,
+    first: &mut Option<Finding>,
+    unit: &Unit,
+) -> Result<(), Memory>
+    ensures { OnOk result (first.new ≡ least_from first.old (use_faults [] (uses_of (file_of names.now) (unit_view unit.now))
+        and variable_faults (file_of names.now) (rows_of names.now) (uses_of (file_of names.now) (unit_view unit.now)))) }
+{
+    let list = uses(alloc, names, unit)?;
+    note_uses(alloc, first, &list)?;
+    note_variables(names, first, &list);
+    Ok(())
+}
+
+#[tactic(auto, using(crate::proofs::SeenLemmas::by_names))]
+fn note_types(alloc: Global, first: &mut Option<Finding>, unit: &Unit) -> Result<(), Memory>
+    ensures { OnOk result (first.new ≡ least_from first.old (typedef_faults [] (typedefs_of (unit_view unit.now)) and tag_faults [] (tags_of (unit_view unit.now)))) }
+{
+    let words = typedefs(alloc, unit)?;
+    note_typedefs(alloc, first, &words)?;
+    let found = tags(alloc, unit)?;
+    note_tags(alloc, first, &found)?;
+    Ok(())
+}
+
+/// The fault of a file, the first in its text: a name that it may not use twice (1; C11 6.2.3, 6.7, 6.9), or the first
+/// function past the 4,096th (2). `None` where there is none.
+pub fn faults(alloc: Global, names: &UnitNames<'_>, unit: &Unit) -> Result<Option<Finding>, Memory>
+    requires { unit_view unit.now ≡ file_of names.now }
+    ensures { IfOk result (λ told. told ≡ least (faults_of (file_of names.now) (rows_of names.now))) }
+{
+    let mut first = None;
+    let functions = definitions(alloc, unit)?;
+    note_definitions(alloc, names, &mut first, &functions)?;
+    note_names(alloc, names, &mut first, unit)?;
+    note_types(alloc, &mut first, unit)?;
+    note_count(&mut first, &functions);
+    Ok(first)
+}

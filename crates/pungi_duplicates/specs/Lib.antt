@@ -1,3 +1,0 @@
-pub mod UsesView
-pub mod SeenNames
-pub mod SeenView

@@ -1,6 +1,0 @@
-use Rattle.std.proofs.Common.{take}
-use Rattle.pungi_refused.specs.Worklist.{Added}
-use Rattle.pungi_refused.proofs.callers.add_calls.Given as goal
-
-abbrev pub invariant-loop-callee : goal.invariant-loop-callee
-invariant-loop-callee l = Added l.fn.callers.items l.callers.items l.caller (take l.callee-index l.callees.items)

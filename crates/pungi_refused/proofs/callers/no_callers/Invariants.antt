@@ -1,5 +1,0 @@
-use Rattle.pungi_refused.specs.Worklist.{NoCallers}
-use Rattle.pungi_refused.proofs.callers.no_callers.Given as goal
-
-abbrev pub invariant-loop : goal.invariant-loop
-invariant-loop l = NoCallers l.counter l.callers.items

@@ -1,5 +1,0 @@
-use Rattle.pungi_refused.proofs.CountLemmas.{AloneBelow}
-use Rattle.pungi_refused.proofs.worklist.refused_alone.Given as goal
-
-abbrev pub invariant-loop-number : goal.invariant-loop-number
-invariant-loop-number l = AloneBelow l.functions l.alone.items l.number
