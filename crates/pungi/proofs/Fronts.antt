@@ -15,7 +15,6 @@ use Rattle.pungi_lex.specs.Expander.{IsExpanded, HasMacroFault, HasNoExpansion}
 use Rattle.pungi_lex.specs.Known.{IsKnown, AreKnown}
 use Rattle.pungi_lex.specs.MacroFault.{is_want_of_memory}
 use Rattle.pungi_lex.specs.Tokens.{AreTokensOf, HasFault, HasNoTokens, is_memory}
-use Rattle.pungi_api.specs.Rows.{builtin_rows}
 use Rattle.pungi_check.specs.Faults.{told as found_at, IsFaultOf as IsFaultOfUnit}
 use Rattle.pungi_check.specs.declared.fault.UnitFault.{UnitFault}
 use Rattle.pungi_check.specs.declared.fault.UnitFault.TheVariants as unit
@@ -25,10 +24,14 @@ use Rattle.pungi_parse.specs.Units.{IsUnit, StopsAt, too_deep}
 use Rattle.pungi_tree.specs.Placed.{Placed, placed, kinds}
 use Rattle.pungi_tree.specs.Syntax.{Item}
 use Rattle.pungi_check.specs.Duplicates.{faults}
+use Rattle.pungi_check.specs.Found.{IsAccepted}
+use Rattle.pungi_types.specs.Files.{SourceFile}
 use Rattle.pungi_types.specs.Findings.{least}
+use Rattle.pungi_types.specs.Refused.{CheckedFile, IsRefusedSet}
 use Rattle.pungi.specs.declared.file_fault.FileFault.{FileFault}
 use Rattle.pungi.specs.declared.file_fault.FileFault.TheVariants as fault
-use Rattle.pungi.specs.Front.{IsUnitOf, IsNoUnit, IsFile, IsNoFile, IsUnitFault, IsParseFault, IsFaultOf, AreKnownKinds, told_of_lex, told_of_macro, told_of_parse, told_of_unit, told_of}
+use Rattle.pungi.specs.Examine.{IsReport, IsReportOn}
+use Rattle.pungi.specs.Front.{IsUnitOf, IsNoUnit, IsFile, IsNoFile, IsRefusedAs, file_known, refused_text, IsUnitFault, IsParseFault, IsFaultOf, AreKnownKinds, told_of_lex, told_of_macro, told_of_parse, told_of_unit, told_of}
 
 told_lex : (found : LexFault) (told : Pos × List ℕ) → told_of_lex found ≡ Some told → is_memory found ≡ false
 told_lex lex.Memory told h = absurd (cc)
@@ -173,17 +176,40 @@ pub no_file : (text : List ℕ) (found : FileFault) → ((told : Pos × List ℕ
     → (told : Pos × List ℕ) → told_of found ≡ Some told → IsFaultOf text found × IsNoFile text
 no_file text found none told h = let n = none told h in (n.0, no_unit_no_file text n.1)
 
-unit_fault : (items : List Item) (found : UnitFault) (told : Pos × List ℕ) → told_of_unit found ≡ Some told → IsFaultOfUnit items builtin_rows found
-    → IsUnitFault items found × (least (faults items builtin_rows) ≡ None → ⊥)
-unit_fault items unit.Memory told h a = absurd (cc)
-unit_fault items (unit.DuplicateName at) told h a = (a, λ n. let b = a in cc)
-unit_fault items (unit.TooManyFunctions at) told h a = (a, λ n. let b = a in cc)
+unit_fault : (file : SourceFile) (found : UnitFault) (told : Pos × List ℕ) → told_of_unit found ≡ Some told → IsFaultOfUnit file found
+    → IsUnitFault file found × (least (faults file) ≡ None → ⊥)
+unit_fault file unit.Memory told h a = absurd (cc)
+unit_fault file (unit.DuplicateName at) told h a = (a, λ n. let b = a in cc)
+unit_fault file (unit.TooManyFunctions at) told h a = (a, λ n. let b = a in cc)
+
+-- the texts of names say nothing of a fault
+no_fault : (names others : List (List ℕ)) (items more : List Item) → more ≡ items → least (faults (file_known others more)) ≡ None → least (faults (file_known names items)) ≡ None
+no_fault names others items more same h = subst (λ (is : List Item). least (faults (file_known names is)) ≡ None) same h
 
 pub unit_refused : (text : List ℕ) (names : List (List ℕ)) (items : List Item) (found : UnitFault) → IsUnitOf text names items
-    → ((others : List (List ℕ)) (more : List Item) → IsUnitOf text others more → more ≡ items) → IsFaultOfUnit items builtin_rows found
+    → ((others : List (List ℕ)) (more : List Item) → IsUnitOf text others more → more ≡ items) → IsFaultOfUnit (file_known names items) found
     → (told : Pos × List ℕ) → told_of (fault.Unit found) ≡ Some told → IsFaultOf text (fault.Unit found) × IsNoFile text
 unit_refused text names items found spelled only holds told h =
-    let f = unit_fault items found told h holds in (
+    let f = unit_fault (file_known names items) found told h holds in (
       (names, items, spelled, f.0),
-      λ others more file. f.1 (subst (λ (is : List Item). least (faults is builtin_rows) ≡ None) (only others more file.spelled) file.distinct),
+      λ others more file. f.1 (no_fault names others items more (only others more file.spelled) file.distinct),
     )
+
+-- the report on a file that is accepted
+pub report_on : (text : List ℕ) (names : List (List ℕ)) (items : List Item) (c : CheckedFile) (status : ℕ) (report : List ℕ) → IsUnitOf text names items → IsAccepted (file_known names items) c
+    → IsReportOn names c status report → IsReport text status report
+report_on text names items c status report spelled accepted is = record {
+  names = names;
+  items = items;
+  file = record { spelled = spelled; distinct = accepted.2 };
+  refused = c.refused;
+  least = subst (λ (f : SourceFile). IsRefusedSet f c.refused) accepted.0 accepted.1;
+  report = subst (λ (f : SourceFile). IsReportOn names (record { file = f; refused = c.refused }) status report) accepted.0 is;
+}
+
+-- a text that is refused for this fault
+pub refused_as : (text : List ℕ) (found : FileFault) (answer : List ℕ) → ((told : Pos × List ℕ) → told_of found ≡ Some told → IsFaultOf text found × IsNoFile text)
+    → (at : Pos) × (reason : List ℕ) × (told_of found ≡ Some (at, reason)) × (answer ≡ refused_text at reason) → IsRefusedAs text answer
+refused_as text found answer is said =
+    let f = is (said.0, said.1) said.2 in
+    record { none = f.1; cause = found; holds = f.0; at = said.0; reason = said.1; told = said.2; printed = said.3 }

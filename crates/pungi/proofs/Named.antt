@@ -17,7 +17,7 @@ use Rattle.pungi_tree.specs.Tokens.{mark, keys_flat, stars_flat}
 use Rattle.pungi_tree.specs.UnitFlat.{signature_flat, item_flat, items_flat}
 use Rattle.pungi_report.specs.Text.{IsLine, IsPrintable}
 use Rattle.pungi_types.specs.Files.{Definition, definitions}
-use Rattle.pungi_check.specs.CheckedFile.{CheckedFile}
+use Rattle.pungi_types.specs.Refused.{CheckedFile}
 use Rattle.pungi_verdict.specs.Verdicts.{IsJudged, IsReportable}
 use Rattle.pungi.specs.Examine.{checked_file}
 use Rattle.pungi.specs.Front.{AreKnownKinds}
@@ -76,7 +76,7 @@ lines_printable names c (d ∷ ds) (line ∷ lines) known judged h =
     All-cons (IsLine names) line lines (printable names c d line (known 0 d (omega arith)) judged.0 (h 0 line (omega arith)))
     (lines_printable names c ds lines (λ k e lt. known (suc k) e (omega (arith, lt))) judged.1 (λ k e lt. h (suc k) e (omega (arith, lt))))
 
-pub all_printable : (names : List (List ℕ)) (items : List Item) (refused : List ℕ) (lines : List (Name × Verdict)) → AreKnownKinds (length names) (items_flat items)
-    → AllZip (IsJudged (checked_file items refused)) (definitions items) lines → All (λ (line : Name × Verdict). IsReportable line.1) lines → All (IsLine names) lines
-all_printable names items refused lines known judged h =
-    lines_printable names (checked_file items refused) (definitions items) lines (all_named (length names) items (known_of (length names) (items_flat items) known)) judged h
+pub all_printable : (names : List (List ℕ)) (c : CheckedFile) (lines : List (Name × Verdict)) → AreKnownKinds (length names) (items_flat c.file.items)
+    → AllZip (IsJudged c) (definitions c.file.items) lines → All (λ (line : Name × Verdict). IsReportable line.1) lines → All (IsLine names) lines
+all_printable names c lines known judged h =
+    lines_printable names c (definitions c.file.items) lines (all_named (length names) c.file.items (known_of (length names) (items_flat c.file.items) known)) judged h

@@ -1,24 +1,23 @@
 -- The report on the text of a file.
---   checked_file items refused    the unit of a file with the rows of the manual, where these functions are refused
+--   checked_file names items refused    what is known of a file, where these functions are refused
 --   is_faulty, is_open, status_of the status that goes with verdicts: whether one is faulty, or else one is neither clean nor faulty
---   IsReport text status report   the report on the text, one right verdict for each function that the file defines, and the status that goes with it
+--   IsReportOn names c status report    the report on a checked file: one right verdict for each function that it defines, and the status that goes with it
+--   IsReport text status report   the report on the file that the text is
 use Rattle.std.specs.Prelude.{◌≡◌, ℕ, Bool, true, false, List, if◌then◌else◌}
 use Rattle.std.specs.List.{AllZip, list_any}
 use Rattle.pungi_base.specs.declared.names.Name.{Name}
 use Rattle.pungi_base.specs.declared.verdict.Verdict.{Verdict}
 use Rattle.pungi_base.specs.declared.verdict.Verdict.TheVariants as verdict
-use Rattle.pungi_api.specs.Rows.{builtin_rows}
 use Rattle.pungi_tree.specs.Syntax.{Item}
 use Rattle.pungi_types.specs.Files.{definitions}
-use Rattle.pungi_types.specs.Refused.{IsRefusedSet}
-use Rattle.pungi_check.specs.CheckedFile.{CheckedFile}
+use Rattle.pungi_types.specs.Refused.{CheckedFile, IsRefusedSet}
 use Rattle.pungi_report.specs.Text.{report_text}
 use Rattle.pungi_verdict.specs.Verdicts.{IsJudged}
-use Rattle.pungi.specs.Front.{IsFile}
+use Rattle.pungi.specs.Front.{IsFile, file_known}
 use Rattle.pungi.specs.declared.status.TheConstants.{ALL_CLEAN, SOME_FAULTY, SOME_OPEN}
 
-abbrev pub checked_file : List Item → List ℕ → CheckedFile
-checked_file items refused = record { file = items; rows = builtin_rows; refused = refused }
+abbrev pub checked_file : List (List ℕ) → List Item → List ℕ → CheckedFile
+checked_file names items refused = record { file = file_known names items; refused = refused }
 
 abbrev pub is_faulty : Verdict → Bool
 is_faulty (verdict.Faulty fault) = true
@@ -35,13 +34,16 @@ is_open (verdict.Refused at rule) = true
 abbrev pub status_of : List (Name × Verdict) → ℕ
 status_of lines = if list_any (λ line. is_faulty line.1) lines then SOME_FAULTY else (if list_any (λ line. is_open line.1) lines then SOME_OPEN else ALL_CLEAN)
 
+pub record IsReportOn (names : List (List ℕ)) (c : CheckedFile) (status : ℕ) (report : List ℕ) : Type 0 where
+  pub lines : List (Name × Verdict)
+  pub judged : AllZip (IsJudged c) (definitions c.file.items) lines
+  pub counted : status ≡ status_of lines
+  pub printed : report ≡ report_text names lines
+
 pub record IsReport (text : List ℕ) (status : ℕ) (report : List ℕ) : Type 0 where
   pub names : List (List ℕ)
   pub items : List Item
   pub file : IsFile text names items
   pub refused : List ℕ
-  pub least : IsRefusedSet items builtin_rows refused
-  pub lines : List (Name × Verdict)
-  pub judged : AllZip (IsJudged (checked_file items refused)) (definitions items) lines
-  pub counted : status ≡ status_of lines
-  pub printed : report ≡ report_text names lines
+  pub least : IsRefusedSet (file_known names items) refused
+  pub report : IsReportOn names (checked_file names items refused) status report

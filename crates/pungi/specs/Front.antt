@@ -4,7 +4,8 @@
 --   IsFile text names items   a file: a text that spells these items, in which no name is used twice and no function is one too many
 --   IsNoFile text             it is none
 --   IsParseFault ts fault     why tokens have no tree
---   IsUnitFault items fault   why items are no file
+--   file_known names items    what is known of a file of these names and items
+--   IsUnitFault file fault    why what is known of a text is no file
 --   IsFaultOf text fault      why a text is refused, by its tokens, by its macros, by its grammar, or by its names
 --   AreKnownKinds names ks    the words and texts of tokens are among so many names
 --   told_of_lex, told_of_macro, told_of_parse, told_of_unit, told_of    the place of a fault and its reason, unless it is want of memory
@@ -34,6 +35,7 @@ use Rattle.pungi_parse.specs.Units.{IsUnit, StopsAt, too_deep}
 use Rattle.pungi_tree.specs.Placed.{Placed, placed}
 use Rattle.pungi_tree.specs.Syntax.{Item}
 use Rattle.pungi_check.specs.Duplicates.{faults}
+use Rattle.pungi_types.specs.Files.{SourceFile, source_file}
 use Rattle.pungi_types.specs.Findings.{least}
 use Rattle.pungi.specs.declared.file_fault.FileFault.{FileFault}
 use Rattle.pungi.specs.declared.file_fault.FileFault.TheVariants as fault
@@ -49,9 +51,12 @@ pub record IsUnitOf (text : List ℕ) (names : List (List ℕ)) (items : List It
 abbrev pub IsNoUnit : List ℕ → Type 0
 IsNoUnit text = (names : List (List ℕ)) → (items : List Item) → IsUnitOf text names items → ⊥
 
+abbrev pub file_known : List (List ℕ) → List Item → SourceFile
+file_known names items = source_file names items builtin_rows
+
 pub record IsFile (text : List ℕ) (names : List (List ℕ)) (items : List Item) : Type 0 where
   pub spelled : IsUnitOf text names items
-  pub distinct : least (faults items builtin_rows) ≡ None
+  pub distinct : least (faults (file_known names items)) ≡ None
 
 abbrev pub IsNoFile : List ℕ → Type 0
 IsNoFile text = (names : List (List ℕ)) → (items : List Item) → IsFile text names items → ⊥
@@ -61,17 +66,17 @@ IsParseFault ts parse.Memory = ⊥
 IsParseFault ts (parse.Deep at) = too_deep 0 ts ≡ Some at
 IsParseFault ts (parse.NotAUnit at) = (too_deep 0 ts ≡ None) × StopsAt ts at
 
-abbrev pub IsUnitFault : List Item → UnitFault → Type 0
-IsUnitFault items unit.Memory = ⊥
-IsUnitFault items (unit.DuplicateName at) = least (faults items builtin_rows) ≡ told at 1
-IsUnitFault items (unit.TooManyFunctions at) = least (faults items builtin_rows) ≡ told at 2
+abbrev pub IsUnitFault : SourceFile → UnitFault → Type 0
+IsUnitFault file unit.Memory = ⊥
+IsUnitFault file (unit.DuplicateName at) = least (faults file) ≡ told at 1
+IsUnitFault file (unit.TooManyFunctions at) = least (faults file) ≡ told at 2
 
 abbrev pub IsFaultOf : List ℕ → FileFault → Type 0
 IsFaultOf text (fault.Lex found) = HasFault text found
 IsFaultOf text (fault.Macro found) = (names : List (List ℕ)) × (tokens : List Token) × AreTokensOf builtin_words names text tokens × HasMacroFault (length names) tokens found
 IsFaultOf text (fault.Parse found) = (names : List (List ℕ)) × (tokens expanded : List Token) × AreTokensOf builtin_words names text tokens
     × IsExpanded (length names) tokens expanded × IsParseFault (placed expanded) found
-IsFaultOf text (fault.Unit found) = (names : List (List ℕ)) × (items : List Item) × IsUnitOf text names items × IsUnitFault items found
+IsFaultOf text (fault.Unit found) = (names : List (List ℕ)) × (items : List Item) × IsUnitOf text names items × IsUnitFault (file_known names items) found
 
 abbrev pub AreKnownKinds : ℕ → List Kind → Type 0
 AreKnownKinds names ks = All (λ k. IsKnown names k) ks

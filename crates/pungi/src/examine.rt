@@ -1,20 +1,19 @@
 ghost use Rattle.std.specs.Prelude.{◌≡◌, ◌⊎◌, ◌≤◌, length, IfOk};
-ghost use Rattle.std.specs.List.{All, AllZip, list_any};
-ghost use Rattle.pungi_api.specs.Rows.{builtin_rows};
-ghost use Rattle.pungi_check.specs.CheckedView.{checked_view};
-ghost use Rattle.pungi_types.specs.Files.{definitions as functions_of};
-ghost use Rattle.pungi_types.specs.Refused.{IsRefusedSet};
-ghost use Rattle.pungi_verdict.specs.Verdicts.{IsJudged, IsReportable};
-ghost use Rattle.pungi.specs.Examine.{IsReport, checked_file, is_faulty, is_open as is_open_of, status_of};
-ghost use Rattle.pungi.specs.Front.{IsRefusedAs};
+ghost use Rattle.std.specs.List.{list_any};
+ghost use Rattle.pungi_check.specs.Found.{checked_view, IsChecked};
+ghost use Rattle.pungi_tree.specs.UnitFlat.{items_flat};
+ghost use Rattle.pungi.specs.Examine.{IsReport, IsReportOn, is_faulty, is_open as is_open_of, status_of};
+ghost use Rattle.pungi.specs.Front.{AreKnownKinds, IsRefusedAs};
 
 use crate::answer::Answer;
-use crate::front::checked_of;
+use crate::file_fault::FileFault;
+use crate::front::unit_of;
 use crate::read::FILE_LIMIT;
 use crate::refusal::refused;
 use crate::status::{ALL_CLEAN, FILE_REFUSED, SOME_FAULTY, SOME_OPEN};
+use pungi_api::Table;
 use pungi_base::{Memory, Name, Names, Verdict};
-use pungi_check::Checked;
+use pungi_check::{Checked, check};
 use pungi_report::report;
 use pungi_verdict::judge_all;
 use std::alloc::Global;
@@ -62,15 +61,17 @@ fn status(lines: &[(Name, Verdict)]) -> u8
     }
 }
 
-/// The verdict on each function that a file defines, in their order.
-fn judged(alloc: Global, checked: &Checked) -> Result<Vec<(Name, Verdict)>, Memory>
-    requires { (checked_view checked.now).rows ≡ builtin_rows }
-    ensures least { IsRefusedSet (checked_view checked.now).file builtin_rows (checked_view checked.now).refused }
-    ensures judged { IfOk result (λ lines. AllZip (IsJudged (checked_file (checked_view checked.now).file (checked_view checked.now).refused)) (functions_of (checked_view checked.now).file) lines.items) }
-    ensures reportable { IfOk result (λ lines. All (λ line. IsReportable line.1) lines.items) }
+/// The report on a checked file, with the status that goes with it.
+fn reported(alloc: Global, names: &Names, checked: &Checked<'_>) -> Result<Answer, Memory>
+    requires checked { IsChecked checked.now }
+    requires known { AreKnownKinds (length names.now) (items_flat (checked_view checked.now).file.items) }
+    ensures { IfOk result (λ a. (a.status ≤ SOME_OPEN) × IsReportOn names.now (checked_view checked.now) a.status a.text.items) }
 {
     let lines = judge_all(alloc, checked)?;
-    Ok(lines)
+    Ok(Answer {
+        status: status(&lines),
+        text: report(alloc, names, &lines)?,
+    })
 }
 
 /// The answer to a text within the limit: the report on its functions, or why it is refused.
@@ -78,14 +79,14 @@ pub(crate) fn examine(alloc: Global, text: &[u8]) -> Result<Answer, Memory>
     requires { length text.now ≤ FILE_LIMIT }
     ensures { IfOk result (λ a. ((a.status ≤ SOME_OPEN) × IsReport text.now a.status a.text.items) ⊎ ((a.status ≡ FILE_REFUSED) × IsRefusedAs text.now a.text.items)) }
 {
+    let rows = Table::builtin(alloc)?;
     let mut names = Names::builtin(alloc)?;
-    let checked = match checked_of(alloc, &mut names, text) {
-        Ok(checked) => checked,
+    let unit = match unit_of(alloc, &mut names, text) {
+        Ok(unit) => unit,
         Err(fault) => return refused(alloc, &fault),
     };
-    let lines = judged(alloc, &checked)?;
-    Ok(Answer {
-        status: status(&lines),
-        text: report(alloc, &names, &lines)?,
-    })
+    match check(alloc, &names, &unit, &rows) {
+        Ok(checked) => reported(alloc, &names, &checked),
+        Err(fault) => refused(alloc, &FileFault::Unit(fault)),
+    }
 }

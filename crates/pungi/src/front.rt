@@ -1,25 +1,21 @@
-ghost use Rattle.std.specs.Prelude.{◌≡◌, ◌≤◌, length, List, ℕ, Some, None, IfOk, IfErr};
+ghost use Rattle.std.specs.Prelude.{◌≡◌, ◌≤◌, length, List, ℕ, Some, IfOk, IfErr};
 ghost use Rattle.pungi_base.specs.declared.pos.Pos.{Pos};
 ghost use Rattle.pungi_base.specs.Words.{builtin_words};
-ghost use Rattle.pungi_api.specs.Rows.{builtin_rows};
-ghost use Rattle.pungi_check.specs.CheckedView.{checked_view};
 ghost use Rattle.pungi_tree.specs.Syntax.{Item};
 ghost use Rattle.pungi_tree.specs.UnitFlat.{items_flat};
 ghost use Rattle.pungi_tree.specs.UnitView.{unit_view};
-ghost use Rattle.pungi.specs.Front.{IsUnitOf, IsNoUnit, IsFile, IsNoFile, IsFaultOf, AreKnownKinds, told_of};
+ghost use Rattle.pungi.specs.Front.{IsUnitOf, IsNoUnit, IsFaultOf, AreKnownKinds, told_of};
 
 use crate::file_fault::FileFault;
 use crate::read::FILE_LIMIT;
-use pungi_api::Table;
 use pungi_base::Names;
-use pungi_check::{Checked, UnitFault, check};
 use pungi_lex::{TOKEN_LIMIT, expand, lex};
 use pungi_parse::parse;
 use pungi_tree::Unit;
 use std::alloc::Global;
 
 /// What a text within the limit consists of: its tokens, their macros replaced, as a tree.
-fn unit_of(alloc: Global, names: &mut Names, text: &[u8]) -> Result<Unit, FileFault>
+pub(crate) fn unit_of(alloc: Global, names: &mut Names, text: &[u8]) -> Result<Unit, FileFault>
     requires limit { length text.now ≤ FILE_LIMIT }
     requires words { names.old ≡ builtin_words }
     ensures unit { IfOk result (λ unit. IsUnitOf text.now names.new (unit_view unit)) }
@@ -39,41 +35,5 @@ fn unit_of(alloc: Global, names: &mut Names, text: &[u8]) -> Result<Unit, FileFa
     match parse(alloc, &expanded) {
         Ok(unit) => Ok(unit),
         Err(fault) => Err(FileFault::Parse(fault)),
-    }
-}
-
-/// The rows of the API that are known.
-fn rows(alloc: Global) -> Result<Table, FileFault>
-    ensures rows { IfOk result (λ rows. rows ≡ builtin_rows) }
-    ensures memory { IfErr result (λ fault. told_of fault ≡ None) }
-{
-    match Table::builtin(alloc) {
-        Ok(rows) => Ok(rows),
-        Err(_) => Err(FileFault::Unit(UnitFault::Memory)),
-    }
-}
-
-/// What a text within the limit declares and defines, with the rule that is told of each function.
-pub(crate) fn checked_of(
-    alloc: Global,
-    names: &mut Names,
-    text: &[u8],
-) -> Result<Checked, FileFault>
-    requires limit { length text.now ≤ FILE_LIMIT }
-    requires words { names.old ≡ builtin_words }
-    ensures file { IfOk result (λ checked. IsFile text.now names.new (checked_view checked).file) }
-    ensures rows { IfOk result (λ checked. (checked_view checked).rows ≡ builtin_rows) }
-    ensures known { IfOk result (λ checked. AreKnownKinds (length names.new) (items_flat (checked_view checked).file)) }
-    ensures few { IfOk result (λ checked. length (items_flat (checked_view checked).file) ≤ TOKEN_LIMIT) }
-    ensures fault { IfErr result (λ fault. (told : Pos × List ℕ) → told_of fault ≡ Some told → IsFaultOf text.now fault × IsNoFile text.now) }
-{
-    let unit = match unit_of(alloc, names, text) {
-        Ok(unit) => unit,
-        Err(fault) => return Err(fault),
-    };
-    let rows = rows(alloc)?;
-    match check(alloc, names, unit, rows) {
-        Ok(checked) => Ok(checked),
-        Err(fault) => Err(FileFault::Unit(fault)),
     }
 }

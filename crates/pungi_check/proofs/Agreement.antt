@@ -27,7 +27,7 @@ ands-false true false = refl
 ands-false false b = refl
 
 no_refused_call : (x : World) (w : ℕ) → refused_call x [] w ≡ false
-no_refused_call x w = ands-false (is_some_definition (definition_in (definitions x.file) w)) (not (w == x.self))
+no_refused_call x w = ands-false (is_some_definition (definition_in (definitions x.file.items) w)) (not (w == x.self))
 
 -- a set that holds no called word says the same as the empty one
 pub none_agree : (x : World) (t ws : List ℕ) → list_any (refused_call x t) ws ≡ false → Agree x [] t ws

@@ -1,6 +1,6 @@
 -- What is known of the functions below a number, as loops over them go on.
 use Rattle.std.proofs.Common.{◌≡◌, ℕ, zero, suc, ◌+◌, ◌<◌, Bool, true, false, List, [], ◌∷◌, ◌++◌, length, get_or, take, Some, Vec, refl, ◌∙◌, sym, arith, length-append}
-use Rattle.std.specs.Prelude.{◌==◌, nat_lt, ◌&&◌, ◌||◌, slice_get, if◌then◌else◌}
+use Rattle.std.specs.Prelude.{◌==◌, nat_lt, ◌&&◌, ◌||◌, slice_get, is_some, if◌then◌else◌}
 use Rattle.std.specs.declared.alloc.Global.{Global}
 use Rattle.std.proofs.lemmas.Bool.Decides.{nat_tests}
 use Rattle.std.proofs.lemmas.List.{take_more}
@@ -98,25 +98,25 @@ pub record AloneBelow (fs : List CallNode) (is : List ℕ) (k : ℕ) : Type 0 wh
 pub alone_start : (fs : List CallNode) → AloneBelow fs [] 0
 alone_start fs = record { alone = λ i. rw (none_below i) refl }
 
-alone_same : (fs : List CallNode) (k i : ℕ) (f : CallNode) → slice_get fs k ≡ Some f → (i == k) ≡ true → f.refused_alone ≡ is_alone fs i
+alone_same : (fs : List CallNode) (k i : ℕ) (f : CallNode) → slice_get fs k ≡ Some f → (i == k) ≡ true → is_some f.alone ≡ is_alone fs i
 alone_same fs k i f e h = let q : i ≡ k = grind (arith, nat_tests) in rw (q, e) refl
 
-alone_more : (fs : List CallNode) (is : List ℕ) (k : ℕ) (f : CallNode) → slice_get fs k ≡ Some f → f.refused_alone ≡ true → AloneBelow fs is k → AloneBelow fs (is ++ k ∷ []) (k + 1)
+alone_more : (fs : List CallNode) (is : List ℕ) (k : ℕ) (f : CallNode) → slice_get fs k ≡ Some f → is_some f.alone ≡ true → AloneBelow fs is k → AloneBelow fs (is ++ k ∷ []) (k + 1)
 alone_more fs is k f e t b = record {
   alone = λ i.
       rw (list_any-append (λ x. i == x) is (k ∷ []), b.alone i, and_one (i == k)) (one_below_more i k (is_alone fs i) true (λ h. sym t ∙ alone_same fs k i f e h));
 }
 
-alone_less : (fs : List CallNode) (is : List ℕ) (k : ℕ) (f : CallNode) → slice_get fs k ≡ Some f → f.refused_alone ≡ false → AloneBelow fs is k → AloneBelow fs is (k + 1)
+alone_less : (fs : List CallNode) (is : List ℕ) (k : ℕ) (f : CallNode) → slice_get fs k ≡ Some f → is_some f.alone ≡ false → AloneBelow fs is k → AloneBelow fs is (k + 1)
 alone_less fs is k f e t b = record {
   alone = λ i.
       b.alone i ∙ (and_none (nat_lt i k && is_alone fs i) (i == k) ∙ one_below_more i k (is_alone fs i) false (λ h. sym t ∙ alone_same fs k i f e h));
 }
 
-pub alone_next : (fs : List CallNode) (is is' : List ℕ) (k : ℕ) (f : CallNode) → k < length fs → f ≡ get_or fs k f → AloneBelow fs is k → is' ≡ (if f.refused_alone then is ++ k ∷ [] else is) → AloneBelow fs is' (k + 1)
+pub alone_next : (fs : List CallNode) (is is' : List ℕ) (k : ℕ) (f : CallNode) → k < length fs → f ≡ get_or fs k f → AloneBelow fs is k → is' ≡ (if is_some f.alone then is ++ k ∷ [] else is) → AloneBelow fs is' (k + 1)
 alone_next fs is is' k f h g b n =
     let e = slice_get_read fs (length fs) k f refl h g in
-    rw n (elim f.refused_alone as (λ t. (f.refused_alone ≡ t) → AloneBelow fs (if t then is ++ k ∷ [] else is) (k + 1))
+    rw n (elim (is_some f.alone) as (λ t. (is_some f.alone ≡ t) → AloneBelow fs (if t then is ++ k ∷ [] else is) (k + 1))
     [ true ↦ λ t. alone_more fs is k f e t b | false ↦ λ t. alone_less fs is k f e t b ] refl)
 
 pub alone_end : (fs : List CallNode) (is : List ℕ) (k : ℕ) → k ≡ length fs → AloneBelow fs is k → (i : ℕ) → is_among is i ≡ is_alone fs i

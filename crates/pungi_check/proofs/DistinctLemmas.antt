@@ -6,7 +6,7 @@ use Rattle.std.proofs.lemmas.Bool.Decides.{nat_tests}
 use Rattle.pungi_base.specs.declared.pos.Pos.{Pos}
 use Rattle.pungi_tree.specs.Syntax.{Item}
 use Rattle.pungi_api.specs.declared.row.Row.{Row}
-use Rattle.pungi_types.specs.Files.{Definition, definitions, typedefs}
+use Rattle.pungi_types.specs.Files.{SourceFile, Definition, definitions, typedefs}
 use Rattle.pungi_types.specs.Tags.{tags}
 use Rattle.pungi_types.specs.Findings.{Findings, nothing_found, one_found, ◌and◌, when, is_before, earlier, least_from, least}
 use Rattle.pungi_types.specs.Names.{is_among, with_word}
@@ -44,22 +44,22 @@ new-and : (a b : Bool) → a ≡ false → b ≡ true → (not a && b) ≡ true
 new-and true b h k = absurd (cc)
 new-and false b h k = k
 
-definitions-new : (file : List Item) (rows : List (ℕ × Row)) (seen : List ℕ) (ds : List Definition)
-    → least (definition_faults file rows seen ds) ≡ None → are_new seen ds ≡ true
-definitions-new file rows seen [] h = refl
-definitions-new file rows seen (d ∷ ds) h =
-    let here = when (is_among seen d.name.0 || is_taken file rows d.name.0) d.pos 1 in
-    let rest = definition_faults file rows (with_word seen d.name.0) ds in
+definitions-new : (file : SourceFile) (seen : List ℕ) (ds : List Definition)
+    → least (definition_faults file seen ds) ≡ None → are_new seen ds ≡ true
+definitions-new file seen [] h = refl
+definitions-new file seen (d ∷ ds) h =
+    let here = when (is_among seen d.name.0 || is_taken file.rows d.name.0) d.pos 1 in
+    let rest = definition_faults file (with_word seen d.name.0) ds in
     new-and (is_among seen d.name.0) (are_new (with_word seen d.name.0) ds)
-    (or-none (is_among seen d.name.0) (is_taken file rows d.name.0) (when-none _ d.pos 1 (left-none here rest h)))
-    (definitions-new file rows (with_word seen d.name.0) ds (right-none here rest h))
+    (or-none (is_among seen d.name.0) (is_taken file.rows d.name.0) (when-none _ d.pos 1 (left-none here rest h)))
+    (definitions-new file (with_word seen d.name.0) ds (right-none here rest h))
 
 -- a file without faults defines functions of distinct names
-pub file-new : (file : List Item) (rows : List (ℕ × Row)) → least (faults file rows) ≡ None → are_new [] (definitions file) ≡ true
-file-new file rows h =
-    let others = use_faults [] (uses file file) and (variable_faults file rows (uses file file)
-    and (typedef_faults [] (typedefs file) and (tag_faults [] (tags file) and count_faults (slice_get (definitions file) 4096)))) in
-    definitions-new file rows [] (definitions file) (left-none (definition_faults file rows [] (definitions file)) others h)
+pub file-new : (file : SourceFile) → least (faults file) ≡ None → are_new [] (definitions file.items) ≡ true
+file-new file h =
+    let others = use_faults [] (uses file.items file.items) and (variable_faults file (uses file.items file.items)
+    and (typedef_faults [] (typedefs file.items) and (tag_faults [] (tags file.items) and count_faults (slice_get (definitions file.items) 4096)))) in
+    definitions-new file [] (definitions file.items) (left-none (definition_faults file [] (definitions file.items)) others h)
 
 behind-the-end : {X : Type 0} (xs : List X) (i : ℕ) → slice_get xs i ≡ None → length xs ≤ i
 behind-the-end [] i h = omega (arith)
@@ -71,19 +71,19 @@ count-none None h = refl
 count-none (Some d) h = absurd (cc)
 
 -- .. and 4,096 at most
-pub file-few : (file : List Item) (rows : List (ℕ × Row)) → least (faults file rows) ≡ None → length (definitions file) ≤ 4096
-file-few file rows h =
-    let counted = count_faults (slice_get (definitions file) 4096) in
-    let by-tags = tag_faults [] (tags file) and counted in
-    let by-words = typedef_faults [] (typedefs file) and by-tags in
-    let by-variables = variable_faults file rows (uses file file) and by-words in
-    let by-uses = use_faults [] (uses file file) and by-variables in
-    let none = right-none (tag_faults [] (tags file)) counted
-    (right-none (typedef_faults [] (typedefs file)) by-tags
-    (right-none (variable_faults file rows (uses file file)) by-words
-    (right-none (use_faults [] (uses file file)) by-variables
-    (right-none (definition_faults file rows [] (definitions file)) by-uses h)))) in
-    behind-the-end (definitions file) 4096 (count-none (slice_get (definitions file) 4096) none)
+pub file-few : (file : SourceFile) → least (faults file) ≡ None → length (definitions file.items) ≤ 4096
+file-few file h =
+    let counted = count_faults (slice_get (definitions file.items) 4096) in
+    let by-tags = tag_faults [] (tags file.items) and counted in
+    let by-words = typedef_faults [] (typedefs file.items) and by-tags in
+    let by-variables = variable_faults file (uses file.items file.items) and by-words in
+    let by-uses = use_faults [] (uses file.items file.items) and by-variables in
+    let none = right-none (tag_faults [] (tags file.items)) counted
+    (right-none (typedef_faults [] (typedefs file.items)) by-tags
+    (right-none (variable_faults file (uses file.items file.items)) by-words
+    (right-none (use_faults [] (uses file.items file.items)) by-variables
+    (right-none (definition_faults file [] (definitions file.items)) by-uses h)))) in
+    behind-the-end (definitions file.items) 4096 (count-none (slice_get (definitions file.items) 4096) none)
 
 pub and-left : (a b : Bool) → (not a && b) ≡ true → a ≡ false
 and-left true b h = absurd (cc)

@@ -6,7 +6,7 @@ use Rattle.pungi_base.specs.declared.names.Name.{Name}
 use Rattle.pungi_base.specs.declared.pos.Pos.{Pos}
 use Rattle.pungi_tree.specs.Syntax.{Item}
 use Rattle.pungi_api.specs.declared.row.Row.{Row}
-use Rattle.pungi_types.specs.Files.{Definition, definitions, Typedef, typedefs}
+use Rattle.pungi_types.specs.Files.{SourceFile, Definition, definitions, Typedef, typedefs}
 use Rattle.pungi_types.specs.Findings.{Findings, nothing_found, one_found, ◌and◌, when, is_before, earlier, least_from, least}
 use Rattle.pungi_types.specs.Names.{is_among, with_word}
 use Rattle.pungi_types.specs.Tags.{Tag, tags}
@@ -54,19 +54,19 @@ when-one : (b : Bool) (p : Pos) → only_faults (when b p 1) ≡ true
 when-one true p = refl
 when-one false p = refl
 
-of-definitions : (file : List Item) (rows : List (ℕ × Row)) (seen : List ℕ) (ds : List Definition) → only_faults (definition_faults file rows seen ds) ≡ true
-of-definitions file rows seen [] = refl
-of-definitions file rows seen (d ∷ ds) =
-    both _ _ (when-one (is_among seen d.name.0 || is_taken file rows d.name.0) d.pos) (of-definitions file rows (with_word seen d.name.0) ds)
+of-definitions : (file : SourceFile) (seen : List ℕ) (ds : List Definition) → only_faults (definition_faults file seen ds) ≡ true
+of-definitions file seen [] = refl
+of-definitions file seen (d ∷ ds) =
+    both _ _ (when-one (is_among seen d.name.0 || is_taken file.rows d.name.0) d.pos) (of-definitions file (with_word seen d.name.0) ds)
 
 of-uses : (seen us : List NameUse) → only_faults (use_faults seen us) ≡ true
 of-uses seen [] = refl
 of-uses seen (u ∷ us) = both _ _ (when-one (used_otherwise seen u) u.pos) (of-uses (u ∷ seen) us)
 
-of-variables : (file : List Item) (rows : List (ℕ × Row)) (us : List NameUse) → only_faults (variable_faults file rows us) ≡ true
-of-variables file rows [] = refl
-of-variables file rows (u ∷ us) =
-    both _ _ (when-one (is_variable_use u.as_what && is_taken file rows u.name.0) u.pos) (of-variables file rows us)
+of-variables : (file : SourceFile) (us : List NameUse) → only_faults (variable_faults file us) ≡ true
+of-variables file [] = refl
+of-variables file (u ∷ us) =
+    both _ _ (when-one (is_variable_use u.as_what && is_taken file.rows u.name.0) u.pos) (of-variables file us)
 
 of-typedefs : (seen : List ℕ) (ts : List Typedef) → only_faults (typedef_faults seen ts) ≡ true
 of-typedefs seen [] = refl
@@ -84,30 +84,30 @@ of-count : (o : Option Definition) → only_faults (count_faults o) ≡ true
 of-count None = refl
 of-count (Some d) = refl
 
-of-file : (file : List Item) (rows : List (ℕ × Row)) → only_faults (faults file rows) ≡ true
-of-file file rows =
-    both _ _ (of-definitions file rows [] (definitions file))
-    (both _ _ (of-uses [] (uses file file))
-    (both _ _ (of-variables file rows (uses file file))
-    (both _ _ (of-typedefs [] (typedefs file))
-    (both _ _ (of-tags [] (tags file)) (of-count (slice_get (definitions file) 4096))))))
+of-file : (file : SourceFile) → only_faults (faults file) ≡ true
+of-file file =
+    both _ _ (of-definitions file [] (definitions file.items))
+    (both _ _ (of-uses [] (uses file.items file.items))
+    (both _ _ (of-variables file (uses file.items file.items))
+    (both _ _ (of-typedefs [] (typedefs file.items))
+    (both _ _ (of-tags [] (tags file.items)) (of-count (slice_get (definitions file.items) 4096))))))
 
 one-or-two : (n : ℕ) → is_fault_rule n ≡ true → (n ≡ 1) ⊎ (n ≡ 2)
 one-or-two n h = grind (arith, nat_tests)
 
 -- the fault that is told of a file is of rule 1 or 2
-pub fault-rule : (file : List Item) (rows : List (ℕ × Row)) (f : Finding) → least (faults file rows) ≡ Some f → (f.rule.0 ≡ 1) ⊎ (f.rule.0 ≡ 2)
-fault-rule file rows f e = one-or-two f.rule.0 (subst IsFault e (least-fault None (faults file rows) tt (of-file file rows)))
+pub fault-rule : (file : SourceFile) (f : Finding) → least (faults file) ≡ Some f → (f.rule.0 ≡ 1) ⊎ (f.rule.0 ≡ 2)
+fault-rule file f e = one-or-two f.rule.0 (subst IsFault e (least-fault None (faults file) tt (of-file file)))
 
 -- the fault that is told for the first finding of a file
-pub fault-of : (file : List Item) (rows : List (ℕ × Row)) (f : Finding) (u : UnitFault) → Some f ≡ least (faults file rows)
-    → (f.rule.0 ≡ 1 → u ≡ why.DuplicateName f.pos) → (f.rule.0 ≡ 2 → u ≡ why.TooManyFunctions f.pos) → IsFaultOf file rows u
-fault-of file rows f u is one two = ⊎_elim
-    (λ (e : f.rule.0 ≡ 1). subst (λ (v : UnitFault). IsFaultOf file rows v) (sym (one e)) (sym is ∙ ap (λ (n : ℕ). told f.pos n) e))
-    (λ (e : f.rule.0 ≡ 2). subst (λ (v : UnitFault). IsFaultOf file rows v) (sym (two e)) (sym is ∙ ap (λ (n : ℕ). told f.pos n) e))
-    (fault-rule file rows f (sym is))
+pub fault-of : (file : SourceFile) (f : Finding) (u : UnitFault) → Some f ≡ least (faults file)
+    → (f.rule.0 ≡ 1 → u ≡ why.DuplicateName f.pos) → (f.rule.0 ≡ 2 → u ≡ why.TooManyFunctions f.pos) → IsFaultOf file u
+fault-of file f u is one two = ⊎_elim
+    (λ (e : f.rule.0 ≡ 1). subst (λ (v : UnitFault). IsFaultOf file v) (sym (one e)) (sym is ∙ ap (λ (n : ℕ). told f.pos n) e))
+    (λ (e : f.rule.0 ≡ 2). subst (λ (v : UnitFault). IsFaultOf file v) (sym (two e)) (sym is ∙ ap (λ (n : ℕ). told f.pos n) e))
+    (fault-rule file f (sym is))
 
 -- what holds of a file holds of the file that it is
-pub of-file-seen : (P : List Item → List (ℕ × Row) → Type 0) (file seen : List Item) (rows others : List (ℕ × Row)) → (seen ≡ file) × (others ≡ rows) → P seen others → P file rows
+pub of-file-seen : (P : SourceFile → Type 0) (file seen : List Item) (rows others : List (ℕ × Row)) → (seen ≡ file) × (others ≡ rows) → P seen others → P file
 of-file-seen P file seen rows others same p =
     subst (λ (xs : List Item). P xs rows) same.0 (subst (λ (ys : List (ℕ × Row)). P seen ys) same.1 p)

@@ -26,7 +26,7 @@ defined_refused x t ls w (Some d) n h = rw n h
 
 unknown_or_value : (x : World) (t : List ℕ) (ls : List Local) (w : ℕ) (o : Option Local) → refused_call x t w ≡ true → (is_unknown_call (env_at x t ls) (local_called_or (env_at x t ls) w o) || is_value_called (local_called_or (env_at x t ls) w o)) ≡ true
 unknown_or_value x t ls w (Some l) h = refl
-unknown_or_value x t ls w None h = or-left _ _ (defined_refused x t ls w (definition_in (definitions x.file) w) (definition_in-named (definitions x.file) w) h)
+unknown_or_value x t ls w None h = or-left _ _ (defined_refused x t ls w (definition_in (definitions x.file.items) w) (definition_in-named (definitions x.file.items) w) h)
 
 or_false : (a : Bool) → (a || false) ≡ true → a ≡ true
 or_false true h = refl

@@ -5,7 +5,7 @@ use Rattle.std.specs.List.{list_any}
 use Rattle.pungi_tree.specs.Syntax.{Item, Stmt, block}
 use Rattle.pungi_api.specs.declared.row.Row.{Row}
 use Rattle.pungi_types.specs.declared.finding.Finding.{Finding}
-use Rattle.pungi_types.specs.Files.{Definition}
+use Rattle.pungi_types.specs.Files.{SourceFile, Definition}
 use Rattle.pungi_types.specs.Findings.{Findings, least}
 use Rattle.pungi_types.specs.Stmts.{Frame, in_block}
 use Rattle.pungi_types.specs.Functions.{file_env, first_frame, params_frame, body_findings, text_findings, or_sizes, refusal}
@@ -19,9 +19,9 @@ body-finds : (x : World) (t : List ℕ) (f : Frame) (a : Stmt) → Finds (refuse
 body-finds x t f (block p ss q) = stmts-finds x t (record (in_block f ss) { block = f.block }) ss
 body-finds x t f _ = none (refused_call x t) _
 
-text-finds : (file : List Item) (table : List (ℕ × Row)) (t : List ℕ) (d : Definition) → Finds (refused_call (world_of file table d) t) (called_words d) (text_findings (file_env file table t d.name.0) d)
-text-finds file table t d =
-    let x = world_of file table d in
+text-finds : (file : SourceFile) (t : List ℕ) (d : Definition) → Finds (refused_call (world_of file d) t) (called_words d) (text_findings (file_env file t d.name.0) d)
+text-finds file t d =
+    let x = world_of file d in
     let q = refused_call x t in
     let f = first_frame (env_at x [] []) d in
     second q _ _ _ (second q _ _ _ (second q _ _ _ (rw (params_frame-place x t f d.params) (body-finds x t (params_frame (place x [] f) d.params) d.body))))
@@ -31,7 +31,7 @@ or_sizes-told : (d : Definition) (fs : Findings) (o : Option Finding) → o ≡ 
 or_sizes-told d fs None e h = absurd (cc)
 or_sizes-told d fs (Some f) e h = rw (← e) refl
 
-pub refusal-finds : (file : List Item) (table : List (ℕ × Row)) (t : List ℕ) (d : Definition) → list_any (refused_call (world_of file table d) t) (called_words d) ≡ true → is_some (refusal file table t d) ≡ true
-refusal-finds file table t d h =
-    let fs = text_findings (file_env file table t d.name.0) d in
-    or_sizes-told d fs (least fs) refl (told fs None ((text-finds file table t d).found h))
+pub refusal-finds : (file : SourceFile) (t : List ℕ) (d : Definition) → list_any (refused_call (world_of file d) t) (called_words d) ≡ true → is_some (refusal file t d) ≡ true
+refusal-finds file t d h =
+    let fs = text_findings (file_env file t d.name.0) d in
+    or_sizes-told d fs (least fs) refl (told fs None ((text-finds file t d).found h))

@@ -23,7 +23,7 @@ vars-finds x t f qs sp [] = none (refused_call x t) _
 vars-finds x t f qs sp (var_decl d v ∷ vs) =
     let q = refused_call x t in
     let g = after_var (place x [] f) sp (var_decl d v) in
-    both q _ _ _ _ (second q _ _ _ (second q _ _ _ (initial-finds x t g.env.locals (declared_kind x.file sp d) (declr_pos d) v))) (vars-finds x t g qs sp vs)
+    both q _ _ _ _ (second q _ _ _ (second q _ _ _ (initial-finds x t g.env.locals (declared_kind x.file.items sp d) (declr_pos d) v))) (vars-finds x t g qs sp vs)
 
 decl-finds : (x : World) (t : List ℕ) (f : Frame) (d : Decl) → Finds (refused_call x t) (decl_calls d) (decl_findings (place x t f) d)
 decl-finds x t f (decl qs sp vs) = vars-finds x t f qs sp vs

@@ -1,10 +1,10 @@
 -- The graph that is made of a file's functions is their call graph.
 use Rattle.std.proofs.Common.{◌≡◌, ◌≤◌, ℕ, zero, suc, ◌+◌, Bool, true, false, List, [], ◌∷◌, length, map, Option, Some, None, refl, sym, ap, subst, ◌∙◌, arith}
-use Rattle.std.specs.Prelude.{◌==◌, ◌||◌, slice_get, option_map, if◌then◌else◌}
+use Rattle.std.specs.Prelude.{◌==◌, ◌||◌, slice_get, is_some, option_map, if◌then◌else◌}
 use Rattle.std.proofs.lemmas.Bool.Decides.{nat_tests}
 use Rattle.pungi_tree.specs.Syntax.{Item}
 use Rattle.pungi_api.specs.declared.row.Row.{Row}
-use Rattle.pungi_types.specs.Files.{Definition, definitions}
+use Rattle.pungi_types.specs.Files.{SourceFile, Definition, definitions}
 use Rattle.pungi_types.specs.Names.{is_among, with_word}
 use Rattle.pungi_check.specs.Calls.{called_words}
 use Rattle.pungi_check.specs.CallGraph.{alone_in, callees_in, IsCallGraph}
@@ -88,7 +88,7 @@ length-map A B f (x ∷ xs) = ap suc (length-map A B f xs)
 
 abbrev node_alone : Option Node → Bool
 node_alone None = false
-node_alone (Some n) = n.alone
+node_alone (Some n) = is_some n.alone
 
 abbrev node_calls : Option Node → List ℕ
 node_calls None = []
@@ -102,21 +102,21 @@ calls-view : (o : Option CallNode) → callees_in o ≡ node_calls (option_map n
 calls-view None = refl
 calls-view (Some f) = refl
 
-node-at : (file : List Item) (rows : List (ℕ × Row)) (fs : List CallNode) → map node_view fs ≡ graph_of file rows
-    → (i : ℕ) (d : Definition) → slice_get (definitions file) i ≡ Some d
-    → option_map node_view (slice_get fs i) ≡ Some (node_of file rows (number_in 0 (definitions file)) d)
-node-at file rows fs made i d s =
+node-at : (file : SourceFile) (fs : List CallNode) → map node_view fs ≡ graph_of file
+    → (i : ℕ) (d : Definition) → slice_get (definitions file.items) i ≡ Some d
+    → option_map node_view (slice_get fs i) ≡ Some (node_of file (number_in 0 (definitions file.items)) d)
+node-at file fs made i d s =
     sym (slice-map CallNode Node node_view fs i) ∙ ap (λ ns. slice_get ns i) made
-    ∙ slice-map Definition Node (node_of file rows (number_in 0 (definitions file))) (definitions file) i
-    ∙ ap (λ o. option_map (node_of file rows (number_in 0 (definitions file))) o) s
+    ∙ slice-map Definition Node (node_of file (number_in 0 (definitions file.items))) (definitions file.items) i
+    ∙ ap (λ o. option_map (node_of file (number_in 0 (definitions file.items))) o) s
 
 -- the graph of a file whose functions have distinct names is its call graph
-pub call-graph : (file : List Item) (rows : List (ℕ × Row)) (fs : List CallNode) → are_new [] (definitions file) ≡ true
-    → map node_view fs ≡ graph_of file rows → IsCallGraph file rows fs
-call-graph file rows fs new made = record {
-  count = sym (length-map CallNode Node node_view fs) ∙ ap length made ∙ length-map Definition Node (node_of file rows (number_in 0 (definitions file))) (definitions file);
-  alone = λ i d s. alone-view (slice_get fs i) ∙ ap node_alone (node-at file rows fs made i d s);
+pub call-graph : (file : SourceFile) (fs : List CallNode) → are_new [] (definitions file.items) ≡ true
+    → map node_view fs ≡ graph_of file → IsCallGraph file fs
+call-graph file fs new made = record {
+  count = sym (length-map CallNode Node node_view fs) ∙ ap length made ∙ length-map Definition Node (node_of file (number_in 0 (definitions file.items))) (definitions file.items);
+  alone = λ i d s. alone-view (slice_get fs i) ∙ ap node_alone (node-at file fs made i d s);
   calls = λ i j d e s t.
-      ap (λ ws. is_among ws j) (calls-view (slice_get fs i) ∙ ap node_calls (node-at file rows fs made i d s))
-      ∙ callees-among (definitions file) (called_words d) j e new t;
+      ap (λ ws. is_among ws j) (calls-view (slice_get fs i) ∙ ap node_calls (node-at file fs made i d s))
+      ∙ callees-among (definitions file.items) (called_words d) j e new t;
 }

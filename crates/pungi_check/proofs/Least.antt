@@ -5,7 +5,7 @@ use Rattle.std.specs.List.{list_any}
 use Rattle.std.proofs.lemmas.Bool.Decides.{nat_tests}
 use Rattle.pungi_tree.specs.Syntax.{Item}
 use Rattle.pungi_api.specs.declared.row.Row.{Row}
-use Rattle.pungi_types.specs.Files.{Definition, definitions, definition_in}
+use Rattle.pungi_types.specs.Files.{SourceFile, Definition, definitions, definition_in}
 use Rattle.pungi_types.specs.Names.{is_among, is_some_definition}
 use Rattle.pungi_types.specs.Functions.{refusal}
 use Rattle.pungi_types.specs.Refused.{Holds, IsRefusedSet}
@@ -82,15 +82,15 @@ marked_within (b ∷ marks) zero h = omega arith
 marked_within (b ∷ marks) (suc i) h = let k = marked_within marks i h in omega arith
 
 -- the names of the functions that reach a refused one
-pub record IsMarked (file : List Item) (table : List (ℕ × Row)) (fs : List CallNode) (marks : List Bool) : Type 0 where
-  pub graph : IsCallGraph file table fs
+pub record IsMarked (file : SourceFile) (fs : List CallNode) (marks : List Bool) : Type 0 where
+  pub graph : IsCallGraph file fs
   pub reached : IsReached fs marks
 
-reached-holds : (file : List Item) (table : List (ℕ × Row)) (fs : List CallNode) (marks : List Bool) → IsMarked file table fs marks → Holds file table (refused_names (definitions file) marks)
-reached-holds file table fs marks m i d e h =
-    let ds = definitions file in
+reached-holds : (file : SourceFile) (fs : List CallNode) (marks : List Bool) → IsMarked file fs marks → Holds file (refused_names (definitions file.items) marks)
+reached-holds file fs marks m i d e h =
+    let ds = definitions file.items in
     let t = refused_names ds marks in
-    let x = world_of file table d in
+    let x = world_of file d in
     elim (list_any (refused_call x t) (called_words d)) as (λ b. (list_any (refused_call x t) (called_words d) ≡ b) → is_among t d.name.0 ≡ true) [
       | true ↦ λ k.
           let c = called_in (refused_call x t) (called_words d) k in
@@ -98,34 +98,34 @@ reached-holds file table fs marks m i d e h =
           let called : is_among (called_words d) n.definition.name.0 ≡ true = rw n.named c.1 in
           named-in ds marks i d e (m.reached.complete i (by_call i n.number (m.graph.calls i n.number d n.definition e n.is ∙ called) (m.reached.sound n.number n.marked)))
       | false ↦ λ k.
-          let same = refusal-alone file table t d k in
-          let told : is_some (refusal file table [] d) ≡ true = rw (← same) h in
+          let same = refusal-alone file t d k in
+          let told : is_some (refusal file [] d) ≡ true = rw (← same) h in
           named-in ds marks i d e (m.reached.complete i (alone i (m.graph.alone i d e ∙ told)))
     ] refl
 
 -- a set that holds each function in which a rule holds has those that reach a refused one
-reached-in : (file : List Item) (table : List (ℕ × Row)) (fs : List CallNode) (marks : List Bool) → IsMarked file table fs marks → (other : List ℕ) → Holds file table other → (i : ℕ) → Reaches fs i → (d : Definition) → slice_get (definitions file) i ≡ Some d → is_among other d.name.0 ≡ true
-reached-in file table fs marks m other o _ (alone i a) d e =
-    o i d e (refusal-grows file table [] other d (λ w k. absurd (cc)) (sym (m.graph.alone i d e) ∙ a))
-reached-in file table fs marks m other o _ (by_call i j c r) d e =
-    let ds = definitions file in
-    let x = world_of file table d in
+reached-in : (file : SourceFile) (fs : List CallNode) (marks : List Bool) → IsMarked file fs marks → (other : List ℕ) → Holds file other → (i : ℕ) → Reaches fs i → (d : Definition) → slice_get (definitions file.items) i ≡ Some d → is_among other d.name.0 ≡ true
+reached-in file fs marks m other o _ (alone i a) d e =
+    o i d e (refusal-grows file [] other d (λ w k. absurd (cc)) (sym (m.graph.alone i d e) ∙ a))
+reached-in file fs marks m other o _ (by_call i j c r) d e =
+    let ds = definitions file.items in
+    let x = world_of file d in
     let within = marked_within marks j (m.reached.complete j r) in
     let same = m.reached.count in
     let counts = m.graph.count in
     let f = definition_at ds j (omega arith) in
-    let k = reached-in file table fs marks m other o j r f.0 f.1 in
+    let k = reached-in file fs marks m other o j r f.0 f.1 in
     elim (f.0.name.0 == d.name.0) as (λ b. ((f.0.name.0 == d.name.0) ≡ b) → is_among other d.name.0 ≡ true) [
       | true ↦ λ q. rw (is_word f.0.name.0 d.name.0 q) k
       | false ↦ λ q.
           let called : refused_call x other f.0.name.0 ≡ true = rw (is_defined ds j f.0 f.1, q, k) refl in
-          o i d e (refusal-finds file table other d (any_of (refused_call x other) (called_words d) f.0.name.0 (sym (m.graph.calls i j d f.0 e f.1) ∙ c) called))
+          o i d e (refusal-finds file other d (any_of (refused_call x other) (called_words d) f.0.name.0 (sym (m.graph.calls i j d f.0 e f.1) ∙ c) called))
     ] refl
 
-pub reached-least : (file : List Item) (table : List (ℕ × Row)) (fs : List CallNode) (marks : List Bool) → IsMarked file table fs marks → IsRefusedSet file table (refused_names (definitions file) marks)
-reached-least file table fs marks m = record {
-  holds = reached-holds file table fs marks m;
+pub reached-least : (file : SourceFile) (fs : List CallNode) (marks : List Bool) → IsMarked file fs marks → IsRefusedSet file (refused_names (definitions file.items) marks)
+reached-least file fs marks m = record {
+  holds = reached-holds file fs marks m;
   least = λ other o w h.
-      let n = names-from (definitions file) marks w h in
-      rw (← n.named) (reached-in file table fs marks m other o n.number (m.reached.sound n.number n.marked) n.definition n.is);
+      let n = names-from (definitions file.items) marks w h in
+      rw (← n.named) (reached-in file fs marks m other o n.number (m.reached.sound n.number n.marked) n.definition n.is);
 }

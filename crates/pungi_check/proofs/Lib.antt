@@ -20,7 +20,6 @@ mod FaultRules
 mod GatherLemmas
 mod GraphLemmas
 pub mod OwnLemmas
-mod PlaceLemmas
-mod TellLemmas
-mod TextLemmas
-mod ToldLemmas
+mod RefusedSet
+mod FindingAt
+mod CallsNone

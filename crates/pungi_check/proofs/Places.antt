@@ -1,9 +1,8 @@
 -- Places in a function that differ in the set of refused functions alone.
 use Rattle.std.proofs.Common.{◌≡◌, ℕ, Bool, List, [], ◌∷◌, refl}
 use Rattle.std.specs.Prelude.{◌==◌, ◌&&◌, not}
-use Rattle.pungi_tree.specs.Syntax.{Item, Spec, VarDecl, var_decl, Decl, decl, ForStart, start_decl, start_expr, Stmt, declare, block, do_expr, if_only, if_else, while, do_while, for, switch, case, default, label, goto, break, continue, return, ParamDecl, param_decl, ParamDecls, no_params, param_and, Params, params, named, bare, unused}
-use Rattle.pungi_api.specs.declared.row.Row.{Row}
-use Rattle.pungi_types.specs.Files.{definitions, definition_in}
+use Rattle.pungi_tree.specs.Syntax.{Spec, VarDecl, var_decl, Decl, decl, ForStart, start_decl, start_expr, Stmt, declare, block, do_expr, if_only, if_else, while, do_while, for, switch, case, default, label, goto, break, continue, return, ParamDecl, param_decl, ParamDecls, no_params, param_and, Params, params, named, bare, unused}
+use Rattle.pungi_types.specs.Files.{SourceFile, definitions, definition_in}
 use Rattle.pungi_types.specs.Names.{Env, is_among, is_some_definition}
 use Rattle.pungi_types.specs.declared.local.Local.{Local}
 use Rattle.pungi_types.specs.Stmts.{Frame, after_var, after_vars, after_decl, after_stmt, start_frame}
@@ -11,12 +10,11 @@ use Rattle.pungi_types.specs.Functions.{after_param, after_params, params_frame}
 
 -- a function of a file
 pub record World : Type 0 where
-  pub file : List Item
-  pub table : List (ℕ × Row)
+  pub file : SourceFile
   pub self : ℕ
 
 abbrev pub env_at : World → List ℕ → List Local → Env
-env_at x s ls = record { file = x.file; table = x.table; self = x.self; refused = s; locals = ls }
+env_at x s ls = record { file = x.file; self = x.self; refused = s; locals = ls }
 
 abbrev pub place : World → List ℕ → Frame → Frame
 place x s f = record f { env = env_at x s f.env.locals }
@@ -26,7 +24,7 @@ abbrev pub other_in : World → List ℕ → ℕ → Bool
 other_in x s w = not (w == x.self) && is_among s w
 
 abbrev pub refused_call : World → List ℕ → ℕ → Bool
-refused_call x s w = is_some_definition (definition_in (definitions x.file) w) && other_in x s w
+refused_call x s w = is_some_definition (definition_in (definitions x.file.items) w) && other_in x s w
 
 pub after_vars-place : (x : World) (s : List ℕ) (f : Frame) (sp : Spec) (vs : List VarDecl) → after_vars (place x s f) sp vs ≡ place x s (after_vars (place x [] f) sp vs)
 after_vars-place x s f sp [] = refl

@@ -2,7 +2,7 @@
 use Rattle.std.proofs.Common.{◌≡◌, ℕ, List, [], refl, ap}
 use Rattle.pungi_tree.specs.Syntax.{Item, Params, params, param_decl, ParamDecls, no_params, param_and, named, bare, unused, Stmt, block}
 use Rattle.pungi_api.specs.declared.row.Row.{Row}
-use Rattle.pungi_types.specs.Files.{Definition}
+use Rattle.pungi_types.specs.Files.{SourceFile, Definition}
 use Rattle.pungi_types.specs.Findings.{Findings, least}
 use Rattle.pungi_types.specs.Stmts.{Frame, in_block}
 use Rattle.pungi_types.specs.Functions.{file_env, first_frame, after_param, param_findings, params_findings, params_frame, body_findings, text_findings, or_sizes, refusal}
@@ -12,8 +12,8 @@ use Rattle.pungi_check.proofs.Agreement.{Agree}
 use Rattle.pungi_check.proofs.SameStmts.{ands-same, stmts-same}
 
 -- a function of a file as a place
-abbrev pub world_of : List Item → List (ℕ × Row) → Definition → World
-world_of file table d = record { file = file; table = table; self = d.name.0 }
+abbrev pub world_of : SourceFile → Definition → World
+world_of file d = record { file = file; self = d.name.0 }
 
 param-same : (x : World) (s t : List ℕ) (f : Frame) (ds : ParamDecls) → param_findings (place x s f) ds ≡ param_findings (place x t f) ds
 param-same x s t f no_params = refl
@@ -34,11 +34,11 @@ body-same x s t f _ h = refl
 body-in-same : (x : World) (s t : List ℕ) (f : Frame) (d : Definition) → Agree x s t (called_words d) → body_findings (params_frame (place x s f) d.params) d.body ≡ body_findings (params_frame (place x t f) d.params) d.body
 body-in-same x s t f d h = rw (params_frame-place x s f d.params, params_frame-place x t f d.params) (body-same x s t (params_frame (place x [] f) d.params) d.body h)
 
-text-same : (file : List Item) (table : List (ℕ × Row)) (s t : List ℕ) (d : Definition) → Agree (world_of file table d) s t (called_words d) → text_findings (file_env file table s d.name.0) d ≡ text_findings (file_env file table t d.name.0) d
-text-same file table s t d h =
-    let x = world_of file table d in
+text-same : (file : SourceFile) (s t : List ℕ) (d : Definition) → Agree (world_of file d) s t (called_words d) → text_findings (file_env file s d.name.0) d ≡ text_findings (file_env file t d.name.0) d
+text-same file s t d h =
+    let x = world_of file d in
     let f = first_frame (env_at x [] []) d in
     ands-same _ _ _ _ refl (ands-same _ _ _ _ (params-same x s t f d.params) (ands-same _ _ _ _ refl (body-in-same x s t f d h)))
 
-pub refusal-same : (file : List Item) (table : List (ℕ × Row)) (s t : List ℕ) (d : Definition) → Agree (world_of file table d) s t (called_words d) → refusal file table s d ≡ refusal file table t d
-refusal-same file table s t d h = ap (λ (fs : Findings). least (or_sizes d fs (least fs))) (text-same file table s t d h)
+pub refusal-same : (file : SourceFile) (s t : List ℕ) (d : Definition) → Agree (world_of file d) s t (called_words d) → refusal file s d ≡ refusal file t d
+refusal-same file s t d h = ap (λ (fs : Findings). least (or_sizes d fs (least fs))) (text-same file s t d h)

@@ -6,7 +6,7 @@ use Rattle.pungi_tree.specs.Syntax.{Expr, word, int, float, char, text, null, pa
 use Rattle.pungi_api.specs.declared.row.Row.{Row}
 use Rattle.pungi_api.specs.Rows.{row_in}
 use Rattle.pungi_types.specs.Files.{Definition, definitions, definition_in}
-use Rattle.pungi_types.specs.Names.{local_in, is_some_definition, global_kind, is_plain_static}
+use Rattle.pungi_types.specs.Names.{local_in, is_some_definition, global_kind, is_own_static}
 use Rattle.pungi_types.specs.declared.local.Local.{Local}
 use Rattle.pungi_types.specs.declared.lookup.Want.{Want}
 use Rattle.pungi_types.specs.Exprs.{Callee, a_value, defined, a_row, no_function, is_place, names_type_object, names_module, is_module_address, local_called_or, defined_or, row_or, callee, wants, result_kind, is_unknown_call, kind_of, are_met, other_wants}
@@ -48,7 +48,7 @@ defined-same x s t ls w None = refl
 
 local_called-same : (x : World) (s t : List ℕ) (ls : List Local) (w : ℕ) (o : Option Local) → local_called_or (env_at x s ls) w o ≡ local_called_or (env_at x t ls) w o
 local_called-same x s t ls w (Some l) = refl
-local_called-same x s t ls w None = defined-same x s t ls w (definition_in (definitions x.file) w)
+local_called-same x s t ls w None = defined-same x s t ls w (definition_in (definitions x.file.items) w)
 
 pub callee-same : (x : World) (s t : List ℕ) (ls : List Local) (f : Expr) → callee (env_at x s ls) f ≡ callee (env_at x t ls) f
 callee-same x s t ls (word p n) = local_called-same x s t ls n.0 (local_in ls n.0)
@@ -64,20 +64,20 @@ pub record SameCall (x : World) (s t : List ℕ) (ls : List Local) (c c' : Calle
   pub kind : result_kind (env_at x s ls) c ≡ result_kind (env_at x t ls) c'
   pub unknown : is_unknown_call (env_at x s ls) c ≡ is_unknown_call (env_at x t ls) c'
 
-row-alike : (x : World) (s t : List ℕ) (ls : List Local) (w : ℕ) (o : Option Row) → SameCall x s t ls (row_or x.file w o) (row_or x.file w o)
+row-alike : (x : World) (s t : List ℕ) (ls : List Local) (w : ℕ) (o : Option Row) → SameCall x s t ls (row_or x.file.items w o) (row_or x.file.items w o)
 row-alike x s t ls w (Some r) = record { kind = refl; unknown = refl }
-row-alike x s t ls w None = elim (is_some (global_kind x.file w) || is_plain_static w) as (λ b. SameCall x s t ls (if b then a_value else no_function) (if b then a_value else no_function))
+row-alike x s t ls w None = elim (is_some (global_kind x.file.items w) || is_own_static x.file.items w) as (λ b. SameCall x s t ls (if b then a_value else no_function) (if b then a_value else no_function))
     [ true ↦ record { kind = refl; unknown = refl } | false ↦ record { kind = refl; unknown = refl } ]
 
 defined-alike : (x : World) (s t : List ℕ) (ls : List Local) (w : ℕ) (o : Option Definition) → IsNamed w o → (is_some_definition o && other_in x s w) ≡ (is_some_definition o && other_in x t w) → SameCall x s t ls (defined_or (env_at x s ls) w o) (defined_or (env_at x t ls) w o)
-defined-alike x s t ls w None n h = row-alike x s t ls w (row_in x.table w)
+defined-alike x s t ls w None n h = row-alike x s t ls w (row_in x.file.rows w)
 defined-alike x s t ls w (Some d) n h =
     let e : other_in x s d.name.0 ≡ other_in x t d.name.0 = rw n h in
     record { kind = rw e refl; unknown = e }
 
 local_called-alike : (x : World) (s t : List ℕ) (ls : List Local) (w : ℕ) (o : Option Local) → refused_call x s w ≡ refused_call x t w → SameCall x s t ls (local_called_or (env_at x s ls) w o) (local_called_or (env_at x t ls) w o)
 local_called-alike x s t ls w (Some l) h = record { kind = refl; unknown = refl }
-local_called-alike x s t ls w None h = defined-alike x s t ls w (definition_in (definitions x.file) w) (definition_in-named (definitions x.file) w) h
+local_called-alike x s t ls w None h = defined-alike x s t ls w (definition_in (definitions x.file.items) w) (definition_in-named (definitions x.file.items) w) h
 
 pub called-alike : (x : World) (s t : List ℕ) (ls : List Local) (f : Expr) → Agree x s t (called_word f) → SameCall x s t ls (callee (env_at x s ls) f) (callee (env_at x t ls) f)
 called-alike x s t ls (word p n) h = local_called-alike x s t ls n.0 (local_in ls n.0) h.0

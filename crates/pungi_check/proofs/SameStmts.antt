@@ -28,7 +28,7 @@ vars-same x s t f qs sp [] h = refl
 vars-same x s t f qs sp (var_decl d v ∷ vs) h =
     let g = after_var (place x [] f) sp (var_decl d v) in
     ands-same _ _ _ _
-    (ands-same _ _ _ _ refl (ands-same _ _ _ _ refl (initial-same x s t g.env.locals (declared_kind x.file sp d) (declr_pos d) v (left x s t (init_calls v) (vars_calls vs) h))))
+    (ands-same _ _ _ _ refl (ands-same _ _ _ _ refl (initial-same x s t g.env.locals (declared_kind x.file.items sp d) (declr_pos d) v (left x s t (init_calls v) (vars_calls vs) h))))
     (vars-same x s t g qs sp vs (right x s t (init_calls v) (vars_calls vs) h))
 
 decl-same : (x : World) (s t : List ℕ) (f : Frame) (d : Decl) → Agree x s t (decl_calls d) → decl_findings (place x s f) d ≡ decl_findings (place x t f) d

@@ -4,12 +4,12 @@
 --   is_call fs i j          function i calls function j
 --   Reaches fs i            from function i calls lead to one in which a rule holds alone, or it is one
 --   IsReached fs marks      the marks are those of the functions that reach one
---   IsCallGraph file table fs    the functions are those of the file
+--   IsCallGraph file fs    the functions are those of the file
 --   refused_names ds marks  the names of the marked definitions
 use Rattle.std.specs.Prelude.{◌≡◌, ℕ, Bool, true, false, IsTrue, List, [], ◌∷◌, length, get_or, slice_get, Option, Some, None, is_some}
 use Rattle.pungi_tree.specs.Syntax.{Item}
 use Rattle.pungi_api.specs.declared.row.Row.{Row}
-use Rattle.pungi_types.specs.Files.{Definition, definitions}
+use Rattle.pungi_types.specs.Files.{SourceFile, Definition, definitions}
 use Rattle.pungi_types.specs.Names.{is_among}
 use Rattle.pungi_types.specs.Functions.{refusal}
 use Rattle.pungi_check.specs.Calls.{called_words}
@@ -17,7 +17,7 @@ use Rattle.pungi_check.specs.declared.call_node.CallNode.{CallNode}
 
 abbrev pub alone_in : Option CallNode → Bool
 alone_in None = false
-alone_in (Some f) = f.refused_alone
+alone_in (Some f) = is_some f.alone
 
 abbrev pub callees_in : Option CallNode → List ℕ
 callees_in None = []
@@ -39,10 +39,10 @@ pub record IsReached (fs : List CallNode) (marks : List Bool) : Type 0 where
   pub complete : (i : ℕ) → Reaches fs i → IsTrue (get_or marks i false)
 
 -- a function is refused alone as the rules say of the empty set, and calls another by its name
-pub record IsCallGraph (file : List Item) (table : List (ℕ × Row)) (fs : List CallNode) : Type 0 where
-  pub count : length fs ≡ length (definitions file)
-  pub alone : (i : ℕ) (d : Definition) → slice_get (definitions file) i ≡ Some d → is_alone fs i ≡ is_some (refusal file table [] d)
-  pub calls : (i j : ℕ) (d e : Definition) → slice_get (definitions file) i ≡ Some d → slice_get (definitions file) j ≡ Some e
+pub record IsCallGraph (file : SourceFile) (fs : List CallNode) : Type 0 where
+  pub count : length fs ≡ length (definitions file.items)
+  pub alone : (i : ℕ) (d : Definition) → slice_get (definitions file.items) i ≡ Some d → is_alone fs i ≡ is_some (refusal file [] d)
+  pub calls : (i j : ℕ) (d e : Definition) → slice_get (definitions file.items) i ≡ Some d → slice_get (definitions file.items) j ≡ Some e
       → is_call fs i j ≡ is_among (called_words d) e.name.0
 
 abbrev pub refused_names : List Definition → List Bool → List ℕ

@@ -1,6 +1,5 @@
 -- Functions of distinct names.
 --   are_new ws ds      no definition has the name of an earlier one, or one of these
---   AreOwn whole ds    each of these is the first of its name in the whole list
 use Rattle.std.specs.Prelude.{◌≡◌, ℕ, Bool, true, ◌&&◌, not, List, [], ◌∷◌, Some}
 use Rattle.pungi_types.specs.Files.{Definition, definition_in}
 use Rattle.pungi_types.specs.Names.{is_among, with_word}
@@ -8,7 +7,3 @@ use Rattle.pungi_types.specs.Names.{is_among, with_word}
 abbrev pub are_new : List ℕ → List Definition → Bool
 are_new ws [] = true
 are_new ws (d ∷ ds) = not (is_among ws d.name.0) && are_new (with_word ws d.name.0) ds
-
-abbrev pub AreOwn : List Definition → List Definition → Type 0
-AreOwn whole [] = Unit {0}
-AreOwn whole (d ∷ ds) = (definition_in whole d.name.0 ≡ Some d) × AreOwn whole ds

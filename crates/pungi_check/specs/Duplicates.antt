@@ -2,11 +2,11 @@
 --   Use, NameUse, is_same_use    a file-level name: that of a function, a variable or a table
 --   vars_uses, uses     these names in text order
 --   used_otherwise, use_faults    a name for two of function, variable and table
---   is_variable_use, is_taken, variable_faults    a variable with the name of a row or static
---   definition_faults   a function defined twice, or with the name of a row or static
+--   is_variable_use, is_taken, variable_faults    a variable with the name of a row or a built-in static
+--   definition_faults   a function defined twice, or with the name of a row or a built-in static
 --   typedef_faults      a type word defined twice, or one that is known before a text is read
 --   is_same_of, has_tag, tag_seen, one_tag_fault, tag_faults    a struct's or union's tag defined twice
---   count_faults, faults file table    the 4,097th function, and all of these
+--   count_faults, faults file    the 4,097th function, and all of these
 use Rattle.std.specs.Prelude.{ℕ, ◌==◌, Bool, true, false, ◌&&◌, ◌||◌, not, List, [], ◌∷◌, ◌++◌, Option, Some, None, is_some, slice_get, if◌then◌else◌}
 use Rattle.pungi_base.specs.declared.key.Key.{Key}
 use Rattle.pungi_base.specs.declared.names.Name.{Name}
@@ -15,9 +15,9 @@ use Rattle.pungi_tree.specs.Syntax.{Item, variables, head, prototype, function_d
 use Rattle.pungi_api.specs.declared.row.Row.{Row}
 use Rattle.pungi_api.specs.Rows.{row_in}
 use Rattle.pungi_types.specs.Tags.{Tag, tags}
-use Rattle.pungi_types.specs.Files.{Typedef, typedefs, Definition, definitions, declr_name, declr_pos}
+use Rattle.pungi_types.specs.Files.{SourceFile, Typedef, typedefs, Definition, definitions, declr_name, declr_pos}
 use Rattle.pungi_types.specs.Kinds.{is_struct, is_listed_type}
-use Rattle.pungi_types.specs.Names.{is_among, with_word, is_table, is_static}
+use Rattle.pungi_types.specs.Names.{is_among, with_word, is_table, is_built_in_static}
 use Rattle.pungi_types.specs.Findings.{Findings, nothing_found, ◌and◌, when}
 
 pub data Use : Type 0 where
@@ -62,19 +62,19 @@ abbrev pub is_variable_use : Use → Bool
 is_variable_use as_variable = true
 is_variable_use _ = false
 
-abbrev pub is_taken : List Item → List (ℕ × Row) → ℕ → Bool
-is_taken file table w = is_some (row_in table w) || is_static file w
+abbrev pub is_taken : List (ℕ × Row) → ℕ → Bool
+is_taken rows w = is_some (row_in rows w) || is_built_in_static w
 
--- a variable with the name of a row or static
-abbrev pub variable_faults : List Item → List (ℕ × Row) → List NameUse → Findings
-variable_faults file table [] = nothing_found
-variable_faults file table (u ∷ us) = when (is_variable_use u.as_what && is_taken file table u.name.0) u.pos 1 and variable_faults file table us
+-- a variable with the name of a row or a built-in static
+abbrev pub variable_faults : SourceFile → List NameUse → Findings
+variable_faults file [] = nothing_found
+variable_faults file (u ∷ us) = when (is_variable_use u.as_what && is_taken file.rows u.name.0) u.pos 1 and variable_faults file us
 
--- a function defined twice, or with the name of a row or static
-abbrev pub definition_faults : List Item → List (ℕ × Row) → List ℕ → List Definition → Findings
-definition_faults file table seen [] = nothing_found
-definition_faults file table seen (d ∷ ds) =
-    when (is_among seen d.name.0 || is_taken file table d.name.0) d.pos 1 and definition_faults file table (with_word seen d.name.0) ds
+-- a function defined twice, or with the name of a row or a built-in static
+abbrev pub definition_faults : SourceFile → List ℕ → List Definition → Findings
+definition_faults file seen [] = nothing_found
+definition_faults file seen (d ∷ ds) =
+    when (is_among seen d.name.0 || is_taken file.rows d.name.0) d.pos 1 and definition_faults file (with_word seen d.name.0) ds
 
 -- a type word defined twice, or one that is listed
 abbrev pub typedef_faults : List ℕ → List Typedef → Findings
@@ -107,7 +107,7 @@ abbrev pub count_faults : Option Definition → Findings
 count_faults None = nothing_found
 count_faults (Some d) = when true d.pos 2
 
-abbrev pub faults : List Item → List (ℕ × Row) → Findings
-faults file table =
-    definition_faults file table [] (definitions file) and (use_faults [] (uses file file) and (variable_faults file table (uses file file)
-    and (typedef_faults [] (typedefs file) and (tag_faults [] (tags file) and count_faults (slice_get (definitions file) 4096)))))
+abbrev pub faults : SourceFile → Findings
+faults file =
+    definition_faults file [] (definitions file.items) and (use_faults [] (uses file.items file.items) and (variable_faults file (uses file.items file.items)
+    and (typedef_faults [] (typedefs file.items) and (tag_faults [] (tags file.items) and count_faults (slice_get (definitions file.items) 4096)))))

@@ -1,10 +1,11 @@
 -- Why a file is refused.
 --   told p n            the finding of this place and number
---   IsFaultOf file rows fault    the first fault in the text, and at one place the lower number: 1 a duplicate name, 2 the 4,097th function
+--   IsFaultOf file fault    the first fault in the text, and at one place the lower number: 1 a duplicate name, 2 the 4,097th function
 use Rattle.std.specs.Prelude.{◌≡◌, ℕ, List, Option, Some}
 use Rattle.pungi_base.specs.declared.pos.Pos.{Pos}
 use Rattle.pungi_tree.specs.Syntax.{Item}
 use Rattle.pungi_api.specs.declared.row.Row.{Row}
+use Rattle.pungi_types.specs.Files.{SourceFile}
 use Rattle.pungi_types.specs.Findings.{least}
 use Rattle.pungi_check.specs.Duplicates.{faults}
 use Rattle.pungi_types.specs.declared.finding.Finding.{Finding}
@@ -14,7 +15,7 @@ use Rattle.pungi_check.specs.declared.fault.UnitFault.TheVariants as why
 abbrev pub told : Pos → ℕ → Option Finding
 told p n = Some (record { pos = p; rule = record { 0 = n } })
 
-abbrev pub IsFaultOf : List Item → List (ℕ × Row) → UnitFault → Type 0
-IsFaultOf file rows (why.DuplicateName p) = least (faults file rows) ≡ told p 1
-IsFaultOf file rows (why.TooManyFunctions p) = least (faults file rows) ≡ told p 2
-IsFaultOf file rows why.Memory = Unit {0}
+abbrev pub IsFaultOf : SourceFile → UnitFault → Type 0
+IsFaultOf file (why.DuplicateName p) = least (faults file) ≡ told p 1
+IsFaultOf file (why.TooManyFunctions p) = least (faults file) ≡ told p 2
+IsFaultOf file why.Memory = Unit {0}

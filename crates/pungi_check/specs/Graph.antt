@@ -2,16 +2,15 @@
 --   number_in i ds w    the number of the first function of a name, where the first of these has number i
 --   found o             what is found, as a list
 --   callees find ws     the numbers of those words that have one
---   Node, node_view     a function of the graph: whether it is refused alone, and what it calls
---   node_of file rows find d    that of a definition
---   graph_of file rows  that of each function of a file
+--   Node, node_view     a function of the graph: its finding where no other is refused, and what it calls
+--   node_of file find d that of a definition
+--   graph_of file       that of each function of a file
 --   gathered ws ds marks    these words, with the names of the marked definitions
 use Rattle.std.specs.Prelude.{ℕ, ◌+◌, ◌==◌, Bool, true, false, List, [], ◌∷◌, ◌++◌, map, Option, Some, None, is_some, if◌then◌else◌}
-use Rattle.pungi_tree.specs.Syntax.{Item}
-use Rattle.pungi_api.specs.declared.row.Row.{Row}
-use Rattle.pungi_types.specs.Files.{Definition, definitions}
+use Rattle.pungi_types.specs.Files.{SourceFile, Definition, definitions}
 use Rattle.pungi_types.specs.Names.{with_word}
 use Rattle.pungi_types.specs.Functions.{refusal}
+use Rattle.pungi_types.specs.declared.finding.Finding.{Finding}
 use Rattle.pungi_check.specs.Calls.{called_words}
 use Rattle.pungi_check.specs.declared.call_node.CallNode.{CallNode}
 
@@ -28,17 +27,17 @@ callees find [] = []
 callees find (w ∷ ws) = found (find w) ++ callees find ws
 
 pub record Node : Type 0 where
-  pub alone : Bool
+  pub alone : Option Finding
   pub calls : List ℕ
 
 abbrev pub node_view : CallNode → Node
-node_view f = record { alone = f.refused_alone; calls = f.callees.items }
+node_view f = record { alone = f.alone; calls = f.callees.items }
 
-abbrev pub node_of : List Item → List (ℕ × Row) → (ℕ → Option ℕ) → Definition → Node
-node_of file rows find d = record { alone = is_some (refusal file rows [] d); calls = callees find (called_words d) }
+abbrev pub node_of : SourceFile → (ℕ → Option ℕ) → Definition → Node
+node_of file find d = record { alone = refusal file [] d; calls = callees find (called_words d) }
 
-abbrev pub graph_of : List Item → List (ℕ × Row) → List Node
-graph_of file rows = map (node_of file rows (number_in 0 (definitions file))) (definitions file)
+abbrev pub graph_of : SourceFile → List Node
+graph_of file = map (node_of file (number_in 0 (definitions file.items))) (definitions file.items)
 
 abbrev pub gathered : List ℕ → List Definition → List Bool → List ℕ
 gathered ws [] marks = ws

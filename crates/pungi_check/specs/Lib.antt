@@ -5,9 +5,7 @@ pub mod Worklist
 pub mod UsesView
 pub mod SeenNames
 pub mod SeenView
-pub mod CheckedFile
-pub mod CheckedView
 pub mod Distinct
 pub mod Faults
 pub mod Graph
-pub mod Told
+pub mod Found

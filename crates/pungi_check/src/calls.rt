@@ -172,7 +172,7 @@ fn body(out: &mut Vec<u32>, s: &Stmt) -> Result<(), Memory>
 }
 
 /// The words that a function with this body calls, once for each call, in text order.
-pub fn called_words(alloc: Global, block: &Stmt) -> Result<Vec<u32>, Memory>
+pub(crate) fn called_words(alloc: Global, block: &Stmt) -> Result<Vec<u32>, Memory>
     ensures { IfOk result (λ ws. ws.items ≡ body_calls (stmt_view block.now)) }
 {
     let mut words = Vec::new(alloc);

@@ -1,62 +1,41 @@
-//! A unit is looked at once as a whole, and function by function.
-ghost use Rattle.std.specs.Prelude.{◌≡◌, ◌+◌, ◌≤◌, ◌^◌, [], None, length, IfOk, IfErr, OnOk, IsTrue, map};
-ghost use Rattle.pungi_check.specs.CheckedFile.{IsAccepted, function_places};
-ghost use Rattle.pungi_check.specs.CheckedView.{checked_view, texts_of};
-ghost use Rattle.pungi_check.specs.Distinct.{are_new};
-ghost use Rattle.pungi_check.specs.Faults.{IsFaultOf};
-ghost use Rattle.pungi_check.specs.Told.{IsTold};
-ghost use Rattle.pungi_check.specs.declared.fault.UnitFault.TheVariants.{DuplicateName, TooManyFunctions};
-ghost use Rattle.pungi_declared.specs.DeclaredView.{function_view};
-ghost use Rattle.pungi_names.specs.NamesView.{file_of, rows_of};
-ghost use Rattle.pungi_tree.specs.UnitView.{unit_view};
+//! A unit is checked as a whole, and then function by function.
+ghost use Rattle.std.specs.Prelude.{◌≡◌, ◌+◌, ◌≤◌, ◌^◌, None, length, IfOk, IfErr, OnOk, IsTrue, map};
 ghost use Rattle.pungi_check.specs.Duplicates.{faults as faults_of};
-ghost use Rattle.pungi_types.specs.Files.{definitions as definitions_of};
+ghost use Rattle.pungi_check.specs.Faults.{IsFaultOf};
+ghost use Rattle.pungi_check.specs.Found.{IsFound, IsChecked, checked_view};
+ghost use Rattle.pungi_check.specs.Graph.{graph_of, node_view};
+ghost use Rattle.pungi_check.specs.declared.fault.UnitFault.TheVariants.{DuplicateName, TooManyFunctions};
+ghost use Rattle.pungi_api.specs.Rows.{are_rows};
+ghost use Rattle.pungi_declared.specs.DeclaredView.{function_view};
+ghost use Rattle.pungi_names.specs.NamesView.{file_of};
+ghost use Rattle.pungi_resolve.specs.Resolutions.{resolution_of, resolution_view};
+ghost use Rattle.pungi_tree.specs.UnitView.{unit_view};
+ghost use Rattle.pungi_types.specs.Files.{source_file, definitions as definitions_of};
 ghost use Rattle.pungi_types.specs.Findings.{least};
 ghost use Rattle.pungi_types.specs.Functions.{refusal};
 ghost use Rattle.pungi_types.specs.Names.{type_objects};
 ghost use Rattle.pungi_types.specs.Refused.{IsRefusedSet};
 
+use crate::call_node::CallNode;
+use crate::file_faults::faults;
 use crate::graph::graph;
 use crate::refusals::refusals;
 use crate::refused_words::refused_words;
+use crate::resolutions::resolutions;
+use crate::worklist::least_set;
 use crate::{Checked, UnitFault};
 use indexmap::IndexSet;
 use pungi_api::Table;
-use pungi_base::{Memory, Name, Names, Rule};
+use pungi_base::{Memory, Name, Names, Rule, Seq};
 use pungi_declared::definitions;
-use pungi_duplicates::faults;
 use pungi_names::{UnitNames, unit_names};
-use pungi_refused::least_set;
-use pungi_tree::{FunctionDef, Item, Unit};
+use pungi_resolved::Function;
+use pungi_tree::{FunctionDef, Unit};
 use pungi_types::Finding;
 use std::alloc::Global;
 
-/// Where the functions of a unit stand among its items.
-fn function_places_of(alloc: Global, unit: &Unit) -> Result<Vec<usize>, Memory>
-    ensures { IfOk result (λ places. places.items ≡ function_places 0 (unit_view unit.now)) }
-{
-    let mut places = Vec::new(alloc);
-    for (place, item) in unit.items.iter().enumerate() {
-        if let Item::Function(_) = item {
-            places.push(place)?;
-        }
-    }
-    Ok(places)
-}
-
-/// The texts of names.
-fn texts(alloc: Global, names: &Names) -> Result<Vec<Vec<u8>>, Memory>
-    ensures { IfOk result (λ ts. map (λ t. t.items) ts.items ≡ names.now) }
-{
-    let mut texts = Vec::new(alloc);
-    for number in 0..names.len() {
-        let Ok(word) = u32::try_from(number) else {
-            return Err(Memory);
-        };
-        texts.push(Vec::from_slice(alloc, names.text(Name(word)))?)?;
-    }
-    Ok(texts)
-}
+/// So many type objects a file may have. There is no memory for more.
+const MOST_TYPE_OBJECTS: u32 = 1 << 30;
 
 /// The fault that a finding stands for.
 fn fault(found: Finding) -> UnitFault
@@ -69,141 +48,173 @@ fn fault(found: Finding) -> UnitFault
     }
 }
 
-/// What is told of the functions of a unit.
-#[derive(Drop)]
-struct Told {
-    refused: IndexSet<u32>,
-    refusals: Vec<Option<Finding>>,
-    statics: u32,
-}
-
-/// How many static objects there are. There is no memory for a file with more than 2^30 type objects.
-fn statics(names: &UnitNames<'_>) -> Result<u32, Memory>
-    ensures counted { IfOk result (λ n. n ≡ 24 + length (type_objects (file_of names.now))) }
-    ensures few { IfOk result (λ n. n ≤ 2 ^ 30 + 24) }
-{
-    let count = names.type_objects();
-    if count <= 1 << 30 {
-        Ok(count + 24)
-    } else {
-        Err(Memory)
-    }
-}
-
-/// The names of the refused functions.
-fn refused_set(
+/// Goes on where no name of a file is used twice and no function is one too many.
+fn refuse_fault(
     alloc: Global,
     names: &UnitNames<'_>,
-    list: &[&FunctionDef],
-) -> Result<IndexSet<u32>, Memory>
-    requires listed { map function_view list.now ≡ definitions_of (file_of names.now) }
-    requires distinct { IsTrue (are_new [] (definitions_of (file_of names.now))) }
-    ensures { IfOk result (λ refused. IsRefusedSet (file_of names.now) (rows_of names.now) refused.keys) }
+    unit: &Unit,
+    functions: &Vec<&FunctionDef>,
+) -> Result<(), UnitFault>
+    requires unit { unit_view unit.now ≡ (file_of names.now).items }
+    requires listed { map function_view functions.now.items ≡ definitions_of (file_of names.now).items }
+    ensures none { OnOk result (least (faults_of (file_of names.now)) ≡ None) }
+    ensures fault { IfErr result (λ e. IsFaultOf (file_of names.now) e) }
 {
-    let graph = graph(alloc, names, list)?;
-    let marks = least_set(alloc, &graph)?;
-    let refused = refused_words(alloc, list, &marks)?;
-    Ok(refused)
-}
-
-/// Looks at each function.
-fn tell(alloc: Global, names: &UnitNames<'_>, list: &[&FunctionDef]) -> Result<Told, Memory>
-    requires listed { map function_view list.now ≡ definitions_of (file_of names.now) }
-    requires distinct { IsTrue (are_new [] (definitions_of (file_of names.now))) }
-    ensures least { IfOk result (λ t. IsRefusedSet (file_of names.now) (rows_of names.now) t.refused.keys) }
-    ensures told { IfOk result (λ t. t.refusals.items ≡ map (refusal (file_of names.now) (rows_of names.now) t.refused.keys) (definitions_of (file_of names.now))) }
-    ensures counted { IfOk result (λ t. t.statics ≡ 24 + length (type_objects (file_of names.now))) }
-    ensures few_statics { IfOk result (λ t. t.statics ≤ 2 ^ 30 + 24) }
-{
-    let statics = statics(names)?;
-    let refused = refused_set(alloc, names, list)?;
-    let refusals = refusals(alloc, names, &refused, list)?;
-    Ok(Told {
-        refused,
-        refusals,
-        statics,
-    })
-}
-
-/// Goes on where no name of a file is used twice and no function is one too many.
-fn refuse_fault(alloc: Global, names: &UnitNames<'_>, unit: &Unit) -> Result<(), UnitFault>
-    requires { unit_view unit.now ≡ file_of names.now }
-    ensures none { OnOk result (least (faults_of (file_of names.now) (rows_of names.now)) ≡ None) }
-    ensures fault { IfErr result (λ e. IsFaultOf (file_of names.now) (rows_of names.now) e) }
-{
-    match faults(alloc, names, unit) {
+    match faults(alloc, names, unit, functions) {
         Ok(None) => Ok(()),
         Ok(Some(found)) => Err(fault(found)),
         Err(Memory) => Err(UnitFault::Memory),
     }
 }
 
-/// What is told of a unit with these names and of its functions.
-fn look_at(alloc: Global, names: &UnitNames<'_>, unit: &Unit) -> Result<Told, UnitFault>
-    requires { unit_view unit.now ≡ file_of names.now }
-    ensures told { IfOk result (λ t. IsTold (file_of names.now) (rows_of names.now) t.refused.keys t.refusals.items t.statics) }
-    ensures fault { IfErr result (λ e. IsFaultOf (file_of names.now) (rows_of names.now) e) }
+/// How many static objects there are. There is no memory for a file with more than 2^30 type objects.
+fn statics(names: &UnitNames<'_>) -> Result<u32, Memory>
+    ensures counted { IfOk result (λ n. n ≡ 24 + length (type_objects (file_of names.now).items)) }
+    ensures few { IfOk result (λ n. n ≤ 2 ^ 30 + 24) }
 {
-    refuse_fault(alloc, names, unit)?;
-    let list = definitions(alloc, unit)?;
-    let told = tell(alloc, names, list.as_slice())?;
-    Ok(told)
+    let count = names.type_objects();
+    if count <= MOST_TYPE_OBJECTS {
+        Ok(count + 24)
+    } else {
+        Err(Memory)
+    }
 }
 
-/// What is told of a unit and its functions.
-fn look(alloc: Global, unit: &Unit, rows: &Table) -> Result<Told, UnitFault>
-    ensures told { IfOk result (λ t. IsTold (unit_view unit.now) rows.now t.refused.keys t.refusals.items t.statics) }
-    ensures fault { IfErr result (λ e. IsFaultOf (unit_view unit.now) rows.now e) }
+/// The names of functions.
+fn names_of(alloc: Global, list: &[&FunctionDef]) -> Result<Seq<Name>, Memory>
+    ensures { IfOk result (λ names. names ≡ map (λ d. d.name) (map function_view list.now)) }
 {
-    let names = unit_names(alloc, unit, rows)?;
-    look_at(alloc, &names, unit)
+    let mut names = Seq::new(Vec::new(alloc));
+    for f in list {
+        names.push(f.name)?;
+    }
+    Ok(names)
 }
 
-/// What is told of a unit and its functions, where its functions stand, and the texts of names.
+/// The names of the refused functions of a file with this call graph.
+fn refused_set(
+    alloc: Global,
+    names: &UnitNames<'_>,
+    list: &[&FunctionDef],
+    graph: &Vec<CallNode>,
+) -> Result<IndexSet<u32>, Memory>
+    requires listed { map function_view list.now ≡ definitions_of (file_of names.now).items }
+    requires none { least (faults_of (file_of names.now)) ≡ None }
+    requires graph { map node_view graph.now.items ≡ graph_of (file_of names.now) }
+    ensures { IfOk result (λ refused. IsRefusedSet (file_of names.now) refused.keys) }
+{
+    let marks = least_set(alloc, graph)?;
+    let refused = refused_words(alloc, list, &marks)?;
+    Ok(refused)
+}
+
+/// The refused functions of a file, the finding of each function, and what each does in which no rule holds.
 #[derive(Drop)]
-struct Parts {
-    told: Told,
-    places: Vec<usize>,
-    texts: Vec<Vec<u8>>,
+struct Found {
+    refused: IndexSet<u32>,
+    refusals: Vec<Option<Finding>>,
+    resolved: Vec<Option<Function>>,
 }
 
-/// What a checked unit knows besides its unit and rows.
-fn gather(alloc: Global, names: &Names, unit: &Unit, rows: &Table) -> Result<Parts, UnitFault>
-    ensures told { IfOk result (λ p. IsTold (unit_view unit.now) rows.now p.told.refused.keys p.told.refusals.items p.told.statics) }
-    ensures places { IfOk result (λ p. p.places.items ≡ function_places 0 (unit_view unit.now)) }
-    ensures texts { IfOk result (λ p. map (λ t. t.items) p.texts.items ≡ names.now) }
-    ensures fault { IfErr result (λ e. IsFaultOf (unit_view unit.now) rows.now e) }
+/// What is found of the functions of a file without a fault.
+fn find(alloc: Global, names: &UnitNames<'_>, list: &[&FunctionDef]) -> Result<Found, Memory>
+    requires listed { map function_view list.now ≡ definitions_of (file_of names.now).items }
+    requires none { least (faults_of (file_of names.now)) ≡ None }
+    ensures set { IfOk result (λ f. IsRefusedSet (file_of names.now) f.refused.keys) }
+    ensures refusals { IfOk result (λ f. f.refusals.items ≡ map (refusal (file_of names.now) f.refused.keys) (definitions_of (file_of names.now).items)) }
+    ensures resolved { IfOk result (λ f. map resolution_view f.resolved.items ≡ map (resolution_of (file_of names.now) f.refused.keys) (definitions_of (file_of names.now).items)) }
 {
-    let told = look(alloc, unit, rows)?;
-    let places = function_places_of(alloc, unit)?;
-    let texts = texts(alloc, names)?;
-    Ok(Parts {
-        told,
-        places,
-        texts,
+    let graph = graph(alloc, names, list)?;
+    let refused = refused_set(alloc, names, list, &graph)?;
+    let refusals = refusals(alloc, names, &refused, list, &graph)?;
+    let resolved = resolutions(alloc, names, &refused, list, &refusals)?;
+    Ok(Found {
+        refused,
+        refusals,
+        resolved,
     })
 }
 
-/// A unit that is accepted, with what is told of each of its functions and the texts of its names. One with a fault is refused:
-/// the first in its text is told. `Memory` where memory ran out.
-pub fn check(alloc: Global, names: &Names, unit: Unit, rows: Table) -> Result<Checked, UnitFault>
-    ensures checked { IfOk result (λ c. IsAccepted (unit_view unit) rows (checked_view c)) }
-    ensures texts { IfOk result (λ c. texts_of c ≡ names.now) }
-    ensures fault { IfErr result (λ e. IsFaultOf (unit_view unit) rows e) }
+/// What is found of a unit with these names, which defines these functions.
+fn look<'u>(
+    alloc: Global,
+    names: &UnitNames<'u>,
+    unit: &Unit,
+    list: &Vec<&FunctionDef>,
+) -> Result<Parts, UnitFault>
+    requires unit { unit_view unit.now ≡ (file_of names.now).items }
+    requires listed { map function_view list.now.items ≡ definitions_of (file_of names.now).items }
+    requires rows { IsTrue (are_rows (file_of names.now).rows) }
+    ensures found { IfOk result (λ p. IsFound (file_of names.now) p.names p.found.refused.keys p.found.refusals.items (map resolution_view p.found.resolved.items) p.statics) }
+    ensures fault { IfErr result (λ e. IsFaultOf (file_of names.now) e) }
 {
-    let Parts {
-        told,
-        places,
-        texts,
-    } = gather(alloc, names, &unit, &rows)?;
+    refuse_fault(alloc, names, unit, list)?;
+    let statics = statics(names)?;
+    let own = names_of(alloc, list)?;
+    let found = find(alloc, names, list)?;
+    Ok(Parts {
+        names: own,
+        found,
+        statics,
+    })
+}
+
+/// What is found of a unit.
+#[derive(Drop)]
+struct Parts {
+    names: Seq<Name>,
+    found: Found,
+    statics: u32,
+}
+
+/// What is found of a unit that defines these functions.
+fn look_at(
+    alloc: Global,
+    texts: &Names,
+    unit: &Unit,
+    rows: &Table,
+    list: &Vec<&FunctionDef>,
+) -> Result<Parts, UnitFault>
+    requires listed { map function_view list.now.items ≡ definitions_of (unit_view unit.now) }
+    ensures found { IfOk result (λ p. IsFound (source_file texts.now (unit_view unit.now) rows.now) p.names p.found.refused.keys p.found.refusals.items (map resolution_view p.found.resolved.items) p.statics) }
+    ensures fault { IfErr result (λ e. IsFaultOf (source_file texts.now (unit_view unit.now) rows.now) e) }
+{
     rows.rows_are_well_formed();
+    let names = unit_names(alloc, texts, unit, rows, list)?;
+    look(alloc, &names, unit, list)
+}
+
+/// A unit that is accepted, with what is found of each of its functions. One with a fault is refused: the first in its text
+/// is reported. `Memory` where memory ran out.
+pub fn check<'u>(
+    alloc: Global,
+    texts: &'u Names,
+    unit: &'u Unit,
+    rows: &'u Table,
+) -> Result<Checked<'u>, UnitFault>
+    ensures file { IfOk result (λ c. (checked_view c).file ≡ source_file texts.now (unit_view unit.now) rows.now) }
+    ensures checked { IfOk result (λ c. IsChecked c) }
+    ensures fault { IfErr result (λ e. IsFaultOf (source_file texts.now (unit_view unit.now) rows.now) e) }
+{
+    let list = definitions(alloc, unit)?;
+    let Parts {
+        names,
+        found,
+        statics,
+    } = look_at(alloc, texts, unit, rows, &list)?;
+    let Found {
+        refused,
+        refusals,
+        resolved,
+    } = found;
     Ok(Checked {
+        texts,
         unit,
         rows,
-        refused: told.refused,
-        refusals: told.refusals,
-        places,
-        statics: told.statics,
-        texts,
+        names,
+        refused,
+        refusals,
+        resolved,
+        statics,
     })
 }

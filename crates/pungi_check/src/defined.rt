@@ -2,7 +2,7 @@
 ghost use Rattle.std.specs.Prelude.{◌≡◌, [], OnOk, map, slice_get};
 ghost use Rattle.pungi_declared.specs.DeclaredView.{function_view};
 ghost use Rattle.pungi_check.specs.UsesView.{use_view, name_use_view};
-ghost use Rattle.pungi_names.specs.NamesView.{file_of, rows_of};
+ghost use Rattle.pungi_names.specs.NamesView.{file_of};
 ghost use Rattle.pungi_check.specs.Duplicates.{is_taken as is_taken_of, is_variable_use as is_variable_use_of, definition_faults, variable_faults, count_faults};
 ghost use Rattle.pungi_types.specs.Findings.{least_from};
 
@@ -11,27 +11,27 @@ use indexmap::IndexSet;
 use pungi_base::Memory;
 use pungi_names::UnitNames;
 use pungi_tree::FunctionDef;
-use pungi_types::{Finding, is_kept, keep, note};
+use pungi_types::{Finding, is_built_in_static, is_kept, keep, note};
 use std::alloc::Global;
 
 /// How many functions a file may define.
 const MOST_FUNCTIONS: usize = 4096;
 
-/// Whether a word is the name of a row or a static.
+/// Whether a word is the name of a row or a built-in static.
 fn is_taken(names: &UnitNames<'_>, word: u32) -> bool
-    ensures { result ≡ is_taken_of (file_of names.now) (rows_of names.now) word }
+    ensures { result ≡ is_taken_of (file_of names.now).rows word }
 {
-    names.is_row(word) || names.is_static(word)
+    names.is_row(word) || is_built_in_static(word)
 }
 
-/// Notes the functions that are defined twice, or have the name of a row or static.
+/// Notes the functions that are defined twice, or have the name of a row or a built-in static.
 pub(crate) fn note_definitions(
     alloc: Global,
     names: &UnitNames<'_>,
     first: &mut Option<Finding>,
     functions: &Vec<&FunctionDef>,
 ) -> Result<(), Memory>
-    ensures { OnOk result (first.new ≡ least_from first.old (definition_faults (file_of names.now) (rows_of names.now) [] (map function_view functions.now.items))) }
+    ensures { OnOk result (first.new ≡ least_from first.old (definition_faults (file_of names.now) [] (map function_view functions.now.items))) }
 {
     let mut seen = IndexSet::new(alloc);
     for f in functions {
@@ -56,13 +56,13 @@ fn is_variable_use(as_what: Use) -> bool
     }
 }
 
-/// Notes the variables that have the name of a row or static.
+/// Notes the variables that have the name of a row or a built-in static.
 pub(crate) fn note_variables(
     names: &UnitNames<'_>,
     first: &mut Option<Finding>,
     list: &Vec<NameUse>,
 )
-    ensures { first.new ≡ least_from first.old (variable_faults (file_of names.now) (rows_of names.now) (map name_use_view list.now.items)) }
+    ensures { first.new ≡ least_from first.old (variable_faults (file_of names.now) (map name_use_view list.now.items)) }
 {
     for u in list {
         let holds = is_variable_use(u.as_what) && is_taken(names, u.name.0);

@@ -1,9 +1,10 @@
 //! The fault of a file.
-ghost use Rattle.std.specs.Prelude.{◌≡◌, OnOk, IfOk, []};
-ghost use Rattle.pungi_names.specs.NamesView.{file_of, rows_of};
+ghost use Rattle.std.specs.Prelude.{◌≡◌, OnOk, IfOk, [], map};
+ghost use Rattle.pungi_declared.specs.DeclaredView.{function_view};
+ghost use Rattle.pungi_names.specs.NamesView.{file_of};
 ghost use Rattle.pungi_tree.specs.UnitView.{unit_view};
 ghost use Rattle.pungi_check.specs.Duplicates.{faults as faults_of, use_faults, uses as uses_of, variable_faults, typedef_faults, tag_faults};
-ghost use Rattle.pungi_types.specs.Files.{typedefs as typedefs_of};
+ghost use Rattle.pungi_types.specs.Files.{typedefs as typedefs_of, definitions as definitions_of};
 ghost use Rattle.pungi_types.specs.Findings.{◌and◌, least, least_from};
 ghost use Rattle.pungi_types.specs.Tags.{tags as tags_of};
 
@@ -13,9 +14,9 @@ use crate::seen_uses::note_uses;
 use crate::typedef_words::note_typedefs;
 use crate::unit_uses::uses;
 use pungi_base::Memory;
-use pungi_declared::{definitions, tags, typedefs};
+use pungi_declared::{tags, typedefs};
 use pungi_names::UnitNames;
-use pungi_tree::Unit;
+use pungi_tree::{FunctionDef, Unit};
 use pungi_types::Finding;
 use std::alloc::Global;
 
@@ -26,8 +27,8 @@ fn note_names(
     first: &mut Option<Finding>,
     unit: &Unit,
 ) -> Result<(), Memory>
-    ensures { OnOk result (first.new ≡ least_from first.old (use_faults [] (uses_of (file_of names.now) (unit_view unit.now))
-        and variable_faults (file_of names.now) (rows_of names.now) (uses_of (file_of names.now) (unit_view unit.now)))) }
+    ensures { OnOk result (first.new ≡ least_from first.old (use_faults [] (uses_of (file_of names.now).items (unit_view unit.now))
+        and variable_faults (file_of names.now) (uses_of (file_of names.now).items (unit_view unit.now)))) }
 {
     let list = uses(alloc, names, unit)?;
     note_uses(alloc, first, &list)?;
@@ -48,15 +49,20 @@ fn note_types(alloc: Global, first: &mut Option<Finding>, unit: &Unit) -> Result
 
 /// The fault of a file, the first in its text: a name that it may not use twice (1; C11 6.2.3, 6.7, 6.9), or the first
 /// function past the 4,096th (2). `None` where there is none.
-pub fn faults(alloc: Global, names: &UnitNames<'_>, unit: &Unit) -> Result<Option<Finding>, Memory>
-    requires { unit_view unit.now ≡ file_of names.now }
-    ensures { IfOk result (λ told. told ≡ least (faults_of (file_of names.now) (rows_of names.now))) }
+pub(crate) fn faults(
+    alloc: Global,
+    names: &UnitNames<'_>,
+    unit: &Unit,
+    functions: &Vec<&FunctionDef>,
+) -> Result<Option<Finding>, Memory>
+    requires unit { unit_view unit.now ≡ (file_of names.now).items }
+    requires listed { map function_view functions.now.items ≡ definitions_of (file_of names.now).items }
+    ensures { IfOk result (λ told. told ≡ least (faults_of (file_of names.now))) }
 {
     let mut first = None;
-    let functions = definitions(alloc, unit)?;
-    note_definitions(alloc, names, &mut first, &functions)?;
+    note_definitions(alloc, names, &mut first, functions)?;
     note_names(alloc, names, &mut first, unit)?;
     note_types(alloc, &mut first, unit)?;
-    note_count(&mut first, &functions);
+    note_count(&mut first, functions);
     Ok(first)
 }

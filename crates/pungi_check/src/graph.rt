@@ -1,17 +1,16 @@
 //! The call graph of a file's functions.
-ghost use Rattle.std.specs.Prelude.{◌≡◌, ℕ, [], is_some, IfOk, map, nat_eq};
+ghost use Rattle.std.specs.Prelude.{◌≡◌, ℕ, IfOk, map, nat_eq};
 ghost use Rattle.indexmap.specs.IndexMap.{get};
 ghost use Rattle.pungi_declared.specs.DeclaredView.{function_view};
-ghost use Rattle.pungi_names.specs.NamesView.{file_of, rows_of};
+ghost use Rattle.pungi_names.specs.NamesView.{file_of};
 ghost use Rattle.pungi_check.specs.Calls.{called_words as called_words_of};
-ghost use Rattle.pungi_types.specs.Functions.{refusal};
 ghost use Rattle.pungi_types.specs.TypesView.{definition_view};
 ghost use Rattle.pungi_check.specs.Graph.{callees as callees_of, node_view, node_of, number_in};
 
 use crate::call_node::CallNode;
 use crate::calls::called_words;
 use crate::numbers::numbers;
-use crate::refusals::told;
+use crate::refusals::finding;
 use indexmap::{IndexMap, IndexSet};
 use pungi_base::Memory;
 use pungi_names::UnitNames;
@@ -35,15 +34,6 @@ fn callees(
     Ok(callees)
 }
 
-/// Whether a rule holds in a function where no other one is refused.
-fn is_refused_alone(alloc: Global, names: &UnitNames<'_>, f: &FunctionDef) -> Result<bool, Memory>
-    ensures { IfOk result (λ b. b ≡ is_some (refusal (file_of names.now) (rows_of names.now) [] (definition_view f.now))) }
-{
-    let none = IndexSet::new(alloc);
-    let found = told(alloc, names, &none, f)?;
-    Ok(found.is_some())
-}
-
 /// The numbers of the functions that a function calls.
 fn called(
     alloc: Global,
@@ -56,19 +46,20 @@ fn called(
     callees(alloc, numbers, words.as_slice())
 }
 
-/// Whether a rule holds in a function where no other one is refused, and what it calls.
+/// The finding of a function where no other one is refused, and what it calls.
 fn node(
     alloc: Global,
     names: &UnitNames<'_>,
     numbers: &IndexMap<u32, usize>,
     f: &FunctionDef,
 ) -> Result<CallNode, Memory>
-    ensures { IfOk result (λ n. node_view n ≡ node_of (file_of names.now) (rows_of names.now) (λ (w : ℕ). get nat_eq numbers.now w) (definition_view f.now)) }
+    ensures { IfOk result (λ n. node_view n ≡ node_of (file_of names.now) (λ (w : ℕ). get nat_eq numbers.now w) (definition_view f.now)) }
 {
-    let refused_alone = is_refused_alone(alloc, names, f)?;
+    let none = IndexSet::new(alloc);
+    let alone = finding(alloc, names, &none, f)?;
     let callees = called(alloc, numbers, f)?;
     Ok(CallNode {
-        refused_alone,
+        alone,
         callees,
     })
 }
@@ -80,7 +71,7 @@ fn nodes(
     numbers: &IndexMap<u32, usize>,
     list: &[&FunctionDef],
 ) -> Result<Vec<CallNode>, Memory>
-    ensures { IfOk result (λ ns. map node_view ns.items ≡ map (node_of (file_of names.now) (rows_of names.now) (λ (w : ℕ). get nat_eq numbers.now w)) (map function_view list.now)) }
+    ensures { IfOk result (λ ns. map node_view ns.items ≡ map (node_of (file_of names.now) (λ (w : ℕ). get nat_eq numbers.now w)) (map function_view list.now)) }
 {
     let mut nodes = Vec::new(alloc);
     for f in list {
@@ -95,7 +86,7 @@ pub(crate) fn graph(
     names: &UnitNames<'_>,
     list: &[&FunctionDef],
 ) -> Result<Vec<CallNode>, Memory>
-    ensures { IfOk result (λ ns. map node_view ns.items ≡ map (node_of (file_of names.now) (rows_of names.now) (number_in 0 (map function_view list.now))) (map function_view list.now)) }
+    ensures { IfOk result (λ ns. map node_view ns.items ≡ map (node_of (file_of names.now) (number_in 0 (map function_view list.now))) (map function_view list.now)) }
 {
     let numbers = numbers(alloc, list)?;
     nodes(alloc, names, &numbers, list)

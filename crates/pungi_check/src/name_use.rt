@@ -2,7 +2,7 @@ use pungi_base::{Name, Pos};
 
 /// What a name outside functions stands for.
 #[derive(Clone, Copy)]
-pub enum Use {
+pub(crate) enum Use {
     Function,
     Variable,
     Table,
@@ -10,8 +10,8 @@ pub enum Use {
 
 /// A name outside functions, where it stands, and what for (C11 6.9).
 #[derive(Clone, Copy)]
-pub struct NameUse {
-    pub name: Name,
-    pub pos: Pos,
-    pub as_what: Use,
+pub(crate) struct NameUse {
+    pub(crate) name: Name,
+    pub(crate) pos: Pos,
+    pub(crate) as_what: Use,
 }

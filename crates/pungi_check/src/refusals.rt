@@ -1,10 +1,13 @@
-//! The rule that is told of each function.
+//! The finding of each function.
 ghost use Rattle.std.specs.Prelude.{◌≡◌, IfOk, map};
+ghost use Rattle.pungi_check.specs.Graph.{node_view, node_of, number_in};
 ghost use Rattle.pungi_declared.specs.DeclaredView.{function_view};
-ghost use Rattle.pungi_names.specs.NamesView.{file_of, rows_of};
+ghost use Rattle.pungi_names.specs.NamesView.{file_of};
+ghost use Rattle.pungi_types.specs.Files.{definitions as definitions_of};
 ghost use Rattle.pungi_types.specs.Functions.{refusal as refusal_of};
 ghost use Rattle.pungi_types.specs.TypesView.{definition_view};
 
+use crate::call_node::CallNode;
 use indexmap::IndexSet;
 use pungi_base::Memory;
 use pungi_names::{FileNames, UnitNames};
@@ -13,14 +16,14 @@ use pungi_tree::FunctionDef;
 use pungi_types::Finding;
 use std::alloc::Global;
 
-/// What is told of a function where these are refused.
-pub(crate) fn told(
+/// The finding of a function where these are refused.
+pub(crate) fn finding(
     alloc: Global,
     names: &UnitNames<'_>,
     refused: &IndexSet<u32>,
     f: &FunctionDef,
 ) -> Result<Option<Finding>, Memory>
-    ensures { IfOk result (λ told. told ≡ refusal_of (file_of names.now) (rows_of names.now) refused.now.keys (definition_view f.now)) }
+    ensures { IfOk result (λ found. found ≡ refusal_of (file_of names.now) refused.now.keys (definition_view f.now)) }
 {
     let here = FileNames {
         names,
@@ -30,18 +33,39 @@ pub(crate) fn told(
     refusal(alloc, &here, f)
 }
 
-/// What is told of each function where these are refused.
+/// The finding of a function where these are refused. The rules are asked again only of one that calls others.
+fn settled(
+    alloc: Global,
+    names: &UnitNames<'_>,
+    refused: &IndexSet<u32>,
+    f: &FunctionDef,
+    node: &CallNode,
+) -> Result<Option<Finding>, Memory>
+    requires { node_view node.now ≡ node_of (file_of names.now) (number_in 0 (definitions_of (file_of names.now).items)) (definition_view f.now) }
+    ensures { IfOk result (λ found. found ≡ refusal_of (file_of names.now) refused.now.keys (definition_view f.now)) }
+{
+    if node.callees.is_empty() {
+        Ok(node.alone)
+    } else {
+        finding(alloc, names, refused, f)
+    }
+}
+
+/// The finding of each function where these are refused.
 pub(crate) fn refusals(
     alloc: Global,
     names: &UnitNames<'_>,
     refused: &IndexSet<u32>,
     list: &[&FunctionDef],
+    graph: &[CallNode],
 ) -> Result<Vec<Option<Finding>>, Memory>
-    ensures { IfOk result (λ all. all.items ≡ map (refusal_of (file_of names.now) (rows_of names.now) refused.now.keys) (map function_view list.now)) }
+    requires { map node_view graph.now ≡ map (node_of (file_of names.now) (number_in 0 (definitions_of (file_of names.now).items))) (map function_view list.now) }
+    ensures { IfOk result (λ all. all.items ≡ map (refusal_of (file_of names.now) refused.now.keys) (map function_view list.now)) }
 {
     let mut all = Vec::new(alloc);
-    for f in list {
-        all.push(told(alloc, names, refused, f)?)?;
+    for (i, f) in list.iter().enumerate() {
+        let found = settled(alloc, names, refused, f, &graph[i])?;
+        all.push(found)?;
     }
     Ok(all)
 }

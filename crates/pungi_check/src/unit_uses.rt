@@ -24,7 +24,7 @@ fn put(out: &mut Vec<NameUse>, name: Name, pos: Pos, as_what: Use) -> Result<(),
 }
 
 fn variable_use(names: &UnitNames<'_>, spec: &Spec, declr: &Declr) -> Use
-    ensures { use_view result ≡ (if is_table (file_of names.now) (record { spec = spec_view spec.now; declr = declr_view declr.now }) then as_table else as_variable) }
+    ensures { use_view result ≡ (if is_table (file_of names.now).items (record { spec = spec_view spec.now; declr = declr_view declr.now }) then as_table else as_variable) }
 {
     if names.is_table(spec, declr) {
         Use::Table
@@ -40,7 +40,7 @@ fn put_vars(
     vars: &Vec<VarDecl>,
 ) -> Result<(), Memory>
     ensures { OnOk result (map name_use_view out.new.items
-        ≡ map name_use_view out.old.items ++ vars_uses (file_of names.now) (spec_view spec.now) (map var_decl_view vars.now.items)) }
+        ≡ map name_use_view out.old.items ++ vars_uses (file_of names.now).items (spec_view spec.now) (map var_decl_view vars.now.items)) }
 {
     for var in vars {
         let as_what = variable_use(names, spec, &var.declr);
@@ -55,7 +55,7 @@ pub(crate) fn uses(
     names: &UnitNames<'_>,
     unit: &Unit,
 ) -> Result<Vec<NameUse>, Memory>
-    ensures { IfOk result (λ us. map name_use_view us.items ≡ uses_of (file_of names.now) (unit_view unit.now)) }
+    ensures { IfOk result (λ us. map name_use_view us.items ≡ uses_of (file_of names.now).items (unit_view unit.now)) }
 {
     let mut out = Vec::new(alloc);
     for i in &unit.items {

@@ -1,8 +1,6 @@
 //! The least set of refused functions, by a worklist over calls.
-ghost use Rattle.std.specs.Prelude.{◌≡◌, ℕ, List, ◌∷◌, [], ◌++◌, replicate, false, if◌then◌else◌, OnOk, IfOk};
-ghost use Rattle.pungi_api.specs.declared.row.Row.{Row};
-ghost use Rattle.pungi_tree.specs.Syntax.{Item};
-ghost use Rattle.pungi_types.specs.Files.{definitions};
+ghost use Rattle.std.specs.Prelude.{◌≡◌, ℕ, List, ◌∷◌, [], ◌++◌, replicate, false, is_some, if◌then◌else◌, OnOk, IfOk};
+ghost use Rattle.pungi_types.specs.Files.{SourceFile, definitions};
 ghost use Rattle.pungi_types.specs.Names.{is_among};
 ghost use Rattle.pungi_types.specs.Refused.{IsRefusedSet};
 ghost use Rattle.pungi_check.specs.CallGraph.{is_alone, IsReached, IsCallGraph, refused_names};
@@ -11,6 +9,7 @@ ghost use Rattle.pungi_check.specs.Worklist.{Visited};
 use crate::call_node::CallNode;
 use crate::callers::callers_of;
 use pungi_base::Memory;
+use pungi_types::Finding;
 use std::alloc::Global;
 
 /// Marks a function, which then waits, unless it is marked. A number that no function has is passed over.
@@ -43,10 +42,11 @@ fn no_marks(alloc: Global, count: usize) -> Result<Vec<bool>, Memory>
     Ok(vec![in alloc; false; count]?)
 }
 
-fn note(numbers: &mut Vec<usize>, number: usize, is_one: bool) -> Result<(), Memory>
-    ensures { OnOk result (numbers.new.items ≡ (if is_one then numbers.old.items ++ number ∷ [] else numbers.old.items)) }
+/// Adds the number of a function that has a finding.
+fn note(numbers: &mut Vec<usize>, number: usize, alone: Option<Finding>) -> Result<(), Memory>
+    ensures { OnOk result (numbers.new.items ≡ (if is_some alone then numbers.old.items ++ number ∷ [] else numbers.old.items)) }
 {
-    if is_one {
+    if alone.is_some() {
         numbers.push(number)?;
     }
     Ok(())
@@ -58,16 +58,16 @@ fn refused_alone(alloc: Global, functions: &[CallNode]) -> Result<Vec<usize>, Me
 {
     let mut alone = Vec::new(alloc);
     for (number, function) in functions.iter().enumerate() {
-        note(&mut alone, number, function.refused_alone)?;
+        note(&mut alone, number, function.alone)?;
     }
     Ok(alone)
 }
 
 /// The least set of refused functions of a file with this call graph, as marks by number: each in which a rule holds, where a call of
 /// another refused function is one of what a rule refuses. Each function waits once, and each call is looked at twice.
-pub fn least_set(alloc: Global, functions: &[CallNode]) -> Result<Vec<bool>, Memory>
+pub(crate) fn least_set(alloc: Global, functions: &[CallNode]) -> Result<Vec<bool>, Memory>
     ensures reached { IfOk result (λ marks. IsReached functions.now marks.items) }
-    ensures least { IfOk result (λ marks. (file : List Item) (table : List (ℕ × Row)) → IsCallGraph file table functions.now → IsRefusedSet file table (refused_names (definitions file) marks.items)) }
+    ensures least { IfOk result (λ marks. (file : SourceFile) → IsCallGraph file functions.now → IsRefusedSet file (refused_names (definitions file.items) marks.items)) }
 {
     let callers = callers_of(alloc, functions)?;
     let mut marks = no_marks(alloc, functions.len())?;

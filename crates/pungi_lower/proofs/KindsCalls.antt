@@ -18,8 +18,8 @@ use Rattle.pungi_types.specs.declared.kind.ValueKind.{ValueKind}
 use Rattle.pungi_types.specs.declared.kind.ValueKind.TheVariants as kinds
 use Rattle.pungi_types.specs.declared.local.Local.{Local}
 use Rattle.pungi_types.specs.declared.lookup.Want.{Want}
-use Rattle.pungi_types.specs.Files.{Definition, definitions, definition_in}
-use Rattle.pungi_types.specs.Names.{Env, local_in, global_kind, is_plain_static}
+use Rattle.pungi_types.specs.Files.{SourceFile, Definition, definitions, definition_in}
+use Rattle.pungi_types.specs.Names.{Env, local_in, global_kind, is_own_static}
 use Rattle.pungi_types.specs.Operators.{prefix_of, is_integer, is_void, fits, is_same_kind}
 use Rattle.pungi_types.specs.Exprs.{kind_of, cast_kind, names_type_object, names_module, is_address, is_module_address, Callee, a_value, a_row, no_function, callee, local_called_or, defined_or, row_or, param_want, row_wants, row_kind, wants_module, first_met}
 use Rattle.pungi_resolve.specs.Exprs.{convert, convert_some, cast_value, static_behind, module_behind, resolve, want_kind, expr_pos}
@@ -149,24 +149,24 @@ module _ (file : List Item) (vars : List Param) where
 -- .. rows
 -- each row of a table is one
 abbrev pub HasRows : Env → Type 0
-HasRows env = (w : ℕ) (r : Row) → row_in env.table w ≡ Some r → is_row r ≡ true
+HasRows env = (w : ℕ) (r : Row) → row_in env.file.rows w ≡ Some r → is_row r ≡ true
 
 abbrev pub IsRowOf : Callee → Type 0
 IsRowOf (a_row r) = is_row r ≡ true
 IsRowOf c = Unit {0}
 
-row_of : (file : List Item) (table : List (ℕ × Row)) (w : ℕ) (o : Option Row) → row_in table w ≡ o → ((r : Row) → row_in table w ≡ Some r → is_row r ≡ true) → IsRowOf (row_or file w o)
-row_of file table w (Some r) e h = h r e
-row_of file table w None e h =
-    elim (is_some (global_kind file w) || is_plain_static w) as (λ b. IsRowOf (if b then a_value else no_function)) [ true ↦ tt | false ↦ tt ]
+row_of : (file : SourceFile) (w : ℕ) (o : Option Row) → row_in file.rows w ≡ o → ((r : Row) → row_in file.rows w ≡ Some r → is_row r ≡ true) → IsRowOf (row_or file.items w o)
+row_of file w (Some r) e h = h r e
+row_of file w None e h =
+    elim (is_some (global_kind file.items w) || is_own_static file.items w) as (λ b. IsRowOf (if b then a_value else no_function)) [ true ↦ tt | false ↦ tt ]
 
 defined_row : (env : Env) → HasRows env → (w : ℕ) (x : Option Definition) → IsRowOf (defined_or env w x)
 defined_row env h w (Some d) = tt
-defined_row env h w None = row_of env.file env.table w (row_in env.table w) refl (h w)
+defined_row env h w None = row_of env.file w (row_in env.file.rows w) refl (h w)
 
 called_is : (env : Env) → HasRows env → (w : ℕ) (o : Option Local) → IsRowOf (local_called_or env w o)
 called_is env h w (Some l) = tt
-called_is env h w None = defined_row env h w (definition_in (definitions env.file) w)
+called_is env h w None = defined_row env h w (definition_in (definitions env.file.items) w)
 
 pub callee_row : (env : Env) → HasRows env → (f : Expr) → IsRowOf (callee env f)
 callee_row env h (word p w) = called_is env h w.0 (local_in env.locals w.0)

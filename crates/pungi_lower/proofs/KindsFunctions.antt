@@ -67,19 +67,19 @@ param_kept file s (unused stars n p) = plain_kept file s (length stars)
 
 record Behind (vars : List Param) (f g : Frame) (m : ℕ) : Type 0 where
   names : Knows vars g.env
-  file : g.env.file ≡ f.env.file
+  file : g.env.file.items ≡ f.env.file.items
   next : g.next ≡ f.next + m
   result : g.result ≡ f.result
 
-param_behind : (vars : List Param) (f : Frame) (qs : List Key) (s : Spec) (d : ParamDeclr) → Knows vars f.env → IsHeld vars f.next (held_kind (param_kind f.env.file s d)) → is_none (param_kind f.env.file s d) ≡ false
+param_behind : (vars : List Param) (f : Frame) (qs : List Key) (s : Spec) (d : ParamDeclr) → Knows vars f.env → IsHeld vars f.next (held_kind (param_kind f.env.file.items s d)) → is_none (param_kind f.env.file.items s d) ≡ false
     → Behind vars f (after_param f (param_decl qs s d)) 1
 param_behind vars f qs s (named d) h b k =
-    let kind = param_kind f.env.file s (named d) in
+    let kind = param_kind f.env.file.items s (named d) in
     let l : Local = record { name = declr_name d; number = f.next; kind = kind } in
     record {
       names = record {
-        kinds = one_more f.env l (value_kind kind k (declared-not_void f.env.file s d)) h.kinds;
-        held = one_more_held vars f.env l (kind_of_held vars f.next kind (param_kept f.env.file s (named d)) b) h.held;
+        kinds = one_more f.env l (value_kind kind k (declared-not_void f.env.file.items s d)) h.kinds;
+        held = one_more_held vars f.env l (kind_of_held vars f.next kind (param_kept f.env.file.items s (named d)) b) h.held;
         rows = h.rows;
       };
       file = refl;
@@ -89,27 +89,27 @@ param_behind vars f qs s (named d) h b k =
 param_behind vars f qs s (bare stars) h b k = record { names = h; file = refl; next = refl; result = refl }
 param_behind vars f qs s (unused stars n p) h b k = record { names = h; file = refl; next = refl; result = refl }
 
-params_behind : (vars : List Param) (f : Frame) (ds : ParamDecls) → Knows vars f.env → Seg vars f.next (map held_kind (param_kinds f.env.file ds)) → Clean (param_findings f ds) → Behind vars f (after_params f ds) (param_count ds)
+params_behind : (vars : List Param) (f : Frame) (ds : ParamDecls) → Knows vars f.env → Seg vars f.next (map held_kind (param_kinds f.env.file.items ds)) → Clean (param_findings f ds) → Behind vars f (after_params f ds) (param_count ds)
 params_behind vars f no_params h b c = record { names = h; file = refl; next = omega arith; result = refl }
 params_behind vars f (param_and (param_decl qs s d) ds) h b c =
-    let n1 = not_when _ (spec_pos s) 1 (left (declared_n1 qs s (param_kind f.env.file s d)) _ c) in
-    let k = or_left (is_none (param_kind f.env.file s d)) (has_file_storage qs) n1 in
+    let n1 = not_when _ (spec_pos s) 1 (left (declared_n1 qs s (param_kind f.env.file.items s d)) _ c) in
+    let k = or_left (is_none (param_kind f.env.file.items s d)) (has_file_storage qs) n1 in
     let g = after_param f (param_decl qs s d) in
     let one = param_behind vars f qs s d h b.0 k in
-    let more : Seg vars g.next (map held_kind (param_kinds g.env.file ds)) =
-    subst (λ (m : ℕ). Seg vars m (map held_kind (param_kinds g.env.file ds))) (sym one.next) (subst (λ (fl : List Item). Seg vars (f.next + 1) (map held_kind (param_kinds fl ds))) (sym one.file) b.1) in
-    let rest = params_behind vars g ds one.names more (right (name_findings f d) _ (right (declared_n1 qs s (param_kind f.env.file s d)) _ c)) in
+    let more : Seg vars g.next (map held_kind (param_kinds g.env.file.items ds)) =
+    subst (λ (m : ℕ). Seg vars m (map held_kind (param_kinds g.env.file.items ds))) (sym one.next) (subst (λ (fl : List Item). Seg vars (f.next + 1) (map held_kind (param_kinds fl ds))) (sym one.file) b.1) in
+    let rest = params_behind vars g ds one.names more (right (name_findings f d) _ (right (declared_n1 qs s (param_kind f.env.file.items s d)) _ c)) in
     record { names = rest.names; file = rest.file ∙ one.file; next = omega (arith, rest.next, one.next); result = rest.result ∙ one.result }
 
 -- .. the body
 body_kinds : (vars : List Param) (p : Pos) (f : Frame) (s : Stmt) → Knows vars f.env → is_some f.result ≡ true → AreHeld vars f.next (stmt_reached (body_action p (site f) s)) → Clean (body_findings f s) → has_no_call (body_action p (site f) s) ≡ true
-    → IsStmtTyped f.env.file vars (body_action p (site f) s)
+    → IsStmtTyped f.env.file.items vars (body_action p (site f) s)
 body_kinds vars p f (block q ss t) h r b c n = stmts_kinds vars (record (in_block f ss) { block = f.block }) ss h r b c n
 body_kinds vars p f _ h r b c n = tt
 
-of_params : (vars : List Param) (f : Frame) (p : Pos) (s : Stmt) (ps : Params) → Knows vars f.env → is_some f.result ≡ true → Seg vars f.next (map held_kind (params_kinds f.env.file ps))
+of_params : (vars : List Param) (f : Frame) (p : Pos) (s : Stmt) (ps : Params) → Knows vars f.env → is_some f.result ≡ true → Seg vars f.next (map held_kind (params_kinds f.env.file.items ps))
     → AreHeld vars (f.next + params_count ps) (stmt_reached (body_action p (params_site (site f) ps) s)) → Clean (params_findings f ps) → Clean (body_findings (params_frame f ps) s)
-    → has_no_call (body_action p (params_site (site f) ps) s) ≡ true → IsStmtTyped f.env.file vars (body_action p (params_site (site f) ps) s)
+    → has_no_call (body_action p (params_site (site f) ps) s) ≡ true → IsStmtTyped f.env.file.items vars (body_action p (params_site (site f) ps) s)
 of_params vars f p s (params ds v dots) h r b held c d n =
     let g = after_params f ds in
     let k = params_behind vars f ds h b (right (dots_findings dots) _ c) in
@@ -118,7 +118,7 @@ of_params vars f p s (params ds v dots) h r b held c d n =
     let there : Held (site g) = subst Held (sym e) (subst (λ (m : ℕ). AreHeld vars m (stmt_reached (body_action p (with_params (site f) ds) s))) (sym k.next) held) in
     let Free : Site → Type 0 = λ x. has_no_call (body_action p x s) ≡ true in
     let typed = body_kinds vars p g s k.names (ap is_some k.result ∙ r) there d (subst Free (sym e) n) in
-    subst (λ (fl : List Item). IsStmtTyped fl vars (body_action p (with_params (site f) ds) s)) k.file (subst (λ (x : Site). IsStmtTyped g.env.file vars (body_action p x s)) e typed)
+    subst (λ (fl : List Item). IsStmtTyped fl vars (body_action p (with_params (site f) ds) s)) k.file (subst (λ (x : Site). IsStmtTyped g.env.file.items vars (body_action p x s)) e typed)
 
 -- .. the whole
 rows-are : (table : List (ℕ × Row)) (w : ℕ) (r : Row) → are_rows table ≡ true → row_in table w ≡ Some r → is_row r ≡ true
@@ -147,7 +147,7 @@ function-locals env d =
     omega (arith, a, b)
 
 -- a function of which no rule is told, and which calls none of the file
-pub function-kinds : (env : Env) (d : Definition) → IsPassed env d → are_rows env.table ≡ true → has_no_call (resolved_in env d).body ≡ true → IsStmtTyped env.file (var_kinds (resolved_in env d)) (resolved_in env d).body
+pub function-kinds : (env : Env) (d : Definition) → IsPassed env d → are_rows env.file.rows ≡ true → has_no_call (resolved_in env d).body ≡ true → IsStmtTyped env.file.items (var_kinds (resolved_in env d)) (resolved_in env d).body
 function-kinds env d h rows n =
     let f = resolved_in env d in
     let frame = first_frame env d in
@@ -157,12 +157,12 @@ function-kinds env d h rows n =
     let temps = temp_kinds (stmt_nodes f.body) in
     let e : length pre ≡ 0 + params_count d.params = let l = map_long held_kind f.params in let k = params-long env d in omega (arith, l, k) in
     let held = seg_reached (var_kinds f) (length pre) (stmt_reached f.body) (seg_of pre own temps) in
-    of_params (var_kinds f) frame d.pos d.body d.params (record { kinds = names-passed env d h; held = none_held (var_kinds f) env h.outside; rows = λ w r k. rows-are env.table w r rows k })
+    of_params (var_kinds f) frame d.pos d.body d.params (record { kinds = names-passed env d h; held = none_held (var_kinds f) env h.outside; rows = λ w r k. rows-are env.file.rows w r rows k })
     (result-known env d h.passed) (seg_front pre (own ++ temps)) (subst (λ (m : ℕ). AreHeld (var_kinds f) m (stmt_reached f.body)) e held)
     (left (params_findings frame d.params) _ c) (right (label_findings [] d.body) _ (right (params_findings frame d.params) _ c)) n
 
 -- its code is well-formed
-pub function-well-formed : (env : Env) (d : Definition) → IsPassed env d → are_rows env.table ≡ true → has_no_call (resolved_in env d).body ≡ true → IsWellFormed (code_of (resolved_in env d))
+pub function-well-formed : (env : Env) (d : Definition) → IsPassed env d → are_rows env.file.rows ≡ true → has_no_call (resolved_in env d).body ≡ true → IsWellFormed (code_of (resolved_in env d))
 function-well-formed env d h rows n =
     let l = within-limits env d h.passed in
-    well-formed env.file (resolved_in env d) (function-locals env d) (function-kinds env d h rows n) n l.locals (nodes-bounded env d h) (size-bounded env d h)
+    well-formed env.file.items (resolved_in env d) (function-locals env d) (function-kinds env d h rows n) n l.locals (nodes-bounded env d h) (size-bounded env d h)

@@ -131,20 +131,20 @@ first_none : (file : List Item) (vars : List Param) (k : Option ValueKind) → I
 first_none file vars None = tt
 first_none file vars (Some k) = tt
 
-initial_typed : (vars : List Param) (f : Frame) (s : Spec) (d : Declr) (i : Option Init) → Knows vars (after_var f s (var_decl d i)).env → is_some (declared_kind f.env.file s d) ≡ true
-    → Clean (initial_findings (after_var f s (var_decl d i)).env (declared_kind f.env.file s d) (declr_pos d) i) → is_free_option (initial (site f) s (var_decl d i)) ≡ true
-    → IsFirst f.env.file vars (declared_kind f.env.file s d) (initial (site f) s (var_decl d i))
-initial_typed vars f s d None h t c n = first_none f.env.file vars (declared_kind f.env.file s d)
-initial_typed vars f s d (Some (table ts)) h t c n = first_none f.env.file vars (declared_kind f.env.file s d)
+initial_typed : (vars : List Param) (f : Frame) (s : Spec) (d : Declr) (i : Option Init) → Knows vars (after_var f s (var_decl d i)).env → is_some (declared_kind f.env.file.items s d) ≡ true
+    → Clean (initial_findings (after_var f s (var_decl d i)).env (declared_kind f.env.file.items s d) (declr_pos d) i) → is_free_option (initial (site f) s (var_decl d i)) ≡ true
+    → IsFirst f.env.file.items vars (declared_kind f.env.file.items s d) (initial (site f) s (var_decl d i))
+initial_typed vars f s d None h t c n = first_none f.env.file.items vars (declared_kind f.env.file.items s d)
+initial_typed vars f s d (Some (table ts)) h t c n = first_none f.env.file.items vars (declared_kind f.env.file.items s d)
 initial_typed vars f s d (Some (value e)) h t c n =
     let env = (after_var f s (var_decl d None)).env in
-    let k = declared_kind f.env.file s d in
+    let k = declared_kind f.env.file.items s d in
     let one = left (expr_findings env e) _ c in
     let x = expr_kinds vars env h.kinds h.held h.rows e one in
     let ten = one-asked env (is_wrong_initial k) (declr_pos d) e (right (expr_findings env e) _ c) in
     let fit = known-fit (is_some k) (is_some (kind_of env e)) (is_void (kind_of env e)) (fits k (kind_of env e)) true t (expr-good env h.kinds e one).known ten in
-    let g = convert_going f.env.file vars (declr_pos d) k (kind_of env e) (resolve env e) fit x.value in
-    first_going f.env.file vars k (convert (declr_pos d) k (kind_of env e) (resolve env e)) g n
+    let g = convert_going f.env.file.items vars (declr_pos d) k (kind_of env e) (resolve env e) fit x.value in
+    first_going f.env.file.items vars k (convert (declr_pos d) k (kind_of env e) (resolve env e)) g n
 
 reached_typed : (file : List Item) (vars : List Param) (x : ℕ) (k : Option ValueKind) (v : Option Value) → is_some k ≡ true → IsKindHeld vars x k → IsFirst file vars k v → IsReachedTyped file vars x k v
 reached_typed file vars x None v s h i = absurd (cc)
@@ -154,21 +154,21 @@ reached_typed file vars x (Some k) v s h i = (h.0, h.1, i)
 -- variables, and the names behind them
 pub record Declared (vars : List Param) (f : Frame) (s : Spec) (vs : List VarDecl) : Type 0 where
   pub names : Knows vars (after_vars f s vs).env
-  pub file : (after_vars f s vs).env.file ≡ f.env.file
+  pub file : (after_vars f s vs).env.file.items ≡ f.env.file.items
   pub next : (after_vars f s vs).next ≡ f.next + length vs
   pub result : (after_vars f s vs).result ≡ f.result
-  pub typed : are_free_locals (reached (site f) s vs) ≡ true → AreReachedTyped f.env.file vars (reached (site f) s vs)
+  pub typed : are_free_locals (reached (site f) s vs) ≡ true → AreReachedTyped f.env.file.items vars (reached (site f) s vs)
 
 pub vars_kinds : (vars : List Param) (f : Frame) (qs : List Key) (s : Spec) (vs : List VarDecl) → Knows vars f.env → AreHeld vars f.next (reached (site f) s vs) → Clean (vars_findings f qs s vs) → Declared vars f s vs
 vars_kinds vars f qs s [] h b c = record { names = h; file = refl; next = omega arith; result = refl; typed = λ n. tt }
 vars_kinds vars f qs s (var_decl d i ∷ vs) h b c =
-    let k = declared_kind f.env.file s d in
+    let k = declared_kind f.env.file.items s d in
     let one = left (var_findings f qs s (var_decl d i)) _ c in
     let n1 = or_left _ (has_file_storage qs) (not_when _ (spec_pos s) 1 (left (declared_n1 qs s k) _ one)) in
-    let held = kind_of_held vars f.next k (declared_kept f.env.file s d) b.0 in
+    let held = kind_of_held vars f.next k (declared_kept f.env.file.items s d) b.0 in
     let l : Local = record { name = declr_name d; number = f.next; kind = k } in
     let g : Knows vars (after_var f s (var_decl d i)).env = record {
-      kinds = one_more f.env l (value_kind k n1 (declared-not_void f.env.file s d)) h.kinds;
+      kinds = one_more f.env l (value_kind k n1 (declared-not_void f.env.file.items s d)) h.kinds;
       held = one_more_held vars f.env l held h.held;
       rows = h.rows;
     } in
@@ -180,7 +180,7 @@ vars_kinds vars f qs s (var_decl d i ∷ vs) h b c =
       next = omega (arith, rest.next);
       result = rest.result;
       typed = λ n. (
-        reached_typed f.env.file vars f.next k (initial (site f) s (var_decl d i)) (is_there k n1) held
+        reached_typed f.env.file.items vars f.next k (initial (site f) s (var_decl d i)) (is_there k n1) held
             (initial_typed vars f s d i g (is_there k n1) two (and_left (is_free_option (initial (site f) s (var_decl d i))) _ n)),
         rest.typed (and_right (is_free_option (initial (site f) s (var_decl d i))) _ n),
       );

@@ -34,19 +34,19 @@ use Rattle.pungi_lower.proofs.KindsCalls.{HasRows, IsRowOf, callee_row, cast_typ
 
 -- an expression of its kind, also as a place
 pub record ExprKinds (vars : List Param) (env : Env) (e : Expr) : Type 0 where
-  pub value : Typed env.file vars (kind_of env e) (resolve env e)
-  pub place : is_place env e ≡ true → is_free_place (place_of env e) ≡ true → IsPlaceOf env.file vars (kind_of env e) (place_of env e)
+  pub value : Typed env.file.items vars (kind_of env e) (resolve env e)
+  pub place : is_place env e ≡ true → is_free_place (place_of env e) ≡ true → IsPlaceOf env.file.items vars (kind_of env e) (place_of env e)
 
 -- .. a node before its operand
 unary_kinds : (vars : List Param) (env : Env) (p : Pos) (k : Kind) (pr : Prefix) (e : Expr) → is_some (unary_kind pr (names_type_object env e) (is_place env e) (kind_of env e)) ≡ true
     → ((is_address pr && names_type_object env e) ≡ false → ExprKinds vars env e)
-    → Typed env.file vars (unary_kind pr (names_type_object env e) (is_place env e) (kind_of env e)) (unary_value env p k e pr (resolve env e) (place_of env e))
-unary_kinds vars env p k prefixes.Address e h x = static_typed env.file vars env p e h
+    → Typed env.file.items vars (unary_kind pr (names_type_object env e) (is_place env e) (kind_of env e)) (unary_value env p k e pr (resolve env e) (place_of env e))
+unary_kinds vars env p k prefixes.Address e h x = static_typed env.file.items vars env p e h
 unary_kinds vars env p k prefixes.Step e h x =
     let c = and_left (is_place env e) (is_integer (kind_of env e)) (found (is_place env e && is_integer (kind_of env e)) (kind_of env e) h) in
-    step_typed env.file vars p false k (is_place env e) (kind_of env e) (place_of env e) h ((x refl).place c)
-unary_kinds vars env p k prefixes.Sign e h x = sign_typed env.file vars p k (kind_of env e) (resolve env e) h (x refl).value
-unary_kinds vars env p k prefixes.Negation e h x = negation_typed env.file vars p (kind_of env e) (resolve env e) (x refl).value
+    step_typed env.file.items vars p false k (is_place env e) (kind_of env e) (place_of env e) h ((x refl).place c)
+unary_kinds vars env p k prefixes.Sign e h x = sign_typed env.file.items vars p k (kind_of env e) (resolve env e) h (x refl).value
+unary_kinds vars env p k prefixes.Negation e h x = negation_typed env.file.items vars p (kind_of env e) (resolve env e) (x refl).value
 unary_kinds vars env p k prefixes.LeftOut e h x = absurd (cc)
 
 -- .. calls
@@ -60,22 +60,22 @@ RowArgs file vars (a_row r) vs = call_none vs ≡ true → AreTyped file vars (w
 RowArgs file vars c vs = Unit {0}
 
 abbrev ArgsFit : List Param → Env → List Param → List Want → Exprs → Type 0
-ArgsFit vars env ps ws es = Clean (args_findings env ws es) → are_met env ws es ≡ true → call_none (resolve_all env ws es) ≡ true → AreTyped env.file vars ps (resolve_all env ws es)
+ArgsFit vars env ps ws es = Clean (args_findings env ws es) → are_met env ws es ≡ true → call_none (resolve_all env ws es) ≡ true → AreTyped env.file.items vars ps (resolve_all env ws es)
 
 row_args : (vars : List Param) (env : Env) (c : Callee) (es : Exprs) → ((ps : List Param) → ArgsFit vars env ps (map param_want ps) es) → Clean (args_findings env (wants env c) es) → are_met env (wants env c) es ≡ true
-    → RowArgs env.file vars c (resolve_all env (wants env c) es)
+    → RowArgs env.file.items vars c (resolve_all env (wants env c) es)
 row_args vars env (a_row r) es f c m =
-    subst (λ (ws : List Want). ArgsFit vars env (wanted_params r) ws es) (sym (same_wants env.file vars r.form r.params)) (f (wanted_params r)) c m
+    subst (λ (ws : List Want). ArgsFit vars env (wanted_params r) ws es) (sym (same_wants env.file.items vars r.form r.params)) (f (wanted_params r)) c m
 row_args vars env (defined d) es f c m = tt
 row_args vars env no_word es f c m = tt
 row_args vars env a_value es f c m = tt
 row_args vars env no_function es f c m = tt
 
-call_kinds : (vars : List Param) (env : Env) (c : Callee) (b : Bool) (p : Pos) (w : Name) (vs : Values) → IsRowOf c → is_some (if b then result_kind env c else None) ≡ true → RowArgs env.file vars c vs
-    → Typed env.file vars (if b then result_kind env c else None) (call_value p c w vs)
+call_kinds : (vars : List Param) (env : Env) (c : Callee) (b : Bool) (p : Pos) (w : Name) (vs : Values) → IsRowOf c → is_some (if b then result_kind env c else None) ≡ true → RowArgs env.file.items vars c vs
+    → Typed env.file.items vars (if b then result_kind env c else None) (call_value p c w vs)
 call_kinds vars env (defined d) b p w vs r h a = record { typed = λ n. tt; kin = λ n. absurd (cc) }
 call_kinds vars env (a_row row) b p w vs r h a =
-    let t = row_typed env.file vars p w row vs r a in
+    let t = row_typed env.file.items vars p w row vs r a in
     record { typed = t.typed; kin = λ n. kin_if b (result_kind env (a_row row)) (call_value p (a_row row) w vs) (t.kin n) }
 call_kinds vars env no_word b p w vs r h a = absurd (none_found b (result_kind env no_word) refl h)
 call_kinds vars env a_value b p w vs r h a = absurd (none_found b (result_kind env a_value) refl h)
@@ -100,11 +100,11 @@ assigned_place m false a b h = absurd (unassigned (is_bits_assign m) (is_arithme
 mutual
   pub expr_kinds : (vars : List Param) (env : Env) → HasKinds env → HasVars vars env → HasRows env → (e : Expr) → Clean (expr_findings env e) → ExprKinds vars env e
   expr_kinds vars env h b r (word p w) c =
-      let t = word_typed env.file vars p w (local_in env.locals w.0) (b.locals w.0) in
+      let t = word_typed env.file.items vars p w (local_in env.locals w.0) (b.locals w.0) in
       record { value = t.value; place = λ s n. t.place s }
-  expr_kinds vars env h b r (int p v l u) c = record { value = int_typed env.file vars p v l u; place = λ s. absurd (cc) }
+  expr_kinds vars env h b r (int p v l u) c = record { value = int_typed env.file.items vars p v l u; place = λ s. absurd (cc) }
   expr_kinds vars env h b r (float p) c = record { value = record { typed = λ n. tt; kin = λ n. tt }; place = λ s. absurd (cc) }
-  expr_kinds vars env h b r (char p x) c = record { value = char_typed env.file vars p x; place = λ s. absurd (cc) }
+  expr_kinds vars env h b r (char p x) c = record { value = char_typed env.file.items vars p x; place = λ s. absurd (cc) }
   expr_kinds vars env h b r (text p ns) c = record { value = record { typed = λ n. tt; kin = λ n. inl refl }; place = λ s. absurd (cc) }
   expr_kinds vars env h b r (null p) c = record { value = record { typed = λ n. tt; kin = λ n. refl }; place = λ s. absurd (cc) }
   expr_kinds vars env h b r (paren p e) c =
@@ -122,19 +122,19 @@ mutual
       let x = expr_kinds vars env h b r e (left (expr_findings env e) _ c) in
       let known = (expr-good env h (post p m e) c).known in
       let t = and_left (is_place env e) (is_integer (kind_of env e)) (found (is_place env e && is_integer (kind_of env e)) (kind_of env e) known) in
-      record { value = step_typed env.file vars p true (post_kind m) (is_place env e) (kind_of env e) (place_of env e) known (x.place t); place = λ s. absurd (cc) }
+      record { value = step_typed env.file.items vars p true (post_kind m) (is_place env e) (kind_of env e) (place_of env e) known (x.place t); place = λ s. absurd (cc) }
   expr_kinds vars env h b r (binary p m x y) c =
       let rest = right (expr_findings env x) _ c in
       let kx = expr_kinds vars env h b r x (left (expr_findings env x) _ c) in
       let ky = expr_kinds vars env h b r y (left (expr_findings env y) _ rest) in
-      record { value = binary_typed env.file vars p m (kind_of env x) (kind_of env y) (resolve env x) (resolve env y) (expr-good env h (binary p m x y) c).known kx.value ky.value; place = λ s. absurd (cc) }
+      record { value = binary_typed env.file.items vars p m (kind_of env x) (kind_of env y) (resolve env x) (resolve env y) (expr-good env h (binary p m x y) c).known kx.value ky.value; place = λ s. absurd (cc) }
   expr_kinds vars env h b r (assign p m x y) c =
       let rest = right (expr_findings env x) _ c in
       let kx = expr_kinds vars env h b r x (left (expr_findings env x) _ c) in
       let ky = expr_kinds vars env h b r y (left (expr_findings env y) _ rest) in
       let known = (expr-good env h (assign p m x y) c).known in
       record {
-        value = assign_typed env.file vars p m (is_place env x) (kind_of env x) (kind_of env y) (place_of env x) (resolve env y) known (kx.place (assigned_place m (is_place env x) (kind_of env x) (kind_of env y) known)) ky.value;
+        value = assign_typed env.file.items vars p m (is_place env x) (kind_of env x) (kind_of env y) (place_of env x) (resolve env y) known (kx.place (assigned_place m (is_place env x) (kind_of env x) (kind_of env y) known)) ky.value;
         place = λ s. absurd (cc);
       }
   expr_kinds vars env h b r (conditional p t x y) c =
@@ -144,13 +144,13 @@ mutual
       let kx = expr_kinds vars env h b r x (left (expr_findings env x) _ more) in
       let ky = expr_kinds vars env h b r y (left (expr_findings env y) _ rest) in
       record {
-        value = cond_typed env.file vars p (kind_of env t) (kind_of env x) (kind_of env y) (resolve env t) (resolve env x) (resolve env y) (expr-good env h (conditional p t x y) c).known kt.value kx.value ky.value;
+        value = cond_typed env.file.items vars p (kind_of env t) (kind_of env x) (kind_of env y) (resolve env t) (resolve env x) (resolve env y) (expr-good env h (conditional p t x y) c).known kt.value kx.value ky.value;
         place = λ s. absurd (cc);
       }
   expr_kinds vars env h b r (comma p x y) c = record { value = record { typed = λ n. tt; kin = λ n. tt }; place = λ s. absurd (cc) }
   expr_kinds vars env h b r (cast p t e) c =
       let x = expr_kinds vars env h b r e (left (expr_findings env e) _ c) in
-      record { value = cast_typed env.file vars p (type_name_kind env.file t) (kind_of env e) (resolve env e) (expr-good env h (cast p t e) c).known x.value; place = λ s. absurd (cc) }
+      record { value = cast_typed env.file.items vars p (type_name_kind env.file.items t) (kind_of env e) (resolve env e) (expr-good env h (cast p t e) c).known x.value; place = λ s. absurd (cc) }
   expr_kinds vars env h b r (size_of_type p t) c = record { value = record { typed = λ n. tt; kin = λ n. tt }; place = λ s. absurd (cc) }
   expr_kinds vars env h b r (call p f es) c =
       let ws = wants env (callee env f) in
@@ -168,7 +168,7 @@ mutual
   expr_kinds vars env h b r (dot p e w) c = record { value = record { typed = λ n. tt; kin = λ n. tt }; place = λ s. absurd (cc) }
   expr_kinds vars env h b r (arrow p e w) c =
       let x = expr_kinds vars env h b r e (left (expr_findings env e) _ c) in
-      let t = field_typed env.file vars p w (kind_of env e) (resolve env e) (expr-good env h (arrow p e w) c).known x.value in
+      let t = field_typed env.file.items vars p w (kind_of env e) (resolve env e) (expr-good env h (arrow p e w) c).known x.value in
       record { value = t.value; place = λ s n. t.place n }
 
   args_kinds : (vars : List Param) (env : Env) → HasKinds env → HasVars vars env → HasRows env → (ps : List Param) (es : Exprs) → ArgsFit vars env ps (map param_want ps) es
@@ -180,7 +180,7 @@ mutual
       let skipped = wants_module ws && is_module_address env e in
       let first : Findings = (if skipped then nothing_found else expr_findings env e and used env e) in
       let one = left first _ c in
-      let x = arg_typed env.file vars env q (map param_want ps) e (argument-met env ws e one (and_left (first_met ws (is_module_address env e) (operand (kind_of env e) e)) _ m))
+      let x = arg_typed env.file.items vars env q (map param_want ps) e (argument-met env ws e one (and_left (first_met ws (is_module_address env e) (operand (kind_of env e) e)) _ m))
       (λ s. (expr-good env h e (left (expr_findings env e) _ (unless skipped _ one s))).known)
       (λ s. (expr_kinds vars env h b r e (left (expr_findings env e) _ (unless skipped _ one s))).value) in
       let v : Value = (if skipped then module_behind e else convert (expr_pos e) (want_kind ws) (kind_of env e) (resolve env e)) in

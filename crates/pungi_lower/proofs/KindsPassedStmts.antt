@@ -69,20 +69,20 @@ case_fits env (unary p k e) c = elim (is_minus k) as (λ b. range.fits kinds.Lon
   | false ↦ refl
 ]
 case_fits env (int p v l u) c =
-    let h = bounded env.file [] v u (not_when (is_bad_int v u) p 14 (node env (int p v l u) c).fourteen) in
+    let h = bounded env.file.items [] v u (not_when (is_bad_int v u) p 14 (node env (int p v l u) c).fourteen) in
     elim (int_lt v (pos 0)) as (λ b. range.fits kinds.Long (case_value (if b then None else Some v)) ≡ true) [ true ↦ refl | false ↦ h.long ]
 case_fits env (char p x) c = let l = byte_low x in fits_pos kinds.Long (byte x) (omega (arith, l))
 case_fits env _ c = refl
 
 -- .. expressions of a statement
-expr_typed : (vars : List Param) (env : Env) → Knows vars env → (e : Expr) → Clean (expr_findings env e) → calls_none (resolve env e) ≡ true → IsTyped env.file vars (resolve env e)
+expr_typed : (vars : List Param) (env : Env) → Knows vars env → (e : Expr) → Clean (expr_findings env e) → calls_none (resolve env e) ≡ true → IsTyped env.file.items vars (resolve env e)
 expr_typed vars env h e c n = (expr_kinds vars env h.kinds h.held h.rows e c).value.typed n
 
-option_typed : (vars : List Param) (env : Env) → Knows vars env → (e : Option Expr) → Clean (option_findings env e) → is_free_option (option_value env e) ≡ true → IsOptionTyped env.file vars (option_value env e)
+option_typed : (vars : List Param) (env : Env) → Knows vars env → (e : Option Expr) → Clean (option_findings env e) → is_free_option (option_value env e) ≡ true → IsOptionTyped env.file.items vars (option_value env e)
 option_typed vars env h None c n = tt
 option_typed vars env h (Some e) c n = expr_typed vars env h e c n
 
-condition_typed : (vars : List Param) (env : Env) → Knows vars env → (p : Pos) (e : Option Expr) → Clean (option_condition env p e) → is_free_option (option_value env e) ≡ true → IsOptionTyped env.file vars (option_value env e)
+condition_typed : (vars : List Param) (env : Env) → Knows vars env → (p : Pos) (e : Option Expr) → Clean (option_condition env p e) → is_free_option (option_value env e) ≡ true → IsOptionTyped env.file.items vars (option_value env e)
 condition_typed vars env h p None c n = tt
 condition_typed vars env h p (Some e) c n = expr_typed vars env h e (left (expr_findings env e) _ c) n
 
@@ -99,19 +99,19 @@ switched_number vars env h p e c n =
     kin_number (kind_of env e) (resolve env e) i ((expr_kinds vars env h.kinds h.held h.rows e d).value.kin n)
 
 return_typed : (vars : List Param) (f : Frame) → Knows vars f.env → is_some f.result ≡ true → (p : Pos) (e : Option Expr) → Clean (return_findings f.env f.result p e) → is_free_option (returned (site f) p e) ≡ true
-    → IsOptionTyped f.env.file vars (returned (site f) p e)
+    → IsOptionTyped f.env.file.items vars (returned (site f) p e)
 return_typed vars f h r p None c n = tt
 return_typed vars f h r p (Some e) c n =
     let d = left (expr_findings f.env e) _ c in
     let ten = one-asked f.env (is_wrong_return f.result) p e (right (expr_findings f.env e) _ c) in
     let fit = known-fit (is_some f.result) (is_some (kind_of f.env e)) (is_void f.result) (fits f.result (kind_of f.env e)) true r (expr-good f.env h.kinds e d).known ten in
-    (convert_going f.env.file vars p f.result (kind_of f.env e) (resolve f.env e) fit (expr_kinds vars f.env h.kinds h.held h.rows e d).value).typed n
+    (convert_going f.env.file.items vars p f.result (kind_of f.env e) (resolve f.env e) fit (expr_kinds vars f.env h.kinds h.held h.rows e d).value).typed n
 
 -- .. statements
 -- where the statement behind one stands
 record Behind (vars : List Param) (f : Frame) (s : Stmt) : Type 0 where
   names : Knows vars (after_stmt f s).env
-  file : (after_stmt f s).env.file ≡ f.env.file
+  file : (after_stmt f s).env.file.items ≡ f.env.file.items
   next : (after_stmt f s).next ≡ f.next + stmt_locals s
   result : (after_stmt f s).result ≡ f.result
 
@@ -124,11 +124,11 @@ known_behind vars f _ h b c = record { names = h; file = refl; next = refl; resu
 -- what begins a `for`
 record Started (vars : List Param) (f : Frame) (a : ForStart) : Type 0 where
   names : Knows vars (start_frame f a).env
-  file : (start_frame f a).env.file ≡ f.env.file
+  file : (start_frame f a).env.file.items ≡ f.env.file.items
   next : (start_frame f a).next ≡ f.next + length (start_reached (site f) a)
   result : (start_frame f a).result ≡ f.result
-  locals : are_free_locals (start_reached (site f) a) ≡ true → AreReachedTyped f.env.file vars (start_reached (site f) a)
-  first : is_free_option (start_value f.env a) ≡ true → IsOptionTyped f.env.file vars (start_value f.env a)
+  locals : are_free_locals (start_reached (site f) a) ≡ true → AreReachedTyped f.env.file.items vars (start_reached (site f) a)
+  first : is_free_option (start_value f.env a) ≡ true → IsOptionTyped f.env.file.items vars (start_value f.env a)
 
 known_start : (vars : List Param) (f : Frame) (a : ForStart) → Knows vars f.env → AreHeld vars f.next (start_reached (site f) a) → Clean (start_findings f a) → Started vars f a
 known_start vars f (start_decl (decl qs s vs)) h b c =
@@ -140,10 +140,10 @@ known_start vars f (start_expr e) h b c = record { names = h; file = refl; next 
 -- a `for`, given what is known of its body
 abbrev BodyKinds : List Param → Stmt → Type 0
 BodyKinds vars s = (g : Frame) → Knows vars g.env → is_some g.result ≡ true → AreHeld vars g.next (stmt_reached (action (site g) s)) → Clean (stmt_findings g s) → has_no_call (action (site g) s) ≡ true
-    → IsStmtTyped g.env.file vars (action (site g) s)
+    → IsStmtTyped g.env.file.items vars (action (site g) s)
 
 for_kinds : (vars : List Param) (f : Frame) (p : Pos) (a : ForStart) (t d : Option Expr) (s : Stmt) → Knows vars f.env → is_some f.result ≡ true → AreHeld vars f.next (stmt_reached (action (site f) (for p a t d s))) → Clean (stmt_findings f (for p a t d s))
-    → has_no_call (action (site f) (for p a t d s)) ≡ true → BodyKinds vars s → IsStmtTyped f.env.file vars (action (site f) (for p a t d s))
+    → has_no_call (action (site f) (for p a t d s)) ≡ true → BodyKinds vars s → IsStmtTyped f.env.file.items vars (action (site f) (for p a t d s))
 for_kinds vars f p a t d s h r b c n body =
     let g = start_frame f a in
     let x = with_start (site f) a in
@@ -158,14 +158,14 @@ for_kinds vars f p a t d s h r b c n body =
     let more = and_right (is_free_option (option_value g.env t)) _ free in
     let Held : Site → Type 0 = λ y. AreHeld vars g.next (stmt_reached (action y s)) in
     let held : Held (site g) = subst Held (sym (start-site f a)) (held_behind vars f.next g.next rs inner b (omega (arith, i.next))) in
-    let Parts : Site → Type 0 = λ y. IsOptionTyped g.env.file vars (option_value y.env t) × IsOptionTyped g.env.file vars (option_value y.env d) × IsStmtTyped g.env.file vars (action y s) in
+    let Parts : Site → Type 0 = λ y. IsOptionTyped g.env.file.items vars (option_value y.env t) × IsOptionTyped g.env.file.items vars (option_value y.env d) × IsStmtTyped g.env.file.items vars (action y s) in
     let parts : Parts x = subst Parts (start-site f a) (
       condition_typed vars g.env i.names p t (left (option_condition g.env p t) _ two) (and_left (is_free_option (option_value g.env t)) (is_free_option (option_value g.env d) && has_no_call (action (site g) s)) free),
       option_typed vars g.env i.names d (left (option_findings g.env d) _ three) (and_left (is_free_option (option_value g.env d)) (has_no_call (action (site g) s)) more),
       body (in_loop g) i.names (ap is_some i.result ∙ r) held (right (option_findings g.env d) _ three) (and_right (is_free_option (option_value g.env d)) (has_no_call (action (site g) s)) more),
     ) in
     let Filed : List Item → Type 0 = λ fl. IsOptionTyped fl vars (option_value x.env t) × IsOptionTyped fl vars (option_value x.env d) × IsStmtTyped fl vars (action x s) in
-    let filed : Filed f.env.file = subst Filed i.file parts in (
+    let filed : Filed f.env.file.items = subst Filed i.file parts in (
       i.locals (and_left (are_free_locals rs) (is_free_option (start_value f.env a) && (is_free_option (option_value x.env t) && (is_free_option (option_value x.env d) && has_no_call (action x s)))) n),
       i.first (and_left (is_free_option (start_value f.env a)) (is_free_option (option_value x.env t) && (is_free_option (option_value x.env d) && has_no_call (action x s))) n1),
       filed.0,
@@ -175,7 +175,7 @@ for_kinds vars f p a t d s h r b c n body =
 
 mutual
   pub stmt_kinds : (vars : List Param) (f : Frame) (s : Stmt) → Knows vars f.env → is_some f.result ≡ true → AreHeld vars f.next (stmt_reached (action (site f) s)) → Clean (stmt_findings f s) → has_no_call (action (site f) s) ≡ true
-      → IsStmtTyped f.env.file vars (action (site f) s)
+      → IsStmtTyped f.env.file.items vars (action (site f) s)
   stmt_kinds vars f (block p ss q) h r b c n = stmts_kinds vars (in_block f ss) ss h r b c n
   stmt_kinds vars f (declare p (decl qs s vs)) h r b c n = (vars_kinds vars f qs s vs h b c).typed n
   stmt_kinds vars f (do_expr p e) h r b c n = option_typed vars f.env h e c n
@@ -220,7 +220,7 @@ mutual
   stmt_kinds vars f (return p e) h r b c n = return_typed vars f h r p e c n
 
   pub stmts_kinds : (vars : List Param) (f : Frame) (ss : Stmts) → Knows vars f.env → is_some f.result ≡ true → AreHeld vars f.next (stmts_reached (actions (site f) ss)) → Clean (stmts_findings f ss) → have_no_call (actions (site f) ss) ≡ true
-      → AreStmtsTyped f.env.file vars (actions (site f) ss)
+      → AreStmtsTyped f.env.file.items vars (actions (site f) ss)
   stmts_kinds vars f no_stmts h r b c n = tt
   stmts_kinds vars f (stmt_and s ss) h r b c n =
       let one = left (stmt_findings f s) _ c in
@@ -234,7 +234,7 @@ mutual
       let more : Held (site g) = subst Held (sym (stmt-site f s)) (held_behind vars f.next g.next (stmt_reached first) (stmts_reached rest) b (omega (arith, k.next, count))) in
       let Free : Site → Type 0 = λ y. have_no_call (actions y ss) ≡ true in
       let free : Free (site g) = subst Free (sym (stmt-site f s)) (and_right (has_no_call first) (have_no_call rest) n) in
-      let Rest : Site → Type 0 = λ y. AreStmtsTyped g.env.file vars (actions y ss) in
+      let Rest : Site → Type 0 = λ y. AreStmtsTyped g.env.file.items vars (actions y ss) in
       let typed : Rest (after (site f) s) = subst Rest (stmt-site f s) (stmts_kinds vars g ss k.names (ap is_some k.result ∙ r) more (right (stmt_findings f s) _ c) free) in (
         stmt_kinds vars f s h r held one (and_left (has_no_call first) (have_no_call rest) n),
         subst (λ (fl : List Item). AreStmtsTyped fl vars (actions (after (site f) s) ss)) k.file typed,

@@ -12,7 +12,7 @@ use Rattle.pungi_types.specs.declared.kind.ValueKind.TheVariants as kinds
 use Rattle.pungi_types.specs.declared.local.Local.{Local}
 use Rattle.pungi_types.specs.Files.{Variable, variables_of, declr_name, declr_tail, declr_stars, is_plain_tail}
 use Rattle.pungi_types.specs.Kinds.{Core, base_words, builtin, struct_of, no_core, core_of, core_kind, type_kind, not_void, spec_base, declared_kind, declr_named, member_kind, field_in, field_in_some, field_kind, struct_fields, is_object_struct, only, both, is_int_key, is_long_key, is_void_key, is_char_key}
-use Rattle.pungi_types.specs.Names.{Env, Meaning, a_global, a_function, a_static, unknown, local_in, local_or, global_or, global_in, global_kind, is_table, is_function, is_plain_static, is_among, type_objects, static_number}
+use Rattle.pungi_types.specs.Names.{Env, Meaning, a_global, a_function, a_static, unknown, local_in, local_or, global_or, global_in, global_kind, is_table, is_function, is_own_static, static_number}
 use Rattle.pungi_types.specs.Exprs.{is_slot, meaning_kind, int_kind, is_bad_int}
 use Rattle.pungi_types.specs.Labels.{byte}
 use Rattle.pungi_types.specs.Operators.{struct_part}
@@ -186,7 +186,7 @@ no_value file vars p w m t e = record { value = t; place = λ s. absurd (cc) }
 global_typed : (file : List Item) (vars : List Param) (p : Pos) (w : Name) (g : Option ValueKind) → global_kind file w.0 ≡ g → WordTyped file vars p w (global_or file w.0 g)
 global_typed file vars p w (Some k) e = known_global file vars p w k e (ap may_be_kept (sym e) ∙ global_in_kept file (variables_of file) w.0)
 global_typed file vars p w None e =
-    elim (is_plain_static w.0 && not (is_among (type_objects file) w.0)) as (λ b. WordTyped file vars p w (if b then a_static (static_number file w.0) else unknown)) [
+    elim (is_own_static file w.0) as (λ b. WordTyped file vars p w (if b then a_static (static_number file w.0) else unknown)) [
       | true ↦ no_value file vars p w (a_static (static_number file w.0)) (record { typed = λ n. tt; kin = λ n. refl }) refl
       | false ↦ no_value file vars p w unknown (record { typed = λ n. tt; kin = λ n. tt }) refl
     ]

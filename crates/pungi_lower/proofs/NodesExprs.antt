@@ -193,7 +193,7 @@ mutual
       let g = expr-few env b in
       record { nodes = omega (arith, h.nodes, f.nodes, g.nodes); size = omega (arith, h.size, f.size, g.size) }
   expr-few env (cast p t e) =
-      let h = cast-few p (type_name_kind env.file t) (kind_of env e) (resolve env e) (written.expr_nodes e) (expr-few env e) in
+      let h = cast-few p (type_name_kind env.file.items t) (kind_of env e) (resolve env e) (written.expr_nodes e) (expr-few env e) in
       record { nodes = omega (arith, h.nodes); size = omega (arith, h.size) }
   expr-few env (call p f es) =
       call-few p (callee env f) (callee_name f) (resolve_all env (wants env (callee env f)) es) (written.expr_nodes f) (written.exprs_nodes es)

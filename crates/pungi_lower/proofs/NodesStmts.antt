@@ -57,7 +57,7 @@ initial-few f s d None = record { nodes = omega arith; size = omega arith }
 initial-few f s d (Some (table ts)) = record { nodes = omega arith; size = omega arith }
 initial-few f s d (Some (value e)) =
     let env = (with_var f s (var_decl d None)).env in
-    let h = convert-few (declr_pos d) (declared_kind f.env.file s d) (kind_of env e) (resolve env e) (written.expr_nodes e) (expr-few env e) in
+    let h = convert-few (declr_pos d) (declared_kind f.env.file.items s d) (kind_of env e) (resolve env e) (written.expr_nodes e) (expr-few env e) in
     record { nodes = omega (arith, h.nodes); size = omega (arith, h.size) }
 
 reached-few : (f : Site) (s : Spec) (vs : List VarDecl) → FewReached (reached f s vs) (written.vars_nodes vs)

@@ -28,7 +28,7 @@ number-works n p v (Some k) void = record { sound = tt; gives = λ x. refl }
 mutual
   pub expr-works : (n : ℕ) (env : Env) → HasKinds env → HasNumbers n env → (e : Expr) → Clean (expr_findings env e) → Works n env e
   expr-works n env h b (word p w) c =
-      let s = place-works n p env.file w (local_in env.locals w.0) (b.locals w.0) in
+      let s = place-works n p env.file.items w (local_in env.locals w.0) (b.locals w.0) in
       let g = word-works n p w (meaning_of env w.0) (is_void (kind_of env (word p w))) s in
       record { sound = g.sound; gives = g.gives; place = s }
   expr-works n env h b (int p v l u) c =
@@ -97,8 +97,8 @@ mutual
       let d = left (expr_findings env e) _ c in
       let w = expr-works n env h b e d in
       let m = node env (cast p t e) (right (expr_findings env e) _ c) in
-      let g = cast-works n p (type_name_kind env.file t) (kind_of env e) (resolve env e) w.sound w.gives (expr-good env h e d).known
-      (is_there (type_name_kind env.file t) (not_when _ _ 1 m.one)) (cast-asked env (type_name_kind env.file t) p e m.ten) in
+      let g = cast-works n p (type_name_kind env.file.items t) (kind_of env e) (resolve env e) w.sound w.gives (expr-good env h e d).known
+      (is_there (type_name_kind env.file.items t) (not_when _ _ 1 m.one)) (cast-asked env (type_name_kind env.file.items t) p e m.ten) in
       record { sound = g.sound; gives = g.gives; place = λ z. absurd (cc) }
   expr-works n env h b (size_of_type p t) c = record { sound = tt; gives = λ z. refl; place = λ s. absurd (cc) }
   expr-works n env h b (call p f es) c =
@@ -115,8 +115,8 @@ mutual
   expr-works n env h b (arrow p e w) c =
       let g = expr-works n env h b e (left (expr_findings env e) _ c) in
       let m = node env (arrow p e w) (right (expr_findings env e) _ c) in
-      let k = is_there (field_kind env.file (kind_of env e) w.0) (not_when _ p 12 m.twelve) in
-      let s = field-works n p (resolve env e) (struct_part (kind_of env e)) w (has_struct env.file (kind_of env e) w.0 k) (g.gives (field-not_void env.file (kind_of env e) w.0 k)) g.sound in
+      let k = is_there (field_kind env.file.items (kind_of env e) w.0) (not_when _ p 12 m.twelve) in
+      let s = field-works n p (resolve env e) (struct_part (kind_of env e)) w (has_struct env.file.items (kind_of env e) w.0 k) (g.gives (field-not_void env.file.items (kind_of env e) w.0 k)) g.sound in
       let r = read-works n p (kind_of env (arrow p e w)) (place_of env (arrow p e w)) (is_void (kind_of env (arrow p e w))) (λ x. s) in
       record { sound = r.sound; gives = r.gives; place = λ z. s }
 

@@ -59,7 +59,7 @@ record Counted (n : ℕ) (f g : Frame) (m : ℕ) : Type 0 where
 
 param-numbers : (n : ℕ) (f : Frame) → HasNumbers n f.env → f.next < n → (d : ParamDecl) → Counted n f (after_param f d) 1
 param-numbers n f b lt (param_decl qs s (named d)) = record {
-  names = one_more-numbered n f.env (record { name = declr_name d; number = f.next; kind = param_kind f.env.file s (named d) }) lt b;
+  names = one_more-numbered n f.env (record { name = declr_name d; number = f.next; kind = param_kind f.env.file.items s (named d) }) lt b;
   next = refl;
   result = refl;
 }
@@ -106,7 +106,7 @@ all_kinds-long : (file : List Item) (ps : Params) → length (params_kinds file 
 all_kinds-long file (params ds v dots) = kinds-long file ds
 
 pub params-long : (env : Env) (d : Definition) → length (resolved_in env d).params ≡ params_count d.params
-params-long env d = all_kinds-long env.file d.params
+params-long env d = all_kinds-long env.file.items d.params
 
 pub params-among : (env : Env) (d : Definition) → length (resolved_in env d).params ≤ (resolved_in env d).locals
 params-among env d = let h = params-long env d in omega (arith, h)

@@ -1,8 +1,8 @@
 -- What the layout makes of the functions of a file of which no rule is told.
-use Rattle.std.proofs.Common.{◌≡◌, ◌*◌, ◌≤◌, arith, true, List, length, sym, subst}
+use Rattle.std.proofs.Common.{◌≡◌, ◌*◌, ◌≤◌, arith, true, List, length, sym, ap, subst}
 use Rattle.std.specs.Prelude.{◌^◌}
 use Rattle.pungi_tree.specs.Syntax.{Item}
-use Rattle.pungi_types.specs.Files.{Definition}
+use Rattle.pungi_types.specs.Files.{SourceFile, Definition}
 use Rattle.pungi_types.specs.Names.{Env}
 use Rattle.pungi_types.specs.Nodes.{function_nodes}
 use Rattle.pungi_resolve.specs.Functions.{resolved_in}
@@ -34,12 +34,12 @@ well_formed_if_passed f = λ env d h rows e n.
     subst (λ (r : ResolvedFunction). IsWellFormed (code_of r)) (sym e) (function-well-formed env d h rows (subst (λ (r : ResolvedFunction). has_no_call r.body ≡ true) e n))
 
 -- of a function of a file
-typed_in : (file : List Item) (env : Env) (d : Definition) → env.file ≡ file → IsStmtTyped env.file (var_kinds (resolved_in env d)) (resolved_in env d).body → IsStmtTyped file (var_kinds (resolved_in env d)) (resolved_in env d).body
+typed_in : (file : List Item) (env : Env) (d : Definition) → env.file.items ≡ file → IsStmtTyped env.file.items (var_kinds (resolved_in env d)) (resolved_in env d).body → IsStmtTyped file (var_kinds (resolved_in env d)) (resolved_in env d).body
 typed_in file env d e h = subst (λ (fl : List Item). IsStmtTyped fl (var_kinds (resolved_in env d)) (resolved_in env d).body) e h
 
 pub agree_if_passed : (f g : ResolvedFunction) → AgreeIfPassed f g
 agree_if_passed f g = λ env other d e same h k rows more x y n m.
     let a = function-kinds env d h rows (subst (λ (r : ResolvedFunction). has_no_call r.body ≡ true) x n) in
     let b = function-kinds other e k more (subst (λ (r : ResolvedFunction). has_no_call r.body ≡ true) y m) in
-    let c = codes-agree env.file (var_kinds (resolved_in env d)) (var_kinds (resolved_in other e)) (resolved_in env d) (resolved_in other e) a (typed_in env.file other e (sym same) b) in
+    let c = codes-agree env.file.items (var_kinds (resolved_in env d)) (var_kinds (resolved_in other e)) (resolved_in env d) (resolved_in other e) a (typed_in env.file.items other e (ap (λ (f : SourceFile). f.items) (sym same)) b) in
     subst (λ (r : ResolvedFunction). AgreeOnKinds (code_of r) (code_of g)) (sym x) (subst (λ (r : ResolvedFunction). AgreeOnKinds (code_of (resolved_in env d)) (code_of r)) (sym y) c)

@@ -18,7 +18,7 @@ use Rattle.pungi_types.specs.declared.lookup.Want.{Want}
 use Rattle.pungi_types.specs.declared.lookup.Want.TheVariants as wanted
 use Rattle.pungi_types.specs.declared.operator.Prefix.{Prefix}
 use Rattle.pungi_types.specs.declared.operator.Prefix.TheVariants as prefixes
-use Rattle.pungi_types.specs.Names.{Env, Meaning, a_local, a_global, a_function, a_static, unknown, local_in, local_or, global_or, global_kind, is_function, is_plain_static, is_among, type_objects, static_number}
+use Rattle.pungi_types.specs.Names.{Env, Meaning, a_local, a_global, a_function, a_static, unknown, local_in, local_or, global_or, global_kind, is_function, is_own_static, static_number}
 use Rattle.pungi_types.specs.Kinds.{field_kind}
 use Rattle.pungi_types.specs.Operators.{is_arithmetic, is_order, is_equality, is_arithmetic_assign, is_integer, is_pointer, is_void, is_object, is_text, fits, wider, is_same_kind}
 use Rattle.pungi_types.specs.Exprs.{kind_of, is_place, is_slot, is_address, is_step_or_sign, names_type_object, is_module_address, Callee, no_word, a_value, defined, a_row, no_function, wants_module, first_met, unary_wrong, cast_wrong, cast_kind, row_kind, result_kind, meaning_kind}
@@ -95,7 +95,7 @@ place-works n p file w None b s =
     global-place : (n : ℕ) (p : Pos) (file : List Item) (w : Name) (g : Option ValueKind) → is_slot (global_or file w.0 g) ≡ true → IsPlaceSound n (word_place p (global_or file w.0 g) w)
     global-place n p file w (Some k) s = tt
     global-place n p file w None s =
-        elim (is_plain_static w.0 && not (is_among (type_objects file) w.0)) as (λ x. is_slot (if x then a_static (static_number file w.0) else unknown) ≡ true
+        elim (is_own_static file w.0) as (λ x. is_slot (if x then a_static (static_number file w.0) else unknown) ≡ true
         → IsPlaceSound n (word_place p (if x then a_static (static_number file w.0) else unknown) w)) [
           | true ↦ λ k. absurd (cc)
           | false ↦ λ k. absurd (cc)

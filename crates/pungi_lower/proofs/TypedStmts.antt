@@ -75,14 +75,14 @@ return-works n f h b r p (Some e) c =
 
 -- .. declarations
 initial-works : (n : ℕ) (f : Frame) (s : Spec) (d : Declr) (i : Option Init) → HasKinds (after_var f s (var_decl d i)).env → HasNumbers n (after_var f s (var_decl d i)).env
-    → Clean (initial_findings (after_var f s (var_decl d i)).env (declared_kind f.env.file s d) (declr_pos d) i) → IsOptionWanted n (initial (site f) s (var_decl d i))
+    → Clean (initial_findings (after_var f s (var_decl d i)).env (declared_kind f.env.file.items s d) (declr_pos d) i) → IsOptionWanted n (initial (site f) s (var_decl d i))
 initial-works n f s d None h b c = tt
 initial-works n f s d (Some (table ts)) h b c = tt
 initial-works n f s d (Some (value e)) h b c =
     let env = (after_var f s (var_decl d None)).env in
     let w = expr-works n env h b e (left (expr_findings env e) _ c) in
-    let v = or_left (is_void (kind_of env e)) _ (one-asked env (is_wrong_initial (declared_kind f.env.file s d)) (declr_pos d) e (right (expr_findings env e) _ c)) in
-    let g = convert-works n (declr_pos d) (declared_kind f.env.file s d) (kind_of env e) (resolve env e) (w.gives v) w.sound in
+    let v = or_left (is_void (kind_of env e)) _ (one-asked env (is_wrong_initial (declared_kind f.env.file.items s d)) (declr_pos d) e (right (expr_findings env e) _ c)) in
+    let g = convert-works n (declr_pos d) (declared_kind f.env.file.items s d) (kind_of env e) (resolve env e) (w.gives v) w.sound in
     (g.gives refl, g.sound)
 
 -- variables, and the numbers behind them
@@ -95,14 +95,14 @@ pub vars-work : (n : ℕ) (f : Frame) (qs : List Key) (s : Spec) (vs : List VarD
 vars-work n f qs s [] h b le c = record { names = b; next = omega arith; sound = tt }
 vars-work n f qs s (var_decl d i ∷ vs) h b le c =
     let one = left (var_findings f qs s (var_decl d i)) _ c in
-    let n1 = not_when _ (spec_pos s) 1 (left (declared_n1 qs s (declared_kind f.env.file s d)) _ one) in
-    let k = value_kind (declared_kind f.env.file s d) (or_left _ (has_file_storage qs) n1) (declared-not_void f.env.file s d) in
-    let l : Local = record { name = declr_name d; number = f.next; kind = declared_kind f.env.file s d } in
+    let n1 = not_when _ (spec_pos s) 1 (left (declared_n1 qs s (declared_kind f.env.file.items s d)) _ one) in
+    let k = value_kind (declared_kind f.env.file.items s d) (or_left _ (has_file_storage qs) n1) (declared-not_void f.env.file.items s d) in
+    let l : Local = record { name = declr_name d; number = f.next; kind = declared_kind f.env.file.items s d } in
     let g = one_more f.env l k h in
     let lt : f.next < n = omega (arith, le) in
     let u = one_more-numbered n f.env l lt b in
     let rest = vars-work n (after_var f s (var_decl d i)) qs s vs g u (omega (arith, le)) (right (var_findings f qs s (var_decl d i)) _ c) in
-    let two = right (declared_n8 f.env f.block (declr_name d) (declr_pos d)) _ (right (declared_n1 qs s (declared_kind f.env.file s d)) _ one) in
+    let two = right (declared_n8 f.env f.block (declr_name d) (declr_pos d)) _ (right (declared_n1 qs s (declared_kind f.env.file.items s d)) _ one) in
     record { names = rest.names; next = omega (arith, rest.next); sound = (lt, initial-works n f s d i g u two, rest.sound) }
 
 -- what begins a `for`, and the names behind it

@@ -7,7 +7,7 @@ use Rattle.pungi_base.specs.declared.pos.Pos.{Pos}
 use Rattle.pungi_base.specs.declared.value.Value.{Value}
 use Rattle.pungi_tree.specs.Syntax as plain
 use Rattle.pungi_api.specs.Rows.{builtin_rows}
-use Rattle.pungi_types.specs.Files.{Definition, definitions}
+use Rattle.pungi_types.specs.Files.{source_file, Definition, definitions}
 use Rattle.pungi_resolve.specs.Functions.{resolved}
 use Rattle.pungi_resolved.specs.Functions.{ResolvedFunction}
 use Rattle.pungi_meaning.specs.Run.{End, Returned, Stopped, NeedsChoice, OutOfFuel, run_of}
@@ -33,7 +33,7 @@ told OutOfFuel = goes_on
 -- a file's last function, with its names resolved
 abbrev last_of : List plain.Item → List Definition → Option ResolvedFunction
 last_of file [] = None
-last_of file (d ∷ []) = Some (resolved file builtin_rows [] d)
+last_of file (d ∷ []) = Some (resolved (source_file [] file builtin_rows) [] d)
 last_of file (d ∷ ds) = last_of file ds
 
 abbrev pub last_function : List plain.Item → Option ResolvedFunction

@@ -12,7 +12,7 @@ use Rattle.pungi_types.specs.Functions.{file_env, refusal}
 use Rattle.pungi_types.specs.Nodes.{function_nodes}
 use Rattle.pungi_resolve.specs.Functions.{resolved}
 use Rattle.pungi_resolved.specs.Functions.{ResolvedFunction}
-use Rattle.pungi_check.specs.CheckedFile.{CheckedFile}
+use Rattle.pungi_types.specs.Refused.{CheckedFile}
 use Rattle.pungi_resolve.specs.Passed.{IsPassed}
 use Rattle.pungi_resolve.specs.Resolutions.{resolution_of}
 use Rattle.pungi_meaning.specs.Entries.{entry_fits}
@@ -23,10 +23,10 @@ use Rattle.pungi_layout.specs.Codes.{code_for}
 use Rattle.pungi_layout.specs.Correct.{Behaves}
 
 abbrev pub codes_of : CheckedFile → List (Option Code)
-codes_of c = map code_for (map (resolution_of c.file c.rows c.refused) (definitions c.file))
+codes_of c = map code_for (map (resolution_of c.file c.refused) (definitions c.file.items))
 
 abbrev pub names_of : CheckedFile → List Name
-names_of c = map (λ d. d.name) (definitions c.file)
+names_of c = map (λ d. d.name) (definitions c.file.items)
 
 -- it runs as the function does, it has at most four instructions for each node of the text, no temporary is kept where one statement ends and another
 -- begins, and the same entries fit it, whose arguments are among the locals
@@ -38,9 +38,9 @@ pub record IsLowered (f : ResolvedFunction) (nodes : ℕ) (code : Code) : Type 0
   pub within : (statics : ℕ) (entry : Entry) → entry_fits f.params statics entry ≡ true → length entry.args ≤ f.locals
 
 abbrev pub AreLowered : CheckedFile → List (Option Code) → Type 0
-AreLowered c codes = (i : ℕ) (d : Definition) (code : Code) → slice_get (definitions c.file) i ≡ Some d → slice_get codes i ≡ Some (Some code)
-    → IsLowered (resolved c.file c.rows c.refused d) (function_nodes d) code
+AreLowered c codes = (i : ℕ) (d : Definition) (code : Code) → slice_get (definitions c.file.items) i ≡ Some d → slice_get codes i ≡ Some (Some code)
+    → IsLowered (resolved c.file c.refused d) (function_nodes d) code
 
 abbrev pub IsEachPassed : CheckedFile → Type 0
-IsEachPassed c = (i : ℕ) (d : Definition) → slice_get (definitions c.file) i ≡ Some d → refusal c.file c.rows c.refused d ≡ None
-    → IsPassed (file_env c.file c.rows c.refused d.name.0) d
+IsEachPassed c = (i : ℕ) (d : Definition) → slice_get (definitions c.file.items) i ≡ Some d → refusal c.file c.refused d ≡ None
+    → IsPassed (file_env c.file c.refused d.name.0) d

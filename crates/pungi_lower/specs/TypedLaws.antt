@@ -25,8 +25,8 @@ IsSmallIfPassed f = (env : Env) (d : Definition) → IsPassed env d → f ≡ re
     → (length f.params ≤ f.locals) × (5 * stmt_nodes f.body ≤ 2 ^ 16) × (length (body_code f) ≤ 4 * function_nodes d) × (length (body_code f) ≤ 2 ^ 14)
 
 abbrev pub IsWellFormedIfPassed : ResolvedFunction → Type 0
-IsWellFormedIfPassed f = (env : Env) (d : Definition) → IsPassed env d → are_rows env.table ≡ true → f ≡ resolved_in env d → has_no_call f.body ≡ true → IsWellFormed (code_of f)
+IsWellFormedIfPassed f = (env : Env) (d : Definition) → IsPassed env d → are_rows env.file.rows ≡ true → f ≡ resolved_in env d → has_no_call f.body ≡ true → IsWellFormed (code_of f)
 
 abbrev pub AgreeIfPassed : ResolvedFunction → ResolvedFunction → Type 0
-AgreeIfPassed f g = (env other : Env) (d e : Definition) → env.file ≡ other.file → IsPassed env d → IsPassed other e → are_rows env.table ≡ true → are_rows other.table ≡ true
+AgreeIfPassed f g = (env other : Env) (d e : Definition) → env.file ≡ other.file → IsPassed env d → IsPassed other e → are_rows env.file.rows ≡ true → are_rows other.file.rows ≡ true
     → f ≡ resolved_in env d → g ≡ resolved_in other e → has_no_call f.body ≡ true → has_no_call g.body ≡ true → AgreeOnKinds (code_of f) (code_of g)

@@ -14,49 +14,49 @@ use Rattle.pungi_names.specs.SeenCalls as s
 use Rattle.pungi_names.specs.SeenCalls.{Seen, seen, defined_called}
 
 module _ (env : Env) where
-  pub wants-seen : (c : Callee) → s.wants_seen (seen env.file c) ≡ wants env c
+  pub wants-seen : (c : Callee) → s.wants_seen (seen env.file.items c) ≡ wants env c
   wants-seen no_word = refl
   wants-seen a_value = refl
   wants-seen (defined d) = refl
   wants-seen (a_row r) = refl
   wants-seen no_function = refl
 
-  pub result-seen : (c : Callee) → s.result_seen env.self env.refused (seen env.file c) ≡ result_kind env c
+  pub result-seen : (c : Callee) → s.result_seen env.self env.refused (seen env.file.items c) ≡ result_kind env c
   result-seen no_word = refl
   result-seen a_value = refl
   result-seen (defined d) = refl
   result-seen (a_row r) = refl
   result-seen no_function = refl
 
-  pub value-seen : (c : Callee) → s.is_value_seen (seen env.file c) ≡ is_value_called c
+  pub value-seen : (c : Callee) → s.is_value_seen (seen env.file.items c) ≡ is_value_called c
   value-seen no_word = refl
   value-seen a_value = refl
   value-seen (defined d) = refl
   value-seen (a_row r) = refl
   value-seen no_function = refl
 
-  pub takes-seen : (c : Callee) → s.takes_seen (seen env.file c) ≡ takes_arguments c
+  pub takes-seen : (c : Callee) → s.takes_seen (seen env.file.items c) ≡ takes_arguments c
   takes-seen no_word = refl
   takes-seen a_value = refl
   takes-seen (defined d) = refl
   takes-seen (a_row r) = refl
   takes-seen no_function = refl
 
-  pub unknown-seen : (c : Callee) → s.is_unknown_seen env.self env.refused (seen env.file c) ≡ is_unknown_call env c
+  pub unknown-seen : (c : Callee) → s.is_unknown_seen env.self env.refused (seen env.file.items c) ≡ is_unknown_call env c
   unknown-seen no_word = refl
   unknown-seen a_value = refl
   unknown-seen (defined d) = refl
   unknown-seen (a_row r) = refl
   unknown-seen no_function = refl
 
-  pub row-seen : (c : Callee) → s.row_of_seen (seen env.file c) ≡ row_called c
+  pub row-seen : (c : Callee) → s.row_of_seen (seen env.file.items c) ≡ row_called c
   row-seen no_word = refl
   row-seen a_value = refl
   row-seen (defined d) = refl
   row-seen (a_row r) = refl
   row-seen no_function = refl
 
-  pub defined-seen : (c : Callee) → s.is_defined_seen (seen env.file c) ≡ is_defined c
+  pub defined-seen : (c : Callee) → s.is_defined_seen (seen env.file.items c) ≡ is_defined c
   defined-seen no_word = refl
   defined-seen a_value = refl
   defined-seen (defined d) = refl
@@ -84,12 +84,12 @@ row-missing file w None e = refl
 row-missing file w (Some q) e = absurd cc
 
 -- and where a function is
-pub definition-there : (env : Env) (w : ℕ) (x : ℕ × (List Want × Option ValueKind)) (o : Option Definition) → Some x ≡ option_map (signature_of env.file) o
-    → defined_called x ≡ seen env.file (defined_or env w o)
-definition-there env w x (Some d) e = let same : x ≡ signature_of env.file d = cc in ap defined_called same
+pub definition-there : (env : Env) (w : ℕ) (x : ℕ × (List Want × Option ValueKind)) (o : Option Definition) → Some x ≡ option_map (signature_of env.file.items) o
+    → defined_called x ≡ seen env.file.items (defined_or env w o)
+definition-there env w x (Some d) e = let same : x ≡ signature_of env.file.items d = cc in ap defined_called same
 definition-there env w x None e = absurd cc
 
-pub definition-missing : (env : Env) (w : ℕ) (o : Option Definition) → None ≡ option_map (signature_of env.file) o
-    → seen env.file (defined_or env w None) ≡ seen env.file (defined_or env w o)
+pub definition-missing : (env : Env) (w : ℕ) (o : Option Definition) → None ≡ option_map (signature_of env.file.items) o
+    → seen env.file.items (defined_or env w None) ≡ seen env.file.items (defined_or env w o)
 definition-missing env w None e = refl
 definition-missing env w (Some d) e = absurd cc

@@ -1,4 +1,4 @@
-ghost use Rattle.pungi_names.specs.NamesView.{file_of, rows_of};
+ghost use Rattle.pungi_names.specs.NamesView.{file_of};
 
 use crate::UnitNames;
 use indexmap::IndexSet;
@@ -19,7 +19,7 @@ pub struct FileNames<'n> {
 impl Lookup for FileNames<'_> {
     ghost use Rattle.pungi_types.specs.Functions.{file_env};
 
-    ghost env = { λ n. file_env (file_of n.names.now) (rows_of n.names.now) n.refused.now.keys n.own };
+    ghost env = { λ n. file_env (file_of n.names.now) n.refused.now.keys n.own };
 
     fn word_kind(&self, word: u32) -> Option<ValueKind> {
         self.names.meaning(word).kind()

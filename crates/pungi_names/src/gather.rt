@@ -3,23 +3,23 @@ ghost use Rattle.std.specs.Prelude.{◌≡◌, ◌+◌, ◌<◌, ◌^◌, ℕ, N
 ghost use Rattle.indexmap.specs.IndexMap.{get, IsEmpty};
 ghost use Rattle.indexmap.specs.IndexSet.{contains, IsEmpty as IsEmptySet};
 ghost use Rattle.pungi_api.specs.Rows.{row_in};
-ghost use Rattle.pungi_declared.specs.DeclaredView.{tag_view, variable_view};
+ghost use Rattle.pungi_declared.specs.DeclaredView.{function_view, tag_view, variable_view};
 ghost use Rattle.pungi_names.specs.CallsView.{signature_view, signature_of};
 ghost use Rattle.pungi_names.specs.FieldsView.{kind_in};
-ghost use Rattle.pungi_names.specs.NamesView.{file_of, rows_of};
+ghost use Rattle.pungi_names.specs.NamesView.{file_of};
 ghost use Rattle.pungi_names.specs.RowsView.{call_view, row_seen};
 ghost use Rattle.pungi_names.specs.StructsView.{kept_or};
 ghost use Rattle.pungi_tree.specs.UnitView.{unit_view};
-ghost use Rattle.pungi_types.specs.Files.{typedefs as typedefs_of, variables_of, definitions as definitions_of, definition_in, prototypes as prototypes_of, is_place_in};
+ghost use Rattle.pungi_types.specs.Files.{source_file, typedefs as typedefs_of, variables_of, definitions as definitions_of, definition_in, prototypes as prototypes_of, is_place_in};
 ghost use Rattle.pungi_types.specs.Kinds.{field_in_some, struct_fields};
-ghost use Rattle.pungi_types.specs.Names.{global_kind as global_kind_of, is_module as is_module_of, type_objects as type_objects_of};
+ghost use Rattle.pungi_types.specs.Names.{global_kind as global_kind_of, is_table_name, is_module as is_module_of, type_objects as type_objects_of};
 ghost use Rattle.pungi_types.specs.Tags.{tags as tags_of};
 ghost use Rattle.pungi_types.specs.TypesView.{typedef_view};
 
 use crate::UnitNames;
 use crate::fields::note_structs;
 use crate::functions::{note_definitions, note_places};
-use crate::globals::{note_globals, note_modules, note_type_objects};
+use crate::globals::{note_globals, note_modules, note_tables, note_type_objects};
 use crate::heads::object_structs;
 use crate::kinds::Kinds;
 use crate::rows::{RowCall, note_row_calls};
@@ -28,9 +28,9 @@ use crate::typedefs::cores;
 use crate::values::Values;
 use indexmap::{IndexMap, IndexSet};
 use pungi_api::Table;
-use pungi_base::Memory;
-use pungi_declared::{Tag, Variable, definitions, prototypes, tags, typedefs, variables};
-use pungi_tree::Unit;
+use pungi_base::{Memory, Names};
+use pungi_declared::{Tag, Variable, prototypes, tags, typedefs, variables};
+use pungi_tree::{FunctionDef, Unit};
 use pungi_types::{Typedef, ValueKind};
 use std::alloc::Global;
 
@@ -62,6 +62,7 @@ fn gather_kinds<'u>(
 struct ValueParts {
     fields: IndexMap<u32, IndexMap<u32, Option<ValueKind>>>,
     globals: IndexMap<u32, Option<ValueKind>>,
+    tables: IndexSet<u32>,
     modules: IndexSet<u32>,
     type_objects: IndexSet<u32>,
 }
@@ -79,16 +80,19 @@ fn fill_values(
     requires variables { map variable_view variables.now.items ≡ variables_of (unit_view kinds.now.cores.unit.now) }
     requires no_fields { IsEmpty parts.old.fields }
     requires no_globals { IsEmpty parts.old.globals }
+    requires no_tables { IsEmptySet parts.old.tables }
     requires no_modules { IsEmptySet parts.old.modules }
     requires no_type_objects { IsEmptySet parts.old.type_objects }
     ensures fields { OnOk result ((s : ℕ) (w : ℕ) → kept_or (option_map (kind_in w) (get nat_eq parts.new.fields s)) None ≡ field_in_some (unit_view kinds.now.cores.unit.now) (struct_fields (unit_view kinds.now.cores.unit.now) s) w) }
     ensures globals { OnOk result ((w : ℕ) → kept_or (get nat_eq parts.new.globals w) None ≡ global_kind_of (unit_view kinds.now.cores.unit.now) w) }
+    ensures tables { OnOk result ((w : ℕ) → contains nat_eq parts.new.tables w ≡ is_table_name (unit_view kinds.now.cores.unit.now) w) }
     ensures modules { OnOk result ((w : ℕ) → contains nat_eq parts.new.modules w ≡ is_module_of (unit_view kinds.now.cores.unit.now) w) }
     ensures type_objects { OnOk result (parts.new.type_objects.keys ≡ type_objects_of (unit_view kinds.now.cores.unit.now)) }
     ensures few { OnOk result (length parts.new.type_objects.keys + 24 < 2 ^ 32) }
 {
     note_structs(alloc, kinds, &mut parts.fields, typedefs, tags)?;
     note_globals(kinds, &mut parts.globals, variables)?;
+    note_tables(kinds, &mut parts.tables, variables)?;
     note_modules(kinds, &mut parts.modules, variables)?;
     note_type_objects(kinds, &mut parts.type_objects, variables)?;
     if parts.type_objects.len() > MOST_TYPE_OBJECTS {
@@ -112,6 +116,7 @@ fn gather_values<'u>(
     let mut parts = ValueParts {
         fields: IndexMap::new(alloc),
         globals: IndexMap::new(alloc),
+        tables: IndexSet::new(alloc),
         modules: IndexSet::new(alloc),
         type_objects: IndexSet::new(alloc),
     };
@@ -120,6 +125,7 @@ fn gather_values<'u>(
             kinds,
             fields: parts.fields,
             globals: parts.globals,
+            tables: parts.tables,
             modules: parts.modules,
             type_objects: parts.type_objects,
         }),
@@ -154,21 +160,6 @@ fn unit_values<'u>(alloc: Global, unit: &'u Unit) -> Result<Values<'u>, Memory>
     typed_values(alloc, unit, &typedefs, &tags)
 }
 
-fn note_signatures(
-    alloc: Global,
-    unit: &Unit,
-    kinds: &Kinds,
-    signatures: &mut IndexMap<u32, Signature>,
-) -> Result<(), Memory>
-    requires unit { unit_view kinds.now.cores.unit.now ≡ unit_view unit.now }
-    requires empty { IsEmpty signatures.old }
-    ensures { OnOk result ((w : ℕ) → option_map signature_view (get nat_eq signatures.new w) ≡ option_map (signature_of (unit_view kinds.now.cores.unit.now)) (definition_in (definitions_of (unit_view kinds.now.cores.unit.now)) w)) }
-{
-    let functions = definitions(alloc, unit)?;
-    note_definitions(alloc, kinds, signatures, &functions)?;
-    Ok(())
-}
-
 fn note_prototypes(alloc: Global, unit: &Unit, words: &mut IndexSet<u32>) -> Result<(), Memory>
     requires empty { IsEmptySet words.old }
     ensures { OnOk result ((w : ℕ) → contains nat_eq words.new w ≡ is_place_in (prototypes_of (unit_view unit.now)) w) }
@@ -191,9 +182,11 @@ fn fill_calls<'u>(
     unit: &Unit,
     rows: &'u Table,
     kinds: &Kinds,
+    functions: &Vec<&FunctionDef>,
     parts: &mut CallParts<'u>,
 ) -> Result<(), Memory>
     requires unit { unit_view kinds.now.cores.unit.now ≡ unit_view unit.now }
+    requires functions { map function_view functions.now.items ≡ definitions_of (unit_view kinds.now.cores.unit.now) }
     requires no_prototypes { IsEmptySet parts.old.prototypes }
     requires no_signatures { IsEmpty parts.old.signatures }
     requires no_calls { IsEmpty parts.old.calls }
@@ -202,18 +195,21 @@ fn fill_calls<'u>(
     ensures calls { OnOk result ((w : ℕ) → option_map call_view (get nat_eq parts.new.calls w) ≡ option_map row_seen (row_in rows.now w)) }
 {
     note_prototypes(alloc, unit, &mut parts.prototypes)?;
-    note_signatures(alloc, unit, kinds, &mut parts.signatures)?;
+    note_definitions(alloc, kinds, &mut parts.signatures, functions)?;
     note_row_calls(alloc, rows, &mut parts.calls)?;
     Ok(())
 }
 
-/// Gathers the names of a file.
+/// Gathers the names of a file that defines these functions.
 pub fn unit_names<'u>(
     alloc: Global,
+    texts: &'u Names,
     unit: &'u Unit,
     rows: &'u Table,
+    functions: &Vec<&FunctionDef>,
 ) -> Result<UnitNames<'u>, Memory>
-    ensures { IfOk result (λ names. (file_of names ≡ unit_view unit.now) × (rows_of names ≡ rows.now)) }
+    requires { map function_view functions.now.items ≡ definitions_of (unit_view unit.now) }
+    ensures { IfOk result (λ names. file_of names ≡ source_file texts.now (unit_view unit.now) rows.now) }
 {
     let values = unit_values(alloc, unit)?;
     let mut parts = CallParts {
@@ -221,10 +217,11 @@ pub fn unit_names<'u>(
         signatures: IndexMap::new(alloc),
         calls: IndexMap::new(alloc),
     };
-    match fill_calls(alloc, unit, rows, &values.kinds, &mut parts) {
+    match fill_calls(alloc, unit, rows, &values.kinds, functions, &mut parts) {
         Ok(()) => Ok(UnitNames {
             values,
             rows,
+            texts,
             prototypes: parts.prototypes,
             signatures: parts.signatures,
             calls: parts.calls,

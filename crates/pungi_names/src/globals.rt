@@ -7,7 +7,7 @@ ghost use Rattle.pungi_names.specs.GlobalsView.{global_else};
 ghost use Rattle.pungi_names.specs.StructsView.{kept_or};
 ghost use Rattle.pungi_tree.specs.UnitView.{unit_view};
 ghost use Rattle.pungi_types.specs.Files.{declr_name, variables_of};
-ghost use Rattle.pungi_types.specs.Names.{global_kind, is_module, type_objects as type_objects_of, is_single as is_single_of, with_word};
+ghost use Rattle.pungi_types.specs.Names.{global_kind, is_table_name, is_module, type_objects as type_objects_of, is_single as is_single_of, is_table as is_table_of, with_word};
 ghost use Rattle.pungi_types.specs.declared.kind.ValueKind.{ValueKind as Kind};
 
 use crate::first::keep_first;
@@ -47,6 +47,36 @@ pub(crate) fn note_globals(
 {
     for variable in variables {
         note_global(kinds, globals, variable)?;
+    }
+    Ok(())
+}
+
+#[tactic(auto, using(crate::proofs::SpecLemmas::views))]
+fn note_table(
+    kinds: &Kinds,
+    tables: &mut IndexSet<u32>,
+    variable: &Variable,
+) -> Result<(), Memory>
+    ensures { OnOk result ((w : ℕ) → contains nat_eq tables.new w ≡ (contains nat_eq tables.old w || ((declr_name (variable_view variable.now).declr).0 == w && is_table_of (unit_view kinds.now.cores.unit.now) (variable_view variable.now)))) }
+{
+    if is_table(&kinds.cores, variable.spec, variable.declr) {
+        tables.insert(variable.declr.name.0)?;
+    }
+    Ok(())
+}
+
+/// Adds the names of tables to none.
+pub(crate) fn note_tables(
+    kinds: &Kinds,
+    tables: &mut IndexSet<u32>,
+    variables: &Vec<Variable>,
+) -> Result<(), Memory>
+    requires variables { map variable_view variables.now.items ≡ variables_of (unit_view kinds.now.cores.unit.now) }
+    requires empty { IsEmptySet tables.old }
+    ensures { OnOk result ((w : ℕ) → contains nat_eq tables.new w ≡ is_table_name (unit_view kinds.now.cores.unit.now) w) }
+{
+    for variable in variables {
+        note_table(kinds, tables, variable)?;
     }
     Ok(())
 }

@@ -13,15 +13,17 @@ use crate::meaning::Meaning;
 use crate::rows::RowCall;
 use crate::signature::Signature;
 use crate::tables::is_table;
-use crate::values::{Values, is_plain_static};
+use crate::values::Values;
 use indexmap::{IndexMap, IndexSet};
 use pungi_api::Table;
+use pungi_base::Names;
 use pungi_tree::{Declr, Spec};
 
 /// The names that a file declares, and the rows of the API, each found at once.
 pub struct UnitNames<'u> {
     pub(crate) values: Values<'u>,
     pub(crate) rows: &'u Table,
+    pub(crate) texts: &'u Names,
     pub(crate) prototypes: IndexSet<u32>,
     pub(crate) signatures: IndexMap<u32, Signature>,
     pub(crate) calls: IndexMap<u32, RowCall<'u>>,
@@ -36,6 +38,7 @@ impl Drop for UnitNames<'_> {
         let UnitNames {
             values,
             rows: _,
+            texts: _,
             prototypes,
             signatures,
             calls,
@@ -51,7 +54,7 @@ impl<'u> UnitNames<'u> {
     ghost use Rattle.std.specs.Prelude.{is_some, length, None};
     ghost use Rattle.pungi_names.specs.CalledView.{called_view};
     ghost use Rattle.pungi_names.specs.MeaningView.{meaning_view};
-    ghost use Rattle.pungi_names.specs.NamesView.{file_of, rows_of, file_callee};
+    ghost use Rattle.pungi_names.specs.NamesView.{file_of, file_callee};
     ghost use Rattle.pungi_names.specs.SeenCalls.{seen};
     ghost use Rattle.pungi_tree.specs.ExprView.{spec_view, declr_view};
     ghost use Rattle.pungi_types.specs.Exprs.{row_or, value_or_none};
@@ -59,47 +62,47 @@ impl<'u> UnitNames<'u> {
 
     /// Whether what is declared is a table.
     pub fn is_table(&self, spec: &Spec, declr: &Declr) -> bool
-        ensures { result ≡ is_table_of (file_of self.now) (record { spec = spec_view spec.now; declr = declr_view declr.now }) }
+        ensures { result ≡ is_table_of (file_of self.now).items (record { spec = spec_view spec.now; declr = declr_view declr.now }) }
     {
         is_table(&self.values.kinds.cores, spec, declr)
     }
 
     /// Whether a word names a static object.
     pub fn is_static(&self, word: u32) -> bool
-        ensures { result ≡ is_static_of (file_of self.now) word }
+        ensures { result ≡ is_static_of (file_of self.now).items word }
     {
         self.values.is_static(word)
     }
 
     /// Whether a word names a row.
     pub fn is_row(&self, word: u32) -> bool
-        ensures { result ≡ is_some (row_in (rows_of self.now) word) }
+        ensures { result ≡ is_some (row_in (file_of self.now).rows word) }
     {
         self.calls.contains_key(&word)
     }
 
     /// How many type objects the file has.
     pub fn type_objects(&self) -> u32
-        ensures { result ≡ length (type_objects_of (file_of self.now)) }
+        ensures { result ≡ length (type_objects_of (file_of self.now).items) }
     {
         self.values.type_object_count()
     }
 
     fn is_defined(&self, word: u32) -> bool
-        ensures { result ≡ is_some (definition_in (definitions_of (file_of self.now)) word) }
+        ensures { result ≡ is_some (definition_in (definitions_of (file_of self.now).items) word) }
     {
         self.signatures.contains_key(&word)
     }
 
     /// Whether a word names a function of the file.
     pub(crate) fn is_function(&self, word: u32) -> bool
-        ensures { result ≡ is_function_of (file_of self.now) word }
+        ensures { result ≡ is_function_of (file_of self.now).items word }
     {
         self.is_defined(word) || self.prototypes.contains(&word)
     }
 
     fn variable_meaning(&self, word: u32) -> Meaning
-        ensures { meaning_view result ≡ global_or (file_of self.now) word (global_kind (file_of self.now) word) }
+        ensures { meaning_view result ≡ global_or (file_of self.now).items word (global_kind (file_of self.now).items word) }
     {
         match self.values.global_kind(word) {
             Some(kind) => Meaning::Global(kind),
@@ -109,7 +112,7 @@ impl<'u> UnitNames<'u> {
 
     /// What a word of the file is where it stands as a value.
     pub(crate) fn meaning(&self, word: u32) -> Meaning
-        ensures { meaning_view result ≡ local_or (file_of self.now) word None }
+        ensures { meaning_view result ≡ local_or (file_of self.now).items word None }
     {
         if self.is_function(word) {
             Meaning::Function
@@ -119,9 +122,9 @@ impl<'u> UnitNames<'u> {
     }
 
     fn value_called(&self, word: u32) -> Called<'_>
-        ensures { called_view result ≡ seen (file_of self.now) (value_or_none (file_of self.now) word) }
+        ensures { called_view result ≡ seen (file_of self.now).items (value_or_none (file_of self.now).items word) }
     {
-        if self.values.global_kind(word).is_some() || is_plain_static(word) {
+        if self.values.global_kind(word).is_some() || self.values.is_own_static(word) {
             Called::Value
         } else {
             Called::Nothing
@@ -129,7 +132,7 @@ impl<'u> UnitNames<'u> {
     }
 
     fn row_called(&self, word: u32) -> Called<'_>
-        ensures { called_view result ≡ seen (file_of self.now) (row_or (file_of self.now) word (row_in (rows_of self.now) word)) }
+        ensures { called_view result ≡ seen (file_of self.now).items (row_or (file_of self.now).items word (row_in (file_of self.now).rows word)) }
     {
         match self.calls.get(&word) {
             Some(call) => Called::Row(call.row, call.wants.as_slice()),
@@ -139,7 +142,7 @@ impl<'u> UnitNames<'u> {
 
     /// What a word of the file is where it is called.
     pub(crate) fn called(&self, word: u32) -> Called<'_>
-        ensures { called_view result ≡ seen (file_of self.now) (file_callee (file_of self.now) (rows_of self.now) word) }
+        ensures { called_view result ≡ seen (file_of self.now).items (file_callee (file_of self.now) word) }
     {
         match self.signatures.get(&word) {
             Some(signature) => Called::Defined(signature),

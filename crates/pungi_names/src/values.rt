@@ -6,13 +6,13 @@ ghost use Rattle.pungi_names.specs.FieldsView.{kind_in};
 ghost use Rattle.pungi_names.specs.StructsView.{kept_or};
 ghost use Rattle.pungi_tree.specs.UnitView.{unit_view};
 ghost use Rattle.pungi_types.specs.Kinds.{field_in_some, struct_fields};
-ghost use Rattle.pungi_types.specs.Names.{global_kind as global_kind_of, is_module as is_module_of, type_objects as type_objects_of, is_plain_static as is_plain_static_of};
+ghost use Rattle.pungi_types.specs.Names.{global_kind as global_kind_of, is_module as is_module_of, is_table_name, type_objects as type_objects_of, is_plain_static as is_plain_static_of};
 
 use crate::kinds::Kinds;
 use crate::meaning::Meaning;
 use indexmap::{IndexMap, IndexSet};
-use pungi_types::ValueKind;
 use pungi_types::type_words::{FIRST_STATIC, FIRST_TYPE_OBJECT, STATICS_END};
+use pungi_types::{ValueKind, is_built_in_static};
 
 /// The variables of a file, its tables, and the fields of its structs.
 #[derive(Drop)]
@@ -20,17 +20,19 @@ pub(crate) struct Values<'u> {
     pub(crate) kinds: Kinds<'u>,
     pub(crate) fields: IndexMap<u32, IndexMap<u32, Option<ValueKind>>>,
     pub(crate) globals: IndexMap<u32, Option<ValueKind>>,
+    pub(crate) tables: IndexSet<u32>,
     pub(crate) modules: IndexSet<u32>,
     pub(crate) type_objects: IndexSet<u32>,
     pub(crate) ghost fields_found: { (s : ℕ) (w : ℕ) → kept_or (option_map (kind_in w) (get nat_eq fields s)) None ≡ field_in_some (unit_view kinds.cores.unit.now) (struct_fields (unit_view kinds.cores.unit.now) s) w },
     pub(crate) ghost globals_found: { (w : ℕ) → kept_or (get nat_eq globals w) None ≡ global_kind_of (unit_view kinds.cores.unit.now) w },
+    pub(crate) ghost tables_found: { (w : ℕ) → contains nat_eq tables w ≡ is_table_name (unit_view kinds.cores.unit.now) w },
     pub(crate) ghost modules_found: { (w : ℕ) → contains nat_eq modules w ≡ is_module_of (unit_view kinds.cores.unit.now) w },
     pub(crate) ghost type_objects_found: { type_objects.keys ≡ type_objects_of (unit_view kinds.cores.unit.now) },
     pub(crate) ghost few: { length type_objects.keys + 24 < 2 ^ 32 },
 }
 
 /// A static that is used without `&`.
-pub(crate) fn is_plain_static(word: u32) -> bool
+fn is_plain_static(word: u32) -> bool
     ensures { result ≡ is_plain_static_of word }
 {
     FIRST_STATIC <= word && !(FIRST_TYPE_OBJECT <= word)
@@ -54,7 +56,7 @@ fn kind_of_field(fields: &IndexMap<u32, Option<ValueKind>>, word: u32) -> Option
 impl<'u> Values<'u> {
     ghost use Rattle.pungi_names.specs.MeaningView.{meaning_view};
     ghost use Rattle.pungi_types.specs.Kinds.{field_kind as field_kind_of};
-    ghost use Rattle.pungi_types.specs.Names.{is_among, is_type_object as is_type_object_of, is_static as is_static_of, static_number as static_number_of, static_or_unknown, place_among};
+    ghost use Rattle.pungi_types.specs.Names.{is_among, is_type_object as is_type_object_of, is_static as is_static_of, is_own_static as is_own_static_of, static_number as static_number_of, static_or_unknown, place_among};
 
     fn field_of_struct(&self, name: u32, word: u32) -> Option<ValueKind>
         ensures { result ≡ field_in_some (unit_view self.now.kinds.cores.unit.now) (struct_fields (unit_view self.now.kinds.cores.unit.now) name) word }
@@ -140,18 +142,25 @@ impl<'u> Values<'u> {
     pub(crate) fn static_number(&self, word: u32) -> u32
         ensures { result ≡ static_number_of (unit_view self.now.kinds.cores.unit.now) word }
     {
-        if FIRST_STATIC <= word && !(STATICS_END <= word) {
+        if is_built_in_static(word) {
             word - FIRST_STATIC
         } else {
             self.place_of(word) + 24
         }
     }
 
+    /// Whether a word names a static that is used without `&`, and is no table of the file.
+    pub(crate) fn is_own_static(&self, word: u32) -> bool
+        ensures { result ≡ is_own_static_of (unit_view self.now.kinds.cores.unit.now) word }
+    {
+        is_plain_static(word) && !self.tables.contains(&word)
+    }
+
     /// What a word is that names neither a function nor a variable.
     pub(crate) fn static_meaning(&self, word: u32) -> Meaning
         ensures { meaning_view result ≡ static_or_unknown (unit_view self.now.kinds.cores.unit.now) word }
     {
-        if is_plain_static(word) && !self.has_type_object(word) {
+        if self.is_own_static(word) {
             Meaning::Static(self.static_number(word))
         } else {
             Meaning::Unknown

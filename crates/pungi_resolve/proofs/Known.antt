@@ -9,7 +9,7 @@ use Rattle.pungi_api.specs.Rows.{row_in}
 use Rattle.pungi_types.specs.Operators.{is_void}
 use Rattle.pungi_types.specs.Files.{Definition, definitions, definition_in, Variable, variables_of, declr_name, declr_tail, declr_stars, is_plain_tail}
 use Rattle.pungi_types.specs.Kinds.{type_kind, not_void, spec_base, declared_kind, declr_named, member_kind, field_in, field_in_some, field_kind, struct_fields}
-use Rattle.pungi_types.specs.Names.{Env, a_static, a_function, unknown, local_in, local_or, global_or, global_in, global_kind, is_table, is_function, is_plain_static, is_among, type_objects, static_number}
+use Rattle.pungi_types.specs.Names.{Env, a_static, a_function, unknown, local_in, local_or, global_or, global_in, global_kind, is_table, is_function, is_own_static, static_number}
 use Rattle.pungi_types.specs.Exprs.{Callee, defined, callee_of, local_called_or, defined_or, row_or, is_refused, meaning_kind, is_place, kind_of}
 use Rattle.pungi_types.specs.Stmts.{with_local}
 
@@ -23,7 +23,7 @@ is_known_local (Some l) = is_value_kind l.kind
 
 -- a function that may be called has a result of a kind
 abbrev pub answers : Env → Callee → Bool
-answers env (defined d) = is_refused env d || is_some (type_kind env.file (spec_base d.result) d.stars)
+answers env (defined d) = is_refused env d || is_some (type_kind env.file.items (spec_base d.result) d.stars)
 answers env _ = true
 
 pub record HasKinds (env : Env) : Type 0 where
@@ -37,11 +37,11 @@ answers_same env l _ h = refl
 
 defined_kept : (env : Env) (l : Local) (w : ℕ) (x : Option Definition) → answers env (defined_or env w x) ≡ true → answers (with_local env l) (defined_or (with_local env l) w x) ≡ true
 defined_kept env l w (Some d) h = h
-defined_kept env l w None h = answers_same env l (row_or env.file w (row_in env.table w)) h
+defined_kept env l w None h = answers_same env l (row_or env.file.items w (row_in env.file.rows w)) h
 
 called_kept : (env : Env) (l : Local) (w : ℕ) (o : Option Local) → answers env (local_called_or env w o) ≡ true → answers (with_local env l) (local_called_or (with_local env l) w o) ≡ true
 called_kept env l w (Some m) h = refl
-called_kept env l w None h = defined_kept env l w (definition_in (definitions env.file) w) h
+called_kept env l w None h = defined_kept env l w (definition_in (definitions env.file.items) w) h
 
 pub one_more : (env : Env) (l : Local) → is_value_kind l.kind ≡ true → HasKinds env → HasKinds (with_local env l)
 one_more env l k h = record {
@@ -101,7 +101,7 @@ global_in-not_void file (v ∷ vs) w =
 global-not_void : (file : List Item) (w : ℕ) (g : Option ValueKind) → is_void g ≡ false → is_void (meaning_kind (global_or file w g)) ≡ false
 global-not_void file w (Some k) h = h
 global-not_void file w None h =
-    elim (is_plain_static w && not (is_among (type_objects file) w)) as (λ b. is_void (meaning_kind (if b then a_static (static_number file w) else unknown)) ≡ false) [
+    elim (is_own_static file w) as (λ b. is_void (meaning_kind (if b then a_static (static_number file w) else unknown)) ≡ false) [
       | true ↦ refl
       | false ↦ refl
     ]
@@ -119,6 +119,6 @@ local-not_void file w None h =
     ]
 
 pub place-not_void : (env : Env) → HasKinds env → (e : Expr) → is_place env e ≡ true → is_void (kind_of env e) ≡ false
-place-not_void env h (word p n) s = local-not_void env.file n.0 (local_in env.locals n.0) (h.locals n.0)
-place-not_void env h (arrow p e n) s = field-not_void env.file (kind_of env e) n.0
+place-not_void env h (word p n) s = local-not_void env.file.items n.0 (local_in env.locals n.0) (h.locals n.0)
+place-not_void env h (arrow p e n) s = field-not_void env.file.items (kind_of env e) n.0
 place-not_void env h _ s = absurd (cc)

@@ -11,4 +11,3 @@ pub mod SiteLemmas
 pub mod OperandLemmas
 pub mod SoundActionLemmas
 pub mod WholeFunctions
-mod ToldAt

@@ -69,7 +69,7 @@ cond-choices env e t a b n h =
     record { test = and_left _ _ k; yes = and_left _ _ r; no = and_right _ _ r }
 
 pub cast-operand : (env : Env) (p : Pos) (t : plain.TypeName) (a : plain.Expr) → is_sound (resolve env (plain.cast p t a)) ≡ true → is_sound (resolve env a) ≡ true
-cast-operand env p t a h = sym (cast-same p (type_name_kind env.file t) (kind_of env a) (resolve env a)) ∙ h
+cast-operand env p t a h = sym (cast-same p (type_name_kind env.file.items t) (kind_of env a) (resolve env a)) ∙ h
 
 -- .. arguments
 other_value : (b : Bool) (x y : Value) → b ≡ false → (if b then x else y) ≡ y

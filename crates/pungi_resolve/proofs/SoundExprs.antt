@@ -67,7 +67,7 @@ node env e c =
 
 word-good : (env : Env) → HasKinds env → (p : Pos) (n : Name) → Node env (word p n) → Good env (word p n)
 word-good env h p n k =
-    let w = word-holds env.file p n (local_in env.locals n.0) (h.locals n.0) (not_when _ p 3 k.three) (not_when _ p 9 k.nine) in
+    let w = word-holds env.file.items p n (local_in env.locals n.0) (h.locals n.0) (not_when _ p 3 k.three) (not_when _ p 9 k.nine) in
     record { known = w.known; sound = w.sound; place = λ s. slot-sound p (meaning_of env n.0) n s }
 
 int-known : (v : ℤ) (l u : Bool) → is_bad_int v u ≡ false → is_some (int_kind v l u) ≡ true
@@ -201,9 +201,9 @@ mutual
       let g = expr-good env h e (left _ _ c) in
       let m = node env (cast p t e) (right (expr_findings env e) _ c) in
       record {
-        known = cast-kept (type_name_kind env.file t) (kind_of env e) (is_there (type_name_kind env.file t) (not_when _ _ 1 m.one)) g.known
-            (not_when _ p 4 m.four) (cast-asked env (type_name_kind env.file t) p e m.ten);
-        sound = cast-same p (type_name_kind env.file t) (kind_of env e) (resolve env e) ∙ g.sound;
+        known = cast-kept (type_name_kind env.file.items t) (kind_of env e) (is_there (type_name_kind env.file.items t) (not_when _ _ 1 m.one)) g.known
+            (not_when _ p 4 m.four) (cast-asked env (type_name_kind env.file.items t) p e m.ten);
+        sound = cast-same p (type_name_kind env.file.items t) (kind_of env e) (resolve env e) ∙ g.sound;
         place = λ x. absurd (cc);
       }
   expr-good env h (size_of_type p t) c = let k = (node env (size_of_type p t) c).two.none in absurd (cc)
@@ -224,9 +224,9 @@ mutual
   expr-good env h (arrow p e n) c =
       let g = expr-good env h e (left _ _ c) in
       let m = node env (arrow p e n) (right (expr_findings env e) _ c) in
-      let k = is_there (field_kind env.file (kind_of env e) n.0) (not_when _ p 12 m.twelve) in
-      let s = field-sound p (resolve env e) (struct_part (kind_of env e)) n (has_struct env.file (kind_of env e) n.0 k) g.sound in
-      record { known = k; sound = read-sound p (field_kind env.file (kind_of env e) n.0) _ k s; place = λ x. s }
+      let k = is_there (field_kind env.file.items (kind_of env e) n.0) (not_when _ p 12 m.twelve) in
+      let s = field-sound p (resolve env e) (struct_part (kind_of env e)) n (has_struct env.file.items (kind_of env e) n.0 k) g.sound in
+      record { known = k; sound = read-sound p (field_kind env.file.items (kind_of env e) n.0) _ k s; place = λ x. s }
 
   pub args-good : (env : Env) → HasKinds env → (ws : List Want) (es : Exprs) → Clean (args_findings env ws es) → are_sound (resolve_all env ws es) ≡ true
   args-good env h ws no_exprs c = refl

@@ -10,7 +10,7 @@ use Rattle.pungi_api.specs.declared.row.Row.{Row}
 use Rattle.pungi_types.specs.declared.finding.Finding.{Finding}
 use Rattle.pungi_types.specs.Files.{Definition, definitions, definition_in, declr_name}
 use Rattle.pungi_types.specs.Kinds.{type_kind, spec_base}
-use Rattle.pungi_types.specs.Names.{Env, is_among, local_in, global_kind, is_plain_static}
+use Rattle.pungi_types.specs.Names.{Env, is_among, local_in, global_kind, is_own_static}
 use Rattle.pungi_types.specs.Findings.{Findings, least}
 use Rattle.pungi_types.specs.Operators.{is_void}
 use Rattle.pungi_types.specs.Exprs.{param_kind, defined_or, row_or, a_value, no_function}
@@ -31,19 +31,19 @@ param-not_void file s (named d) = declared-not_void file s d
 param-not_void file s (bare stars) = plain-not_void file s _
 param-not_void file s (unused stars n p) = plain-not_void file s _
 
-param-names : (f : Frame) → HasKinds f.env → (qs : List Key) (s : Spec) (d : ParamDeclr) → is_none (param_kind f.env.file s d) ≡ false → HasKinds (after_param f (param_decl qs s d)).env
+param-names : (f : Frame) → HasKinds f.env → (qs : List Key) (s : Spec) (d : ParamDeclr) → is_none (param_kind f.env.file.items s d) ≡ false → HasKinds (after_param f (param_decl qs s d)).env
 param-names f h qs s (named d) k =
-    one_more f.env (record { name = declr_name d; number = f.next; kind = param_kind f.env.file s (named d) })
-    (value_kind (param_kind f.env.file s (named d)) k (param-not_void f.env.file s (named d))) h
+    one_more f.env (record { name = declr_name d; number = f.next; kind = param_kind f.env.file.items s (named d) })
+    (value_kind (param_kind f.env.file.items s (named d)) k (param-not_void f.env.file.items s (named d))) h
 param-names f h qs s (bare stars) k = h
 param-names f h qs s (unused stars n p) k = h
 
 pub params-names : (f : Frame) → HasKinds f.env → (ds : ParamDecls) → Clean (param_findings f ds) → HasKinds (after_params f ds).env
 params-names f h no_params c = h
 params-names f h (param_and (param_decl qs s d) ds) c =
-    let n1 = not_when _ (spec_pos s) 1 (left (declared_n1 qs s (param_kind f.env.file s d)) _ c) in
-    let k = or_left (is_none (param_kind f.env.file s d)) (has_file_storage qs) n1 in
-    params-names (after_param f (param_decl qs s d)) (param-names f h qs s d k) ds (right (name_findings f d) _ (right (declared_n1 qs s (param_kind f.env.file s d)) _ c))
+    let n1 = not_when _ (spec_pos s) 1 (left (declared_n1 qs s (param_kind f.env.file.items s d)) _ c) in
+    let k = or_left (is_none (param_kind f.env.file.items s d)) (has_file_storage qs) n1 in
+    params-names (after_param f (param_decl qs s d)) (param-names f h qs s d k) ds (right (name_findings f d) _ (right (declared_n1 qs s (param_kind f.env.file.items s d)) _ c))
 
 param-site : (f : Frame) (d : ParamDecl) → site (after_param f d) ≡ with_param (site f) d
 param-site f (param_decl qs s (named d)) = refl
@@ -111,33 +111,33 @@ not_true true e t = cc
 not_true false e t = cc
 
 -- another function, whether it is refused or not
-other-answers : (env : Env) (d x : Definition) (own among : Bool) → IsPassed env d → (x.name.0 == env.self) ≡ own → is_among env.refused x.name.0 ≡ among → definition_in (definitions env.file) x.name.0 ≡ Some x
-    → (l : Listed (definitions env.file) x.name.0 x) → ((not own && among) || is_some (type_kind env.file (spec_base x.result) x.stars)) ≡ true
+other-answers : (env : Env) (d x : Definition) (own among : Bool) → IsPassed env d → (x.name.0 == env.self) ≡ own → is_among env.refused x.name.0 ≡ among → definition_in (definitions env.file.items) x.name.0 ≡ Some x
+    → (l : Listed (definitions env.file.items) x.name.0 x) → ((not own && among) || is_some (type_kind env.file.items (spec_base x.result) x.stars)) ≡ true
 other-answers env d x false true h e a k l = refl
 other-answers env d x true among h e a k l =
     let n : x.name.0 ≡ env.self = same_number x.name.0 env.self e in
-    let f : definition_in (definitions env.file) x.name.0 ≡ definition_in (definitions env.file) env.self = ap (definition_in (definitions env.file)) n in
+    let f : definition_in (definitions env.file.items) x.name.0 ≡ definition_in (definitions env.file.items) env.self = ap (definition_in (definitions env.file.items)) n in
     let o = h.own in
     let same : d ≡ x = cc in
-    let P : Definition → Type 0 = λ y. is_some (type_kind env.file (spec_base y.result) y.stars) ≡ true in
+    let P : Definition → Type 0 = λ y. is_some (type_kind env.file.items (spec_base y.result) y.stars) ≡ true in
     subst P same (result-known env d h.passed)
 other-answers env d x false false h e a k l =
-    let none = some_told (refusal env.file env.table env.refused x) (λ t. not_true (is_among env.refused x.name.0) a (h.others l.place x l.there t)) in
-    result-known (file_env env.file env.table env.refused x.name.0) x none
+    let none = some_told (refusal env.file env.refused x) (λ t. not_true (is_among env.refused x.name.0) a (h.others l.place x l.there t)) in
+    result-known (file_env env.file env.refused x.name.0) x none
 
-row-answers : (env : Env) (w : ℕ) (r : Option Row) → answers env (row_or env.file w r) ≡ true
+row-answers : (env : Env) (w : ℕ) (r : Option Row) → answers env (row_or env.file.items w r) ≡ true
 row-answers env w (Some r) = refl
 row-answers env w None =
-    elim (is_some (global_kind env.file w) || is_plain_static w) as (λ b. answers env (if b then a_value else no_function) ≡ true) [ true ↦ refl | false ↦ refl ]
+    elim (is_some (global_kind env.file.items w) || is_own_static env.file.items w) as (λ b. answers env (if b then a_value else no_function) ≡ true) [ true ↦ refl | false ↦ refl ]
 
-found-answers : (env : Env) (d : Definition) → IsPassed env d → (w : ℕ) (o : Option Definition) → definition_in (definitions env.file) w ≡ o → answers env (defined_or env w o) ≡ true
+found-answers : (env : Env) (d : Definition) → IsPassed env d → (w : ℕ) (o : Option Definition) → definition_in (definitions env.file.items) w ≡ o → answers env (defined_or env w o) ≡ true
 found-answers env d h w (Some x) e =
-    let l = listed (definitions env.file) w x e in
+    let l = listed (definitions env.file.items) w x e in
     let n : x.name.0 ≡ w = same_number x.name.0 w l.named in
-    let P : ℕ → Type 0 = λ v. definition_in (definitions env.file) v ≡ Some x in
+    let P : ℕ → Type 0 = λ v. definition_in (definitions env.file.items) v ≡ Some x in
     let k = subst P (sym n) e in
-    other-answers env d x (x.name.0 == env.self) (is_among env.refused x.name.0) h refl refl k (listed (definitions env.file) x.name.0 x k)
-found-answers env d h w None e = row-answers env w (row_in env.table w)
+    other-answers env d x (x.name.0 == env.self) (is_among env.refused x.name.0) h refl refl k (listed (definitions env.file.items) x.name.0 x k)
+found-answers env d h w None e = row-answers env w (row_in env.file.rows w)
 
 none-hidden : (env : Env) (w : ℕ) → env.locals ≡ [] → local_in env.locals w ≡ None
 none-hidden env w e = ap (λ ls. local_in ls w) e
@@ -145,7 +145,7 @@ none-hidden env w e = ap (λ ls. local_in ls w) e
 pub names-passed : (env : Env) (d : Definition) → IsPassed env d → HasKinds env
 names-passed env d h = record {
   locals = λ w. rw (none-hidden env w h.outside) refl;
-  calls = λ w. rw (none-hidden env w h.outside) (found-answers env d h w (definition_in (definitions env.file) w) refl);
+  calls = λ w. rw (none-hidden env w h.outside) (found-answers env d h w (definition_in (definitions env.file.items) w) refl);
 }
 
 pub function-sound : (env : Env) (d : Definition) → IsPassed env d → is_sound_action (resolved_in env d).body ≡ true

@@ -13,7 +13,7 @@ use Rattle.pungi_types.specs.declared.kind.ValueKind.TheVariants as kinds
 use Rattle.pungi_types.specs.declared.local.Local.{Local}
 use Rattle.pungi_types.specs.Files.{Definition, definitions, definition_in}
 use Rattle.pungi_types.specs.Kinds.{field_kind}
-use Rattle.pungi_types.specs.Names.{Env, Meaning, a_local, a_global, a_function, a_static, unknown, local_in, local_or, global_or, global_kind, is_function, is_plain_static, is_among, type_objects, static_number}
+use Rattle.pungi_types.specs.Names.{Env, Meaning, a_local, a_global, a_function, a_static, unknown, local_in, local_or, global_or, global_kind, is_function, is_own_static, static_number}
 use Rattle.pungi_types.specs.Operators.{prefix_of, is_integer, is_void, is_order, is_equality, is_arithmetic, is_arithmetic_assign, struct_part, wider, is_same_kind}
 use Rattle.pungi_types.specs.Exprs.{Callee, no_word, a_value, defined, a_row, no_function, callee, local_called_or, defined_or, row_or, is_refused, result_kind, is_unknown_call, is_value_called, takes_arguments, is_function_meaning, is_unknown, is_slot, meaning_kind, is_word, is_address, names_type_object, names_module, is_module_address}
 use Rattle.pungi_resolve.specs.Exprs.{convert, convert_some, cast_value, read_as, field_of, word_place, word_value, or_int, binary_value, assign_value, call_value, static_behind, module_behind}
@@ -102,7 +102,7 @@ value_kind-known (Some k) h = refl
 global-holds : (file : List Item) (p : Pos) (n : Name) (g : Option ValueKind) → is_unknown (global_or file n.0 g) ≡ false → WordHolds p n (global_or file n.0 g)
 global-holds file p n (Some k) u = record { known = refl; sound = refl }
 global-holds file p n None u =
-    elim (is_plain_static n.0 && not (is_among (type_objects file) n.0)) as (λ b. is_unknown (if b then a_static (static_number file n.0) else unknown) ≡ false
+    elim (is_own_static file n.0) as (λ b. is_unknown (if b then a_static (static_number file n.0) else unknown) ≡ false
     → WordHolds p n (if b then a_static (static_number file n.0) else unknown)) [
       | true ↦ λ k. record { known = refl; sound = refl }
       | false ↦ λ k. absurd (cc)
@@ -142,15 +142,15 @@ is_callable _ = true
 row-callable : (file : List Item) (w : ℕ) (r : Option Row) → is_callable (row_or file w r) ≡ true
 row-callable file w (Some r) = refl
 row-callable file w None =
-    elim (is_some (global_kind file w) || is_plain_static w) as (λ b. is_callable (if b then a_value else no_function) ≡ true) [ true ↦ refl | false ↦ refl ]
+    elim (is_some (global_kind file w) || is_own_static file w) as (λ b. is_callable (if b then a_value else no_function) ≡ true) [ true ↦ refl | false ↦ refl ]
 
 defined-callable : (env : Env) (w : ℕ) (x : Option Definition) → is_callable (defined_or env w x) ≡ true
 defined-callable env w (Some d) = refl
-defined-callable env w None = row-callable env.file w (row_in env.table w)
+defined-callable env w None = row-callable env.file.items w (row_in env.file.rows w)
 
 called-callable : (env : Env) (w : ℕ) (o : Option Local) → is_callable (local_called_or env w o) ≡ true
 called-callable env w (Some l) = refl
-called-callable env w None = defined-callable env w (definition_in (definitions env.file) w)
+called-callable env w None = defined-callable env w (definition_in (definitions env.file.items) w)
 
 pub word-callable : (env : Env) (f : Expr) → is_word f ≡ true → is_callable (callee env f) ≡ true
 word-callable env (word p n) h = called-callable env n.0 (local_in env.locals n.0)

@@ -30,12 +30,12 @@ value_kind (Some k) a b = rw b refl
 
 -- .. declarations
 initial-sound : (f : Frame) (s : Spec) (d : Declr) (i : Option Init) → HasKinds (after_var f s (var_decl d i)).env
-    → Clean (initial_findings (after_var f s (var_decl d i)).env (declared_kind f.env.file s d) (declr_pos d) i) → is_sound_option (initial (site f) s (var_decl d i)) ≡ true
+    → Clean (initial_findings (after_var f s (var_decl d i)).env (declared_kind f.env.file.items s d) (declr_pos d) i) → is_sound_option (initial (site f) s (var_decl d i)) ≡ true
 initial-sound f s d None h c = refl
 initial-sound f s d (Some (table ts)) h c = refl
 initial-sound f s d (Some (value e)) h c =
     let env = (after_var f s (var_decl d None)).env in
-    convert-same (declr_pos d) (declared_kind f.env.file s d) (kind_of env e) (resolve env e) ∙ (expr-good env h e (left (expr_findings env e) _ c)).sound
+    convert-same (declr_pos d) (declared_kind f.env.file.items s d) (kind_of env e) (resolve env e) ∙ (expr-good env h e (left (expr_findings env e) _ c)).sound
 
 -- variables, and the names behind them
 pub record Declared (f : Frame) (s : Spec) (vs : List VarDecl) : Type 0 where
@@ -46,11 +46,11 @@ pub vars-sound : (f : Frame) (qs : List Key) (s : Spec) (vs : List VarDecl) → 
 vars-sound f qs s [] h c = record { names = h; sound = refl }
 vars-sound f qs s (var_decl d i ∷ vs) h c =
     let one = left (var_findings f qs s (var_decl d i)) _ c in
-    let n1 = not_when _ (spec_pos s) 1 (left (declared_n1 qs s (declared_kind f.env.file s d)) _ one) in
-    let k = value_kind (declared_kind f.env.file s d) (or_left _ (has_file_storage qs) n1) (declared-not_void f.env.file s d) in
-    let g = one_more f.env (record { name = declr_name d; number = f.next; kind = declared_kind f.env.file s d }) k h in
+    let n1 = not_when _ (spec_pos s) 1 (left (declared_n1 qs s (declared_kind f.env.file.items s d)) _ one) in
+    let k = value_kind (declared_kind f.env.file.items s d) (or_left _ (has_file_storage qs) n1) (declared-not_void f.env.file.items s d) in
+    let g = one_more f.env (record { name = declr_name d; number = f.next; kind = declared_kind f.env.file.items s d }) k h in
     let rest = vars-sound (after_var f s (var_decl d i)) qs s vs g (right (var_findings f qs s (var_decl d i)) _ c) in
-    let two = right (declared_n8 f.env f.block (declr_name d) (declr_pos d)) _ (right (declared_n1 qs s (declared_kind f.env.file s d)) _ one) in
+    let two = right (declared_n8 f.env f.block (declr_name d) (declr_pos d)) _ (right (declared_n1 qs s (declared_kind f.env.file.items s d)) _ one) in
     record { names = rest.names; sound = and_true _ _ (initial-sound f s d i g two) rest.sound }
 
 -- .. the sites behind what declares

@@ -70,7 +70,7 @@ made n p ps m k a = record { name = n; pos = p; params = ps; locals = m; result 
 pub whole : (env : Env) (f : FunctionDef) (w v : Walk) (k : Option ValueKind) (ps : List (Option ValueKind)) (m : ℕ) (a : Action)
     → w.locals ≡ [] → w.next ≡ 0 → k ≡ result_kind env (definition_view f)
     → site_of env v k ≡ params_site (site_of env w k) (params_view f.params)
-    → ps ≡ params_kinds env.file (params_view f.params) → m ≡ v.next + body_locals (stmt_view f.body) → a ≡ body_action f.pos (site_of env v k) (stmt_view f.body)
+    → ps ≡ params_kinds env.file.items (params_view f.params) → m ≡ v.next + body_locals (stmt_view f.body) → a ≡ body_action f.pos (site_of env v k) (stmt_view f.body)
     → record { name = f.name; pos = f.pos; params = ps; locals = m; result = k; body = a } ≡ resolved_in env (definition_view f)
 unfolding made
 whole env f w v k ps m a none zero kind after hp hm ha =
@@ -81,9 +81,9 @@ whole env f w v k ps m a none zero kind after hp hm ha =
     let hn : m ≡ (resolved_in env d).locals = hm ∙ ap (λ (n : ℕ). n + body_locals (stmt_view f.body)) front in
     let hb : a ≡ (resolved_in env d).body = ha ∙ ap (λ (g : Site). body_action f.pos g (stmt_view f.body)) s in
     ap (λ (x : List (Option ValueKind)). made f.name f.pos x m k a) hp
-    ∙ ap (λ (x : ℕ). made f.name f.pos (params_kinds env.file (params_view f.params)) x k a) hn
-    ∙ ap (λ (x : Option ValueKind). made f.name f.pos (params_kinds env.file (params_view f.params)) (resolved_in env d).locals x a) kind
-    ∙ ap (λ (x : Action). made f.name f.pos (params_kinds env.file (params_view f.params)) (resolved_in env d).locals (result_kind env d) x) hb
+    ∙ ap (λ (x : ℕ). made f.name f.pos (params_kinds env.file.items (params_view f.params)) x k a) hn
+    ∙ ap (λ (x : Option ValueKind). made f.name f.pos (params_kinds env.file.items (params_view f.params)) (resolved_in env d).locals x a) kind
+    ∙ ap (λ (x : Action). made f.name f.pos (params_kinds env.file.items (params_view f.params)) (resolved_in env d).locals (result_kind env d) x) hb
 
 pub sound-body : (env : Env) (f : FunctionDef) (r : ResolvedFunction) → IsPassed env (definition_view f) → r ≡ resolved_in env (definition_view f) → is_sound_action r.body ≡ true
 sound-body env f r h e = ap (λ (x : ResolvedFunction). is_sound_action x.body) e ∙ function-sound env (definition_view f) h

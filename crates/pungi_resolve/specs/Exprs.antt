@@ -105,7 +105,7 @@ callee_name (word p n) = n
 callee_name _ = record { 0 = 0 }
 
 abbrev pub static_behind : Env → Pos → Expr → Value
-static_behind env p (word q n) = static_of p (static_number env.file n.0)
+static_behind env p (word q n) = static_of p (static_number env.file.items n.0)
 static_behind env p _ = nonsense p
 
 abbrev pub module_behind : Expr → Value
@@ -135,7 +135,7 @@ abbrev mutual
   resolve env (binary p m a b) = binary_value p m (kind_of env (binary p m a b)) (resolve env a) (resolve env b)
   resolve env (assign p m a b) = assign_value p m (kind_of env a) (kind_of env b) (place_of env a) (resolve env b)
   resolve env (conditional p c a b) = chosen p (resolve env c) (resolve env a) (resolve env b)
-  resolve env (cast p t e) = cast_value p (type_name_kind env.file t) (kind_of env e) (resolve env e)
+  resolve env (cast p t e) = cast_value p (type_name_kind env.file.items t) (kind_of env e) (resolve env e)
   resolve env (call p f es) = call_value p (callee env f) (callee_name f) (resolve_all env (wants env (callee env f)) es)
   resolve env (arrow p e n) = read_as p (kind_of env (arrow p e n)) (field_of p (resolve env e) (struct_part (kind_of env e)) n)
   resolve env (float p) = nonsense p

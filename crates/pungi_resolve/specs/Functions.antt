@@ -1,19 +1,19 @@
 -- How a function in which no rule holds is resolved.
 --   param_kinds, params_kinds    the kinds of parameters
 --   first_site env d    where the first parameter stands
---   resolved_in env d, resolved file rows refused d    a function
+--   resolved_in env d, resolved file refused d    a function
 use Rattle.std.specs.Prelude.{ℕ, ℤ, ◌+◌, pos, List, [], ◌∷◌, Option, Some, None}
 use Rattle.pungi_base.specs.declared.names.Name.{Name}
 use Rattle.pungi_base.specs.declared.pos.Pos.{Pos}
 use Rattle.pungi_tree.specs.Syntax.{Expr, Spec, value, table, VarDecl, var_decl, Decl, decl, ForStart, start_decl, start_expr, Stmt, block, declare, do_expr, if_only, if_else, while, do_while, for, switch, case, default, label, goto, break, continue, return, Stmts, no_stmts, stmt_and, Item, Params, params, ParamDecl, ParamDecls, no_params, param_and, param_decl, named, bare, unused}
 use Rattle.pungi_api.specs.declared.row.Row.{Row}
-use Rattle.pungi_types.specs.Files.{Definition, declr_name, declr_pos}
+use Rattle.pungi_types.specs.Files.{SourceFile, Definition, declr_name, declr_pos}
 use Rattle.pungi_types.specs.Names.{Env}
 use Rattle.pungi_types.specs.Kinds.{declared_kind}
 use Rattle.pungi_types.specs.Exprs.{kind_of, param_kind}
 use Rattle.pungi_types.specs.Labels.{constant_of, stmt_locals}
-use Rattle.pungi_resolve.specs.Exprs.{convert, resolve}
-use Rattle.pungi_resolved.specs.Values.{Value}
+use Rattle.pungi_resolved.specs.Functions.{ResolvedFunction}
+use Rattle.pungi_resolve.specs.Stmts.{Site, params_site, body_action}
 use Rattle.pungi_types.specs.Stmts.{with_local}
 use Rattle.pungi_types.specs.Functions.{file_env, result_kind, params_count, body_locals}
 use Rattle.pungi_types.specs.declared.kind.ValueKind.{ValueKind}
@@ -32,11 +32,11 @@ abbrev pub resolved_in : Env → Definition → ResolvedFunction
 resolved_in env d = record {
   name = d.name;
   pos = d.pos;
-  params = params_kinds env.file d.params;
+  params = params_kinds env.file.items d.params;
   locals = params_count d.params + body_locals d.body;
   result = result_kind env d;
   body = body_action d.pos (params_site (first_site env d) d.params) d.body;
 }
 
-abbrev pub resolved : List Item → List (ℕ × Row) → List ℕ → Definition → ResolvedFunction
-resolved file rows refused d = resolved_in (file_env file rows refused d.name.0) d
+abbrev pub resolved : SourceFile → List ℕ → Definition → ResolvedFunction
+resolved file refused d = resolved_in (file_env file refused d.name.0) d

@@ -10,6 +10,6 @@ use Rattle.pungi_types.specs.Refused.{Holds}
 -- is told of this one
 pub record IsPassed (env : Env) (d : Definition) : Type 0 where
   pub outside : env.locals ≡ []
-  pub own : definition_in (definitions env.file) env.self ≡ Some d
-  pub others : Holds env.file env.table env.refused
+  pub own : definition_in (definitions env.file.items) env.self ≡ Some d
+  pub others : Holds env.file env.refused
   pub passed : refusal_in env d ≡ None

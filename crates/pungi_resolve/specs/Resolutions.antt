@@ -1,18 +1,28 @@
 -- What the functions of a file do in which no rule holds.
---   resolution_of file rows refused d   what a function does, or none where a rule is told of it
---   resolution_view r                   the same of the program
-use Rattle.std.specs.Prelude.{ℕ, List, Option, Some, None, is_some, option_map, if◌then◌else◌}
-use Rattle.pungi_tree.specs.Syntax.{Item}
-use Rattle.pungi_api.specs.declared.row.Row.{Row}
-use Rattle.pungi_types.specs.Files.{Definition}
+--   resolution_of file refused d   what a function does, or none where a rule holds in it
+--   resolution_view r              the same of the program
+--   IsResolved c functions         these are what the functions of a checked file do, and what the code that is made of them rests on
+use Rattle.std.specs.Prelude.{◌≡◌, ℕ, ◌≤◌, List, length, map, Option, Some, None, is_some, option_map, IsTrue, if◌then◌else◌}
+use Rattle.pungi_api.specs.Rows.{are_rows}
+use Rattle.pungi_types.specs.Files.{SourceFile, Definition, definitions, AreOwn}
 use Rattle.pungi_types.specs.Functions.{refusal}
-use Rattle.pungi_resolve.specs.Functions.{resolved}
-use Rattle.pungi_resolved.specs.Functions.{ResolvedFunction}
+use Rattle.pungi_types.specs.Refused.{CheckedFile, IsRefusedSet}
 use Rattle.pungi_resolved.specs.ActionView.{function_view}
+use Rattle.pungi_resolved.specs.Functions.{ResolvedFunction}
 use Rattle.pungi_resolved.specs.declared.function.Function.{Function}
+use Rattle.pungi_resolve.specs.Functions.{resolved}
 
-abbrev pub resolution_of : List Item → List (ℕ × Row) → List ℕ → Definition → Option ResolvedFunction
-resolution_of file rows refused d = (if is_some (refusal file rows refused d) then None else Some (resolved file rows refused d))
+abbrev pub resolution_of : SourceFile → List ℕ → Definition → Option ResolvedFunction
+resolution_of file refused d = (if is_some (refusal file refused d) then None else Some (resolved file refused d))
 
 abbrev pub resolution_view : Option Function → Option ResolvedFunction
 resolution_view r = option_map function_view r
+
+-- each function is the one of its name, the refused ones are the least set that holds each in which a rule holds, the rows are well-formed, and there are
+-- at most 4,096 functions
+pub record IsResolved (c : CheckedFile) (functions : List (Option ResolvedFunction)) : Type 0 where
+  pub are : functions ≡ map (resolution_of c.file c.refused) (definitions c.file.items)
+  pub own : AreOwn (definitions c.file.items) (definitions c.file.items)
+  pub set : IsRefusedSet c.file c.refused
+  pub rows : IsTrue (are_rows c.file.rows)
+  pub few : length (definitions c.file.items) ≤ 4096

@@ -18,6 +18,7 @@ use Rattle.pungi_types.specs.Exprs.{kind_of, param_kind}
 use Rattle.pungi_types.specs.Labels.{constant_of, stmt_locals}
 use Rattle.pungi_resolve.specs.Exprs.{convert, resolve}
 use Rattle.pungi_resolved.specs.Values.{Value}
+use Rattle.pungi_resolved.specs.Actions.{Reached, Action, block_of, reach, evaluate, test, test_else, repeat_while, repeat_until, repeat_for, switch_on, at_case, at_default, at_label, jump, leave, next_turn, give, Actions, no_actions, action_and}
 use Rattle.pungi_types.specs.Stmts.{with_local}
 use Rattle.pungi_types.specs.Functions.{file_env, result_kind, params_count, body_locals}
 use Rattle.pungi_types.specs.declared.kind.ValueKind.{ValueKind}
@@ -31,7 +32,7 @@ pub record Site : Type 0 where
 -- .. the sites behind what declares
 abbrev pub with_var : Site → Spec → VarDecl → Site
 with_var f s (var_decl d v) =
-    record f { env = with_local f.env (record { name = declr_name d; number = f.next; kind = declared_kind f.env.file s d }); next = f.next + 1 }
+    record f { env = with_local f.env (record { name = declr_name d; number = f.next; kind = declared_kind f.env.file.items s d }); next = f.next + 1 }
 
 abbrev pub with_vars : Site → Spec → List VarDecl → Site
 with_vars f s [] = f
@@ -55,7 +56,7 @@ after f s = past f s
 -- only a parameter that is written plainly has a name in the body; the others are locals without one
 abbrev pub with_param : Site → ParamDecl → Site
 with_param f (param_decl qs s (named d)) =
-    record f { env = with_local f.env (record { name = declr_name d; number = f.next; kind = param_kind f.env.file s (named d) }); next = f.next + 1 }
+    record f { env = with_local f.env (record { name = declr_name d; number = f.next; kind = param_kind f.env.file.items s (named d) }); next = f.next + 1 }
 with_param f (param_decl qs s (bare stars)) = record f { next = f.next + 1 }
 with_param f (param_decl qs s (unused stars n p)) = record f { next = f.next + 1 }
 
@@ -72,13 +73,13 @@ abbrev pub initial : Site → Spec → VarDecl → Option Value
 initial f s (var_decl d None) = None
 initial f s (var_decl d (Some (table ts))) = None
 initial f s (var_decl d (Some (value e))) =
-    Some (convert (declr_pos d) (declared_kind f.env.file s d) (kind_of (with_var f s (var_decl d None)).env e) (resolve (with_var f s (var_decl d None)).env e))
+    Some (convert (declr_pos d) (declared_kind f.env.file.items s d) (kind_of (with_var f s (var_decl d None)).env e) (resolve (with_var f s (var_decl d None)).env e))
 
 abbrev pub var_pos : VarDecl → Pos
 var_pos (var_decl d v) = declr_pos d
 
 abbrev pub var_kind : Site → Spec → VarDecl → Option ValueKind
-var_kind f s (var_decl d v) = declared_kind f.env.file s d
+var_kind f s (var_decl d v) = declared_kind f.env.file.items s d
 
 abbrev pub reached : Site → Spec → List VarDecl → List Reached
 reached f s [] = []

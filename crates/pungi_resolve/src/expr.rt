@@ -5,7 +5,7 @@ ghost use Rattle.pungi_types.specs.Kinds.{field_kind};
 ghost use Rattle.pungi_types.specs.Exprs.{kind_of, step_kind, is_place as is_place_of, operand as operand_of, are_met, first_met as first_met_of, is_module_address as is_module_address_of};
 ghost use Rattle.pungi_resolve.specs.Exprs.{resolve as resolve_of, expr_pos, or_int, want_kind, place_of, resolve_all, field_of as field_of_of};
 ghost use Rattle.pungi_resolved.specs.Values as values;
-ghost use Rattle.pungi_types.specs.Sound.{is_sound, are_sound, is_sound_place};
+ghost use Rattle.pungi_resolve.specs.Sound.{is_sound, are_sound, is_sound_place};
 ghost use Rattle.pungi_tree.specs.Syntax as plain;
 ghost use Rattle.pungi_tree.specs.ExprView.{expr_view, exprs_of, type_name_view};
 ghost use Rattle.pungi_resolved.specs.ValueView.{boxed_view, value_view, values_of, place_view};
@@ -247,7 +247,7 @@ fn resolve_field<N: Lookup>(
 ) -> Result<TypedPlace, Memory>
     requires { is_sound_place (field_of_of pos (resolve_of (N.env names.now) (expr_view a.now)) (struct_part (kind_of (N.env names.now) (expr_view a.now))) name) ≡ true }
     ensures place { IfOk result (λ x. place_view x.place ≡ field_of_of pos (resolve_of (N.env names.now) (expr_view a.now)) (struct_part (kind_of (N.env names.now) (expr_view a.now))) name) }
-    ensures kind { IfOk result (λ x. x.kind ≡ field_kind (N.env names.now).file (kind_of (N.env names.now) (expr_view a.now)) name.0) }
+    ensures kind { IfOk result (λ x. x.kind ≡ field_kind (N.env names.now).file.items (kind_of (N.env names.now) (expr_view a.now)) name.0) }
 {
     let base = resolve_expr(alloc, names, a)?;
     let kind = names.field_kind(base.kind, name.0);

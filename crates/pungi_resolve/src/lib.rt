@@ -11,10 +11,8 @@ mod params;
 mod place;
 mod stmt;
 mod typed;
-mod unit;
 mod values;
 mod walk;
 mod word;
 
 pub use function::resolve;
-pub use unit::resolve_unit;

@@ -30,7 +30,7 @@ adds-nothing : (f : Frame) → Adds f f 0
 adds-nothing f = record { more = []; locals = refl; next = sym (add-zero f.next) }
 
 one_more : (f : Frame) (s : Spec) (v : VarDecl) → Adds f (after_var f s v) 1
-one_more f s (var_decl d i) = record { more = record { name = declr_name d; number = f.next; kind = declared_kind f.env.file s d } ∷ []; locals = refl; next = refl }
+one_more f s (var_decl d i) = record { more = record { name = declr_name d; number = f.next; kind = declared_kind f.env.file.items s d } ∷ []; locals = refl; next = refl }
 
 pub adds-both : (f g h : Frame) (m n : ℕ) → Adds f g m → Adds g h n → Adds f h (m + n)
 adds-both f g h m n a b = record {

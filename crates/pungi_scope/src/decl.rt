@@ -41,8 +41,8 @@ fn check_declr<N: Lookup>(
     spec: &Spec,
     declr: &Declr,
 ) -> Option<ValueKind>
-    ensures kind { result ≡ declared_kind_of (N.env names.now).file (spec_view spec.now) (declr_view declr.now) }
-    ensures found { walk.new ≡ record walk.old { first = least_from walk.old.first (declared_n1 quals.now.items (spec_view spec.now) (declared_kind_of (N.env names.now).file (spec_view spec.now) (declr_view declr.now)) and declared_n8 (inner_env (N.env names.now) walk.old.locals) block.now.keys declr.now.name declr.now.pos) } }
+    ensures kind { result ≡ declared_kind_of (N.env names.now).file.items (spec_view spec.now) (declr_view declr.now) }
+    ensures found { walk.new ≡ record walk.old { first = least_from walk.old.first (declared_n1 quals.now.items (spec_view spec.now) (declared_kind_of (N.env names.now).file.items (spec_view spec.now) (declr_view declr.now)) and declared_n8 (inner_env (N.env names.now) walk.old.locals) block.now.keys declr.now.name declr.now.pos) } }
 {
     let scope = Scope {
         names,

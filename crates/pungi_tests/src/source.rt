@@ -4,12 +4,11 @@ ghost use Rattle.pungi_base.specs.Words.{builtin_words};
 
 use pungi_api::Table;
 use pungi_base::Names;
-use pungi_check::{Checked, check};
+use pungi_check::check;
 use pungi_code::Codes;
 use pungi_lex::{TEXT_LIMIT, expand, lex};
 use pungi_lower::lower;
 use pungi_parse::parse;
-use pungi_resolve::resolve_unit;
 use pungi_resolved::Function;
 use pungi_tree::Unit;
 use std::alloc::Global;
@@ -33,39 +32,23 @@ fn unit_of(alloc: Global, names: &mut Names, text: &str) -> Result<Unit, Fail>
     Ok(parse(alloc, &expanded)?)
 }
 
-fn checked_among(alloc: Global, names: &mut Names, text: &str) -> Result<Checked, Fail>
-    requires { names.old ≡ builtin_words }
-{
+/// The last function of a text, resolved.
+pub(crate) fn function_of(alloc: Global, text: &str) -> Result<Function, Fail> {
     let rows = Table::builtin(alloc)?;
-    let unit = unit_of(alloc, names, text)?;
-    Ok(check(alloc, names, unit, rows)?)
-}
-
-fn checked(alloc: Global, text: &str) -> Result<Checked, Fail> {
     let mut names = Names::builtin(alloc)?;
-    checked_among(alloc, &mut names, text)
-}
-
-fn last_function(alloc: Global, checked: &Checked) -> Result<Function, Fail> {
-    let mut all = resolve_unit(alloc, checked)?;
-    match all.pop() {
+    let unit = unit_of(alloc, &mut names, text)?;
+    let mut checked = check(alloc, &names, &unit, &rows)?;
+    match checked.resolved.pop() {
         Some(Some(f)) => Ok(f),
         _ => Err(Fail::new("there is no function, or it is refused")),
     }
 }
 
-/// The last function of a text, resolved.
-pub(crate) fn function_of(alloc: Global, text: &str) -> Result<Function, Fail> {
-    let checked = checked(alloc, text)?;
-    last_function(alloc, &checked)
-}
-
-fn lowered(alloc: Global, checked: &Checked) -> Result<Codes, Fail> {
-    Ok(lower(alloc, checked)?)
-}
-
 /// The codes of a text's functions.
 pub(crate) fn codes_of(alloc: Global, text: &str) -> Result<Codes, Fail> {
-    let checked = checked(alloc, text)?;
-    lowered(alloc, &checked)
+    let rows = Table::builtin(alloc)?;
+    let mut names = Names::builtin(alloc)?;
+    let unit = unit_of(alloc, &mut names, text)?;
+    let checked = check(alloc, &names, &unit, &rows)?;
+    Ok(lower(alloc, &checked.resolved, checked.names, checked.statics)?)
 }

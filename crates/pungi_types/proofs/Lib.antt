@@ -1,2 +1,1 @@
 pub mod TailLemmas
-mod Worked

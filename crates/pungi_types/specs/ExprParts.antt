@@ -4,7 +4,7 @@
 --   step_findings p place k e    `++` or `--` behind an operand
 --   binary_findings p m k a l b, assign_findings p m place k a l b, cond_findings p j c k a l b    operators between operands of these kinds
 --   call_findings env p f met    a call whose arguments are met or not
-use Rattle.std.specs.Prelude.{ℕ, Bool, ◌&&◌, ◌||◌, not, Option}
+use Rattle.std.specs.Prelude.{Bool, ◌&&◌, ◌||◌, not, Option}
 use Rattle.pungi_base.specs.declared.pos.Pos.{Pos}
 use Rattle.pungi_base.specs.declared.punct.Punct.{Punct}
 use Rattle.pungi_tree.specs.Syntax.{Expr}

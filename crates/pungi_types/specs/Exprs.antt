@@ -31,7 +31,7 @@ use Rattle.pungi_api.specs.declared.row.Row.{Row}
 use Rattle.pungi_api.specs.Rows.{row_in}
 use Rattle.pungi_types.specs.Files.{Definition, definitions, definition_in}
 use Rattle.pungi_types.specs.Kinds.{type_kind, not_void, declared_kind, type_name_kind, field_kind, spec_base}
-use Rattle.pungi_types.specs.Names.{Env, Meaning, a_local, a_function, a_global, a_static, unknown, meaning_of, local_in, is_among, is_type_object, is_module, global_kind, is_plain_static}
+use Rattle.pungi_types.specs.Names.{Env, Meaning, a_local, a_function, a_global, a_static, unknown, meaning_of, local_in, is_among, is_type_object, is_module, global_kind, is_own_static}
 use Rattle.pungi_types.specs.declared.local.Local.{Local}
 use Rattle.pungi_types.specs.Findings.{Findings, nothing_found, ◌and◌, when}
 use Rattle.pungi_types.specs.Operators.{is_bits, is_arithmetic, is_order, is_equality, is_bits_assign, is_arithmetic_assign, prefix_of, on_pointers, assigns_pointers, is_integer, is_pointer, is_void, wider, fits, comparable, joinable, joined, both_known}
@@ -62,12 +62,12 @@ is_place env _ = false
 
 -- a type object, behind an `&`
 abbrev pub names_type_object : Env → Expr → Bool
-names_type_object env (word p n) = is_none (local_in env.locals n.0) && is_type_object env.file n.0
+names_type_object env (word p n) = is_none (local_in env.locals n.0) && is_type_object env.file.items n.0
 names_type_object env _ = false
 
 -- `&` of a module table
 abbrev pub names_module : Env → Expr → Bool
-names_module env (word p n) = is_none (local_in env.locals n.0) && is_module env.file n.0
+names_module env (word p n) = is_none (local_in env.locals n.0) && is_module env.file.items n.0
 names_module env _ = false
 
 abbrev pub is_address : Prefix → Bool
@@ -132,7 +132,7 @@ pub data Callee : Type 0 where
   no_function : Callee
 
 abbrev pub value_or_none : List Item → ℕ → Callee
-value_or_none file w = (if is_some (global_kind file w) || is_plain_static w then a_value else no_function)
+value_or_none file w = (if is_some (global_kind file w) || is_own_static file w then a_value else no_function)
 
 abbrev pub row_or : List Item → ℕ → Option Row → Callee
 row_or file w (Some r) = a_row r
@@ -140,11 +140,11 @@ row_or file w None = value_or_none file w
 
 abbrev pub defined_or : Env → ℕ → Option Definition → Callee
 defined_or env w (Some d) = defined d
-defined_or env w None = row_or env.file w (row_in env.table w)
+defined_or env w None = row_or env.file.items w (row_in env.file.rows w)
 
 abbrev pub local_called_or : Env → ℕ → Option Local → Callee
 local_called_or env w (Some l) = a_value
-local_called_or env w None = defined_or env w (definition_in (definitions env.file) w)
+local_called_or env w None = defined_or env w (definition_in (definitions env.file.items) w)
 
 abbrev pub callee_of : Env → ℕ → Callee
 callee_of env w = local_called_or env w (local_in env.locals w)
@@ -158,7 +158,7 @@ row_wants forms.Plain ps = map param_want ps
 row_wants (forms.Special s) ps = wanted.OfKind (kinds.Object None) ∷ []
 
 abbrev pub wants : Env → Callee → List Want
-wants env (defined d) = params_wants env.file d.params
+wants env (defined d) = params_wants env.file.items d.params
 wants env (a_row r) = row_wants r.form r.params
 wants env _ = []
 
@@ -171,7 +171,7 @@ abbrev pub is_refused : Env → Definition → Bool
 is_refused env d = not (d.name.0 == env.self) && is_among env.refused d.name.0
 
 abbrev pub result_kind : Env → Callee → Option ValueKind
-result_kind env (defined d) = (if is_refused env d then None else type_kind env.file (spec_base d.result) d.stars)
+result_kind env (defined d) = (if is_refused env d then None else type_kind env.file.items (spec_base d.result) d.stars)
 result_kind env (a_row r) = Some (row_kind r.form r.answer)
 result_kind env _ = None
 
@@ -270,13 +270,13 @@ abbrev mutual
   kind_of env (assign p m a b) = assign_kind m (is_place env a) (kind_of env a) (kind_of env b)
   kind_of env (conditional p c a b) = cond_kind (kind_of env c) (kind_of env a) (kind_of env b)
   kind_of env (comma p a b) = None
-  kind_of env (cast p t e) = cast_kind (type_name_kind env.file t) (kind_of env e)
+  kind_of env (cast p t e) = cast_kind (type_name_kind env.file.items t) (kind_of env e)
   kind_of env (size_of_type p t) = None
   kind_of env (call p f es) = (if is_word f && are_met env (wants env (callee env f)) es then result_kind env (callee env f) else None)
   kind_of env (new p t e) = None
   kind_of env (index p a b) = None
   kind_of env (dot p e n) = None
-  kind_of env (arrow p e n) = field_kind env.file (kind_of env e) n.0
+  kind_of env (arrow p e n) = field_kind env.file.items (kind_of env e) n.0
 
   -- as many arguments as are wanted, and each fits
   pub are_met : Env → List Want → Exprs → Bool
@@ -297,7 +297,7 @@ type_name_pos (type_name (spec p b c) stars) = p
 
 -- N1: a cast to a type of no kind
 abbrev pub n1 : Env → Expr → Findings
-n1 env (cast p t e) = when (is_none (type_name_kind env.file t)) (type_name_pos t) 1
+n1 env (cast p t e) = when (is_none (type_name_kind env.file.items t)) (type_name_pos t) 1
 n1 env _ = nothing_found
 
 abbrev pub is_left_out : Prefix → Bool
@@ -331,7 +331,7 @@ abbrev pub crosses : Option ValueKind → Option ValueKind → Bool
 crosses a b = (is_integer a && is_pointer b) || (is_pointer a && is_integer b)
 
 abbrev pub n4 : Env → Expr → Findings
-n4 env (cast p t e) = when (crosses (type_name_kind env.file t) (kind_of env e)) p 4
+n4 env (cast p t e) = when (crosses (type_name_kind env.file.items t) (kind_of env e)) p 4
 n4 env _ = nothing_found
 
 -- N5: an address of what is no static type object (output arguments and module tables are no expressions of their own)
@@ -391,7 +391,7 @@ n10 env (assign p m a b) = when (assign_wrong m (is_place env a) (operand (kind_
 n10 env (conditional p c a b) =
     when (cond_wrong (operand (kind_of env c) c) (operand (kind_of env a) a) (operand (kind_of env b) b)) p 10 and (used env c and (used env a and used env b))
 n10 env (cast p t e) =
-    when (cast_wrong (type_name_kind env.file t) (operand (kind_of env e) e)) p 10 and (if is_void (type_name_kind env.file t) then nothing_found else used env e)
+    when (cast_wrong (type_name_kind env.file.items t) (operand (kind_of env e) e)) p 10 and (if is_void (type_name_kind env.file.items t) then nothing_found else used env e)
 n10 env (call p f es) =
     when (is_value_called (callee env f) || (takes_arguments (callee env f) && not (are_met env (wants env (callee env f)) es))) p 10
 n10 env (index p a b) = used env a and used env b
@@ -401,7 +401,7 @@ n10 env _ = nothing_found
 
 -- N12: a field that isn't there or has no kind, or a base that is no pointer to an object struct
 abbrev pub n12 : Env → Expr → Findings
-n12 env (arrow p e n) = when (is_none (field_kind env.file (kind_of env e) n.0)) p 12
+n12 env (arrow p e n) = when (is_none (field_kind env.file.items (kind_of env e) n.0)) p 12
 n12 env _ = nothing_found
 
 abbrev pub is_step_or_sign : Prefix → Bool

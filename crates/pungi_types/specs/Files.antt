@@ -1,13 +1,28 @@
--- What a file declares outside functions (C11 6.9).
+-- What is known of a file, and what it declares outside functions (C11 6.9).
+--   SourceFile          what is known of a file
+--   source_file texts items rows    the same, of a file whose names have these texts
 --   Typedef, Variable, Definition, Place    a typedef, a variable or table, a function with its body, a name and where it stands
 --   declr_name, declr_pos, declr_stars, declr_tail    the parts of a declarator
 --   is_no_array ss, is_plain_tail t    no sizes stand behind a name; neither these nor the parameters of a pointer to a function
 --   typedefs, variables_of, definitions, prototypes    those of a file, in text order; decl_variables those of one declaration
 --   is_place_in ps w, definition_in ds w    a name is among these; the first definition of a name
-use Rattle.std.specs.Prelude.{ℕ, Bool, true, false, ◌==◌, ◌||◌, List, [], ◌∷◌, ◌++◌, length, Option, Some, None, if◌then◌else◌}
+--   AreOwn whole ds     each of these is the first definition of its name in the whole list
+use Rattle.std.specs.Prelude.{◌≡◌, ℕ, Bool, true, false, ◌==◌, ◌||◌, List, [], ◌∷◌, ◌++◌, length, Option, Some, None, if◌then◌else◌}
 use Rattle.pungi_base.specs.declared.names.Name.{Name}
 use Rattle.pungi_base.specs.declared.pos.Pos.{Pos}
+use Rattle.pungi_base.specs.declared.words.TheConstants.{FIRST_FREE}
+use Rattle.pungi_api.specs.declared.row.Row.{Row}
 use Rattle.pungi_tree.specs.Syntax.{Spec, Declr, declr, Tail, sizes, function, Sizes, no_sizes, open_and, size_and, Params, Stmt, VarDecl, var_decl, decl, Item, typedef, variables, head, prototype, function_def}
+
+-- its items, the rows of the API by their names, the texts of names by their numbers, and the number of the first name that a text may bring
+pub record SourceFile : Type 0 where
+  pub items : List Item
+  pub rows : List (ℕ × Row)
+  pub texts : List (List ℕ)
+  pub first : ℕ
+
+abbrev pub source_file : List (List ℕ) → List Item → List (ℕ × Row) → SourceFile
+source_file texts items rows = record { items = items; rows = rows; texts = texts; first = FIRST_FREE }
 
 pub record Typedef : Type 0 where
   pub name : Name
@@ -86,3 +101,7 @@ is_place_in (x ∷ xs) w = x.name.0 == w || is_place_in xs w
 abbrev pub definition_in : List Definition → ℕ → Option Definition
 definition_in [] w = None
 definition_in (d ∷ ds) w = (if d.name.0 == w then Some d else definition_in ds w)
+
+abbrev pub AreOwn : List Definition → List Definition → Type 0
+AreOwn whole [] = Unit {0}
+AreOwn whole (d ∷ ds) = (definition_in whole d.name.0 ≡ Some d) × AreOwn whole ds

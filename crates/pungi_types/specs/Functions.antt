@@ -1,17 +1,16 @@
 -- Where each rule holds in a function, and which is told (C11 6.9.1).
---   file_env file table refused self    the names of the file, where a function of this name stands
+--   file_env file refused self    the names of the file, where a function of this name stands
 --   result_kind env d   the kind of a function's result
 --   first_frame env d, after_param, after_params, params_frame    the frames before and behind parameters
 --   name_findings, param_findings, dots_findings, params_findings    what holds in parameters
 --   body_findings f s, body_locals s    what holds in a body, and how many locals it declares
 --   result_findings, parts_findings, text_findings env d    N1 to N14
 --   params_count, size_findings d, or_sizes    N15 and N16, where no other rule holds
---   findings env d, refusal_in env d, refusal file table refused d    all that holds, and the finding that is told
+--   findings env d, refusal_in env d, refusal file refused d    all that holds, and the finding that is told
 use Rattle.std.specs.Prelude.{ℕ, ◌+◌, nat_lt, true, false, List, [], Option, Some, None, is_none}
 use Rattle.pungi_base.specs.declared.pos.Pos.{Pos}
-use Rattle.pungi_tree.specs.Syntax.{Params, params, ParamDecl, param_decl, ParamDecls, no_params, param_and, ParamDeclr, named, bare, unused, Stmt, block, Item}
-use Rattle.pungi_api.specs.declared.row.Row.{Row}
-use Rattle.pungi_types.specs.Files.{Definition, declr_name, declr_pos}
+use Rattle.pungi_tree.specs.Syntax.{Params, params, ParamDecl, param_decl, ParamDecls, no_params, param_and, ParamDeclr, named, bare, unused, Stmt, block}
+use Rattle.pungi_types.specs.Files.{SourceFile, Definition, declr_name, declr_pos}
 use Rattle.pungi_types.specs.Names.{Env, with_word}
 use Rattle.pungi_types.specs.Kinds.{type_kind, spec_base}
 use Rattle.pungi_types.specs.Findings.{Findings, nothing_found, ◌and◌, when, least}
@@ -23,11 +22,11 @@ use Rattle.pungi_types.specs.declared.kind.ValueKind.{ValueKind}
 use Rattle.pungi_types.specs.declared.finding.Finding.{Finding}
 
 -- the names of the file, where a function of this name stands
-abbrev pub file_env : List Item → List (ℕ × Row) → List ℕ → ℕ → Env
-file_env file table refused self = record { file = file; table = table; self = self; refused = refused; locals = [] }
+abbrev pub file_env : SourceFile → List ℕ → ℕ → Env
+file_env file refused self = record { file = file; self = self; refused = refused; locals = [] }
 
 abbrev pub result_kind : Env → Definition → Option ValueKind
-result_kind env d = type_kind env.file (spec_base d.result) d.stars
+result_kind env d = type_kind env.file.items (spec_base d.result) d.stars
 
 -- the frame in front of the first parameter
 abbrev pub first_frame : Env → Definition → Frame
@@ -47,7 +46,7 @@ first_frame env d = record {
 abbrev pub after_param : Frame → ParamDecl → Frame
 after_param f (param_decl qs s (named d)) =
     record f {
-      env = with_local f.env (record { name = declr_name d; number = f.next; kind = param_kind f.env.file s (named d) });
+      env = with_local f.env (record { name = declr_name d; number = f.next; kind = param_kind f.env.file.items s (named d) });
       block = with_word f.block (declr_name d).0;
       next = f.next + 1;
     }
@@ -61,7 +60,7 @@ name_findings f _ = nothing_found
 abbrev pub param_findings : Frame → ParamDecls → Findings
 param_findings f no_params = nothing_found
 param_findings f (param_and (param_decl qs s d) ds) =
-    declared_n1 qs s (param_kind f.env.file s d) and (name_findings f d and param_findings (after_param f (param_decl qs s d)) ds)
+    declared_n1 qs s (param_kind f.env.file.items s d) and (name_findings f d and param_findings (after_param f (param_decl qs s d)) ds)
 
 abbrev pub after_params : Frame → ParamDecls → Frame
 after_params f no_params = f
@@ -118,5 +117,5 @@ abbrev pub refusal_in : Env → Definition → Option Finding
 refusal_in env d = least (findings env d)
 
 -- the finding that is told of a function, where these functions are refused
-abbrev pub refusal : List Item → List (ℕ × Row) → List ℕ → Definition → Option Finding
-refusal file table refused d = refusal_in (file_env file table refused d.name.0) d
+abbrev pub refusal : SourceFile → List ℕ → Definition → Option Finding
+refusal file refused d = refusal_in (file_env file refused d.name.0) d

@@ -14,7 +14,7 @@ use Rattle.std.specs.Ordering.{int_eq}
 use Rattle.pungi_base.specs.declared.kind.Kind.{Kind}
 use Rattle.pungi_base.specs.declared.kind.Kind.TheVariants as tokens
 use Rattle.pungi_base.specs.declared.punct.Punct.TheVariants as puncts
-use Rattle.pungi_tree.specs.Syntax.{Expr, word, int, float, char, text, null, paren, unary, post, binary, assign, conditional, comma, cast, size_of_type, call, new, index, dot, arrow, Exprs, no_exprs, expr_and, Init, value, table, VarDecl, var_decl, decl, ForStart, start_decl, start_expr, Stmt, block, declare, do_expr, if_only, if_else, while, do_while, for, switch, case, default, label, goto, break, continue, return, Stmts, no_stmts, stmt_and, ParamDecls, no_params, param_and}
+use Rattle.pungi_tree.specs.Syntax.{Expr, int, char, unary, decl, ForStart, start_decl, start_expr, Stmt, block, declare, if_only, if_else, while, do_while, for, switch, case, default, label, Stmts, no_stmts, stmt_and, ParamDecls, no_params, param_and}
 use Rattle.pungi_types.specs.Names.{is_among, with_word}
 use Rattle.pungi_types.specs.Findings.{Findings, nothing_found, ◌and◌, when}
 

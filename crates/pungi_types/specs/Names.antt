@@ -1,12 +1,15 @@
 -- What a word means at its place in a function (C11 6.2.1, 6.2.2).
---   Env                 where an expression stands: the file, the rows, the function's name, the refused functions, and the locals, the innermost and latest first
+--   Env                 where an expression stands: the file, the function's name, the refused functions, and the locals, the innermost and latest first
 --   is_among ws w, with_word ws w    a word is among these; these, with one more at the end where it wasn't among them
 --   is_table_type, is_table_core, is_core, is_no_function, is_table file v, is_single file w v    a variable without stars of one of the five table types
 --   global_in, global_kind file w    the kind of the first variable of this name that is no table
 --   type_objects_in, type_objects file    the names of the file's static type objects, each once, by first declaration
+--   table_in, is_table_name file w    a table
 --   module_in, is_module file w    a table of type `PyModuleDef`
 --   is_some_definition, is_function file w    a function, defined or only declared
 --   is_plain_static w, is_type_object file w, is_static file w    an object that is there before any run; one that is used with `&`; either
+--   is_built_in_static w    one that is there whatever the file declares
+--   is_own_static file w    a name that the file doesn't take for a table, of an object that is used without `&`
 --   place_among ws w, static_number file w    the number of a static's object
 --   local_in ls w       the latest local of a name
 --   Meaning             what a word that stands as a value is
@@ -16,16 +19,14 @@ use Rattle.std.specs.List.{list_any}
 use Rattle.pungi_tree.specs.Syntax.{Tail, sizes, function, Item}
 use Rattle.pungi_base.specs.declared.words.TheConstants.{PY_TYPE_OBJECT}
 use Rattle.pungi_types.specs.declared.type_words.TheConstants.{PY_METHOD_DEF, PY_MODULE_DEF, PY_MEMBER_DEF, PY_GET_SET_DEF, FIRST_STATIC, FIRST_TYPE_OBJECT, STATICS_END}
-use Rattle.pungi_api.specs.declared.row.Row.{Row}
-use Rattle.pungi_types.specs.Files.{Variable, variables_of, definitions, definition_in, prototypes, is_place_in, declr_name, declr_stars, declr_tail, is_plain_tail, Definition}
+use Rattle.pungi_types.specs.Files.{SourceFile, Variable, variables_of, definitions, definition_in, prototypes, is_place_in, declr_name, declr_stars, declr_tail, is_plain_tail, Definition}
 use Rattle.pungi_types.specs.Kinds.{Core, builtin, core_of, spec_base, declared_kind}
 use Rattle.pungi_types.specs.declared.kind.ValueKind.{ValueKind}
 use Rattle.pungi_types.specs.declared.local.Local.{Local}
 
 -- where an expression stands: locals with the innermost and latest first
 pub record Env : Type 0 where
-  pub file : List Item
-  pub table : List (ℕ × Row)
+  pub file : SourceFile
   pub self : ℕ
   pub refused : List ℕ
   pub locals : List Local
@@ -77,6 +78,13 @@ type_objects_in file seen (v ∷ vs) =
 abbrev pub type_objects : List Item → List ℕ
 type_objects file = type_objects_in file [] (variables_of file)
 
+abbrev pub table_in : List Item → List Variable → ℕ → Bool
+table_in file [] w = false
+table_in file (v ∷ vs) w = ((declr_name v.declr).0 == w && is_table file v) || table_in file vs w
+
+abbrev pub is_table_name : List Item → ℕ → Bool
+is_table_name file w = table_in file (variables_of file) w
+
 abbrev pub module_in : List Item → List Variable → ℕ → Bool
 module_in file [] w = false
 module_in file (v ∷ vs) w = ((declr_name v.declr).0 == w && is_single file PY_MODULE_DEF v) || module_in file vs w
@@ -106,10 +114,18 @@ abbrev pub place_among : List ℕ → ℕ → ℕ
 place_among [] w = 0
 place_among (x ∷ xs) w = (if x == w then 0 else place_among xs w + 1)
 
+-- a built-in static, whether a type object or not
+abbrev pub is_built_in_static : ℕ → Bool
+is_built_in_static w = nat_le FIRST_STATIC w && not (nat_le STATICS_END w)
+
+-- a name that the file declares as a table is that, also where it is the name of a built-in static
+abbrev pub is_own_static : List Item → ℕ → Bool
+is_own_static file w = is_plain_static w && not (is_table_name file w)
+
 -- the number of a static's object
 abbrev pub static_number : List Item → ℕ → ℕ
 static_number file w =
-    (if nat_le FIRST_STATIC w && not (nat_le STATICS_END w) then w - FIRST_STATIC else place_among (type_objects file) w + 24)
+    (if is_built_in_static w then w - FIRST_STATIC else place_among (type_objects file) w + 24)
 
 abbrev pub local_in : List Local → ℕ → Option Local
 local_in [] w = None
@@ -124,7 +140,7 @@ pub data Meaning : Type 0 where
   unknown : Meaning
 
 abbrev pub static_or_unknown : List Item → ℕ → Meaning
-static_or_unknown file w = (if is_plain_static w && not (is_among (type_objects file) w) then a_static (static_number file w) else unknown)
+static_or_unknown file w = (if is_own_static file w then a_static (static_number file w) else unknown)
 
 abbrev pub global_or : List Item → ℕ → Option ValueKind → Meaning
 global_or file w None = static_or_unknown file w
@@ -135,4 +151,4 @@ local_or file w (Some l) = a_local l
 local_or file w None = (if is_function file w then a_function else global_or file w (global_kind file w))
 
 abbrev pub meaning_of : Env → ℕ → Meaning
-meaning_of env w = local_or env.file w (local_in env.locals w)
+meaning_of env w = local_or env.file.items w (local_in env.locals w)

@@ -58,7 +58,7 @@ abbrev pub declared_n1 : List Key → Spec → Option ValueKind → Findings
 declared_n1 qs s k = when (is_none k || has_file_storage qs) (spec_pos s) 1
 
 abbrev pub is_taken : Env → ℕ → Bool
-is_taken env w = is_function env.file w || (is_some (row_in env.table w) || is_static env.file w)
+is_taken env w = is_function env.file.items w || (is_some (row_in env.file.rows w) || is_static env.file.items w)
 
 -- N8: declared twice in one block, or with the name of a function, row or static
 abbrev pub declared_n8 : Env → List ℕ → Name → Pos → Findings
@@ -79,7 +79,7 @@ initial_findings env k p (Some (value e)) =
 abbrev pub after_var : Frame → Spec → VarDecl → Frame
 after_var f s (var_decl d v) =
     record f {
-      env = with_local f.env (record { name = declr_name d; number = f.next; kind = declared_kind f.env.file s d });
+      env = with_local f.env (record { name = declr_name d; number = f.next; kind = declared_kind f.env.file.items s d });
       block = with_word f.block (declr_name d).0;
       next = f.next + 1;
     }
@@ -87,8 +87,8 @@ after_var f s (var_decl d v) =
 -- a variable is in scope from its own initialiser on
 abbrev pub var_findings : Frame → List Key → Spec → VarDecl → Findings
 var_findings f qs s (var_decl d v) =
-    declared_n1 qs s (declared_kind f.env.file s d) and (declared_n8 f.env f.block (declr_name d) (declr_pos d)
-    and initial_findings (after_var f s (var_decl d v)).env (declared_kind f.env.file s d) (declr_pos d) v)
+    declared_n1 qs s (declared_kind f.env.file.items s d) and (declared_n8 f.env f.block (declr_name d) (declr_pos d)
+    and initial_findings (after_var f s (var_decl d v)).env (declared_kind f.env.file.items s d) (declr_pos d) v)
 
 abbrev pub vars_findings : Frame → List Key → Spec → List VarDecl → Findings
 vars_findings f qs s [] = nothing_found

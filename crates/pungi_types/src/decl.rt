@@ -46,7 +46,7 @@ pub fn note_declared(first: &mut Option<Finding>, quals: &Vec<Key>, spec: &Spec,
 
 /// The kind of what is declared. An array, a pointer to a function and `void` have none.
 pub fn declared_kind<N: Lookup>(names: &N, spec: &Spec, declr: &Declr) -> Known
-    ensures { result ≡ declared_kind_of (N.env names.now).file (spec_view spec.now) (declr_view declr.now) }
+    ensures { result ≡ declared_kind_of (N.env names.now).file.items (spec_view spec.now) (declr_view declr.now) }
 {
     if is_plain(declr) {
         not_void(names.type_kind(spec, declr.stars.len()))
@@ -57,7 +57,7 @@ pub fn declared_kind<N: Lookup>(names: &N, spec: &Spec, declr: &Declr) -> Known
 
 /// The kind of a parameter.
 pub fn param_kind<N: Lookup>(names: &N, spec: &Spec, declr: &ParamDeclr) -> Known
-    ensures { result ≡ param_kind_of (N.env names.now).file (spec_view spec.now) (param_declr_view declr.now) }
+    ensures { result ≡ param_kind_of (N.env names.now).file.items (spec_view spec.now) (param_declr_view declr.now) }
 {
     match declr {
         ParamDeclr::Named(named) => declared_kind(names, spec, named),

@@ -312,8 +312,8 @@ fn cast<N: Lookup>(
     kind: Known,
     a: &Expr,
 ) -> Known
-    ensures kind { result ≡ cast_kind_of (type_name_kind (N.env names.now).file (type_name_view name.now)) kind }
-    ensures found { first.new ≡ least_from first.old (cast_findings (type_name_kind (N.env names.now).file (type_name_view name.now)) pos (type_name_view name.now) kind (expr_view a.now)) }
+    ensures kind { result ≡ cast_kind_of (type_name_kind (N.env names.now).file.items (type_name_view name.now)) kind }
+    ensures found { first.new ≡ least_from first.old (cast_findings (type_name_kind (N.env names.now).file.items (type_name_view name.now)) pos (type_name_view name.now) kind (expr_view a.now)) }
 {
     let to = names.type_kind(&name.spec, name.stars.len());
     note(first, to.is_none(), name.spec.pos, 1);

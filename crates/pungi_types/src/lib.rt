@@ -32,4 +32,4 @@ pub use tail::{is_no_function, is_plain};
 pub use types::{
     Core, Typedef, is_listed_type, listed_kind, not_void, words_kind, written_core, written_tag,
 };
-pub use words::{is_kept, keep};
+pub use words::{is_built_in_static, is_kept, keep};

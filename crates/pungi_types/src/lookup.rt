@@ -37,17 +37,17 @@ pub trait Lookup {
         ensures { result ≡ is_unknown_of (meaning_of (env self.now) word) };
 
     fn is_type_object(&self, word: u32) -> bool
-        ensures { result ≡ (is_none (local_in (env self.now).locals word) && names_type_object_of (env self.now).file word) };
+        ensures { result ≡ (is_none (local_in (env self.now).locals word) && names_type_object_of (env self.now).file.items word) };
 
     fn is_module(&self, word: u32) -> bool
-        ensures { result ≡ (is_none (local_in (env self.now).locals word) && is_module_of (env self.now).file word) };
+        ensures { result ≡ (is_none (local_in (env self.now).locals word) && is_module_of (env self.now).file.items word) };
 
     /// The kind of a type with so many stars.
     fn type_kind(&self, spec: &Spec, stars: usize) -> Option<ValueKind>
-        ensures { result ≡ type_kind_of (env self.now).file (spec_base (spec_view spec.now)) stars };
+        ensures { result ≡ type_kind_of (env self.now).file.items (spec_base (spec_view spec.now)) stars };
 
     fn field_kind(&self, base: Option<ValueKind>, word: u32) -> Option<ValueKind>
-        ensures { result ≡ field_kind_of (env self.now).file base word };
+        ensures { result ≡ field_kind_of (env self.now).file.items base word };
 
     fn wants(&self, word: u32) -> &[Want]
         ensures { result.now ≡ wants_of (env self.now) (callee_of (env self.now) word) };
@@ -74,7 +74,7 @@ pub trait Lookup {
 
     /// The number of a static's object.
     fn static_number(&self, word: u32) -> u32
-        ensures { result ≡ static_number_of (env self.now).file word };
+        ensures { result ≡ static_number_of (env self.now).file.items word };
 
     /// The row that is called by this word.
     fn row(&self, word: u32) -> Option<&Row>

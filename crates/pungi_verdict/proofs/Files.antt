@@ -4,9 +4,12 @@ use Rattle.std.specs.Prelude.{is_some, if◌then◌else◌}
 use Rattle.std.specs.List.{AllZip}
 use Rattle.std.proofs.lemmas.List.{append-nil, drop_all}
 use Rattle.std.proofs.lemmas.Option.{slice_get-map, slice_get-get_or, get_or_from_slice_get}
+use Rattle.std.specs.Borrow.{Bor}
 use Rattle.pungi_base.specs.declared.names.Name.{Name}
 use Rattle.pungi_base.specs.declared.verdict.Verdict.{Verdict}
 use Rattle.pungi_base.specs.declared.verdict.Verdict.TheVariants as verdict
+use Rattle.pungi_tree.specs.declared.item.FunctionDef.{FunctionDef}
+use Rattle.pungi_declared.specs.DeclaredView.{function_view as definition_of}
 use Rattle.pungi_types.specs.declared.finding.Finding.{Finding}
 use Rattle.pungi_types.specs.Files.{Definition, definitions}
 use Rattle.pungi_types.specs.Functions.{refusal}
@@ -16,7 +19,7 @@ use Rattle.pungi_resolved.specs.Functions.{ResolvedFunction}
 use Rattle.pungi_resolved.specs.ActionView.{function_view}
 use Rattle.pungi_resolved.specs.declared.function.Function.{Function}
 use Rattle.pungi_resolve.specs.Resolutions.{resolution_of, resolution_view}
-use Rattle.pungi_check.specs.CheckedFile.{CheckedFile, IsPassed, IsRefusal}
+use Rattle.pungi_types.specs.Refused.{CheckedFile}
 use Rattle.pungi_code.specs.declared.code.Code.{Code}
 use Rattle.pungi_code.specs.declared.code.Codes.{Codes}
 use Rattle.pungi_code.specs.Run.{code_at, joined}
@@ -34,21 +37,21 @@ same-some : {A : Type 0} (x y : A) → Some x ≡ Some y → x ≡ y
 same-some x y e = cc
 
 -- what a function does in which no rule holds
-resolution-is : (c : CheckedFile) (d : Definition) → refusal c.file c.rows c.refused d ≡ None → resolution_of c.file c.rows c.refused d ≡ Some (resolved c.file c.rows c.refused d)
-resolution-is c d none = ap (λ (o : Option Finding). if is_some o then None else Some (resolved c.file c.rows c.refused d)) none
+resolution-is : (c : CheckedFile) (d : Definition) → refusal c.file c.refused d ≡ None → resolution_of c.file c.refused d ≡ Some (resolved c.file c.refused d)
+resolution-is c d none = ap (λ (o : Option Finding). if is_some o then None else Some (resolved c.file c.refused d)) none
 
 mapped-at : {A B : Type 0} (g : A → B) (xs : List A) (i : ℕ) (x : A) → slice_get xs i ≡ Some x → slice_get (map g xs) i ≡ Some (g x)
 mapped-at g xs i x e = slice_get-map g xs i ∙ ap (option_map g) e
 
 -- the function that is resolved at a place
-pub function-is : (c : CheckedFile) (fs : List (Option Function)) (i : ℕ) (d : Definition) (o : Option Function) → map resolution_view fs ≡ map (resolution_of c.file c.rows c.refused) (definitions c.file)
-    → slice_get fs i ≡ Some o → slice_get (definitions c.file) i ≡ Some d → refusal c.file c.rows c.refused d ≡ None → resolution_view o ≡ Some (resolved c.file c.rows c.refused d)
+pub function-is : (c : CheckedFile) (fs : List (Option Function)) (i : ℕ) (d : Definition) (o : Option Function) → map resolution_view fs ≡ map (resolution_of c.file c.refused) (definitions c.file.items)
+    → slice_get fs i ≡ Some o → slice_get (definitions c.file.items) i ≡ Some d → refusal c.file c.refused d ≡ None → resolution_view o ≡ Some (resolved c.file c.refused d)
 function-is c fs i d o same at is none =
     let left : slice_get (map resolution_view fs) i ≡ Some (resolution_view o) = mapped-at resolution_view fs i o at in
-    let right : slice_get (map (resolution_of c.file c.rows c.refused) (definitions c.file)) i ≡ Some (resolution_of c.file c.rows c.refused d) =
-    mapped-at (resolution_of c.file c.rows c.refused) (definitions c.file) i d is in
-    let both : Some (resolution_view o) ≡ Some (resolution_of c.file c.rows c.refused d) = sym left ∙ ap (λ (l : List (Option ResolvedFunction)). slice_get l i) same ∙ right in
-    same-some (resolution_view o) (resolution_of c.file c.rows c.refused d) both ∙ resolution-is c d none
+    let right : slice_get (map (resolution_of c.file c.refused) (definitions c.file.items)) i ≡ Some (resolution_of c.file c.refused d) =
+    mapped-at (resolution_of c.file c.refused) (definitions c.file.items) i d is in
+    let both : Some (resolution_view o) ≡ Some (resolution_of c.file c.refused d) = sym left ∙ ap (λ (l : List (Option ResolvedFunction)). slice_get l i) same ∙ right in
+    same-some (resolution_view o) (resolution_of c.file c.refused d) both ∙ resolution-is c d none
 
 -- an element as a program reads it
 pub at-index : {A : Type 0} (xs : List A) (i : ℕ) (x : A) → i < length xs → x ≡ get_or xs i x → slice_get xs i ≡ Some x
@@ -58,35 +61,35 @@ mapped-long : {A B : Type 0} (g : A → B) (xs : List A) → length (map g xs) �
 mapped-long g [] = refl
 mapped-long g (x ∷ xs) = ap suc (mapped-long g xs)
 
-pub functions-long : (c : CheckedFile) (fs : List (Option Function)) → map resolution_view fs ≡ map (resolution_of c.file c.rows c.refused) (definitions c.file) → length fs ≡ length (definitions c.file)
+pub functions-long : (c : CheckedFile) (fs : List (Option Function)) → map resolution_view fs ≡ map (resolution_of c.file c.refused) (definitions c.file.items) → length fs ≡ length (definitions c.file.items)
 functions-long c fs same =
-    sym (mapped-long resolution_view fs) ∙ ap (λ (l : List (Option ResolvedFunction)). length l) same ∙ mapped-long (resolution_of c.file c.rows c.refused) (definitions c.file)
+    sym (mapped-long resolution_view fs) ∙ ap (λ (l : List (Option ResolvedFunction)). length l) same ∙ mapped-long (resolution_of c.file c.refused) (definitions c.file.items)
 
-pub codes-long : (c : CheckedFile) (codes : Codes) → codes ≡ file_codes c → length codes.codes ≡ length (definitions c.file)
+pub codes-long : (c : CheckedFile) (codes : Codes) → codes ≡ file_codes c → length codes.codes ≡ length (definitions c.file.items)
 codes-long c codes same =
     ap (λ (cs : Codes). length cs.codes) same
-    ∙ mapped-long code_for (map (resolution_of c.file c.rows c.refused) (definitions c.file))
-    ∙ mapped-long (resolution_of c.file c.rows c.refused) (definitions c.file)
+    ∙ mapped-long code_for (map (resolution_of c.file c.refused) (definitions c.file.items))
+    ∙ mapped-long (resolution_of c.file c.refused) (definitions c.file.items)
 
 -- a function in which no rule holds is resolved
-pub function-there : (c : CheckedFile) (fs : List (Option Function)) (i : ℕ) (d : Definition) (f : Function) → map resolution_view fs ≡ map (resolution_of c.file c.rows c.refused) (definitions c.file)
-    → slice_get fs i ≡ Some (Some f) → IsPassed c i d → function_view f ≡ resolved c.file c.rows c.refused d
-function-there c fs i d f same at passed =
-    same-some (function_view f) (resolved c.file c.rows c.refused d) (function-is c fs i d (Some f) same at passed.0 passed.1)
+pub function-there : (c : CheckedFile) (fs : List (Option Function)) (i : ℕ) (d : Definition) (f : Function) → map resolution_view fs ≡ map (resolution_of c.file c.refused) (definitions c.file.items)
+    → slice_get fs i ≡ Some (Some f) → slice_get (definitions c.file.items) i ≡ Some d → refusal c.file c.refused d ≡ None → function_view f ≡ resolved c.file c.refused d
+function-there c fs i d f same at is none =
+    same-some (function_view f) (resolved c.file c.refused d) (function-is c fs i d (Some f) same at is none)
 
-pub none-there : (c : CheckedFile) (fs : List (Option Function)) (i : ℕ) (d : Definition) → map resolution_view fs ≡ map (resolution_of c.file c.rows c.refused) (definitions c.file)
-    → slice_get fs i ≡ Some None → IsPassed c i d → ⊥
-none-there c fs i d same at passed =
-    let none : None ≡ Some (resolved c.file c.rows c.refused d) = function-is c fs i d None same at passed.0 passed.1 in
+pub none-there : (c : CheckedFile) (fs : List (Option Function)) (i : ℕ) (d : Definition) → map resolution_view fs ≡ map (resolution_of c.file c.refused) (definitions c.file.items)
+    → slice_get fs i ≡ Some None → slice_get (definitions c.file.items) i ≡ Some d → refusal c.file c.refused d ≡ None → ⊥
+none-there c fs i d same at is none =
+    let no : None ≡ Some (resolved c.file c.refused d) = function-is c fs i d None same at is none in
     absurd (cc)
 
 -- the code of a place
-pub code-here : (c : CheckedFile) (i : ℕ) (d : Definition) → slice_get (definitions c.file) i ≡ Some d → refusal c.file c.rows c.refused d ≡ None
-    → slice_get (codes_of c) i ≡ Some (code_for (Some (resolved c.file c.rows c.refused d)))
+pub code-here : (c : CheckedFile) (i : ℕ) (d : Definition) → slice_get (definitions c.file.items) i ≡ Some d → refusal c.file c.refused d ≡ None
+    → slice_get (codes_of c) i ≡ Some (code_for (Some (resolved c.file c.refused d)))
 code-here c i d is none =
-    let first : slice_get (map (resolution_of c.file c.rows c.refused) (definitions c.file)) i ≡ Some (Some (resolved c.file c.rows c.refused d)) =
-    mapped-at (resolution_of c.file c.rows c.refused) (definitions c.file) i d is ∙ ap (λ (o : Option ResolvedFunction). Some o) (resolution-is c d none) in
-    mapped-at code_for (map (resolution_of c.file c.rows c.refused) (definitions c.file)) i (Some (resolved c.file c.rows c.refused d)) first
+    let first : slice_get (map (resolution_of c.file c.refused) (definitions c.file.items)) i ≡ Some (Some (resolved c.file c.refused d)) =
+    mapped-at (resolution_of c.file c.refused) (definitions c.file.items) i d is ∙ ap (λ (o : Option ResolvedFunction). Some o) (resolution-is c d none) in
+    mapped-at code_for (map (resolution_of c.file c.refused) (definitions c.file.items)) i (Some (resolved c.file c.refused d)) first
 
 joined-is : (o : Option (Option Code)) (code : Code) → joined o ≡ Some code → o ≡ Some (Some code)
 joined-is None code e = absurd (cc)
@@ -94,8 +97,8 @@ joined-is (Some o) code e = ap (λ (x : Option Code). Some x) e
 
 -- ---- what is known of a function and its code
 
-pub given : (c : CheckedFile) (codes : Codes) (i : ℕ) (d : Definition) (f : ResolvedFunction) → AreLowered c codes.codes → AreWellFormed codes → slice_get (definitions c.file) i ≡ Some d
-    → f ≡ resolved c.file c.rows c.refused d → (code : Code) → object_code codes.statics (code_at codes i) ≡ Some code → IsGiven codes.statics f code
+pub given : (c : CheckedFile) (codes : Codes) (i : ℕ) (d : Definition) (f : ResolvedFunction) → AreLowered c codes.codes → AreWellFormed codes → slice_get (definitions c.file.items) i ≡ Some d
+    → f ≡ resolved c.file c.refused d → (code : Code) → object_code codes.statics (code_at codes i) ≡ Some code → IsGiven codes.statics f code
 given c codes i d f lowered formed at is code e =
     let h = object-is codes.statics (code_at codes i) code e in
     let there : slice_get codes.codes i ≡ Some (Some code) = joined-is (slice_get codes.codes i) code h.0 in
@@ -118,10 +121,10 @@ shown-more : (n : ℕ) (f : ResolvedFunction) (few less many more : Type 0) (o :
 shown-more n f few less many more None v g k h = h
 shown-more n f few less many more (Some code) v g k h = right-more n f few less many more v g k h
 
-pub judged-verdict : (c : CheckedFile) (codes : Codes) (i : ℕ) (d : Definition) (f : ResolvedFunction) (v : Verdict) → codes ≡ file_codes c → slice_get (definitions c.file) i ≡ Some d
-    → refusal c.file c.rows c.refused d ≡ None → f ≡ resolved c.file c.rows c.refused d → IsShown codes.statics f (IsFew codes i) (IsMany codes i) (object_code codes.statics (code_at codes i)) v → IsVerdict c d v
+pub judged-verdict : (c : CheckedFile) (codes : Codes) (i : ℕ) (d : Definition) (f : ResolvedFunction) (v : Verdict) → codes ≡ file_codes c → slice_get (definitions c.file.items) i ≡ Some d
+    → refusal c.file c.refused d ≡ None → f ≡ resolved c.file c.refused d → IsShown codes.statics f (IsFew codes i) (IsMany codes i) (object_code codes.statics (code_at codes i)) v → IsVerdict c d v
 judged-verdict c codes i d f v same at none is h =
-    let g = resolved c.file c.rows c.refused d in
+    let g = resolved c.file c.refused d in
     let n = statics_of c in
     let in_file : IsShown n f (IsFew (file_codes c) i) (IsMany (file_codes c) i) (object_code n (code_at (file_codes c) i)) v =
     subst (λ (cs : Codes). IsShown cs.statics f (IsFew cs i) (IsMany cs i) (object_code cs.statics (code_at cs i)) v) same h in
@@ -135,24 +138,35 @@ judged-verdict c codes i d f v same at none is h =
     (λ few. record { place = i; is = at; few = few }) (λ many. record { place = i; is = at; many = many }) by_code in
     subst (λ (o : Option Finding). IsTold c d o v) (sym none) shown
 
-pub passed-verdict : (c : CheckedFile) (codes : Codes) (i : ℕ) (d : Definition) (f : ResolvedFunction) (v : Verdict) → codes ≡ file_codes c → IsPassed c i d → f ≡ resolved c.file c.rows c.refused d
-    → IsShown codes.statics f (IsFew codes i) (IsMany codes i) (object_code codes.statics (code_at codes i)) v → (e : Definition) → slice_get (definitions c.file) i ≡ Some e → IsVerdict c e v
-passed-verdict c codes i d f v same passed is h e at =
-    subst (λ (x : Definition). IsVerdict c x v) (same-some d e (sym passed.0 ∙ at)) (judged-verdict c codes i d f v same passed.0 passed.1 is h)
+-- the finding of the function at a place
+pub finding-here : (c : CheckedFile) (fs : List (Option Finding)) (i : ℕ) (o : Option Finding) → fs ≡ map (refusal c.file c.refused) (definitions c.file.items) → i < length (definitions c.file.items)
+    → o ≡ get_or fs i o → (d : Definition) → slice_get (definitions c.file.items) i ≡ Some d → refusal c.file c.refused d ≡ o
+finding-here c fs i o same lt is d at =
+    let long : length fs ≡ length (definitions c.file.items) = ap (λ (l : List (Option Finding)). length l) same ∙ mapped-long (refusal c.file c.refused) (definitions c.file.items) in
+    let here : slice_get fs i ≡ Some o = at-index fs i o (omega (arith, long, lt)) is in
+    let there : slice_get (map (refusal c.file c.refused) (definitions c.file.items)) i ≡ Some (refusal c.file c.refused d) =
+    mapped-at (refusal c.file c.refused) (definitions c.file.items) i d at in
+    same-some (refusal c.file c.refused d) o (sym there ∙ ap (λ (l : List (Option Finding)). slice_get l i) (sym same) ∙ here)
 
-pub refused-verdict : (c : CheckedFile) (i : ℕ) (e : Finding) (v : Verdict) → IsRefusal c i e → v ≡ verdict.Refused e.pos e.rule → (d : Definition) → slice_get (definitions c.file) i ≡ Some d → IsVerdict c d v
-refused-verdict c i e v told is d at =
-    let same : told.0 ≡ d = same-some told.0 d (sym told.1 ∙ at) in
-    let finding : refusal c.file c.rows c.refused d ≡ Some e = subst (λ (x : Definition). refusal c.file c.rows c.refused x ≡ Some e) same told.2 in
-    subst (λ (o : Option Finding). IsTold c d o v) (sym finding) is
+pub refused-verdict : (c : CheckedFile) (e : Finding) (d : Definition) → refusal c.file c.refused d ≡ Some e → IsVerdict c d (verdict.Refused e.pos e.rule)
+refused-verdict c e d found = subst (λ (o : Option Finding). IsTold c d o (verdict.Refused e.pos e.rule)) (sym found) refl
+
+-- the definition at a place
+pub defined-at : (ds : List Definition) (i : ℕ) → i < length ds → (d : Definition) × (slice_get ds i ≡ Some d)
+defined-at [] i lt = absurd (omega (arith, lt))
+defined-at (d ∷ ds) zero lt = (d, refl)
+defined-at (d ∷ ds) (suc i) lt = defined-at ds i (omega (arith, lt))
+
+pub same-at : (ds : List Definition) (i : ℕ) (d e : Definition) → slice_get ds i ≡ Some d → slice_get ds i ≡ Some e → d ≡ e
+same-at ds i d e x y = same-some d e (sym x ∙ y)
 
 -- ---- the functions of a file in order
 
-pub judged-all : (c : CheckedFile) (i : ℕ) (lines : List (Name × Verdict)) → length (definitions c.file) ≤ i
-    → ((more : List (Name × Verdict)) → AllZip (IsJudged c) (drop i (definitions c.file)) more → AllZip (IsJudged c) (definitions c.file) (lines ++ more)) → AllZip (IsJudged c) (definitions c.file) lines
+pub judged-all : (c : CheckedFile) (i : ℕ) (lines : List (Name × Verdict)) → length (definitions c.file.items) ≤ i
+    → ((more : List (Name × Verdict)) → AllZip (IsJudged c) (drop i (definitions c.file.items)) more → AllZip (IsJudged c) (definitions c.file.items) (lines ++ more)) → AllZip (IsJudged c) (definitions c.file.items) lines
 judged-all c i lines past so_far =
-    let none : drop i (definitions c.file) ≡ [] = drop_all i (definitions c.file) past in
-    subst (λ (l : List (Name × Verdict)). AllZip (IsJudged c) (definitions c.file) l) (append-nil lines)
+    let none : drop i (definitions c.file.items) ≡ [] = drop_all i (definitions c.file.items) past in
+    subst (λ (l : List (Name × Verdict)). AllZip (IsJudged c) (definitions c.file.items) l) (append-nil lines)
     (so_far [] (subst (λ (l : List Definition). AllZip (IsJudged c) l []) (sym none) tt))
 
 -- what is left from a place on begins with what stands there
@@ -161,18 +175,15 @@ left-from ds i d lt at =
     let is : get_or ds i d ≡ d = get_or_from_slice_get ds i d d at in
     grind (arith, drop-cons ds i d)
 
-found-at : (ds : List Definition) (i : ℕ) (n : Name) → option_map (λ (d : Definition). d.name) (slice_get ds i) ≡ Some n → (d : Definition) × (slice_get ds i ≡ Some d) × (n ≡ d.name)
-found-at [] i n e = absurd (cc)
-found-at (d ∷ ds) zero n e =
-    let s : Some d.name ≡ Some n = e in
-    (d, refl, sym (same-some d.name n s))
-found-at (d ∷ ds) (suc i) n e = found-at ds i n e
+-- the definition that an entry of the program's list is
+pub entry-is : (list : List (Bor FunctionDef)) (ds : List Definition) (i : ℕ) (f : Bor FunctionDef) → map definition_of list ≡ ds → i < length list → f ≡ get_or list i f
+    → slice_get ds i ≡ Some (definition_of f)
+entry-is list ds i f same lt is = ap (λ (l : List Definition). slice_get l i) (sym same) ∙ mapped-at definition_of list i f (at-index list i f lt is)
 
-pub judged-next : (c : CheckedFile) (i : ℕ) (n : Name) (v : Verdict) (lines more : List (Name × Verdict)) → i < length (definitions c.file)
-    → option_map (λ (d : Definition). d.name) (slice_get (definitions c.file) i) ≡ Some n → ((d : Definition) → slice_get (definitions c.file) i ≡ Some d → IsVerdict c d v)
-    → ((more : List (Name × Verdict)) → AllZip (IsJudged c) (drop i (definitions c.file)) more → AllZip (IsJudged c) (definitions c.file) (lines ++ more))
-    → AllZip (IsJudged c) (drop (i + 1) (definitions c.file)) more → AllZip (IsJudged c) (definitions c.file) ((lines ++ (n, v) ∷ []) ++ more)
-judged-next c i n v lines more lt named right so_far rest =
-    let h = found-at (definitions c.file) i n named in
-    subst (λ (l : List (Name × Verdict)). AllZip (IsJudged c) (definitions c.file) l) (sym (append_assoc lines ((n, v) ∷ []) more))
-    (so_far ((n, v) ∷ more) (subst (λ (l : List Definition). AllZip (IsJudged c) l ((n, v) ∷ more)) (sym (left-from (definitions c.file) i h.0 lt h.1)) ((h.2, right h.0 h.1), rest)))
+pub judged-next : (c : CheckedFile) (i : ℕ) (d : Definition) (v : Verdict) (lines more : List (Name × Verdict)) → i < length (definitions c.file.items)
+    → slice_get (definitions c.file.items) i ≡ Some d → IsVerdict c d v
+    → ((more : List (Name × Verdict)) → AllZip (IsJudged c) (drop i (definitions c.file.items)) more → AllZip (IsJudged c) (definitions c.file.items) (lines ++ more))
+    → AllZip (IsJudged c) (drop (i + 1) (definitions c.file.items)) more → AllZip (IsJudged c) (definitions c.file.items) ((lines ++ (d.name, v) ∷ []) ++ more)
+judged-next c i d v lines more lt at right so_far rest =
+    subst (λ (l : List (Name × Verdict)). AllZip (IsJudged c) (definitions c.file.items) l) (sym (append_assoc lines ((d.name, v) ∷ []) more))
+    (so_far ((d.name, v) ∷ more) (subst (λ (l : List Definition). AllZip (IsJudged c) l ((d.name, v) ∷ more)) (sym (left-from (definitions c.file.items) i d lt at)) ((refl, right), rest)))

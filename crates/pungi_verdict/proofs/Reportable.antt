@@ -12,7 +12,7 @@ use Rattle.pungi_types.specs.Files.{Definition}
 use Rattle.pungi_types.specs.Functions.{refusal}
 use Rattle.pungi_resolve.specs.Functions.{resolved}
 use Rattle.pungi_resolved.specs.Functions.{ResolvedFunction}
-use Rattle.pungi_check.specs.CheckedFile.{CheckedFile}
+use Rattle.pungi_types.specs.Refused.{CheckedFile}
 use Rattle.pungi_code.specs.declared.code.Code.{Code}
 use Rattle.pungi_layout.specs.Codes.{code_for}
 use Rattle.pungi_verdict.specs.Verdicts.{IsRight, IsShown, object_code, statics_of, HasFewTraces, HasManyTraces, IsTold, IsJudged, IsReportable}
@@ -33,7 +33,7 @@ shown-reportable n f few many (Some code) v shown = right-reportable n f few man
 told-reportable : (c : CheckedFile) (d : Definition) (o : Option Finding) (v : Verdict) → IsTold c d o v → IsReportable v
 told-reportable c d (Some e) v told = refused-reportable v e.pos e.rule told
 told-reportable c d None v told =
-    let f = resolved c.file c.rows c.refused d in
+    let f = resolved c.file c.refused d in
     shown-reportable (statics_of c) f (HasFewTraces c d) (HasManyTraces c d) (object_code (statics_of c) (code_for (Some f))) v told
 
 pub reportable : (c : CheckedFile) (ds : List Definition) (lines : List (Name × Verdict)) → AllZip (IsJudged c) ds lines → All (λ (line : Name × Verdict). IsReportable line.1) lines
@@ -41,4 +41,4 @@ reportable c [] [] judged = All-nil (λ (line : Name × Verdict). IsReportable l
 reportable c [] (line ∷ lines) judged = absurd judged
 reportable c (d ∷ ds) [] judged = absurd judged
 reportable c (d ∷ ds) (line ∷ lines) judged =
-    All-cons (λ (line : Name × Verdict). IsReportable line.1) line lines (told-reportable c d (refusal c.file c.rows c.refused d) line.1 judged.0.1) (reportable c ds lines judged.1)
+    All-cons (λ (line : Name × Verdict). IsReportable line.1) line lines (told-reportable c d (refusal c.file c.refused d) line.1 judged.0.1) (reportable c ds lines judged.1)

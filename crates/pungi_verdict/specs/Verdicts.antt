@@ -31,7 +31,7 @@ use Rattle.pungi_resolved.specs.Functions.{ResolvedFunction}
 use Rattle.pungi_world.specs.declared.world.World.{World}
 use Rattle.pungi_world.specs.World.{account_of}
 use Rattle.pungi_world.specs.Escapes.{escaped_of, IsLevel, IsBalanced}
-use Rattle.pungi_check.specs.CheckedFile.{CheckedFile}
+use Rattle.pungi_types.specs.Refused.{CheckedFile}
 use Rattle.pungi_meaning.specs.Entries.{entry_fits}
 use Rattle.pungi_meaning.specs.Run.{run_of, Returned}
 use Rattle.pungi_code.specs.declared.code.Code.{Code}
@@ -86,28 +86,28 @@ IsShown n f few many (Some code) v = IsRight n f few many v
 -- ---- files
 
 abbrev pub statics_of : CheckedFile → ℕ
-statics_of c = 24 + length (type_objects c.file)
+statics_of c = 24 + length (type_objects c.file.items)
 
 abbrev pub file_codes : CheckedFile → Codes
 file_codes c = record { codes = codes_of c; statics = statics_of c; names = names_of c }
 
 pub record HasFewTraces (c : CheckedFile) (d : Definition) : Type 0 where
   pub place : ℕ
-  pub is : slice_get (definitions c.file) place ≡ Some d
+  pub is : slice_get (definitions c.file.items) place ≡ Some d
   pub few : IsFew (file_codes c) place
 
 pub record HasManyTraces (c : CheckedFile) (d : Definition) : Type 0 where
   pub place : ℕ
-  pub is : slice_get (definitions c.file) place ≡ Some d
+  pub is : slice_get (definitions c.file.items) place ≡ Some d
   pub many : IsMany (file_codes c) place
 
 abbrev pub IsTold : CheckedFile → Definition → Option Finding → Verdict → Type 0
 IsTold c d (Some e) v = v ≡ verdict.Refused e.pos e.rule
 IsTold c d None v =
-    IsShown (statics_of c) (resolved c.file c.rows c.refused d) (HasFewTraces c d) (HasManyTraces c d) (object_code (statics_of c) (code_for (Some (resolved c.file c.rows c.refused d)))) v
+    IsShown (statics_of c) (resolved c.file c.refused d) (HasFewTraces c d) (HasManyTraces c d) (object_code (statics_of c) (code_for (Some (resolved c.file c.refused d)))) v
 
 abbrev pub IsVerdict : CheckedFile → Definition → Verdict → Type 0
-IsVerdict c d v = IsTold c d (refusal c.file c.rows c.refused d) v
+IsVerdict c d v = IsTold c d (refusal c.file c.refused d) v
 
 abbrev pub IsJudged : CheckedFile → Definition → Name × Verdict → Type 0
 IsJudged c d line = (line.0 ≡ d.name) × IsVerdict c d line.1

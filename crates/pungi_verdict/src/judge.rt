@@ -1,27 +1,24 @@
 //! The verdicts on the functions of a checked file.
 ghost use Rattle.std.specs.Prelude.{◌≡◌, ◌<◌, ◌+◌, length, map, slice_get, Some, IfOk};
 ghost use Rattle.std.specs.List.{All, AllZip};
-ghost use Rattle.pungi_check.specs.CheckedView.{checked_view};
+ghost use Rattle.pungi_check.specs.Found.{checked_view, IsChecked};
 ghost use Rattle.pungi_code.specs.declared.code.Code.{Code as CodeOf};
 ghost use Rattle.pungi_code.specs.Run.{code_at};
 ghost use Rattle.pungi_code.specs.WellFormed.{AreWellFormed};
 ghost use Rattle.pungi_lower.specs.Lowered.{AreLowered};
 ghost use Rattle.pungi_resolved.specs.ActionView.{function_view};
-ghost use Rattle.pungi_resolve.specs.Resolutions.{resolution_of, resolution_view};
 ghost use Rattle.pungi_types.specs.Files.{Definition, definitions as definitions_of};
-ghost use Rattle.pungi_types.specs.Refused.{IsRefusedSet};
 ghost use Rattle.pungi_explore.specs.Explored.{IsFew, IsMany};
 ghost use Rattle.pungi_verdict.specs.Replays.{IsGiven};
 ghost use Rattle.pungi_verdict.specs.Verdicts.{IsRight, IsShown, object_code, file_codes, IsVerdict, IsJudged, IsReportable};
 
 use crate::object_form::is_object_code;
 use crate::replay::replay;
-use pungi_base::{Memory, Name, Rule, Verdict, Why};
+use pungi_base::{Memory, Name, Rule, Seq, Verdict, Why};
 use pungi_check::Checked;
 use pungi_code::{Code, Codes};
 use pungi_explore::{Explored, explore};
 use pungi_lower::lower;
-use pungi_resolve::resolve_unit;
 use pungi_resolved::Function;
 use std::alloc::Global;
 
@@ -48,7 +45,7 @@ fn judge_code(
     }
 }
 
-/// The verdict on a function of which no rule is told. One whose code doesn't have the object form is refused by rule 0,
+/// The verdict on a function in which no rule holds. One whose code doesn't have the object form is refused by rule 0,
 /// which says that its form isn't judged yet.
 fn judge(alloc: Global, codes: &Codes, i: usize, f: &Function) -> Result<Verdict, Memory>
     requires there { i < length codes.now.codes }
@@ -66,21 +63,20 @@ fn judge(alloc: Global, codes: &Codes, i: usize, f: &Function) -> Result<Verdict
 /// The verdict on a function of a file.
 fn verdict(
     alloc: Global,
-    checked: &Checked,
+    checked: &Checked<'_>,
     codes: &Codes,
-    functions: &[Option<Function>],
     i: usize,
 ) -> Result<Verdict, Memory>
-    requires there { i < length (definitions_of (checked_view checked.now).file) }
+    requires there { i < length (definitions_of (checked_view checked.now).file.items) }
+    requires checked { IsChecked checked.now }
     requires codes { codes.now ≡ file_codes (checked_view checked.now) }
     requires lowered { AreLowered (checked_view checked.now) codes.now.codes }
     requires formed { AreWellFormed codes.now }
-    requires functions { map resolution_view functions.now ≡ map (resolution_of (checked_view checked.now).file (checked_view checked.now).rows (checked_view checked.now).refused) (definitions_of (checked_view checked.now).file) }
-    ensures { IfOk result (λ v. (d : Definition) → slice_get (definitions_of (checked_view checked.now).file) i ≡ Some d → IsVerdict (checked_view checked.now) d v) }
+    ensures { IfOk result (λ v. (d : Definition) → slice_get (definitions_of (checked_view checked.now).file.items) i ≡ Some d → IsVerdict (checked_view checked.now) d v) }
 {
-    match checked.function(i) {
-        Err(finding) => Ok(Verdict::Refused(finding.pos, finding.rule)),
-        Ok(_) => match &functions[i] {
+    match checked.refusals[i] {
+        Some(finding) => Ok(Verdict::Refused(finding.pos, finding.rule)),
+        None => match &checked.resolved[i] {
             Some(f) => Ok(judge(alloc, codes, i, f)?),
             None => unreachable!(),
         },
@@ -90,44 +86,46 @@ fn verdict(
 /// The verdicts on the functions of a file.
 fn verdicts(
     alloc: Global,
-    checked: &Checked,
+    checked: &Checked<'_>,
     codes: &Codes,
-    functions: &[Option<Function>],
 ) -> Result<Vec<(Name, Verdict)>, Memory>
+    requires checked { IsChecked checked.now }
     requires codes { codes.now ≡ file_codes (checked_view checked.now) }
     requires lowered { AreLowered (checked_view checked.now) codes.now.codes }
     requires formed { AreWellFormed codes.now }
-    requires functions { map resolution_view functions.now ≡ map (resolution_of (checked_view checked.now).file (checked_view checked.now).rows (checked_view checked.now).refused) (definitions_of (checked_view checked.now).file) }
-    ensures { IfOk result (λ lines. AllZip (IsJudged (checked_view checked.now)) (definitions_of (checked_view checked.now).file) lines.items) }
+    ensures { IfOk result (λ lines. AllZip (IsJudged (checked_view checked.now)) (definitions_of (checked_view checked.now).file.items) lines.items) }
 {
     let mut lines = Vec::new(alloc);
-    for i in 0..checked.functions() {
-        let verdict = verdict(alloc, checked, codes, functions, i)?;
-        lines.push((checked.name(i), verdict))?;
+    for (i, name) in checked.names.as_slice().iter().enumerate() {
+        let verdict = verdict(alloc, checked, codes, i)?;
+        lines.push((*name, verdict))?;
     }
     Ok(lines)
 }
 
-/// What is known of a checked file.
-fn known(checked: &Checked)
-    ensures { IsRefusedSet (checked_view checked.now).file (checked_view checked.now).rows (checked_view checked.now).refused }
+/// The codes of a checked file.
+fn codes(alloc: Global, checked: &Checked<'_>) -> Result<Codes, Memory>
+    requires { IsChecked checked.now }
+    ensures codes { IfOk result (λ c. c ≡ file_codes (checked_view checked.now)) }
+    ensures lowered { IfOk result (λ c. AreLowered (checked_view checked.now) c.codes) }
+    ensures formed { IfOk result (λ c. AreWellFormed c) }
 {
-    checked.refusals();
+    let names = Seq::new(Vec::from_slice(alloc, checked.names.as_slice())?);
+    let codes = lower(alloc, &checked.resolved, names, checked.statics)?;
+    Ok(codes)
 }
 
-/// The verdict on each function of a checked file, by its name, in the order of the file. A function of which a rule is told
+/// The verdict on each function of a checked file, by its name, in the order of the file. A function in which a rule holds
 /// is refused by the rule. Of the others only those are judged whose code has the object form: a clean one has no run that
 /// returns and isn't balanced, from any entry and with any answers of the outside, and at most 16,384 traces; a faulty one has the run of its fault,
-/// which tells the lowest object whose change there differs from its escapes; of one that is neither there are more than
+/// which reports the lowest object whose change there differs from its escapes; of one that is neither there are more than
 /// 16,384 traces. Each verdict can be reported.
-pub fn judge_all(alloc: Global, checked: &Checked) -> Result<Vec<(Name, Verdict)>, Memory>
-    ensures set { IsRefusedSet (checked_view checked.now).file (checked_view checked.now).rows (checked_view checked.now).refused }
-    ensures judged { IfOk result (λ lines. AllZip (IsJudged (checked_view checked.now)) (definitions_of (checked_view checked.now).file) lines.items) }
+pub fn judge_all(alloc: Global, checked: &Checked<'_>) -> Result<Vec<(Name, Verdict)>, Memory>
+    requires { IsChecked checked.now }
+    ensures judged { IfOk result (λ lines. AllZip (IsJudged (checked_view checked.now)) (definitions_of (checked_view checked.now).file.items) lines.items) }
     ensures reportable { IfOk result (λ lines. All (λ line. IsReportable line.1) lines.items) }
 {
-    known(checked);
-    let codes = lower(alloc, checked)?;
-    let functions = resolve_unit(alloc, checked)?;
-    let lines = verdicts(alloc, checked, &codes, functions.as_slice())?;
+    let codes = codes(alloc, checked)?;
+    let lines = verdicts(alloc, checked, &codes)?;
     Ok(lines)
 }

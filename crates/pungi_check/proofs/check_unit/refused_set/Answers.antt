@@ -1,13 +1,15 @@
 use Rattle.std.proofs.Common.{Bool, List, [], map, ap, ◌∙◌}
 use Rattle.pungi_declared.specs.DeclaredView.{function_view}
-use Rattle.pungi_names.specs.NamesView.{file_of, rows_of}
+use Rattle.pungi_names.specs.NamesView.{file_of}
+use Rattle.pungi_types.specs.Files.{Definition}
 use Rattle.pungi_check.specs.declared.call_node.CallNode.{CallNode}
 use Rattle.pungi_check.specs.Graph.{node_view, gathered}
-use Rattle.pungi_check.proofs.TellLemmas.{told-set}
+use Rattle.pungi_check.proofs.DistinctLemmas.{file-new}
+use Rattle.pungi_check.proofs.RefusedSet.{marked-set}
 use Rattle.pungi_check.proofs.check_unit.refused_set.Goals as goal
 
 pub returns : goal.returns
 returns c =
-    told-set (file_of c.args.names.now) (rows_of c.args.names.now) (map function_view c.args.list.now) c.deref.result.now c.in_ok-marks.marks.items c.in_ok-refused.refused.keys c.requires.listed c.requires.distinct
-    (ap (λ (fs : List CallNode). map node_view fs) c.deref.ensures.value ∙ c.in_ok-graph.ensures) c.in_ok-marks.ensures.least
-    (c.in_ok-refused.ensures ∙ ap (λ (ms : List Bool). gathered [] (map function_view c.args.list.now) ms) c.deref-2.ensures.value)
+    let file = file_of c.args.names.now in
+    marked-set file c.args.graph.now.items c.in_ok-marks.marks.items c.in_ok-refused.refused.keys (file-new file c.requires.none) c.requires.graph (c.in_ok-marks.ensures.least file)
+    (c.in_ok-refused.ensures ∙ ap (λ (ds : List Definition). gathered [] ds c.in_ok-marks.marks.items) c.requires.listed)

@@ -7,5 +7,5 @@ use Rattle.pungi_check.proofs.unit_uses.uses.Given as goal
 
 abbrev pub invariant-loop-i : goal.invariant-loop-i
 invariant-loop-i l =
-    map name_use_view l.out.items ++ definition.uses (file_of l.names) (map item_view (drop l.i-index l.unit.items.items))
-    ≡ definition.uses (file_of l.names) (unit_view l.unit)
+    map name_use_view l.out.items ++ definition.uses (file_of l.names).items (map item_view (drop l.i-index l.unit.items.items))
+    ≡ definition.uses (file_of l.names).items (unit_view l.unit)

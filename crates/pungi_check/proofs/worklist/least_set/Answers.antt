@@ -26,5 +26,5 @@ returns c =
     let r : IsReached c.args.functions.now c.loop-function.marks.items = reaching_done c.args.functions.now c.in_ok-callers.callers.items c.loop-function.marks.items c.loop-function.waiting.items e c.loop-function.invariant in
     record {
       reached = r;
-      least = λ file table g. reached-least file table c.args.functions.now c.loop-function.marks.items (record { graph = g; reached = r });
+      least = λ file g. reached-least file c.args.functions.now c.loop-function.marks.items (record { graph = g; reached = r });
     }

@@ -15,7 +15,7 @@ resolve_body-requires g c =
     let w : Walk = record { locals = c.new.result; next = 0 } in
     let stars : c.len.result ≡ length f.stars.items = omega (arith, c.len.ensures, f.stars.ok.0) in
     let kind : c.type_kind-result_kind.result ≡ result_kind env (definition_view f) =
-    c.type_kind-result_kind.ensures ∙ ap (λ n. type_kind env.file (spec_base (spec_view f.result)) n) stars
+    c.type_kind-result_kind.ensures ∙ ap (λ n. type_kind env.file.items (spec_base (spec_view f.result)) n) stars
     in
     body-holds env f w c.resolve_params.new.walk c.type_kind-result_kind.result c.requires c.new.ensures refl kind c.in_ok-params.ensures.after
 
@@ -26,7 +26,7 @@ returns-clause-function g c =
     let w : Walk = record { locals = c.new.result; next = 0 } in
     let stars : c.len.result ≡ length f.stars.items = omega (arith, c.len.ensures, f.stars.ok.0) in
     let kind : c.type_kind-result_kind.result ≡ result_kind env (definition_view f) =
-    c.type_kind-result_kind.ensures ∙ ap (λ n. type_kind env.file (spec_base (spec_view f.result)) n) stars
+    c.type_kind-result_kind.ensures ∙ ap (λ n. type_kind env.file.items (spec_base (spec_view f.result)) n) stars
     in
     whole env f w c.resolve_params.new.walk c.type_kind-result_kind.result c.new-2.result c.resolve_body.new.walk.next (action_view c.in_ok-body.body) c.new.ensures refl kind c.in_ok-params.ensures.after
     (c.new-2.ensures ∙ c.in_ok-params.ensures.kinds) c.in_ok-body.ensures.locals c.in_ok-body.ensures.action
@@ -38,7 +38,7 @@ returns-clause-sound g c =
     let w : Walk = record { locals = c.new.result; next = 0 } in
     let stars : c.len.result ≡ length f.stars.items = omega (arith, c.len.ensures, f.stars.ok.0) in
     let kind : c.type_kind-result_kind.result ≡ result_kind env (definition_view f) =
-    c.type_kind-result_kind.ensures ∙ ap (λ n. type_kind env.file (spec_base (spec_view f.result)) n) stars
+    c.type_kind-result_kind.ensures ∙ ap (λ n. type_kind env.file.items (spec_base (spec_view f.result)) n) stars
     in
     let e =
     whole env f w c.resolve_params.new.walk c.type_kind-result_kind.result c.new-2.result c.resolve_body.new.walk.next (action_view c.in_ok-body.body) c.new.ensures refl kind c.in_ok-params.ensures.after

@@ -14,7 +14,7 @@ loop-i-preserved c =
     let line : Name × Verdict = (c.name.result, c.in_ok-verdict.verdict) in
     let pushed : c.push.new.self.items ≡ c.loop-i.lines.items ++ line ∷ [] = c.in_ok-push.ensures.items in
     λ more rest.
-    subst (λ (l : List (Name × Verdict)). AllZip (IsJudged view) (definitions view.file) (l ++ more)) (sym pushed)
+    subst (λ (l : List (Name × Verdict)). AllZip (IsJudged view) (definitions view.file.items) (l ++ more)) (sym pushed)
     (judged-next view c.loop-i.i c.name.result c.in_ok-verdict.verdict c.loop-i.lines.items more (omega arith) c.name.ensures c.in_ok-verdict.ensures c.loop-i.invariant rest)
 
 pub returns : goal.returns

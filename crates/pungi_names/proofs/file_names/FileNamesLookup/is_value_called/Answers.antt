@@ -1,7 +1,7 @@
 use Rattle.std.proofs.Common.{◌∙◌, ap}
 use Rattle.pungi_types.specs.Exprs.{callee_of}
 use Rattle.pungi_types.specs.Functions.{file_env}
-use Rattle.pungi_names.specs.NamesView.{file_of, rows_of}
+use Rattle.pungi_names.specs.NamesView.{file_of}
 use Rattle.pungi_names.specs.SeenCalls.{is_value_seen}
 use Rattle.pungi_names.proofs.SeenLemmas.{value-seen}
 use Rattle.pungi_names.proofs.file_names.FileNamesLookup.is_value_called.Goals as goal
@@ -9,5 +9,5 @@ use Rattle.pungi_names.proofs.file_names.FileNamesLookup.is_value_called.Goals a
 pub returns : goal.returns
 returns c =
     let n = c.args.self.now in
-    let env = file_env (file_of n.names.now) (rows_of n.names.now) n.refused.now.keys n.own in
+    let env = file_env (file_of n.names.now) n.refused.now.keys n.own in
     c.is_value.ensures ∙ ap is_value_seen c.called.ensures ∙ value-seen env (callee_of env c.args.word)

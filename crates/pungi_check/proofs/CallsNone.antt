@@ -1,0 +1,35 @@
+-- A function that calls none of the file has the same finding whichever functions are refused.
+use Rattle.std.proofs.Common.{◌≡◌, ℕ, suc, ◌+◌, Bool, true, false, List, [], ◌∷◌, ◌++◌, Option, Some, None, refl, sym, ap, ◌∙◌}
+use Rattle.std.specs.Prelude.{◌==◌, ◌&&◌, if◌then◌else◌}
+use Rattle.pungi_types.specs.Files.{SourceFile, Definition, definitions, definition_in}
+use Rattle.pungi_types.specs.Names.{is_some_definition}
+use Rattle.pungi_types.specs.Functions.{refusal}
+use Rattle.pungi_check.specs.Calls.{called_words}
+use Rattle.pungi_check.specs.Graph.{number_in, found, callees}
+use Rattle.pungi_check.proofs.Places.{World, other_in, refused_call}
+use Rattle.pungi_check.proofs.Agreement.{Agree}
+use Rattle.pungi_check.proofs.SameFunctions.{world_of, refusal-same}
+
+none-defined : (i : ℕ) (ds : List Definition) (w : ℕ) → number_in i ds w ≡ None → definition_in ds w ≡ None
+none-defined i [] w e = refl
+none-defined i (d ∷ ds) w e = elim (d.name.0 == w) as (λ b. (if b then Some i else number_in (i + 1) ds w) ≡ None → (if b then Some d else definition_in ds w) ≡ None) [
+  | true ↦ λ h. absurd (cc)
+  | false ↦ λ h. none-defined (i + 1) ds w h
+] e
+
+none-found : (o : Option ℕ) (js : List ℕ) → found o ++ js ≡ [] → (o ≡ None) × (js ≡ [])
+none-found None js e = (refl, e)
+none-found (Some j) js e = absurd (cc)
+
+not-refused : (x : World) (s : List ℕ) (w : ℕ) → definition_in (definitions x.file.items) w ≡ None → refused_call x s w ≡ false
+not-refused x s w e = ap (λ (o : Option Definition). is_some_definition o && other_in x s w) e
+
+all-agree : (x : World) (s t ws : List ℕ) → callees (number_in 0 (definitions x.file.items)) ws ≡ [] → Agree x s t ws
+all-agree x s t [] e = tt
+all-agree x s t (w ∷ ws) e =
+    let first = none-found (number_in 0 (definitions x.file.items) w) (callees (number_in 0 (definitions x.file.items)) ws) e in
+    let none = none-defined 0 (definitions x.file.items) w first.0 in
+    (not-refused x s w none ∙ sym (not-refused x t w none), all-agree x s t ws first.1)
+
+pub alone-settled : (file : SourceFile) (s : List ℕ) (d : Definition) → callees (number_in 0 (definitions file.items)) (called_words d) ≡ [] → refusal file [] d ≡ refusal file s d
+alone-settled file s d e = refusal-same file [] s d (all-agree (world_of file d) [] s (called_words d) e)

@@ -1,0 +1,38 @@
+//! The codes of a file's functions.
+ghost use Rattle.std.specs.Prelude.{◌≡◌, ◌≤◌, ◌+◌, ◌^◌, map, IfOk};
+ghost use Rattle.pungi_code.specs.WellFormed.{AreWellFormed};
+ghost use Rattle.pungi_layout.specs.Codes.{code_for};
+ghost use Rattle.pungi_lower.specs.Lowered.{AreLowered, names_of};
+ghost use Rattle.pungi_resolve.specs.Resolutions.{IsResolved, resolution_view};
+ghost use Rattle.pungi_types.specs.Refused.{CheckedFile};
+
+use pungi_base::{Memory, Name, Seq};
+use pungi_code::Codes;
+use pungi_emit::lower_functions;
+use pungi_resolved::Function;
+use std::alloc::Global;
+
+/// The codes of functions with these names, over so many static objects. There is none of a function that isn't resolved, and
+/// none of one that calls a function of the file. Where the functions are those of a checked file, a code runs as its function
+/// does, from any entry and with any answers of the outside; it has at most four instructions for each node of the text, and no
+/// temporary is kept where one statement ends and another begins; each code is well-formed, and each global and each field has
+/// one kind in all codes.
+pub fn lower(
+    alloc: Global,
+    functions: &[Option<Function>],
+    names: Seq<Name>,
+    statics: u32,
+) -> Result<Codes, Memory>
+    ensures codes { IfOk result (λ c. c.codes ≡ map code_for (map resolution_view functions.now)) }
+    ensures names { IfOk result (λ c. c.names ≡ names) }
+    ensures statics { IfOk result (λ c. c.statics ≡ statics) }
+    ensures lowered { IfOk result (λ c. (file : CheckedFile) → IsResolved file (map resolution_view functions.now) → AreLowered file c.codes) }
+    ensures well_formed { IfOk result (λ c. (file : CheckedFile) → IsResolved file (map resolution_view functions.now) → names ≡ names_of file → statics ≤ 2 ^ 30 + 24 → AreWellFormed c) }
+{
+    let codes = lower_functions(alloc, functions)?;
+    Ok(Codes {
+        codes,
+        statics,
+        names,
+    })
+}
