@@ -175,7 +175,7 @@ fn look_at(
     rows: &Table,
     list: &Vec<&FunctionDef>,
 ) -> Result<Parts, UnitFault>
-    requires listed { map function_view list.now.items ≡ definitions_of (unit_view unit.now) }
+    requires { map function_view list.now.items ≡ definitions_of (unit_view unit.now) }
     ensures found { IfOk result (λ p. IsFound (source_file texts.now (unit_view unit.now) rows.now) p.names p.found.refused.keys p.found.refusals.items (map resolution_view p.found.resolved.items) p.statics) }
     ensures fault { IfErr result (λ e. IsFaultOf (source_file texts.now (unit_view unit.now) rows.now) e) }
 {

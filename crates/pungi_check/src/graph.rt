@@ -58,10 +58,7 @@ fn node(
     let none = IndexSet::new(alloc);
     let alone = finding(alloc, names, &none, f)?;
     let callees = called(alloc, numbers, f)?;
-    Ok(CallNode {
-        alone,
-        callees,
-    })
+    Ok(CallNode { alone, callees })
 }
 
 /// The nodes of functions, where these are the numbers of all.

@@ -11,7 +11,7 @@ use Rattle.pungi_tree.specs.ExprView.{spec_view, base_view, declr_view, field_vi
 use Rattle.pungi_tree.specs.declared.spec.Base.TheVariants.{Tagged}
 use Rattle.pungi_tree.specs.declared.spec.Field.TheVariants.{Members}
 use Rattle.pungi_tree.specs.declared.declr.Tail.TheViews.{the_lemmas}
-use Rattle.pungi_tree.specs.declared.declr.Tail.TheFolds.{fold_out-Spec, fold_out-Declr, fold_out-Tail, fold_out-Base, fold_out-Field}
+use Rattle.pungi_tree.specs.declared.declr.Tail.TheFolds.{fold_out-Spec, fold_out-Declr, fold_out-Base, fold_out-Field}
 use Rattle.pungi_tree.specs.declared.declr.Declr.{Declr}
 use Rattle.pungi_tree.specs.declared.spec.Field.{Field}
 use Rattle.pungi_tree.specs.declared.spec.Spec.{Spec}

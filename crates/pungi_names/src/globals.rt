@@ -52,11 +52,7 @@ pub(crate) fn note_globals(
 }
 
 #[tactic(auto, using(crate::proofs::SpecLemmas::views))]
-fn note_table(
-    kinds: &Kinds,
-    tables: &mut IndexSet<u32>,
-    variable: &Variable,
-) -> Result<(), Memory>
+fn note_table(kinds: &Kinds, tables: &mut IndexSet<u32>, variable: &Variable) -> Result<(), Memory>
     ensures { OnOk result ((w : ℕ) → contains nat_eq tables.new w ≡ (contains nat_eq tables.old w || ((declr_name (variable_view variable.now).declr).0 == w && is_table_of (unit_view kinds.now.cores.unit.now) (variable_view variable.now)))) }
 {
     if is_table(&kinds.cores, variable.spec, variable.declr) {

@@ -4,14 +4,13 @@
 --   read_as, word_place, word_value, int_value, field_of, or_int, binary_value, assign_value, cast_value, call_value, callee_name, static_behind, module_behind, post_kind,
 --   unary_value         a node from what is known of its parts
 --   resolve env e, place_of env e, resolve_all env ws es    an expression, as a place, and arguments
-use Rattle.std.specs.Prelude.{ℕ, ℤ, pos, Bool, true, false, ◌&&◌, ◌||◌, not, List, ◌∷◌, Option, Some, None, if◌then◌else◌}
+use Rattle.std.specs.Prelude.{ℤ, pos, true, false, ◌&&◌, ◌||◌, not, List, ◌∷◌, Option, Some, None, if◌then◌else◌}
 use Rattle.pungi_base.specs.declared.kind.Kind.{Kind}
 use Rattle.pungi_base.specs.declared.kind.Kind.TheVariants as tokens
 use Rattle.pungi_base.specs.declared.names.Name.{Name}
 use Rattle.pungi_base.specs.declared.pos.Pos.{Pos}
 use Rattle.pungi_base.specs.declared.punct.Punct.{Punct}
 use Rattle.pungi_tree.specs.Syntax.{Expr, word, int, float, char, text, null, paren, unary, post, binary, assign, conditional, comma, cast, size_of_type, call, new, index, dot, arrow, Exprs, no_exprs, expr_and}
-use Rattle.pungi_api.specs.declared.row.Row.{Row}
 use Rattle.pungi_types.specs.Kinds.{type_name_kind}
 use Rattle.pungi_types.specs.Names.{Env, Meaning, a_local, a_global, a_static, meaning_of, static_number}
 use Rattle.pungi_types.specs.Operators.{prefix_of, is_arithmetic, is_order, is_equality, is_arithmetic_assign, is_integer, is_int, is_void, is_same_kind, wider, struct_part}

@@ -2,19 +2,13 @@
 --   param_kinds, params_kinds    the kinds of parameters
 --   first_site env d    where the first parameter stands
 --   resolved_in env d, resolved file refused d    a function
-use Rattle.std.specs.Prelude.{ℕ, ℤ, ◌+◌, pos, List, [], ◌∷◌, Option, Some, None}
-use Rattle.pungi_base.specs.declared.names.Name.{Name}
-use Rattle.pungi_base.specs.declared.pos.Pos.{Pos}
-use Rattle.pungi_tree.specs.Syntax.{Expr, Spec, value, table, VarDecl, var_decl, Decl, decl, ForStart, start_decl, start_expr, Stmt, block, declare, do_expr, if_only, if_else, while, do_while, for, switch, case, default, label, goto, break, continue, return, Stmts, no_stmts, stmt_and, Item, Params, params, ParamDecl, ParamDecls, no_params, param_and, param_decl, named, bare, unused}
-use Rattle.pungi_api.specs.declared.row.Row.{Row}
-use Rattle.pungi_types.specs.Files.{SourceFile, Definition, declr_name, declr_pos}
+use Rattle.std.specs.Prelude.{ℕ, ◌+◌, List, [], ◌∷◌, Option}
+use Rattle.pungi_tree.specs.Syntax.{Item, Params, params, ParamDecls, no_params, param_and, param_decl}
+use Rattle.pungi_types.specs.Files.{SourceFile, Definition}
 use Rattle.pungi_types.specs.Names.{Env}
-use Rattle.pungi_types.specs.Kinds.{declared_kind}
-use Rattle.pungi_types.specs.Exprs.{kind_of, param_kind}
-use Rattle.pungi_types.specs.Labels.{constant_of, stmt_locals}
+use Rattle.pungi_types.specs.Exprs.{param_kind}
 use Rattle.pungi_resolved.specs.Functions.{ResolvedFunction}
 use Rattle.pungi_resolve.specs.Stmts.{Site, params_site, body_action}
-use Rattle.pungi_types.specs.Stmts.{with_local}
 use Rattle.pungi_types.specs.Functions.{file_env, result_kind, params_count, body_locals}
 use Rattle.pungi_types.specs.declared.kind.ValueKind.{ValueKind}
 

@@ -7,11 +7,9 @@
 --   action f s, actions f ss    a statement and statements
 --   body_action p f s   a body, of a function at p
 use Rattle.std.specs.Prelude.{ℕ, ℤ, ◌+◌, pos, List, [], ◌∷◌, Option, Some, None}
-use Rattle.pungi_base.specs.declared.names.Name.{Name}
 use Rattle.pungi_base.specs.declared.pos.Pos.{Pos}
-use Rattle.pungi_tree.specs.Syntax.{Expr, Spec, value, table, VarDecl, var_decl, Decl, decl, ForStart, start_decl, start_expr, Stmt, block, declare, do_expr, if_only, if_else, while, do_while, for, switch, case, default, label, goto, break, continue, return, Stmts, no_stmts, stmt_and, Item, Params, params, ParamDecl, ParamDecls, no_params, param_and, param_decl, named, bare, unused}
-use Rattle.pungi_api.specs.declared.row.Row.{Row}
-use Rattle.pungi_types.specs.Files.{Definition, declr_name, declr_pos}
+use Rattle.pungi_tree.specs.Syntax.{Expr, Spec, value, table, VarDecl, var_decl, Decl, decl, ForStart, start_decl, start_expr, Stmt, block, declare, do_expr, if_only, if_else, while, do_while, for, switch, case, default, label, goto, break, continue, return, Stmts, no_stmts, stmt_and, Params, params, ParamDecl, ParamDecls, no_params, param_and, param_decl, named, bare, unused}
+use Rattle.pungi_types.specs.Files.{declr_name, declr_pos}
 use Rattle.pungi_types.specs.Names.{Env}
 use Rattle.pungi_types.specs.Kinds.{declared_kind}
 use Rattle.pungi_types.specs.Exprs.{kind_of, param_kind}
@@ -20,7 +18,6 @@ use Rattle.pungi_resolve.specs.Exprs.{convert, resolve}
 use Rattle.pungi_resolved.specs.Values.{Value}
 use Rattle.pungi_resolved.specs.Actions.{Reached, Action, block_of, reach, evaluate, test, test_else, repeat_while, repeat_until, repeat_for, switch_on, at_case, at_default, at_label, jump, leave, next_turn, give, Actions, no_actions, action_and}
 use Rattle.pungi_types.specs.Stmts.{with_local}
-use Rattle.pungi_types.specs.Functions.{file_env, result_kind, params_count, body_locals}
 use Rattle.pungi_types.specs.declared.kind.ValueKind.{ValueKind}
 
 -- where a statement stands: the names in force, the number of the next local, and the kind of the function's result

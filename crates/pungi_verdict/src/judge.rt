@@ -61,12 +61,7 @@ fn judge(alloc: Global, codes: &Codes, i: usize, f: &Function) -> Result<Verdict
 }
 
 /// The verdict on a function of a file.
-fn verdict(
-    alloc: Global,
-    checked: &Checked<'_>,
-    codes: &Codes,
-    i: usize,
-) -> Result<Verdict, Memory>
+fn verdict(alloc: Global, checked: &Checked<'_>, codes: &Codes, i: usize) -> Result<Verdict, Memory>
     requires there { i < length (definitions_of (checked_view checked.now).file.items) }
     requires checked { IsChecked checked.now }
     requires codes { codes.now ≡ file_codes (checked_view checked.now) }

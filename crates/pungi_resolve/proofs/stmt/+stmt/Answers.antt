@@ -2,10 +2,10 @@ use Rattle.std.proofs.Common.{◌≡◌, ◌∙◌, ◌<◌, ◌≤◌, ◌+◌,
 use Rattle.std.proofs.lemmas.List.{drop_all}
 use Rattle.pungi_tree.specs.StmtView.{stmt_view, stmts_of, for_start_view}
 use Rattle.pungi_tree.specs.declared.stmt.Stmt.{Stmt}
-use Rattle.pungi_types.specs.Labels.{stmt_locals, stmts_locals}
+use Rattle.pungi_types.specs.Labels.{stmt_locals}
 use Rattle.pungi_resolve.specs.Stmts.{Site, action, actions as actions_in, after}
 use Rattle.pungi_resolved.specs.Actions.{action_and}
-use Rattle.pungi_resolved.specs.ActionView.{action_view, actions_of}
+use Rattle.pungi_resolved.specs.ActionView.{action_view}
 use Rattle.pungi_resolve.specs.Sites.{site_of, after_all}
 use Rattle.pungi_resolve.specs.SoundActions.{IsSoundAction, AreSoundActions}
 use Rattle.pungi_resolve.specs.declared.walk.Walk.{Walk}
