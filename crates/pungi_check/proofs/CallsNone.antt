@@ -1,6 +1,8 @@
 -- A function that calls none of the file has the same finding whichever functions are refused.
-use Rattle.std.proofs.Common.{◌≡◌, ℕ, suc, ◌+◌, Bool, true, false, List, [], ◌∷◌, ◌++◌, Option, Some, None, refl, sym, ap, ◌∙◌}
-use Rattle.std.specs.Prelude.{◌==◌, ◌&&◌, if◌then◌else◌}
+use Rattle.std.proofs.Common.{◌≡◌, ℕ, ◌+◌, true, false, List, [], ◌∷◌, ◌++◌, length, Option, Some, None, Vec, refl, sym, ap, ◌∙◌, arith}
+use Rattle.std.specs.Prelude.{◌==◌, ◌&&◌, vec_len, if◌then◌else◌}
+use Rattle.std.specs.declared.alloc.Global.{Global}
+use Rattle.std.proofs.lemmas.Bool.Decides.{nat_tests}
 use Rattle.pungi_types.specs.Files.{SourceFile, Definition, definitions, definition_in}
 use Rattle.pungi_types.specs.Names.{is_some_definition}
 use Rattle.pungi_types.specs.Functions.{refusal}
@@ -33,3 +35,13 @@ all-agree x s t (w ∷ ws) e =
 
 pub alone-settled : (file : SourceFile) (s : List ℕ) (d : Definition) → callees (number_in 0 (definitions file.items)) (called_words d) ≡ [] → refusal file [] d ≡ refusal file s d
 alone-settled file s d e = refusal-same file [] s d (all-agree (world_of file d) [] s (called_words d) e)
+
+none-long : (js : List ℕ) → length js ≡ 0 → js ≡ []
+none-long [] e = refl
+none-long (j ∷ js) e = absurd (cc)
+
+is-zero : (n : ℕ) → true ≡ (n == 0) → n ≡ 0
+is-zero n e = grind (arith, nat_tests)
+
+pub none-of : (v : Vec ℕ Global) → true ≡ (vec_len v == 0) → v.items ≡ []
+none-of v e = none-long v.items (let zero-long : v.len ≡ 0 = is-zero v.len e in let ok = v.ok in cc)

@@ -4,8 +4,6 @@ use Rattle.std.specs.Prelude.{◌==◌, ◌&&◌, ◌||◌, slice_get, if◌then
 use Rattle.std.proofs.lemmas.Bool.Decides.{nat_tests}
 use Rattle.pungi_base.specs.declared.names.Name.{Name}
 use Rattle.pungi_base.specs.declared.pos.Pos.{Pos}
-use Rattle.pungi_tree.specs.Syntax.{Item}
-use Rattle.pungi_api.specs.declared.row.Row.{Row}
 use Rattle.pungi_types.specs.Files.{SourceFile, Definition, definitions, Typedef, typedefs}
 use Rattle.pungi_types.specs.Findings.{Findings, nothing_found, one_found, ◌and◌, when, is_before, earlier, least_from, least}
 use Rattle.pungi_types.specs.Names.{is_among, with_word}
@@ -106,8 +104,3 @@ fault-of file f u is one two = ⊎_elim
     (λ (e : f.rule.0 ≡ 1). subst (λ (v : UnitFault). IsFaultOf file v) (sym (one e)) (sym is ∙ ap (λ (n : ℕ). told f.pos n) e))
     (λ (e : f.rule.0 ≡ 2). subst (λ (v : UnitFault). IsFaultOf file v) (sym (two e)) (sym is ∙ ap (λ (n : ℕ). told f.pos n) e))
     (fault-rule file f (sym is))
-
--- what holds of a file holds of the file that it is
-pub of-file-seen : (P : SourceFile → Type 0) (file seen : List Item) (rows others : List (ℕ × Row)) → (seen ≡ file) × (others ≡ rows) → P seen others → P file
-of-file-seen P file seen rows others same p =
-    subst (λ (xs : List Item). P xs rows) same.0 (subst (λ (ys : List (ℕ × Row)). P seen ys) same.1 p)

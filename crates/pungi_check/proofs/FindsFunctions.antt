@@ -2,8 +2,7 @@
 use Rattle.std.proofs.Common.{◌≡◌, ℕ, true, List, [], Option, Some, None, refl}
 use Rattle.std.specs.Prelude.{is_some}
 use Rattle.std.specs.List.{list_any}
-use Rattle.pungi_tree.specs.Syntax.{Item, Stmt, block}
-use Rattle.pungi_api.specs.declared.row.Row.{Row}
+use Rattle.pungi_tree.specs.Syntax.{Stmt, block}
 use Rattle.pungi_types.specs.declared.finding.Finding.{Finding}
 use Rattle.pungi_types.specs.Files.{SourceFile, Definition}
 use Rattle.pungi_types.specs.Findings.{Findings, least}

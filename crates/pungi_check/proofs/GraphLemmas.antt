@@ -2,8 +2,6 @@
 use Rattle.std.proofs.Common.{◌≡◌, ◌≤◌, ℕ, zero, suc, ◌+◌, Bool, true, false, List, [], ◌∷◌, length, map, Option, Some, None, refl, sym, ap, subst, ◌∙◌, arith}
 use Rattle.std.specs.Prelude.{◌==◌, ◌||◌, slice_get, is_some, option_map, if◌then◌else◌}
 use Rattle.std.proofs.lemmas.Bool.Decides.{nat_tests}
-use Rattle.pungi_tree.specs.Syntax.{Item}
-use Rattle.pungi_api.specs.declared.row.Row.{Row}
 use Rattle.pungi_types.specs.Files.{SourceFile, Definition, definitions}
 use Rattle.pungi_types.specs.Names.{is_among, with_word}
 use Rattle.pungi_check.specs.Calls.{called_words}

@@ -3,8 +3,6 @@ use Rattle.std.proofs.Common.{◌≡◌, ℕ, Bool, true, false, List, [], ◌�
 use Rattle.std.specs.Prelude.{◌==◌, ◌&&◌, ◌||◌, not, is_some}
 use Rattle.std.specs.List.{list_any}
 use Rattle.std.proofs.lemmas.Bool.Decides.{nat_tests}
-use Rattle.pungi_tree.specs.Syntax.{Item}
-use Rattle.pungi_api.specs.declared.row.Row.{Row}
 use Rattle.pungi_types.specs.Files.{SourceFile, Definition, definitions, definition_in}
 use Rattle.pungi_types.specs.Names.{is_among, is_some_definition}
 use Rattle.pungi_types.specs.Functions.{refusal}

@@ -1,9 +1,9 @@
 -- Where no name stands twice, each definition is the first of its name.
 use Rattle.std.proofs.Common.{◌≡◌, ℕ, Bool, true, false, List, [], ◌∷◌, Some, sym, ap, subst, ◌∙◌}
 use Rattle.std.specs.Prelude.{◌==◌, if◌then◌else◌}
-use Rattle.pungi_types.specs.Files.{Definition, definition_in}
+use Rattle.pungi_types.specs.Files.{Definition, definition_in, AreOwn}
 use Rattle.pungi_types.specs.Names.{is_among, with_word}
-use Rattle.pungi_check.specs.Distinct.{are_new, AreOwn}
+use Rattle.pungi_check.specs.Distinct.{are_new}
 use Rattle.pungi_check.proofs.DistinctLemmas.{and-left, and-right, kept, keeps, not-both, is-false, is_word, same_word}
 
 abbrev AreOthers : ℕ → List Definition → Type 0

@@ -1,16 +1,12 @@
 -- The refused functions of a file, from its call graph and the marks of the worklist.
 use Rattle.std.proofs.Common.{◌≡◌, ℕ, Bool, true, List, [], ◌∷◌, ◌++◌, map, Option, refl, sym, ap, subst, ◌∙◌}
-use Rattle.pungi_tree.specs.Syntax.{Item}
-use Rattle.pungi_api.specs.declared.row.Row.{Row}
 use Rattle.pungi_types.specs.Files.{SourceFile, Definition, definitions}
-use Rattle.pungi_types.specs.Functions.{refusal}
 use Rattle.pungi_types.specs.Refused.{IsRefusedSet}
-use Rattle.pungi_types.specs.declared.finding.Finding.{Finding}
 use Rattle.pungi_check.specs.Calls.{called_words}
 use Rattle.pungi_check.specs.CallGraph.{IsCallGraph, refused_names}
 use Rattle.pungi_check.specs.declared.call_node.CallNode.{CallNode}
 use Rattle.pungi_check.specs.Distinct.{are_new}
-use Rattle.pungi_check.specs.Graph.{number_in, found, callees, Node, node_view, node_of, graph_of, gathered}
+use Rattle.pungi_check.specs.Graph.{found, callees, Node, node_view, node_of, graph_of, gathered}
 use Rattle.pungi_check.proofs.DistinctLemmas.{refused-gathered}
 use Rattle.pungi_check.proofs.GraphLemmas.{call-graph}
 

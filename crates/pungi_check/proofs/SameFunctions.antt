@@ -1,7 +1,6 @@
 -- A function is refused alike under two sets of refused functions that agree on the words that it calls.
 use Rattle.std.proofs.Common.{◌≡◌, ℕ, List, [], refl, ap}
-use Rattle.pungi_tree.specs.Syntax.{Item, Params, params, param_decl, ParamDecls, no_params, param_and, named, bare, unused, Stmt, block}
-use Rattle.pungi_api.specs.declared.row.Row.{Row}
+use Rattle.pungi_tree.specs.Syntax.{Params, params, param_decl, ParamDecls, no_params, param_and, named, bare, unused, Stmt, block}
 use Rattle.pungi_types.specs.Files.{SourceFile, Definition}
 use Rattle.pungi_types.specs.Findings.{Findings, least}
 use Rattle.pungi_types.specs.Stmts.{Frame, in_block}

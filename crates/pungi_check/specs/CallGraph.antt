@@ -7,8 +7,6 @@
 --   IsCallGraph file fs    the functions are those of the file
 --   refused_names ds marks  the names of the marked definitions
 use Rattle.std.specs.Prelude.{◌≡◌, ℕ, Bool, true, false, IsTrue, List, [], ◌∷◌, length, get_or, slice_get, Option, Some, None, is_some}
-use Rattle.pungi_tree.specs.Syntax.{Item}
-use Rattle.pungi_api.specs.declared.row.Row.{Row}
 use Rattle.pungi_types.specs.Files.{SourceFile, Definition, definitions}
 use Rattle.pungi_types.specs.Names.{is_among}
 use Rattle.pungi_types.specs.Functions.{refusal}

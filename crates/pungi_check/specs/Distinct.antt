@@ -1,7 +1,7 @@
 -- Functions of distinct names.
 --   are_new ws ds      no definition has the name of an earlier one, or one of these
-use Rattle.std.specs.Prelude.{◌≡◌, ℕ, Bool, true, ◌&&◌, not, List, [], ◌∷◌, Some}
-use Rattle.pungi_types.specs.Files.{Definition, definition_in}
+use Rattle.std.specs.Prelude.{ℕ, Bool, true, ◌&&◌, not, List, [], ◌∷◌}
+use Rattle.pungi_types.specs.Files.{Definition}
 use Rattle.pungi_types.specs.Names.{is_among, with_word}
 
 abbrev pub are_new : List ℕ → List Definition → Bool

@@ -1,10 +1,8 @@
 -- Why a file is refused.
 --   told p n            the finding of this place and number
 --   IsFaultOf file fault    the first fault in the text, and at one place the lower number: 1 a duplicate name, 2 the 4,097th function
-use Rattle.std.specs.Prelude.{◌≡◌, ℕ, List, Option, Some}
+use Rattle.std.specs.Prelude.{◌≡◌, ℕ, Option, Some}
 use Rattle.pungi_base.specs.declared.pos.Pos.{Pos}
-use Rattle.pungi_tree.specs.Syntax.{Item}
-use Rattle.pungi_api.specs.declared.row.Row.{Row}
 use Rattle.pungi_types.specs.Files.{SourceFile}
 use Rattle.pungi_types.specs.Findings.{least}
 use Rattle.pungi_check.specs.Duplicates.{faults}

@@ -24,11 +24,11 @@ pub record IsFound (file : SourceFile) (names : List Name) (refused : List ℕ) 
   pub few : length (definitions file.items) ≤ 4096
   pub own : AreOwn (definitions file.items) (definitions file.items)
   pub set : IsRefusedSet file refused
-  pub names : names ≡ map (λ d. d.name) (definitions file.items)
-  pub refusals : refusals ≡ map (refusal file refused) (definitions file.items)
-  pub resolved : resolved ≡ map (resolution_of file refused) (definitions file.items)
+  pub names_are : names ≡ map (λ d. d.name) (definitions file.items)
+  pub refusals_are : refusals ≡ map (refusal file refused) (definitions file.items)
+  pub resolved_are : resolved ≡ map (resolution_of file refused) (definitions file.items)
   pub rows : IsTrue (are_rows file.rows)
-  pub statics : statics ≡ 24 + length (type_objects file.items)
+  pub statics_are : statics ≡ 24 + length (type_objects file.items)
   pub few_statics : statics ≤ 2 ^ 30 + 24
 
 abbrev pub checked_view : Checked → CheckedFile

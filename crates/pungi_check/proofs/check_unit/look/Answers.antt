@@ -1,6 +1,5 @@
-use Rattle.std.proofs.Common.{List, map, ap, ◌∙◌}
+use Rattle.std.proofs.Common.{List, [], map, ap, ◌∙◌}
 use Rattle.std.specs.Borrow.{Bor}
-use Rattle.pungi_base.specs.declared.names.Name.{Name}
 use Rattle.pungi_tree.specs.declared.item.FunctionDef.{FunctionDef}
 use Rattle.pungi_declared.specs.DeclaredView.{function_view}
 use Rattle.pungi_names.specs.NamesView.{file_of}
@@ -18,10 +17,11 @@ returns-clause-found c =
       few = file-few file none;
       own = all-own [] (definitions file.items) (file-new file none);
       set = c.in_ok-found.ensures.set;
-      names = c.in_ok-own.ensures ∙ ap (λ (ds : List Definition). map (λ (d : Definition). d.name) ds) c.requires.listed;
-      refusals = c.in_ok-found.ensures.refusals;
-      resolved = c.in_ok-found.ensures.resolved;
+      names_are = c.in_ok-own.ensures ∙ ap (λ (list : List (Bor FunctionDef)). map (λ (d : Definition). d.name) (map function_view list)) c.deref.ensures.value
+          ∙ ap (λ (ds : List Definition). map (λ (d : Definition). d.name) ds) c.requires.listed;
+      refusals_are = c.in_ok-found.ensures.refusals;
+      resolved_are = c.in_ok-found.ensures.resolved;
       rows = c.requires.rows;
-      statics = c.in_ok-statics.ensures.counted;
+      statics_are = c.in_ok-statics.ensures.counted;
       few_statics = c.in_ok-statics.ensures.few;
     }

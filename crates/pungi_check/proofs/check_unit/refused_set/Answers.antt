@@ -11,5 +11,8 @@ use Rattle.pungi_check.proofs.check_unit.refused_set.Goals as goal
 pub returns : goal.returns
 returns c =
     let file = file_of c.args.names.now in
-    marked-set file c.args.graph.now.items c.in_ok-marks.marks.items c.in_ok-refused.refused.keys (file-new file c.requires.none) c.requires.graph (c.in_ok-marks.ensures.least file)
-    (c.in_ok-refused.ensures ∙ ap (λ (ds : List Definition). gathered [] ds c.in_ok-marks.marks.items) c.requires.listed)
+    let marks = c.in_ok-marks.marks.items in
+    marked-set file c.deref.result.now marks c.in_ok-refused.refused.keys (file-new file c.requires.none)
+    (ap (λ (fs : List CallNode). map node_view fs) c.deref.ensures.value ∙ c.requires.graph) (c.in_ok-marks.ensures.least file)
+    (c.in_ok-refused.ensures ∙ ap (λ (ms : List Bool). gathered [] (map function_view c.args.list.now) ms) c.deref-2.ensures.value
+    ∙ ap (λ (ds : List Definition). gathered [] ds marks) c.requires.listed)

@@ -3,7 +3,7 @@ use Rattle.indexmap.specs.IndexMap.{get}
 use Rattle.pungi_declared.specs.DeclaredView.{function_view}
 use Rattle.pungi_names.specs.NamesView.{file_of}
 use Rattle.pungi_check.specs.Graph.{Node, node_view, number_in}
-use Rattle.pungi_check.proofs.TellLemmas.{graph-same}
+use Rattle.pungi_check.proofs.RefusedSet.{graph-same}
 use Rattle.pungi_check.proofs.graph.graph.Goals as goal
 
 pub returns : goal.returns
