@@ -1,5 +1,5 @@
 #!/usr/bin/env python3
-"""Compares the worked runs of crates/pungi_meaning/proofs/Worked*.antt with what a C compiler's program computes.
+"""Compares the worked runs of crates/pungi_lower/proofs/Worked*.antt with what a C compiler's program computes.
 
 Each run there stands below its function's text. Those that use integers alone and return are compiled, called with the
 run's arguments, and must give the run's value. Runs that stop have no value in C, and are left out.
@@ -12,7 +12,7 @@ import subprocess
 import sys
 import tempfile
 
-WORKED = pathlib.Path(__file__).parent.parent / "crates/pungi_meaning/proofs"
+WORKED = pathlib.Path(__file__).parent.parent / "crates/pungi_lower/proofs"
 RUN = re.compile(r"^run_\d+ : told \(last_run file_\d+ \d+ (\(.*\)) (\(.*\)) \d+\) ≡ gives \(Some \(value\.Int \((.*?)\)\)\) ")
 NUMBER = re.compile(r"value\.Int \((pos|negsuc) (\d+)\)")
 # C leaves these open: a quotient past its range (C11 6.5.5), and changes of one variable in no order (6.5).
@@ -71,7 +71,7 @@ def values_by(compiler, source, folder):
 
 
 def main():
-    runs = [run for path in sorted(WORKED.glob("Worked*.antt")) for run in worked_runs(path)]
+    runs = [run for path in sorted(WORKED.glob("Worked[OS]*.antt")) for run in worked_runs(path)]
     status = 0
     for compiler in sys.argv[1:] or ["cc"]:
         with tempfile.TemporaryDirectory() as folder:

@@ -158,8 +158,8 @@ fn reports(rt: HostRuntime) -> Result<(), Fail> {
     Ok(())
 }
 
-/// Files with a whole report: an object struct, a static type object, a global, a prototype and three functions; and
-/// functions without a static.
+/// Files with a whole report: an object struct, a static type object, a global, a prototype and three functions; tables
+/// with the names of statics; and functions without a static.
 const WHOLE: &[(&str, u8, &str)] = &[
     (
         concat!(
@@ -178,6 +178,23 @@ const WHOLE: &[(&str, u8, &str)] = &[
             "faulty keep 7:40 object 25 change 1 escaped 0\n",
             "  objects 26\n",
             "  argument object 25\n",
+        ),
+    ),
+    (
+        concat!(
+            "static PyTypeObject Py_None = { 1 };\n",
+            "static PyMethodDef Py_True[] = { { 0 } };\n",
+            "PyObject *a(void) { return Py_None; }\n",
+            "PyObject *b(void) { return Py_True; }\n",
+            "void c(void) { Py_None(); }\n",
+            "void d(void) { Py_True(); }\n",
+        ),
+        2,
+        concat!(
+            "refused a 3:28 N9\n",
+            "refused b 4:28 N9\n",
+            "refused c 5:16 N9\n",
+            "refused d 6:16 N9\n",
         ),
     ),
     (
@@ -256,6 +273,19 @@ const REFUSALS: &[(&str, &str)] = &[
         "static int odd;\nint odd(int n) { return n & 1; }",
         "file refused 2:5 duplicate name\n",
     ),
+    (
+        "void BoxType(void) { }\nstatic PyTypeObject BoxType;",
+        "file refused 2:21 duplicate name\n",
+    ),
+    (
+        "static int BoxType;\nstatic PyTypeObject BoxType = { 1 };",
+        "file refused 2:21 duplicate name\n",
+    ),
+    (
+        "static PyTypeObject BoxType;\nint BoxType(void) { return 1; }",
+        "file refused 2:5 duplicate name\n",
+    ),
+    ("void Py_None(void) { }", "file refused 1:6 duplicate name\n"),
 ];
 
 #[test]

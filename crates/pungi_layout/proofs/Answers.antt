@@ -1,5 +1,5 @@
 -- What the world answers: a load has a value, and a call of the API has one where its row says so.
-use Rattle.std.proofs.Common.{◌≡◌, ℕ, ℤ, pos, negsuc, List, length, Option, Some, None, Result, Ok, Err, refl, sym, ap, ◌∙◌, subst, Bool, true, false, if◌then◌else◌}
+use Rattle.std.proofs.Common.{◌≡◌, ℕ, ℤ, pos, negsuc, List, length, Option, Some, None, Result, Ok, Err, refl, sym, ap, subst, Bool, true, false, if◌then◌else◌}
 use Rattle.pungi_base.specs.declared.choice.Choice.{Choice}
 use Rattle.pungi_base.specs.declared.value.Value.{Value}
 use Rattle.pungi_api.specs.declared.answer.Answer.{Answer}
@@ -22,7 +22,7 @@ use Rattle.pungi_world.specs.declared.world.World.{World}
 use Rattle.pungi_world.specs.Effects.{◌>>=◌, effect}
 use Rattle.pungi_world.specs.Counts.{counted_value}
 use Rattle.pungi_world.specs.Choices.{chosen, answer_of}
-use Rattle.pungi_world.specs.Calls.{stops, plain_world, plain_effect, lacks, counting, first_of, special_effect, form_effect, call_effect}
+use Rattle.pungi_world.specs.Calls.{stops, plain_world, lacks, counting, first_of, special_effect, form_effect, call_effect}
 use Rattle.pungi_api.specs.declared.shape.Shape.{Shape}
 use Rattle.pungi_layout.specs.Parts.{has_value, has_own_value, gives_form, gives_answer}
 use Rattle.pungi_world.specs.Slots.{slot_at, touched, loaded, load_effect}

@@ -1,11 +1,9 @@
 -- No temporary is kept at a loop's head, nor where one statement's instructions end and another's begin.
-use Rattle.std.proofs.Common.{◌≡◌, ◌⊎◌, inl, inr, ℕ, zero, suc, ◌+◌, ◌*◌, ◌<◌, ◌≤◌, ◌==◌, List, [], ◌∷◌, ◌++◌, length, Option, Some, None, refl, sym, ap, ◌∙◌, subst, arith, Bool, true, false, if◌then◌else◌}
+use Rattle.std.proofs.Common.{◌≡◌, ◌⊎◌, inl, inr, ℕ, zero, suc, ◌+◌, ◌*◌, ◌≤◌, ◌==◌, List, [], ◌∷◌, ◌++◌, length, Option, Some, None, refl, sym, ap, ◌∙◌, subst, arith, Bool, true, false, if◌then◌else◌}
 use Rattle.std.specs.Prelude.{slice_get, nat_le, ◌&&◌, ◌||◌, is_some}
 use Rattle.std.proofs.lemmas.Bool.{eqb-true, leb-true}
-use Rattle.pungi_base.specs.declared.names.Name.{Name}
 use Rattle.pungi_base.specs.declared.pos.Pos.{Pos}
 use Rattle.pungi_types.specs.Operators.{is_void}
-use Rattle.pungi_resolved.specs.Values as expr
 use Rattle.pungi_resolved.specs.Actions as stmt
 use Rattle.pungi_resolved.specs.Functions.{ResolvedFunction}
 use Rattle.pungi_meaning.specs.Run.{closing}
@@ -15,25 +13,24 @@ use Rattle.pungi_meaning.specs.Work.{declared}
 use Rattle.pungi_code.specs.declared.code.Head.{Head}
 use Rattle.pungi_code.specs.declared.code.Line.{Line}
 use Rattle.pungi_code.specs.declared.instr.Instr.{Instr}
-use Rattle.pungi_code.specs.declared.instr.Instr.TheVariants.{Set, Arith, Fit, Compare, Load, Store, Api, Call, Unset, Jump, Branch, Return, Fall}
-use Rattle.pungi_code.specs.declared.instr.Label.{Label}
+use Rattle.pungi_code.specs.declared.instr.Instr.TheVariants.{Jump, Branch}
 use Rattle.pungi_code.specs.WellFormed.{targets}
 use Rattle.pungi_layout.specs.declared.mark.Mark.{Mark}
 use Rattle.pungi_layout.specs.declared.mark.Mark.TheVariants.{OfLoop, OfLabel}
 use Rattle.pungi_layout.specs.Sizes.{expr_size, option_size, reach_size, test_size, stmt_size, stmts_size}
-use Rattle.pungi_layout.specs.ExprCode.{line, to_var, var, at_label}
+use Rattle.pungi_layout.specs.ExprCode.{line, at_label}
 use Rattle.pungi_layout.specs.Scopes.{Env, everywhere, for_head, list_cases, in_block, in_loop, in_switch}
 use Rattle.pungi_layout.specs.StmtCode.{unset_code, value_code, option_code, reach_code, test_code, tested_code, case_code, stmt_code, stmts_code, end_code, body_code}
 use Rattle.pungi_layout.specs.Sound.{IsStmtSound, AreStmtsSound}
-use Rattle.pungi_layout.specs.Heads.{head_at, stmt_marks, stmts_marks, loop_pos, label_pos, names, leads_back, pos_or, back_pos, head_pos, found_head, heads_below, heads_of}
+use Rattle.pungi_layout.specs.Heads.{stmt_marks, stmts_marks, loop_pos, label_pos, names, leads_back, back_pos, head_pos, found_head, heads_below, heads_of}
 use Rattle.pungi_layout.specs.Liveness.{Among, following, AreDead}
-use Rattle.pungi_layout.specs.Boundaries.{own, parts, IsAmong, IsPart, ShareStatement, IsHead, KeepsNothing}
+use Rattle.pungi_layout.specs.Boundaries.{own, parts, IsAmong, IsPart, IsHead, KeepsNothing}
 use Rattle.pungi_layout.proofs.StmtLengths.{unset_long, value_long, option_long, reach_long, test_long, tested_long, case_long, cases_long, stmt_long}
 use Rattle.pungi_layout.proofs.Relation.{switch_first}
 use Rattle.pungi_layout.proofs.PlacedExprs.{HasAt, has_cut, has_all}
 use Rattle.pungi_layout.proofs.LivenessLemmas.{by_line}
-use Rattle.pungi_layout.proofs.LivenessStmts.{Dead, EnvBelow, switch_below, option_dead, jump_dead, reach_dead, loop_dead, inside_dead, inner_below, front, starts_dead, stmt_dead, list_label_dead}
-use Rattle.pungi_layout.proofs.BoundaryExprs.{Inside, Fine, EachFine, AllFine, all_append}
+use Rattle.pungi_layout.proofs.LivenessStmts.{Dead, EnvBelow, switch_below, jump_dead, loop_dead, inside_dead, inner_below, front, starts_dead, stmt_dead, list_label_dead}
+use Rattle.pungi_layout.proofs.BoundaryExprs.{Fine, EachFine, AllFine, all_append}
 use Rattle.pungi_layout.proofs.BoundaryStmts.{EnvAll, stmt_fine}
 
 module _ (code : List Line) (nl : ℕ) where

@@ -1,32 +1,29 @@
 -- An instruction of a statement leads to one of the same statement, further on, or to where no temporary is kept.
-use Rattle.std.proofs.Common.{◌≡◌, ◌⊎◌, inl, inr, ℕ, zero, suc, ◌+◌, ◌*◌, ◌<◌, ◌≤◌, ℤ, List, [], ◌∷◌, ◌++◌, length, Option, Some, None, refl, sym, ap, ◌∙◌, subst, arith, Bool, true, false, if◌then◌else◌}
+use Rattle.std.proofs.Common.{◌≡◌, inl, inr, ℕ, suc, ◌+◌, ◌*◌, ℤ, List, [], ◌∷◌, ◌++◌, length, Option, Some, None, refl, sym, ap, ◌∙◌, subst, arith}
 use Rattle.std.specs.Prelude.{slice_get}
 use Rattle.pungi_base.specs.declared.pos.Pos.{Pos}
 use Rattle.pungi_types.specs.declared.kind.ValueKind.{ValueKind}
 use Rattle.pungi_resolved.specs.Values as expr
 use Rattle.pungi_resolved.specs.Actions as stmt
-use Rattle.pungi_meaning.specs.declared.cmp.Cmp.TheVariants as cmps
 use Rattle.pungi_meaning.specs.Stmts.{block_cases}
 use Rattle.pungi_meaning.specs.Todo.{listed}
 use Rattle.pungi_meaning.specs.Work.{declared}
-use Rattle.pungi_code.specs.declared.atom.Atom.TheVariants as atom
 use Rattle.pungi_code.specs.declared.code.Line.{Line}
-use Rattle.pungi_code.specs.declared.instr.Instr.{Instr}
-use Rattle.pungi_code.specs.declared.instr.Instr.TheVariants.{Set, Compare, Jump, Branch, Return, Unset}
+use Rattle.pungi_code.specs.declared.instr.Instr.TheVariants.{Set, Jump}
 use Rattle.pungi_layout.specs.Sizes.{expr_size, option_size, reach_size, test_size, stmt_size, stmts_size}
 use Rattle.pungi_layout.specs.Temporaries.{temp, temp_of, operand, local_column}
 use Rattle.pungi_layout.specs.ExprCode.{line, to_var, var, at_label, expr_code}
 use Rattle.pungi_layout.specs.Scopes.{Env, label_or, for_head, list_cases, list_default, in_block, in_loop, in_switch}
 use Rattle.pungi_layout.specs.StmtCode.{unset_code, value_code, option_code, bind_code, reach_code, test_code, tested_code, case_code, stmt_code, stmts_code}
-use Rattle.pungi_layout.specs.Sound.{IsSound, IsWanted, IsOptionSound, IsOptionWanted, AreReached, IsStmtSound, AreStmtsSound}
-use Rattle.pungi_layout.specs.Liveness.{following, AreDead}
+use Rattle.pungi_layout.specs.Sound.{IsWanted, IsOptionSound, IsOptionWanted, AreReached, IsStmtSound, AreStmtsSound}
+use Rattle.pungi_layout.specs.Liveness.{AreDead}
 use Rattle.pungi_layout.specs.Boundaries.{expr_positions, option_positions, reach_positions, own, parts, parts_of, IsAmong, IsPart}
 use Rattle.pungi_layout.proofs.Lengths.{expr_long}
-use Rattle.pungi_layout.proofs.StmtLengths.{unset_long, value_long, option_long, bind_long, reach_long, test_long, tested_long, case_long, cases_long, stmt_long, stmts_long}
+use Rattle.pungi_layout.proofs.StmtLengths.{unset_long, value_long, option_long, bind_long, reach_long, test_long, tested_long, case_long, cases_long, stmt_long}
 use Rattle.pungi_layout.proofs.Relation.{switch_first}
 use Rattle.pungi_layout.proofs.PlacedExprs.{HasAt, has_cut}
 use Rattle.pungi_layout.proofs.LivenessStmts.{Dead, EnvBelow, switch_below, option_dead, jump_dead, reach_dead, loop_dead, inside_dead, CasesDead, cases_dead, default_dead, inner_below, front, starts_dead, stmt_dead, list_label_dead}
-use Rattle.pungi_layout.proofs.BoundaryExprs.{Covers, covers_front, covers_back, Inside, Fine, EachFine, AllFine, all_append, fine_at, Exit, exit_at, leap, step, here, one_fine, expr_enters, expr_fine}
+use Rattle.pungi_layout.proofs.BoundaryExprs.{Covers, covers_front, covers_back, AllFine, all_append, fine_at, Exit, exit_at, leap, step, here, one_fine, expr_fine}
 
 part_front : (a : stmt.Action) (xs ys : List stmt.Action) → IsPart a xs → IsPart a (xs ++ ys)
 part_front a [] ys m = absurd m

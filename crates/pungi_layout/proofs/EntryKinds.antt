@@ -1,15 +1,14 @@
 -- An entry fits the code of a function exactly where it fits the function.
-use Rattle.std.proofs.Common.{◌≡◌, ℕ, zero, suc, ◌+◌, List, [], ◌∷◌, ◌++◌, length, map, take, Option, Some, None, refl, sym, ap, ◌∙◌, Bool, true, false, ◌&&◌}
-use Rattle.std.specs.Prelude.{ℤ, nat_lt, nat_le, ◌^◌, ◌≤◌}
+use Rattle.std.proofs.Common.{◌≡◌, ℕ, suc, List, [], ◌∷◌, ◌++◌, length, map, take, Option, Some, None, refl, ap, ◌∙◌, Bool, true, false, ◌&&◌}
+use Rattle.std.specs.Prelude.{nat_lt, nat_le, ◌^◌}
 use Rattle.pungi_base.specs.declared.entry.Entry.{Entry}
 use Rattle.pungi_base.specs.declared.value.Value.{Value}
 use Rattle.pungi_base.specs.declared.value.Value.TheVariants as value
 use Rattle.pungi_api.specs.declared.param.Param.{Param}
 use Rattle.pungi_types.specs.declared.kind.ValueKind.{ValueKind}
 use Rattle.pungi_types.specs.declared.kind.ValueKind.TheVariants as kinds
-use Rattle.pungi_resolved.specs.Functions.{ResolvedFunction}
-use Rattle.pungi_meaning.specs.Entries.{fits_kind, fits_param, fit_params, entry_fits}
-use Rattle.pungi_code.specs.Entries.{holds_value, hold_values, code_fits}
+use Rattle.pungi_meaning.specs.Entries.{fits_param, fit_params, entry_fits}
+use Rattle.pungi_code.specs.Entries.{holds_value, hold_values}
 use Rattle.pungi_layout.specs.VarKinds.{held_kind}
 
 held_alike : (n : ℕ) (k : Option ValueKind) (v : Value) → holds_value n (held_kind k) v ≡ fits_param n k v

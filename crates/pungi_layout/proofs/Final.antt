@@ -1,5 +1,5 @@
 -- The code of a function behaves as the function.
-use Rattle.std.proofs.Common.{◌≡◌, ℕ, zero, suc, ◌+◌, ◌-◌, ◌*◌, ◌<◌, ◌≤◌, List, [], ◌∷◌, ◌++◌, length, map, replicate, refl, sym, ap, ◌∙◌, subst, arith, length-append, Bool, true, false}
+use Rattle.std.proofs.Common.{◌≡◌, ℕ, zero, suc, ◌+◌, ◌-◌, ◌*◌, ◌≤◌, List, [], ◌∷◌, ◌++◌, length, map, replicate, refl, sym, ap, ◌∙◌, arith, length-append, Bool, true, false}
 use Rattle.pungi_base.specs.declared.choice.Choice.{Choice}
 use Rattle.pungi_base.specs.declared.entry.Entry.{Entry}
 use Rattle.pungi_base.specs.declared.pos.Pos.{Pos}
@@ -11,15 +11,13 @@ use Rattle.pungi_world.specs.declared.content.Content.TheVariants.{Unset, Holds}
 use Rattle.pungi_meaning.specs.Run.{closing, start, body_of}
 use Rattle.pungi_meaning.specs.Work.{content_at}
 use Rattle.pungi_code.specs.declared.code.Line.{Line}
-use Rattle.pungi_code.specs.Alike.{Alike}
 use Rattle.pungi_layout.specs.Sizes.{stmt_size}
 use Rattle.pungi_layout.specs.Scopes.{everywhere}
 use Rattle.pungi_layout.specs.StmtCode.{stmt_code, end_code, body_code}
 use Rattle.pungi_layout.specs.Weights.{stmt_weight}
 use Rattle.pungi_layout.specs.Sound.{IsStmtSound, stmt_nodes}
-use Rattle.pungi_layout.specs.Correct.{temps_of, first_regs, source, target, Behaves}
-use Rattle.pungi_layout.proofs.Relation.{EndAt, IsAt}
-use Rattle.pungi_layout.proofs.Match.{Match}
+use Rattle.pungi_layout.specs.Correct.{temps_of, first_regs, Behaves}
+use Rattle.pungi_layout.proofs.Relation.{EndAt}
 use Rattle.pungi_layout.proofs.Steps.{At}
 use Rattle.pungi_layout.proofs.Whole.{alike}
 use Rattle.pungi_layout.proofs.WeightCounts.{stmt_light}

@@ -1,16 +1,15 @@
 -- Where `break`, `continue` and `goto` lead in the code.
-use Rattle.std.proofs.Common.{◌≡◌, ℕ, zero, suc, ◌+◌, ◌==◌, ◌⊎◌, List, [], ◌∷◌, drop, length, Option, Some, None, refl, sym, ap, ◌∙◌, subst, arith, inl, inr, Bool, true, false, if◌then◌else◌}
+use Rattle.std.proofs.Common.{◌≡◌, ℕ, zero, suc, ◌+◌, ◌==◌, List, [], ◌∷◌, drop, length, Option, Some, None, refl, sym, subst, arith, inl, inr, Bool, true, false, if◌then◌else◌}
 use Rattle.pungi_base.specs.declared.names.Name.{Name}
 use Rattle.pungi_base.specs.declared.pos.Pos.{Pos}
-use Rattle.pungi_resolved.specs.Values as expr
 use Rattle.pungi_resolved.specs.Actions as stmt
-use Rattle.pungi_meaning.specs.Todo.{Loop, Todo, ToEval, ToLoad, ToOld, ToKeep, ToStep, ToMinus, ToCompute, ToFit, ToCompare, ToNot, ToRight, ToTruth, ToPick, ToStore, ToPop, ToArgs, ToExec, ToForget, ToReach, ToBind, ToChoose, ToJoin, ToRest, ToTest, ToTurn, ToAgain, ToBack, ToSwitch, ToSwitchEnd, ToReturn, ToEnd, listed}
+use Rattle.pungi_meaning.specs.Todo.{Loop, Todo, ToEval, ToLoad, ToOld, ToKeep, ToStep, ToMinus, ToCompute, ToFit, ToCompare, ToNot, ToRight, ToTruth, ToPick, ToStore, ToPop, ToArgs, ToExec, ToForget, ToReach, ToBind, ToChoose, ToJoin, ToRest, ToTest, ToTurn, ToAgain, ToBack, ToSwitch, ToSwitchEnd, ToReturn, ToEnd}
 use Rattle.pungi_meaning.specs.Jumps.{a_loop, entered, entered_among, found_or, from_label, after_break, after_continue}
 use Rattle.pungi_meaning.specs.Work.{or_else}
 use Rattle.pungi_code.specs.declared.code.Line.{Line}
-use Rattle.pungi_layout.specs.Sizes.{expr_size, option_size, reach_size, test_size, stmt_size, stmts_size, list_size}
-use Rattle.pungi_layout.specs.Scopes.{Env, label_or, stmt_label, list_label, in_block, in_loop, in_switch}
-use Rattle.pungi_layout.proofs.Relation.{Waiting, Stands, StmtAt, StmtsAt, LoopAt, loop_body, loop_again, loop_end, end_of_loop, ListAt, Inside, EndAt, IsAt}
+use Rattle.pungi_layout.specs.Sizes.{expr_size, option_size, reach_size, test_size, stmt_size}
+use Rattle.pungi_layout.specs.Scopes.{Env, label_or, stmt_label, list_label, in_loop, in_switch}
+use Rattle.pungi_layout.proofs.Relation.{Waiting, StmtAt, LoopAt, loop_body, loop_again, end_of_loop, ListAt, Inside, IsAt}
 
 pub drop_next : {A : Type 0} (xs : List A) (i : ℕ) (x : A) (ys : List A) → drop i xs ≡ x ∷ ys → drop (suc i) xs ≡ ys
 drop_next [] zero x ys e = absurd (cc)

@@ -33,8 +33,4 @@ pub mod BoundaryExprs
 pub mod BoundaryStmts
 pub mod BoundaryHeads
 pub mod EntryKinds
-mod Worked
-mod WorkedOperators
-mod WorkedSlots
-mod WorkedStatements
 pub mod KindsSlots

@@ -1,5 +1,5 @@
 -- A step that doesn't go back leaves less to be done.
-use Rattle.std.proofs.Common.{◌≡◌, ℕ, zero, suc, ◌+◌, ◌*◌, ◌==◌, ◌≤◌, ℤ, pos, List, [], ◌∷◌, length, drop, Option, Some, None, Result, Ok, Err, refl, sym, ap, ◌∙◌, subst, arith, Bool, true, false, if◌then◌else◌}
+use Rattle.std.proofs.Common.{◌≡◌, ℕ, zero, suc, ◌+◌, ◌*◌, ◌==◌, ◌≤◌, ℤ, pos, List, [], ◌∷◌, length, drop, Option, Some, None, Result, Ok, Err, refl, ap, ◌∙◌, subst, arith, Bool, true, false, if◌then◌else◌}
 use Rattle.std.specs.Prelude.{slice_get}
 use Rattle.pungi_base.specs.declared.choice.Choice.{Choice}
 use Rattle.pungi_base.specs.declared.kind.Kind.{Kind}
@@ -26,14 +26,14 @@ use Rattle.pungi_world.specs.Slots.{load_effect, store_effect}
 use Rattle.pungi_world.specs.Calls.{call_effect}
 use Rattle.pungi_meaning.specs.declared.op.Op.{Op}
 use Rattle.pungi_meaning.specs.declared.op.Op.TheVariants as ops
-use Rattle.pungi_meaning.specs.Values.{op_of, fits, is_true, truth, arithmetic, number_of, slot_kind, wide}
-use Rattle.pungi_meaning.specs.Todo.{Loop, Operation, Computed, Fitted, Todo, ToEval, ToLoad, ToOld, ToKeep, ToStep, ToMinus, ToCompute, ToFit, ToCompare, ToNot, ToRight, ToTruth, ToPick, ToStore, ToPop, ToArgs, ToExec, ToForget, ToReach, ToBind, ToChoose, ToJoin, ToRest, ToTest, ToTurn, ToAgain, ToBack, ToSwitch, ToSwitchEnd, ToReturn, ToEnd, State, Step, Goes, Returns, Stops, Wants, listed, listed_values}
-use Rattle.pungi_meaning.specs.Exprs.{before, read_local, load_slot, load_field, loaded, old, store_slot, store_field, store, stored, converting, signing, stepping, step_op, computed, fit, is_wanted, right, called, call, next_arg, evaluate}
+use Rattle.pungi_meaning.specs.Values.{op_of, fits, is_true, arithmetic, number_of, slot_kind, wide}
+use Rattle.pungi_meaning.specs.Todo.{Loop, Operation, Fitted, Todo, ToEval, ToLoad, ToOld, ToKeep, ToStep, ToMinus, ToCompute, ToFit, ToCompare, ToNot, ToRight, ToTruth, ToPick, ToStore, ToPop, ToArgs, ToExec, ToForget, ToReach, ToBind, ToChoose, ToJoin, ToRest, ToTest, ToTurn, ToAgain, ToBack, ToSwitch, ToSwitchEnd, ToReturn, ToEnd, State, Step, Goes, Returns, Stops, Wants, listed, listed_values}
+use Rattle.pungi_meaning.specs.Exprs.{before, read_local, load_slot, load_field, loaded, old, store_slot, store_field, store, stored, converting, signing, stepping, computed, is_wanted, called, call, next_arg, evaluate}
 use Rattle.pungi_meaning.specs.Jumps.{a_loop, entered, entered_among, found_or, from_label, after_break, after_continue}
-use Rattle.pungi_meaning.specs.Stmts.{reach_value, others, tested_by, tested, turn, started, first_from, bears_case, is_default, target, enter_at, switch, returning, next_stmt, execute}
+use Rattle.pungi_meaning.specs.Stmts.{reach_value, others, tested_by, turn, started, target, enter_at, switch, returning, next_stmt, execute}
 use Rattle.pungi_meaning.specs.Run.{at_end, act}
 use Rattle.pungi_meaning.specs.Work.{instead, for_two, top, below, newest, unused, content_at, reacting, or_else, shape_of, taken}
-use Rattle.pungi_layout.specs.Weights.{expr_weight, place_weight, values_weight, args_weight, option_weight, bind_weight, reach_weight, again_weight, turn_weight, tested_weight, stmt_weight, stmts_weight, list_weight, loop_weight, switch_weight, other_weight, item_weight, weight}
+use Rattle.pungi_layout.specs.Weights.{expr_weight, place_weight, values_weight, args_weight, option_weight, bind_weight, reach_weight, again_weight, turn_weight, tested_weight, stmt_weight, stmts_weight, list_weight, loop_weight, switch_weight, other_weight, weight}
 use Rattle.pungi_layout.proofs.SimCalls.{IsNext, is_next}
 use Rattle.pungi_layout.proofs.Jumps.{drop_next}
 use Rattle.pungi_layout.proofs.SimStmts.{jumps}

@@ -1,5 +1,5 @@
 -- The instructions of an expression read no temporary that they did not write before.
-use Rattle.std.proofs.Common.{◌≡◌, ◌⊎◌, inl, inr, ℕ, zero, suc, ◌+◌, ◌*◌, ◌<◌, ◌≤◌, List, [], ◌∷◌, ◌++◌, length, map, Option, Some, None, refl, sym, ap, ◌∙◌, subst, arith, Bool, true, false, not, pos, if◌then◌else◌}
+use Rattle.std.proofs.Common.{◌≡◌, inl, inr, ℕ, ◌+◌, List, [], ◌∷◌, ◌++◌, length, map, Some, None, refl, sym, subst, arith, Bool, true, false, not, if◌then◌else◌}
 use Rattle.std.specs.Prelude.{slice_get}
 use Rattle.pungi_base.specs.declared.kind.Kind.{Kind}
 use Rattle.pungi_base.specs.declared.pos.Pos.{Pos}
@@ -7,26 +7,24 @@ use Rattle.pungi_api.specs.declared.param.Param.{Param}
 use Rattle.pungi_api.specs.declared.row.Row.{Row}
 use Rattle.pungi_types.specs.declared.kind.ValueKind.{ValueKind}
 use Rattle.pungi_resolved.specs.Values as expr
-use Rattle.pungi_meaning.specs.declared.op.Op.TheVariants as ops
-use Rattle.pungi_meaning.specs.Values.{op_of, cmp_of, wide, slot_kind}
-use Rattle.pungi_meaning.specs.Exprs.{step_op, is_and}
+use Rattle.pungi_meaning.specs.Values.{wide}
+use Rattle.pungi_meaning.specs.Exprs.{is_and}
 use Rattle.pungi_meaning.specs.Todo.{listed_values}
 use Rattle.pungi_meaning.specs.Work.{shape_of}
 use Rattle.pungi_code.specs.declared.atom.Atom.{Atom}
 use Rattle.pungi_code.specs.declared.atom.Atom.TheVariants as atom
 use Rattle.pungi_code.specs.declared.code.Line.{Line}
-use Rattle.pungi_code.specs.declared.instr.Instr.TheVariants.{Set, Arith, Fit, Compare, Load, Store, Api, Call, Branch, Jump, Fall}
-use Rattle.pungi_code.specs.declared.place.Place.TheVariants.{Global, Field}
+use Rattle.pungi_code.specs.declared.instr.Instr.TheVariants.{Set, Fit, Api}
 use Rattle.pungi_layout.specs.Parts.{is_minus, gives, gives_answer}
 use Rattle.pungi_layout.specs.Sizes.{expr_size, place_size, values_size, fit_size, store_size, sign_size}
 use Rattle.pungi_layout.specs.Temporaries.{column, temp, value_column, temp_of, operand, tail, arg_var, arg_vars}
-use Rattle.pungi_layout.specs.ExprCode.{line, to_var, var, at_label, bit, branch_on, fit_code, old_code, store_code, above, stored_var, counted_var, base_var, sign_code, sign_var, step_code, expr_code, base_code, args_code}
+use Rattle.pungi_layout.specs.ExprCode.{line, to_var, var, bit, branch_on, fit_code, old_code, store_code, above, stored_var, counted_var, base_var, sign_code, sign_var, step_code, expr_code, base_code, args_code}
 use Rattle.pungi_layout.specs.Sound.{IsSound, IsPlaceSound, AreSound}
-use Rattle.pungi_layout.specs.Liveness.{atom_vars, atoms_vars, reads, writes, following, Among, IsKnown, AreKnown, Each, WritesFirst}
+use Rattle.pungi_layout.specs.Liveness.{atom_vars, atoms_vars, Among, AreKnown, WritesFirst}
 use Rattle.pungi_layout.proofs.Relation.{is_same}
 use Rattle.pungi_layout.proofs.Lengths.{expr_long, base_long, args_long, old_long, fit_long}
 use Rattle.pungi_layout.proofs.PlacedExprs.{HasAt, has_front, has_cut}
-use Rattle.pungi_layout.proofs.LivenessLemmas.{Within, within_all, within_more, within_both, more, by_line, all_known}
+use Rattle.pungi_layout.proofs.LivenessLemmas.{Within, within_all, within_more, within_both, more, by_line}
 
 -- what was written once a value stands in a variable, if there is one
 abbrev pub left : Bool → ℕ → List ℕ → List ℕ

@@ -1,5 +1,5 @@
 -- What is written before it is read: on shorter paths, and where more was written.
-use Rattle.std.proofs.Common.{◌≡◌, ◌⊎◌, inl, inr, ℕ, zero, suc, ◌+◌, ◌<◌, List, [], ◌∷◌, ◌++◌, Option, Some, None, refl, sym, subst, arith}
+use Rattle.std.proofs.Common.{◌≡◌, inl, inr, ℕ, zero, suc, List, [], ◌∷◌, ◌++◌, Option, Some, None, sym, subst}
 use Rattle.std.specs.Prelude.{slice_get}
 use Rattle.pungi_code.specs.declared.code.Line.{Line}
 use Rattle.pungi_layout.specs.Liveness.{reads, writes, following, Among, IsKnown, AreKnown, Each, LineKeeps, WritesFirst}

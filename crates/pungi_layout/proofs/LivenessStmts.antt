@@ -1,31 +1,30 @@
 -- Where a statement begins, no path reads a temporary before it writes it.
-use Rattle.std.proofs.Common.{◌≡◌, ◌⊎◌, inl, inr, ℕ, zero, suc, ◌+◌, ◌*◌, ℤ, List, [], ◌∷◌, ◌++◌, length, Option, Some, None, refl, sym, ap, ◌∙◌, subst, arith, Bool, true, false, if◌then◌else◌}
-use Rattle.std.specs.Prelude.{slice_get, ◌==◌, eqb}
+use Rattle.std.proofs.Common.{◌≡◌, inl, inr, ℕ, zero, suc, ◌+◌, ◌*◌, ℤ, List, [], ◌∷◌, ◌++◌, length, Option, Some, None, refl, sym, ap, ◌∙◌, subst, arith, Bool, true, false, if◌then◌else◌}
+use Rattle.std.specs.Prelude.{slice_get, ◌==◌}
 use Rattle.pungi_base.specs.declared.names.Name.{Name}
 use Rattle.pungi_base.specs.declared.pos.Pos.{Pos}
 use Rattle.pungi_types.specs.declared.kind.ValueKind.{ValueKind}
 use Rattle.pungi_resolved.specs.Values as expr
 use Rattle.pungi_resolved.specs.Actions as stmt
-use Rattle.pungi_meaning.specs.declared.cmp.Cmp.TheVariants as cmps
 use Rattle.pungi_meaning.specs.Stmts.{cases_of, block_cases, is_default}
 use Rattle.pungi_meaning.specs.Todo.{listed}
 use Rattle.pungi_meaning.specs.Work.{declared}
 use Rattle.pungi_code.specs.declared.code.Line.{Line}
-use Rattle.pungi_code.specs.declared.instr.Instr.TheVariants.{Set, Compare, Jump, Branch, Return, Unset}
+use Rattle.pungi_code.specs.declared.instr.Instr.TheVariants.{Jump}
 use Rattle.pungi_layout.specs.Parts.{gives}
 use Rattle.pungi_layout.specs.Sizes.{expr_size, option_size, reach_size, test_size, stmt_size, stmts_size}
 use Rattle.pungi_layout.specs.Temporaries.{temp, temp_of, operand, local_column}
-use Rattle.pungi_layout.specs.ExprCode.{line, to_var, var, at_label, expr_code}
+use Rattle.pungi_layout.specs.ExprCode.{line, at_label, expr_code}
 use Rattle.pungi_layout.specs.Scopes.{Env, label_or, for_head, stmt_label, list_label, placed_cases, list_cases, list_default, in_block, in_loop, in_switch}
 use Rattle.pungi_layout.specs.StmtCode.{unset_code, value_code, option_code, bind_code, reach_code, test_code, tested_code, case_code, stmt_code, stmts_code}
-use Rattle.pungi_layout.specs.Sound.{IsSound, IsWanted, IsOptionSound, IsOptionWanted, AreReached, IsStmtSound, AreStmtsSound}
+use Rattle.pungi_layout.specs.Sound.{IsWanted, IsOptionSound, IsOptionWanted, AreReached, IsStmtSound, AreStmtsSound}
 use Rattle.pungi_layout.specs.Liveness.{Among, WritesFirst}
 use Rattle.pungi_layout.proofs.FoundPlaces.{or_found, if_found}
 use Rattle.pungi_layout.proofs.Lengths.{expr_long}
-use Rattle.pungi_layout.proofs.StmtLengths.{unset_long, value_long, option_long, bind_long, reach_long, test_long, tested_long, case_long, cases_long, stmt_long, stmts_long}
+use Rattle.pungi_layout.proofs.StmtLengths.{unset_long, value_long, option_long, bind_long, reach_long, test_long, tested_long, case_long, cases_long, stmt_long}
 use Rattle.pungi_layout.proofs.Relation.{switch_first}
 use Rattle.pungi_layout.proofs.PlacedExprs.{HasAt, has_cut}
-use Rattle.pungi_layout.proofs.LivenessLemmas.{within_more, within_all, more, shorter, by_line, by_last}
+use Rattle.pungi_layout.proofs.LivenessLemmas.{more, shorter, by_line, by_last}
 use Rattle.pungi_layout.proofs.LivenessExprs.{left, one_more, given, moved, expr_first}
 
 module _ (code : List Line) (nl : ℕ) where

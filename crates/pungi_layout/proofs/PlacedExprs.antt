@@ -1,6 +1,6 @@
 -- The instructions of an expression stand in the code as the relation says.
-use Rattle.std.proofs.Common.{◌≡◌, ℕ, zero, suc, ◌+◌, ◌*◌, ◌<◌, ◌≤◌, List, [], ◌∷◌, ◌++◌, length, map, Option, Some, None, refl, sym, ap, ◌∙◌, subst, arith, append_assoc, length-append, Bool, true, false, not, pos, if◌then◌else◌}
-use Rattle.std.specs.Prelude.{slice_get, nat_le, eqb}
+use Rattle.std.proofs.Common.{◌≡◌, ℕ, suc, ◌+◌, ◌*◌, ◌<◌, ◌≤◌, List, [], ◌∷◌, ◌++◌, length, map, Some, None, refl, sym, ap, ◌∙◌, subst, arith, append_assoc, length-append, Bool, true, false, pos, if◌then◌else◌}
+use Rattle.std.specs.Prelude.{slice_get, eqb}
 use Rattle.std.proofs.Math.Seq.{get_or-append_seam}
 use Rattle.std.proofs.lemmas.Option.{slice_get-get_or}
 use Rattle.pungi_base.specs.declared.kind.Kind.{Kind}
@@ -14,21 +14,19 @@ use Rattle.pungi_types.specs.declared.kind.ValueKind.{ValueKind}
 use Rattle.pungi_types.specs.declared.kind.ValueKind.TheVariants as kinds
 use Rattle.pungi_resolved.specs.Values as expr
 use Rattle.pungi_meaning.specs.declared.op.Op.TheVariants as ops
-use Rattle.pungi_meaning.specs.Values.{fits, op_of, cmp_of, wide, slot_kind}
-use Rattle.pungi_meaning.specs.Exprs.{step_op, is_and}
+use Rattle.pungi_meaning.specs.Values.{fits, wide}
 use Rattle.pungi_meaning.specs.Todo.{listed_values}
 use Rattle.pungi_meaning.specs.Work.{shape_of}
 use Rattle.pungi_code.specs.declared.atom.Atom.TheVariants as atom
 use Rattle.pungi_code.specs.declared.code.Line.{Line}
-use Rattle.pungi_code.specs.declared.instr.Instr.TheVariants.{Set, Arith, Fit, Compare, Load, Store, Api, Call, Branch, Jump, Fall}
-use Rattle.pungi_code.specs.declared.place.Place.TheVariants.{Global, Field}
-use Rattle.pungi_layout.specs.Parts.{is_minus, gives, gives_answer}
-use Rattle.pungi_layout.specs.Sizes.{expr_size, place_size, values_size, fit_size, store_size, sign_size, keep_size}
-use Rattle.pungi_layout.specs.Temporaries.{column, temp, joined_column, answer_column, form_column, value_column, temp_of, operand, fitting_column, front_column, tail, arg_var, arg_vars}
-use Rattle.pungi_layout.specs.ExprCode.{line, to_var, var, at_label, bit, branch_on, fit_code, old_code, store_code, above, stored_var, counted_var, base_var, sign_code, sign_var, step_code, expr_code, base_code, args_code}
+use Rattle.pungi_code.specs.declared.instr.Instr.TheVariants.{Arith, Fit, Api}
+use Rattle.pungi_layout.specs.Parts.{is_minus, gives_answer}
+use Rattle.pungi_layout.specs.Sizes.{expr_size, place_size, values_size, fit_size}
+use Rattle.pungi_layout.specs.Temporaries.{column, temp, answer_column, form_column, value_column, temp_of, operand, fitting_column, front_column, tail, arg_var, arg_vars}
+use Rattle.pungi_layout.specs.ExprCode.{line, to_var, var, fit_code, old_code, store_code, above, stored_var, counted_var, base_var, sign_code, sign_var, step_code, expr_code, base_code, args_code}
 use Rattle.pungi_layout.specs.Sound.{IsSound, IsPlaceSound, AreSound, expr_nodes, place_nodes, values_nodes}
-use Rattle.pungi_layout.proofs.Lengths.{fit_long, sign_long, old_long, store_long, more_long, long_append, expr_long, base_long, args_long}
-use Rattle.pungi_layout.proofs.Relation.{answer_var, One, is_same, level, Stands, Does, IsTemp, FitAt, OldAt, StoreAt, PutAt, StepAt, TruthAt, ExprAt, BaseAt, ArgsAt}
+use Rattle.pungi_layout.proofs.Lengths.{fit_long, old_long, expr_long, base_long, args_long}
+use Rattle.pungi_layout.proofs.Relation.{answer_var, One, is_same, level, Stands, IsTemp, FitAt, OldAt, StoreAt, PutAt, StepAt, ExprAt, BaseAt, ArgsAt}
 
 -- ---- instructions that stand in the code
 

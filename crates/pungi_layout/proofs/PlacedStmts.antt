@@ -1,5 +1,5 @@
 -- The instructions of a statement stand in the code as the relation says.
-use Rattle.std.proofs.Common.{◌≡◌, ℕ, zero, suc, ◌+◌, ◌*◌, ◌<◌, ◌≤◌, ℤ, List, [], ◌∷◌, ◌++◌, length, Option, Some, None, refl, sym, ap, ◌∙◌, subst, arith, length-append, Bool, true, false}
+use Rattle.std.proofs.Common.{◌≡◌, ℕ, ◌+◌, ◌*◌, ◌<◌, ◌≤◌, ℤ, List, [], ◌∷◌, ◌++◌, length, Option, Some, None, ap, ◌∙◌, subst, arith}
 use Rattle.pungi_base.specs.declared.pos.Pos.{Pos}
 use Rattle.pungi_types.specs.declared.kind.ValueKind.{ValueKind}
 use Rattle.pungi_resolved.specs.Values as expr
@@ -8,18 +8,17 @@ use Rattle.pungi_meaning.specs.Stmts.{block_cases}
 use Rattle.pungi_meaning.specs.Todo.{listed}
 use Rattle.pungi_meaning.specs.Work.{declared_by, declared}
 use Rattle.pungi_code.specs.declared.code.Line.{Line}
-use Rattle.pungi_code.specs.declared.instr.Instr.TheVariants.{Set, Jump, Branch, Return}
-use Rattle.pungi_layout.specs.Parts.{gives}
+use Rattle.pungi_code.specs.declared.instr.Instr.TheVariants.{Jump}
 use Rattle.pungi_layout.specs.Sizes.{expr_size, option_size, reach_size, test_size, stmt_size, stmts_size}
 use Rattle.pungi_layout.specs.Temporaries.{temp, temp_of, operand, local_column}
-use Rattle.pungi_layout.specs.ExprCode.{line, to_var, var, at_label, expr_code}
+use Rattle.pungi_layout.specs.ExprCode.{line, at_label, expr_code}
 use Rattle.pungi_layout.specs.Scopes.{Env, label_or, for_head, list_cases, list_default, in_block, in_loop, in_switch}
 use Rattle.pungi_layout.specs.StmtCode.{unset_code, value_code, option_code, bind_code, reach_code, test_code, tested_code, case_code, stmt_code, stmts_code}
 use Rattle.pungi_layout.specs.Sound.{IsSound, IsWanted, IsOptionSound, IsOptionWanted, AreReached, IsStmtSound, AreStmtsSound, expr_nodes, option_nodes, reach_nodes, stmt_nodes, stmts_nodes}
 use Rattle.pungi_layout.proofs.Lengths.{expr_long}
-use Rattle.pungi_layout.proofs.StmtLengths.{unset_long, value_long, option_long, bind_long, reach_long, test_long, tested_long, case_long, cases_long, stmt_long, stmts_long}
-use Rattle.pungi_layout.proofs.Relation.{switch_first, loop_body, loop_again, loop_end, Stands, Does, IsTemp, ExprAt, OptionAt, UnsetAt, BindAt, ReachAt, TestAt, GiveAt, ComparedAt, StmtAt, StmtsAt}
-use Rattle.pungi_layout.proofs.PlacedExprs.{HasAt, has_front, has_cut, expr_placed, operand_at, value_at, positive, temp_at}
+use Rattle.pungi_layout.proofs.StmtLengths.{unset_long, value_long, option_long, bind_long, reach_long, test_long, tested_long, case_long, cases_long, stmt_long}
+use Rattle.pungi_layout.proofs.Relation.{switch_first, Does, IsTemp, ExprAt, OptionAt, UnsetAt, BindAt, ReachAt, TestAt, ComparedAt, StmtAt, StmtsAt}
+use Rattle.pungi_layout.proofs.PlacedExprs.{HasAt, has_cut, expr_placed, operand_at, value_at, positive, temp_at}
 
 -- ---- where they stand
 

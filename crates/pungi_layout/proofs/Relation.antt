@@ -1,11 +1,10 @@
 -- What remains of a function, and a place of its code.
-use Rattle.std.proofs.Common.{◌≡◌, ℕ, zero, suc, ◌+◌, ◌*◌, ◌<◌, ◌≤◌, ◌⊎◌, List, [], ◌∷◌, map, take, drop, length, Option, Some, None, Bool, true, false, not, ℤ, pos}
+use Rattle.std.proofs.Common.{◌≡◌, ℕ, suc, ◌+◌, ◌*◌, ◌<◌, ◌≤◌, ◌⊎◌, List, [], ◌∷◌, map, take, drop, length, Option, Some, None, Bool, true, false, not, ℤ, pos}
 use mathlib.Core.List.{reverse_aux}
 use Rattle.std.specs.Prelude.{slice_get}
 use Rattle.pungi_base.specs.declared.kind.Kind.{Kind}
 use Rattle.pungi_base.specs.declared.names.Name.{Name}
 use Rattle.pungi_base.specs.declared.pos.Pos.{Pos}
-use Rattle.pungi_api.specs.declared.row.Row.{Row}
 use Rattle.pungi_types.specs.declared.kind.ValueKind.{ValueKind}
 use Rattle.pungi_resolved.specs.Values as expr
 use Rattle.pungi_types.specs.Operators.{is_same_kind}
@@ -16,8 +15,7 @@ use Rattle.pungi_meaning.specs.declared.cmp.Cmp.TheVariants as cmps
 use Rattle.pungi_meaning.specs.Stmts.{block_cases}
 use Rattle.pungi_meaning.specs.Exprs.{step_op, is_and}
 use Rattle.pungi_meaning.specs.Work.{declared, shape_of}
-use Rattle.pungi_meaning.specs.Todo.{Loop, Todo, ToEval, ToLoad, ToOld, ToKeep, ToStep, ToMinus, ToCompute, ToFit, ToCompare, ToNot, ToRight, ToTruth, ToPick, ToStore, ToPop, ToArgs, ToExec, ToForget, ToReach, ToBind, ToChoose, ToJoin, ToRest, ToTest, ToTurn, ToAgain, ToBack, ToSwitch, ToSwitchEnd, ToReturn, ToEnd, listed, listed_values}
-use Rattle.pungi_code.specs.declared.atom.Atom.{Atom}
+use Rattle.pungi_meaning.specs.Todo.{Loop, Todo, ToEval, ToLoad, ToOld, ToKeep, ToStep, ToMinus, ToCompute, ToFit, ToCompare, ToNot, ToRight, ToTruth, ToPick, ToStore, ToPop, ToArgs, ToExec, ToForget, ToReach, ToBind, ToChoose, ToJoin, ToRest, ToTest, ToTurn, ToAgain, ToBack, ToSwitch, ToSwitchEnd, ToReturn, ToEnd, listed}
 use Rattle.pungi_code.specs.declared.atom.Atom.TheVariants as atom
 use Rattle.pungi_code.specs.declared.atom.Var.{Var}
 use Rattle.pungi_code.specs.declared.code.Line.{Line}
@@ -25,7 +23,7 @@ use Rattle.pungi_code.specs.declared.instr.Instr.{Instr}
 use Rattle.pungi_code.specs.declared.instr.Instr.TheVariants.{Set, Arith, Fit, Compare, Load, Store, Api, Call, Unset, Jump, Branch, Return, Fall}
 use Rattle.pungi_code.specs.declared.place.Place.TheVariants.{Global, Field}
 use Rattle.pungi_layout.specs.Parts.{is_minus, gives, gives_answer}
-use Rattle.pungi_layout.specs.Sizes.{expr_size, place_size, values_size, args_size, fit_size, store_size, keep_size, option_size, reach_size, test_size, switch_size, stmt_size, stmts_size, list_size}
+use Rattle.pungi_layout.specs.Sizes.{expr_size, place_size, values_size, args_size, fit_size, store_size, option_size, reach_size, test_size, switch_size, stmt_size, stmts_size}
 use Rattle.pungi_layout.specs.ExprCode.{line, to_var, var, at_label, bit, branch_on}
 use Rattle.pungi_layout.specs.Scopes.{Env, label_or, for_head, list_label, list_cases, list_default, in_block, in_loop, in_switch}
 

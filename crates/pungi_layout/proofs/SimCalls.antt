@@ -1,5 +1,5 @@
 -- The code does the calls of a function.
-use Rattle.std.proofs.Common.{◌≡◌, ℕ, zero, suc, ◌+◌, ◌≤◌, List, [], ◌∷◌, ◌++◌, length, map, take, drop, reverse, replicate, Option, Some, None, Result, Ok, Err, refl, sym, ap, ◌∙◌, subst, arith, Bool, true, false}
+use Rattle.std.proofs.Common.{◌≡◌, ℕ, zero, suc, ◌+◌, ◌≤◌, List, [], ◌∷◌, ◌++◌, length, map, take, drop, replicate, Option, Some, None, refl, sym, ap, ◌∙◌, subst, arith, Bool, true, false}
 use mathlib.Core.List.{reverse_aux}
 use Rattle.std.specs.Prelude.{slice_get}
 use Rattle.pungi_base.specs.declared.choice.Choice.{Choice}
@@ -8,27 +8,26 @@ use Rattle.pungi_base.specs.declared.value.Value.{Value}
 use Rattle.pungi_api.specs.declared.row.Row.{Row}
 use Rattle.pungi_resolved.specs.Values as expr
 use Rattle.pungi_world.specs.declared.content.Content.{Content}
-use Rattle.pungi_world.specs.declared.content.Content.TheVariants.{Unset, Holds}
+use Rattle.pungi_world.specs.declared.content.Content.TheVariants.{Holds}
 use Rattle.pungi_world.specs.declared.effect.Effect.{Effect}
-use Rattle.pungi_world.specs.declared.world.World.{World}
 use Rattle.pungi_world.specs.Calls.{call_effect}
-use Rattle.pungi_meaning.specs.Todo.{Operation, Called, Todo, ToEval, ToArgs, State, Step, Goes}
+use Rattle.pungi_meaning.specs.Todo.{Operation, Called, Todo, ToEval, ToArgs, State}
 use Rattle.pungi_meaning.specs.Exprs.{called, call, next_arg}
-use Rattle.pungi_meaning.specs.Run.{Run, noted, act}
+use Rattle.pungi_meaning.specs.Run.{noted, act}
 use Rattle.pungi_meaning.specs.Work.{newest, unused, with_answer, shape_of}
 use Rattle.pungi_code.specs.declared.code.Line.{Line}
 use Rattle.pungi_code.specs.declared.instr.Instr.TheVariants.{Api}
-use Rattle.pungi_code.specs.Registers.{Regs, put, content_of, both, all_values, with_values, reacting, left, answered}
+use Rattle.pungi_code.specs.Registers.{Regs, put, both, all_values, with_values, reacting, left, answered}
 use Rattle.pungi_code.specs.Perform as does
 use Rattle.pungi_code.specs.Run.{exec}
-use Rattle.pungi_layout.specs.Parts.{gives, gives_answer}
+use Rattle.pungi_layout.specs.Parts.{gives_answer}
 use Rattle.pungi_layout.specs.Sizes.{expr_size, args_size}
 use Rattle.pungi_layout.specs.ExprCode.{to_var, var}
 use Rattle.pungi_layout.specs.Scopes.{Env}
-use Rattle.pungi_layout.proofs.Relation.{Waiting, w, vars_of, answer_var, pushed_if, Stands, IsTemp, ExprAt, ListArgsAt, IsAt}
+use Rattle.pungi_layout.proofs.Relation.{Waiting, w, vars_of, answer_var, pushed_if, Stands, IsTemp, ListArgsAt, IsAt}
 use Rattle.pungi_layout.proofs.Match.{Stack, Match, pushed, popped, reacted}
 use Rattle.pungi_layout.proofs.Answers.{IsAnswer, call_answer}
-use Rattle.pungi_layout.proofs.Steps.{st, At, Continues, IsDone, first, still, one, moved, react_by}
+use Rattle.pungi_layout.proofs.Steps.{Continues, IsDone, first, still, one, react_by}
 
 -- what a list goes on with at a place
 abbrev pub IsNext : {A : Type 0} → List A → ℕ → Option A → List A → Type 0

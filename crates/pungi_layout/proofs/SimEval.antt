@@ -1,5 +1,5 @@
 -- The code does the expressions of a function: what each leaves has its instructions where the relation says.
-use Rattle.std.proofs.Common.{◌≡◌, ℕ, zero, suc, ◌+◌, ◌<◌, ◌≤◌, ℤ, pos, List, [], ◌∷◌, ◌++◌, length, map, drop, Option, Some, None, refl, sym, ap, ◌∙◌, subst, arith, Bool, true, false, not, if◌then◌else◌}
+use Rattle.std.proofs.Common.{◌≡◌, ℕ, suc, ◌+◌, pos, List, [], ◌∷◌, length, map, Some, None, refl, sym, ap, subst, arith, Bool, true, false, not, if◌then◌else◌}
 use Rattle.pungi_base.specs.declared.choice.Choice.{Choice}
 use Rattle.pungi_base.specs.declared.kind.Kind.{Kind}
 use Rattle.pungi_base.specs.declared.kind.Kind.TheVariants as tokens
@@ -9,27 +9,26 @@ use Rattle.pungi_base.specs.declared.value.Value.{Value}
 use Rattle.pungi_base.specs.declared.value.Value.TheVariants as value
 use Rattle.pungi_types.specs.declared.kind.ValueKind.{ValueKind}
 use Rattle.pungi_resolved.specs.Values as expr
-use Rattle.pungi_world.specs.declared.content.Content.TheVariants.{Unset, Holds}
+use Rattle.pungi_world.specs.declared.content.Content.TheVariants.{Holds}
 use Rattle.pungi_world.specs.declared.slot.Slot.TheVariants as slot
 use Rattle.pungi_meaning.specs.declared.op.Op.TheVariants as ops
 use Rattle.pungi_meaning.specs.Values.{op_of, cmp_of, wide, slot_kind, truth}
-use Rattle.pungi_meaning.specs.Todo.{Todo, ToEval, ToLoad, ToOld, ToKeep, ToStep, ToMinus, ToCompute, ToFit, ToCompare, ToNot, ToRight, ToTruth, ToPick, ToStore, ToPop, ToArgs, State, Step, Goes, Stops, listed_values}
-use Rattle.pungi_meaning.specs.Exprs.{evaluate, before, converting, signing, stepping, step_op, is_and}
-use Rattle.pungi_meaning.specs.Run.{Run, over, Stopped}
+use Rattle.pungi_meaning.specs.Todo.{Todo, ToEval, ToLoad, ToOld, ToKeep, ToMinus, ToCompute, ToFit, ToCompare, ToNot, ToRight, ToPick, ToStore, ToPop, ToArgs, State, listed_values}
+use Rattle.pungi_meaning.specs.Exprs.{evaluate, before, converting, signing, stepping, is_and}
 use Rattle.pungi_meaning.specs.Work.{content_at, shape_of}
 use Rattle.pungi_code.specs.declared.atom.Atom.{Atom}
 use Rattle.pungi_code.specs.declared.atom.Atom.TheVariants as atom
 use Rattle.pungi_code.specs.declared.code.Line.{Line}
 use Rattle.pungi_code.specs.declared.instr.Instr.TheVariants.{Set, Arith, Load, Api, Call, Fall}
-use Rattle.pungi_code.specs.declared.place.Place.TheVariants.{Global, Field}
+use Rattle.pungi_code.specs.declared.place.Place.TheVariants.{Global}
 use Rattle.pungi_code.specs.Registers.{Regs, put, content_of}
 use Rattle.pungi_layout.specs.Parts.{is_minus, gives, gives_answer}
-use Rattle.pungi_layout.specs.Sizes.{expr_size, place_size, values_size, args_size, fit_size, store_size, sign_size, keep_size}
-use Rattle.pungi_layout.specs.ExprCode.{to_var, var, at_label, bit}
+use Rattle.pungi_layout.specs.Sizes.{expr_size, place_size, values_size, args_size, fit_size, store_size, sign_size}
+use Rattle.pungi_layout.specs.ExprCode.{to_var, var, bit}
 use Rattle.pungi_layout.specs.Scopes.{Env}
-use Rattle.pungi_layout.proofs.Relation.{Waiting, w, rest, answer_var, pushed_if, Stands, Does, One, is_same, IsTemp, FitAt, OldAt, StoreAt, level, PutAt, StepAt, ExprAt, BaseAt, ArgsAt, ListArgsAt, IsAt}
-use Rattle.pungi_layout.proofs.Match.{Stack, Match, IsKnown, pushed, pushed_known}
-use Rattle.pungi_layout.proofs.Steps.{At, Continues, IsDone, first, set_step, still, one, moved}
+use Rattle.pungi_layout.proofs.Relation.{Waiting, w, answer_var, pushed_if, Stands, Does, One, is_same, IsTemp, FitAt, OldAt, StoreAt, level, PutAt, StepAt, ExprAt, BaseAt, ArgsAt, ListArgsAt, IsAt}
+use Rattle.pungi_layout.proofs.Match.{Match, pushed, pushed_known}
+use Rattle.pungi_layout.proofs.Steps.{Continues, IsDone, first, set_step, still, one, moved}
 use Rattle.pungi_layout.proofs.SimOperators.{bit_is}
 use Rattle.pungi_layout.proofs.SimPlaces.{read_sim, load_sim}
 

@@ -1,5 +1,5 @@
 -- The code does the operators of a function: arithmetic, conversions, comparisons, truth and choices.
-use Rattle.std.proofs.Common.{◌≡◌, ℕ, zero, suc, ◌+◌, ◌⊎◌, ℤ, pos, List, [], ◌∷◌, ◌++◌, length, Option, Some, None, refl, sym, ap, ◌∙◌, subst, arith, inl, inr, Bool, true, false, not, if◌then◌else◌}
+use Rattle.std.proofs.Common.{◌≡◌, ℕ, suc, ◌+◌, ◌⊎◌, ℤ, pos, List, [], ◌∷◌, length, Option, Some, None, refl, sym, ◌∙◌, subst, arith, inl, inr, Bool, true, false, not, if◌then◌else◌}
 use Rattle.pungi_base.specs.declared.choice.Choice.{Choice}
 use Rattle.pungi_base.specs.declared.pos.Pos.{Pos}
 use Rattle.pungi_base.specs.declared.value.Value.{Value}
@@ -7,19 +7,19 @@ use Rattle.pungi_base.specs.declared.value.Value.TheVariants as value
 use Rattle.pungi_types.specs.declared.kind.ValueKind.{ValueKind}
 use Rattle.pungi_resolved.specs.Values as expr
 use Rattle.pungi_world.specs.declared.content.Content.{Content}
-use Rattle.pungi_world.specs.declared.content.Content.TheVariants.{Unset, Holds}
+use Rattle.pungi_world.specs.declared.content.Content.TheVariants.{Holds}
 use Rattle.pungi_world.specs.declared.world.World.{World}
 use Rattle.pungi_meaning.specs.declared.op.Op.{Op}
 use Rattle.pungi_meaning.specs.declared.op.Op.TheVariants as ops
 use Rattle.pungi_meaning.specs.declared.cmp.Cmp.{Cmp}
 use Rattle.pungi_meaning.specs.Values.{fits, is_true, truth, arithmetic, holds, number_of}
-use Rattle.pungi_meaning.specs.Todo.{Operation, Computed, Fitted, Compared, Todo, ToEval, ToStep, ToMinus, ToCompute, ToFit, ToCompare, ToNot, ToRight, ToTruth, ToPick, ToPop, ToJoin, State, Step, Goes, Stops}
-use Rattle.pungi_meaning.specs.Exprs.{computed, fit, is_wanted, right}
-use Rattle.pungi_meaning.specs.Run.{Run, over, noted, Stopped, act}
+use Rattle.pungi_meaning.specs.Todo.{Computed, Fitted, Compared, Todo, ToEval, ToStep, ToMinus, ToCompute, ToFit, ToCompare, ToNot, ToRight, ToTruth, ToPick, ToPop, ToJoin, State, Stops}
+use Rattle.pungi_meaning.specs.Exprs.{computed, is_wanted}
+use Rattle.pungi_meaning.specs.Run.{over, noted, Stopped, act}
 use Rattle.pungi_meaning.specs.Work.{for_two, instead, taken, below}
 use Rattle.pungi_code.specs.declared.atom.Atom.TheVariants as atom
 use Rattle.pungi_code.specs.declared.code.Line.{Line}
-use Rattle.pungi_code.specs.declared.instr.Instr.TheVariants.{Set, Branch, Jump}
+use Rattle.pungi_code.specs.declared.instr.Instr.TheVariants.{Set, Jump}
 use Rattle.pungi_code.specs.Registers.{Regs, put, content_of}
 use Rattle.pungi_code.specs.Run.{exec}
 use Rattle.pungi_layout.specs.Parts.{gives}
@@ -27,8 +27,8 @@ use Rattle.pungi_layout.specs.Sizes.{expr_size}
 use Rattle.pungi_layout.specs.ExprCode.{to_var, var, at_label, bit, branch_on}
 use Rattle.pungi_layout.specs.Scopes.{Env}
 use Rattle.pungi_layout.proofs.Relation.{Waiting, w, pushed_if, Does, IsTemp, ExprAt, IsAt}
-use Rattle.pungi_layout.proofs.Match.{Stack, Match, IsKnown, pushed, popped, forgot}
-use Rattle.pungi_layout.proofs.Steps.{st, result_step, At, Continues, IsDone, set_step, jump_step, branch_step, wanted_step, arith_step, compare_step, fit_step, still, one, two, moved, computed_by}
+use Rattle.pungi_layout.proofs.Match.{Match, IsKnown, pushed, popped, forgot}
+use Rattle.pungi_layout.proofs.Steps.{st, result_step, Continues, IsDone, set_step, jump_step, branch_step, wanted_step, arith_step, compare_step, fit_step, still, one, two, moved, computed_by}
 
 -- what a step makes of a result, for one value or for two
 for_two_is : (r : Option ℤ) (p : Pos) (o : Op) (kind : ValueKind) (a b : ℤ) (k : List Todo) (s : State) → result_step r (Computed p o kind a b) p k (record s { values = below (below s.values) }) ≡ computed p o kind a b r for_two k s

@@ -1,5 +1,5 @@
 -- The code does the loads and stores of a function.
-use Rattle.std.proofs.Common.{◌≡◌, ℕ, zero, suc, ◌+◌, List, [], ◌∷◌, ◌++◌, length, drop, replicate, Option, Some, None, Result, Ok, Err, refl, sym, ap, ◌∙◌, subst, arith}
+use Rattle.std.proofs.Common.{◌≡◌, ℕ, suc, ◌+◌, List, [], ◌∷◌, ◌++◌, length, drop, replicate, Option, Some, None, refl, sym, ap, ◌∙◌, arith}
 use Rattle.std.specs.Prelude.{slice_set}
 use Rattle.pungi_base.specs.declared.choice.Choice.{Choice}
 use Rattle.pungi_base.specs.declared.names.Name.{Name}
@@ -12,30 +12,27 @@ use Rattle.pungi_resolved.specs.Values as expr
 use Rattle.pungi_world.specs.declared.content.Content.{Content}
 use Rattle.pungi_world.specs.declared.content.Content.TheVariants.{Unset, Holds}
 use Rattle.pungi_world.specs.declared.effect.Effect.{Effect}
-use Rattle.pungi_world.specs.declared.halt.Halt.{Halt}
 use Rattle.pungi_world.specs.declared.slot.Slot.{Slot}
 use Rattle.pungi_world.specs.declared.slot.Slot.TheVariants as slot
 use Rattle.pungi_world.specs.declared.world.World.{World}
 use Rattle.pungi_world.specs.Slots.{load_effect, store_effect}
 use Rattle.pungi_meaning.specs.Values.{slot_kind}
-use Rattle.pungi_meaning.specs.Todo.{Operation, Loaded, Stored, Todo, ToLoad, ToOld, ToKeep, ToStore, State, Step, Goes, Stops}
-use Rattle.pungi_meaning.specs.Exprs.{read_local, load_slot, load_field, loaded, old, keep, stored, store_slot, store_field, store}
-use Rattle.pungi_meaning.specs.Run.{Run, over, noted, Stopped, act}
+use Rattle.pungi_meaning.specs.Todo.{Loaded, Stored, Todo, ToLoad, ToOld, ToKeep, ToStore, State}
+use Rattle.pungi_meaning.specs.Exprs.{read_local, load_slot, load_field, loaded, stored, store_slot, store_field}
+use Rattle.pungi_meaning.specs.Run.{Run, noted, act}
 use Rattle.pungi_meaning.specs.Work.{content_at, unused, with_answer}
 use Rattle.pungi_code.specs.declared.code.Line.{Line}
 use Rattle.pungi_code.specs.declared.instr.Instr.TheVariants.{Set, Load, Store}
-use Rattle.pungi_code.specs.declared.place.Place.{Place}
 use Rattle.pungi_code.specs.declared.place.Place.TheVariants.{Global, Field}
 use Rattle.pungi_code.specs.Registers.{Regs, put, content_of, reacting, left, answered, with_value}
 use Rattle.pungi_code.specs.Perform as does
 use Rattle.pungi_code.specs.Run.{exec}
-use Rattle.pungi_layout.specs.Sizes.{store_size}
 use Rattle.pungi_layout.specs.ExprCode.{to_var, var}
 use Rattle.pungi_layout.specs.Scopes.{Env}
-use Rattle.pungi_layout.proofs.Relation.{Waiting, w, Stands, Does, IsTemp, OldAt, StoreAt, IsAt}
-use Rattle.pungi_layout.proofs.Match.{Stack, Match, pushed, popped, assigned, reacted, forgot, kept_below, kept_under}
+use Rattle.pungi_layout.proofs.Relation.{Waiting, w, Stands, Does, IsTemp, IsAt}
+use Rattle.pungi_layout.proofs.Match.{Stack, Match, pushed, popped, assigned, reacted, kept_below, kept_under}
 use Rattle.pungi_layout.proofs.Answers.{HasValue, load_value}
-use Rattle.pungi_layout.proofs.Steps.{st, At, Continues, IsDone, first, with_it, set_step, still, one, two, moved, react_by}
+use Rattle.pungi_layout.proofs.Steps.{st, Continues, IsDone, first, with_it, set_step, one, two, moved, react_by}
 
 module _ (choices : List Choice) (code : List Line) (nl room : ℕ) where
   -- ---- loads

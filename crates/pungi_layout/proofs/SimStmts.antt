@@ -1,8 +1,7 @@
 -- The code does the statements of a function.
-use Rattle.std.proofs.Common.{◌≡◌, ℕ, zero, suc, ◌+◌, ◌*◌, ◌<◌, ◌≤◌, ◌⊎◌, List, [], ◌∷◌, ◌++◌, length, drop, Option, Some, None, refl, sym, ap, ◌∙◌, subst, arith, inl, inr, Bool, true, false, if◌then◌else◌}
+use Rattle.std.proofs.Common.{◌≡◌, ℕ, suc, ◌+◌, ◌*◌, ◌≤◌, ◌⊎◌, List, [], ◌∷◌, length, drop, Option, Some, None, refl, sym, ap, ◌∙◌, subst, arith, inl, inr, Bool, true, false, if◌then◌else◌}
 use Rattle.std.specs.Prelude.{slice_get, slice_set}
 use Rattle.pungi_base.specs.declared.choice.Choice.{Choice}
-use Rattle.pungi_base.specs.declared.names.Name.{Name}
 use Rattle.pungi_base.specs.declared.pos.Pos.{Pos}
 use Rattle.pungi_base.specs.declared.value.Value.{Value}
 use Rattle.pungi_resolved.specs.Values as expr
@@ -11,23 +10,22 @@ use Rattle.pungi_world.specs.declared.content.Content.{Content}
 use Rattle.pungi_world.specs.declared.content.Content.TheVariants.{Unset, Holds}
 use Rattle.pungi_world.specs.declared.world.World.{World}
 use Rattle.pungi_meaning.specs.Values.{is_true}
-use Rattle.pungi_meaning.specs.Todo.{Loop, Todo, ToEval, ToExec, ToForget, ToReach, ToBind, ToChoose, ToJoin, ToRest, ToTest, ToTurn, ToAgain, ToBack, ToSwitch, ToSwitchEnd, ToReturn, ToEnd, State, Step, Goes, listed}
+use Rattle.pungi_meaning.specs.Todo.{Loop, Todo, ToEval, ToExec, ToForget, ToReach, ToBind, ToChoose, ToJoin, ToRest, ToTest, ToTurn, ToAgain, ToBack, ToSwitch, ToSwitchEnd, ToReturn, ToEnd, State, listed}
 use Rattle.pungi_meaning.specs.Jumps.{a_loop, from_label, after_break, after_continue}
 use Rattle.pungi_meaning.specs.Stmts.{block_cases, reach_value, others, tested_by, tested, turn, started, returning, next_stmt, execute}
-use Rattle.pungi_meaning.specs.Run.{over, Returned, Stopped, act}
-use Rattle.pungi_meaning.specs.Work.{declared, unset_reached, taken}
+use Rattle.pungi_meaning.specs.Run.{over, Returned, act}
+use Rattle.pungi_meaning.specs.Work.{declared, unset_reached}
 use Rattle.pungi_code.specs.declared.code.Line.{Line}
 use Rattle.pungi_code.specs.declared.instr.Instr.TheVariants as instr
 use Rattle.pungi_code.specs.Registers.{Regs, put, content_of}
 use Rattle.pungi_code.specs.Run.{exec}
 use Rattle.pungi_code.proofs.Simulation.{ahead}
-use Rattle.pungi_layout.specs.Parts.{gives}
 use Rattle.pungi_layout.specs.Sizes.{expr_size, option_size, reach_size, test_size, stmt_size, stmts_size}
 use Rattle.pungi_layout.specs.ExprCode.{to_var, var, at_label}
 use Rattle.pungi_layout.specs.Scopes.{Env, in_block, in_loop}
-use Rattle.pungi_layout.proofs.Relation.{Waiting, w, Stands, Does, IsTemp, ExprAt, OptionAt, UnsetAt, BindAt, ReachAt, TestAt, GiveAt, StmtAt, StmtsAt, LoopAt, loop_body, loop_again, loop_end, end_of_loop, ListAt, Inside, EndAt, OtherAt, JoinAt, join_size, IsAt}
-use Rattle.pungi_layout.proofs.Match.{Stack, Match, popped, assigned}
-use Rattle.pungi_layout.proofs.Steps.{st, At, Continues, IsDone, first, with_it, set_step, jump_step, branch_step, still, one, moved}
+use Rattle.pungi_layout.proofs.Relation.{Waiting, Does, OptionAt, UnsetAt, BindAt, GiveAt, StmtAt, StmtsAt, LoopAt, loop_body, loop_again, loop_end, end_of_loop, ListAt, Inside, OtherAt, JoinAt, join_size, IsAt}
+use Rattle.pungi_layout.proofs.Match.{Match, popped, assigned}
+use Rattle.pungi_layout.proofs.Steps.{st, Continues, IsDone, first, with_it, set_step, jump_step, branch_step, still, one, moved}
 use Rattle.pungi_layout.proofs.SimCalls.{IsNext, is_next}
 use Rattle.pungi_layout.proofs.SimEval.{eval_at}
 use Rattle.pungi_layout.proofs.Jumps.{break_leads, continue_leads, goto_leads}

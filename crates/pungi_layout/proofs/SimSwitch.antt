@@ -1,5 +1,5 @@
 -- The code does the `switch` of a function: it compares the value with the cases in order, and goes on where the meaning does.
-use Rattle.std.proofs.Common.{◌≡◌, ℕ, zero, suc, ◌+◌, ◌*◌, ◌≤◌, ℤ, List, [], ◌∷◌, ◌++◌, length, drop, Option, Some, None, refl, sym, ap, ◌∙◌, subst, arith, Bool, true, false, if◌then◌else◌}
+use Rattle.std.proofs.Common.{◌≡◌, ℕ, suc, ◌+◌, ◌*◌, ℤ, List, [], ◌∷◌, ◌++◌, length, drop, Option, Some, None, refl, sym, ap, ◌∙◌, subst, arith, Bool, true, false, if◌then◌else◌}
 use Rattle.pungi_base.specs.declared.choice.Choice.{Choice}
 use Rattle.pungi_base.specs.declared.pos.Pos.{Pos}
 use Rattle.pungi_base.specs.declared.value.Value.{Value}
@@ -10,24 +10,23 @@ use Rattle.pungi_world.specs.declared.content.Content.TheVariants.{Holds}
 use Rattle.pungi_world.specs.declared.world.World.{World}
 use Rattle.pungi_meaning.specs.declared.cmp.Cmp.TheVariants as cmps
 use Rattle.pungi_meaning.specs.Values.{is_equal, is_true, truth}
-use Rattle.pungi_meaning.specs.Todo.{Operation, Compared, Todo, ToRest, ToSwitch, ToSwitchEnd, State, Step, Goes, listed}
-use Rattle.pungi_meaning.specs.Stmts.{bears_case, is_default, cases_of, block_cases, looked_at, first_from, target, enter_at, switch}
-use Rattle.pungi_meaning.specs.Run.{Run, noted, act}
+use Rattle.pungi_meaning.specs.Todo.{Compared, Todo, ToSwitch, State, listed}
+use Rattle.pungi_meaning.specs.Stmts.{bears_case, is_default, cases_of, block_cases, looked_at, first_from, target, enter_at}
+use Rattle.pungi_meaning.specs.Run.{noted, act}
 use Rattle.pungi_meaning.specs.Work.{content_at, or_else, declared, unset_reached}
 use Rattle.pungi_code.specs.declared.atom.Atom.TheVariants as atom
 use Rattle.pungi_code.specs.declared.code.Line.{Line}
-use Rattle.pungi_code.specs.declared.instr.Instr.TheVariants.{Jump}
 use Rattle.pungi_code.specs.Registers.{Regs, put}
 use Rattle.pungi_code.specs.Run.{exec}
 use Rattle.pungi_code.proofs.Simulation.{ahead, ahead_is}
 use Rattle.pungi_layout.specs.Sizes.{stmt_size, stmts_size}
-use Rattle.pungi_layout.specs.ExprCode.{to_var, var, at_label}
+use Rattle.pungi_layout.specs.ExprCode.{to_var, var}
 use Rattle.pungi_layout.specs.Scopes.{Env, label_or, placed_cases, list_cases, list_default, in_block, in_switch}
-use Rattle.pungi_layout.proofs.Relation.{Waiting, switch_first, IsTemp, Does, ComparedAt, ListAt, Inside, IsAt}
+use Rattle.pungi_layout.proofs.Relation.{Waiting, switch_first, IsTemp, ComparedAt, ListAt, IsAt}
 use Rattle.pungi_layout.proofs.Match.{Stack, Match, popped, written_above, set_same}
-use Rattle.pungi_layout.proofs.Steps.{st, At, Continues, IsDone, jump_step, branch_step, compare_step, moved}
+use Rattle.pungi_layout.proofs.Steps.{st, IsDone, jump_step, branch_step, compare_step, moved}
 use Rattle.pungi_layout.proofs.Jumps.{drop_next}
-use Rattle.pungi_layout.proofs.SimStmts.{unset_sim, list_at, none_waits, step_to}
+use Rattle.pungi_layout.proofs.SimStmts.{unset_sim, list_at, step_to}
 
 -- where the comparisons lead
 abbrev pub first_place : Value → List (ℤ × ℕ) → ℕ → ℕ

@@ -1,12 +1,12 @@
 -- What the code does at a place where an instruction is known to stand.
-use Rattle.std.proofs.Common.{◌≡◌, ℕ, zero, suc, ◌+◌, ◌≤◌, ℤ, pos, List, [], ◌∷◌, ◌++◌, length, drop, replicate, Option, Some, None, Result, Ok, Err, refl, sym, ap, ◌∙◌, subst, arith, Bool, true, false, not, if◌then◌else◌}
+use Rattle.std.proofs.Common.{◌≡◌, ℕ, suc, ◌+◌, ◌≤◌, ℤ, List, [], ◌∷◌, ◌++◌, replicate, Option, Some, None, Result, Ok, Err, refl, ap, ◌∙◌, subst, arith, Bool, true, false, not, if◌then◌else◌}
 use Rattle.pungi_base.specs.declared.choice.Choice.{Choice}
 use Rattle.pungi_base.specs.declared.pos.Pos.{Pos}
 use Rattle.pungi_base.specs.declared.value.Value.{Value}
 use Rattle.pungi_base.specs.declared.value.Value.TheVariants as value
 use Rattle.pungi_types.specs.declared.kind.ValueKind.{ValueKind}
 use Rattle.pungi_world.specs.declared.content.Content.{Content}
-use Rattle.pungi_world.specs.declared.content.Content.TheVariants.{Unset, Holds}
+use Rattle.pungi_world.specs.declared.content.Content.TheVariants.{Holds}
 use Rattle.pungi_world.specs.declared.effect.Effect.{Effect}
 use Rattle.pungi_world.specs.declared.halt.Halt.{Halt}
 use Rattle.pungi_world.specs.declared.halt.Halt.TheVariants as halt
@@ -14,9 +14,9 @@ use Rattle.pungi_world.specs.declared.world.World.{World}
 use Rattle.pungi_meaning.specs.declared.op.Op.{Op}
 use Rattle.pungi_meaning.specs.declared.cmp.Cmp.{Cmp}
 use Rattle.pungi_meaning.specs.Values.{fits, is_true, truth, arithmetic, holds, number_of}
-use Rattle.pungi_meaning.specs.Todo.{Operation, Computed, Fitted, Compared, Todo, State, Step, Goes, Returns, Stops, Wants}
+use Rattle.pungi_meaning.specs.Todo.{Operation, Computed, Fitted, Compared, Todo, State, Step, Goes, Stops}
 use Rattle.pungi_meaning.specs.Exprs.{is_wanted}
-use Rattle.pungi_meaning.specs.Run.{Run, over, noted, Stopped, NeedsChoice}
+use Rattle.pungi_meaning.specs.Run.{Run, over, noted, Stopped}
 use Rattle.pungi_meaning.specs.Work as work
 use Rattle.pungi_code.specs.declared.atom.Atom.{Atom}
 use Rattle.pungi_code.specs.declared.code.Line.{Line}
@@ -26,9 +26,9 @@ use Rattle.pungi_code.specs.Registers.{Regs, put, content_of, with_value, reacti
 use Rattle.pungi_code.specs.Perform.{computing, perform}
 use Rattle.pungi_code.specs.Run.{fetch, exec}
 use Rattle.pungi_code.proofs.Simulation.{GoesOn, Leads}
-use Rattle.pungi_layout.specs.ExprCode.{to_var, var, at_label, bit, branch_on}
+use Rattle.pungi_layout.specs.ExprCode.{to_var, var, at_label, branch_on}
 use Rattle.pungi_layout.specs.Scopes.{Env}
-use Rattle.pungi_layout.proofs.Relation.{Waiting, w, Stands, Does, IsAt}
+use Rattle.pungi_layout.proofs.Relation.{Waiting, Stands, Does, IsAt}
 use Rattle.pungi_layout.proofs.Match.{Match}
 
 -- a state, part by part

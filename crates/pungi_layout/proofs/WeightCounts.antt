@@ -1,5 +1,5 @@
 -- At most five steps for a node, each loop taken once.
-use Rattle.std.proofs.Common.{◌+◌, ◌*◌, ◌≤◌, arith, ℕ, List, [], ◌∷◌, Option, Some, None, true, false}
+use Rattle.std.proofs.Common.{◌+◌, ◌*◌, ◌≤◌, arith, ℕ, List, [], ◌∷◌, Option, Some, None}
 use Rattle.pungi_resolved.specs.Values as expr
 use Rattle.pungi_resolved.specs.Actions as stmt
 use Rattle.pungi_layout.specs.Sound.{expr_nodes, place_nodes, values_nodes, option_nodes, reach_nodes, stmt_nodes, stmts_nodes}

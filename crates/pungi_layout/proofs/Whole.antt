@@ -1,13 +1,13 @@
 -- Whole runs: where what remains of a function stands in its code, both run alike.
-use Rattle.std.proofs.Common.{◌≡◌, ℕ, zero, suc, ◌+◌, ◌*◌, ◌≤◌, List, [], ◌∷◌, Option, refl, subst, arith}
+use Rattle.std.proofs.Common.{ℕ, ◌+◌, ◌*◌, ◌≤◌, List}
 use Rattle.pungi_base.specs.declared.choice.Choice.{Choice}
-use Rattle.pungi_meaning.specs.Todo.{Operation, Todo, State, Step, Goes, Returns, Stops, Wants}
+use Rattle.pungi_meaning.specs.Todo.{Todo, State, Step, Goes, Returns, Stops, Wants}
 use Rattle.pungi_meaning.specs.Run.{act, run_from}
 use Rattle.pungi_code.specs.declared.code.Line.{Line}
 use Rattle.pungi_code.specs.Registers.{Regs}
 use Rattle.pungi_code.specs.Run.{exec}
 use Rattle.pungi_code.specs.Alike.{Alike}
-use Rattle.pungi_code.proofs.Simulation.{GoesOn, Leads, Lighter, Simulates, follows, alike_by}
+use Rattle.pungi_code.proofs.Simulation.{Simulates, follows, alike_by}
 use Rattle.pungi_layout.specs.Weights.{weight}
 use Rattle.pungi_layout.proofs.Steps.{At, IsDone}
 use Rattle.pungi_layout.proofs.Sim.{sim}

@@ -4,7 +4,7 @@
 --   source f entry choices n    the function's run, of at most so many steps
 --   target code nl temps entry choices n    the code's run, of at most so many instructions
 --   Behaves f code temps most   from any entry and with any choices both runs are alike
-use Rattle.std.specs.Prelude.{◌≡◌, ℕ, ◌+◌, ◌-◌, ◌*◌, ◌≤◌, List, [], ◌++◌, length, map, replicate}
+use Rattle.std.specs.Prelude.{ℕ, ◌-◌, ◌*◌, ◌≤◌, List, [], ◌++◌, length, map, replicate}
 use Rattle.pungi_base.specs.declared.choice.Choice.{Choice}
 use Rattle.pungi_base.specs.declared.entry.Entry.{Entry}
 use Rattle.pungi_resolved.specs.Functions.{ResolvedFunction}

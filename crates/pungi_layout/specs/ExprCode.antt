@@ -13,18 +13,16 @@
 --   expr_code nl d t pc v        the instructions of an expression at this place: they leave its value in the variable t, where
 --                                d values wait below it
 --   base_code, args_code         those of a field's base, those of arguments
-use Rattle.std.specs.Prelude.{ℕ, ◌+◌, Bool, true, false, not, List, [], ◌∷◌, ◌++◌, map, Option, Some, None, if◌then◌else◌, pos}
+use Rattle.std.specs.Prelude.{ℕ, ◌+◌, Bool, true, false, not, List, [], ◌∷◌, ◌++◌, map, Some, None, if◌then◌else◌, pos}
 use Rattle.pungi_base.specs.declared.kind.Kind.{Kind}
-use Rattle.pungi_base.specs.declared.names.Name.{Name}
 use Rattle.pungi_base.specs.declared.pos.Pos.{Pos}
-use Rattle.pungi_base.specs.declared.punct.Punct.{Punct}
 use Rattle.pungi_api.specs.declared.param.Param.{Param}
 use Rattle.pungi_api.specs.declared.row.Row.{Row}
 use Rattle.pungi_types.specs.declared.kind.ValueKind.{ValueKind}
 use Rattle.pungi_resolved.specs.Values as expr
 use Rattle.pungi_types.specs.Operators.{is_same_kind}
 use Rattle.pungi_meaning.specs.declared.op.Op.TheVariants as ops
-use Rattle.pungi_meaning.specs.Values.{op_of, cmp_of, wide, slot_kind, truth}
+use Rattle.pungi_meaning.specs.Values.{op_of, cmp_of, wide, slot_kind}
 use Rattle.pungi_meaning.specs.Exprs.{step_op, is_and}
 use Rattle.pungi_meaning.specs.Work.{shape_of}
 use Rattle.pungi_meaning.specs.Run.{nowhere}
@@ -38,7 +36,7 @@ use Rattle.pungi_code.specs.declared.instr.Instr.TheVariants.{Set, Arith, Fit, C
 use Rattle.pungi_code.specs.declared.instr.Label.{Label}
 use Rattle.pungi_code.specs.declared.place.Place.TheVariants.{Global, Field}
 use Rattle.pungi_layout.specs.Parts.{is_minus, gives_answer}
-use Rattle.pungi_layout.specs.Sizes.{expr_size, place_size, values_size, fit_size, keep_size}
+use Rattle.pungi_layout.specs.Sizes.{expr_size, place_size}
 use Rattle.pungi_layout.specs.Temporaries.{column, temp, value_column, temp_of, operand, tail, arg_var, arg_vars}
 
 abbrev pub line : Pos → Instr → Line

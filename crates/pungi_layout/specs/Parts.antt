@@ -5,7 +5,7 @@
 --   gives v                an expression leaves a value; a call of a row that answers nothing doesn't
 --   is_converted kind      what is counted in the wide kind is converted to this kind
 --   base_of place          the base of a field
-use Rattle.std.specs.Prelude.{Bool, true, false, Option, Some, None, not}
+use Rattle.std.specs.Prelude.{Bool, true, false}
 use Rattle.pungi_base.specs.declared.kind.Kind.{Kind}
 use Rattle.pungi_base.specs.declared.kind.Kind.TheVariants as tokens
 use Rattle.pungi_base.specs.declared.punct.Punct.TheVariants as puncts
@@ -16,7 +16,6 @@ use Rattle.pungi_api.specs.declared.row.Form.TheVariants as form
 use Rattle.pungi_api.specs.declared.row.Row.{Row}
 use Rattle.pungi_api.specs.declared.special.Special.{Special}
 use Rattle.pungi_api.specs.declared.special.Special.TheVariants as special
-use Rattle.pungi_types.specs.declared.kind.ValueKind.{ValueKind}
 use Rattle.pungi_resolved.specs.Values as expr
 
 abbrev pub is_minus : Kind → Bool

@@ -8,13 +8,13 @@
 --   in_block, in_loop, in_switch    the inside of a block, a loop and a `switch`
 --   placed_cases, list_cases    the cases of statements, each with the place where its statement begins
 --   list_default                the place of the statement behind `default`
-use Rattle.std.specs.Prelude.{ℕ, ◌+◌, ◌*◌, ◌==◌, ℤ, List, [], ◌∷◌, ◌++◌, length, Option, Some, None, if◌then◌else◌}
+use Rattle.std.specs.Prelude.{ℕ, ◌+◌, ◌==◌, ℤ, List, [], ◌∷◌, ◌++◌, length, Option, Some, None, if◌then◌else◌}
 use Rattle.pungi_base.specs.declared.names.Name.{Name}
 use Rattle.pungi_resolved.specs.Values as expr
 use Rattle.pungi_resolved.specs.Actions as stmt
 use Rattle.pungi_meaning.specs.Work.{or_else}
 use Rattle.pungi_meaning.specs.Stmts.{cases_of, is_default}
-use Rattle.pungi_layout.specs.Sizes.{expr_size, option_size, reach_size, test_size, stmt_size, list_size}
+use Rattle.pungi_layout.specs.Sizes.{expr_size, option_size, reach_size, test_size, stmt_size}
 
 pub record Env : Type 0 where
   pub breaks : ℕ

@@ -6,7 +6,7 @@
 --   AreReached nl rs                        declared locals
 --   IsStmtSound nl a, AreStmtsSound         a statement, statements
 --   expr_nodes v, place_nodes, values_nodes, option_nodes, reach_nodes, stmt_nodes a, stmts_nodes    how many nodes
-use Rattle.std.specs.Prelude.{◌≡◌, ℕ, ◌+◌, ◌<◌, ◌≤◌, true, List, [], ◌∷◌, Option, Some, None}
+use Rattle.std.specs.Prelude.{◌≡◌, ℕ, ◌+◌, ◌<◌, true, List, [], ◌∷◌, Option, Some, None}
 use Rattle.pungi_resolved.specs.Values as expr
 use Rattle.pungi_resolved.specs.Actions as stmt
 use Rattle.pungi_layout.specs.Parts.{gives}

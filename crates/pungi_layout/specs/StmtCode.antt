@@ -25,7 +25,7 @@ use Rattle.pungi_meaning.specs.Todo.{listed}
 use Rattle.pungi_code.specs.declared.atom.Atom.TheVariants as atom
 use Rattle.pungi_code.specs.declared.code.Line.{Line}
 use Rattle.pungi_code.specs.declared.instr.Instr.TheVariants.{Set, Compare, Unset, Jump, Branch, Return, Fall}
-use Rattle.pungi_layout.specs.Sizes.{expr_size, option_size, reach_size, test_size, stmt_size, stmts_size, list_size}
+use Rattle.pungi_layout.specs.Sizes.{expr_size, option_size, reach_size, test_size, stmt_size, stmts_size}
 use Rattle.pungi_layout.specs.Temporaries.{temp, temp_of, operand, local_column}
 use Rattle.pungi_layout.specs.ExprCode.{line, to_var, var, at_label, expr_code}
 use Rattle.pungi_layout.specs.Scopes.{Env, everywhere, label_or, for_head, list_cases, list_default, in_block, in_loop, in_switch}
