@@ -3,9 +3,10 @@
 --   some_same         one value only is read
 --   le_true, le_false, le_from, lt_true, lt_false, lt_from, eq_from    tests on numbers
 --   and_true, and_join, or_true, not_true    tests of tests
+--   IfOk-both         what follows from two facts about a value that may have been returned
 --   same_mark, same_key    a punctuator, or a keyword, is known by its number
 use Rattle.std.proofs.Common.{◌≡◌, ℕ, zero, suc, ◌<◌, ◌≤◌, Bool, true, false, cond, not, ◌&&◌, ◌||◌, List, [], ◌∷◌, Option, Some, None, ◌⊎◌, inl, inr, refl, sym, ◌∙◌, ap, arith}
-use Rattle.std.specs.Prelude.{nat_le, nat_lt, ◌==◌}
+use Rattle.std.specs.Prelude.{nat_le, nat_lt, ◌==◌, Result, Ok, Err, IfOk}
 use Rattle.std.proofs.lemmas.Bool.Decides.{nat_tests}
 use Rattle.pungi_base.specs.declared.key.Key.{Key}
 use Rattle.pungi_base.specs.declared.key.Key.TheVariants as keys
@@ -13,6 +14,10 @@ use Rattle.pungi_base.specs.declared.punct.Punct.{Punct}
 use Rattle.pungi_base.specs.declared.punct.Punct.TheVariants as puncts
 use Rattle.pungi_parse.specs.Eat.{punct_number, key_number}
 use Rattle.pungi_parse.specs.Reading.{◌>>=◌, chain, on_some, when, unless}
+
+pub IfOk-both : {X E : Type 0} (r : Result X E) (P Q R : X → Type 0) → ((x : X) → P x → Q x → R x) → IfOk r P → IfOk r Q → IfOk r R
+IfOk-both (Ok x) P Q R f p q = f x p q
+IfOk-both (Err e) P Q R f p q = tt
 
 pub bind_some : {A B : Type 0} (o : Option A) (f : A → Option B) (y : B) → (o >>= f) ≡ Some y → (x : A) × (o ≡ Some x) × (f x ≡ Some y)
 unfolding chain

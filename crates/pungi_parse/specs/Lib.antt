@@ -5,6 +5,7 @@ pub mod ExprReader
 pub mod Faults
 pub mod Gives
 pub mod Readers
+pub mod Reads
 pub mod Reading
 pub mod StmtReader
 pub mod Table

@@ -1,6 +1,6 @@
-ghost use Rattle.std.specs.Prelude.{◌≡◌, ◌≤◌, ◌<◌, length, map, option_map, IfOk};
-ghost use Rattle.pungi_parse.specs.Gives.{Gives};
+ghost use Rattle.std.specs.Prelude.{suc, length, map};
 ghost use Rattle.pungi_parse.specs.Readers.{readers};
+ghost use Rattle.pungi_parse.specs.Reads.{ReadsFront};
 ghost use Rattle.pungi_parse.specs.StmtReader.{first_value as first_value_of, init_at, var_at, vars_at, decl_at};
 ghost use Rattle.pungi_tree.specs.Placed.{placed};
 ghost use Rattle.pungi_tree.specs.StmtView.{init_view, init_option_view, var_decl_view, decl_view};
@@ -20,9 +20,8 @@ impl Parser<'_> {
     /// The first value of a variable behind its `=`.
     #[tactic(auto, unfolding(crate::specs::StmtReader::first_value, crate::specs::Reading::chain, crate::specs::Reading::on_some))]
     fn first_value<'t>(&self, tokens: &'t [Token]) -> Front<'t, Init>
-        ensures tree { Gives (λ x. (init_view x.0, placed x.1.now)) result
+        ensures { ReadsFront init_view (length tokens.now) result
             (first_value_of self.now.types.now (readers self.now.types.now self.now.nest self.now.most) (placed tokens.now)) }
-        ensures shorter { IfOk result (λ x. length x.1.now < length tokens.now) }
     {
         if let Some((_, inner)) = eat(Punct::LeftBrace, tokens) {
             let (found, rest) = table(self.alloc, inner)?;
@@ -35,9 +34,8 @@ impl Parser<'_> {
     /// The first value of a variable with its `=`, where it has one.
     #[tactic(auto, unfolding(crate::specs::StmtReader::init_at, crate::specs::Reading::chain, crate::specs::Reading::on_some))]
     fn init<'t>(&self, tokens: &'t [Token]) -> Front<'t, Option<Init>>
-        ensures tree { Gives (λ x. (init_option_view x.0, placed x.1.now)) result
+        ensures { ReadsFront init_option_view (suc (length tokens.now)) result
             (init_at self.now.types.now (readers self.now.types.now self.now.nest self.now.most) (placed tokens.now)) }
-        ensures shorter { IfOk result (λ x. length x.1.now ≤ length tokens.now) }
     {
         match eat(Punct::Assign, tokens) {
             None => Ok((None, tokens)),
@@ -51,9 +49,8 @@ impl Parser<'_> {
     /// A declared variable with its first value.
     #[tactic(auto, unfolding(crate::specs::StmtReader::var_at, crate::specs::Reading::chain))]
     fn var<'t>(&self, tokens: &'t [Token]) -> Front<'t, VarDecl>
-        ensures tree { Gives (λ x. (var_decl_view x.0, placed x.1.now)) result
+        ensures { ReadsFront var_decl_view (length tokens.now) result
             (var_at self.now.types.now (readers self.now.types.now self.now.nest self.now.most) (placed tokens.now)) }
-        ensures shorter { IfOk result (λ x. length x.1.now < length tokens.now) }
     {
         let (declr, _, after) = self.declr(tokens)?;
         let (value, rest) = self.init(after)?;
@@ -62,9 +59,8 @@ impl Parser<'_> {
 
     /// The variables of a declaration, with its semicolon.
     pub(crate) fn vars<'t>(&self, tokens: &'t [Token]) -> Front<'t, Vec<VarDecl>>
-        ensures tree { Gives (λ x. (map var_decl_view x.0.items, placed x.1.now)) result
+        ensures { ReadsFront (λ t. map var_decl_view t.items) (length tokens.now) result
             (vars_at self.now.types.now (readers self.now.types.now self.now.nest self.now.most) (placed tokens.now)) }
-        ensures shorter { IfOk result (λ x. length x.1.now < length tokens.now) }
     {
         let (first, mut rest) = self.var(tokens)?;
         let mut list = Vec::new(self.alloc);
@@ -83,9 +79,8 @@ impl Parser<'_> {
     /// A declaration of variables.
     #[tactic(auto, unfolding(crate::specs::StmtReader::decl_at, crate::specs::Reading::chain))]
     pub(crate) fn decl<'t>(&self, tokens: &'t [Token]) -> Front<'t, Decl>
-        ensures tree { Gives (λ x. (decl_view x.0, placed x.1.now)) result
+        ensures { ReadsFront decl_view (length tokens.now) result
             (decl_at self.now.types.now (readers self.now.types.now self.now.nest self.now.most) (placed tokens.now)) }
-        ensures shorter { IfOk result (λ x. length x.1.now < length tokens.now) }
     {
         let (quals, after) = qualifiers(self.alloc, tokens)?;
         let (type_name, _, behind) = self.spec(after)?;

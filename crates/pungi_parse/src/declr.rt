@@ -1,6 +1,6 @@
-ghost use Rattle.std.specs.Prelude.{◌≡◌, ◌≤◌, ◌<◌, suc, length, map, IfOk};
-ghost use Rattle.pungi_parse.specs.Gives.{Gives};
+ghost use Rattle.std.specs.Prelude.{suc, length, map};
 ghost use Rattle.pungi_parse.specs.Readers.{readers};
+ghost use Rattle.pungi_parse.specs.Reads.{Reads};
 ghost use Rattle.pungi_parse.specs.Turns.{size_at, size_depth};
 ghost use Rattle.pungi_parse.specs.TypeReader.{declrs as declrs_of_tokens, declr_at, declr_rest as declr_rest_of, function_rest as function_rest_of, sizes_at};
 ghost use Rattle.pungi_tree.specs.ExprDepth.{declr_depth, declrs_depth, sizes_depth};
@@ -20,12 +20,9 @@ impl Parser<'_> {
     #[tactic(auto, unfolding(crate::specs::TypeReader::declrs, crate::specs::Reading::chain))]
     #[cycle(parts)]
     pub(crate) fn declrs<'t>(&self, tokens: &'t [Token]) -> Read<'t, Vec<Declr>>
-        ensures tree { Gives (λ x. (declrs_of (map declr_view x.0.items), placed x.2.now)) result
+        ensures { Reads (λ t. declrs_of (map declr_view t.items)) declrs_depth self.now.most (length tokens.now) result
             (declrs_of_tokens self.now.types.now (readers self.now.types.now self.now.nest self.now.most)
             (placed tokens.now)) }
-        ensures deep { IfOk result (λ x. x.1 ≡ declrs_depth (declrs_of (map declr_view x.0.items))) }
-        ensures bound { IfOk result (λ x. x.1 ≤ self.now.most) }
-        ensures shorter { IfOk result (λ x. length x.2.now < length tokens.now) }
     {
         let mut list = Vec::new(self.alloc);
         let (first, depth, after) = self.declr(tokens)?;
@@ -45,12 +42,9 @@ impl Parser<'_> {
     #[tactic(auto, unfolding(crate::specs::TypeReader::declr_at))]
     #[cycle(parts)]
     pub(crate) fn declr<'t>(&self, tokens: &'t [Token]) -> Read<'t, Declr>
-        ensures tree { Gives (λ x. (declr_view x.0, placed x.2.now)) result
+        ensures { Reads declr_view declr_depth self.now.most (length tokens.now) result
             (declr_at self.now.types.now (readers self.now.types.now self.now.nest self.now.most)
             (placed tokens.now)) }
-        ensures deep { IfOk result (λ x. x.1 ≡ declr_depth (declr_view x.0)) }
-        ensures bound { IfOk result (λ x. x.1 ≤ self.now.most) }
-        ensures shorter { IfOk result (λ x. length x.2.now < length tokens.now) }
     {
         let (stars, rest) = words::stars(self.alloc, tokens)?;
         self.declr_rest(stars, rest)
@@ -60,12 +54,9 @@ impl Parser<'_> {
     #[tactic(auto, unfolding(crate::specs::TypeReader::declr_rest, crate::specs::Reading::chain, crate::specs::Reading::on_some))]
     #[cycle(parts)]
     pub(crate) fn declr_rest<'t>(&self, stars: Vec<u32>, tokens: &'t [Token]) -> Read<'t, Declr>
-        ensures tree { Gives (λ x. (declr_view x.0, placed x.2.now)) result
+        ensures { Reads declr_view declr_depth self.now.most (length tokens.now) result
             (declr_rest_of self.now.types.now (readers self.now.types.now self.now.nest self.now.most)
             stars.items (placed tokens.now)) }
-        ensures deep { IfOk result (λ x. x.1 ≡ declr_depth (declr_view x.0)) }
-        ensures bound { IfOk result (λ x. x.1 ≤ self.now.most) }
-        ensures shorter { IfOk result (λ x. length x.2.now < length tokens.now) }
     {
         let Some((name, pos, rest)) = plain_word(self.types, tokens) else {
             return self.function_rest(stars, tokens);
@@ -77,12 +68,9 @@ impl Parser<'_> {
     /// A pointer to a function, behind its stars (C11 6.7.6.3).
     #[cycle(parts)]
     fn function_rest<'t>(&self, stars: Vec<u32>, tokens: &'t [Token]) -> Read<'t, Declr>
-        ensures tree { Gives (λ x. (declr_view x.0, placed x.2.now)) result
+        ensures { Reads declr_view declr_depth self.now.most (length tokens.now) result
             (function_rest_of self.now.types.now (readers self.now.types.now self.now.nest self.now.most)
             stars.items (placed tokens.now)) }
-        ensures deep { IfOk result (λ x. x.1 ≡ declr_depth (declr_view x.0)) }
-        ensures bound { IfOk result (λ x. x.1 ≤ self.now.most) }
-        ensures shorter { IfOk result (λ x. length x.2.now < length tokens.now) }
     {
         let Some((name, pos, inner)) = function_front(self.types, tokens) else {
             return Err(Stop::NothingRead);
@@ -94,12 +82,9 @@ impl Parser<'_> {
     /// The brackets of an array (C11 6.7.6.2).
     #[cycle(parts)]
     fn sizes<'t>(&self, tokens: &'t [Token]) -> Read<'t, Vec<Option<Expr>>>
-        ensures tree { Gives (λ x. (sizes_of (map optional_view x.0.items), placed x.2.now)) result
+        ensures { Reads (λ t. sizes_of (map optional_view t.items)) sizes_depth self.now.most (suc (length tokens.now)) result
             (sizes_at self.now.types.now (readers self.now.types.now self.now.nest self.now.most)
             (placed tokens.now)) }
-        ensures deep { IfOk result (λ x. x.1 ≡ sizes_depth (sizes_of (map optional_view x.0.items))) }
-        ensures bound { IfOk result (λ x. x.1 ≤ self.now.most) }
-        ensures shorter { IfOk result (λ x. length x.2.now ≤ length tokens.now) }
     {
         let mut list = Vec::new(self.alloc);
         let mut deepest: u32 = 0;
@@ -117,11 +102,8 @@ impl Parser<'_> {
     #[tactic(auto, unfolding(crate::specs::Turns::size_at, crate::specs::Reading::chain, crate::specs::Reading::on_some))]
     #[cycle(parts)]
     fn size<'t>(&self, tokens: &'t [Token]) -> Read<'t, Option<Expr>>
-        ensures tree { Gives (λ x. (optional_view x.0, placed x.2.now)) result
+        ensures { Reads optional_view size_depth self.now.most (length tokens.now) result
             (size_at (readers self.now.types.now self.now.nest self.now.most) (placed tokens.now)) }
-        ensures deep { IfOk result (λ x. x.1 ≡ size_depth (optional_view x.0)) }
-        ensures bound { IfOk result (λ x. x.1 ≤ self.now.most) }
-        ensures shorter { IfOk result (λ x. length x.2.now < length tokens.now) }
     {
         if let Some((_, rest)) = eat(Punct::RightBracket, tokens) {
             return Ok((None, 0, rest));

@@ -1,7 +1,7 @@
-ghost use Rattle.std.specs.Prelude.{◌≡◌, ◌≤◌, ◌<◌, ◌-◌, ◌^◌, suc, length, IfOk};
+ghost use Rattle.std.specs.Prelude.{◌<◌, ◌-◌, ◌^◌, suc, length};
 ghost use Rattle.pungi_parse.specs.ExprReader.{read_at as read_at_of, comma_at, assign_at, assign_rest as assign_rest_of, conditional_at, conditional_rest as conditional_rest_of, climb as climb_of, casted as casted_of};
-ghost use Rattle.pungi_parse.specs.Gives.{Gives};
 ghost use Rattle.pungi_parse.specs.Readers.{readers};
+ghost use Rattle.pungi_parse.specs.Reads.{Reads};
 ghost use Rattle.pungi_tree.specs.ExprDepth.{expr_depth};
 ghost use Rattle.pungi_tree.specs.ExprView.{expr_view};
 ghost use Rattle.pungi_tree.specs.Placed.{placed};
@@ -19,11 +19,8 @@ impl Parser<'_> {
     /// The expression of a level at the front (C11 6.5).
     #[cycle(parts)]
     pub(crate) fn expr<'t>(&self, level: u32, tokens: &'t [Token]) -> Read<'t, Box<Expr>>
-        ensures tree { Gives (λ x. (expr_view x.0.value, placed x.2.now)) result
+        ensures { Reads (λ t. expr_view t.value) expr_depth self.now.most (length tokens.now) result
             ((readers self.now.types.now self.now.nest self.now.most).expr level (placed tokens.now)) }
-        ensures deep { IfOk result (λ x. x.1 ≡ expr_depth (expr_view x.0.value)) }
-        ensures bound { IfOk result (λ x. x.1 ≤ self.now.most) }
-        ensures shorter { IfOk result (λ x. length x.2.now < length tokens.now) }
     {
         if self.nest == 0 {
             return Err(Stop::NothingRead);
@@ -44,12 +41,9 @@ impl Parser<'_> {
     #[cycle(parts)]
     fn read_at<'t>(&self, level: u32, tokens: &'t [Token]) -> Read<'t, Box<Expr>>
         requires { self.now.most < 2 ^ 32 - 1 }
-        ensures tree { Gives (λ x. (expr_view x.0.value, placed x.2.now)) result
+        ensures { Reads (λ t. expr_view t.value) expr_depth (suc self.now.most) (length tokens.now) result
             (read_at_of self.now.types.now (readers self.now.types.now self.now.nest self.now.most)
             (suc self.now.most) level (placed tokens.now)) }
-        ensures deep { IfOk result (λ x. x.1 ≡ expr_depth (expr_view x.0.value)) }
-        ensures bound { IfOk result (λ x. x.1 ≤ suc self.now.most) }
-        ensures shorter { IfOk result (λ x. length x.2.now < length tokens.now) }
     {
         if level == 0 {
             self.comma(tokens)
@@ -69,12 +63,9 @@ impl Parser<'_> {
     #[cycle(parts)]
     fn comma<'t>(&self, tokens: &'t [Token]) -> Read<'t, Box<Expr>>
         requires { self.now.most < 2 ^ 32 - 1 }
-        ensures tree { Gives (λ x. (expr_view x.0.value, placed x.2.now)) result
+        ensures { Reads (λ t. expr_view t.value) expr_depth (suc self.now.most) (length tokens.now) result
             (comma_at self.now.types.now (readers self.now.types.now self.now.nest self.now.most)
             (suc self.now.most) (placed tokens.now)) }
-        ensures deep { IfOk result (λ x. x.1 ≡ expr_depth (expr_view x.0.value)) }
-        ensures bound { IfOk result (λ x. x.1 ≤ suc self.now.most) }
-        ensures shorter { IfOk result (λ x. length x.2.now < length tokens.now) }
     {
         let (mut left, mut left_depth, mut rest) = self.assign(tokens)?;
         while let Some((pos, after)) = eat(Punct::Comma, rest) {
@@ -94,12 +85,9 @@ impl Parser<'_> {
     #[cycle(parts)]
     fn assign<'t>(&self, tokens: &'t [Token]) -> Read<'t, Box<Expr>>
         requires { self.now.most < 2 ^ 32 - 1 }
-        ensures tree { Gives (λ x. (expr_view x.0.value, placed x.2.now)) result
+        ensures { Reads (λ t. expr_view t.value) expr_depth (suc self.now.most) (length tokens.now) result
             (assign_at self.now.types.now (readers self.now.types.now self.now.nest self.now.most)
             (suc self.now.most) (placed tokens.now)) }
-        ensures deep { IfOk result (λ x. x.1 ≡ expr_depth (expr_view x.0.value)) }
-        ensures bound { IfOk result (λ x. x.1 ≤ suc self.now.most) }
-        ensures shorter { IfOk result (λ x. length x.2.now < length tokens.now) }
     {
         let (left, depth, rest) = self.conditional(tokens)?;
         let Some((operator, pos, after)) = eat_assign(rest) else {
@@ -119,12 +107,9 @@ impl Parser<'_> {
     #[cycle(parts)]
     fn conditional<'t>(&self, tokens: &'t [Token]) -> Read<'t, Box<Expr>>
         requires { self.now.most < 2 ^ 32 - 1 }
-        ensures tree { Gives (λ x. (expr_view x.0.value, placed x.2.now)) result
+        ensures { Reads (λ t. expr_view t.value) expr_depth (suc self.now.most) (length tokens.now) result
             (conditional_at self.now.types.now (readers self.now.types.now self.now.nest self.now.most)
             (suc self.now.most) (placed tokens.now)) }
-        ensures deep { IfOk result (λ x. x.1 ≡ expr_depth (expr_view x.0.value)) }
-        ensures bound { IfOk result (λ x. x.1 ≤ suc self.now.most) }
-        ensures shorter { IfOk result (λ x. length x.2.now < length tokens.now) }
     {
         let (test, depth, rest) = self.climb(3, tokens)?;
         let Some((pos, after)) = eat(Punct::Question, rest) else {
@@ -148,12 +133,9 @@ impl Parser<'_> {
     #[cycle(parts)]
     fn climb<'t>(&self, level: u32, tokens: &'t [Token]) -> Read<'t, Box<Expr>>
         requires { self.now.most < 2 ^ 32 - 1 }
-        ensures tree { Gives (λ x. (expr_view x.0.value, placed x.2.now)) result
+        ensures { Reads (λ t. expr_view t.value) expr_depth (suc self.now.most) (length tokens.now) result
             (climb_of self.now.types.now (readers self.now.types.now self.now.nest self.now.most)
             (suc self.now.most) level (placed tokens.now)) }
-        ensures deep { IfOk result (λ x. x.1 ≡ expr_depth (expr_view x.0.value)) }
-        ensures bound { IfOk result (λ x. x.1 ≤ suc self.now.most) }
-        ensures shorter { IfOk result (λ x. length x.2.now < length tokens.now) }
     {
         let (mut left, mut left_depth, mut rest) = self.casted(tokens)?;
         while let Some((operator, pos, after)) = eat_operator(level, rest) {
@@ -173,12 +155,9 @@ impl Parser<'_> {
     #[cycle(parts)]
     fn casted<'t>(&self, tokens: &'t [Token]) -> Read<'t, Box<Expr>>
         requires { self.now.most < 2 ^ 32 - 1 }
-        ensures tree { Gives (λ x. (expr_view x.0.value, placed x.2.now)) result
+        ensures { Reads (λ t. expr_view t.value) expr_depth (suc self.now.most) (length tokens.now) result
             (casted_of self.now.types.now (readers self.now.types.now self.now.nest self.now.most)
             (suc self.now.most) (placed tokens.now)) }
-        ensures deep { IfOk result (λ x. x.1 ≡ expr_depth (expr_view x.0.value)) }
-        ensures bound { IfOk result (λ x. x.1 ≤ suc self.now.most) }
-        ensures shorter { IfOk result (λ x. length x.2.now < length tokens.now) }
     {
         let Some((pos, inner)) = cast_front(self.types, tokens) else {
             return self.unary(tokens);

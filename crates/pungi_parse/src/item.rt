@@ -1,12 +1,11 @@
-ghost use Rattle.std.specs.Prelude.{◌≡◌, ◌<◌, length, option_map, List, Some, IfOk, IfSome};
-ghost use Rattle.pungi_parse.specs.Gives.{Gives};
+ghost use Rattle.std.specs.Prelude.{◌≡◌, ◌<◌, length, option_map, Some, IfOk, IfSome};
 ghost use Rattle.pungi_parse.specs.Reading.{chain};
 ghost use Rattle.pungi_parse.specs.Readers.{readers};
+ghost use Rattle.pungi_parse.specs.Reads.{ReadsFront};
 ghost use Rattle.pungi_parse.specs.StmtReader.{vars_at};
 ghost use Rattle.pungi_parse.specs.UnitReader.{deepest, doc_front as doc_front_of, doc_at, typedef_at, head_front as head_front_of, function_rest as function_rest_of, declared_at, declaration_at, item_at};
 ghost use Rattle.pungi_tree.specs.ExprView.{spec_view};
-ghost use Rattle.pungi_tree.specs.Placed.{Placed, placed};
-ghost use Rattle.pungi_tree.specs.Syntax.{Item as PlainItem};
+ghost use Rattle.pungi_tree.specs.Placed.{placed};
 ghost use Rattle.pungi_tree.specs.Syntax as plain;
 ghost use Rattle.pungi_tree.specs.UnitView.{item_view};
 
@@ -63,9 +62,8 @@ impl ItemParser<'_> {
     /// The documentation of a method behind its parenthesis.
     #[tactic(auto, unfolding(crate::specs::UnitReader::doc_at, crate::specs::Reading::chain, crate::specs::Reading::unless))]
     fn doc<'t>(&self, tokens: &'t [Token]) -> Front<'t, Item>
-        ensures tree { Gives (λ x. (item_view x.0, placed x.1.now)) result
+        ensures { ReadsFront item_view (length tokens.now) result
             (doc_at self.now.types.now (placed tokens.now)) }
-        ensures shorter { IfOk result (λ x. length x.1.now < length tokens.now) }
     {
         let Some((name, pos, after)) = plain_word(self.types, tokens) else {
             return Err(Stop::NothingRead);
@@ -86,9 +84,8 @@ impl ItemParser<'_> {
     /// What stands behind `typedef`.
     #[tactic(auto, unfolding(crate::specs::UnitReader::typedef_at, crate::specs::Reading::chain))]
     fn typedef<'t>(&self, tokens: &'t [Token]) -> Front<'t, Item>
-        ensures tree { Gives (λ x. (item_view x.0, placed x.1.now)) result
+        ensures { ReadsFront item_view (length tokens.now) result
             (typedef_at self.now.types.now (readers self.now.types.now self.now.nest deepest) (placed tokens.now)) }
-        ensures shorter { IfOk result (λ x. length x.1.now < length tokens.now) }
     {
         let parser = Parser {
             alloc: self.alloc,
@@ -138,9 +135,8 @@ impl ItemParser<'_> {
     /// What stands behind a function's parenthesis.
     #[tactic(auto, unfolding(crate::specs::UnitReader::function_rest, crate::specs::Reading::chain, crate::specs::Reading::on_some))]
     fn function_rest<'t>(&self, front: Signature, tokens: &'t [Token]) -> Front<'t, Item>
-        ensures tree { Gives (λ x. (item_view x.0, placed x.1.now)) result
+        ensures { ReadsFront item_view (length tokens.now) result
             (function_rest_of self.now.types.now self.now.nest front.quals.items (spec_view front.result) front.stars.items front.name front.pos (placed tokens.now)) }
-        ensures shorter { IfOk result (λ x. length x.1.now < length tokens.now) }
     {
         let parser = Parser {
             alloc: self.alloc,
@@ -187,9 +183,8 @@ impl ItemParser<'_> {
     /// What stands behind the type of a declaration.
     #[tactic(auto, unfolding(crate::specs::UnitReader::declared_at, crate::specs::Reading::chain, crate::specs::Reading::on_some))]
     fn declared<'t>(&self, quals: Vec<Key>, spec: Spec, tokens: &'t [Token]) -> Front<'t, Item>
-        ensures tree { Gives (λ x. (item_view x.0, placed x.1.now)) result
+        ensures { ReadsFront item_view (length tokens.now) result
             (declared_at self.now.types.now self.now.nest quals.items (spec_view spec) (placed tokens.now)) }
-        ensures shorter { IfOk result (λ x. length x.1.now < length tokens.now) }
     {
         if let Some((_, rest)) = eat(Punct::Semicolon, tokens) {
             return Ok((Item::Tag { quals, spec }, rest));
@@ -210,10 +205,9 @@ impl ItemParser<'_> {
     /// The variables of a declaration.
     #[tactic(auto, unfolding(crate::specs::Reading::chain))]
     fn variables<'t>(&self, quals: Vec<Key>, spec: Spec, tokens: &'t [Token]) -> Front<'t, Item>
-        ensures tree { Gives {Y = PlainItem × List Placed} (λ x. (item_view x.0, placed x.1.now)) result
+        ensures { ReadsFront item_view (length tokens.now) result
             (chain (vars_at self.now.types.now (readers self.now.types.now self.now.nest deepest) (placed tokens.now))
             (λ vs. Some (plain.variables (plain.decl quals.items (spec_view spec) vs.0), vs.1))) }
-        ensures shorter { IfOk result (λ x. length x.1.now < length tokens.now) }
     {
         let parser = Parser {
             alloc: self.alloc,
@@ -234,9 +228,8 @@ impl ItemParser<'_> {
     /// A declaration, a prototype or a function.
     #[tactic(auto, unfolding(crate::specs::UnitReader::declaration_at, crate::specs::Reading::chain))]
     fn declaration<'t>(&self, tokens: &'t [Token]) -> Front<'t, Item>
-        ensures tree { Gives (λ x. (item_view x.0, placed x.1.now)) result
+        ensures { ReadsFront item_view (length tokens.now) result
             (declaration_at self.now.types.now self.now.nest (placed tokens.now)) }
-        ensures shorter { IfOk result (λ x. length x.1.now < length tokens.now) }
     {
         let parser = Parser {
             alloc: self.alloc,
@@ -253,9 +246,8 @@ impl ItemParser<'_> {
     /// What stands at the front of a file.
     #[tactic(auto, unfolding(crate::specs::UnitReader::item_at, crate::specs::Reading::on_some))]
     pub(crate) fn item<'t>(&self, tokens: &'t [Token]) -> Front<'t, Item>
-        ensures tree { Gives (λ x. (item_view x.0, placed x.1.now)) result
+        ensures { ReadsFront item_view (length tokens.now) result
             (item_at self.now.types.now self.now.nest (placed tokens.now)) }
-        ensures shorter { IfOk result (λ x. length x.1.now < length tokens.now) }
     {
         if let Some((pos, rest)) = eat(Punct::Semicolon, tokens) {
             return Ok((Item::Empty(pos), rest));

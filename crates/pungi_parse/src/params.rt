@@ -1,6 +1,6 @@
-ghost use Rattle.std.specs.Prelude.{◌≡◌, ◌≤◌, ◌<◌, length, IfOk};
-ghost use Rattle.pungi_parse.specs.Gives.{Gives};
+ghost use Rattle.std.specs.Prelude.{suc, length};
 ghost use Rattle.pungi_parse.specs.Readers.{readers};
+ghost use Rattle.pungi_parse.specs.Reads.{Reads};
 ghost use Rattle.pungi_parse.specs.TypeReader.{params_at as params_at_of, some_params as some_params_of, param as param_of, param_declr_at, param_rest as param_rest_of};
 ghost use Rattle.pungi_tree.specs.ExprDepth.{params_depth, param_decl_depth, param_declr_depth};
 ghost use Rattle.pungi_tree.specs.ExprView.{params_view, param_decl_view, param_declr_view};
@@ -19,11 +19,8 @@ impl Parser<'_> {
     /// The parameters at the front, with their closing parenthesis (C11 6.7.6.3).
     #[cycle(parts)]
     pub(crate) fn params<'t>(&self, tokens: &'t [Token]) -> Read<'t, Params>
-        ensures tree { Gives (λ x. (params_view x.0, placed x.2.now)) result
+        ensures { Reads params_view params_depth self.now.most (length tokens.now) result
             ((readers self.now.types.now self.now.nest self.now.most).params (placed tokens.now)) }
-        ensures deep { IfOk result (λ x. x.1 ≡ params_depth (params_view x.0)) }
-        ensures bound { IfOk result (λ x. x.1 ≤ self.now.most) }
-        ensures shorter { IfOk result (λ x. length x.2.now < length tokens.now) }
     {
         if self.nest == 0 {
             return Err(Stop::NothingRead);
@@ -41,12 +38,9 @@ impl Parser<'_> {
     #[tactic(auto, unfolding(crate::specs::TypeReader::params_at, crate::specs::Reading::on_some))]
     #[cycle(parts)]
     fn params_at<'t>(&self, tokens: &'t [Token]) -> Read<'t, Params>
-        ensures tree { Gives (λ x. (params_view x.0, placed x.2.now)) result
+        ensures { Reads params_view params_depth self.now.most (length tokens.now) result
             (params_at_of self.now.types.now (readers self.now.types.now self.now.nest self.now.most)
             (placed tokens.now)) }
-        ensures deep { IfOk result (λ x. x.1 ≡ params_depth (params_view x.0)) }
-        ensures bound { IfOk result (λ x. x.1 ≤ self.now.most) }
-        ensures shorter { IfOk result (λ x. length x.2.now < length tokens.now) }
     {
         if let Some((_, rest)) = eat(Punct::RightParen, tokens) {
             return Ok((type_nodes::no_params(self.alloc, false), 0, rest));
@@ -61,12 +55,9 @@ impl Parser<'_> {
     #[tactic(auto, unfolding(crate::specs::TypeReader::some_params, crate::specs::Reading::chain))]
     #[cycle(parts)]
     fn some_params<'t>(&self, tokens: &'t [Token]) -> Read<'t, Params>
-        ensures tree { Gives (λ x. (params_view x.0, placed x.2.now)) result
+        ensures { Reads params_view params_depth self.now.most (length tokens.now) result
             (some_params_of self.now.types.now (readers self.now.types.now self.now.nest self.now.most)
             (placed tokens.now)) }
-        ensures deep { IfOk result (λ x. x.1 ≡ params_depth (params_view x.0)) }
-        ensures bound { IfOk result (λ x. x.1 ≤ self.now.most) }
-        ensures shorter { IfOk result (λ x. length x.2.now < length tokens.now) }
     {
         let mut list = Vec::new(self.alloc);
         let (first, depth, after) = self.param(tokens)?;
@@ -91,12 +82,9 @@ impl Parser<'_> {
     #[tactic(auto, unfolding(crate::specs::TypeReader::param, crate::specs::Reading::chain))]
     #[cycle(parts)]
     fn param<'t>(&self, tokens: &'t [Token]) -> Read<'t, ParamDecl>
-        ensures tree { Gives (λ x. (param_decl_view x.0, placed x.2.now)) result
+        ensures { Reads param_decl_view param_decl_depth self.now.most (length tokens.now) result
             (param_of self.now.types.now (readers self.now.types.now self.now.nest self.now.most)
             (placed tokens.now)) }
-        ensures deep { IfOk result (λ x. x.1 ≡ param_decl_depth (param_decl_view x.0)) }
-        ensures bound { IfOk result (λ x. x.1 ≤ self.now.most) }
-        ensures shorter { IfOk result (λ x. length x.2.now < length tokens.now) }
     {
         let (quals, rest) = words::qualifiers(self.alloc, tokens)?;
         let (spec, depth, rest) = self.spec(rest)?;
@@ -109,12 +97,9 @@ impl Parser<'_> {
     #[tactic(auto, unfolding(crate::specs::TypeReader::param_declr_at, crate::specs::Reading::on_some, crate::specs::Reading::when))]
     #[cycle(parts)]
     fn param_declr<'t>(&self, tokens: &'t [Token]) -> Read<'t, ParamDeclr>
-        ensures tree { Gives (λ x. (param_declr_view x.0, placed x.2.now)) result
+        ensures { Reads param_declr_view param_declr_depth self.now.most (suc (length tokens.now)) result
             (param_declr_at self.now.types.now (readers self.now.types.now self.now.nest self.now.most)
             (placed tokens.now)) }
-        ensures deep { IfOk result (λ x. x.1 ≡ param_declr_depth (param_declr_view x.0)) }
-        ensures bound { IfOk result (λ x. x.1 ≤ self.now.most) }
-        ensures shorter { IfOk result (λ x. length x.2.now ≤ length tokens.now) }
     {
         let (stars, rest) = words::stars(self.alloc, tokens)?;
         if begins_name(rest) {
@@ -128,12 +113,9 @@ impl Parser<'_> {
     #[tactic(auto, unfolding(crate::specs::TypeReader::param_rest, crate::specs::Reading::chain, crate::specs::Reading::on_some))]
     #[cycle(parts)]
     fn param_rest<'t>(&self, stars: Vec<u32>, tokens: &'t [Token]) -> Read<'t, ParamDeclr>
-        ensures tree { Gives (λ x. (param_declr_view x.0, placed x.2.now)) result
+        ensures { Reads param_declr_view param_declr_depth self.now.most (length tokens.now) result
             (param_rest_of self.now.types.now (readers self.now.types.now self.now.nest self.now.most)
             stars.items (placed tokens.now)) }
-        ensures deep { IfOk result (λ x. x.1 ≡ param_declr_depth (param_declr_view x.0)) }
-        ensures bound { IfOk result (λ x. x.1 ≤ self.now.most) }
-        ensures shorter { IfOk result (λ x. length x.2.now < length tokens.now) }
     {
         let Some((_, _, inner)) = unused_front(self.types, tokens) else {
             let (declr, depth, rest) = self.declr_rest(stars, tokens)?;

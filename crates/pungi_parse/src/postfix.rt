@@ -1,7 +1,7 @@
 ghost use Rattle.std.specs.Prelude.{◌≡◌, ◌≤◌, ◌<◌, ◌-◌, ◌^◌, suc, length, map, IfOk};
 ghost use Rattle.pungi_parse.specs.ExprReader.{unary as unary_of, sizeof_at as sizeof_of, postfix as postfix_of, postfix_turn as postfix_turn_of, call_at, index_at, args_at, primary as primary_of, paren_at, new_at};
-ghost use Rattle.pungi_parse.specs.Gives.{Gives};
 ghost use Rattle.pungi_parse.specs.Readers.{readers};
+ghost use Rattle.pungi_parse.specs.Reads.{Reads};
 ghost use Rattle.pungi_parse.specs.Turns.{joined};
 ghost use Rattle.pungi_tree.specs.ExprDepth.{expr_depth, exprs_depth};
 ghost use Rattle.pungi_tree.specs.ExprView.{expr_view, exprs_of};
@@ -22,12 +22,9 @@ impl Parser<'_> {
     #[cycle(parts)]
     pub(crate) fn unary<'t>(&self, tokens: &'t [Token]) -> Read<'t, Box<Expr>>
         requires { self.now.most < 2 ^ 32 - 1 }
-        ensures tree { Gives (λ x. (expr_view x.0.value, placed x.2.now)) result
+        ensures { Reads (λ t. expr_view t.value) expr_depth (suc self.now.most) (length tokens.now) result
             (unary_of self.now.types.now (readers self.now.types.now self.now.nest self.now.most)
             (suc self.now.most) (placed tokens.now)) }
-        ensures deep { IfOk result (λ x. x.1 ≡ expr_depth (expr_view x.0.value)) }
-        ensures bound { IfOk result (λ x. x.1 ≤ suc self.now.most) }
-        ensures shorter { IfOk result (λ x. length x.2.now < length tokens.now) }
     {
         if let Some((operator, pos, after)) = eat_prefix(tokens) {
             let (operand, depth, rest) = self.expr(prefix_need(operator), after)?;
@@ -46,12 +43,9 @@ impl Parser<'_> {
     #[cycle(parts)]
     fn sizeof_at<'t>(&self, pos: Pos, tokens: &'t [Token]) -> Read<'t, Box<Expr>>
         requires { self.now.most < 2 ^ 32 - 1 }
-        ensures tree { Gives (λ x. (expr_view x.0.value, placed x.2.now)) result
+        ensures { Reads (λ t. expr_view t.value) expr_depth (suc self.now.most) (length tokens.now) result
             (sizeof_of self.now.types.now (readers self.now.types.now self.now.nest self.now.most)
             (suc self.now.most) pos (placed tokens.now)) }
-        ensures deep { IfOk result (λ x. x.1 ≡ expr_depth (expr_view x.0.value)) }
-        ensures bound { IfOk result (λ x. x.1 ≤ suc self.now.most) }
-        ensures shorter { IfOk result (λ x. length x.2.now < length tokens.now) }
     {
         let Some(inner) = sizeof_front(self.types, tokens) else {
             let (operand, depth, rest) = self.expr(14, tokens)?;
@@ -72,12 +66,9 @@ impl Parser<'_> {
     #[cycle(parts)]
     fn postfix<'t>(&self, tokens: &'t [Token]) -> Read<'t, Box<Expr>>
         requires { self.now.most < 2 ^ 32 - 1 }
-        ensures tree { Gives (λ x. (expr_view x.0.value, placed x.2.now)) result
+        ensures { Reads (λ t. expr_view t.value) expr_depth (suc self.now.most) (length tokens.now) result
             (postfix_of self.now.types.now (readers self.now.types.now self.now.nest self.now.most)
             (suc self.now.most) (placed tokens.now)) }
-        ensures deep { IfOk result (λ x. x.1 ≡ expr_depth (expr_view x.0.value)) }
-        ensures bound { IfOk result (λ x. x.1 ≤ suc self.now.most) }
-        ensures shorter { IfOk result (λ x. length x.2.now < length tokens.now) }
     {
         let Some(start) = first_place(tokens) else {
             return Err(Stop::NothingRead);
@@ -110,13 +101,10 @@ impl Parser<'_> {
         requires most { self.now.most < 2 ^ 32 - 1 }
         requires deep { depth ≡ expr_depth (expr_view tree.value) }
         requires bound { depth ≤ self.now.most }
-        ensures tree { Gives (λ x. (expr_view x.0.value, placed x.2.now)) result
+        ensures reads { Reads (λ t. expr_view t.value) expr_depth (suc self.now.most) (length tokens.now) result
             (joined (postfix_turn_of self.now.types.now (readers self.now.types.now self.now.nest self.now.most)
             start (expr_view tree.value) (placed tokens.now))) }
-        ensures deep { IfOk result (λ x. x.1 ≡ expr_depth (expr_view x.0.value)) }
-        ensures bound { IfOk result (λ x. x.1 ≤ suc self.now.most) }
         ensures deeper { IfOk result (λ x. depth < x.1) }
-        ensures shorter { IfOk result (λ x. length x.2.now < length tokens.now) }
     {
         if let Some((_, inner)) = eat(Punct::LeftParen, tokens) {
             return self.call(start, tree, depth, inner);
@@ -143,13 +131,10 @@ impl Parser<'_> {
         requires most { self.now.most < 2 ^ 32 - 1 }
         requires deep { depth ≡ expr_depth (expr_view callee.value) }
         requires bound { depth ≤ self.now.most }
-        ensures tree { Gives (λ x. (expr_view x.0.value, placed x.2.now)) result
+        ensures reads { Reads (λ t. expr_view t.value) expr_depth (suc self.now.most) (length tokens.now) result
             (call_at self.now.types.now (readers self.now.types.now self.now.nest self.now.most)
             start (expr_view callee.value) (placed tokens.now)) }
-        ensures deep { IfOk result (λ x. x.1 ≡ expr_depth (expr_view x.0.value)) }
-        ensures bound { IfOk result (λ x. x.1 ≤ suc self.now.most) }
         ensures deeper { IfOk result (λ x. depth < x.1) }
-        ensures shorter { IfOk result (λ x. length x.2.now < length tokens.now) }
     {
         let (args, args_depth, rest) = self.args(tokens)?;
         let call = Expr {
@@ -173,13 +158,10 @@ impl Parser<'_> {
         requires most { self.now.most < 2 ^ 32 - 1 }
         requires deep { depth ≡ expr_depth (expr_view array.value) }
         requires bound { depth ≤ self.now.most }
-        ensures tree { Gives (λ x. (expr_view x.0.value, placed x.2.now)) result
+        ensures reads { Reads (λ t. expr_view t.value) expr_depth (suc self.now.most) (length tokens.now) result
             (index_at self.now.types.now (readers self.now.types.now self.now.nest self.now.most)
             (expr_view array.value) pos (placed tokens.now)) }
-        ensures deep { IfOk result (λ x. x.1 ≡ expr_depth (expr_view x.0.value)) }
-        ensures bound { IfOk result (λ x. x.1 ≤ suc self.now.most) }
         ensures deeper { IfOk result (λ x. depth < x.1) }
-        ensures shorter { IfOk result (λ x. length x.2.now < length tokens.now) }
     {
         let (index, index_depth, rest) = self.expr(0, tokens)?;
         let Some((_, rest)) = eat(Punct::RightBracket, rest) else {
@@ -194,12 +176,9 @@ impl Parser<'_> {
     #[tactic(auto, unfolding(crate::specs::ExprReader::args_at, crate::specs::ExprReader::some_args, crate::specs::Reading::chain, crate::specs::Reading::on_some))]
     #[cycle(parts)]
     fn args<'t>(&self, tokens: &'t [Token]) -> Read<'t, Vec<Expr>>
-        ensures tree { Gives (λ x. (exprs_of (map expr_view x.0.items), placed x.2.now)) result
+        ensures { Reads (λ t. exprs_of (map expr_view t.items)) exprs_depth self.now.most (length tokens.now) result
             (args_at self.now.types.now (readers self.now.types.now self.now.nest self.now.most)
             (placed tokens.now)) }
-        ensures deep { IfOk result (λ x. x.1 ≡ exprs_depth (exprs_of (map expr_view x.0.items))) }
-        ensures bound { IfOk result (λ x. x.1 ≤ self.now.most) }
-        ensures shorter { IfOk result (λ x. length x.2.now < length tokens.now) }
     {
         let mut list = Vec::new(self.alloc);
         if let Some((_, rest)) = eat(Punct::RightParen, tokens) {
@@ -226,12 +205,9 @@ impl Parser<'_> {
     #[cycle(parts)]
     fn primary<'t>(&self, tokens: &'t [Token]) -> Read<'t, Box<Expr>>
         requires { self.now.most < 2 ^ 32 - 1 }
-        ensures tree { Gives (λ x. (expr_view x.0.value, placed x.2.now)) result
+        ensures { Reads (λ t. expr_view t.value) expr_depth (suc self.now.most) (length tokens.now) result
             (primary_of self.now.types.now (readers self.now.types.now self.now.nest self.now.most)
             (placed tokens.now)) }
-        ensures deep { IfOk result (λ x. x.1 ≡ expr_depth (expr_view x.0.value)) }
-        ensures bound { IfOk result (λ x. x.1 ≤ suc self.now.most) }
-        ensures shorter { IfOk result (λ x. length x.2.now < length tokens.now) }
     {
         if let Some((tree, rest)) = self.literal(tokens)? {
             return Ok((tree, 1, rest));
@@ -254,12 +230,9 @@ impl Parser<'_> {
     #[cycle(parts)]
     fn paren<'t>(&self, pos: Pos, tokens: &'t [Token]) -> Read<'t, Box<Expr>>
         requires { self.now.most < 2 ^ 32 - 1 }
-        ensures tree { Gives (λ x. (expr_view x.0.value, placed x.2.now)) result
+        ensures { Reads (λ t. expr_view t.value) expr_depth (suc self.now.most) (length tokens.now) result
             (paren_at self.now.types.now (readers self.now.types.now self.now.nest self.now.most)
             pos (placed tokens.now)) }
-        ensures deep { IfOk result (λ x. x.1 ≡ expr_depth (expr_view x.0.value)) }
-        ensures bound { IfOk result (λ x. x.1 ≤ suc self.now.most) }
-        ensures shorter { IfOk result (λ x. length x.2.now < length tokens.now) }
     {
         let (inner, depth, rest) = self.expr(0, tokens)?;
         let Some((_, rest)) = eat(Punct::RightParen, rest) else {
@@ -275,12 +248,9 @@ impl Parser<'_> {
     #[cycle(parts)]
     fn new_object<'t>(&self, pos: Pos, tokens: &'t [Token]) -> Read<'t, Box<Expr>>
         requires { self.now.most < 2 ^ 32 - 1 }
-        ensures tree { Gives (λ x. (expr_view x.0.value, placed x.2.now)) result
+        ensures { Reads (λ t. expr_view t.value) expr_depth (suc self.now.most) (length tokens.now) result
             (new_at self.now.types.now (readers self.now.types.now self.now.nest self.now.most)
             pos (placed tokens.now)) }
-        ensures deep { IfOk result (λ x. x.1 ≡ expr_depth (expr_view x.0.value)) }
-        ensures bound { IfOk result (λ x. x.1 ≤ suc self.now.most) }
-        ensures shorter { IfOk result (λ x. length x.2.now < length tokens.now) }
     {
         let (name, name_depth, rest) = self.type_name(tokens)?;
         let Some((_, inner)) = eat(Punct::Comma, rest) else {

@@ -1,8 +1,8 @@
-ghost use Rattle.std.specs.Prelude.{◌≡◌, ◌≤◌, ◌<◌, suc, false, length, map, option_map, IfOk, IfSome};
+ghost use Rattle.std.specs.Prelude.{◌≡◌, ◌<◌, suc, false, length, map, option_map, IfOk, IfSome};
 ghost use Rattle.pungi_parse.specs.Eat.{eat_literal as eat_literal_of};
 ghost use Rattle.pungi_parse.specs.ExprReader.{text_at};
-ghost use Rattle.pungi_parse.specs.Gives.{Gives};
 ghost use Rattle.pungi_parse.specs.Readers.{readers};
+ghost use Rattle.pungi_parse.specs.Reads.{Reads};
 ghost use Rattle.pungi_parse.specs.Turns.{close_params as close_params_of, joined, member_or_step as member_or_step_of};
 ghost use Rattle.pungi_tree.specs.ExprDepth.{expr_depth};
 ghost use Rattle.pungi_tree.specs.ExprView.{expr_view, params_view, param_decl_view, param_decls_of};
@@ -26,12 +26,10 @@ pub(crate) fn close_params<'t>(
     depth: u32,
     tokens: &'t [Token],
 ) -> Read<'t, Params>
-    ensures tree { Gives (λ x. (params_view x.0, placed x.2.now)) result
+    ensures reads { Reads params_view (λ _. depth) depth (length tokens.now) result
         (close_params_of (param_decls_of (map param_decl_view list.items)) dots (placed tokens.now)) }
-    ensures deep { IfOk result (λ x. x.1 ≡ depth) }
     ensures same { IfOk result (λ x. params_view x.0
         ≡ plain.params (param_decls_of (map param_decl_view list.items)) false dots) }
-    ensures shorter { IfOk result (λ x. length x.2.now < length tokens.now) }
 {
     let Some((_, rest)) = eat(Punct::RightParen, tokens) else {
         return Err(Stop::NothingRead);
@@ -57,11 +55,8 @@ impl Parser<'_> {
     /// A string literal, in one or more texts, at the front.
     #[tactic(auto, unfolding(crate::specs::ExprReader::text_at, crate::specs::Reading::chain, crate::specs::Reading::unless))]
     pub(crate) fn text<'t>(&self, tokens: &'t [Token]) -> Read<'t, Box<Expr>>
-        ensures tree { Gives (λ x. (expr_view x.0.value, placed x.2.now)) result
+        ensures { Reads (λ t. expr_view t.value) expr_depth 1 (length tokens.now) result
             (text_at self.now.types.now (readers self.now.types.now self.now.nest self.now.most) (placed tokens.now)) }
-        ensures deep { IfOk result (λ x. x.1 ≡ expr_depth (expr_view x.0.value)) }
-        ensures bound { IfOk result (λ x. x.1 ≤ 1) }
-        ensures shorter { IfOk result (λ x. length x.2.now < length tokens.now) }
     {
         let Some(pos) = first_place(tokens) else {
             return Err(Stop::NothingRead);

@@ -1,6 +1,6 @@
-ghost use Rattle.std.specs.Prelude.{◌≡◌, ◌≤◌, ◌<◌, length, option_map, IfOk, IfSome};
-ghost use Rattle.pungi_parse.specs.Gives.{Gives};
+ghost use Rattle.std.specs.Prelude.{◌≡◌, ◌<◌, length, option_map, IfSome};
 ghost use Rattle.pungi_parse.specs.Readers.{readers};
+ghost use Rattle.pungi_parse.specs.Reads.{ReadsFront};
 ghost use Rattle.pungi_parse.specs.StmtReader.{optional as optional_of, condition as condition_of, declare_at, start_at, expression_at, label_front as label_front_of, goto_at, return_at, jump_or_expression as jump_or_expression_of, read_stmt, read_element};
 ghost use Rattle.pungi_tree.specs.ExprView.{expr_view, optional_view};
 ghost use Rattle.pungi_tree.specs.Placed.{placed};
@@ -19,9 +19,8 @@ impl Parser<'_> {
     /// An expression, where one stands there, and the punctuator behind it.
     #[tactic(auto, unfolding(crate::specs::StmtReader::optional, crate::specs::Reading::chain, crate::specs::Reading::on_some))]
     pub(crate) fn optional<'t>(&self, mark: Punct, tokens: &'t [Token]) -> Front<'t, Option<Expr>>
-        ensures tree { Gives (λ x. (optional_view x.0, placed x.1.now)) result
+        ensures { ReadsFront optional_view (length tokens.now) result
             (optional_of self.now.types.now (readers self.now.types.now self.now.nest self.now.most) mark (placed tokens.now)) }
-        ensures shorter { IfOk result (λ x. length x.1.now < length tokens.now) }
     {
         if let Some((_, rest)) = eat(mark, tokens) {
             return Ok((None, rest));
@@ -36,9 +35,8 @@ impl Parser<'_> {
     /// An expression in parentheses.
     #[tactic(auto, unfolding(crate::specs::StmtReader::condition, crate::specs::Reading::chain))]
     pub(crate) fn condition<'t>(&self, tokens: &'t [Token]) -> Front<'t, Box<Expr>>
-        ensures tree { Gives (λ x. (expr_view x.0.value, placed x.1.now)) result
+        ensures { ReadsFront (λ t. expr_view t.value) (length tokens.now) result
             (condition_of self.now.types.now (readers self.now.types.now self.now.nest self.now.most) (placed tokens.now)) }
-        ensures shorter { IfOk result (λ x. length x.1.now < length tokens.now) }
     {
         let Some((_, inner)) = eat(Punct::LeftParen, tokens) else {
             return Err(Stop::NothingRead);
@@ -53,9 +51,8 @@ impl Parser<'_> {
     /// A declaration among statements.
     #[tactic(auto, unfolding(crate::specs::StmtReader::declare_at, crate::specs::Reading::chain))]
     pub(crate) fn declare<'t>(&self, tokens: &'t [Token]) -> Front<'t, Box<Stmt>>
-        ensures tree { Gives (λ x. (stmt_view x.0.value, placed x.1.now)) result
+        ensures { ReadsFront (λ t. stmt_view t.value) (length tokens.now) result
             (declare_at self.now.types.now (readers self.now.types.now self.now.nest self.now.most) (placed tokens.now)) }
-        ensures shorter { IfOk result (λ x. length x.1.now < length tokens.now) }
     {
         let Some(pos) = first_place(tokens) else {
             return Err(Stop::NothingRead);
@@ -68,9 +65,8 @@ impl Parser<'_> {
     /// What a `for` begins with.
     #[tactic(auto, unfolding(crate::specs::StmtReader::start_at, crate::specs::Reading::chain, crate::specs::Reading::on_some, crate::specs::Reading::when))]
     pub(crate) fn start<'t>(&self, tokens: &'t [Token]) -> Front<'t, ForStart>
-        ensures tree { Gives (λ x. (for_start_view x.0, placed x.1.now)) result
+        ensures { ReadsFront for_start_view (length tokens.now) result
             (start_at self.now.types.now (readers self.now.types.now self.now.nest self.now.most) (placed tokens.now)) }
-        ensures shorter { IfOk result (λ x. length x.1.now < length tokens.now) }
     {
         if begins_decl(self.types, tokens) {
             let (decl, rest) = self.decl(tokens)?;
@@ -83,9 +79,8 @@ impl Parser<'_> {
     /// An expression with its semicolon, or the semicolon alone.
     #[tactic(auto, unfolding(crate::specs::StmtReader::expression_at, crate::specs::Reading::chain))]
     fn expression<'t>(&self, tokens: &'t [Token]) -> Front<'t, Box<Stmt>>
-        ensures tree { Gives (λ x. (stmt_view x.0.value, placed x.1.now)) result
+        ensures { ReadsFront (λ t. stmt_view t.value) (length tokens.now) result
             (expression_at self.now.types.now (readers self.now.types.now self.now.nest self.now.most) (placed tokens.now)) }
-        ensures shorter { IfOk result (λ x. length x.1.now < length tokens.now) }
     {
         let Some(pos) = first_place(tokens) else {
             return Err(Stop::NothingRead);
@@ -110,9 +105,8 @@ impl Parser<'_> {
     /// What stands behind `goto`.
     #[tactic(auto, unfolding(crate::specs::StmtReader::goto_at, crate::specs::Reading::chain))]
     fn goto<'t>(&self, pos: Pos, tokens: &'t [Token]) -> Front<'t, Box<Stmt>>
-        ensures tree { Gives (λ x. (stmt_view x.0.value, placed x.1.now)) result
+        ensures { ReadsFront (λ t. stmt_view t.value) (length tokens.now) result
             (goto_at self.now.types.now (readers self.now.types.now self.now.nest self.now.most) pos (placed tokens.now)) }
-        ensures shorter { IfOk result (λ x. length x.1.now < length tokens.now) }
     {
         let Some((name, at, after)) = plain_word(self.types, tokens) else {
             return Err(Stop::NothingRead);
@@ -127,9 +121,8 @@ impl Parser<'_> {
     /// What stands behind `return`.
     #[tactic(auto, unfolding(crate::specs::StmtReader::return_at, crate::specs::Reading::chain))]
     fn give_back<'t>(&self, pos: Pos, tokens: &'t [Token]) -> Front<'t, Box<Stmt>>
-        ensures tree { Gives (λ x. (stmt_view x.0.value, placed x.1.now)) result
+        ensures { ReadsFront (λ t. stmt_view t.value) (length tokens.now) result
             (return_at self.now.types.now (readers self.now.types.now self.now.nest self.now.most) pos (placed tokens.now)) }
-        ensures shorter { IfOk result (λ x. length x.1.now < length tokens.now) }
     {
         let (e, rest) = self.optional(Punct::Semicolon, tokens)?;
         let node = StmtNode::Return(e);
@@ -139,9 +132,8 @@ impl Parser<'_> {
     /// A statement that holds no other one, and is no block.
     #[tactic(auto, unfolding(crate::specs::StmtReader::jump_or_expression, crate::specs::Reading::chain, crate::specs::Reading::on_some))]
     pub(crate) fn jump_or_expression<'t>(&self, tokens: &'t [Token]) -> Front<'t, Box<Stmt>>
-        ensures tree { Gives (λ x. (stmt_view x.0.value, placed x.1.now)) result
+        ensures { ReadsFront (λ t. stmt_view t.value) (length tokens.now) result
             (jump_or_expression_of self.now.types.now (readers self.now.types.now self.now.nest self.now.most) (read_stmt self.now.types.now self.now.nest self.now.most) (read_element self.now.types.now self.now.nest self.now.most) (placed tokens.now)) }
-        ensures shorter { IfOk result (λ x. length x.1.now < length tokens.now) }
     {
         if let Some((pos, after)) = eat_key(Key::Goto, tokens) {
             return self.goto(pos, after);

@@ -1,6 +1,6 @@
-ghost use Rattle.std.specs.Prelude.{◌≡◌, ◌≤◌, ◌<◌, suc, length, map, IfOk};
-ghost use Rattle.pungi_parse.specs.Gives.{Gives};
+ghost use Rattle.std.specs.Prelude.{suc, length, map};
 ghost use Rattle.pungi_parse.specs.Readers.{readers};
+ghost use Rattle.pungi_parse.specs.Reads.{Reads};
 ghost use Rattle.pungi_parse.specs.TypeReader.{type_name_at, spec_at as spec_at_of, base_at, aggregate as aggregate_of, fields_at as fields_at_of, fields as fields_of_tokens, field as field_of, declrs as declrs_of_tokens};
 ghost use Rattle.pungi_tree.specs.ExprDepth.{type_name_depth, spec_depth, base_depth, field_depth, fields_depth, declrs_depth};
 ghost use Rattle.pungi_tree.specs.ExprView.{type_name_view, spec_view, base_view, field_view, fields_of, declr_view, declrs_of};
@@ -19,11 +19,8 @@ impl Parser<'_> {
     #[tactic(auto, unfolding(crate::specs::TypeReader::type_name_at, crate::specs::Reading::chain))]
     #[cycle(parts)]
     pub(crate) fn type_name<'t>(&self, tokens: &'t [Token]) -> Read<'t, TypeName>
-        ensures tree { Gives (λ x. (type_name_view x.0, placed x.2.now)) result
+        ensures { Reads type_name_view type_name_depth self.now.most (length tokens.now) result
             (type_name_at (readers self.now.types.now self.now.nest self.now.most) (placed tokens.now)) }
-        ensures deep { IfOk result (λ x. x.1 ≡ type_name_depth (type_name_view x.0)) }
-        ensures bound { IfOk result (λ x. x.1 ≤ self.now.most) }
-        ensures shorter { IfOk result (λ x. length x.2.now < length tokens.now) }
     {
         let (spec, depth, rest) = self.spec(tokens)?;
         let (stars, rest) = words::stars(self.alloc, rest)?;
@@ -33,11 +30,8 @@ impl Parser<'_> {
     /// The type without its pointers at the front (C11 6.7.2).
     #[cycle(parts)]
     pub(crate) fn spec<'t>(&self, tokens: &'t [Token]) -> Read<'t, Spec>
-        ensures tree { Gives (λ x. (spec_view x.0, placed x.2.now)) result
+        ensures { Reads spec_view spec_depth self.now.most (length tokens.now) result
             ((readers self.now.types.now self.now.nest self.now.most).spec (placed tokens.now)) }
-        ensures deep { IfOk result (λ x. x.1 ≡ spec_depth (spec_view x.0)) }
-        ensures bound { IfOk result (λ x. x.1 ≤ self.now.most) }
-        ensures shorter { IfOk result (λ x. length x.2.now < length tokens.now) }
     {
         if self.nest == 0 {
             return Err(Stop::NothingRead);
@@ -55,12 +49,9 @@ impl Parser<'_> {
     #[tactic(auto, unfolding(crate::specs::TypeReader::spec_at, crate::specs::Reading::chain))]
     #[cycle(parts)]
     fn spec_at<'t>(&self, tokens: &'t [Token]) -> Read<'t, Spec>
-        ensures tree { Gives (λ x. (spec_view x.0, placed x.2.now)) result
+        ensures { Reads spec_view spec_depth self.now.most (length tokens.now) result
             (spec_at_of self.now.types.now (readers self.now.types.now self.now.nest self.now.most)
             (placed tokens.now)) }
-        ensures deep { IfOk result (λ x. x.1 ≡ spec_depth (spec_view x.0)) }
-        ensures bound { IfOk result (λ x. x.1 ≤ self.now.most) }
-        ensures shorter { IfOk result (λ x. length x.2.now < length tokens.now) }
     {
         let Some(pos) = first_place(tokens) else {
             return Err(Stop::NothingRead);
@@ -74,12 +65,9 @@ impl Parser<'_> {
     #[tactic(auto, unfolding(crate::specs::TypeReader::base_at, crate::specs::Reading::chain, crate::specs::Reading::on_some))]
     #[cycle(parts)]
     fn base<'t>(&self, tokens: &'t [Token]) -> Read<'t, Base>
-        ensures tree { Gives (λ x. (base_view x.0, placed x.2.now)) result
+        ensures { Reads base_view base_depth self.now.most (length tokens.now) result
             (base_at self.now.types.now (readers self.now.types.now self.now.nest self.now.most)
             (placed tokens.now)) }
-        ensures deep { IfOk result (λ x. x.1 ≡ base_depth (base_view x.0)) }
-        ensures bound { IfOk result (λ x. x.1 ≤ self.now.most) }
-        ensures shorter { IfOk result (λ x. length x.2.now < length tokens.now) }
     {
         if let Some((first, _, rest)) = eat_base_word(tokens) {
             let (keys, rest) = words::base_words(self.alloc, first, rest)?;
@@ -98,12 +86,9 @@ impl Parser<'_> {
     #[tactic(auto, unfolding(crate::specs::TypeReader::aggregate, crate::specs::Reading::chain, crate::specs::Reading::on_some))]
     #[cycle(parts)]
     fn aggregate<'t>(&self, of: Key, tokens: &'t [Token]) -> Read<'t, Base>
-        ensures tree { Gives (λ x. (base_view x.0, placed x.2.now)) result
+        ensures { Reads base_view base_depth self.now.most (length tokens.now) result
             (aggregate_of self.now.types.now (readers self.now.types.now self.now.nest self.now.most)
             of (placed tokens.now)) }
-        ensures deep { IfOk result (λ x. x.1 ≡ base_depth (base_view x.0)) }
-        ensures bound { IfOk result (λ x. x.1 ≤ self.now.most) }
-        ensures shorter { IfOk result (λ x. length x.2.now < length tokens.now) }
     {
         if let Some((name, pos, rest)) = type_word(self.types, tokens) {
             return Ok((type_nodes::tagged(of, name, pos), 0, rest));
@@ -129,12 +114,9 @@ impl Parser<'_> {
         tag: Option<(Name, Pos)>,
         tokens: &'t [Token],
     ) -> Read<'t, Base>
-        ensures tree { Gives (λ x. (base_view x.0, placed x.2.now)) result
+        ensures { Reads base_view base_depth self.now.most (length tokens.now) result
             (fields_at_of self.now.types.now (readers self.now.types.now self.now.nest self.now.most)
             of tag (placed tokens.now)) }
-        ensures deep { IfOk result (λ x. x.1 ≡ base_depth (base_view x.0)) }
-        ensures bound { IfOk result (λ x. x.1 ≤ self.now.most) }
-        ensures shorter { IfOk result (λ x. length x.2.now < length tokens.now) }
     {
         let (fields, depth, rest) = self.fields(tokens)?;
         let Some((_, rest)) = eat(Punct::RightBrace, rest) else {
@@ -146,12 +128,9 @@ impl Parser<'_> {
     /// The lines up to the closing brace, which stays (C11 6.7.2.1).
     #[cycle(parts)]
     fn fields<'t>(&self, tokens: &'t [Token]) -> Read<'t, Vec<Field>>
-        ensures tree { Gives (λ x. (fields_of (map field_view x.0.items), placed x.2.now)) result
+        ensures { Reads (λ t. fields_of (map field_view t.items)) fields_depth self.now.most (suc (length tokens.now)) result
             (fields_of_tokens self.now.types.now (readers self.now.types.now self.now.nest self.now.most)
             (suc (length (placed tokens.now))) (placed tokens.now)) }
-        ensures deep { IfOk result (λ x. x.1 ≡ fields_depth (fields_of (map field_view x.0.items))) }
-        ensures bound { IfOk result (λ x. x.1 ≤ self.now.most) }
-        ensures shorter { IfOk result (λ x. length x.2.now ≤ length tokens.now) }
     {
         let mut list = Vec::new(self.alloc);
         let mut deepest = 0;
@@ -171,12 +150,9 @@ impl Parser<'_> {
     #[tactic(auto, unfolding(crate::specs::TypeReader::field, crate::specs::Reading::chain, crate::specs::Reading::on_some))]
     #[cycle(parts)]
     fn field<'t>(&self, tokens: &'t [Token]) -> Read<'t, Field>
-        ensures tree { Gives (λ x. (field_view x.0, placed x.2.now)) result
+        ensures { Reads field_view field_depth self.now.most (length tokens.now) result
             (field_of self.now.types.now (readers self.now.types.now self.now.nest self.now.most)
             (placed tokens.now)) }
-        ensures deep { IfOk result (λ x. x.1 ≡ field_depth (field_view x.0)) }
-        ensures bound { IfOk result (λ x. x.1 ≤ self.now.most) }
-        ensures shorter { IfOk result (λ x. length x.2.now < length tokens.now) }
     {
         if let Some((_, rest)) = eat(Punct::Semicolon, tokens) {
             return Ok((Field::Empty, 0, rest));

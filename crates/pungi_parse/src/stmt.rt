@@ -1,7 +1,7 @@
-ghost use Rattle.std.specs.Prelude.{◌≡◌, ◌≤◌, ◌<◌, length, IfOk};
+ghost use Rattle.std.specs.Prelude.{suc, length};
 ghost use Rattle.pungi_parse.specs.Begun.{begun_view, branch_rest as branch_rest_of, go_on as go_on_of};
-ghost use Rattle.pungi_parse.specs.Gives.{Gives};
 ghost use Rattle.pungi_parse.specs.Readers.{readers};
+ghost use Rattle.pungi_parse.specs.Reads.{ReadsFront};
 ghost use Rattle.pungi_parse.specs.StmtReader.{block_at, read_stmt, read_element};
 ghost use Rattle.pungi_tree.specs.ExprView.{expr_view};
 ghost use Rattle.pungi_tree.specs.Placed.{placed};
@@ -21,9 +21,8 @@ impl Parser<'_> {
     /// A statement that is no declaration.
     #[cycle(statements)]
     pub(crate) fn stmt<'t>(&self, tokens: &'t [Token]) -> Front<'t, Box<Stmt>>
-        ensures tree { Gives (λ x. (stmt_view x.0.value, placed x.1.now)) result
+        ensures { ReadsFront (λ t. stmt_view t.value) (length tokens.now) result
             (read_stmt self.now.types.now self.now.nest self.now.most (placed tokens.now)) }
-        ensures shorter { IfOk result (λ x. length x.1.now < length tokens.now) }
     {
         if self.most == 0 {
             return Err(Stop::NothingRead);
@@ -42,9 +41,8 @@ impl Parser<'_> {
     #[tactic(auto, unfolding(crate::specs::Reading::chain))]
     #[cycle(statements)]
     fn go_on<'t>(&self, begun: Begun, tokens: &'t [Token]) -> Front<'t, Box<Stmt>>
-        ensures tree { Gives (λ x. (stmt_view x.0.value, placed x.1.now)) result
+        ensures { ReadsFront (λ t. stmt_view t.value) (suc (length tokens.now)) result
             (go_on_of self.now.types.now (readers self.now.types.now self.now.nest self.now.most) (read_stmt self.now.types.now self.now.nest self.now.most) (read_element self.now.types.now self.now.nest self.now.most) (begun_view begun) (placed tokens.now)) }
-        ensures shorter { IfOk result (λ x. length x.1.now ≤ length tokens.now) }
     {
         match begun {
             Begun::Whole(stmt) => Ok((stmt, tokens)),
@@ -65,9 +63,8 @@ impl Parser<'_> {
     #[tactic(auto, unfolding(crate::specs::Begun::branch_rest, crate::specs::Reading::chain, crate::specs::Reading::on_some))]
     #[cycle(statements)]
     fn branch<'t>(&self, pos: Pos, test: Box<Expr>, tokens: &'t [Token]) -> Front<'t, Box<Stmt>>
-        ensures tree { Gives (λ x. (stmt_view x.0.value, placed x.1.now)) result
+        ensures { ReadsFront (λ t. stmt_view t.value) (length tokens.now) result
             (branch_rest_of self.now.types.now (readers self.now.types.now self.now.nest self.now.most) (read_stmt self.now.types.now self.now.nest self.now.most) (read_element self.now.types.now self.now.nest self.now.most) pos (expr_view test.value) (placed tokens.now)) }
-        ensures shorter { IfOk result (λ x. length x.1.now < length tokens.now) }
     {
         let (yes, rest) = self.stmt(tokens)?;
         match eat_key(Key::Else, rest) {
@@ -86,9 +83,8 @@ impl Parser<'_> {
     /// What stands behind the brace of a block.
     #[cycle(statements)]
     fn block<'t>(&self, pos: Pos, tokens: &'t [Token]) -> Front<'t, Box<Stmt>>
-        ensures tree { Gives (λ x. (stmt_view x.0.value, placed x.1.now)) result
+        ensures { ReadsFront (λ t. stmt_view t.value) (length tokens.now) result
             (block_at self.now.types.now (readers self.now.types.now self.now.nest self.now.most) (read_stmt self.now.types.now self.now.nest self.now.most) (read_element self.now.types.now self.now.nest self.now.most) pos (placed tokens.now)) }
-        ensures shorter { IfOk result (λ x. length x.1.now < length tokens.now) }
     {
         let mut list = Vec::new(self.alloc);
         let mut rest = tokens;
@@ -105,9 +101,8 @@ impl Parser<'_> {
     /// A statement or a declaration.
     #[cycle(statements)]
     fn element<'t>(&self, tokens: &'t [Token]) -> Front<'t, Box<Stmt>>
-        ensures tree { Gives (λ x. (stmt_view x.0.value, placed x.1.now)) result
+        ensures { ReadsFront (λ t. stmt_view t.value) (length tokens.now) result
             (read_element self.now.types.now self.now.nest self.now.most (placed tokens.now)) }
-        ensures shorter { IfOk result (λ x. length x.1.now < length tokens.now) }
     {
         if self.most == 0 {
             return Err(Stop::NothingRead);

@@ -1,7 +1,7 @@
-ghost use Rattle.std.specs.Prelude.{◌≡◌, ◌≤◌, ◌<◌, length, IfOk};
+ghost use Rattle.std.specs.Prelude.{length};
 ghost use Rattle.pungi_parse.specs.Begun.{for_head_view, begun_view, branch_front as branch_front_of, while_front as while_front_of, for_head_at, for_front as for_front_of, switch_front as switch_front_of, case_front as case_front_of, default_front as default_front_of, whole_at, label_or_whole as label_or_whole_of, begin_at, do_end as do_end_of};
-ghost use Rattle.pungi_parse.specs.Gives.{Gives};
 ghost use Rattle.pungi_parse.specs.Readers.{readers};
+ghost use Rattle.pungi_parse.specs.Reads.{ReadsFront};
 ghost use Rattle.pungi_parse.specs.StmtReader.{read_stmt, read_element};
 ghost use Rattle.pungi_tree.specs.Placed.{placed};
 ghost use Rattle.pungi_tree.specs.StmtView.{stmt_view};
@@ -19,9 +19,8 @@ impl Parser<'_> {
     /// What stands behind `if`, up to its first branch.
     #[tactic(auto, unfolding(crate::specs::Begun::branch_front, crate::specs::Reading::chain))]
     fn branch_front<'t>(&self, pos: Pos, tokens: &'t [Token]) -> Front<'t, Begun>
-        ensures tree { Gives (λ x. (begun_view x.0, placed x.1.now)) result
+        ensures { ReadsFront begun_view (length tokens.now) result
             (branch_front_of self.now.types.now (readers self.now.types.now self.now.nest self.now.most) pos (placed tokens.now)) }
-        ensures shorter { IfOk result (λ x. length x.1.now < length tokens.now) }
     {
         let (test, rest) = self.condition(tokens)?;
         Ok((Begun::If(pos, test), rest))
@@ -30,9 +29,8 @@ impl Parser<'_> {
     /// What stands behind `while`, up to the body.
     #[tactic(auto, unfolding(crate::specs::Begun::while_front, crate::specs::Reading::chain))]
     fn while_front<'t>(&self, pos: Pos, tokens: &'t [Token]) -> Front<'t, Begun>
-        ensures tree { Gives (λ x. (begun_view x.0, placed x.1.now)) result
+        ensures { ReadsFront begun_view (length tokens.now) result
             (while_front_of self.now.types.now (readers self.now.types.now self.now.nest self.now.most) pos (placed tokens.now)) }
-        ensures shorter { IfOk result (λ x. length x.1.now < length tokens.now) }
     {
         let (test, rest) = self.condition(tokens)?;
         Ok((Begun::Before(pos, StmtHead::While(test)), rest))
@@ -41,9 +39,8 @@ impl Parser<'_> {
     /// What stands behind `switch`, up to the body.
     #[tactic(auto, unfolding(crate::specs::Begun::switch_front, crate::specs::Reading::chain))]
     fn switch_front<'t>(&self, pos: Pos, tokens: &'t [Token]) -> Front<'t, Begun>
-        ensures tree { Gives (λ x. (begun_view x.0, placed x.1.now)) result
+        ensures { ReadsFront begun_view (length tokens.now) result
             (switch_front_of self.now.types.now (readers self.now.types.now self.now.nest self.now.most) pos (placed tokens.now)) }
-        ensures shorter { IfOk result (λ x. length x.1.now < length tokens.now) }
     {
         let (test, rest) = self.condition(tokens)?;
         Ok((Begun::Before(pos, StmtHead::Switch(test)), rest))
@@ -52,9 +49,8 @@ impl Parser<'_> {
     /// What stands between the parentheses of a `for`, with the closing one.
     #[tactic(auto, unfolding(crate::specs::Begun::for_head_at, crate::specs::Reading::chain))]
     fn for_head<'t>(&self, tokens: &'t [Token]) -> Front<'t, ForHead>
-        ensures tree { Gives (λ x. (for_head_view x.0, placed x.1.now)) result
+        ensures { ReadsFront for_head_view (length tokens.now) result
             (for_head_at self.now.types.now (readers self.now.types.now self.now.nest self.now.most) (placed tokens.now)) }
-        ensures shorter { IfOk result (λ x. length x.1.now < length tokens.now) }
     {
         let (start, after) = self.start(tokens)?;
         let (test, behind) = self.optional(Punct::Semicolon, after)?;
@@ -65,9 +61,8 @@ impl Parser<'_> {
     /// What stands behind `for`, up to the body.
     #[tactic(auto, unfolding(crate::specs::Begun::for_front, crate::specs::Reading::chain))]
     fn for_front<'t>(&self, pos: Pos, tokens: &'t [Token]) -> Front<'t, Begun>
-        ensures tree { Gives (λ x. (begun_view x.0, placed x.1.now)) result
+        ensures { ReadsFront begun_view (length tokens.now) result
             (for_front_of self.now.types.now (readers self.now.types.now self.now.nest self.now.most) pos (placed tokens.now)) }
-        ensures shorter { IfOk result (λ x. length x.1.now < length tokens.now) }
     {
         let Some((_, inner)) = eat(Punct::LeftParen, tokens) else {
             return Err(Stop::NothingRead);
@@ -80,9 +75,8 @@ impl Parser<'_> {
     /// What stands behind `case`, up to the statement.
     #[tactic(auto, unfolding(crate::specs::Begun::case_front, crate::specs::Reading::chain))]
     fn case_front<'t>(&self, pos: Pos, tokens: &'t [Token]) -> Front<'t, Begun>
-        ensures tree { Gives (λ x. (begun_view x.0, placed x.1.now)) result
+        ensures { ReadsFront begun_view (length tokens.now) result
             (case_front_of self.now.types.now (readers self.now.types.now self.now.nest self.now.most) pos (placed tokens.now)) }
-        ensures shorter { IfOk result (λ x. length x.1.now < length tokens.now) }
     {
         let (value, _, after) = self.expr(2, tokens)?;
         let Some((_, rest)) = eat(Punct::Colon, after) else {
@@ -94,9 +88,8 @@ impl Parser<'_> {
     /// What stands behind `default`, up to the statement.
     #[tactic(auto, unfolding(crate::specs::Begun::default_front, crate::specs::Reading::chain))]
     fn default_front<'t>(&self, pos: Pos, tokens: &'t [Token]) -> Front<'t, Begun>
-        ensures tree { Gives (λ x. (begun_view x.0, placed x.1.now)) result
+        ensures { ReadsFront begun_view (length tokens.now) result
             (default_front_of self.now.types.now (readers self.now.types.now self.now.nest self.now.most) pos (placed tokens.now)) }
-        ensures shorter { IfOk result (λ x. length x.1.now < length tokens.now) }
     {
         let Some((_, rest)) = eat(Punct::Colon, tokens) else {
             return Err(Stop::NothingRead);
@@ -107,9 +100,8 @@ impl Parser<'_> {
     /// A whole statement, which holds no other one.
     #[tactic(auto, unfolding(crate::specs::Begun::whole_at, crate::specs::Reading::chain))]
     fn whole<'t>(&self, tokens: &'t [Token]) -> Front<'t, Begun>
-        ensures tree { Gives (λ x. (begun_view x.0, placed x.1.now)) result
+        ensures { ReadsFront begun_view (length tokens.now) result
             (whole_at self.now.types.now (readers self.now.types.now self.now.nest self.now.most) (read_stmt self.now.types.now self.now.nest self.now.most) (read_element self.now.types.now self.now.nest self.now.most) (placed tokens.now)) }
-        ensures shorter { IfOk result (λ x. length x.1.now < length tokens.now) }
     {
         let (stmt, rest) = self.jump_or_expression(tokens)?;
         Ok((Begun::Whole(stmt), rest))
@@ -118,9 +110,8 @@ impl Parser<'_> {
     /// A label, or a whole statement.
     #[tactic(auto, unfolding(crate::specs::Begun::label_or_whole, crate::specs::Reading::on_some))]
     fn label_or_whole<'t>(&self, tokens: &'t [Token]) -> Front<'t, Begun>
-        ensures tree { Gives (λ x. (begun_view x.0, placed x.1.now)) result
+        ensures { ReadsFront begun_view (length tokens.now) result
             (label_or_whole_of self.now.types.now (readers self.now.types.now self.now.nest self.now.most) (read_stmt self.now.types.now self.now.nest self.now.most) (read_element self.now.types.now self.now.nest self.now.most) (placed tokens.now)) }
-        ensures shorter { IfOk result (λ x. length x.1.now < length tokens.now) }
     {
         if let Some((pos, rest)) = eat_key(Key::Case, tokens) {
             return self.case_front(pos, rest);
@@ -137,9 +128,8 @@ impl Parser<'_> {
     /// A statement, up to the first one in it.
     #[tactic(auto, unfolding(crate::specs::Begun::begin_at, crate::specs::Reading::on_some))]
     pub(crate) fn begin<'t>(&self, tokens: &'t [Token]) -> Front<'t, Begun>
-        ensures tree { Gives (λ x. (begun_view x.0, placed x.1.now)) result
+        ensures { ReadsFront begun_view (length tokens.now) result
             (begin_at self.now.types.now (readers self.now.types.now self.now.nest self.now.most) (read_stmt self.now.types.now self.now.nest self.now.most) (read_element self.now.types.now self.now.nest self.now.most) (placed tokens.now)) }
-        ensures shorter { IfOk result (λ x. length x.1.now < length tokens.now) }
     {
         if let Some((pos, rest)) = eat(Punct::LeftBrace, tokens) {
             return Ok((Begun::Block(pos), rest));
@@ -170,9 +160,8 @@ impl Parser<'_> {
         body: Box<Stmt>,
         tokens: &'t [Token],
     ) -> Front<'t, Box<Stmt>>
-        ensures tree { Gives (λ x. (stmt_view x.0.value, placed x.1.now)) result
+        ensures { ReadsFront (λ t. stmt_view t.value) (length tokens.now) result
             (do_end_of self.now.types.now (readers self.now.types.now self.now.nest self.now.most) pos (stmt_view body.value) (placed tokens.now)) }
-        ensures shorter { IfOk result (λ x. length x.1.now < length tokens.now) }
     {
         let Some((_, after)) = eat_key(Key::While, tokens) else {
             return Err(Stop::NothingRead);

@@ -1,5 +1,5 @@
-ghost use Rattle.std.specs.Prelude.{◌≡◌, ◌<◌, [], length, IfOk, IfSome, option_map};
-ghost use Rattle.pungi_parse.specs.Gives.{Gives};
+ghost use Rattle.std.specs.Prelude.{◌≡◌, ◌<◌, [], length, option_map, IfSome};
+ghost use Rattle.pungi_parse.specs.Reads.{ReadsFront};
 ghost use Rattle.pungi_parse.specs.StmtReader.{table_in};
 ghost use Rattle.pungi_parse.specs.Table.{closing_here as closing_here_of};
 ghost use Rattle.pungi_tree.specs.Placed.{placed};
@@ -27,8 +27,7 @@ pub(crate) fn table<'a>(
     alloc: Global,
     tokens: &'a [Token],
 ) -> Result<(Vec<(Kind, Pos)>, &'a [Token]), Stop>
-    ensures tree { Gives (λ x. (x.0.items, placed x.1.now)) result (table_in [] (placed tokens.now)) }
-    ensures shorter { IfOk result (λ x. length x.1.now < length tokens.now) }
+    ensures { ReadsFront (λ t. t.items) (length tokens.now) result (table_in [] (placed tokens.now)) }
 {
     let mut found = Vec::new(alloc);
     let mut awaited = Awaited::new(alloc);

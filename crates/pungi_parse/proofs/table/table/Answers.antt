@@ -13,17 +13,22 @@ each-init c = record {
   shorter = omega arith;
 }
 
-pub returns-in-Some-closing_here-clause-tree : goal.returns-in-Some-closing_here-clause-tree
-returns-in-Some-closing_here-clause-tree c =
-    table_ends c.each.found.items c.each.awaited (placed c.each.rest.now) _ c.in-Some-closing_here.field-0-0 (placed c.in-Some-closing_here.behind.now) c.each.invariant.goes_on (search rules)
+pub returns-in-Some-closing_here : goal.returns-in-Some-closing_here
+returns-in-Some-closing_here c =
+    record {
+      tree = table_ends c.each.found.items c.each.awaited (placed c.each.rest.now) _ c.in-Some-closing_here.field-0-0 (placed c.in-Some-closing_here.behind.now) c.each.invariant.goes_on (search rules);
+      shorter = omega (arith, c.in-Some-closing_here.ensures.shorter, c.each.invariant.shorter);
+    }
 
-pub returns-in_err-read-clause-tree : goal.returns-in_err-read-clause-tree
-returns-in_err-read-clause-tree c =
+pub returns-in_err-read : goal.returns-in_err-read
+returns-in_err-read c =
     let p = err_from_is_err_and c.from_residual.result c.from_residual.ensures.1 in
     let split : placed c.each.rest.now ≡ (c.in-Some.token.now.kind, c.in-Some.token.now.pos) ∷ placed c.in-Some.after.now = search rules in
     let none : closing_here c.each.awaited (placed c.each.rest.now) ≡ None = search rules in
-    rw (p.1, p.2) (table_fails c.each.found.items c.each.awaited (c.in-Some.token.now.kind, c.in-Some.token.now.pos) (placed c.in-Some.after.now) _ c.in_err-read.field-0.0
-    (rw split at c.each.invariant.goes_on) (rw split at none) c.in_err-read.ensures)
+    record {
+      tree = rw (p.1, p.2) (table_fails c.each.found.items c.each.awaited (c.in-Some.token.now.kind, c.in-Some.token.now.pos) (placed c.in-Some.after.now) _ c.in_err-read.field-0.0 (rw split at c.each.invariant.goes_on) (rw split at none) c.in_err-read.ensures);
+      shorter = rw p.1 tt;
+    }
 
 pub each-preserved : goal.each-preserved
 each-preserved c =
@@ -36,5 +41,9 @@ each-preserved c =
       shorter = search rules;
     }
 
-pub returns-clause-tree : goal.returns-clause-tree
-returns-clause-tree c = table_open c.each.found.items c.each.awaited c.each.rest.now _ c.each.invariant.goes_on c.in_default.ensures.cases
+pub returns : goal.returns
+returns c =
+    record {
+      tree = table_open c.each.found.items c.each.awaited c.each.rest.now _ c.each.invariant.goes_on c.in_default.ensures.cases;
+      shorter = tt;
+    }

@@ -1,5 +1,5 @@
-use Rattle.std.proofs.Common.{arith, ◌≡◌, None, sym, rules, true, false, map, refl}
-use Rattle.std.proofs.lemmas.Result.{err_from_is_err_and}
+use Rattle.std.proofs.Common.{arith, ◌≡◌, None, sym, ◌∙◌, rules, true, false, map, refl}
+use Rattle.std.proofs.lemmas.Result.{err_from_is_err_and, IfOk-weaker}
 use Rattle.std.proofs.lemmas.List.{map_push}
 use Rattle.pungi_base.specs.declared.punct.Punct.TheVariants as puncts
 use Rattle.pungi_parse.proofs.ArgLoop.{args_begin, args_turn, args_fail, args_open, args_end, args_depth}
@@ -13,6 +13,7 @@ use Rattle.pungi_parse.proofs.ParamLoop.{params_begin, params_turn, params_fail,
 use Rattle.pungi_parse.proofs.PostfixLoop.{postfix_begins, postfix_ends, postfix_deep, postfix_fails, postfix_turns}
 use Rattle.pungi_parse.proofs.ReadAt.{expr_none, expr_flat, expr_some, spec_none, spec_some, params_none, params_some, read_at_comma, read_at_assign, read_at_conditional, read_at_climb, read_at_unary}
 use Rattle.pungi_parse.proofs.SizeLoop.{sizes_begin, sizes_turn, sizes_fail, sizes_end, sizes_deepest}
+use Rattle.pungi_parse.proofs.Tools.{IfOk-both}
 use Rattle.pungi_parse.specs.Eat.{eat, eat_operator}
 use Rattle.pungi_parse.specs.Turns.{goes_on, function_front}
 use Rattle.pungi_parse.specs.TypeReader.{dots_front}
@@ -20,56 +21,135 @@ use Rattle.pungi_tree.specs.ExprView.{expr_view, field_view, declr_view, optiona
 use Rattle.pungi_tree.specs.Placed.{placed}
 use Rattle.pungi_parse.proofs.parser.Parser.+parts.Goals as goal
 
-pub expr-returns-then-self-eq0-clause-tree : goal.expr-returns-then-self-eq0-clause-tree
-expr-returns-then-self-eq0-clause-tree t c = expr_none _ _ _ _ _ c.if-self-eq0.true
+pub expr-returns-then-self-eq0 : goal.expr-returns-then-self-eq0
+expr-returns-then-self-eq0 t c =
+    record {
+      tree = expr_none _ _ _ _ _ c.if-self-eq0.true;
+      deep = tt;
+      bound = tt;
+      shorter = tt;
+    }
 
-pub expr-returns-then-self-eq0-2-clause-tree : goal.expr-returns-then-self-eq0-2-clause-tree
-expr-returns-then-self-eq0-2-clause-tree t c = expr_flat _ _ _ _ _ c.if-self-eq0-2.true
+pub expr-returns-then-self-eq0-2 : goal.expr-returns-then-self-eq0-2
+expr-returns-then-self-eq0-2 t c =
+    record {
+      tree = expr_flat _ _ _ _ _ c.if-self-eq0-2.true;
+      deep = tt;
+      bound = tt;
+      shorter = tt;
+    }
 
-pub expr-returns-clause-tree : goal.expr-returns-clause-tree
-expr-returns-clause-tree t c =
-    rw (expr_some c.args.self.now.types.now c.args.self.now.nest c.args.self.now.most c.args.level _ (omega arith) (omega arith)) c.read_at.ensures.tree
+pub expr-returns : goal.expr-returns
+expr-returns t c =
+    record {
+      tree = rw (expr_some c.args.self.now.types.now c.args.self.now.nest c.args.self.now.most c.args.level _ (omega arith) (omega arith)) c.read_at.ensures.tree;
+      deep = c.read_at.ensures.deep;
+      bound = IfOk-weaker c.read_at.result _ _ (λ x h. omega (arith, h)) c.read_at.ensures.bound;
+      shorter = c.read_at.ensures.shorter;
+    }
 
-pub spec-returns-then-self-eq0-clause-tree : goal.spec-returns-then-self-eq0-clause-tree
-spec-returns-then-self-eq0-clause-tree t c = spec_none _ _ _ _ c.if-self-eq0.true
+pub spec-returns-then-self-eq0 : goal.spec-returns-then-self-eq0
+spec-returns-then-self-eq0 t c =
+    record {
+      tree = spec_none _ _ _ _ c.if-self-eq0.true;
+      deep = tt;
+      bound = tt;
+      shorter = tt;
+    }
 
-pub spec-returns-clause-tree : goal.spec-returns-clause-tree
-spec-returns-clause-tree t c =
-    rw (spec_some c.args.self.now.types.now c.args.self.now.nest c.args.self.now.most _ (omega arith)) c.spec_at.ensures.tree
+pub spec-returns : goal.spec-returns
+spec-returns t c =
+    record {
+      tree = rw (spec_some c.args.self.now.types.now c.args.self.now.nest c.args.self.now.most _ (omega arith)) c.spec_at.ensures.tree;
+      deep = c.spec_at.ensures.deep;
+      bound = c.spec_at.ensures.bound;
+      shorter = c.spec_at.ensures.shorter;
+    }
 
-pub params-returns-then-self-eq0-clause-tree : goal.params-returns-then-self-eq0-clause-tree
-params-returns-then-self-eq0-clause-tree t c = params_none _ _ _ _ c.if-self-eq0.true
+pub params-returns-then-self-eq0 : goal.params-returns-then-self-eq0
+params-returns-then-self-eq0 t c =
+    record {
+      tree = params_none _ _ _ _ c.if-self-eq0.true;
+      deep = tt;
+      bound = tt;
+      shorter = tt;
+    }
 
-pub params-returns-clause-tree : goal.params-returns-clause-tree
-params-returns-clause-tree t c =
-    rw (params_some c.args.self.now.types.now c.args.self.now.nest c.args.self.now.most _ (omega arith)) c.params_at.ensures.tree
+pub params-returns : goal.params-returns
+params-returns t c =
+    record {
+      tree = rw (params_some c.args.self.now.types.now c.args.self.now.nest c.args.self.now.most _ (omega arith)) c.params_at.ensures.tree;
+      deep = c.params_at.ensures.deep;
+      bound = c.params_at.ensures.bound;
+      shorter = c.params_at.ensures.shorter;
+    }
 
-pub read_at-returns-then-level-eq0-clause-tree : goal.read_at-returns-then-level-eq0-clause-tree
-read_at-returns-then-level-eq0-clause-tree t c = rw (read_at_comma _ _ _ _ _ c.if-level-eq0.true) c.comma.ensures.tree
+pub read_at-returns-then-level-eq0 : goal.read_at-returns-then-level-eq0
+read_at-returns-then-level-eq0 t c =
+    record {
+      tree = rw (read_at_comma _ _ _ _ _ c.if-level-eq0.true) c.comma.ensures.tree;
+      deep = c.comma.ensures.deep;
+      bound = c.comma.ensures.bound;
+      shorter = c.comma.ensures.shorter;
+    }
 
-pub read_at-returns-then-level-eq1-clause-tree : goal.read_at-returns-then-level-eq1-clause-tree
-read_at-returns-then-level-eq1-clause-tree t c = rw (read_at_assign _ _ _ _ _ c.if-level-eq1.true) c.assign.ensures.tree
+pub read_at-returns-then-level-eq1 : goal.read_at-returns-then-level-eq1
+read_at-returns-then-level-eq1 t c =
+    record {
+      tree = rw (read_at_assign _ _ _ _ _ c.if-level-eq1.true) c.assign.ensures.tree;
+      deep = c.assign.ensures.deep;
+      bound = c.assign.ensures.bound;
+      shorter = c.assign.ensures.shorter;
+    }
 
-pub read_at-returns-then-level-eq2-clause-tree : goal.read_at-returns-then-level-eq2-clause-tree
-read_at-returns-then-level-eq2-clause-tree t c = rw (read_at_conditional _ _ _ _ _ c.if-level-eq2.true) c.conditional.ensures.tree
+pub read_at-returns-then-level-eq2 : goal.read_at-returns-then-level-eq2
+read_at-returns-then-level-eq2 t c =
+    record {
+      tree = rw (read_at_conditional _ _ _ _ _ c.if-level-eq2.true) c.conditional.ensures.tree;
+      deep = c.conditional.ensures.deep;
+      bound = c.conditional.ensures.bound;
+      shorter = c.conditional.ensures.shorter;
+    }
 
-pub read_at-returns-then-level-lt14-clause-tree : goal.read_at-returns-then-level-lt14-clause-tree
-read_at-returns-then-level-lt14-clause-tree t c = rw (read_at_climb _ _ _ _ c.args.level (omega arith) (omega arith)) c.climb.ensures.tree
+pub read_at-returns-then-level-lt14 : goal.read_at-returns-then-level-lt14
+read_at-returns-then-level-lt14 t c =
+    record {
+      tree = rw (read_at_climb _ _ _ _ c.args.level (omega arith) (omega arith)) c.climb.ensures.tree;
+      deep = c.climb.ensures.deep;
+      bound = c.climb.ensures.bound;
+      shorter = c.climb.ensures.shorter;
+    }
 
-pub read_at-returns-else-level-lt14-clause-tree : goal.read_at-returns-else-level-lt14-clause-tree
-read_at-returns-else-level-lt14-clause-tree t c = rw (read_at_unary _ _ _ _ c.args.level (omega arith)) c.unary.ensures.tree
+pub read_at-returns-else-level-lt14 : goal.read_at-returns-else-level-lt14
+read_at-returns-else-level-lt14 t c =
+    record {
+      tree = rw (read_at_unary _ _ _ _ c.args.level (omega arith)) c.unary.ensures.tree;
+      deep = c.unary.ensures.deep;
+      bound = c.unary.ensures.bound;
+      shorter = c.unary.ensures.shorter;
+    }
 
 pub comma-loop-pos-init : goal.comma-loop-pos-init
 comma-loop-pos-init t c = record { commas = comma_begins _ _ _ _ _ _ _ c.in_ok-left.ensures.tree c.in_ok-left.ensures.deep c.in_ok-left.ensures.bound; shorter = c.in_ok-left.ensures.shorter }
 
-pub comma-returns-then-left_depth-self-clause-tree : goal.comma-returns-then-left_depth-self-clause-tree
-comma-returns-then-left_depth-self-clause-tree t c =
-    comma_deep _ _ _ _ _ _ _ _ c.loop-pos.invariant.commas (sym c.in-Some.ensures.token) c.if-left_depth-self.true
+pub comma-returns-then-left_depth-self : goal.comma-returns-then-left_depth-self
+comma-returns-then-left_depth-self t c =
+    record {
+      tree = comma_deep _ _ _ _ _ _ _ _ c.loop-pos.invariant.commas (sym c.in-Some.ensures.token) c.if-left_depth-self.true;
+      deep = tt;
+      bound = tt;
+      shorter = tt;
+    }
 
-pub comma-returns-in_err-right-clause-tree : goal.comma-returns-in_err-right-clause-tree
-comma-returns-in_err-right-clause-tree t c =
+pub comma-returns-in_err-right : goal.comma-returns-in_err-right
+comma-returns-in_err-right t c =
     let p = err_from_is_err_and c.from_residual-in_err-right.result c.from_residual-in_err-right.ensures.1 in
-    rw (p.1, p.2) (comma_fails _ _ _ _ c.in_err-right.field-0.0 _ _ _ (c.in-Some.pos, placed c.in-Some.after.now) c.loop-pos.invariant.commas (sym c.in-Some.ensures.token) (omega arith) c.in_err-right.ensures.tree)
+    record {
+      tree = rw (p.1, p.2) (comma_fails _ _ _ _ c.in_err-right.field-0.0 _ _ _ (c.in-Some.pos, placed c.in-Some.after.now) c.loop-pos.invariant.commas (sym c.in-Some.ensures.token) (omega arith) c.in_err-right.ensures.tree);
+      deep = rw p.1 tt;
+      bound = rw p.1 tt;
+      shorter = rw p.1 tt;
+    }
 
 pub comma-loop-pos-preserved : goal.comma-loop-pos-preserved
 comma-loop-pos-preserved t c = record {
@@ -78,22 +158,37 @@ comma-loop-pos-preserved t c = record {
   shorter = omega (arith, c.in_ok-right.ensures.shorter, c.in-Some.ensures.shorter);
 }
 
-pub comma-returns-clause-tree : goal.comma-returns-clause-tree
-comma-returns-clause-tree t c =
+pub comma-returns : goal.comma-returns
+comma-returns t c =
     let none : eat puncts.Comma (placed c.loop-pos.rest.now) ≡ None = search rules in
-    comma_ends _ _ _ _ _ _ _ c.loop-pos.invariant.commas none
+    record {
+      tree = comma_ends _ _ _ _ _ _ _ c.loop-pos.invariant.commas none;
+      deep = c.loop-pos.invariant.commas.deep;
+      bound = c.loop-pos.invariant.commas.bound;
+      shorter = c.loop-pos.invariant.shorter;
+    }
 
 pub climb-loop-operator-init : goal.climb-loop-operator-init
 climb-loop-operator-init t c = record { climbs = climb_begins _ _ _ _ _ _ _ _ c.in_ok-left.ensures.tree c.in_ok-left.ensures.deep c.in_ok-left.ensures.bound; shorter = c.in_ok-left.ensures.shorter }
 
-pub climb-returns-then-left_depth-self-clause-tree : goal.climb-returns-then-left_depth-self-clause-tree
-climb-returns-then-left_depth-self-clause-tree t c =
-    climb_deep _ _ _ _ _ _ _ _ _ c.loop-operator.invariant.climbs (sym c.in-Some.ensures.token) c.if-left_depth-self.true
+pub climb-returns-then-left_depth-self : goal.climb-returns-then-left_depth-self
+climb-returns-then-left_depth-self t c =
+    record {
+      tree = climb_deep _ _ _ _ _ _ _ _ _ c.loop-operator.invariant.climbs (sym c.in-Some.ensures.token) c.if-left_depth-self.true;
+      deep = tt;
+      bound = tt;
+      shorter = tt;
+    }
 
-pub climb-returns-in_err-right-clause-tree : goal.climb-returns-in_err-right-clause-tree
-climb-returns-in_err-right-clause-tree t c =
+pub climb-returns-in_err-right : goal.climb-returns-in_err-right
+climb-returns-in_err-right t c =
     let p = err_from_is_err_and c.from_residual-in_err-right.result c.from_residual-in_err-right.ensures.1 in
-    rw (p.1, p.2) (climb_fails _ _ _ _ _ c.in_err-right.field-0.0 _ _ _ (c.in-Some.operator, c.in-Some.pos, placed c.in-Some.after.now) c.loop-operator.invariant.climbs (sym c.in-Some.ensures.token) (omega arith) (rw c.binary_level.ensures at c.in_err-right.ensures.tree))
+    record {
+      tree = rw (p.1, p.2) (climb_fails _ _ _ _ _ c.in_err-right.field-0.0 _ _ _ (c.in-Some.operator, c.in-Some.pos, placed c.in-Some.after.now) c.loop-operator.invariant.climbs (sym c.in-Some.ensures.token) (omega arith) (rw c.binary_level.ensures at c.in_err-right.ensures.tree));
+      deep = rw p.1 tt;
+      bound = rw p.1 tt;
+      shorter = rw p.1 tt;
+    }
 
 pub climb-loop-operator-preserved : goal.climb-loop-operator-preserved
 climb-loop-operator-preserved t c = record {
@@ -102,10 +197,15 @@ climb-loop-operator-preserved t c = record {
   shorter = omega (arith, c.in_ok-right.ensures.shorter, c.in-Some.ensures.shorter);
 }
 
-pub climb-returns-clause-tree : goal.climb-returns-clause-tree
-climb-returns-clause-tree t c =
+pub climb-returns : goal.climb-returns
+climb-returns t c =
     let none : eat_operator c.args.level (placed c.loop-operator.rest.now) ≡ None = search rules in
-    climb_ends _ _ _ _ _ _ _ _ c.loop-operator.invariant.climbs none
+    record {
+      tree = climb_ends _ _ _ _ _ _ _ _ c.loop-operator.invariant.climbs none;
+      deep = c.loop-operator.invariant.climbs.deep;
+      bound = c.loop-operator.invariant.climbs.bound;
+      shorter = c.loop-operator.invariant.shorter;
+    }
 
 pub postfix-each-init : goal.postfix-each-init
 postfix-each-init t c = record {
@@ -113,28 +213,43 @@ postfix-each-init t c = record {
   shorter = c.in_ok-tree.ensures.shorter;
 }
 
-pub postfix-returns-then-not-goes_on-clause-tree : goal.postfix-returns-then-not-goes_on-clause-tree
-postfix-returns-then-not-goes_on-clause-tree t c =
+pub postfix-returns-then-not-goes_on : goal.postfix-returns-then-not-goes_on
+postfix-returns-then-not-goes_on t c =
     let stops : goes_on (placed c.each.rest.now) ≡ false = search rules in
-    postfix_ends _ _ _ _ _ _ _ _ c.each.invariant.comes stops
+    record {
+      tree = postfix_ends _ _ _ _ _ _ _ _ c.each.invariant.comes stops;
+      deep = c.each.invariant.comes.deep;
+      bound = c.each.invariant.comes.bound;
+      shorter = c.each.invariant.shorter;
+    }
 
-pub postfix-returns-then-depth-self-clause-tree : goal.postfix-returns-then-depth-self-clause-tree
-postfix-returns-then-depth-self-clause-tree t c =
+pub postfix-returns-then-depth-self : goal.postfix-returns-then-depth-self
+postfix-returns-then-depth-self t c =
     let goes : goes_on (placed c.each.rest.now) ≡ true = search rules in
-    postfix_deep _ _ _ _ _ _ _ _ c.each.invariant.comes goes c.if-depth-self.true
+    record {
+      tree = postfix_deep _ _ _ _ _ _ _ _ c.each.invariant.comes goes c.if-depth-self.true;
+      deep = tt;
+      bound = tt;
+      shorter = tt;
+    }
 
-pub postfix-returns-in_err-longer-clause-tree : goal.postfix-returns-in_err-longer-clause-tree
-postfix-returns-in_err-longer-clause-tree t c =
+pub postfix-returns-in_err-longer : goal.postfix-returns-in_err-longer
+postfix-returns-in_err-longer t c =
     let goes : goes_on (placed c.each.rest.now) ≡ true = search rules in
     let p = err_from_is_err_and c.from_residual-in_err-longer.result c.from_residual-in_err-longer.ensures.1 in
-    rw (p.1, p.2) (postfix_fails _ _ _ _ _ c.in_err-longer.field-0.0 _ _ _ c.each.invariant.comes goes (omega arith) c.in_err-longer.ensures.tree)
+    record {
+      tree = rw (p.1, p.2) (postfix_fails _ _ _ _ _ c.in_err-longer.field-0.0 _ _ _ c.each.invariant.comes goes (omega arith) c.in_err-longer.ensures.reads.tree);
+      deep = rw p.1 tt;
+      bound = rw p.1 tt;
+      shorter = rw p.1 tt;
+    }
 
 pub postfix-each-preserved : goal.postfix-each-preserved
 postfix-each-preserved t c =
     let goes : goes_on (placed c.each.rest.now) ≡ true = search rules in
     record {
-      comes = postfix_turns _ _ _ _ _ _ _ _ _ _ _ c.each.invariant.comes goes (omega arith) c.in_ok-longer.ensures.tree c.in_ok-longer.ensures.deep c.in_ok-longer.ensures.deeper c.in_ok-longer.ensures.bound;
-      shorter = omega (arith, c.in_ok-longer.ensures.shorter, c.each.invariant.shorter);
+      comes = postfix_turns _ _ _ _ _ _ _ _ _ _ _ c.each.invariant.comes goes (omega arith) c.in_ok-longer.ensures.reads.tree c.in_ok-longer.ensures.reads.deep c.in_ok-longer.ensures.deeper c.in_ok-longer.ensures.reads.bound;
+      shorter = omega (arith, c.in_ok-longer.ensures.reads.shorter, c.each.invariant.shorter);
     }
 
 pub args-loop-inner-init : goal.args-loop-inner-init
@@ -158,21 +273,36 @@ args-loop-inner-preserved t c = record {
   shorter = omega (arith, c.in_ok-arg.ensures.shorter, c.in-Some-eat.ensures.shorter, c.loop-inner.invariant.shorter);
 }
 
-pub args-returns-in_err-arg-clause-tree : goal.args-returns-in_err-arg-clause-tree
-args-returns-in_err-arg-clause-tree t c =
+pub args-returns-in_err-arg : goal.args-returns-in_err-arg
+args-returns-in_err-arg t c =
     let p = err_from_is_err_and c.from_residual-in_err-arg.result c.from_residual-in_err-arg.ensures.1 in
-    rw (p.1, p.2) (args_fail _ _ _ c.in_err-arg.field-0.0 _ _ _ c.loop-inner.invariant.reads (sym c.in-Some-eat.ensures.token) c.in_err-arg.ensures.tree)
+    record {
+      tree = rw (p.1, p.2) (args_fail _ _ _ c.in_err-arg.field-0.0 _ _ _ c.loop-inner.invariant.reads (sym c.in-Some-eat.ensures.token) c.in_err-arg.ensures.tree);
+      deep = rw p.1 tt;
+      bound = rw p.1 tt;
+      shorter = rw p.1 tt;
+    }
 
-pub args-returns-in_default-eat-2-clause-tree : goal.args-returns-in_default-eat-2-clause-tree
-args-returns-in_default-eat-2-clause-tree t c =
+pub args-returns-in_default-eat-2 : goal.args-returns-in_default-eat-2
+args-returns-in_default-eat-2 t c =
     let no_comma : eat puncts.Comma (placed c.loop-inner.rest.now) ≡ None = search rules in
     let no_paren : eat puncts.RightParen (placed c.loop-inner.rest.now) ≡ None = search rules in
-    args_open _ _ _ _ _ c.loop-inner.invariant.reads no_comma no_paren
+    record {
+      tree = args_open _ _ _ _ _ c.loop-inner.invariant.reads no_comma no_paren;
+      deep = tt;
+      bound = tt;
+      shorter = tt;
+    }
 
-pub args-returns-clause-tree : goal.args-returns-clause-tree
-args-returns-clause-tree t c =
+pub args-returns : goal.args-returns
+args-returns t c =
     let no_comma : eat puncts.Comma (placed c.loop-inner.rest.now) ≡ None = search rules in
-    args_end _ _ _ _ _ _ c.loop-inner.invariant.reads no_comma (sym c.in-Some-eat-2.ensures.token)
+    record {
+      tree = args_end _ _ _ _ _ _ c.loop-inner.invariant.reads no_comma (sym c.in-Some-eat-2.ensures.token);
+      deep = c.loop-inner.invariant.deep;
+      bound = c.loop-inner.invariant.bound;
+      shorter = omega (arith, c.in-Some-eat-2.ensures.shorter, c.loop-inner.invariant.shorter);
+    }
 
 pub fields-each-init : goal.fields-each-init
 fields-each-init t c = record {
@@ -194,14 +324,25 @@ fields-each-preserved t c =
       shorter = omega (arith, c.in_ok-field.ensures.shorter, c.each.invariant.shorter);
     }
 
-pub fields-returns-in_err-field-clause-tree : goal.fields-returns-in_err-field-clause-tree
-fields-returns-in_err-field-clause-tree t c =
+pub fields-returns-in_err-field : goal.fields-returns-in_err-field
+fields-returns-in_err-field t c =
     let none : eat puncts.RightBrace (placed c.each.rest.now) ≡ None = search rules in
     let p = err_from_is_err_and c.from_residual.result c.from_residual.ensures.1 in
-    rw (p.1, p.2) (fields_fail _ _ _ c.in_err-field.field-0.0 _ _ c.each.invariant.reads none c.in_err-field.ensures.tree)
+    record {
+      tree = rw (p.1, p.2) (fields_fail _ _ _ c.in_err-field.field-0.0 _ _ c.each.invariant.reads none c.in_err-field.ensures.tree);
+      deep = rw p.1 tt;
+      bound = rw p.1 tt;
+      shorter = rw p.1 tt;
+    }
 
-pub fields-returns-in-Some-clause-tree : goal.fields-returns-in-Some-clause-tree
-fields-returns-in-Some-clause-tree t c = fields_end _ _ _ _ _ _ c.each.invariant.reads (sym c.in-Some.ensures.token)
+pub fields-returns-in-Some : goal.fields-returns-in-Some
+fields-returns-in-Some t c =
+    record {
+      tree = fields_end _ _ _ _ _ _ c.each.invariant.reads (sym c.in-Some.ensures.token);
+      deep = c.each.invariant.deep;
+      bound = c.each.invariant.bound;
+      shorter = omega (arith, c.each.invariant.shorter);
+    }
 
 pub declrs-loop-inner-init : goal.declrs-loop-inner-init
 declrs-loop-inner-init t c = record {
@@ -222,28 +363,54 @@ declrs-loop-inner-preserved t c = record {
   shorter = omega (arith, c.in_ok-declr.ensures.shorter, c.in-Some.ensures.shorter, c.loop-inner.invariant.shorter);
 }
 
-pub declrs-returns-in_err-declr-clause-tree : goal.declrs-returns-in_err-declr-clause-tree
-declrs-returns-in_err-declr-clause-tree t c =
+pub declrs-returns-in_err-declr : goal.declrs-returns-in_err-declr
+declrs-returns-in_err-declr t c =
     let p = err_from_is_err_and c.from_residual-in_err-declr.result c.from_residual-in_err-declr.ensures.1 in
-    rw (p.1, p.2) (declrs_fail _ _ _ c.in_err-declr.field-0.0 _ _ _ c.loop-inner.invariant.reads (sym c.in-Some.ensures.token) c.in_err-declr.ensures.tree)
+    record {
+      tree = rw (p.1, p.2) (declrs_fail _ _ _ c.in_err-declr.field-0.0 _ _ _ c.loop-inner.invariant.reads (sym c.in-Some.ensures.token) c.in_err-declr.ensures.tree);
+      deep = rw p.1 tt;
+      bound = rw p.1 tt;
+      shorter = rw p.1 tt;
+    }
 
-pub declrs-returns-clause-tree : goal.declrs-returns-clause-tree
-declrs-returns-clause-tree t c =
+pub declrs-returns : goal.declrs-returns
+declrs-returns t c =
     let no_comma : eat puncts.Comma (placed c.loop-inner.rest.now) ≡ None = search rules in
-    declrs_end _ _ _ _ _ c.loop-inner.invariant.reads no_comma
+    record {
+      tree = declrs_end _ _ _ _ _ c.loop-inner.invariant.reads no_comma;
+      deep = c.loop-inner.invariant.deep;
+      bound = c.loop-inner.invariant.bound;
+      shorter = c.loop-inner.invariant.shorter;
+    }
 
-pub function_rest-returns-in_default-clause-tree : goal.function_rest-returns-in_default-clause-tree
-function_rest-returns-in_default-clause-tree t c =
+pub function_rest-returns-in_default : goal.function_rest-returns-in_default
+function_rest-returns-in_default t c =
     let none : function_front c.args.self.now.types.now (placed c.args.tokens.now) ≡ None = search rules in
-    function_none _ _ _ _ none
+    record {
+      tree = function_none _ _ _ _ none;
+      deep = tt;
+      bound = tt;
+      shorter = tt;
+    }
 
-pub function_rest-returns-in_err-params-clause-tree : goal.function_rest-returns-in_err-params-clause-tree
-function_rest-returns-in_err-params-clause-tree t c =
+pub function_rest-returns-in_err-params : goal.function_rest-returns-in_err-params
+function_rest-returns-in_err-params t c =
     let p = err_from_is_err_and c.from_residual.result c.from_residual.ensures.1 in
-    rw (p.1, p.2) (function_fails _ _ c.in_err-params.field-0.0 _ _ _ (sym c.in-Some.ensures.token) c.in_err-params.ensures.tree)
+    record {
+      tree = rw (p.1, p.2) (function_fails _ _ c.in_err-params.field-0.0 _ _ _ (sym c.in-Some.ensures.token) c.in_err-params.ensures.tree);
+      deep = rw p.1 tt;
+      bound = rw p.1 tt;
+      shorter = rw p.1 tt;
+    }
 
-pub function_rest-returns-clause-tree : goal.function_rest-returns-clause-tree
-function_rest-returns-clause-tree t c = rw c.function.ensures (function_ends _ _ _ _ _ _ _ (sym c.in-Some.ensures.token) c.in_ok-params.ensures.tree)
+pub function_rest-returns : goal.function_rest-returns
+function_rest-returns t c =
+    record {
+      tree = rw c.function.ensures (function_ends _ _ _ _ _ _ _ (sym c.in-Some.ensures.token) c.in_ok-params.ensures.tree);
+      deep = rw c.function.ensures (omega (arith, c.in_ok-params.ensures.deep));
+      bound = c.in_ok-params.ensures.bound;
+      shorter = omega (arith, c.in_ok-params.ensures.shorter, c.in-Some.ensures.shorter);
+    }
 
 pub sizes-loop-inner-init : goal.sizes-loop-inner-init
 sizes-loop-inner-init t c = record {
@@ -264,15 +431,25 @@ sizes-loop-inner-preserved t c = record {
   shorter = omega (arith, c.in_ok-size.ensures.shorter, c.in-Some.ensures.shorter, c.loop-inner.invariant.shorter);
 }
 
-pub sizes-returns-in_err-size-clause-tree : goal.sizes-returns-in_err-size-clause-tree
-sizes-returns-in_err-size-clause-tree t c =
+pub sizes-returns-in_err-size : goal.sizes-returns-in_err-size
+sizes-returns-in_err-size t c =
     let p = err_from_is_err_and c.from_residual.result c.from_residual.ensures.1 in
-    rw (p.1, p.2) (sizes_fail _ _ _ c.in_err-size.field-0.0 _ _ _ c.loop-inner.invariant.reads (sym c.in-Some.ensures.token) c.in_err-size.ensures.tree)
+    record {
+      tree = rw (p.1, p.2) (sizes_fail _ _ _ c.in_err-size.field-0.0 _ _ _ c.loop-inner.invariant.reads (sym c.in-Some.ensures.token) c.in_err-size.ensures.tree);
+      deep = rw p.1 tt;
+      bound = rw p.1 tt;
+      shorter = rw p.1 tt;
+    }
 
-pub sizes-returns-clause-tree : goal.sizes-returns-clause-tree
-sizes-returns-clause-tree t c =
+pub sizes-returns : goal.sizes-returns
+sizes-returns t c =
     let none : eat puncts.LeftBracket (placed c.loop-inner.rest.now) ≡ None = search rules in
-    sizes_end _ _ _ _ _ c.loop-inner.invariant.reads none
+    record {
+      tree = sizes_end _ _ _ _ _ c.loop-inner.invariant.reads none;
+      deep = c.loop-inner.invariant.deep;
+      bound = c.loop-inner.invariant.bound;
+      shorter = omega (arith, c.loop-inner.invariant.shorter);
+    }
 
 pub some_params-each-init : goal.some_params-each-init
 some_params-each-init t c = record {
@@ -295,18 +472,33 @@ some_params-each-preserved t c =
       shorter = omega (arith, c.in_ok-param.ensures.shorter, c.in-Some-eat.ensures.shorter, c.each.invariant.shorter);
     }
 
-pub some_params-returns-in_err-param-clause-tree : goal.some_params-returns-in_err-param-clause-tree
-some_params-returns-in_err-param-clause-tree t c =
+pub some_params-returns-in_err-param : goal.some_params-returns-in_err-param
+some_params-returns-in_err-param t c =
     let none : dots_front (placed c.each.rest.now) ≡ None = search rules in
     let p = err_from_is_err_and c.from_residual-in_err-param.result c.from_residual-in_err-param.ensures.1 in
-    rw (p.1, p.2) (params_fail _ _ _ c.in_err-param.field-0.0 _ _ _ c.each.invariant.reads none (sym c.in-Some-eat.ensures.token) c.in_err-param.ensures.tree)
+    record {
+      tree = rw (p.1, p.2) (params_fail _ _ _ c.in_err-param.field-0.0 _ _ _ c.each.invariant.reads none (sym c.in-Some-eat.ensures.token) c.in_err-param.ensures.tree);
+      deep = rw p.1 tt;
+      bound = rw p.1 tt;
+      shorter = rw p.1 tt;
+    }
 
-pub some_params-returns-in-Some-clause-tree : goal.some_params-returns-in-Some-clause-tree
-some_params-returns-in-Some-clause-tree t c =
-    rw (params_dots _ _ _ _ _ _ c.each.invariant.reads (sym c.in-Some.ensures.token)) c.close_params.ensures.tree
+pub some_params-returns-in-Some : goal.some_params-returns-in-Some
+some_params-returns-in-Some t c =
+    record {
+      tree = rw (params_dots _ _ _ _ _ _ c.each.invariant.reads (sym c.in-Some.ensures.token)) c.close_params.ensures.reads.tree;
+      deep = IfOk-both c.close_params.result _ _ _ (λ x d s. rw s (d ∙ c.each.invariant.deep)) c.close_params.ensures.reads.deep c.close_params.ensures.same;
+      bound = IfOk-weaker c.close_params.result _ _ (λ x h. omega (arith, h, c.each.invariant.bound)) c.close_params.ensures.reads.bound;
+      shorter = IfOk-weaker c.close_params.result _ _ (λ x h. omega (arith, h, c.in-Some.ensures.shorter, c.each.invariant.shorter)) c.close_params.ensures.reads.shorter;
+    }
 
-pub some_params-returns-in_default-eat-clause-tree : goal.some_params-returns-in_default-eat-clause-tree
-some_params-returns-in_default-eat-clause-tree t c =
+pub some_params-returns-in_default-eat : goal.some_params-returns-in_default-eat
+some_params-returns-in_default-eat t c =
     let none : dots_front (placed c.each.rest.now) ≡ None = search rules in
     let no_comma : eat puncts.Comma (placed c.each.rest.now) ≡ None = search rules in
-    rw (params_end _ _ _ _ _ c.each.invariant.reads none no_comma) c.close_params-in_default-eat.ensures.tree
+    record {
+      tree = rw (params_end _ _ _ _ _ c.each.invariant.reads none no_comma) c.close_params-in_default-eat.ensures.reads.tree;
+      deep = IfOk-both c.close_params-in_default-eat.result _ _ _ (λ x d s. rw s (d ∙ c.each.invariant.deep)) c.close_params-in_default-eat.ensures.reads.deep c.close_params-in_default-eat.ensures.same;
+      bound = IfOk-weaker c.close_params-in_default-eat.result _ _ (λ x h. omega (arith, h, c.each.invariant.bound)) c.close_params-in_default-eat.ensures.reads.bound;
+      shorter = IfOk-weaker c.close_params-in_default-eat.result _ _ (λ x h. omega (arith, h, c.each.invariant.shorter)) c.close_params-in_default-eat.ensures.reads.shorter;
+    }
