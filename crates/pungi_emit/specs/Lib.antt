@@ -1,3 +1,4 @@
 pub mod LabelPlaces
 pub mod Plans
 pub mod Cases
+pub mod Surveys

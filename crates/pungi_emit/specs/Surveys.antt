@@ -1,0 +1,28 @@
+-- What a survey of a statement finds.
+--   Surveys ..                  it ends at this place; its loops and labels, the places that it leads to and those of its labels come
+--                               behind what was there
+--   SurveysStmt pc a            of a statement that begins at this place
+--   SurveysSwitch pc a          of a `switch` over this statement, whose value ends at this place
+--   SurveysSkipped pc a         .. where the statement is no block
+use Rattle.std.specs.Prelude.{◌≡◌, ℕ, ◌+◌, List, ◌++◌}
+use Rattle.pungi_types.specs.ResolvedStmts as stmt
+use Rattle.pungi_layout.specs.declared.mark.Mark.{Mark}
+use Rattle.pungi_layout.specs.Heads.{stmt_marks, switch_marks}
+use Rattle.pungi_layout.specs.Sizes.{stmt_size, switch_size}
+use Rattle.pungi_emit.specs.LabelPlaces.{stmt_labels}
+use Rattle.pungi_emit.specs.Plans.{places_of, plan_of, skipped_plan, switch_plan}
+
+pub record Surveys (end : ℕ) (ms : List Mark) (ps ls : List ℕ) (at : ℕ) (m0 m1 : List Mark) (p0 p1 l0 l1 : List ℕ) : Type 0 where
+  pub next : at ≡ end
+  pub marks : m1 ≡ m0 ++ ms
+  pub labels : l1 ≡ l0 ++ ls
+  pub places : p1 ≡ p0 ++ ps
+
+abbrev pub SurveysStmt : ℕ → stmt.Action → ℕ → List Mark → List Mark → List ℕ → List ℕ → List ℕ → List ℕ → Type 0
+SurveysStmt pc a = Surveys (pc + stmt_size a) (stmt_marks pc a) (plan_of pc a) (places_of (stmt_labels pc a))
+
+abbrev pub SurveysSwitch : ℕ → stmt.Action → ℕ → List Mark → List Mark → List ℕ → List ℕ → List ℕ → List ℕ → Type 0
+SurveysSwitch pc a = Surveys (pc + switch_size a) (switch_marks pc a) (switch_plan pc a) (places_of (stmt_labels (pc + 1) a))
+
+abbrev pub SurveysSkipped : ℕ → stmt.Action → ℕ → List Mark → List Mark → List ℕ → List ℕ → List ℕ → List ℕ → Type 0
+SurveysSkipped pc a = Surveys (pc + (1 + stmt_size a)) (stmt_marks (pc + 1) a) (skipped_plan pc a) (places_of (stmt_labels (pc + 1) a))
