@@ -4,12 +4,14 @@
 --   SurveysStmt pc a            of a statement that begins at this place
 --   SurveysSwitch pc a          of a `switch` over this statement, whose value ends at this place
 --   SurveysSkipped pc a         .. where the statement is no block
+--   SurveysList pc list ps ls   of statements, the first of which begins at this place: besides, where each of them begins
 use Rattle.std.specs.Prelude.{◌≡◌, ℕ, ◌+◌, List, ◌++◌}
 use Rattle.pungi_types.specs.ResolvedStmts as stmt
+use Rattle.pungi_resolved.specs.ActionView.{actions_of}
 use Rattle.pungi_layout.specs.declared.mark.Mark.{Mark}
-use Rattle.pungi_layout.specs.Heads.{stmt_marks, switch_marks}
-use Rattle.pungi_layout.specs.Sizes.{stmt_size, switch_size}
-use Rattle.pungi_emit.specs.LabelPlaces.{stmt_labels}
+use Rattle.pungi_layout.specs.Heads.{stmt_marks, stmts_marks, switch_marks}
+use Rattle.pungi_layout.specs.Sizes.{stmt_size, stmts_size, switch_size}
+use Rattle.pungi_emit.specs.LabelPlaces.{stmt_labels, list_starts}
 use Rattle.pungi_emit.specs.Plans.{places_of, plan_of, skipped_plan, switch_plan}
 
 pub record Surveys (end : ℕ) (ms : List Mark) (ps ls : List ℕ) (at : ℕ) (m0 m1 : List Mark) (p0 p1 l0 l1 : List ℕ) : Type 0 where
@@ -26,3 +28,7 @@ SurveysSwitch pc a = Surveys (pc + switch_size a) (switch_marks pc a) (switch_pl
 
 abbrev pub SurveysSkipped : ℕ → stmt.Action → ℕ → List Mark → List Mark → List ℕ → List ℕ → List ℕ → List ℕ → Type 0
 SurveysSkipped pc a = Surveys (pc + (1 + stmt_size a)) (stmt_marks (pc + 1) a) (skipped_plan pc a) (places_of (stmt_labels (pc + 1) a))
+
+pub record SurveysList (pc : ℕ) (list : List stmt.Action) (ps ls : List ℕ) (at : ℕ) (m0 m1 : List Mark) (p0 p1 l0 l1 s0 s1 : List ℕ) : Type 0 where
+  pub found : Surveys (pc + stmts_size (actions_of list)) (stmts_marks pc (actions_of list)) ps ls at m0 m1 p0 p1 l0 l1
+  pub starts : s1 ≡ s0 ++ list_starts pc list

@@ -1,13 +1,13 @@
 // What is found out of a statement before its code is there: the places that it leads to, and its loops and labels.
-ghost use Rattle.std.specs.Prelude.{◌≡◌, ◌+◌, ◌++◌, [], map, IfOk, OnOk};
+ghost use Rattle.std.specs.Prelude.{◌≡◌, ◌+◌, ◌++◌, [], map, IfOk};
 ghost use Rattle.pungi_resolved.specs.ActionView.{reached_view, action_view, actions_of};
 ghost use Rattle.pungi_resolved.specs.ValueView.{value_view, optional_view};
-ghost use Rattle.pungi_layout.specs.Sizes.{option_size, reach_size, stmts_size};
+ghost use Rattle.pungi_layout.specs.Sizes.{option_size, reach_size};
 ghost use Rattle.pungi_layout.specs.Scopes.{for_head as head_of_for};
-ghost use Rattle.pungi_layout.specs.Heads.{head_at, stmts_marks};
-ghost use Rattle.pungi_emit.specs.LabelPlaces.{list_labels, list_starts};
+ghost use Rattle.pungi_layout.specs.Heads.{head_at};
+ghost use Rattle.pungi_emit.specs.LabelPlaces.{list_labels};
 ghost use Rattle.pungi_emit.specs.Plans.{places_of, plans_of};
-ghost use Rattle.pungi_emit.specs.Surveys.{SurveysStmt, SurveysSkipped, SurveysSwitch};
+ghost use Rattle.pungi_emit.specs.Surveys.{SurveysStmt, SurveysSkipped, SurveysSwitch, SurveysList};
 ghost use Rattle.pungi_types.specs.ResolvedStmts.{block_of, test, test_else, repeat_while, repeat_until, repeat_for, switch_on, at_label};
 ghost use Rattle.pungi_meaning.specs.Run.{nowhere};
 
@@ -70,11 +70,7 @@ fn survey_list(
     list: &[Action],
     from: u32,
 ) -> Result<u32, Memory>
-    ensures next { IfOk result (λ next. next ≡ from + stmts_size (actions_of (map action_view list.now))) }
-    ensures marks { OnOk result (marks.new ≡ marks.old ++ stmts_marks from (actions_of (map action_view list.now))) }
-    ensures labels { OnOk result (labels.new ≡ labels.old ++ places_of (list_labels from (map action_view list.now))) }
-    ensures starts { OnOk result (starts.new ≡ starts.old ++ list_starts from (map action_view list.now)) }
-    ensures places { OnOk result (places.new ≡ places.old ++ plans_of from (actions_of (map action_view list.now))) }
+    ensures { IfOk result (λ next. SurveysList from (map action_view list.now) (plans_of from (actions_of (map action_view list.now))) (places_of (list_labels from (map action_view list.now))) next marks.old marks.new places.old places.new labels.old labels.new starts.old starts.new) }
 {
     let mut place = from;
     for action in list {
@@ -94,10 +90,7 @@ fn survey_inside(
     list: &[Action],
     from: u32,
 ) -> Result<u32, Memory>
-    ensures next { IfOk result (λ next. next ≡ from + stmts_size (actions_of (map action_view list.now))) }
-    ensures marks { OnOk result (marks.new ≡ marks.old ++ stmts_marks from (actions_of (map action_view list.now))) }
-    ensures starts { OnOk result (starts.new ≡ starts.old ++ list_starts from (map action_view list.now)) }
-    ensures places { OnOk result (places.new ≡ places.old ++ (places_of (list_labels from (map action_view list.now)) ++ plans_of from (actions_of (map action_view list.now)))) }
+    ensures { IfOk result (λ next. SurveysList from (map action_view list.now) (places_of (list_labels from (map action_view list.now)) ++ plans_of from (actions_of (map action_view list.now))) [] next marks.old marks.new places.old places.new [] [] starts.old starts.new) }
 {
     let names = block_names(alloc, list)?;
     let room = hold(places, names.len())?;

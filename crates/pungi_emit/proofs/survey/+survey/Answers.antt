@@ -1,6 +1,7 @@
-use Rattle.std.proofs.Common.{◌≡◌, ◌+◌, ◌<◌, ◌++◌, length, map, drop, refl, ap, sym, ◌∙◌, arith, append_assoc}
-use Rattle.std.proofs.lemmas.List.{length-map}
+use Rattle.std.proofs.Common.{◌≡◌, ◌+◌, ◌<◌, List, [], ◌++◌, length, map, drop, refl, ap, sym, ◌∙◌, subst, arith, append_assoc, append-nil}
+use Rattle.std.proofs.lemmas.List.{length-map, drop_all}
 use Rattle.pungi_resolved.specs.ActionView.{reached_view, action_view, actions_of}
+use Rattle.pungi_resolved.specs.declared.action.Action.{Action as Node}
 use Rattle.pungi_resolved.specs.ValueView.{value_view, optional_view}
 use Rattle.pungi_meaning.specs.Run.{nowhere}
 use Rattle.pungi_layout.specs.Heads.{head_at, stmt_marks, stmts_marks, switch_marks}
@@ -162,26 +163,36 @@ survey_inside-fill-requires t c =
     let from = c.args.from in
     let front = places_of (list_labels from list) in
     let inner = plans_of from (actions_of list) in
-    let known : c.as_slice.result.now ≡ front = c.as_slice.ensures ∙ c.in_ok-next.ensures.labels ∙ ap (λ l. l ++ front) (c.new-labels.ensures ∙ c.new.ensures.items) in
+    let known : c.as_slice.result.now ≡ front = c.as_slice.ensures ∙ c.in_ok-next.ensures.found.labels ∙ ap (λ l. l ++ front) (c.new-labels.ensures ∙ c.new.ensures.items) in
     let long : length c.as_slice.result.now ≡ c.len.result = ap length known ∙ sym (labels_long list from) ∙ sym (c.len.ensures ∙ ap length c.in_ok-names.ensures) in
-    room_is_there c.args.places.now c.hold.new.places c.survey_list.new.places inner c.in_ok-room.room c.len.result (length c.as_slice.result.now) c.in_ok-room.ensures.places c.in_ok-room.ensures.room c.in_ok-next.ensures.places long
+    room_is_there c.args.places.now c.hold.new.places c.survey_list.new.places inner c.in_ok-room.room c.len.result (length c.as_slice.result.now) c.in_ok-room.ensures.places c.in_ok-room.ensures.room c.in_ok-next.ensures.found.places long
 
-pub survey_inside-returns-clause-places : goal.survey_inside-returns-clause-places
-survey_inside-returns-clause-places t c =
+pub survey_inside-returns : goal.survey_inside-returns
+survey_inside-returns t c =
     let list = map action_view c.args.list.now in
     let from = c.args.from in
     let front = places_of (list_labels from list) in
     let inner = plans_of from (actions_of list) in
-    let known : c.as_slice.result.now ≡ front = c.as_slice.ensures ∙ c.in_ok-next.ensures.labels ∙ ap (λ l. l ++ front) (c.new-labels.ensures ∙ c.new.ensures.items) in
+    let e = c.in_ok-next.ensures.found in
+    let known : c.as_slice.result.now ≡ front = c.as_slice.ensures ∙ e.labels ∙ ap (λ l. l ++ front) (c.new-labels.ensures ∙ c.new.ensures.items) in
     let long : length c.as_slice.result.now ≡ c.len.result = ap length known ∙ sym (labels_long list from) ∙ sym (c.len.ensures ∙ ap length c.in_ok-names.ensures) in
-    filled c.args.places.now c.hold.new.places c.survey_list.new.places c.fill.new.places c.as_slice.result.now inner c.in_ok-room.room c.len.result c.in_ok-room.ensures.places c.in_ok-room.ensures.room c.in_ok-next.ensures.places long c.fill.ensures
-    ∙ ap (λ l. c.args.places.now ++ (l ++ inner)) known
+    record {
+      found = record {
+        next = e.next;
+        marks = e.marks;
+        labels = refl;
+        places =
+            filled c.args.places.now c.hold.new.places c.survey_list.new.places c.fill.new.places c.as_slice.result.now inner c.in_ok-room.room c.len.result c.in_ok-room.ensures.places c.in_ok-room.ensures.room e.places long c.fill.ensures
+            ∙ ap (λ l. c.args.places.now ++ (l ++ inner)) known;
+      };
+      starts = c.in_ok-next.ensures.starts;
+    }
 
 pub survey_inner-returns : goal.survey_inner-returns
 survey_inner-returns t c =
     let list = map action_view c.args.list.now in
     let g = c.in_ok-from.ensures ∙ ap (λ n. c.args.pc + n) c.in_ok-own.ensures in
-    let e = c.in_ok-next.ensures in
+    let e = c.in_ok-next.ensures.found in
     record {
       next = block_size nowhere nowhere list c.args.pc c.in_ok-own.own c.in_ok-from.from c.in_ok-next.next c.in_ok-own.ensures c.in_ok-from.ensures e.next;
       marks = block_marks nowhere nowhere list c.args.pc c.in_ok-own.own c.in_ok-from.from c.args.marks.now c.survey_inside.new.marks c.in_ok-own.ensures c.in_ok-from.ensures e.marks;
@@ -201,7 +212,7 @@ survey_switched-fill-requires t c =
     let known : begin ≡ list_starts from list = c.as_slice.ensures ∙ c.in_ok-next.ensures.starts ∙ ap (λ l. l ++ list_starts from list) (c.new-starts.ensures ∙ c.new.ensures.items) in
     let count : length c.args.list.now ≡ length list = sym (length-map c.args.list.now action_view) in
     let long : length begin ≡ length c.args.list.now = ap length known ∙ starts_long list from ∙ sym count in
-    room_is_there c.hold.new.places c.hold-2.new.places c.survey_inside.new.places inner c.in_ok-begun.begun (length c.args.list.now) (length begin) c.in_ok-begun.ensures.places c.in_ok-begun.ensures.room c.in_ok-next.ensures.places long
+    room_is_there c.hold.new.places c.hold-2.new.places c.survey_inside.new.places inner c.in_ok-begun.begun (length c.args.list.now) (length begin) c.in_ok-begun.ensures.places c.in_ok-begun.ensures.room c.in_ok-next.ensures.found.places long
 
 pub survey_switched-fill-requires-2 : goal.survey_switched-fill-requires-2
 survey_switched-fill-requires-2 t c =
@@ -211,7 +222,7 @@ survey_switched-fill-requires-2 t c =
     let begin = c.as_slice.result.now in
     let known : begin ≡ list_starts from list = c.as_slice.ensures ∙ c.in_ok-next.ensures.starts ∙ ap (λ l. l ++ list_starts from list) (c.new-starts.ensures ∙ c.new.ensures.items) in
     let count : length c.args.list.now ≡ length list = sym (length-map c.args.list.now action_view) in
-    let p4 = begun_filled list from c.in_ok-begun.begun (length c.args.list.now) begin inner c.hold.new.places c.hold-2.new.places c.survey_inside.new.places c.fill.new.places c.in_ok-begun.ensures.places c.in_ok-begun.ensures.room c.in_ok-next.ensures.places count known c.fill.ensures in
+    let p4 = begun_filled list from c.in_ok-begun.begun (length c.args.list.now) begin inner c.hold.new.places c.hold-2.new.places c.survey_inside.new.places c.fill.new.places c.in_ok-begun.ensures.places c.in_ok-begun.ensures.room c.in_ok-next.ensures.found.places count known c.fill.ensures in
     room_is_there c.args.places.now c.hold.new.places c.fill.new.places (list_starts from list ++ inner) c.in_ok-end.end 1 1 c.in_ok-end.ensures.places c.in_ok-end.ensures.room p4 refl
 
 pub survey_switched-returns : goal.survey_switched-returns
@@ -222,7 +233,7 @@ survey_switched-returns t c =
     let begin = c.as_slice.result.now in
     let known : begin ≡ list_starts from list = c.as_slice.ensures ∙ c.in_ok-next.ensures.starts ∙ ap (λ l. l ++ list_starts from list) (c.new-starts.ensures ∙ c.new.ensures.items) in
     let count : length c.args.list.now ≡ length list = sym (length-map c.args.list.now action_view) in
-    let p4 = begun_filled list from c.in_ok-begun.begun (length c.args.list.now) begin inner c.hold.new.places c.hold-2.new.places c.survey_inside.new.places c.fill.new.places c.in_ok-begun.ensures.places c.in_ok-begun.ensures.room c.in_ok-next.ensures.places count known c.fill.ensures in
+    let p4 = begun_filled list from c.in_ok-begun.begun (length c.args.list.now) begin inner c.hold.new.places c.hold-2.new.places c.survey_inside.new.places c.fill.new.places c.in_ok-begun.ensures.places c.in_ok-begun.ensures.room c.in_ok-next.ensures.found.places count known c.fill.ensures in
     let h1 = c.in_ok-own.ensures in
     let h2 = c.in_ok-cases.ensures in
     let h3 = c.in_ok-unset.ensures in
@@ -231,10 +242,10 @@ survey_switched-returns t c =
     let h6 = c.in_ok-from.ensures in
     let at : from ≡ switch_from c.args.place list = omega (arith, h1, h2, h3, h4, h5, h6) in
     record {
-      next = switched_size nowhere nowhere (map action_view c.args.list.now) c.args.place c.in_ok-own.own c.in_ok-cases.cases c.in_ok-unset.unset c.in_ok-compared.compared c.in_ok-branched.branched c.in_ok-from.from c.in_ok-next.next c.in_ok-own.ensures c.in_ok-cases.ensures c.in_ok-unset.ensures c.in_ok-compared.ensures c.in_ok-branched.ensures c.in_ok-from.ensures c.in_ok-next.ensures.next;
-      marks = switched_marks nowhere nowhere (map action_view c.args.list.now) c.args.place c.in_ok-own.own c.in_ok-cases.cases c.in_ok-unset.unset c.in_ok-compared.compared c.in_ok-branched.branched c.in_ok-from.from c.args.marks.now c.survey_inside.new.marks c.in_ok-own.ensures c.in_ok-cases.ensures c.in_ok-unset.ensures c.in_ok-compared.ensures c.in_ok-branched.ensures c.in_ok-from.ensures c.in_ok-next.ensures.marks;
+      next = switched_size nowhere nowhere (map action_view c.args.list.now) c.args.place c.in_ok-own.own c.in_ok-cases.cases c.in_ok-unset.unset c.in_ok-compared.compared c.in_ok-branched.branched c.in_ok-from.from c.in_ok-next.next c.in_ok-own.ensures c.in_ok-cases.ensures c.in_ok-unset.ensures c.in_ok-compared.ensures c.in_ok-branched.ensures c.in_ok-from.ensures c.in_ok-next.ensures.found.next;
+      marks = switched_marks nowhere nowhere (map action_view c.args.list.now) c.args.place c.in_ok-own.own c.in_ok-cases.cases c.in_ok-unset.unset c.in_ok-compared.compared c.in_ok-branched.branched c.in_ok-from.from c.args.marks.now c.survey_inside.new.marks c.in_ok-own.ensures c.in_ok-cases.ensures c.in_ok-unset.ensures c.in_ok-compared.ensures c.in_ok-branched.ensures c.in_ok-from.ensures c.in_ok-next.ensures.found.marks;
       labels = refl;
-      places = switched_places list c.args.place from c.in_ok-next.next c.in_ok-end.end c.args.places.now c.hold.new.places c.fill.new.places c.fill-2.new.places at c.in_ok-next.ensures.next c.in_ok-end.ensures.places c.in_ok-end.ensures.room p4 c.fill-2.ensures;
+      places = switched_places list c.args.place from c.in_ok-next.next c.in_ok-end.end c.args.places.now c.hold.new.places c.fill.new.places c.fill-2.new.places at c.in_ok-next.ensures.found.next c.in_ok-end.ensures.places c.in_ok-end.ensures.room p4 c.fill-2.ensures;
     }
 
 pub survey_switch-returns : goal.survey_switch-returns
@@ -268,4 +279,29 @@ survey_list-loop-action-preserved t c =
       labels = sym (next_labels v rest pc n c.loop-action.labels c.survey_stmt.new.labels e.labels h) ∙ sym (ap (λ ys. c.loop-action.labels ++ places_of (list_labels pc (map action_view ys))) d) ∙ c.loop-action.invariant.labels;
       starts = sym (next_start v rest pc n c.loop-action.starts c.push.new.self c.in_ok-push.ensures.ok h) ∙ sym (ap (λ ys. c.loop-action.starts ++ list_starts pc (map action_view ys)) d) ∙ c.loop-action.invariant.starts;
       places = sym (next_places v (actions_of rest) pc n c.loop-action.places c.survey_stmt.new.places e.places h) ∙ sym (ap (λ ys. c.loop-action.places ++ plans_of pc (actions_of (map action_view ys))) d) ∙ c.loop-action.invariant.places;
+    }
+
+pub survey_list-returns : goal.survey_list-returns
+survey_list-returns t c =
+    let xs = c.args.list.now in
+    let i = c.loop-action.action-index in
+    let pc = c.args.from in
+    let list = map action_view xs in
+    let last = c.loop-action.place in
+    let h = c.loop-action.invariant in
+    let done : drop i xs ≡ [] = drop_all i xs (omega arith) in
+    let N : List Node → Type 0 = λ ys. last + stmts_size (actions_of (map action_view ys)) ≡ pc + stmts_size (actions_of list) in
+    let M : List Node → Type 0 = λ ys. c.loop-action.marks ++ stmts_marks last (actions_of (map action_view ys)) ≡ c.args.marks.now ++ stmts_marks pc (actions_of list) in
+    let L : List Node → Type 0 = λ ys. c.loop-action.labels ++ places_of (list_labels last (map action_view ys)) ≡ c.args.labels.now ++ places_of (list_labels pc list) in
+    let S : List Node → Type 0 = λ ys. c.loop-action.starts ++ list_starts last (map action_view ys) ≡ c.args.starts.now ++ list_starts pc list in
+    let P : List Node → Type 0 = λ ys. c.loop-action.places ++ plans_of last (actions_of (map action_view ys)) ≡ c.args.places.now ++ plans_of pc (actions_of list) in
+    let next : last + 0 ≡ pc + stmts_size (actions_of list) = subst N done h.place in
+    record {
+      found = record {
+        next = omega (arith, next);
+        marks = sym (append-nil c.loop-action.marks) ∙ subst M done h.marks;
+        labels = sym (append-nil c.loop-action.labels) ∙ subst L done h.labels;
+        places = sym (append-nil c.loop-action.places) ∙ subst P done h.places;
+      };
+      starts = sym (append-nil c.loop-action.starts) ∙ subst S done h.starts;
     }
