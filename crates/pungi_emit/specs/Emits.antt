@@ -1,7 +1,7 @@
--- What an emitter of statements puts out.
---   Emits ..                    these instructions come after what was there, and these places are taken from the front of the plan
+-- What an emitter of statements does.
+--   Emits lines ps ..           it adds these instructions after what was there, and takes these places from the front of the plan
 --   EmitsStmt nl env a          those of a statement
---   EmitsList nl env list       those of statements
+--   EmitsList nl env list       those of statements, one after another
 use Rattle.std.specs.Prelude.{◌≡◌, ℕ, List, ◌++◌, length}
 use Rattle.pungi_types.specs.ResolvedStmts as stmt
 use Rattle.pungi_resolved.specs.ActionView.{actions_of}

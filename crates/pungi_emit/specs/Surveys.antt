@@ -1,10 +1,10 @@
 -- What a survey of a statement finds.
---   Surveys ..                  it ends at this place; its loops and labels, the places that it leads to and those of its labels come
---                               behind what was there
---   SurveysStmt pc a            of a statement that begins at this place
---   SurveysSwitch pc a          of a `switch` over this statement, whose value ends at this place
+--   Surveys end ms ps ls ..     it returns the place where the statement ends, and adds the statement's loops and labels, the places
+--                               that it leads to and those of its labels, each after what was there
+--   SurveysStmt pc a            the survey of a statement that begins at this place
+--   SurveysSwitch pc a          that of a `switch` over this statement, whose value ends at this place
 --   SurveysSkipped pc a         .. where the statement is no block
---   SurveysList pc list ps ls   of statements, the first of which begins at this place: besides, where each of them begins
+--   SurveysList pc list ps ls   that of statements, the first of which begins at this place: it adds where each of them begins, too
 use Rattle.std.specs.Prelude.{◌≡◌, ℕ, ◌+◌, List, ◌++◌}
 use Rattle.pungi_types.specs.ResolvedStmts as stmt
 use Rattle.pungi_resolved.specs.ActionView.{actions_of}

@@ -1,4 +1,4 @@
-// How many instructions an expression takes. Each function gives the place behind its part, which begins at this place.
+// How many instructions an expression takes. Each function returns the place after its part, which begins at `from`.
 ghost use Rattle.std.specs.Prelude.{◌≡◌, ◌+◌, ◌≤◌, map, IfOk};
 ghost use Rattle.pungi_resolved.specs.ValueView.{value_view, values_of, place_view, optional_view};
 ghost use Rattle.pungi_layout.specs.Sizes.{fit_size as fit_length, expr_size, option_size, place_size, test_size, values_size};
@@ -101,7 +101,7 @@ pub fn after_option(from: u32, node: &Option<Box<Node>>) -> Result<u32, Memory>
     }
 }
 
-/// A test and the branch behind it.
+/// A test and the branch after it.
 pub fn after_test(from: u32, node: &Node) -> Result<u32, Memory>
     ensures { IfOk result (λ n. n ≡ from + expr_size (value_view node.now) + 1) }
 {

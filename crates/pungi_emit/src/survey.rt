@@ -32,7 +32,7 @@ fn head(place: u32, pos: Pos) -> Head
     }
 }
 
-/// What declared locals hold at first.
+/// The place after what declared locals hold at first.
 fn after_reached(from: u32, list: &[Reached]) -> Result<u32, Memory>
     ensures { IfOk result (λ n. n ≡ from + reach_size (map reached_view list.now)) }
 {
@@ -43,14 +43,14 @@ fn after_reached(from: u32, list: &[Reached]) -> Result<u32, Memory>
     Ok(place)
 }
 
-/// A `return` and its value.
+/// The place after a `return` and its value.
 fn after_give(from: u32, node: &Option<Box<Node>>) -> Result<u32, Memory>
     ensures { IfOk result (λ n. n ≡ from + (option_size (optional_view node.now) + 1)) }
 {
     behind(after_option(from, node)?, 1)
 }
 
-/// The head of a `for`, behind what it declares and does first.
+/// The place of the head of a `for`, after what it declares and does first.
 fn for_head(from: u32, reached: &[Reached], first: &Option<Box<Node>>) -> Result<u32, Memory>
     ensures { IfOk result (λ n. n ≡ head_of_for from (map reached_view reached.now) (optional_view first.now)) }
 {
@@ -59,7 +59,7 @@ fn for_head(from: u32, reached: &[Reached], first: &Option<Box<Node>>) -> Result
     after_option(bound, first)
 }
 
-/// Statements, one after another, the first of which begins at this place. The answer is the place behind them.
+/// Statements, one after another, the first of which begins at this place. Returns the place after them.
 #[cycle(survey)]
 fn survey_list(
     alloc: Global,
@@ -100,7 +100,7 @@ fn survey_inside(
     Ok(next)
 }
 
-/// A block in a `switch`, behind the value.
+/// A block in a `switch`, after the value.
 #[cycle(survey)]
 fn survey_switched(
     alloc: Global,
@@ -144,7 +144,7 @@ fn survey_inner(
     Ok(next)
 }
 
-/// What is no block in a `switch`, behind the value.
+/// What is no block in a `switch`, after the value.
 #[cycle(survey)]
 fn survey_skipped(
     alloc: Global,
@@ -163,7 +163,7 @@ fn survey_skipped(
     Ok(next)
 }
 
-/// A `switch`, behind its value.
+/// A `switch`, after its value.
 #[cycle(survey)]
 #[tactic(auto, using(crate::proofs::SurveyLemmas::no_labels))]
 fn survey_choice(
@@ -359,8 +359,8 @@ fn survey_switch(
     Ok(next)
 }
 
-/// A statement that begins at this place. Its places and those of its labels come behind the others. The answer is the
-/// place behind it.
+/// A statement that begins at this place. Its places and those of its labels come after the others. Returns the place
+/// after it.
 #[cycle(survey)]
 #[tactic(auto, using(crate::proofs::SurveyLemmas::nothing_found, crate::proofs::SurveyLemmas::no_labels))]
 pub fn survey_stmt(
