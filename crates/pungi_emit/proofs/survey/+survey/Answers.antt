@@ -115,14 +115,17 @@ survey_for-returns t c =
     let top = for_head c.args.pc rs (optional_view c.args.first.now) in
     let at = top + test_size (optional_view c.args.test.now) in
     let e = c.in_ok-next.ensures in
-    let g : c.in_ok-go.go ≡ at = c.in_ok-go.ensures ∙ ap (λ i. i + test_size (optional_view c.args.test.now)) c.in_ok-top.ensures in
-    let n : c.in_ok-next.next ≡ at + stmt_size a = e.next ∙ ap (λ i. i + stmt_size a) g in
+    let s = e.next in
+    let t0 = c.in_ok-top.ensures in
+    let f = c.in_ok-go.ensures in
+    let g : c.in_ok-go.go ≡ at = omega (arith, t0, f) in
+    let n : c.in_ok-next.next ≡ at + stmt_size a = omega (arith, s, g) in
     let h = c.in_ok-turned.ensures in
     let k = c.in_ok-behind_it.ensures in
     let q : c.in_ok-behind_it.behind_it ≡ at + stmt_size a + option_size w + 1 = omega (arith, n, h, k) in
     record {
       next = omega (arith, q);
-      marks = loop_marks a c.in_ok-go.go at top c.args.pos c.head.result c.args.marks.now c.push.new.self c.survey_stmt.new.marks (c.head.ensures ∙ ap (λ i. head_at i c.args.pos) c.in_ok-top.ensures) c.in_ok-push.ensures.ok e.marks g;
+      marks = loop_marks a c.in_ok-go.go at top c.args.pos c.head.result c.args.marks.now c.push.new.self c.survey_stmt.new.marks (c.head.ensures ∙ ap (λ i. head_at i c.args.pos) {y = top} t0) c.in_ok-push.ensures.ok e.marks g;
       labels = e.labels ∙ ap (λ i. c.args.labels.now ++ places_of (stmt_labels i a)) g;
       places = two_filled (plan_of c.in_ok-go.go a) (plan_of at a) c.args.places.now c.hold.new.places c.survey_stmt.new.places c.fill.new.places c.in_ok-room.room c.in_ok-next.next (at + stmt_size a) c.in_ok-behind_it.behind_it (at + stmt_size a + option_size w + 1) c.in_ok-room.ensures.places c.in_ok-room.ensures.room e.places c.fill.ensures n q (ap (λ i. plan_of i a) g);
     }
