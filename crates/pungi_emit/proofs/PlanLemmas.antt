@@ -1,16 +1,18 @@
 -- Plans of statements.
-use Rattle.std.proofs.Common.{◌≡◌, ℕ, suc, ◌+◌, List, [], ◌∷◌, ◌++◌, length, false, refl, sym, ap, ◌∙◌, append_assoc}
+use Rattle.std.proofs.Common.{◌≡◌, ℕ, suc, ◌+◌, List, [], ◌∷◌, ◌++◌, length, false, refl, sym, ap, ◌∙◌, append_assoc, Result, Ok, Err, OnOk}
 use Rattle.std.proofs.lemmas.List.{length-map}
 use Rattle.pungi_base.specs.declared.pos.Pos.{Pos}
 use Rattle.pungi_resolved.specs.Values as expr
 use Rattle.pungi_resolved.specs.Actions as stmt
 use Rattle.pungi_resolved.specs.ActionView.{actions_of}
 use Rattle.pungi_meaning.specs.Work.{declared}
+use Rattle.pungi_code.specs.declared.code.Line.{Line}
 use Rattle.pungi_emit.specs.declared.scope.Placed.{Placed}
 use Rattle.pungi_layout.specs.Sizes.{expr_size, test_size, stmt_size, stmts_size}
 use Rattle.pungi_layout.specs.Scopes.{for_head}
 use Rattle.pungi_emit.specs.LabelPlaces.{stmt_labels, list_labels, list_starts}
 use Rattle.pungi_emit.specs.Cases.{is_block}
+use Rattle.pungi_emit.specs.Emits.{Emits}
 use Rattle.pungi_emit.specs.Plans.{stmt_names, list_names, names_of, places_of, switch_from, plan_of, plans_of, skipped_plan, switch_plan, Begins}
 use Rattle.pungi_emit.proofs.StmtLemmas.{as_actions}
 use Rattle.pungi_emit.proofs.PlanLists.{names_append, same_labels, begins_at, front_begins, back_begins, one_begins, one_place, one_through, two_begins, two_first, two_second, two_through, both_through, Left, left_at, left_more}
@@ -115,6 +117,12 @@ skipped_plan_is p v (stmt.jump p' l) pc h = refl
 skipped_plan_is p v (stmt.leave p') pc h = refl
 skipped_plan_is p v (stmt.next_turn p') pc h = refl
 skipped_plan_is p v (stmt.give p' u) pc h = refl
+
+-- ---- a statement that takes no place
+
+pub nothing_planned : {T E : Type 0} (r : Result T E) (lines c0 c1 : List Line) (l : List ℕ) → OnOk r (c1 ≡ c0 ++ lines) → OnOk r (Emits lines [] c0 c1 l l)
+nothing_planned (Ok x) lines c0 c1 l h = record { code = h; plan = refl }
+nothing_planned (Err e) lines c0 c1 l h = tt
 
 -- ---- a statement inside of another
 

@@ -1,5 +1,5 @@
 -- Loops and labels of statements, one after another.
-use Rattle.std.proofs.Common.{◌≡◌, ℕ, ◌+◌, ◌*◌, List, [], ◌∷◌, ◌++◌, length, take, drop, replicate, refl, sym, ap, ◌∙◌, arith, append_assoc}
+use Rattle.std.proofs.Common.{◌≡◌, ℕ, ◌+◌, ◌*◌, List, [], ◌∷◌, ◌++◌, length, take, drop, replicate, refl, sym, ap, ◌∙◌, arith, append_assoc, append-nil, Result, Ok, Err, IfOk}
 use Rattle.pungi_base.specs.declared.pos.Pos.{Pos}
 use Rattle.pungi_resolved.specs.Values as expr
 use Rattle.pungi_resolved.specs.Actions as stmt
@@ -8,10 +8,13 @@ use Rattle.pungi_meaning.specs.Run.{nowhere}
 use Rattle.pungi_meaning.specs.Stmts.{block_cases}
 use Rattle.pungi_meaning.specs.Work.{declared}
 use Rattle.pungi_meaning.specs.Todo.{listed}
+use Rattle.pungi_code.specs.declared.code.Head.{Head}
 use Rattle.pungi_layout.specs.declared.mark.Mark.{Mark}
+use Rattle.pungi_layout.specs.declared.mark.Mark.TheVariants.{OfLoop, OfLabel}
 use Rattle.pungi_layout.specs.Sizes.{expr_size, stmt_size, stmts_size, switch_size}
-use Rattle.pungi_layout.specs.Heads.{stmt_marks, stmts_marks, switch_marks}
+use Rattle.pungi_layout.specs.Heads.{head_at, stmt_marks, stmts_marks, switch_marks}
 use Rattle.pungi_emit.specs.LabelPlaces.{stmt_labels, list_labels, list_starts}
+use Rattle.pungi_emit.specs.Surveys.{Surveys}
 use Rattle.pungi_emit.specs.Plans.{places_of, switch_from, plan_of, plans_of, switch_plan}
 use Rattle.pungi_emit.proofs.StmtLemmas.{as_actions}
 use Rattle.pungi_emit.proofs.PlanLists.{filled, two_filled, places_append}
@@ -26,6 +29,37 @@ next_marks a rest pc n m0 m1 e f =
 
 pub next_size : (a : stmt.Action) (rest : stmt.Actions) (pc n : ℕ) → n ≡ pc + stmt_size a → n + stmts_size rest ≡ pc + stmts_size (stmt.action_and a rest)
 next_size a rest pc n e = omega (arith, e)
+
+-- one more in front of those of a part
+pub loop_marks : (a : stmt.Action) (go at n : ℕ) (p : Pos) (h : Head) (m0 m1 m2 : List Mark) →
+    h ≡ head_at n p → m1 ≡ m0 ++ (OfLoop h ∷ []) → m2 ≡ m1 ++ stmt_marks go a → go ≡ at →
+    m2 ≡ m0 ++ (OfLoop (head_at n p) ∷ stmt_marks at a)
+loop_marks a go at n p h m0 m1 m2 e f g k =
+    both_marks m0 m1 m2 (OfLoop h ∷ []) (stmt_marks go a) f g
+    ∙ ap (λ x. m0 ++ (OfLoop x ∷ stmt_marks go a)) e
+    ∙ ap (λ i. m0 ++ (OfLoop (head_at n p) ∷ stmt_marks i a)) k
+
+pub label_marks : (a : stmt.Action) (n : ℕ) (p : Pos) (h : Head) (m0 m1 m2 : List Mark) →
+    h ≡ head_at n p → m1 ≡ m0 ++ (OfLabel h ∷ []) → m2 ≡ m1 ++ stmt_marks n a →
+    m2 ≡ m0 ++ (OfLabel (head_at n p) ∷ stmt_marks n a)
+label_marks a n p h m0 m1 m2 e f g =
+    both_marks m0 m1 m2 (OfLabel h ∷ []) (stmt_marks n a) f g
+    ∙ ap (λ x. m0 ++ (OfLabel x ∷ stmt_marks n a)) e
+
+pub one_more_label : (xs l0 l1 l2 : List ℕ) (n : ℕ) → l1 ≡ l0 ++ (n ∷ []) → l2 ≡ l1 ++ xs → l2 ≡ l0 ++ (n ∷ xs)
+one_more_label xs l0 l1 l2 n e f = f ∙ ap (λ l. l ++ xs) e ∙ append_assoc l0 (n ∷ []) xs
+
+-- ---- surveys
+
+-- a statement in which there is nothing to be found
+pub nothing_found : {E : Type 0} (r : Result ℕ E) (end : ℕ) (m : List Mark) (p l : List ℕ) → IfOk r (λ n. n ≡ end) → IfOk r (λ n. Surveys end [] [] [] n m m p p l l)
+nothing_found (Ok n) end m p l h = record { next = h; marks = sym (append-nil m); labels = sym (append-nil l); places = sym (append-nil p) }
+nothing_found (Err e) end m p l h = tt
+
+-- a block, whose labels are its own
+pub no_labels : {E : Type 0} (r : Result ℕ E) (end : ℕ) (ms m0 m1 : List Mark) (ps p0 p1 l : List ℕ) → IfOk r (λ n. Surveys end ms ps [] n m0 m1 p0 p1 [] []) → IfOk r (λ n. Surveys end ms ps [] n m0 m1 p0 p1 l l)
+no_labels (Ok n) end ms m0 m1 ps p0 p1 l h = record { next = h.next; marks = h.marks; labels = sym (append-nil l); places = h.places }
+no_labels (Err e) end ms m0 m1 ps p0 p1 l h = tt
 
 -- a block in a `switch`, and elsewhere
 pub block_size : (p q : Pos) (list : List stmt.Action) (pc own from next : ℕ) → own ≡ length (declared list) → from ≡ pc + own → next ≡ from + stmts_size (actions_of list) → next ≡ pc + stmt_size (stmt.block_of p (actions_of list) q)
@@ -74,12 +108,11 @@ choice_marks p v (stmt.leave p') pc = refl
 choice_marks p v (stmt.next_turn p') pc = refl
 choice_marks p v (stmt.give p' u) pc = refl
 
-pub else_marks : (p : Pos) (c : expr.Value) (a b : stmt.Action) (pc size test go last middle : ℕ) (m0 m1 m2 : List Mark) →
-    size ≡ expr_size c → test ≡ pc + size → go ≡ test + 1 → last ≡ go + stmt_size a → middle ≡ last + 1 →
+pub else_marks : (p : Pos) (c : expr.Value) (a b : stmt.Action) (pc go last middle : ℕ) (m0 m1 m2 : List Mark) →
+    go ≡ pc + expr_size c + 1 → last ≡ go + stmt_size a → middle ≡ last + 1 →
     m1 ≡ m0 ++ stmt_marks go a → m2 ≡ m1 ++ stmt_marks middle b →
     m2 ≡ m0 ++ stmt_marks pc (stmt.test_else p c a b)
-else_marks p c a b pc size test go last middle m0 m1 m2 h1 h2 h3 h4 h5 e f =
-    let g : go ≡ pc + expr_size c + 1 = omega (arith, h1, h2, h3) in
+else_marks p c a b pc go last middle m0 m1 m2 g h4 h5 e f =
     let k : middle ≡ pc + expr_size c + 1 + stmt_size a + 1 = omega (arith, g, h4, h5) in
     both_marks m0 m1 m2 (stmt_marks (pc + expr_size c + 1) a) (stmt_marks (pc + expr_size c + 1 + stmt_size a + 1) b) (e ∙ ap (λ n. m0 ++ stmt_marks n a) g) (f ∙ ap (λ n. m1 ++ stmt_marks n b) k)
 
@@ -121,28 +154,26 @@ pub next_places : (a : stmt.Action) (rest : stmt.Actions) (pc n : ℕ) (l0 l1 : 
 next_places a rest pc n l0 l1 e f =
     sym (append_assoc l0 (plan_of pc a) (plans_of (pc + stmt_size a) rest)) ∙ ap (λ m. m ++ plans_of (pc + stmt_size a) rest) (sym e) ∙ ap (λ i. l1 ++ plans_of i rest) (sym f)
 
-pub else_labels : (p : Pos) (c : expr.Value) (a b : stmt.Action) (pc size test go last middle : ℕ) (m0 m1 m2 : List ℕ) →
-    size ≡ expr_size c → test ≡ pc + size → go ≡ test + 1 → last ≡ go + stmt_size a → middle ≡ last + 1 →
+pub else_labels : (p : Pos) (c : expr.Value) (a b : stmt.Action) (pc go last middle : ℕ) (m0 m1 m2 : List ℕ) →
+    go ≡ pc + expr_size c + 1 → last ≡ go + stmt_size a → middle ≡ last + 1 →
     m1 ≡ m0 ++ places_of (stmt_labels go a) → m2 ≡ m1 ++ places_of (stmt_labels middle b) →
     m2 ≡ m0 ++ places_of (stmt_labels pc (stmt.test_else p c a b))
-else_labels p c a b pc size test go last middle m0 m1 m2 h1 h2 h3 h4 h5 e f =
+else_labels p c a b pc go last middle m0 m1 m2 g h4 h5 e f =
     let at = pc + expr_size c + 1 in
     let bt = at + stmt_size a + 1 in
-    let g : go ≡ at = omega (arith, h1, h2, h3) in
     let k : middle ≡ bt = omega (arith, g, h4, h5) in
     f ∙ ap (λ n. m1 ++ places_of (stmt_labels n b)) k
     ∙ ap (λ m. m ++ places_of (stmt_labels bt b)) (e ∙ ap (λ n. m0 ++ places_of (stmt_labels n a)) g)
     ∙ append_assoc m0 (places_of (stmt_labels at a)) (places_of (stmt_labels bt b))
     ∙ ap (λ l. m0 ++ l) (sym (places_append (stmt_labels at a) (stmt_labels bt b)))
 
-pub else_places : (p : Pos) (c : expr.Value) (a b : stmt.Action) (pc size test go last middle next i : ℕ) (p0 p1 p2 p3 p4 : List ℕ) →
-    size ≡ expr_size c → test ≡ pc + size → go ≡ test + 1 → last ≡ go + stmt_size a → middle ≡ last + 1 → next ≡ middle + stmt_size b →
+pub else_places : (p : Pos) (c : expr.Value) (a b : stmt.Action) (pc go last middle next i : ℕ) (p0 p1 p2 p3 p4 : List ℕ) →
+    go ≡ pc + expr_size c + 1 → last ≡ go + stmt_size a → middle ≡ last + 1 → next ≡ middle + stmt_size b →
     p1 ≡ p0 ++ replicate 2 0 → i ≡ length p0 → p2 ≡ p1 ++ plan_of go a → p3 ≡ p2 ++ plan_of middle b → p4 ≡ take i p3 ++ (middle ∷ next ∷ drop (i + 2) p3) →
     p4 ≡ p0 ++ plan_of pc (stmt.test_else p c a b)
-else_places p c a b pc size test go last middle next i p0 p1 p2 p3 p4 h1 h2 h3 h4 h5 h6 e h f g q =
+else_places p c a b pc go last middle next i p0 p1 p2 p3 p4 go' h4 h5 h6 e h f g q =
     let at = pc + expr_size c + 1 in
     let bt = at + stmt_size a + 1 in
-    let go' : go ≡ at = omega (arith, h1, h2, h3) in
     let k : middle ≡ bt = omega (arith, go', h4, h5) in
     let end : next ≡ bt + stmt_size b = omega (arith, k, h6) in
     let whole : p3 ≡ p1 ++ (plan_of go a ++ plan_of middle b) = g ∙ ap (λ l. l ++ plan_of middle b) f ∙ append_assoc p1 (plan_of go a) (plan_of middle b) in

@@ -1,16 +1,16 @@
 // The instructions of expressions.
 ghost use Rattle.std.specs.Prelude.{◌≡◌, ◌+◌, ◌++◌, length, map, OnOk};
 ghost use Rattle.pungi_resolved.specs.ValueView.{value_view, values_of, place_view};
-ghost use Rattle.pungi_resolved.specs.Values.{negated, stepped, joined_by, stored, updated, chosen, called_row};
+ghost use Rattle.pungi_resolved.specs.Values.{signed, negated, stepped, computed, compared, joined_by, stored, updated, chosen, converted, called_row};
 ghost use Rattle.pungi_layout.specs.Sizes.{expr_size};
-ghost use Rattle.pungi_layout.specs.ExprCode.{expr_code, base_code, args_code, old_code, sign_code, step_code, row_code, base_var as base_variable};
+ghost use Rattle.pungi_layout.specs.ExprCode.{expr_code, base_code, args_code, old_code, sign_code, step_code, base_var as base_variable};
 
 use crate::column::value_column;
 use crate::emit::{Around, next_place, put, replace};
 use crate::number::behind;
-use crate::parts::{bit, branch_on, gives_answer, is_and, is_minus, step_op};
+use crate::parts::{bit, branch_on, is_and, is_minus, step_op};
 use crate::place::{emit_fit, emit_old, emit_store};
-use crate::row::{arg_atoms, shape_of};
+use crate::row::emit_row;
 use crate::temporary::{
     above, atom, base_var, counted_var, front_column, operand, sign_var, stored_var, tail, temp,
     temp_of,
@@ -70,36 +70,6 @@ fn emit_sign(
     } else {
         Ok(())
     }
-}
-
-/// A call of a row, once its arguments stand in their variables.
-fn emit_row(
-    code: &mut Seq<Line>,
-    around: Around,
-    depth: u32,
-    target: u32,
-    pos: Pos,
-    shape: &Shape,
-    args: &[Node],
-) -> Result<(), Memory>
-    ensures { OnOk result (code.new ≡ code.old ++ row_code around.locals depth target pos shape.now.row (map value_view args.now)) }
-{
-    let alloc = around.alloc;
-    let answer = if gives_answer(shape.row.form, shape.row.answer) {
-        Some(Var(target))
-    } else {
-        None
-    };
-    let plain = shape_of(alloc, &shape.row)?;
-    let atoms = arg_atoms(
-        alloc,
-        around.locals,
-        depth,
-        shape.row.params.as_slice(),
-        args,
-    )?;
-    let outs = Seq::new(Vec::new(alloc));
-    put(code, pos, Instr::Api(answer, plain, Seq::new(atoms), outs))
 }
 
 /// The base of a field, which waits where it is found again.
@@ -236,6 +206,87 @@ fn emit_operands(
     emit_value(code, around, depth, left, a)?;
     emit_value(code, around, level, right, b)?;
     Ok(())
+}
+
+/// An operation on two numbers.
+#[cycle(emit)]
+fn emit_computed(
+    code: &mut Seq<Line>,
+    around: Around,
+    depth: u32,
+    target: u32,
+    pos: Pos,
+    mark: Punct,
+    kind: ValueKind,
+    a: &Node,
+    b: &Node,
+) -> Result<(), Memory>
+    ensures { OnOk result (code.new ≡ code.old ++ expr_code around.locals depth target (length code.old) (computed pos mark kind (value_view a.now) (value_view b.now))) }
+{
+    let left = temp_of(around.locals, depth, a)?;
+    let right = temp_of(around.locals, behind(depth, 1)?, b)?;
+    emit_operands(code, around, depth, left, right, a, b)?;
+    let instr = Instr::Arith(Var(target), kind, Op::of(mark), atom(left), atom(right));
+    put(code, pos, instr)
+}
+
+/// A comparison.
+#[cycle(emit)]
+fn emit_compared(
+    code: &mut Seq<Line>,
+    around: Around,
+    depth: u32,
+    target: u32,
+    pos: Pos,
+    mark: Punct,
+    a: &Node,
+    b: &Node,
+) -> Result<(), Memory>
+    ensures { OnOk result (code.new ≡ code.old ++ expr_code around.locals depth target (length code.old) (compared pos mark (value_view a.now) (value_view b.now))) }
+{
+    let left = operand(around.locals, depth, value_column(b), a)?;
+    let right = operand(around.locals, behind(depth, 1)?, value_column(a), b)?;
+    emit_operands(code, around, depth, left, right, a, b)?;
+    let instr = Instr::Compare(Var(target), Cmp::of(mark), atom(left), atom(right));
+    put(code, pos, instr)
+}
+
+/// A value with a sign.
+#[cycle(emit)]
+fn emit_signed(
+    code: &mut Seq<Line>,
+    around: Around,
+    depth: u32,
+    target: u32,
+    pos: Pos,
+    mark: Kind,
+    kind: ValueKind,
+    part: &Node,
+) -> Result<(), Memory>
+    ensures { OnOk result (code.new ≡ code.old ++ expr_code around.locals depth target (length code.old) (signed pos mark kind (value_view part.now))) }
+{
+    let minus = is_minus(mark);
+    let value = temp_of(around.locals, depth, part)?;
+    emit_value(code, around, depth, sign_var(minus, target, value), part)?;
+    emit_sign(code, minus, pos, kind, target, value)
+}
+
+/// A conversion.
+#[cycle(emit)]
+fn emit_converted(
+    code: &mut Seq<Line>,
+    around: Around,
+    depth: u32,
+    target: u32,
+    pos: Pos,
+    kind: ValueKind,
+    part: &Node,
+) -> Result<(), Memory>
+    ensures { OnOk result (code.new ≡ code.old ++ expr_code around.locals depth target (length code.old) (converted pos kind (value_view part.now))) }
+{
+    let value = temp_of(around.locals, depth, part)?;
+    emit_value(code, around, depth, value, part)?;
+    put(code, pos, Instr::Fit(Var(target), kind, atom(value)))
 }
 
 /// `!`: the truth that waits is set to the other one.
@@ -390,10 +441,7 @@ pub fn emit_value(
             emit_value(code, around, depth, target, part)
         }
         ValueNode::Signed(mark, kind, part) => {
-            let minus = is_minus(*mark);
-            let value = temp_of(around.locals, depth, part)?;
-            emit_value(code, around, depth, sign_var(minus, target, value), part)?;
-            emit_sign(code, minus, pos, *kind, target, value)
+            emit_signed(code, around, depth, target, pos, *mark, *kind, part)
         }
         ValueNode::Negated(part) => emit_negated(code, around, depth, target, pos, part),
         ValueNode::Stepped(behind_it, mark, kind, place) => {
@@ -402,18 +450,10 @@ pub fn emit_value(
             )
         }
         ValueNode::Computed(mark, kind, a, b) => {
-            let left = temp_of(around.locals, depth, a)?;
-            let right = temp_of(around.locals, behind(depth, 1)?, b)?;
-            emit_operands(code, around, depth, left, right, a, b)?;
-            let instr = Instr::Arith(Var(target), *kind, Op::of(*mark), atom(left), atom(right));
-            put(code, pos, instr)
+            emit_computed(code, around, depth, target, pos, *mark, *kind, a, b)
         }
         ValueNode::Compared(mark, a, b) => {
-            let left = operand(around.locals, depth, value_column(b), a)?;
-            let right = operand(around.locals, behind(depth, 1)?, value_column(a), b)?;
-            emit_operands(code, around, depth, left, right, a, b)?;
-            let instr = Instr::Compare(Var(target), Cmp::of(*mark), atom(left), atom(right));
-            put(code, pos, instr)
+            emit_compared(code, around, depth, target, pos, *mark, a, b)
         }
         ValueNode::Joined(mark, a, b) => {
             emit_joined(code, around, depth, target, pos, *mark, a, b)
@@ -428,9 +468,7 @@ pub fn emit_value(
         }
         ValueNode::Chosen(c, a, b) => emit_chosen(code, around, depth, target, pos, c, a, b),
         ValueNode::Converted(kind, part) => {
-            let value = temp_of(around.locals, depth, part)?;
-            emit_value(code, around, depth, value, part)?;
-            put(code, pos, Instr::Fit(Var(target), *kind, atom(value)))
+            emit_converted(code, around, depth, target, pos, *kind, part)
         }
         ValueNode::Called(_, _) => {
             put(

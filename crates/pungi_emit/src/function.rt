@@ -97,6 +97,7 @@ pub fn lower_function(alloc: Global, f: &Function) -> Result<Code, Memory>
 {
     let locals = small(f.locals as u64)?;
     let params = small(f.params.len() as u64)?;
+    let vars = var_kinds(alloc, f)?;
     let mut marks = Seq::new(Vec::new(alloc));
     let mut places = Seq::new(Vec::new(alloc));
     let mut labels = Seq::new(Vec::new(alloc));
@@ -104,7 +105,6 @@ pub fn lower_function(alloc: Global, f: &Function) -> Result<Code, Memory>
     let around = Around { alloc, locals };
     let instrs = emit_body(around, places.as_slice(), size, f)?;
     let heads = Seq::new(heads(alloc, marks.as_slice(), instrs.as_slice())?);
-    let vars = var_kinds(alloc, f)?;
     Ok(Code {
         instrs,
         vars,

@@ -1,20 +1,22 @@
 // Calls of the API.
-ghost use Rattle.std.specs.Prelude.{◌≡◌, IfOk, map};
+ghost use Rattle.std.specs.Prelude.{◌≡◌, ◌++◌, map, IfOk, OnOk};
 ghost use Rattle.pungi_resolved.specs.ValueView.{value_view};
 ghost use Rattle.pungi_meaning.specs.Work.{shape_of as plain_shape};
-ghost use Rattle.pungi_layout.specs.ExprCode.{var as var_atom};
+ghost use Rattle.pungi_layout.specs.ExprCode.{row_code, var as var_atom};
 ghost use Rattle.pungi_layout.specs.Temporaries.{arg_vars};
 
+use crate::emit::{Around, put};
 use crate::number::small;
+use crate::parts::gives_answer;
 use crate::temporary::{atom, front_column, operand, tail};
 use pungi_api::{Param, Row, Shape};
-use pungi_base::Memory;
-use pungi_code::Atom;
+use pungi_base::{Memory, Pos, Seq};
+use pungi_code::{Atom, Instr, Line, Var};
 use pungi_resolved::Value as Node;
 use std::alloc::Global;
 
 /// A call of a row that writes no variable.
-pub fn shape_of(alloc: Global, row: &Row) -> Result<Shape, Memory>
+fn shape_of(alloc: Global, row: &Row) -> Result<Shape, Memory>
     ensures { IfOk result (λ shape. shape ≡ plain_shape row.now) }
 {
     let row = Row {
@@ -34,7 +36,7 @@ pub fn shape_of(alloc: Global, row: &Row) -> Result<Shape, Memory>
 
 /// The variables of the arguments of a call, in order.
 #[tactic(auto, using(crate::proofs::ArgLemmas::args_step))]
-pub fn arg_atoms(
+fn arg_atoms(
     alloc: Global,
     locals: u32,
     depth: u32,
@@ -51,4 +53,34 @@ pub fn arg_atoms(
         left = tail(left);
     }
     Ok(atoms)
+}
+
+/// A call of a row, once its arguments stand in their variables.
+pub fn emit_row(
+    code: &mut Seq<Line>,
+    around: Around,
+    depth: u32,
+    target: u32,
+    pos: Pos,
+    shape: &Shape,
+    args: &[Node],
+) -> Result<(), Memory>
+    ensures { OnOk result (code.new ≡ code.old ++ row_code around.locals depth target pos shape.now.row (map value_view args.now)) }
+{
+    let alloc = around.alloc;
+    let answer = if gives_answer(shape.row.form, shape.row.answer) {
+        Some(Var(target))
+    } else {
+        None
+    };
+    let atoms = arg_atoms(
+        alloc,
+        around.locals,
+        depth,
+        shape.row.params.as_slice(),
+        args,
+    )?;
+    let plain = shape_of(alloc, &shape.row)?;
+    let outs = Seq::new(Vec::new(alloc));
+    put(code, pos, Instr::Api(answer, plain, Seq::new(atoms), outs))
 }

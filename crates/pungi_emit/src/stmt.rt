@@ -4,11 +4,12 @@ ghost use Rattle.pungi_resolved.specs.ActionView.{reached_view, action_view, act
 ghost use Rattle.pungi_resolved.specs.ValueView.{value_view, optional_view};
 ghost use Rattle.pungi_resolved.specs.Actions.{block_of, test, test_else, repeat_while, repeat_until, repeat_for, switch_on};
 ghost use Rattle.pungi_emit.specs.Cases.{skipped_code};
+ghost use Rattle.pungi_emit.specs.Emits.{Emits, EmitsStmt, EmitsList};
 ghost use Rattle.pungi_layout.specs.Sizes.{expr_size, stmts_size};
 ghost use Rattle.pungi_emit.specs.LabelPlaces.{list_labels, list_starts, env_of};
 ghost use Rattle.pungi_emit.specs.Plans.{Begins, switch_from, plan_of, plans_of, skipped_plan};
 ghost use Rattle.pungi_layout.specs.Scopes.{in_block};
-ghost use Rattle.pungi_layout.specs.StmtCode.{stmt_code, stmts_code, give_code};
+ghost use Rattle.pungi_layout.specs.StmtCode.{stmt_code, give_code};
 ghost use Rattle.pungi_meaning.specs.Run.{nowhere};
 
 use crate::decl::{
@@ -54,8 +55,7 @@ fn emit_if(
     body: &Action,
 ) -> Result<(), Memory>
     requires plan { Begins (plan_of (length code.old) (test pos (value_view c.now) (action_view body.now))) plan.old.left.now }
-    ensures code { OnOk result (code.new ≡ code.old ++ stmt_code around.locals (env_of scope.now) (length code.old) (test pos (value_view c.now) (action_view body.now))) }
-    ensures plan { OnOk result (plan.old.left.now ≡ plan_of (length code.old) (test pos (value_view c.now) (action_view body.now)) ++ plan.new.left.now) }
+    ensures { OnOk result (EmitsStmt around.locals (env_of scope.now) (test pos (value_view c.now) (action_view body.now)) code.old code.new plan.old.left.now plan.new.left.now) }
 {
     let other = planned(plan);
     emit_test(code, around, pos, c, other)?;
@@ -76,8 +76,7 @@ fn emit_else(
     b: &Action,
 ) -> Result<(), Memory>
     requires plan { Begins (plan_of (length code.old) (test_else pos (value_view c.now) (action_view a.now) (action_view b.now))) plan.old.left.now }
-    ensures code { OnOk result (code.new ≡ code.old ++ stmt_code around.locals (env_of scope.now) (length code.old) (test_else pos (value_view c.now) (action_view a.now) (action_view b.now))) }
-    ensures plan { OnOk result (plan.old.left.now ≡ plan_of (length code.old) (test_else pos (value_view c.now) (action_view a.now) (action_view b.now)) ++ plan.new.left.now) }
+    ensures { OnOk result (EmitsStmt around.locals (env_of scope.now) (test_else pos (value_view c.now) (action_view a.now) (action_view b.now)) code.old code.new plan.old.left.now plan.new.left.now) }
 {
     let other = planned(plan);
     let end = planned(plan);
@@ -100,8 +99,7 @@ fn emit_while(
     body: &Action,
 ) -> Result<(), Memory>
     requires plan { Begins (plan_of (length code.old) (repeat_while pos (value_view c.now) (action_view body.now))) plan.old.left.now }
-    ensures code { OnOk result (code.new ≡ code.old ++ stmt_code around.locals (env_of scope.now) (length code.old) (repeat_while pos (value_view c.now) (action_view body.now))) }
-    ensures plan { OnOk result (plan.old.left.now ≡ plan_of (length code.old) (repeat_while pos (value_view c.now) (action_view body.now)) ++ plan.new.left.now) }
+    ensures { OnOk result (EmitsStmt around.locals (env_of scope.now) (repeat_while pos (value_view c.now) (action_view body.now)) code.old code.new plan.old.left.now plan.new.left.now) }
 {
     let head = next_place(code)?;
     let again = planned(plan);
@@ -129,8 +127,7 @@ fn emit_until(
     c: &Node,
 ) -> Result<(), Memory>
     requires plan { Begins (plan_of (length code.old) (repeat_until pos (action_view body.now) (value_view c.now))) plan.old.left.now }
-    ensures code { OnOk result (code.new ≡ code.old ++ stmt_code around.locals (env_of scope.now) (length code.old) (repeat_until pos (action_view body.now) (value_view c.now))) }
-    ensures plan { OnOk result (plan.old.left.now ≡ plan_of (length code.old) (repeat_until pos (action_view body.now) (value_view c.now)) ++ plan.new.left.now) }
+    ensures { OnOk result (EmitsStmt around.locals (env_of scope.now) (repeat_until pos (action_view body.now) (value_view c.now)) code.old code.new plan.old.left.now plan.new.left.now) }
 {
     let go = planned(plan);
     let again = planned(plan);
@@ -163,8 +160,7 @@ fn emit_for(
     body: &Action,
 ) -> Result<(), Memory>
     requires plan { Begins (plan_of (length code.old) (repeat_for pos (map reached_view reached.now) (optional_view first.now) (optional_view c.now) (optional_view last.now) (action_view body.now))) plan.old.left.now }
-    ensures code { OnOk result (code.new ≡ code.old ++ stmt_code around.locals (env_of scope.now) (length code.old) (repeat_for pos (map reached_view reached.now) (optional_view first.now) (optional_view c.now) (optional_view last.now) (action_view body.now))) }
-    ensures plan { OnOk result (plan.old.left.now ≡ plan_of (length code.old) (repeat_for pos (map reached_view reached.now) (optional_view first.now) (optional_view c.now) (optional_view last.now) (action_view body.now)) ++ plan.new.left.now) }
+    ensures { OnOk result (EmitsStmt around.locals (env_of scope.now) (repeat_for pos (map reached_view reached.now) (optional_view first.now) (optional_view c.now) (optional_view last.now) (action_view body.now)) code.old code.new plan.old.left.now plan.new.left.now) }
 {
     let again = planned(plan);
     let end = planned(plan);
@@ -194,8 +190,7 @@ fn emit_list(
     plan: &mut Plan<'_>,
 ) -> Result<(), Memory>
     requires plan { Begins (plans_of (length code.old) (actions_of (map action_view list.now))) plan.old.left.now }
-    ensures code { OnOk result (code.new ≡ code.old ++ stmts_code around.locals (env_of scope.now) (length code.old) (actions_of (map action_view list.now))) }
-    ensures plan { OnOk result (plan.old.left.now ≡ plans_of (length code.old) (actions_of (map action_view list.now)) ++ plan.new.left.now) }
+    ensures { OnOk result (EmitsList around.locals (env_of scope.now) (map action_view list.now) code.old code.new plan.old.left.now plan.new.left.now) }
 {
     for action in list {
         emit_stmt(code, around, scope, plan, action)?;
@@ -215,8 +210,7 @@ fn emit_inside(
 ) -> Result<(), Memory>
     requires plan { Begins (plans_of (length code.old) (actions_of (map action_view list.now))) plan.old.left.now }
     requires own { own.now ≡ list_labels (length code.old) (map action_view list.now) }
-    ensures code { OnOk result (code.new ≡ code.old ++ stmts_code around.locals (in_block (env_of scope.now) (length code.old) (map action_view list.now)) (length code.old) (actions_of (map action_view list.now))) }
-    ensures plan { OnOk result (plan.old.left.now ≡ plans_of (length code.old) (actions_of (map action_view list.now)) ++ plan.new.left.now) }
+    ensures { OnOk result (EmitsList around.locals (in_block (env_of scope.now) (length code.old) (map action_view list.now)) (map action_view list.now) code.old code.new plan.old.left.now plan.new.left.now) }
 {
     let labels = Labels::Inside(own, scope.labels);
     let inner = Scope {
@@ -239,8 +233,7 @@ fn emit_block(
     pos: Pos,
 ) -> Result<(), Memory>
     requires plan { Begins (plan_of (length code.old) (block_of pos (actions_of (map action_view list.now)) nowhere)) plan.old.left.now }
-    ensures code { OnOk result (code.new ≡ code.old ++ stmt_code around.locals (env_of scope.now) (length code.old) (block_of pos (actions_of (map action_view list.now)) nowhere)) }
-    ensures plan { OnOk result (plan.old.left.now ≡ plan_of (length code.old) (block_of pos (actions_of (map action_view list.now)) nowhere) ++ plan.new.left.now) }
+    ensures { OnOk result (EmitsStmt around.locals (env_of scope.now) (block_of pos (actions_of (map action_view list.now)) nowhere) code.old code.new plan.old.left.now plan.new.left.now) }
 {
     let own = plan_labels(around.alloc, plan, list)?;
     emit_unsets(code, pos, list)?;
@@ -267,8 +260,7 @@ fn emit_switched(
     requires starts { starts.now ≡ list_starts (switch_from (length code.old + expr_size (value_view node.now)) (map action_view list.now)) (map action_view list.now) }
     requires own { own.now ≡ list_labels (switch_from (length code.old + expr_size (value_view node.now)) (map action_view list.now)) (map action_view list.now) }
     requires end { end ≡ switch_from (length code.old + expr_size (value_view node.now)) (map action_view list.now) + stmts_size (actions_of (map action_view list.now)) }
-    ensures code { OnOk result (code.new ≡ code.old ++ stmt_code around.locals (env_of scope.now) (length code.old) (switch_on pos (value_view node.now) (block_of nowhere (actions_of (map action_view list.now)) nowhere))) }
-    ensures plan { OnOk result (plan.old.left.now ≡ plans_of (switch_from (length code.old + expr_size (value_view node.now)) (map action_view list.now)) (actions_of (map action_view list.now)) ++ plan.new.left.now) }
+    ensures { OnOk result (Emits (stmt_code around.locals (env_of scope.now) (length code.old) (switch_on pos (value_view node.now) (block_of nowhere (actions_of (map action_view list.now)) nowhere))) (plans_of (switch_from (length code.old + expr_size (value_view node.now)) (map action_view list.now)) (actions_of (map action_view list.now))) code.old code.new plan.old.left.now plan.new.left.now) }
 {
     let inner = Scope {
         breaks: end,
@@ -297,8 +289,7 @@ fn emit_switch(
     node: &Node,
 ) -> Result<(), Memory>
     requires plan { Begins (plan_of (length code.old) (switch_on pos (value_view node.now) (block_of nowhere (actions_of (map action_view list.now)) nowhere))) plan.old.left.now }
-    ensures code { OnOk result (code.new ≡ code.old ++ stmt_code around.locals (env_of scope.now) (length code.old) (switch_on pos (value_view node.now) (block_of nowhere (actions_of (map action_view list.now)) nowhere))) }
-    ensures plan { OnOk result (plan.old.left.now ≡ plan_of (length code.old) (switch_on pos (value_view node.now) (block_of nowhere (actions_of (map action_view list.now)) nowhere)) ++ plan.new.left.now) }
+    ensures { OnOk result (EmitsStmt around.locals (env_of scope.now) (switch_on pos (value_view node.now) (block_of nowhere (actions_of (map action_view list.now)) nowhere)) code.old code.new plan.old.left.now plan.new.left.now) }
 {
     let end = planned(plan);
     let starts = planned_all(plan, list.len());
@@ -322,8 +313,7 @@ fn emit_skipped(
     body: &Action,
 ) -> Result<(), Memory>
     requires plan { Begins (skipped_plan (length code.old + expr_size (value_view node.now)) (action_view body.now)) plan.old.left.now }
-    ensures code { OnOk result (code.new ≡ code.old ++ skipped_code around.locals (env_of scope.now) (length code.old) pos (value_view node.now) (action_view body.now)) }
-    ensures plan { OnOk result (plan.old.left.now ≡ skipped_plan (length code.old + expr_size (value_view node.now)) (action_view body.now) ++ plan.new.left.now) }
+    ensures { OnOk result (Emits (skipped_code around.locals (env_of scope.now) (length code.old) pos (value_view node.now) (action_view body.now)) (skipped_plan (length code.old + expr_size (value_view node.now)) (action_view body.now)) code.old code.new plan.old.left.now plan.new.left.now) }
 {
     let end = planned(plan);
     let inner = Scope {
@@ -349,8 +339,7 @@ fn emit_choice(
     body: &Action,
 ) -> Result<(), Memory>
     requires plan { Begins (plan_of (length code.old) (switch_on pos (value_view node.now) (action_view body.now))) plan.old.left.now }
-    ensures code { OnOk result (code.new ≡ code.old ++ stmt_code around.locals (env_of scope.now) (length code.old) (switch_on pos (value_view node.now) (action_view body.now))) }
-    ensures plan { OnOk result (plan.old.left.now ≡ plan_of (length code.old) (switch_on pos (value_view node.now) (action_view body.now)) ++ plan.new.left.now) }
+    ensures { OnOk result (EmitsStmt around.locals (env_of scope.now) (switch_on pos (value_view node.now) (action_view body.now)) code.old code.new plan.old.left.now plan.new.left.now) }
 {
     if is_block(body) {
         emit_body(code, around, body, scope, plan, pos, node)?;
@@ -373,8 +362,7 @@ fn emit_body(
     node: &Node,
 ) -> Result<(), Memory>
     requires plan { Begins (plan_of (length code.old) (switch_on pos (value_view node.now) (action_view body.now))) plan.old.left.now }
-    ensures code { OnOk result (code.new ≡ code.old ++ stmt_code around.locals (env_of scope.now) (length code.old) (switch_on pos (value_view node.now) (action_view body.now))) }
-    ensures plan { OnOk result (plan.old.left.now ≡ plan_of (length code.old) (switch_on pos (value_view node.now) (action_view body.now)) ++ plan.new.left.now) }
+    ensures { OnOk result (EmitsStmt around.locals (env_of scope.now) (switch_on pos (value_view node.now) (action_view body.now)) code.old code.new plan.old.left.now plan.new.left.now) }
 {
     if let ActionNode::Block(list, _) = &body.node {
         emit_switch(code, around, list, scope, plan, pos, node)?;
@@ -386,6 +374,7 @@ fn emit_body(
 
 /// The instructions of a statement, which takes its places from the plan.
 #[cycle(emit_stmts)]
+#[tactic(auto, using(crate::proofs::PlanLemmas::nothing_planned))]
 pub fn emit_stmt(
     code: &mut Seq<Line>,
     around: Around,
@@ -394,8 +383,7 @@ pub fn emit_stmt(
     action: &Action,
 ) -> Result<(), Memory>
     requires plan { Begins (plan_of (length code.old) (action_view action.now)) plan.old.left.now }
-    ensures code { OnOk result (code.new ≡ code.old ++ stmt_code around.locals (env_of scope.now) (length code.old) (action_view action.now)) }
-    ensures plan { OnOk result (plan.old.left.now ≡ plan_of (length code.old) (action_view action.now) ++ plan.new.left.now) }
+    ensures { OnOk result (EmitsStmt around.locals (env_of scope.now) (action_view action.now) code.old code.new plan.old.left.now plan.new.left.now) }
 {
     let pos = action.pos;
     match &action.node {

@@ -1,11 +1,13 @@
 // What is found out of a statement before its code is there: the places that it leads to, and its loops and labels.
-ghost use Rattle.std.specs.Prelude.{◌≡◌, ◌+◌, ◌++◌, map, IfOk, OnOk};
+ghost use Rattle.std.specs.Prelude.{◌≡◌, ◌+◌, ◌++◌, [], map, IfOk};
 ghost use Rattle.pungi_resolved.specs.ActionView.{reached_view, action_view, actions_of};
 ghost use Rattle.pungi_resolved.specs.ValueView.{value_view, optional_view};
-ghost use Rattle.pungi_layout.specs.Sizes.{option_size as option_length, reach_size as reach_length, test_size as test_length, stmt_size, stmts_size, switch_size};
-ghost use Rattle.pungi_layout.specs.Heads.{head_at, stmt_marks, stmts_marks, switch_marks};
-ghost use Rattle.pungi_emit.specs.LabelPlaces.{stmt_labels, list_labels, list_starts};
-ghost use Rattle.pungi_emit.specs.Plans.{places_of, plan_of, plans_of, skipped_plan, switch_plan};
+ghost use Rattle.pungi_layout.specs.Sizes.{option_size, reach_size};
+ghost use Rattle.pungi_layout.specs.Scopes.{for_head as head_of_for};
+ghost use Rattle.pungi_layout.specs.Heads.{head_at};
+ghost use Rattle.pungi_emit.specs.LabelPlaces.{list_labels};
+ghost use Rattle.pungi_emit.specs.Plans.{places_of, plans_of};
+ghost use Rattle.pungi_emit.specs.Surveys.{SurveysStmt, SurveysSkipped, SurveysSwitch, SurveysList};
 ghost use Rattle.pungi_resolved.specs.Actions.{block_of, test, test_else, repeat_while, repeat_until, repeat_for, switch_on, at_label};
 ghost use Rattle.pungi_meaning.specs.Run.{nowhere};
 
@@ -13,7 +15,7 @@ use crate::counts::{cases_count, count, declared_count};
 use crate::labels::block_names;
 use crate::number::behind;
 use crate::room::{fill, hold};
-use crate::size::value_size;
+use crate::size::{after_option, after_test, after_tested, after_value};
 use pungi_base::{Memory, Name, Pos, Seq};
 use pungi_code::{Head, Label};
 use pungi_layout::Mark;
@@ -30,36 +32,34 @@ fn head(place: u32, pos: Pos) -> Head
     }
 }
 
-fn option_size(node: &Option<Box<Node>>) -> Result<u32, Memory>
-    ensures { IfOk result (λ n. n ≡ option_length (optional_view node.now)) }
+/// The place after what declared locals hold at first.
+fn after_reached(from: u32, list: &[Reached]) -> Result<u32, Memory>
+    ensures { IfOk result (λ n. n ≡ from + reach_size (map reached_view list.now)) }
 {
-    match node {
-        Some(node) => value_size(node),
-        None => Ok(0),
-    }
-}
-
-fn test_size(node: &Option<Box<Node>>) -> Result<u32, Memory>
-    ensures { IfOk result (λ n. n ≡ test_length (optional_view node.now)) }
-{
-    match node {
-        Some(node) => behind(value_size(node)?, 1),
-        None => Ok(0),
-    }
-}
-
-fn reach_size(list: &[Reached]) -> Result<u32, Memory>
-    ensures { IfOk result (λ n. n ≡ reach_length (map reached_view list.now)) }
-{
-    let mut total = 0;
+    let mut place = from;
     for reached in list {
-        let value = behind(option_size(&reached.value)?, 1)?;
-        total = behind(total, value)?;
+        place = behind(after_option(place, &reached.value)?, 1)?;
     }
-    Ok(total)
+    Ok(place)
 }
 
-/// Statements, one after another, the first of which begins at this place. The answer is the place behind them.
+/// The place after a `return` and its value.
+fn after_give(from: u32, node: &Option<Box<Node>>) -> Result<u32, Memory>
+    ensures { IfOk result (λ n. n ≡ from + (option_size (optional_view node.now) + 1)) }
+{
+    behind(after_option(from, node)?, 1)
+}
+
+/// The place of the head of a `for`, after what it declares and does first.
+fn for_head(from: u32, reached: &[Reached], first: &Option<Box<Node>>) -> Result<u32, Memory>
+    ensures { IfOk result (λ n. n ≡ head_of_for from (map reached_view reached.now) (optional_view first.now)) }
+{
+    let unset = behind(from, count(reached.len())?)?;
+    let bound = after_reached(unset, reached)?;
+    after_option(bound, first)
+}
+
+/// Statements, one after another, the first of which begins at this place. Returns the place after them.
 #[cycle(survey)]
 fn survey_list(
     alloc: Global,
@@ -70,11 +70,7 @@ fn survey_list(
     list: &[Action],
     from: u32,
 ) -> Result<u32, Memory>
-    ensures next { IfOk result (λ next. next ≡ from + stmts_size (actions_of (map action_view list.now))) }
-    ensures marks { OnOk result (marks.new ≡ marks.old ++ stmts_marks from (actions_of (map action_view list.now))) }
-    ensures labels { OnOk result (labels.new ≡ labels.old ++ places_of (list_labels from (map action_view list.now))) }
-    ensures starts { OnOk result (starts.new ≡ starts.old ++ list_starts from (map action_view list.now)) }
-    ensures places { OnOk result (places.new ≡ places.old ++ plans_of from (actions_of (map action_view list.now))) }
+    ensures { IfOk result (λ next. SurveysList from (map action_view list.now) (plans_of from (actions_of (map action_view list.now))) (places_of (list_labels from (map action_view list.now))) next marks.old marks.new places.old places.new labels.old labels.new starts.old starts.new) }
 {
     let mut place = from;
     for action in list {
@@ -94,10 +90,7 @@ fn survey_inside(
     list: &[Action],
     from: u32,
 ) -> Result<u32, Memory>
-    ensures next { IfOk result (λ next. next ≡ from + stmts_size (actions_of (map action_view list.now))) }
-    ensures marks { OnOk result (marks.new ≡ marks.old ++ stmts_marks from (actions_of (map action_view list.now))) }
-    ensures starts { OnOk result (starts.new ≡ starts.old ++ list_starts from (map action_view list.now)) }
-    ensures places { OnOk result (places.new ≡ places.old ++ (places_of (list_labels from (map action_view list.now)) ++ plans_of from (actions_of (map action_view list.now)))) }
+    ensures { IfOk result (λ next. SurveysList from (map action_view list.now) (places_of (list_labels from (map action_view list.now)) ++ plans_of from (actions_of (map action_view list.now))) [] next marks.old marks.new places.old places.new [] [] starts.old starts.new) }
 {
     let names = block_names(alloc, list)?;
     let room = hold(places, names.len())?;
@@ -107,7 +100,7 @@ fn survey_inside(
     Ok(next)
 }
 
-/// A block in a `switch`, behind the value.
+/// A block in a `switch`, after the value.
 #[cycle(survey)]
 fn survey_switched(
     alloc: Global,
@@ -116,9 +109,7 @@ fn survey_switched(
     list: &[Action],
     place: u32,
 ) -> Result<u32, Memory>
-    ensures next { IfOk result (λ next. next ≡ place + switch_size (block_of nowhere (actions_of (map action_view list.now)) nowhere)) }
-    ensures marks { OnOk result (marks.new ≡ marks.old ++ switch_marks place (block_of nowhere (actions_of (map action_view list.now)) nowhere)) }
-    ensures places { OnOk result (places.new ≡ places.old ++ switch_plan place (block_of nowhere (actions_of (map action_view list.now)) nowhere)) }
+    ensures { IfOk result (λ next. SurveysSwitch place (block_of nowhere (actions_of (map action_view list.now)) nowhere) next marks.old marks.new places.old places.new [] []) }
 {
     let end = hold(places, 1)?;
     let begun = hold(places, list.len())?;
@@ -144,9 +135,7 @@ fn survey_inner(
     list: &[Action],
     pc: u32,
 ) -> Result<u32, Memory>
-    ensures next { IfOk result (λ next. next ≡ pc + stmt_size (block_of nowhere (actions_of (map action_view list.now)) nowhere)) }
-    ensures marks { OnOk result (marks.new ≡ marks.old ++ stmt_marks pc (block_of nowhere (actions_of (map action_view list.now)) nowhere)) }
-    ensures places { OnOk result (places.new ≡ places.old ++ plan_of pc (block_of nowhere (actions_of (map action_view list.now)) nowhere)) }
+    ensures { IfOk result (λ next. SurveysStmt pc (block_of nowhere (actions_of (map action_view list.now)) nowhere) next marks.old marks.new places.old places.new [] []) }
 {
     let own = declared_count(list)?;
     let from = behind(pc, own)?;
@@ -155,7 +144,7 @@ fn survey_inner(
     Ok(next)
 }
 
-/// What is no block in a `switch`, behind the value.
+/// What is no block in a `switch`, after the value.
 #[cycle(survey)]
 fn survey_skipped(
     alloc: Global,
@@ -165,10 +154,7 @@ fn survey_skipped(
     body: &Action,
     place: u32,
 ) -> Result<u32, Memory>
-    ensures next { IfOk result (λ next. next ≡ place + (1 + stmt_size (action_view body.now))) }
-    ensures marks { OnOk result (marks.new ≡ marks.old ++ stmt_marks (place + 1) (action_view body.now)) }
-    ensures labels { OnOk result (labels.new ≡ labels.old ++ places_of (stmt_labels (place + 1) (action_view body.now))) }
-    ensures places { OnOk result (places.new ≡ places.old ++ skipped_plan place (action_view body.now)) }
+    ensures { IfOk result (λ next. SurveysSkipped place (action_view body.now) next marks.old marks.new places.old places.new labels.old labels.new) }
 {
     let end = hold(places, 1)?;
     let from = behind(place, 1)?;
@@ -177,8 +163,9 @@ fn survey_skipped(
     Ok(next)
 }
 
-/// A `switch`, behind its value.
+/// A `switch`, after its value.
 #[cycle(survey)]
+#[tactic(auto, using(crate::proofs::SurveyLemmas::no_labels))]
 fn survey_choice(
     alloc: Global,
     marks: &mut Seq<Mark>,
@@ -187,10 +174,7 @@ fn survey_choice(
     body: &Action,
     place: u32,
 ) -> Result<u32, Memory>
-    ensures next { IfOk result (λ next. next ≡ place + switch_size (action_view body.now)) }
-    ensures marks { OnOk result (marks.new ≡ marks.old ++ switch_marks place (action_view body.now)) }
-    ensures labels { OnOk result (labels.new ≡ labels.old ++ places_of (stmt_labels (place + 1) (action_view body.now))) }
-    ensures places { OnOk result (places.new ≡ places.old ++ switch_plan place (action_view body.now)) }
+    ensures { IfOk result (λ next. SurveysSwitch place (action_view body.now) next marks.old marks.new places.old places.new labels.old labels.new) }
 {
     match &body.node {
         ActionNode::Block(list, _) => survey_switched(alloc, marks, places, list, place),
@@ -227,24 +211,14 @@ fn survey_for(
     test: &Option<Box<Node>>,
     last: &Option<Box<Node>>,
 ) -> Result<u32, Memory>
-    ensures next { IfOk result (λ next. next ≡ pc + stmt_size (repeat_for pos (map reached_view reached.now) (optional_view first.now) (optional_view test.now) (optional_view last.now) (action_view body.now))) }
-    ensures marks { OnOk result (marks.new ≡ marks.old ++ stmt_marks pc (repeat_for pos (map reached_view reached.now) (optional_view first.now) (optional_view test.now) (optional_view last.now) (action_view body.now))) }
-    ensures labels { OnOk result (labels.new ≡ labels.old ++ places_of (stmt_labels pc (repeat_for pos (map reached_view reached.now) (optional_view first.now) (optional_view test.now) (optional_view last.now) (action_view body.now)))) }
-    ensures places { OnOk result (places.new ≡ places.old ++ plan_of pc (repeat_for pos (map reached_view reached.now) (optional_view first.now) (optional_view test.now) (optional_view last.now) (action_view body.now))) }
+    ensures { IfOk result (λ next. SurveysStmt pc (repeat_for pos (map reached_view reached.now) (optional_view first.now) (optional_view test.now) (optional_view last.now) (action_view body.now)) next marks.old marks.new places.old places.new labels.old labels.new) }
 {
     let room = hold(places, 2)?;
-    let own = count(reached.len())?;
-    let unset = behind(pc, own)?;
-    let values = reach_size(reached)?;
-    let bound = behind(unset, values)?;
-    let begin = option_size(first)?;
-    let top = behind(bound, begin)?;
+    let top = for_head(pc, reached, first)?;
     marks.push(Mark::OfLoop(head(top, pos)))?;
-    let asked = test_size(test)?;
-    let go = behind(top, asked)?;
+    let go = after_tested(top, test)?;
     let next = survey_stmt(alloc, marks, places, labels, body, go)?;
-    let step = option_size(last)?;
-    let turned = behind(next, step)?;
+    let turned = after_option(next, last)?;
     let behind_it = behind(turned, 1)?;
     fill(places, room, &[next, behind_it]);
     Ok(behind_it)
@@ -263,16 +237,11 @@ fn survey_else(
     pos: Pos,
     c: &Node,
 ) -> Result<u32, Memory>
-    ensures next { IfOk result (λ next. next ≡ pc + stmt_size (test_else pos (value_view c.now) (action_view a.now) (action_view b.now))) }
-    ensures marks { OnOk result (marks.new ≡ marks.old ++ stmt_marks pc (test_else pos (value_view c.now) (action_view a.now) (action_view b.now))) }
-    ensures labels { OnOk result (labels.new ≡ labels.old ++ places_of (stmt_labels pc (test_else pos (value_view c.now) (action_view a.now) (action_view b.now)))) }
-    ensures places { OnOk result (places.new ≡ places.old ++ plan_of pc (test_else pos (value_view c.now) (action_view a.now) (action_view b.now))) }
+    ensures { IfOk result (λ next. SurveysStmt pc (test_else pos (value_view c.now) (action_view a.now) (action_view b.now)) next marks.old marks.new places.old places.new labels.old labels.new) }
 {
     let _place = pos;
     let room = hold(places, 2)?;
-    let size = value_size(c)?;
-    let test = behind(pc, size)?;
-    let go = behind(test, 1)?;
+    let go = after_test(pc, c)?;
     let last = survey_stmt(alloc, marks, places, labels, a, go)?;
     let middle = behind(last, 1)?;
     let next = survey_stmt(alloc, marks, places, labels, b, middle)?;
@@ -292,16 +261,11 @@ fn survey_if(
     pos: Pos,
     c: &Node,
 ) -> Result<u32, Memory>
-    ensures next { IfOk result (λ next. next ≡ pc + stmt_size (test pos (value_view c.now) (action_view body.now))) }
-    ensures marks { OnOk result (marks.new ≡ marks.old ++ stmt_marks pc (test pos (value_view c.now) (action_view body.now))) }
-    ensures labels { OnOk result (labels.new ≡ labels.old ++ places_of (stmt_labels pc (test pos (value_view c.now) (action_view body.now)))) }
-    ensures places { OnOk result (places.new ≡ places.old ++ plan_of pc (test pos (value_view c.now) (action_view body.now))) }
+    ensures { IfOk result (λ next. SurveysStmt pc (test pos (value_view c.now) (action_view body.now)) next marks.old marks.new places.old places.new labels.old labels.new) }
 {
     let _place = pos;
     let room = hold(places, 1)?;
-    let size = value_size(c)?;
-    let test = behind(pc, size)?;
-    let go = behind(test, 1)?;
+    let go = after_test(pc, c)?;
     let next = survey_stmt(alloc, marks, places, labels, body, go)?;
     fill(places, room, &[next]);
     Ok(next)
@@ -319,19 +283,14 @@ fn survey_while(
     pos: Pos,
     c: &Node,
 ) -> Result<u32, Memory>
-    ensures next { IfOk result (λ next. next ≡ pc + stmt_size (repeat_while pos (value_view c.now) (action_view body.now))) }
-    ensures marks { OnOk result (marks.new ≡ marks.old ++ stmt_marks pc (repeat_while pos (value_view c.now) (action_view body.now))) }
-    ensures labels { OnOk result (labels.new ≡ labels.old ++ places_of (stmt_labels pc (repeat_while pos (value_view c.now) (action_view body.now)))) }
-    ensures places { OnOk result (places.new ≡ places.old ++ plan_of pc (repeat_while pos (value_view c.now) (action_view body.now))) }
+    ensures { IfOk result (λ next. SurveysStmt pc (repeat_while pos (value_view c.now) (action_view body.now)) next marks.old marks.new places.old places.new labels.old labels.new) }
 {
     let room = hold(places, 1)?;
     marks.push(Mark::OfLoop(head(pc, pos)))?;
-    let size = value_size(c)?;
-    let test = behind(size, 1)?;
-    let go = behind(pc, test)?;
+    let go = after_test(pc, c)?;
     let next = survey_stmt(alloc, marks, places, labels, body, go)?;
-    fill(places, room, &[next]);
     let behind_it = behind(next, 1)?;
+    fill(places, room, &[next]);
     Ok(behind_it)
 }
 
@@ -347,20 +306,15 @@ fn survey_until(
     pos: Pos,
     c: &Node,
 ) -> Result<u32, Memory>
-    ensures next { IfOk result (λ next. next ≡ pc + stmt_size (repeat_until pos (action_view body.now) (value_view c.now))) }
-    ensures marks { OnOk result (marks.new ≡ marks.old ++ stmt_marks pc (repeat_until pos (action_view body.now) (value_view c.now))) }
-    ensures labels { OnOk result (labels.new ≡ labels.old ++ places_of (stmt_labels pc (repeat_until pos (action_view body.now) (value_view c.now)))) }
-    ensures places { OnOk result (places.new ≡ places.old ++ plan_of pc (repeat_until pos (action_view body.now) (value_view c.now))) }
+    ensures { IfOk result (λ next. SurveysStmt pc (repeat_until pos (action_view body.now) (value_view c.now)) next marks.old marks.new places.old places.new labels.old labels.new) }
 {
     let room = hold(places, 2)?;
     let top = behind(pc, 1)?;
     marks.push(Mark::OfLoop(head(top, pos)))?;
-    let size = value_size(c)?;
-    let test = behind(size, 1)?;
-    let go = behind(top, test)?;
+    let go = after_test(top, c)?;
     let next = survey_stmt(alloc, marks, places, labels, body, go)?;
-    fill(places, room, &[go, next]);
     let behind_it = behind(next, 1)?;
+    fill(places, room, &[go, next]);
     Ok(behind_it)
 }
 
@@ -376,10 +330,7 @@ fn survey_label(
     pos: Pos,
     name: Name,
 ) -> Result<u32, Memory>
-    ensures next { IfOk result (λ next. next ≡ pc + stmt_size (at_label pos name (action_view body.now))) }
-    ensures marks { OnOk result (marks.new ≡ marks.old ++ stmt_marks pc (at_label pos name (action_view body.now))) }
-    ensures labels { OnOk result (labels.new ≡ labels.old ++ places_of (stmt_labels pc (at_label pos name (action_view body.now)))) }
-    ensures places { OnOk result (places.new ≡ places.old ++ plan_of pc (at_label pos name (action_view body.now))) }
+    ensures { IfOk result (λ next. SurveysStmt pc (at_label pos name (action_view body.now)) next marks.old marks.new places.old places.new labels.old labels.new) }
 {
     let _name = name;
     labels.push(pc)?;
@@ -400,21 +351,18 @@ fn survey_switch(
     pos: Pos,
     node: &Node,
 ) -> Result<u32, Memory>
-    ensures next { IfOk result (λ next. next ≡ pc + stmt_size (switch_on pos (value_view node.now) (action_view body.now))) }
-    ensures marks { OnOk result (marks.new ≡ marks.old ++ stmt_marks pc (switch_on pos (value_view node.now) (action_view body.now))) }
-    ensures labels { OnOk result (labels.new ≡ labels.old ++ places_of (stmt_labels pc (switch_on pos (value_view node.now) (action_view body.now)))) }
-    ensures places { OnOk result (places.new ≡ places.old ++ plan_of pc (switch_on pos (value_view node.now) (action_view body.now))) }
+    ensures { IfOk result (λ next. SurveysStmt pc (switch_on pos (value_view node.now) (action_view body.now)) next marks.old marks.new places.old places.new labels.old labels.new) }
 {
     let _place = pos;
-    let size = value_size(node)?;
-    let place = behind(pc, size)?;
+    let place = after_value(pc, node)?;
     let next = survey_choice(alloc, marks, places, labels, body, place)?;
     Ok(next)
 }
 
-/// A statement that begins at this place. Its places and those of its labels come behind the others. The answer is the
-/// place behind it.
+/// A statement that begins at this place. Its places and those of its labels come after the others. Returns the place
+/// after it.
 #[cycle(survey)]
+#[tactic(auto, using(crate::proofs::SurveyLemmas::nothing_found, crate::proofs::SurveyLemmas::no_labels))]
 pub fn survey_stmt(
     alloc: Global,
     marks: &mut Seq<Mark>,
@@ -423,16 +371,13 @@ pub fn survey_stmt(
     action: &Action,
     pc: u32,
 ) -> Result<u32, Memory>
-    ensures next { IfOk result (λ next. next ≡ pc + stmt_size (action_view action.now)) }
-    ensures marks { OnOk result (marks.new ≡ marks.old ++ stmt_marks pc (action_view action.now)) }
-    ensures labels { OnOk result (labels.new ≡ labels.old ++ places_of (stmt_labels pc (action_view action.now))) }
-    ensures places { OnOk result (places.new ≡ places.old ++ plan_of pc (action_view action.now)) }
+    ensures { IfOk result (λ next. SurveysStmt pc (action_view action.now) next marks.old marks.new places.old places.new labels.old labels.new) }
 {
     let pos = action.pos;
     match &action.node {
         ActionNode::Block(list, _) => survey_inner(alloc, marks, places, list, pc),
-        ActionNode::Reach(list) => behind(pc, reach_size(list)?),
-        ActionNode::Evaluate(node) => behind(pc, option_size(node)?),
+        ActionNode::Reach(list) => after_reached(pc, list),
+        ActionNode::Evaluate(node) => after_option(pc, node),
         ActionNode::Test(c, a) => survey_if(alloc, marks, places, labels, a, pc, pos, c),
         ActionNode::TestElse(c, a, b) => {
             survey_else(alloc, marks, places, labels, a, b, pc, pos, c)
@@ -456,6 +401,6 @@ pub fn survey_stmt(
             survey_label(alloc, marks, places, labels, a, pc, pos, *name)
         }
         ActionNode::Jump(_) | ActionNode::Leave | ActionNode::NextTurn => behind(pc, 1),
-        ActionNode::Give(node) => behind(pc, behind(option_size(node)?, 1)?),
+        ActionNode::Give(node) => after_give(pc, node),
     }
 }

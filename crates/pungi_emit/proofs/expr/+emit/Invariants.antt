@@ -35,6 +35,18 @@ decreases-emit_updated l = 4 * max (size-Place l.place.now) (size-Value l.part.n
 abbrev pub decreases-emit_operands : goal.decreases-emit_operands
 decreases-emit_operands l = 4 * max (size-Value l.a.now) (size-Value l.b.now) + 1
 
+abbrev pub decreases-emit_computed : goal.decreases-emit_computed
+decreases-emit_computed l = 4 * max (size-Value l.a.now) (size-Value l.b.now) + 2
+
+abbrev pub decreases-emit_compared : goal.decreases-emit_compared
+decreases-emit_compared l = 4 * max (size-Value l.a.now) (size-Value l.b.now) + 2
+
+abbrev pub decreases-emit_signed : goal.decreases-emit_signed
+decreases-emit_signed l = 4 * goal.size-emit_signed l + 1
+
+abbrev pub decreases-emit_converted : goal.decreases-emit_converted
+decreases-emit_converted l = 4 * goal.size-emit_converted l + 1
+
 abbrev pub decreases-emit_joined : goal.decreases-emit_joined
 decreases-emit_joined l = 4 * max (size-Value l.a.now) (size-Value l.b.now) + 1
 
