@@ -285,7 +285,10 @@ const REFUSALS: &[(&str, &str)] = &[
         "static PyTypeObject BoxType;\nint BoxType(void) { return 1; }",
         "file refused 2:5 duplicate name\n",
     ),
-    ("void Py_None(void) { }", "file refused 1:6 duplicate name\n"),
+    (
+        "void Py_None(void) { }",
+        "file refused 1:6 duplicate name\n",
+    ),
 ];
 
 #[test]

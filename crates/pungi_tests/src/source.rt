@@ -50,5 +50,6 @@ pub(crate) fn codes_of(alloc: Global, text: &str) -> Result<Codes, Fail> {
     let mut names = Names::builtin(alloc)?;
     let unit = unit_of(alloc, &mut names, text)?;
     let checked = check(alloc, &names, &unit, &rows)?;
-    Ok(lower(alloc, &checked.resolved, checked.names, checked.statics)?)
+    let own = checked.names;
+    Ok(lower(alloc, &checked.resolved, own, checked.statics)?)
 }

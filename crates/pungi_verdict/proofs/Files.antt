@@ -4,12 +4,11 @@ use Rattle.std.specs.Prelude.{is_some, if◌then◌else◌}
 use Rattle.std.specs.List.{AllZip}
 use Rattle.std.proofs.lemmas.List.{append-nil, drop_all}
 use Rattle.std.proofs.lemmas.Option.{slice_get-map, slice_get-get_or, get_or_from_slice_get}
-use Rattle.std.specs.Borrow.{Bor}
 use Rattle.pungi_base.specs.declared.names.Name.{Name}
 use Rattle.pungi_base.specs.declared.verdict.Verdict.{Verdict}
 use Rattle.pungi_base.specs.declared.verdict.Verdict.TheVariants as verdict
-use Rattle.pungi_tree.specs.declared.item.FunctionDef.{FunctionDef}
-use Rattle.pungi_declared.specs.DeclaredView.{function_view as definition_of}
+use Rattle.pungi_check.specs.Found.{checked_view, IsChecked}
+use Rattle.pungi_check.specs.declared.checked.Checked.{Checked}
 use Rattle.pungi_types.specs.declared.finding.Finding.{Finding}
 use Rattle.pungi_types.specs.Files.{Definition, definitions}
 use Rattle.pungi_types.specs.Functions.{refusal}
@@ -18,14 +17,14 @@ use Rattle.pungi_resolve.specs.Functions.{resolved}
 use Rattle.pungi_resolved.specs.Functions.{ResolvedFunction}
 use Rattle.pungi_resolved.specs.ActionView.{function_view}
 use Rattle.pungi_resolved.specs.declared.function.Function.{Function}
-use Rattle.pungi_resolve.specs.Resolutions.{resolution_of, resolution_view}
+use Rattle.pungi_resolve.specs.Resolutions.{resolution_of, resolution_view, IsResolved}
 use Rattle.pungi_types.specs.Refused.{CheckedFile}
 use Rattle.pungi_code.specs.declared.code.Code.{Code}
 use Rattle.pungi_code.specs.declared.code.Codes.{Codes}
 use Rattle.pungi_code.specs.Run.{code_at, joined}
 use Rattle.pungi_code.specs.WellFormed.{AreWellFormed}
 use Rattle.pungi_layout.specs.Codes.{code_for}
-use Rattle.pungi_lower.specs.Lowered.{codes_of, IsLowered, AreLowered}
+use Rattle.pungi_lower.specs.Lowered.{codes_of, names_of, IsLowered, AreLowered}
 use Rattle.pungi_explore.specs.Explored.{IsFew, IsMany}
 use Rattle.pungi_verdict.specs.Replays.{IsGiven}
 use Rattle.pungi_verdict.specs.Verdicts.{IsRight, IsShown, object_code, statics_of, file_codes, HasFewTraces, HasManyTraces, IsTold, IsVerdict, IsJudged}
@@ -175,15 +174,38 @@ left-from ds i d lt at =
     let is : get_or ds i d ≡ d = get_or_from_slice_get ds i d d at in
     grind (arith, drop-cons ds i d)
 
--- the definition that an entry of the program's list is
-pub entry-is : (list : List (Bor FunctionDef)) (ds : List Definition) (i : ℕ) (f : Bor FunctionDef) → map definition_of list ≡ ds → i < length list → f ≡ get_or list i f
-    → slice_get ds i ≡ Some (definition_of f)
-entry-is list ds i f same lt is = ap (λ (l : List Definition). slice_get l i) (sym same) ∙ mapped-at definition_of list i f (at-index list i f lt is)
+-- the name at a place is that of the function there
+pub name-is : (ds : List Definition) (names : List Name) (i : ℕ) (n : Name) (d : Definition) → names ≡ map (λ (e : Definition). e.name) ds → slice_get names i ≡ Some n
+    → slice_get ds i ≡ Some d → n ≡ d.name
+name-is ds names i n d same here at =
+    let there : slice_get (map (λ (e : Definition). e.name) ds) i ≡ Some d.name = mapped-at (λ (e : Definition). e.name) ds i d at in
+    same-some n d.name (sym here ∙ ap (λ (ns : List Name). slice_get ns i) same ∙ there)
 
-pub judged-next : (c : CheckedFile) (i : ℕ) (d : Definition) (v : Verdict) (lines more : List (Name × Verdict)) → i < length (definitions c.file.items)
-    → slice_get (definitions c.file.items) i ≡ Some d → IsVerdict c d v
+-- the name that a program reads at a place
+pub name-read : (names : List Name) (i : ℕ) (n : Name) → i < length names → slice_get names i ≡ Some (get_or names i n)
+name-read names i n lt = slice_get-get_or names i n lt
+
+pub names-long : (ds : List Definition) (names : List Name) → names ≡ map (λ (d : Definition). d.name) ds → length names ≡ length ds
+names-long ds names same = ap (λ (ns : List Name). length ns) same ∙ mapped-long (λ (d : Definition). d.name) ds
+
+pub judged-next : (c : CheckedFile) (names : List Name) (i : ℕ) (n : Name) (v : Verdict) (lines more : List (Name × Verdict)) → names ≡ map (λ (d : Definition). d.name) (definitions c.file.items)
+    → i < length names → slice_get names i ≡ Some n → ((d : Definition) → slice_get (definitions c.file.items) i ≡ Some d → IsVerdict c d v)
     → ((more : List (Name × Verdict)) → AllZip (IsJudged c) (drop i (definitions c.file.items)) more → AllZip (IsJudged c) (definitions c.file.items) (lines ++ more))
-    → AllZip (IsJudged c) (drop (i + 1) (definitions c.file.items)) more → AllZip (IsJudged c) (definitions c.file.items) ((lines ++ (d.name, v) ∷ []) ++ more)
-judged-next c i d v lines more lt at right so_far rest =
-    subst (λ (l : List (Name × Verdict)). AllZip (IsJudged c) (definitions c.file.items) l) (sym (append_assoc lines ((d.name, v) ∷ []) more))
-    (so_far ((d.name, v) ∷ more) (subst (λ (l : List Definition). AllZip (IsJudged c) l ((d.name, v) ∷ more)) (sym (left-from (definitions c.file.items) i d lt at)) ((refl, right), rest)))
+    → AllZip (IsJudged c) (drop (i + 1) (definitions c.file.items)) more → AllZip (IsJudged c) (definitions c.file.items) ((lines ++ (n, v) ∷ []) ++ more)
+judged-next c names i n v lines more same lt here right so_far rest =
+    let long = names-long (definitions c.file.items) names same in
+    let inside : i < length (definitions c.file.items) = omega (arith, long, lt) in
+    let d = defined-at (definitions c.file.items) i inside in
+    let named : n ≡ d.0.name = name-is (definitions c.file.items) names i n d.0 same here d.1 in
+    subst (λ (l : List (Name × Verdict)). AllZip (IsJudged c) (definitions c.file.items) l) (sym (append_assoc lines ((n, v) ∷ []) more))
+    (so_far ((n, v) ∷ more) (subst (λ (l : List Definition). AllZip (IsJudged c) l ((n, v) ∷ more)) (sym (left-from (definitions c.file.items) i d.0 inside d.1)) ((named, right d.0 d.1), rest)))
+
+-- ---- codes
+
+pub resolved-of : (x : Checked) → IsChecked x → IsResolved (checked_view x) (map resolution_view x.resolved.items)
+resolved-of x h = record { are = h.resolved_are; own = h.own; set = h.set; rows = h.rows; few = h.few }
+
+pub same-codes : (k : Codes) (c : CheckedFile) → k.codes ≡ codes_of c → k.names ≡ names_of c → k.statics ≡ statics_of c → k ≡ file_codes c
+same-codes k c a b d =
+    ap (λ (cs : List (Option Code)). record k { codes = cs }) a ∙ ap (λ (ns : List Name). record (file_codes c) { names = ns; statics = k.statics }) b
+    ∙ ap (λ (n : ℕ). record (file_codes c) { statics = n }) d

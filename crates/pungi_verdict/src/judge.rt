@@ -78,12 +78,14 @@ fn verdict(alloc: Global, checked: &Checked<'_>, codes: &Codes, i: usize) -> Res
     }
 }
 
-/// The verdicts on the functions of a file.
+/// The verdicts on the functions of a file, which have these names.
 fn verdicts(
     alloc: Global,
     checked: &Checked<'_>,
     codes: &Codes,
+    names: &[Name],
 ) -> Result<Vec<(Name, Verdict)>, Memory>
+    requires named { names.now ≡ map (λ d. d.name) (definitions_of (checked_view checked.now).file.items) }
     requires checked { IsChecked checked.now }
     requires codes { codes.now ≡ file_codes (checked_view checked.now) }
     requires lowered { AreLowered (checked_view checked.now) codes.now.codes }
@@ -91,11 +93,17 @@ fn verdicts(
     ensures { IfOk result (λ lines. AllZip (IsJudged (checked_view checked.now)) (definitions_of (checked_view checked.now).file.items) lines.items) }
 {
     let mut lines = Vec::new(alloc);
-    for (i, name) in checked.names.as_slice().iter().enumerate() {
+    for (i, name) in names.iter().enumerate() {
         let verdict = verdict(alloc, checked, codes, i)?;
         lines.push((*name, verdict))?;
     }
     Ok(lines)
+}
+
+fn names_of(alloc: Global, names: &[Name]) -> Result<Seq<Name>, Memory>
+    ensures { IfOk result (λ copy. copy ≡ names.now) }
+{
+    Ok(Seq::new(Vec::from_slice(alloc, names)?))
 }
 
 /// The codes of a checked file.
@@ -105,7 +113,7 @@ fn codes(alloc: Global, checked: &Checked<'_>) -> Result<Codes, Memory>
     ensures lowered { IfOk result (λ c. AreLowered (checked_view checked.now) c.codes) }
     ensures formed { IfOk result (λ c. AreWellFormed c) }
 {
-    let names = Seq::new(Vec::from_slice(alloc, checked.names.as_slice())?);
+    let names = names_of(alloc, checked.names.as_slice())?;
     let codes = lower(alloc, &checked.resolved, names, checked.statics)?;
     Ok(codes)
 }
@@ -121,6 +129,6 @@ pub fn judge_all(alloc: Global, checked: &Checked<'_>) -> Result<Vec<(Name, Verd
     ensures reportable { IfOk result (λ lines. All (λ line. IsReportable line.1) lines.items) }
 {
     let codes = codes(alloc, checked)?;
-    let lines = verdicts(alloc, checked, &codes)?;
+    let lines = verdicts(alloc, checked, &codes, checked.names.as_slice())?;
     Ok(lines)
 }
