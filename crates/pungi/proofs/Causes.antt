@@ -3,7 +3,7 @@ use Rattle.std.proofs.Common.{◌≡◌, ◌⊎◌, inl, inr, ⊎_elim, ℕ, ◌
 use Rattle.std.specs.Prelude.{IsNone}
 use Rattle.pungi_tree.specs.Syntax.{Item}
 use Rattle.pungi.specs.declared.read.TheConstants.{FILE_LIMIT}
-use Rattle.pungi.specs.declared.status.TheConstants.{ALL_CLEAN, SOME_FAULTY, SOME_OPEN, FILE_UNREAD, FILE_REFUSED}
+use Rattle.pungi.specs.declared.status.TheConstants.{FILE_UNREAD, FILE_REFUSED}
 use Rattle.pungi.specs.Settings.{file_of}
 use Rattle.pungi.specs.Read.{IsRead}
 use Rattle.pungi.specs.Examine.{IsReport}

@@ -1,7 +1,5 @@
 -- Why a text is refused by each part of the front end, and that it is no file then.
-use Rattle.std.proofs.Common.{◌≡◌, ◌⊎◌, inl, inr, ⊎_elim, ℕ, zero, suc, ◌<◌, ◌≤◌, Bool, true, false, List, [], ◌∷◌, length, Option, Some, None, Result, Ok, Err, refl, sym, subst, ◌∙◌, arith, map}
-use Rattle.std.specs.Prelude.{MatchResult, IfErr}
-use Rattle.std.specs.List.{All}
+use Rattle.std.proofs.Common.{◌≡◌, ◌⊎◌, ⊎_elim, ℕ, suc, false, List, [], ◌∷◌, length, Option, Some, None, Result, Ok, Err, refl, sym, subst, arith}
 use Rattle.std.proofs.lemmas.List.Elements.{All-cons, All-nil}
 use Rattle.pungi_base.specs.declared.kind.Kind.{Kind}
 use Rattle.pungi_base.specs.declared.pos.Pos.{Pos}
@@ -15,7 +13,7 @@ use Rattle.pungi_lex.specs.Expander.{IsExpanded, HasMacroFault, HasNoExpansion}
 use Rattle.pungi_lex.specs.Known.{IsKnown, AreKnown}
 use Rattle.pungi_lex.specs.MacroFault.{is_want_of_memory}
 use Rattle.pungi_lex.specs.Tokens.{AreTokensOf, HasFault, HasNoTokens, is_memory}
-use Rattle.pungi_check.specs.Faults.{told as found_at, IsFaultOf as IsFaultOfUnit}
+use Rattle.pungi_check.specs.Faults.{IsFaultOf as IsFaultOfUnit}
 use Rattle.pungi_check.specs.declared.fault.UnitFault.{UnitFault}
 use Rattle.pungi_check.specs.declared.fault.UnitFault.TheVariants as unit
 use Rattle.pungi_parse.specs.declared.fault.ParseFault.{ParseFault}
@@ -32,7 +30,7 @@ use Rattle.pungi_types.specs.Refused.{IsRefusedSet}
 use Rattle.pungi.specs.declared.file_fault.FileFault.{FileFault}
 use Rattle.pungi.specs.declared.file_fault.FileFault.TheVariants as fault
 use Rattle.pungi.specs.Examine.{IsReport, IsReportOn}
-use Rattle.pungi.specs.Front.{IsUnitOf, IsNoUnit, IsFile, IsNoFile, IsRefusedAs, file_known, refused_text, IsUnitFault, IsParseFault, IsFaultOf, AreKnownKinds, told_of_lex, told_of_macro, told_of_parse, told_of_unit, told_of}
+use Rattle.pungi.specs.Front.{IsUnitOf, IsNoUnit, IsNoFile, IsRefusedAs, file_known, refused_text, IsUnitFault, IsParseFault, IsFaultOf, AreKnownKinds, told_of_lex, told_of_macro, told_of_parse, told_of_unit, told_of}
 
 told_lex : (found : LexFault) (told : Pos × List ℕ) → told_of_lex found ≡ Some told → is_memory found ≡ false
 told_lex lex.Memory told h = absurd (cc)

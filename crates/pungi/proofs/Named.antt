@@ -1,25 +1,22 @@
 -- The names of functions are words of their tokens.
-use Rattle.std.proofs.Common.{◌≡◌, ℕ, zero, suc, ◌<◌, List, [], ◌∷◌, ◌++◌, length, arith, subst, sym}
+use Rattle.std.proofs.Common.{ℕ, suc, ◌<◌, List, [], ◌∷◌, ◌++◌, length, arith, subst, sym}
 use Rattle.std.specs.List.{All, AllZip}
 use Rattle.std.proofs.lemmas.List.Elements.{All-cons, All-nil}
 use Rattle.pungi_base.specs.declared.kind.Kind.{Kind}
-use Rattle.pungi_base.specs.declared.kind.Kind.TheVariants as kind
 use Rattle.pungi_base.specs.declared.names.Name.{Name}
 use Rattle.pungi_base.specs.declared.why.Why.{Why}
-use Rattle.pungi_base.specs.declared.punct.Punct.TheVariants as punct
 use Rattle.pungi_base.specs.declared.verdict.Verdict.{Verdict}
 use Rattle.pungi_base.specs.declared.verdict.Verdict.TheVariants as verdict
 use Rattle.pungi_lex.specs.Known.{IsKnown}
-use Rattle.pungi_tree.specs.ExprFlat.{spec_flat, params_flat}
+use Rattle.pungi_tree.specs.ExprFlat.{spec_flat}
 use Rattle.pungi_tree.specs.StmtFlat.{stmt_flat}
 use Rattle.pungi_tree.specs.Syntax.{head, Item, nothing, doc, typedef, tag, variables, prototype, function_def}
-use Rattle.pungi_tree.specs.Tokens.{mark, keys_flat, stars_flat}
+use Rattle.pungi_tree.specs.Tokens.{keys_flat, stars_flat}
 use Rattle.pungi_tree.specs.UnitFlat.{signature_flat, item_flat, items_flat}
 use Rattle.pungi_report.specs.Text.{IsLine, IsPrintable}
 use Rattle.pungi_types.specs.Files.{Definition, definitions}
 use Rattle.pungi_types.specs.Refused.{CheckedFile}
 use Rattle.pungi_verdict.specs.Verdicts.{IsJudged, IsReportable}
-use Rattle.pungi.specs.Examine.{checked_file}
 use Rattle.pungi.specs.Front.{AreKnownKinds}
 
 -- the words of tokens, one after another

@@ -2,7 +2,7 @@
 --   checked_file names items refused    what is known of a file, where these functions are refused
 --   is_faulty, is_open, status_of the status that goes with verdicts: whether one is faulty, or else one is neither clean nor faulty
 --   IsReportOn names c status report    the report on a checked file: one right verdict for each function that it defines, and the status that goes with it
---   IsReport text status report   the report on the file that the text is
+--   IsReport text status bytes    the report on the file that the text is
 use Rattle.std.specs.Prelude.{◌≡◌, ℕ, Bool, true, false, List, if◌then◌else◌}
 use Rattle.std.specs.List.{AllZip, list_any}
 use Rattle.pungi_base.specs.declared.names.Name.{Name}
@@ -40,10 +40,10 @@ pub record IsReportOn (names : List (List ℕ)) (c : CheckedFile) (status : ℕ)
   pub counted : status ≡ status_of lines
   pub printed : report ≡ report_text names lines
 
-pub record IsReport (text : List ℕ) (status : ℕ) (report : List ℕ) : Type 0 where
+pub record IsReport (text : List ℕ) (status : ℕ) (bytes : List ℕ) : Type 0 where
   pub names : List (List ℕ)
   pub items : List Item
   pub file : IsFile text names items
   pub refused : List ℕ
   pub least : IsRefusedSet (file_known names items) refused
-  pub report : IsReportOn names (checked_file names items refused) status report
+  pub report : IsReportOn names (checked_file names items refused) status bytes

@@ -11,7 +11,7 @@
 --   told_of_lex, told_of_macro, told_of_parse, told_of_unit, told_of    the place of a fault and its reason, unless it is want of memory
 --   refused_text at reason    the line of a refusal
 --   IsRefusedAs text answer   the text is no file, and this line says why
-use Rattle.std.specs.Prelude.{◌≡◌, ℕ, List, [], ◌++◌, length, Option, Some, None, codes}
+use Rattle.std.specs.Prelude.{◌≡◌, ℕ, List, ◌++◌, length, Option, Some, None, codes}
 use Rattle.std.specs.List.{All}
 use Rattle.pungi_base.specs.declared.kind.Kind.{Kind}
 use Rattle.pungi_base.specs.declared.pos.Pos.{Pos}

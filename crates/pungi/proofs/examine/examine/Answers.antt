@@ -1,12 +1,10 @@
-use Rattle.std.proofs.Common.{◌≡◌, ℕ, List, inl, inr, length, ap, sym, subst, ◌∙◌}
+use Rattle.std.proofs.Common.{ℕ, List, inl, inr, length, ap, sym, subst, ◌∙◌}
 use Rattle.std.proofs.lemmas.Result.{IfOk-weaker}
 use Rattle.pungi_api.specs.declared.row.Row.{Row}
-use Rattle.pungi_api.specs.Rows.{builtin_rows}
 use Rattle.pungi_tree.specs.UnitFlat.{items_flat}
 use Rattle.pungi_tree.specs.UnitView.{unit_view}
 use Rattle.pungi_types.specs.Files.{SourceFile, source_file}
 use Rattle.pungi_check.specs.Faults.{IsFaultOf}
-use Rattle.pungi_check.specs.Found.{checked_view}
 use Rattle.pungi.specs.Front.{AreKnownKinds}
 use Rattle.pungi.specs.declared.file_fault.FileFault.TheVariants as fault
 use Rattle.pungi.proofs.Fronts.{no_file, unit_refused, report_on, refused_as}
@@ -29,10 +27,10 @@ returns-in-Ok-check c =
     IfOk-weaker c.reported.result _ _ (λ a h.
     inl (h.0, report_on c.args.text.now names items c.in-Ok-check.checked a.status a.text.items c.in-Ok.ensures.unit same c.in-Ok-check.ensures.checked h.1)) c.reported.ensures
 
-pub returns-in-Err-check : goal.returns-in-Err-check
-returns-in-Err-check c =
+pub returns : goal.returns
+returns c =
     let names = c.unit_of.new.names in
     let items = unit_view c.in-Ok.unit in
     let holds = subst (λ (rows : List (ℕ × Row)). IsFaultOf (source_file names items rows) c.in-Err-check.fault) c.in_ok-rows.ensures c.in-Err-check.ensures.fault in
-    IfOk-weaker c.refused-2.result _ _ (λ a h.
-    inr (h.0, refused_as c.args.text.now (fault.Unit c.in-Err-check.fault) a.text.items (unit_refused c.args.text.now names items c.in-Err-check.fault c.in-Ok.ensures.unit c.in-Ok.ensures.only holds) h.1)) c.refused-2.ensures
+    IfOk-weaker c.refused-in-Err-check.result _ _ (λ a h.
+    inr (h.0, refused_as c.args.text.now (fault.Unit c.in-Err-check.fault) a.text.items (unit_refused c.args.text.now names items c.in-Err-check.fault c.in-Ok.ensures.unit c.in-Ok.ensures.only holds) h.1)) c.refused-in-Err-check.ensures

@@ -1,11 +1,6 @@
-use Rattle.std.proofs.Common.{◌≡◌, inl, List, ℕ, sym, ap, subst, ◌∙◌}
+use Rattle.std.proofs.Common.{inl, ap}
 use Rattle.std.specs.Prelude.{Err}
-use Rattle.pungi_base.specs.declared.token.Token.{Token}
-use Rattle.pungi_base.specs.declared.kind.Kind.{Kind}
-use Rattle.pungi_lex.specs.Expander.{IsExpanded}
-use Rattle.pungi_lex.specs.Known.{AreKnown}
 use Rattle.pungi.proofs.Fronts.{err_same, ok_is_no_err, lexed, ready, lex_refused, macro_refused, parse_refused, is_unit, known_kinds, only_items}
-use Rattle.pungi.specs.Front.{AreKnownKinds}
 use Rattle.pungi.proofs.front.unit_of.Goals as goal
 
 pub returns-in-Err-clause-fault : goal.returns-in-Err-clause-fault
