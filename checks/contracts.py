@@ -49,7 +49,7 @@ def items(text):
         line = lines[at]
         impl = re.match(r"(?:impl|pub trait)\b(?:<[^>]*>)?\s*([\w:]+)(?:<.*?>)?(?:\s+for\s+([\w:]+))?", line)
         if impl:
-            # what a trait's impl does is told by the trait
+            # what a trait's impl does is described by the trait
             within = None if impl[2] else impl[1].rstrip(":").split("::")[-1]
             in_trait = line.startswith("pub trait")
             is_of_trait = bool(impl[2])

@@ -1,5 +1,5 @@
 #!/usr/bin/env python3
-"""failing_allocations.py [PROGRAM [FILE]]: makes each allocation of a run fail in turn, and tells how many were tried. The program
+"""failing_allocations.py [PROGRAM [FILE]]: makes each allocation of a run fail in turn, and reports how many were tried. The program
 is out/pungi of the crate pungi, and the file data/x.c, which has one function, unless they are named. A run must then end with
 status 8 and write nothing, or end as the run with ample memory does. It needs a C compiler."""
 import os

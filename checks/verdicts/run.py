@@ -106,7 +106,7 @@ def use(made, owned, borrowed, rng):
 
 
 def statements(rng):
-    """Statements that keep the rules: each is a text, or a condition with the statements behind it."""
+    """Statements that keep the rules: each is a text, or a condition with the statements after it."""
     made, owned, borrowed = [], [], []
     for number in range(rng.randint(1, 4)):
         begin(f"v{number}", made, owned, borrowed, rng)

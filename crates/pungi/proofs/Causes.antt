@@ -4,21 +4,21 @@ use Rattle.std.specs.Prelude.{IsNone}
 use Rattle.pungi_tree.specs.Syntax.{Item}
 use Rattle.pungi.specs.declared.read.TheConstants.{FILE_LIMIT}
 use Rattle.pungi.specs.declared.status.TheConstants.{FILE_UNREAD, FILE_REFUSED}
-use Rattle.pungi.specs.Settings.{file_of}
+use Rattle.pungi.specs.Settings.{file_word}
 use Rattle.pungi.specs.Read.{IsRead}
 use Rattle.pungi.specs.Examine.{IsReport}
 use Rattle.pungi.specs.Front.{IsFile, IsNoFile, IsRefusedAs}
 use Rattle.pungi.specs.Answer.{Answers, IsReported, IsRefusal, IsRefusedText, IsFileText, long_text}
 
--- the text that was read is the one that the shelf tells
-one_text : (words : List (List ℕ)) (texts : Option (List ℕ → Option (List ℕ))) (text file read : List ℕ) → IsFileText words texts text → file_of words ≡ Some file → IsRead texts file read → text ≡ read
+-- the text that was read is the one that the shelf shows
+one_text : (words : List (List ℕ)) (texts : Option (List ℕ → Option (List ℕ))) (text file read : List ℕ) → IsFileText words texts text → file_word words ≡ Some file → IsRead texts file read → text ≡ read
 one_text words None text file read is named was = absurd is
 one_text words (Some texts) text file read (other, other-named, told) named was =
     let same : other ≡ file = cc in
     let found : texts file ≡ Some text = subst (λ (f : List ℕ). texts f ≡ Some text) same told in
     cc
 
-named : (words : List (List ℕ)) (texts : Option (List ℕ → Option (List ℕ))) (text : List ℕ) → IsFileText words texts text → (file : List ℕ) × (file_of words ≡ Some file)
+named : (words : List (List ℕ)) (texts : Option (List ℕ → Option (List ℕ))) (text : List ℕ) → IsFileText words texts text → (file : List ℕ) × (file_word words ≡ Some file)
 named words None text is = absurd is
 named words (Some texts) text (file, is, told) = (file, is)
 
@@ -44,7 +44,7 @@ file_refused words texts unread status answer a text is refused read =
     let n = named words texts text is in
     let reported = λ (h : IsReported status).
     no_report (a.report h).1 status answer (a.report h).4 (a.report h).5 (subst IsRefusedText (one_text words texts text (a.report h).0 (a.report h).1 is (a.report h).2 (a.report h).3) refused) in
-    of_six a.one (λ h. absurd (reported (inl h))) (λ h. absurd (reported (inr (inl h)))) (λ h. absurd (reported (inr (inr h)))) (λ h. absurd (none_is_some (file_of words) n.0 n.1 (a.usage h).0)) (λ h. absurd (read h)) (λ h. h)
+    of_six a.one (λ h. absurd (reported (inl h))) (λ h. absurd (reported (inr (inl h)))) (λ h. absurd (reported (inr (inr h)))) (λ h. absurd (none_is_some (file_word words) n.0 n.1 (a.usage h).0)) (λ h. absurd (read h)) (λ h. h)
 
 pub file_judged : (words : List (List ℕ)) (texts : Option (List ℕ → Option (List ℕ))) (unread : Type 0) (status : ℕ) (answer : List ℕ) → Answers words texts unread status answer
     → (text : List ℕ) → IsFileText words texts text → length text ≤ FILE_LIMIT → (names : List (List ℕ)) (items : List Item) → IsFile text names items
@@ -54,4 +54,4 @@ file_judged words texts unread status answer a text is within names items file r
     let refused = λ (h : status ≡ FILE_REFUSED).
     let same = one_text words texts text (a.refused h).0 (a.refused h).1 is (a.refused h).2 (a.refused h).3 in
     no_refusal (a.refused h).1 answer names items (subst (λ (t : List ℕ). length t ≤ FILE_LIMIT) same within) (subst (λ (t : List ℕ). IsFile t names items) same file) (a.refused h).4 in
-    of_six a.one (λ h. inl h) (λ h. inr (inl h)) (λ h. inr (inr h)) (λ h. absurd (none_is_some (file_of words) n.0 n.1 (a.usage h).0)) (λ h. absurd (read h)) (λ h. absurd (refused h))
+    of_six a.one (λ h. inl h) (λ h. inr (inl h)) (λ h. inr (inr h)) (λ h. absurd (none_is_some (file_word words) n.0 n.1 (a.usage h).0)) (λ h. absurd (read h)) (λ h. absurd (refused h))

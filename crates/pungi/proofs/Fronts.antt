@@ -30,27 +30,27 @@ use Rattle.pungi_types.specs.Refused.{IsRefusedSet}
 use Rattle.pungi.specs.declared.file_fault.FileFault.{FileFault}
 use Rattle.pungi.specs.declared.file_fault.FileFault.TheVariants as fault
 use Rattle.pungi.specs.Examine.{IsReport, IsReportOn}
-use Rattle.pungi.specs.Front.{IsUnitOf, IsNoUnit, IsNoFile, IsRefusedAs, file_known, refused_text, IsUnitFault, IsParseFault, IsFaultOf, AreKnownKinds, told_of_lex, told_of_macro, told_of_parse, told_of_unit, told_of}
+use Rattle.pungi.specs.Front.{IsUnitOf, IsNoUnit, IsNoFile, IsRefusedAs, file_known, refused_text, IsUnitFault, IsParseFault, IsFaultOf, AreKnownKinds, lex_reason, macro_reason, parse_reason, unit_reason, reason_of}
 
-told_lex : (found : LexFault) (told : Pos × List ℕ) → told_of_lex found ≡ Some told → is_memory found ≡ false
-told_lex lex.Memory told h = absurd (cc)
-told_lex (lex.Byte at) told h = refl
-told_lex (lex.OpenComment at) told h = refl
-told_lex (lex.OpenText at) told h = refl
-told_lex (lex.Number at) told h = refl
+lex_known : (found : LexFault) (told : Pos × List ℕ) → lex_reason found ≡ Some told → is_memory found ≡ false
+lex_known lex.Memory told h = absurd (cc)
+lex_known (lex.Byte at) told h = refl
+lex_known (lex.OpenComment at) told h = refl
+lex_known (lex.OpenText at) told h = refl
+lex_known (lex.Number at) told h = refl
 
 pub lex_refused : (old : List (List ℕ)) (bytes : List ℕ) (found : LexFault) → old ≡ builtin_words → (is_memory found ≡ false → HasFault bytes found) → (is_memory found ≡ false → HasNoTokens old bytes)
-    → (told : Pos × List ℕ) → told_of (fault.Lex found) ≡ Some told → IsFaultOf bytes (fault.Lex found) × IsNoUnit bytes
+    → (told : Pos × List ℕ) → reason_of (fault.Lex found) ≡ Some told → IsFaultOf bytes (fault.Lex found) × IsNoUnit bytes
 lex_refused old bytes found is holds none told h =
-    let m = told_lex found told h in
+    let m = lex_known found told h in
     (holds m, λ names items file. none m names file.tokens (subst (λ (words : List (List ℕ)). AreTokensOf words names bytes file.tokens) (sym is) file.cut))
 
-told_macro : (found : MacroFault) (told : Pos × List ℕ) → told_of_macro found ≡ Some told → is_want_of_memory found ≡ false
-told_macro macro.Memory told h = absurd (cc)
-told_macro (macro.Directive at) told h = refl
-told_macro (macro.FunctionMacro at) told h = refl
-told_macro (macro.Redefined at) told h = refl
-told_macro (macro.TooManyTokens at) told h = refl
+macro_known : (found : MacroFault) (told : Pos × List ℕ) → macro_reason found ≡ Some told → is_want_of_memory found ≡ false
+macro_known macro.Memory told h = absurd (cc)
+macro_known (macro.Directive at) told h = refl
+macro_known (macro.FunctionMacro at) told h = refl
+macro_known (macro.Redefined at) told h = refl
+macro_known (macro.TooManyTokens at) told h = refl
 
 -- the tokens of a text, under the names after it, and no others
 pub record IsLexed (old new : List (List ℕ)) (text : List ℕ) (tokens : List Token) : Type 0 where
@@ -80,9 +80,9 @@ expansion_of old new text tokens l names items file =
 
 pub macro_refused : (old new : List (List ℕ)) (text : List ℕ) (tokens : List Token) (found : MacroFault) → IsLexed old new text tokens
     → (is_want_of_memory found ≡ false → HasMacroFault (length new) tokens found) → (is_want_of_memory found ≡ false → HasNoExpansion (length new) tokens)
-    → (told : Pos × List ℕ) → told_of (fault.Macro found) ≡ Some told → IsFaultOf text (fault.Macro found) × IsNoUnit text
+    → (told : Pos × List ℕ) → reason_of (fault.Macro found) ≡ Some told → IsFaultOf text (fault.Macro found) × IsNoUnit text
 macro_refused old new text tokens found l holds none told h =
-    let m = told_macro found told h in
+    let m = macro_known found told h in
     ((new, tokens, own_cut old new text tokens l, holds m), λ names items file. none m file.expanded (expansion_of old new text tokens l names items file))
 
 -- the tokens with their macros replaced, and no others
@@ -123,14 +123,14 @@ no_depth : (ts : List Placed) (p : Pos) (o : Option Pos) → too_deep 0 ts ≡ o
 no_depth ts p None h a = h
 no_depth ts p (Some q) h a = ⊎_elim (λ (e : parse.NotAUnit p ≡ parse.Deep q). absurd (cc)) (λ (e : parse.NotAUnit p ≡ parse.Memory). absurd (cc)) (a.first q h)
 
-parse_fault : (ts : List Placed) (found : ParseFault) (told : Pos × List ℕ) → told_of_parse found ≡ Some told → IsParsed ts found
+parse_fault : (ts : List Placed) (found : ParseFault) (told : Pos × List ℕ) → parse_reason found ≡ Some told → IsParsed ts found
     → IsParseFault ts found × ((items : List Item) → too_deep 0 ts ≡ None → IsUnit items ts → ⊥)
 parse_fault ts parse.Memory told h a = absurd (cc)
 parse_fault ts (parse.Deep p) told h a = (a.deep p refl, λ items n u. let d = a.deep p refl in cc)
 parse_fault ts (parse.NotAUnit p) told h a = ((no_depth ts p (too_deep 0 ts) refl a, a.not_a_unit p refl), λ items n u. let m = a.only items n u in cc)
 
 pub parse_refused : (old new : List (List ℕ)) (text : List ℕ) (tokens expanded : List Token) (found : ParseFault) → IsReady old new text tokens expanded → IsParsed (placed expanded) found
-    → (told : Pos × List ℕ) → told_of (fault.Parse found) ≡ Some told → IsFaultOf text (fault.Parse found) × IsNoUnit text
+    → (told : Pos × List ℕ) → reason_of (fault.Parse found) ≡ Some told → IsFaultOf text (fault.Parse found) × IsNoUnit text
 parse_refused old new text tokens expanded found r a told h =
     let f = parse_fault (placed expanded) found told h a in (
       (new, tokens, expanded, own_cut old new text tokens r.lexed, r.replaced, f.0),
@@ -171,11 +171,11 @@ no_unit_no_file : (text : List ℕ) → IsNoUnit text → IsNoFile text
 no_unit_no_file text none names items file = none names items file.spelled
 
 -- a text that spells nothing is no file
-pub no_file : (text : List ℕ) (found : FileFault) → ((told : Pos × List ℕ) → told_of found ≡ Some told → IsFaultOf text found × IsNoUnit text)
-    → (told : Pos × List ℕ) → told_of found ≡ Some told → IsFaultOf text found × IsNoFile text
+pub no_file : (text : List ℕ) (found : FileFault) → ((told : Pos × List ℕ) → reason_of found ≡ Some told → IsFaultOf text found × IsNoUnit text)
+    → (told : Pos × List ℕ) → reason_of found ≡ Some told → IsFaultOf text found × IsNoFile text
 no_file text found none told h = let n = none told h in (n.0, no_unit_no_file text n.1)
 
-unit_fault : (file : SourceFile) (found : UnitFault) (told : Pos × List ℕ) → told_of_unit found ≡ Some told → IsFaultOfUnit file found
+unit_fault : (file : SourceFile) (found : UnitFault) (told : Pos × List ℕ) → unit_reason found ≡ Some told → IsFaultOfUnit file found
     → IsUnitFault file found × (least (faults file) ≡ None → ⊥)
 unit_fault file unit.Memory told h a = absurd (cc)
 unit_fault file (unit.DuplicateName at) told h a = (a, λ n. let b = a in cc)
@@ -187,7 +187,7 @@ no_fault names others items more same h = subst (λ (is : List Item). least (fau
 
 pub unit_refused : (text : List ℕ) (names : List (List ℕ)) (items : List Item) (found : UnitFault) → IsUnitOf text names items
     → ((others : List (List ℕ)) (more : List Item) → IsUnitOf text others more → more ≡ items) → IsFaultOfUnit (file_known names items) found
-    → (told : Pos × List ℕ) → told_of (fault.Unit found) ≡ Some told → IsFaultOf text (fault.Unit found) × IsNoFile text
+    → (told : Pos × List ℕ) → reason_of (fault.Unit found) ≡ Some told → IsFaultOf text (fault.Unit found) × IsNoFile text
 unit_refused text names items found spelled only holds told h =
     let f = unit_fault (file_known names items) found told h holds in (
       (names, items, spelled, f.0),
@@ -207,8 +207,8 @@ report_on text names items x status report spelled same found is = record {
 }
 
 -- a text that is refused for this fault
-pub refused_as : (text : List ℕ) (found : FileFault) (answer : List ℕ) → ((told : Pos × List ℕ) → told_of found ≡ Some told → IsFaultOf text found × IsNoFile text)
-    → (at : Pos) × (reason : List ℕ) × (told_of found ≡ Some (at, reason)) × (answer ≡ refused_text at reason) → IsRefusedAs text answer
+pub refused_as : (text : List ℕ) (found : FileFault) (answer : List ℕ) → ((told : Pos × List ℕ) → reason_of found ≡ Some told → IsFaultOf text found × IsNoFile text)
+    → (at : Pos) × (reason : List ℕ) × (reason_of found ≡ Some (at, reason)) × (answer ≡ refused_text at reason) → IsRefusedAs text answer
 refused_as text found answer is said =
     let f = is (said.0, said.1) said.2 in
     record { none = f.1; cause = found; holds = f.0; at = said.0; reason = said.1; told = said.2; printed = said.3 }

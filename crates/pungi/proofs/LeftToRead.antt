@@ -4,7 +4,7 @@ use Rattle.pungi_base.specs.Sink.{Takes}
 use Rattle.pungi.specs.Read.{IsRead}
 use Rattle.pungi.specs.declared.read.TheConstants.{FILE_LIMIT}
 
--- where the texts are told, the bytes so far and what is left are the text of the name
+-- where the texts are known, the bytes so far and what is left are the text of the name
 abbrev pub Left : Option (List ℕ → Option (List ℕ)) → List ℕ → Option (List ℕ) → List ℕ → Type 0
 Left None name rest bytes = Unit {0}
 Left (Some texts) name None bytes = ⊥

@@ -4,7 +4,7 @@ use Rattle.pungi.specs.Answer.{Answers, IsReported}
 use Rattle.pungi.specs.Examine.{IsReport}
 use Rattle.pungi.specs.Front.{IsRefusedAs}
 use Rattle.pungi.specs.Read.{IsRead}
-use Rattle.pungi.specs.Settings.{file_of}
+use Rattle.pungi.specs.Settings.{file_word}
 use Rattle.pungi.specs.declared.read.TheConstants.{FILE_LIMIT}
 use Rattle.pungi.specs.declared.status.TheConstants.{ALL_CLEAN, SOME_FAULTY, SOME_OPEN, WORDS_REFUSED, FILE_UNREAD, FILE_REFUSED}
 
@@ -25,7 +25,7 @@ one_of_six : (status : ℕ) → IsReported status → (status ≡ ALL_CLEAN) ⊎
 one_of_six status h = ⊎_elim (λ a. inl a) (λ b. ⊎_elim (λ a. inr (inl a)) (λ a. inr (inr (inl a))) b) h
 
 pub text_answer : (words : List (List ℕ)) (texts opened : Option (List ℕ → Option (List ℕ))) (unread : Type 0) (status : ℕ) (answer file text read : List ℕ)
-    → file_of words ≡ Some file → opened ≡ texts → IsRead opened file text → length text ≤ FILE_LIMIT → read ≡ text → IsSaid read status answer → Answers words texts unread status answer
+    → file_word words ≡ Some file → opened ≡ texts → IsRead opened file text → length text ≤ FILE_LIMIT → read ≡ text → IsSaid read status answer → Answers words texts unread status answer
 text_answer words texts opened unread status answer file text read named same held within read-is said =
     let own : IsRead texts file text = subst (λ t. IsRead t file text) same held in
     ⊎_elim

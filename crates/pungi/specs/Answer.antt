@@ -1,8 +1,8 @@
--- What the program answers: its status, and the text that goes with it.
+-- What the program returns: its status, and the text that goes with it.
 --   usage_text, unread_text, long_text   the texts of one line
 --   IsRefusal text answer        a file with this text is refused, and the text that says why
 --   IsRefusedText text           a file with this text is refused
---   IsFileText words texts text  the shelf tells its texts, and this is the one of the file that the words name
+--   IsFileText words texts text  the shelf shows its texts, and this is the one of the file that the words name
 --   IsReported status            one of the statuses of a report
 --   Answers words texts unread status answer
 --                                a status other than the two of a cut answer and of want of memory, with the text that
@@ -16,7 +16,7 @@ use Rattle.pungi.specs.declared.status.TheConstants.{ALL_CLEAN, SOME_FAULTY, SOM
 use Rattle.pungi.specs.Examine.{IsReport}
 use Rattle.pungi.specs.Front.{IsNoFile, IsRefusedAs}
 use Rattle.pungi.specs.Read.{IsRead}
-use Rattle.pungi.specs.Settings.{file_of}
+use Rattle.pungi.specs.Settings.{file_word}
 
 abbrev pub usage_text : List ℕ
 usage_text = codes "usage: pungi [--config FILE] FILE.c, or pungi --trial N" ++ line_end
@@ -35,7 +35,7 @@ IsRefusedText text = (FILE_LIMIT < length text) ⊎ ((length text ≤ FILE_LIMIT
 
 abbrev pub IsFileText : List (List ℕ) → Option (List ℕ → Option (List ℕ)) → List ℕ → Type 0
 IsFileText words None text = ⊥
-IsFileText words (Some texts) text = (file : List ℕ) × (file_of words ≡ Some file) × (texts file ≡ Some text)
+IsFileText words (Some texts) text = (file : List ℕ) × (file_word words ≡ Some file) × (texts file ≡ Some text)
 
 abbrev pub IsReported : ℕ → Type 0
 IsReported status = (status ≡ ALL_CLEAN) ⊎ (status ≡ SOME_FAULTY) ⊎ (status ≡ SOME_OPEN)
@@ -43,13 +43,13 @@ IsReported status = (status ≡ ALL_CLEAN) ⊎ (status ≡ SOME_FAULTY) ⊎ (sta
 pub record Answers (words : List (List ℕ)) (texts : Option (List ℕ → Option (List ℕ))) (unread : Type 0) (status : ℕ) (answer : List ℕ) : Type 0 where
   pub one : (status ≡ ALL_CLEAN) ⊎ (status ≡ SOME_FAULTY) ⊎ (status ≡ SOME_OPEN) ⊎ (status ≡ WORDS_REFUSED) ⊎ (status ≡ FILE_UNREAD) ⊎ (status ≡ FILE_REFUSED)
   pub report : IsReported status → (file : List ℕ) × (text : List ℕ)
-      × (file_of words ≡ Some file) × IsRead texts file text × (length text ≤ FILE_LIMIT) × IsReport text status answer
-  pub usage : status ≡ WORDS_REFUSED → IsNone (file_of words) × (answer ≡ usage_text)
-  pub failed : status ≡ FILE_UNREAD → (file : List ℕ) × (file_of words ≡ Some file) × unread × (answer ≡ unread_text file)
-  pub refused : status ≡ FILE_REFUSED → (file : List ℕ) × (text : List ℕ) × (file_of words ≡ Some file) × IsRead texts file text × IsRefusal text answer
+      × (file_word words ≡ Some file) × IsRead texts file text × (length text ≤ FILE_LIMIT) × IsReport text status answer
+  pub usage : status ≡ WORDS_REFUSED → IsNone (file_word words) × (answer ≡ usage_text)
+  pub failed : status ≡ FILE_UNREAD → (file : List ℕ) × (file_word words ≡ Some file) × unread × (answer ≡ unread_text file)
+  pub refused : status ≡ FILE_REFUSED → (file : List ℕ) × (text : List ℕ) × (file_word words ≡ Some file) × IsRead texts file text × IsRefusal text answer
 
-abbrev pub IsAsked : List (List ℕ) → ℕ → Option (List (List ℕ)) → Option (List (List ℕ)) → Type 0
-IsAsked words status None after = Unit {0}
-IsAsked words status (Some before) None = ⊥
-IsAsked words status (Some before) (Some after) =
-    ((after ≡ before) × (status ≡ FILE_UNREAD → ⊥)) ⊎ ((file : List ℕ) × (file_of words ≡ Some file) × (after ≡ before ++ file ∷ []))
+abbrev pub IsOpened : List (List ℕ) → ℕ → Option (List (List ℕ)) → Option (List (List ℕ)) → Type 0
+IsOpened words status None after = Unit {0}
+IsOpened words status (Some before) None = ⊥
+IsOpened words status (Some before) (Some after) =
+    ((after ≡ before) × (status ≡ FILE_UNREAD → ⊥)) ⊎ ((file : List ℕ) × (file_word words ≡ Some file) × (after ≡ before ++ file ∷ []))

@@ -1,5 +1,5 @@
--- What is told of the files of the system.
---   left_of opened  what is left to read: nothing where no file was opened, and not told of one that was
+-- What is known of the files of the system.
+--   left_of opened  what is left to read: nothing where no file was opened, and unknown of one that was
 use Rattle.std.specs.Prelude.{ℕ, List, [], Option, None, Some}
 
 abbrev pub left_of : {A : Type 0} → Option A → Option (List ℕ)

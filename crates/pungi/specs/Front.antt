@@ -2,13 +2,14 @@
 --   IsUnitOf text names items the text spells these items, and these are its names: its tokens, their macros replaced, are the unit
 --   IsNoUnit text             it spells none
 --   IsFile text names items   a file: a text that spells these items, in which no name is used twice and no function is one too many
---   IsNoFile text             it is none
+--   IsNoFile text             it is no file
 --   IsParseFault ts fault     why tokens have no tree
 --   file_known names items    what is known of a file of these names and items
 --   IsUnitFault file fault    why what is known of a text is no file
 --   IsFaultOf text fault      why a text is refused, by its tokens, by its macros, by its grammar, or by its names
 --   AreKnownKinds names ks    the words and texts of tokens are among so many names
---   told_of_lex, told_of_macro, told_of_parse, told_of_unit, told_of    the place of a fault and its reason, unless it is want of memory
+--   lex_reason, macro_reason, parse_reason, unit_reason, reason_of      the place of a fault and its reason, unless it
+--                                                                       is want of memory
 --   refused_text at reason    the line of a refusal
 --   IsRefusedAs text answer   the text is no file, and this line says why
 use Rattle.std.specs.Prelude.{◌≡◌, ℕ, List, ◌++◌, length, Option, Some, None, codes}
@@ -19,7 +20,7 @@ use Rattle.pungi_base.specs.declared.token.Token.{Token}
 use Rattle.pungi_base.specs.Witness.{place_text, line_end}
 use Rattle.pungi_base.specs.Words.{builtin_words}
 use Rattle.pungi_api.specs.Rows.{builtin_rows}
-use Rattle.pungi_check.specs.Faults.{told}
+use Rattle.pungi_check.specs.Faults.{finding_at}
 use Rattle.pungi_check.specs.declared.fault.UnitFault.{UnitFault}
 use Rattle.pungi_check.specs.declared.fault.UnitFault.TheVariants as unit
 use Rattle.pungi_lex.specs.declared.lex_fault.LexFault.{LexFault}
@@ -68,8 +69,8 @@ IsParseFault ts (parse.NotAUnit at) = (too_deep 0 ts ≡ None) × StopsAt ts at
 
 abbrev pub IsUnitFault : SourceFile → UnitFault → Type 0
 IsUnitFault file unit.Memory = ⊥
-IsUnitFault file (unit.DuplicateName at) = least (faults file) ≡ told at 1
-IsUnitFault file (unit.TooManyFunctions at) = least (faults file) ≡ told at 2
+IsUnitFault file (unit.DuplicateName at) = least (faults file) ≡ finding_at at 1
+IsUnitFault file (unit.TooManyFunctions at) = least (faults file) ≡ finding_at at 2
 
 abbrev pub IsFaultOf : List ℕ → FileFault → Type 0
 IsFaultOf text (fault.Lex found) = HasFault text found
@@ -81,35 +82,35 @@ IsFaultOf text (fault.Unit found) = (names : List (List ℕ)) × (items : List I
 abbrev pub AreKnownKinds : ℕ → List Kind → Type 0
 AreKnownKinds names ks = All (λ k. IsKnown names k) ks
 
-abbrev pub told_of_lex : LexFault → Option (Pos × List ℕ)
-told_of_lex lex.Memory = None
-told_of_lex (lex.Byte at) = Some (at, codes "byte")
-told_of_lex (lex.OpenComment at) = Some (at, codes "open comment")
-told_of_lex (lex.OpenText at) = Some (at, codes "open text")
-told_of_lex (lex.Number at) = Some (at, codes "number")
+abbrev pub lex_reason : LexFault → Option (Pos × List ℕ)
+lex_reason lex.Memory = None
+lex_reason (lex.Byte at) = Some (at, codes "byte")
+lex_reason (lex.OpenComment at) = Some (at, codes "open comment")
+lex_reason (lex.OpenText at) = Some (at, codes "open text")
+lex_reason (lex.Number at) = Some (at, codes "number")
 
-abbrev pub told_of_macro : MacroFault → Option (Pos × List ℕ)
-told_of_macro macro.Memory = None
-told_of_macro (macro.Directive at) = Some (at, codes "directive")
-told_of_macro (macro.FunctionMacro at) = Some (at, codes "function macro")
-told_of_macro (macro.Redefined at) = Some (at, codes "redefined")
-told_of_macro (macro.TooManyTokens at) = Some (at, codes "too many tokens")
+abbrev pub macro_reason : MacroFault → Option (Pos × List ℕ)
+macro_reason macro.Memory = None
+macro_reason (macro.Directive at) = Some (at, codes "directive")
+macro_reason (macro.FunctionMacro at) = Some (at, codes "function macro")
+macro_reason (macro.Redefined at) = Some (at, codes "redefined")
+macro_reason (macro.TooManyTokens at) = Some (at, codes "too many tokens")
 
-abbrev pub told_of_parse : ParseFault → Option (Pos × List ℕ)
-told_of_parse parse.Memory = None
-told_of_parse (parse.Deep at) = Some (at, codes "nested over 64")
-told_of_parse (parse.NotAUnit at) = Some (at, codes "not a unit")
+abbrev pub parse_reason : ParseFault → Option (Pos × List ℕ)
+parse_reason parse.Memory = None
+parse_reason (parse.Deep at) = Some (at, codes "nested over 64")
+parse_reason (parse.NotAUnit at) = Some (at, codes "not a unit")
 
-abbrev pub told_of_unit : UnitFault → Option (Pos × List ℕ)
-told_of_unit unit.Memory = None
-told_of_unit (unit.DuplicateName at) = Some (at, codes "duplicate name")
-told_of_unit (unit.TooManyFunctions at) = Some (at, codes "too many functions")
+abbrev pub unit_reason : UnitFault → Option (Pos × List ℕ)
+unit_reason unit.Memory = None
+unit_reason (unit.DuplicateName at) = Some (at, codes "duplicate name")
+unit_reason (unit.TooManyFunctions at) = Some (at, codes "too many functions")
 
-abbrev pub told_of : FileFault → Option (Pos × List ℕ)
-told_of (fault.Lex found) = told_of_lex found
-told_of (fault.Macro found) = told_of_macro found
-told_of (fault.Parse found) = told_of_parse found
-told_of (fault.Unit found) = told_of_unit found
+abbrev pub reason_of : FileFault → Option (Pos × List ℕ)
+reason_of (fault.Lex found) = lex_reason found
+reason_of (fault.Macro found) = macro_reason found
+reason_of (fault.Parse found) = parse_reason found
+reason_of (fault.Unit found) = unit_reason found
 
 abbrev pub refused_text : Pos → List ℕ → List ℕ
 refused_text at reason = (codes "file refused " ++ place_text at ++ codes " ") ++ (reason ++ line_end)
@@ -121,5 +122,5 @@ pub record IsRefusedAs (text answer : List ℕ) : Type 0 where
   pub holds : IsFaultOf text cause
   pub at : Pos
   pub reason : List ℕ
-  pub told : told_of cause ≡ Some (at, reason)
+  pub told : reason_of cause ≡ Some (at, reason)
   pub printed : answer ≡ refused_text at reason

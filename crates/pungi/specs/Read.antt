@@ -1,5 +1,5 @@
 -- What was read of a file.
---   IsRead texts file text        the text that was read: where the shelf tells its texts, the one of that name
+--   IsRead texts file text        the text that was read: where the shelf shows its texts, the one of that name
 --   IsReading texts file reading  the text of that name within the limit, or that it is over the limit
 use Rattle.std.specs.Prelude.{◌≡◌, ℕ, ◌≤◌, ◌<◌, List, length, Option, None, Some}
 use Rattle.pungi.specs.declared.read.TheConstants.{FILE_LIMIT}

@@ -15,7 +15,7 @@ pub struct Answer {
 }
 
 /// An answer of one line.
-pub fn told(alloc: Global, status: u8, line: &str) -> Result<Answer, Memory>
+pub fn message(alloc: Global, status: u8, line: &str) -> Result<Answer, Memory>
     ensures { IfOk result (λ a. (a.status ≡ status) × (a.text.items ≡ line.now ++ 10 ∷ [])) }
 {
     let mut text = Vec::from_slice(alloc, line.as_bytes())?;
@@ -24,7 +24,7 @@ pub fn told(alloc: Global, status: u8, line: &str) -> Result<Answer, Memory>
 }
 
 /// That the file can't be read.
-pub fn unread(alloc: Global, file: &str) -> Result<Answer, Memory>
+pub fn unread_answer(alloc: Global, file: &str) -> Result<Answer, Memory>
     ensures { IfOk result (λ a. (a.status ≡ FILE_UNREAD) × (a.text.items ≡ unread_text file.now)) }
 {
     let mut text = Vec::from_slice(alloc, b"cannot read ")?;

@@ -2,14 +2,14 @@ ghost use Rattle.std.specs.Prelude.{◌≡◌, ◌⊎◌, ◌≤◌, length, IfO
 ghost use Rattle.std.specs.List.{list_any};
 ghost use Rattle.pungi_check.specs.Found.{checked_view, IsChecked};
 ghost use Rattle.pungi_tree.specs.UnitFlat.{items_flat};
-ghost use Rattle.pungi.specs.Examine.{IsReport, IsReportOn, is_faulty, is_open as is_open_of, status_of};
+ghost use Rattle.pungi.specs.Examine.{IsReport, IsReportOn, is_faulty, is_open, status_of};
 ghost use Rattle.pungi.specs.Front.{AreKnownKinds, IsRefusedAs};
 
 use crate::answer::Answer;
 use crate::file_fault::FileFault;
 use crate::front::unit_of;
 use crate::read::FILE_LIMIT;
-use crate::refusal::refused;
+use crate::refusal::refusal_answer;
 use crate::status::{ALL_CLEAN, FILE_REFUSED, SOME_FAULTY, SOME_OPEN};
 use pungi_api::Table;
 use pungi_base::{Memory, Name, Names, Verdict};
@@ -18,7 +18,7 @@ use pungi_report::report;
 use pungi_verdict::judge_all;
 use std::alloc::Global;
 
-fn is_fault(verdict: &Verdict) -> bool
+fn is_faulty(verdict: &Verdict) -> bool
     ensures { result ≡ is_faulty verdict.now }
 {
     match verdict {
@@ -28,7 +28,7 @@ fn is_fault(verdict: &Verdict) -> bool
 }
 
 fn is_open(verdict: &Verdict) -> bool
-    ensures { result ≡ is_open_of verdict.now }
+    ensures { result ≡ is_open verdict.now }
 {
     match verdict {
         Verdict::Unknown(_) | Verdict::Refused(..) => true,
@@ -39,11 +39,11 @@ fn is_open(verdict: &Verdict) -> bool
 fn has_fault(lines: &[(Name, Verdict)]) -> bool
     ensures { result ≡ list_any (λ line. is_faulty line.1) lines.now }
 {
-    lines.iter().any(|line| is_fault(&line.1))
+    lines.iter().any(|line| is_faulty(&line.1))
 }
 
 fn has_open(lines: &[(Name, Verdict)]) -> bool
-    ensures { result ≡ list_any (λ line. is_open_of line.1) lines.now }
+    ensures { result ≡ list_any (λ line. is_open line.1) lines.now }
 {
     lines.iter().any(|line| is_open(&line.1))
 }
@@ -83,10 +83,10 @@ pub(crate) fn examine(alloc: Global, text: &[u8]) -> Result<Answer, Memory>
     let mut names = Names::builtin(alloc)?;
     let unit = match unit_of(alloc, &mut names, text) {
         Ok(unit) => unit,
-        Err(fault) => return refused(alloc, &fault),
+        Err(fault) => return refusal_answer(alloc, &fault),
     };
     match check(alloc, &names, &unit, &rows) {
         Ok(checked) => reported(alloc, &names, &checked),
-        Err(fault) => refused(alloc, &FileFault::Unit(fault)),
+        Err(fault) => refusal_answer(alloc, &FileFault::Unit(fault)),
     }
 }

@@ -6,7 +6,7 @@ use std::alloc::Global;
 use std::fs::File;
 use std::io::Read;
 
-/// The files of the system, by their paths. It tells nothing of what they hold.
+/// The files of the system, by their paths. It shows nothing of what they hold.
 #[derive(Drop)]
 pub struct FolderShelf<'a> {
     files: &'a HostRuntime,

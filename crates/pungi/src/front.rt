@@ -4,7 +4,7 @@ ghost use Rattle.pungi_base.specs.Words.{builtin_words};
 ghost use Rattle.pungi_tree.specs.Syntax.{Item};
 ghost use Rattle.pungi_tree.specs.UnitFlat.{items_flat};
 ghost use Rattle.pungi_tree.specs.UnitView.{unit_view};
-ghost use Rattle.pungi.specs.Front.{IsUnitOf, IsNoUnit, IsFaultOf, AreKnownKinds, told_of};
+ghost use Rattle.pungi.specs.Front.{IsUnitOf, IsNoUnit, IsFaultOf, AreKnownKinds, reason_of};
 
 use crate::file_fault::FileFault;
 use crate::read::FILE_LIMIT;
@@ -22,7 +22,7 @@ pub(crate) fn unit_of(alloc: Global, names: &mut Names, text: &[u8]) -> Result<U
     ensures only { IfOk result (λ unit. (others : List (List ℕ)) (items : List Item) → IsUnitOf text.now others items → items ≡ unit_view unit) }
     ensures known { IfOk result (λ unit. AreKnownKinds (length names.new) (items_flat (unit_view unit))) }
     ensures few { IfOk result (λ unit. length (items_flat (unit_view unit)) ≤ TOKEN_LIMIT) }
-    ensures fault { IfErr result (λ fault. (told : Pos × List ℕ) → told_of fault ≡ Some told → IsFaultOf text.now fault × IsNoUnit text.now) }
+    ensures fault { IfErr result (λ fault. (told : Pos × List ℕ) → reason_of fault ≡ Some told → IsFaultOf text.now fault × IsNoUnit text.now) }
 {
     let tokens = match lex(alloc, names, text) {
         Ok(tokens) => tokens,

@@ -34,7 +34,7 @@ mod tests;
 #[cfg(test)]
 mod verdict_tests;
 
-/// The words of the command. Where the system refuses them for another cause than memory, there are none.
+/// The words of the command: an empty list where the system refuses them for another cause than memory.
 fn words_of(rt: &HostRuntime) -> Result<Vec<String>, Memory> {
     match env::args(rt) {
         Ok(words) => Ok(words.collect(rt.alloc())?),

@@ -3,7 +3,7 @@ ghost use Rattle.std.specs.Prelude.{◌≡◌, None};
 use pungi_base::{Failed, Sink};
 use std::io::{Stdout, Write};
 
-/// The standard output. It tells nothing of the bytes that it took.
+/// The standard output. It shows nothing of the bytes that it took.
 #[derive(Drop)]
 pub struct OutSink {
     out: Stdout,

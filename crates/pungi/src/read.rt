@@ -8,7 +8,7 @@ use std::alloc::{AllocError, Global};
 /// How many bytes a file has at most.
 pub const FILE_LIMIT: usize = 1048576;
 
-/// How many bytes are asked for at a time.
+/// How many bytes are requested at a time.
 const PIECE: usize = 65536;
 
 /// What a file holds, or that it is over the limit.

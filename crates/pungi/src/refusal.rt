@@ -1,6 +1,6 @@
 ghost use Rattle.std.specs.Prelude.{◌≡◌, IfOk, option_map, List, ℕ, Some};
 ghost use Rattle.pungi_base.specs.declared.pos.Pos.{Pos as ThePos};
-ghost use Rattle.pungi.specs.Front.{told_of_lex, told_of_macro, told_of_parse, told_of_unit, told_of, refused_text};
+ghost use Rattle.pungi.specs.Front.{lex_reason, macro_reason, parse_reason, unit_reason, reason_of, refused_text};
 
 use crate::answer::Answer;
 use crate::file_fault::FileFault;
@@ -11,8 +11,8 @@ use pungi_lex::{LexFault, MacroFault};
 use pungi_parse::ParseFault;
 use std::alloc::Global;
 
-fn told_by_lex(fault: &LexFault) -> Option<(Pos, &'static str)>
-    ensures { option_map (λ x. (x.0, x.1.now)) result ≡ told_of_lex fault.now }
+fn lex_reason(fault: &LexFault) -> Option<(Pos, &'static str)>
+    ensures { option_map (λ x. (x.0, x.1.now)) result ≡ lex_reason fault.now }
 {
     match fault {
         LexFault::Memory => None,
@@ -23,8 +23,8 @@ fn told_by_lex(fault: &LexFault) -> Option<(Pos, &'static str)>
     }
 }
 
-fn told_by_expand(fault: &MacroFault) -> Option<(Pos, &'static str)>
-    ensures { option_map (λ x. (x.0, x.1.now)) result ≡ told_of_macro fault.now }
+fn macro_reason(fault: &MacroFault) -> Option<(Pos, &'static str)>
+    ensures { option_map (λ x. (x.0, x.1.now)) result ≡ macro_reason fault.now }
 {
     match fault {
         MacroFault::Memory => None,
@@ -35,8 +35,8 @@ fn told_by_expand(fault: &MacroFault) -> Option<(Pos, &'static str)>
     }
 }
 
-fn told_by_parse(fault: &ParseFault) -> Option<(Pos, &'static str)>
-    ensures { option_map (λ x. (x.0, x.1.now)) result ≡ told_of_parse fault.now }
+fn parse_reason(fault: &ParseFault) -> Option<(Pos, &'static str)>
+    ensures { option_map (λ x. (x.0, x.1.now)) result ≡ parse_reason fault.now }
 {
     match fault {
         ParseFault::Memory => None,
@@ -45,8 +45,8 @@ fn told_by_parse(fault: &ParseFault) -> Option<(Pos, &'static str)>
     }
 }
 
-fn told_by_check(fault: &UnitFault) -> Option<(Pos, &'static str)>
-    ensures { option_map (λ x. (x.0, x.1.now)) result ≡ told_of_unit fault.now }
+fn unit_reason(fault: &UnitFault) -> Option<(Pos, &'static str)>
+    ensures { option_map (λ x. (x.0, x.1.now)) result ≡ unit_reason fault.now }
 {
     match fault {
         UnitFault::Memory => None,
@@ -56,18 +56,18 @@ fn told_by_check(fault: &UnitFault) -> Option<(Pos, &'static str)>
 }
 
 /// The place of a fault and its reason. None for want of memory.
-fn told(fault: &FileFault) -> Option<(Pos, &'static str)>
-    ensures { option_map (λ x. (x.0, x.1.now)) result ≡ told_of fault.now }
+fn reason_of(fault: &FileFault) -> Option<(Pos, &'static str)>
+    ensures { option_map (λ x. (x.0, x.1.now)) result ≡ reason_of fault.now }
 {
     match fault {
-        FileFault::Lex(fault) => told_by_lex(fault),
-        FileFault::Macro(fault) => told_by_expand(fault),
-        FileFault::Parse(fault) => told_by_parse(fault),
-        FileFault::Unit(fault) => told_by_check(fault),
+        FileFault::Lex(fault) => lex_reason(fault),
+        FileFault::Macro(fault) => macro_reason(fault),
+        FileFault::Parse(fault) => parse_reason(fault),
+        FileFault::Unit(fault) => unit_reason(fault),
     }
 }
 
-fn line(alloc: Global, at: Pos, reason: &str) -> Result<Vec<u8>, Memory>
+fn refusal_line(alloc: Global, at: Pos, reason: &str) -> Result<Vec<u8>, Memory>
     ensures { IfOk result (λ text. text.items ≡ refused_text at reason.now) }
 {
     let place = format!(in alloc; "file refused {at} ")?;
@@ -78,15 +78,15 @@ fn line(alloc: Global, at: Pos, reason: &str) -> Result<Vec<u8>, Memory>
 }
 
 /// That a file is refused, and why.
-pub(crate) fn refused(alloc: Global, fault: &FileFault) -> Result<Answer, Memory>
+pub(crate) fn refusal_answer(alloc: Global, fault: &FileFault) -> Result<Answer, Memory>
     ensures { IfOk result (λ a. (a.status ≡ FILE_REFUSED)
-        × ((at : ThePos) × (reason : List ℕ) × (told_of fault.now ≡ Some (at, reason)) × (a.text.items ≡ refused_text at reason))) }
+        × ((at : ThePos) × (reason : List ℕ) × (reason_of fault.now ≡ Some (at, reason)) × (a.text.items ≡ refused_text at reason))) }
 {
-    let Some((at, reason)) = told(fault) else {
+    let Some((at, reason)) = reason_of(fault) else {
         return Err(Memory);
     };
     Ok(Answer {
         status: FILE_REFUSED,
-        text: line(alloc, at, reason)?,
+        text: refusal_line(alloc, at, reason)?,
     })
 }

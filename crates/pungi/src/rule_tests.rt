@@ -1,5 +1,5 @@
 //! Rules of functions: where each holds, where it holds at a later place, where it nearly holds, and where it holds beside
-//! another one. What is told is written by hand from the rules.
+//! another one. The expected findings are written by hand from the rules.
 
 use crate::tests::is_told;
 use pungi_base::Memory;
@@ -443,7 +443,7 @@ const RULE_14: &[(&str, &str)] = &[
     ),
 ];
 
-/// Whether this is told of a file of these functions.
+/// Whether this is reported of a file of these functions.
 fn are_told(alloc: Global, rows: &[(&str, &str)]) -> Result<bool, Memory> {
     let mut text = String::from_str(alloc, DECLARED)?;
     let mut lines = String::new(alloc);

@@ -5,7 +5,7 @@ use pungi_base::Memory;
 use std::alloc::Global;
 use std::test::Fail;
 
-/// A function with this many statements in front of a last one, behind these declarations.
+/// A function with this many statements in front of a last one, after these declarations.
 fn long_function(
     alloc: Global,
     declared: &str,

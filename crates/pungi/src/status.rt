@@ -1,6 +1,6 @@
 //! The statuses with which the program ends.
 
-/// Every function is clean, also where there is none.
+/// Every function is clean, also in a file without functions.
 pub const ALL_CLEAN: u8 = 0;
 
 /// Some function is faulty.

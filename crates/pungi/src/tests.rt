@@ -35,7 +35,7 @@ fn judge<O: Sink>(alloc: Global, text: &[u8], out: &mut O) -> Result<u8, Memory>
     Ok(pungi(alloc, &words, &mut shelf, out))
 }
 
-/// The status and the text on a file that is read and answered without a fault.
+/// The status and the text on a file where each read and write succeeds.
 fn told(alloc: Global, text: &[u8]) -> Result<(u8, Vec<u8>), Memory> {
     let mut out = SureSink::new(alloc, 4096)?;
     let status = judge(alloc, text, &mut out)?;

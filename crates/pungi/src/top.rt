@@ -2,11 +2,11 @@ ghost use Rattle.std.specs.Prelude.{◌≡◌, ◌≢◌, ℕ, ◌≤◌, ◌++�
 ghost use Rattle.pungi_base.specs.Shelf.{Rose};
 ghost use Rattle.pungi_base.specs.Sink.{Takes};
 ghost use Rattle.pungi_tree.specs.Syntax.{Item};
-ghost use Rattle.pungi.specs.Answer.{Answers, IsAsked, IsFileText, IsRefusedText, IsReported};
+ghost use Rattle.pungi.specs.Answer.{Answers, IsOpened, IsFileText, IsRefusedText, IsReported};
 ghost use Rattle.pungi.specs.Front.{IsFile};
-ghost use Rattle.pungi.specs.Settings.{file_of};
+ghost use Rattle.pungi.specs.Settings.{file_word};
 
-use crate::answer::{Answer, told, unread};
+use crate::answer::{Answer, message, unread_answer};
 use crate::examine::examine;
 use crate::read::{FILE_LIMIT, Reading, read_opened};
 use crate::settings::file_word;
@@ -15,16 +15,16 @@ use crate::write::write_all;
 use pungi_base::{Memory, OpenFault, Shelf, Sink};
 use std::alloc::Global;
 
-/// What the program answers.
+/// What the program returns.
 fn decide<F: Shelf>(alloc: Global, words: &[String], shelf: &mut F) -> Result<Answer, Memory>
     ensures answer { IfOk result (λ a. Answers (map string_bytes words.now) (F.texts shelf.old) (Rose (F.faults shelf.old) (F.faults shelf.new)) a.status a.text.items) }
-    ensures asked { IfOk result (λ a. IsAsked (map string_bytes words.now) a.status (F.given shelf.old) (F.given shelf.new)) }
-    ensures unasked { OnErr result (IsAsked (map string_bytes words.now) MEMORY_WANTED (F.given shelf.old) (F.given shelf.new)) }
+    ensures asked { IfOk result (λ a. IsOpened (map string_bytes words.now) a.status (F.given shelf.old) (F.given shelf.new)) }
+    ensures unasked { OnErr result (IsOpened (map string_bytes words.now) MEMORY_WANTED (F.given shelf.old) (F.given shelf.new)) }
     ensures later { F.faults shelf.old ≤ F.faults shelf.new }
     ensures texts { F.texts shelf.new ≡ F.texts shelf.old }
 {
     let Some(file) = file_word(words) else {
-        return told(
+        return message(
             alloc,
             WORDS_REFUSED,
             "usage: pungi [--config FILE] FILE.c, or pungi --trial N",
@@ -32,20 +32,20 @@ fn decide<F: Shelf>(alloc: Global, words: &[String], shelf: &mut F) -> Result<An
     };
     match shelf.open(alloc, file) {
         Ok(()) => {}
-        Err(OpenFault::Failed) => return unread(alloc, file),
+        Err(OpenFault::Failed) => return unread_answer(alloc, file),
         Err(OpenFault::Memory) => return Err(Memory),
     }
     let text = match read_opened(alloc, shelf, file) {
         Ok(Reading::Text(text)) => text,
-        Ok(Reading::Long) => return told(alloc, FILE_REFUSED, "file refused over 1048576 bytes"),
-        Err(OpenFault::Failed) => return unread(alloc, file),
+        Ok(Reading::Long) => return message(alloc, FILE_REFUSED, "file refused over 1048576 bytes"),
+        Err(OpenFault::Failed) => return unread_answer(alloc, file),
         Err(OpenFault::Memory) => return Err(Memory),
     };
     examine(alloc, &text)
 }
 
 /// Judges the functions of the file that the words name, and writes the report. `words[0]` is the program's name. It
-/// answers the status with which the program ends (see `status`).
+/// returns the status with which the program ends (see `status`).
 ///
 /// The claim: where the report calls a function clean, then in every run of the subset's meaning on the file's own
 /// text, for any arguments, API results and failures, every object's count has at each return changed by exactly the
@@ -66,11 +66,11 @@ pub fn pungi<F: Shelf, O: Sink>(alloc: Global, words: &[String], shelf: &mut F, 
     // For want of memory nothing was written, and no write was tried that failed.
     ensures memory { result ≡ MEMORY_WANTED → (O.taken out.new ≡ O.taken out.old) × (O.faults out.new ≡ O.faults out.old) }
 
-    // The shelf was asked for no file but the one that the words name.
-    ensures asked { IsAsked (map string_bytes words.now) result (F.given shelf.old) (F.given shelf.new) }
+    // No file was opened but the one that the words name.
+    ensures asked { IsOpened (map string_bytes words.now) result (F.given shelf.old) (F.given shelf.new) }
 
     // Where a cause holds, its status comes, unless a call failed or memory ran out.
-    ensures words { IsNone (file_of (map string_bytes words.now)) → result ≢ ANSWER_CUT → result ≢ MEMORY_WANTED → result ≡ WORDS_REFUSED }
+    ensures words { IsNone (file_word (map string_bytes words.now)) → result ≢ ANSWER_CUT → result ≢ MEMORY_WANTED → result ≡ WORDS_REFUSED }
     ensures file { (text : List ℕ) → IsFileText (map string_bytes words.now) (F.texts shelf.old) text → IsRefusedText text
         → result ≢ FILE_UNREAD → result ≢ ANSWER_CUT → result ≢ MEMORY_WANTED → result ≡ FILE_REFUSED }
     ensures judged { (text : List ℕ) → IsFileText (map string_bytes words.now) (F.texts shelf.old) text → length text ≤ FILE_LIMIT

@@ -1,5 +1,5 @@
-//! What is told of whole functions: those of the manual's calls on their failure paths, fields, globals, comparisons, and what
-//! is not judged yet. The places, changes and escapes were worked out by hand.
+//! What is reported of whole functions: those of the manual's calls on their failure paths, fields, globals,
+//! comparisons, and what is not judged yet. The places, changes and escapes were worked out by hand.
 
 use crate::tests::is_told;
 use pungi_base::Memory;
@@ -195,7 +195,7 @@ fn twenty(alloc: Global) -> Result<String, Memory> {
     Ok(text)
 }
 
-/// A function that asks of each of so many arguments whether it is `NULL`: it has 2 to the number traces.
+/// A function that tests of each of so many arguments whether it is `NULL`: it has 2 to the number traces.
 fn asking(alloc: Global, count: u32) -> Result<String, Memory> {
     let mut text = String::from_str(alloc, "void f(PyObject *p0")?;
     for k in 1..count {

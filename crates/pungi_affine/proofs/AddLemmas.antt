@@ -123,7 +123,7 @@ zero_not_large w d ls v kept zeros r h = member_not_large w d ls v kept (in_zero
     (λ s l. kept_not_large w (pos 1) [] (none_kept w kept.narrow) s
     (large_row_same w (Plus w (Zero w) v) (InSpan w []) (same_chain (Plus w (Zero w) v) (Plus w (InSpan w []) v) (InSpan w []) (plus_same w (Zero w) (InSpan w []) (zero_span w) v v (λ i lt. refl)) (member_plus w [] v (in_zero w [] v zeros))) s l)) r h
 
--- what is left of a vector tells whether it is a member
+-- what is left of a vector shows whether it is a member
 pub left_member : (w : ℕ) (d : ℤ) (ls : List Line) (p u : List ℤ) → IsKept w d ls → length p ≡ w → IsResidual d ls p u → ((i : ℕ) → i < length u → at u i ≡ pos 0) → InSpan w (vectors ls) (at p)
 left_member w d ls p u kept len left zeros = passes_in w d ls kept.form (at p) (λ i lt.
     let i_p : i < length p = omega (arith, len, lt) in

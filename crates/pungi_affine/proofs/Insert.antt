@@ -9,7 +9,7 @@ use Rattle.pungi_domain.specs.Vectors.{at}
 use Rattle.pungi_affine.specs.Forms.{Line, line, no_line}
 use Rattle.pungi_affine.specs.Steps.{residual, Steps}
 
--- where the old row at a place stands behind the new one's insertion
+-- where the old row at a place stands after the new one's insertion
 abbrev pub shifted : ℕ → ℕ → ℕ
 shifted p k = cond (ltb k p) k (k + 1)
 

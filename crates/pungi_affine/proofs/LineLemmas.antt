@@ -30,7 +30,7 @@ lines_at rs k d lt = mapped_at line_of rs k d lt
 pub lines_length : (rs : List Row) → length (lines rs) ≡ length rs
 lines_length rs = length-map rs line_of
 
--- what is told of a row is told of its line, and back
+-- what is known of a row is known of its line, and back
 pub to_line : (P : Line → Type 0) (rs : List WideRow) (k : ℕ) (r : WideRow) → k < length rs → r ≡ slice_index_or rs k r → P (wide_line r) → P (line (wide_lines rs) k)
 to_line P rs k r lt is h = subst P (ap wide_line is ∙ sym (mapped_at wide_line rs k r lt)) h
 

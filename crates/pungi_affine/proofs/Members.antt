@@ -30,7 +30,7 @@ module _ (w : ℕ) (S T : Vectors) (s : SameMembers S T) where
   pub scale_same : (d : ℤ) → IsScale w S d → IsScale w T d
   scale_same d h = record { positive = h.positive; rows = λ q piv. let f = h.rows q (pivot_back q piv) in (f.0, row_same d q f.0 f.1) }
 
-  -- a sum of S and a vector, told by T and a vector that is the same up to the width
+  -- a sum of S and a vector, as that of T and a vector that is the same up to the width
   pub plus_to : (u v : Vector) → ((i : ℕ) → i < w → u i ≡ v i) → (x : Vector) → Plus w S u x → Plus w T v x
   plus_to u v e x h = record {
     times = h.times;

@@ -1,4 +1,4 @@
--- The cause of Range, told of another statement of it.
+-- The cause of Range, for another statement of it.
 use Rattle.std.proofs.Common.{ℤ, true, List, Result, Ok, Err}
 use Rattle.std.specs.Prelude.{IfOk}
 use Rattle.pungi_domain.specs.Domain.{RangeIs}

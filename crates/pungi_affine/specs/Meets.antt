@@ -1,10 +1,10 @@
 -- The vectors of a span that meet an equation.
 --   AreSums t e ls s        s has for each row its coefficients times entries, summed up, times the number t, which isn't 0
 --   IsLastOf s p            p is the last place with an entry other than 0
---   LastOf s o              o is the last place with an entry other than 0; none where there is none
+--   LastOf s o              o is the last place with an entry other than 0; `None` where all are 0
 --   IsCrossed a l b k m     m is the a-fold of the row l less the b-fold of the row k, at the pivot of l
 --   AreCrossed s p ls ms    ms are the rows of ls times s's entry at p, less the row at p times s's entry at theirs
---   crossed_at a l b k i    an entry of such a row
+--   crossed_entry a l b k i    an entry of such a row
 --   IsTurned s p r          r is a multiple of s with an entry above 0 at p
 --   IsMetForm d ls s p e ms ms are the crossed rows without the one at p, and e is their scale
 use Rattle.std.specs.Prelude.{◌≡◌, ℕ, ◌<◌, ℤ, pos, ◌-ℤ◌, ◌*ℤ◌, ◌<ℤ◌, List, length, Option, None, Some}
@@ -38,8 +38,8 @@ pub record AreCrossed (s : List ℤ) (p : ℕ) (ls ms : List Line) : Type 0 wher
   pub count : length ms ≡ length ls
   pub each : (k : ℕ) → k < length ls → IsCrossed (at s p) (line ls k) (at s k) (line ls p) (line ms k)
 
-abbrev pub crossed_at : ℤ → Line → ℤ → Line → ℕ → ℤ
-crossed_at a l b k i = (a *ℤ at l.entries i) -ℤ (b *ℤ at k.entries i)
+abbrev pub crossed_entry : ℤ → Line → ℤ → Line → ℕ → ℤ
+crossed_entry a l b k i = (a *ℤ at l.entries i) -ℤ (b *ℤ at k.entries i)
 
 pub record IsTurned (s : List ℤ) (p : ℕ) (r : List ℤ) : Type 0 where
   pub count : length r ≡ length s

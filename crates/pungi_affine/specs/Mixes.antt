@@ -1,8 +1,9 @@
 -- Rows combined with one another.
 --   IsWide z                   z is at most 2^94 + 2^59 in absolute value
---   IsNarrow e                 the coefficients behind the first are at most 2^20 in absolute value
+--   IsNarrow e                 the coefficients after the first are at most 2^20 in absolute value
 --   IsResidual d ls v u        u is what is left of the d-fold of v without the rows
---   mixed_at u q r i           the row r times u's entry at q less u times r's entry at q, at a coordinate: it is 0 at q
+--   mixed_entry u q r i        the row r times u's entry at q less u times r's entry at q, at a coordinate: it is 0 at
+--                              q
 --   IsMixed u q r x            x is this row
 --   AreMixed u q ls ms         ms are these rows of ls, at the same pivots
 --   IsMultiple d l m           m is the d-fold of the row l, at the same pivot
@@ -29,13 +30,13 @@ pub record IsResidual (d : ℤ) (ls : List Line) (v u : List ℤ) : Type 0 where
   pub each : (i : ℕ) → i < length v → at u i ≡ residual d ls (at v) i
   pub within : (i : ℕ) → i < length v → IsWithin (2 ^ 71) (at u i)
 
-abbrev pub mixed_at : List ℤ → ℕ → List ℤ → ℕ → ℤ
-mixed_at u q r i = (at u q *ℤ at r i) -ℤ (at u i *ℤ at r q)
+abbrev pub mixed_entry : List ℤ → ℕ → List ℤ → ℕ → ℤ
+mixed_entry u q r i = (at u q *ℤ at r i) -ℤ (at u i *ℤ at r q)
 
 pub record IsMixed (u : List ℤ) (q : ℕ) (l m : Line) : Type 0 where
   pub pivot : m.pivot ≡ l.pivot
   pub lengths : length m.entries ≡ length u
-  pub each : (i : ℕ) → i < length u → at m.entries i ≡ mixed_at u q l.entries i
+  pub each : (i : ℕ) → i < length u → at m.entries i ≡ mixed_entry u q l.entries i
   pub long : AreLong m.entries
 
 pub record AreMixed (u : List ℤ) (q : ℕ) (ls ms : List Line) : Type 0 where

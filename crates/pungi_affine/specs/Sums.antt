@@ -4,7 +4,7 @@
 --   row_vectors ls        the rows as vectors
 --   given_vectors gs      given vectors as such
 --   given_at gs k         the entries of one of them
---   IsStep s b v t a      t is the span of s and v; a tells whether that, or what was before, changed it
+--   IsStep s b v t a      t is the span of s and v; a is whether that, or what was before, changed it
 use Rattle.std.specs.Prelude.{◌≡◌, ◌⊎◌, ℕ, ◌<◌, ◌≤◌, ℤ, List, [], ◌∷◌, length, map, Bool, true, false}
 use Rattle.std.specs.List.{slice_index_or}
 use Rattle.pungi_domain.specs.Vectors.{Vector, Vectors, at}

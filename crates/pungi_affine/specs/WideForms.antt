@@ -4,7 +4,8 @@
 --   IsWideForm w d ls         the rows are a reduced form in the order of their pivots, with numbers below 2^127
 --   HasLargeAt ls k           a row has an entry over 2^31 in absolute value
 --   IsLeastForm w ls d ms     ms are such a form of the span of ls, with as many rows, and with the least scale
---   HasLarge rs o             o is the place of a row with an entry over 2^31 in absolute value; none where there is none
+--   HasLarge rs o             o is the place of a row with an entry over 2^31 in absolute value; `None` where there is
+--                             no such row
 use Rattle.std.specs.Prelude.{◌≡◌, ℕ, ◌<◌, ◌≤◌, ℤ, ◌*ℤ◌, List, length, Option, None, Some}
 use Rattle.pungi_domain.specs.Vectors.{at}
 use Rattle.pungi_domain.specs.Spans.{IsOutside}

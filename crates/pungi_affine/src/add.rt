@@ -8,10 +8,10 @@ ghost use Rattle.pungi_affine.specs.States.{SpanMember};
 ghost use Rattle.pungi_affine.specs.Adds.{AddsTo};
 
 use crate::Span;
-use crate::extend::extended;
+use crate::extend::extended_form;
 use crate::form::narrowed;
 use crate::part::{has_large, part_of};
-use crate::reduce::reduced;
+use crate::reduce::reduced_span;
 use crate::residual::left_over;
 use pungi_base::Seq;
 use pungi_domain::DomainFault;
@@ -29,8 +29,8 @@ fn with_small(alloc: Global, span: &Span, v: &[i64]) -> Result<Option<Span>, Dom
     let Some(new) = part_of(alloc, left.as_slice())? else {
         return Ok(None);
     };
-    let form = extended(alloc, span.scale, rows, &new)?;
-    let grown = reduced(alloc, span.width, &form)?;
+    let form = extended_form(alloc, span.scale, rows, &new)?;
+    let grown = reduced_span(alloc, span.width, &form)?;
     Ok(Some(grown))
 }
 

@@ -3,7 +3,7 @@ ghost use Rattle.std.specs.Prelude.{◌≡◌, ℕ, ◌+◌, ◌<◌, ◌^◌, �
 ghost use Rattle.pungi_domain.specs.Vectors.{at, IsWithin};
 ghost use Rattle.pungi_affine.specs.Forms.{line, lines, line_of, IsBox, WithinBox};
 ghost use Rattle.pungi_affine.specs.Parts.{wide_line, wide_lines};
-ghost use Rattle.pungi_affine.specs.Mixes.{IsWide, mixed_at, IsMixed, AreMixed, IsMultiple, IsPlace, IsExtended};
+ghost use Rattle.pungi_affine.specs.Mixes.{IsWide, mixed_entry, IsMixed, AreMixed, IsMultiple, IsPlace, IsExtended};
 
 use crate::form::WideForm;
 use crate::part::WideRow;
@@ -36,14 +36,14 @@ fn mixed_entry(u: &[i128], q: usize, row: &Row, i: usize) -> i128
     requires within { (q < length u.now) × (i < length u.now) × (length row.now.entries.items ≡ length u.now) }
     requires u { (j : ℕ) → j < length u.now → IsWide (at u.now j) }
     requires row { WithinBox row.now.entries.items }
-    ensures value { result ≡ mixed_at u.now q row.now.entries.items i }
+    ensures value { result ≡ mixed_entry u.now q row.now.entries.items i }
     ensures within { IsWithin (2 ^ 126 + 2 ^ 91) result }
 {
     times(u, q, row, i) - times(u, i, row, q)
 }
 
 /// The row from which u is taken, so that it is 0 at q.
-fn mixed(alloc: Global, u: &[i128], q: usize, row: &Row) -> Result<WideRow, AllocError>
+fn mixed_row(alloc: Global, u: &[i128], q: usize, row: &Row) -> Result<WideRow, AllocError>
     requires within { (q < length u.now) × (length row.now.entries.items ≡ length u.now) }
     requires u { (j : ℕ) → j < length u.now → IsWide (at u.now j) }
     requires row { WithinBox row.now.entries.items }
@@ -68,7 +68,7 @@ fn mixed_rows(alloc: Global, u: &[i128], q: usize, rows: &[Row]) -> Result<Vec<W
 {
     let mut mixes = Vec::new(alloc);
     for row in rows {
-        mixes.push(mixed(alloc, u, q, row)?)?;
+        mixes.push(mixed_row(alloc, u, q, row)?)?;
     }
     Ok(mixes)
 }
@@ -114,7 +114,7 @@ fn place(rows: &[Row], q: u32) -> usize
 }
 
 /// The form of the rows and of one more, which is 0 at their pivots.
-pub(crate) fn extended(
+pub(crate) fn extended_form(
     alloc: Global,
     d: i64,
     rows: &[Row],

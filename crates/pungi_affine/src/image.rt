@@ -86,7 +86,7 @@ fn row_images(
 }
 
 /// The span of the images.
-pub(crate) fn mapped(alloc: Global, span: &Span, matrix: &Matrix) -> Result<Span, DomainFault>
+pub(crate) fn image_span(alloc: Global, span: &Span, matrix: &Matrix) -> Result<Span, DomainFault>
     requires fits { IsMatrix span.now.width matrix.now.rows }
     requires narrow { length matrix.now.rows ≤ 256 }
     ensures width { IfOk result (λ s. s.width ≡ length matrix.now.rows) }

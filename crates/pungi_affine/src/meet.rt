@@ -8,14 +8,14 @@ ghost use Rattle.pungi_affine.specs.Spans.{SameMembers};
 ghost use Rattle.pungi_affine.specs.Forms.{line, lines, line_of, IsBox, WithinBox};
 ghost use Rattle.pungi_affine.specs.Parts.{wide_line, wide_lines};
 ghost use Rattle.pungi_affine.specs.Mixes.{IsNarrow, IsWide};
-ghost use Rattle.pungi_affine.specs.Meets.{AreSums, LastOf, crossed_at, IsCrossed, AreCrossed, IsTurned, IsMetForm};
+ghost use Rattle.pungi_affine.specs.Meets.{AreSums, LastOf, crossed_entry, IsCrossed, AreCrossed, IsTurned, IsMetForm};
 ghost use Rattle.pungi_affine.specs.States.{SpanMember};
 
 use crate::Span;
 use crate::extend::{multiple_entry, times};
 use crate::form::WideForm;
 use crate::part::{WideRow, negate};
-use crate::reduce::reduced;
+use crate::reduce::reduced_span;
 use crate::row::{Row, dot_product};
 use pungi_domain::{DomainFault, Equation};
 use std::alloc::{AllocError, Global};
@@ -61,7 +61,7 @@ fn turn(sums: &mut [i128], p: usize)
 }
 
 /// The sums, or their opposites, so that the one at p is above 0.
-fn turned(sums: Vec<i128>, p: usize) -> Vec<i128>
+fn turned_sums(sums: Vec<i128>, p: usize) -> Vec<i128>
     requires within { p < length sums.items }
     requires entry { at sums.items p ≡ pos 0 → ⊥ }
     requires wide { (k : ℕ) → k < length sums.items → IsWide (at sums.items k) }
@@ -78,13 +78,13 @@ fn crossed_entry(sums: &[i128], p: usize, rows: &[Row], k: usize, i: usize) -> i
     requires i { (j : ℕ) → j < length (lines rows.now) → i < length (line (lines rows.now) j).entries }
     requires wide { (j : ℕ) → j < length sums.now → IsWide (at sums.now j) }
     requires small { (j : ℕ) → j < length (lines rows.now) → WithinBox (line (lines rows.now) j).entries }
-    ensures value { result ≡ crossed_at (at sums.now p) (line (lines rows.now) k) (at sums.now k) (line (lines rows.now) p) i }
+    ensures value { result ≡ crossed_entry (at sums.now p) (line (lines rows.now) k) (at sums.now k) (line (lines rows.now) p) i }
     ensures within { IsWithin (2 ^ 126 + 2 ^ 91) result }
 {
     times(sums, p, &rows[k], i) - times(sums, k, &rows[p], i)
 }
 
-fn crossed(
+fn crossed_row(
     alloc: Global,
     sums: &[i128],
     p: usize,
@@ -121,7 +121,7 @@ fn crossed_rows(
 {
     let mut crosses = Vec::new(alloc);
     for k in 0..rows.len() {
-        crosses.push(crossed(alloc, sums, p, rows, k)?)?;
+        crosses.push(crossed_row(alloc, sums, p, rows, k)?)?;
     }
     Ok(crosses)
 }
@@ -150,7 +150,11 @@ fn met_form(
 }
 
 /// The span of the vectors that meet an equation.
-pub(crate) fn met(alloc: Global, span: &Span, equation: &Equation) -> Result<Span, DomainFault>
+pub(crate) fn meeting_span(
+    alloc: Global,
+    span: &Span,
+    equation: &Equation,
+) -> Result<Span, DomainFault>
     requires { IsEquation span.now.width equation.now.coefficients }
     ensures width { IfOk result (λ s. s.width ≡ span.now.width) }
     ensures members { IfOk result (λ s. SameMembers (Meeting equation.now.coefficients (SpanMember span.now)) (SpanMember s)) }
@@ -161,7 +165,7 @@ pub(crate) fn met(alloc: Global, span: &Span, equation: &Equation) -> Result<Spa
     let Some(p) = last_entry(sums.as_slice()) else {
         return span.copy(alloc);
     };
-    let sums = turned(sums, p);
+    let sums = turned_sums(sums, p);
     let form = met_form(alloc, span.scale, rows, sums.as_slice(), p)?;
-    reduced(alloc, span.width, &form)
+    reduced_span(alloc, span.width, &form)
 }

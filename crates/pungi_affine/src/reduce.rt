@@ -41,7 +41,7 @@ fn kept_span(alloc: Global, width: u32, form: &WideForm) -> Result<Span, AllocEr
 }
 
 /// The span of a form's rows.
-pub(crate) fn reduced(alloc: Global, width: u32, form: &WideForm) -> Result<Span, DomainFault>
+pub(crate) fn reduced_span(alloc: Global, width: u32, form: &WideForm) -> Result<Span, DomainFault>
     requires { IsWideForm width form.now.scale (wide_lines form.now.rows.items) }
     ensures width { IfOk result (λ s. s.width ≡ width) }
     ensures count { IfOk result (λ s. length s.lines ≡ length (wide_lines form.now.rows.items)) }

@@ -30,7 +30,7 @@ fn share(v: &[i64], row: &Row, i: usize) -> i128
 }
 
 /// What the rows make of v's entries at the pivots, at a coordinate.
-fn filled(rows: &[Row], v: &[i64], i: usize) -> i128
+fn filled_entry(rows: &[Row], v: &[i64], i: usize) -> i128
     requires few { length rows.now ≤ 256 }
     requires i { i < length v.now }
     requires v { WithinBox v.now }
@@ -48,7 +48,7 @@ fn filled(rows: &[Row], v: &[i64], i: usize) -> i128
 }
 
 /// The d-fold of v's entry at a coordinate.
-fn scaled(d: i64, v: &[i64], i: usize) -> i128
+fn scaled_entry(d: i64, v: &[i64], i: usize) -> i128
     requires within { i < length v.now }
     requires d { IsBox d }
     requires v { IsBox (at v.now i) }
@@ -70,7 +70,7 @@ fn residual_entry(d: i64, rows: &[Row], v: &[i64], i: usize) -> i128
     ensures value { result ≡ residual d (lines rows.now) (at v.now) i }
     ensures within { IsWithin (2 ^ 71) result }
 {
-    scaled(d, v, i) - filled(rows, v, i)
+    scaled_entry(d, v, i) - filled_entry(rows, v, i)
 }
 
 /// What is left of the d-fold of v without the rows.

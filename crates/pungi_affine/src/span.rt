@@ -9,11 +9,11 @@ ghost use Rattle.pungi_affine.specs.SpanLaws.{span_same, span_zero, span_sum};
 ghost use Rattle.std.proofs.Common.{refl};
 
 use crate::add::with_vector;
-use crate::image::mapped;
-use crate::meet::met;
+use crate::image::image_span;
+use crate::meet::meeting_span;
 use crate::row::{Row, rows_meet};
 use crate::sum::{Grown, with_span};
-use crate::unit::{freed, whole};
+use crate::unit::{freed_span, whole};
 use pungi_domain::{Domain, DomainFault, Equation, LeastDomain, Matrix};
 use std::alloc::Global;
 use std::marker::Model;
@@ -107,7 +107,7 @@ impl Span {
         ensures least { IfOk result (λ s. Follows self.now.width (Freed coordinate (SpanMember self.now)) (SpanMember s)) }
         ensures range { RangeIs true (LargeFree self.now.width coordinate (SpanMember self.now)) result }
     {
-        freed(alloc, self, coordinate)
+        freed_span(alloc, self, coordinate)
     }
 
     /// The span of the vectors that meet an equation.
@@ -117,10 +117,10 @@ impl Span {
         ensures members { IfOk result (λ s. SameMembers (Meeting equation.now.coefficients (SpanMember self.now)) (SpanMember s)) }
         ensures range { RangeIs true (LargeMeet self.now.width equation.now.coefficients (SpanMember self.now)) result }
     {
-        met(alloc, self, equation)
+        meeting_span(alloc, self, equation)
     }
 
-    /// Takes in the vectors of another span, and answers whether that changed anything.
+    /// Takes in the vectors of another span, and returns whether that changed anything.
     pub fn grow(&mut self, alloc: Global, from: &Span) -> Result<bool, DomainFault>
         requires { from.now.width ≡ self.old.width }
         ensures width { self.new.width ≡ self.old.width }
@@ -139,7 +139,7 @@ impl Span {
         Ok(changed)
     }
 
-    /// Takes in a vector, and answers false where it was in the span.
+    /// Takes in a vector, and returns false where it was in the span.
     pub fn add_vector(&mut self, alloc: Global, vector: &[i128]) -> Result<bool, DomainFault>
         requires width { length vector.now ≡ self.old.width }
         requires within { (i : ℕ) → i < length vector.now → IsWithin (2 ^ 126) (at vector.now i) }
@@ -201,7 +201,7 @@ impl Domain for Span {
     }
 
     fn map(&self, alloc: Global, matrix: &Matrix) -> Result<Span, DomainFault> {
-        mapped(alloc, self, matrix)
+        image_span(alloc, self, matrix)
     }
 
     fn free(&self, alloc: Global, coordinate: u32) -> Result<Span, DomainFault> {

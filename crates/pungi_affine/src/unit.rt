@@ -49,7 +49,7 @@ pub(crate) fn whole(alloc: Global, width: u32) -> Result<Span, AllocError>
 }
 
 /// The span with the unit vector of a coordinate.
-pub(crate) fn freed(alloc: Global, span: &Span, c: u32) -> Result<Span, DomainFault>
+pub(crate) fn freed_span(alloc: Global, span: &Span, c: u32) -> Result<Span, DomainFault>
     requires { c < span.now.width }
     ensures width { IfOk result (λ s. s.width ≡ span.now.width) }
     ensures members { IfOk result (λ s. SameMembers (Plus span.now.width (SpanMember span.now) (unit c)) (SpanMember s)) }

@@ -14,7 +14,7 @@ plain_rows-are_new = refl
 pub special_rows-are_new : are_new (map plain_row PLAIN_ROWS) (map special_row SPECIAL_ROWS) ≡ true
 special_rows-are_new = refl
 
--- what has no row is none of the rows
+-- what has no row isn't one of the rows
 pub none_from_is_none : {A : Type 0} (o : Option A) → IsTrue (is_none o) → o ≡ None
 none_from_is_none None h = refl
 none_from_is_none (Some x) h = absurd cc
@@ -46,7 +46,7 @@ and-intro : (a b : Bool) → a ≡ true → b ≡ true → (a && b) ≡ true
 and-intro true b e f = f
 and-intro false b e f = e
 
--- rows and plain rows behind them are rows
+-- rows and plain rows after them are rows
 pub rows-with : (rows more : List (ℕ × Row)) → IsTrue (are_rows rows) → IsTrue (are_plain_rows more) → IsTrue (are_rows (rows ++ more))
 rows-with [] [] h p = p
 rows-with [] (r ∷ more) h p =

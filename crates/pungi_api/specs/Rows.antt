@@ -1,15 +1,15 @@
 -- The table of rows (Python/C API Reference Manual 3.11).
---   and_given, given_params s  the parameters of a signature that are there
---   taken n third              of so many parameters only the third may be taken over
+--   with_given, params_of s    the parameters of a signature that are there
+--   takes_of n third           of so many parameters only the third may be taken over
 --   plain_row p, special_row s the rows that the table of the manual states
 --   name_of p                  the word whose number a plain row has
 --   builtin_rows               the rows of the manual, under the numbers of their names
 --   row_in rows name           the row of a name, where there is one
---   is_object p, tells_success a    an object or NULL; an answer that tells whether the call succeeded
+--   is_object p, has_success a      an object or NULL; a return value that shows whether the call succeeded
 --   may_take a p t, may_take_all    whether a parameter may be taken over so, and each of them
 --   is_empty, fits_form        the parts of what follows
 --   is_row row                 a plain row has an entry of what is taken over for each parameter, and only objects are taken over,
---                              on success only where success can be told; a row of its own leaves these empty
+--                              on success only where success can be seen; a special row leaves these empty
 --   are_rows rows              each is such a row
 --   is_plain_form f, are_plain_rows rows        each is such a row, and plain
 --   named_row r                a row under the number of its name
@@ -33,18 +33,18 @@ use Rattle.pungi_api.specs.declared.manual.PlainRow.{PlainRow}
 use Rattle.pungi_api.specs.declared.manual.SpecialRow.{SpecialRow}
 use Rattle.pungi_api.specs.declared.manual.TheConstants.{PLAIN_ROWS, SPECIAL_ROWS}
 
-abbrev pub and_given : Option Param → List Param → List Param
-and_given None ps = ps
-and_given (Some p) ps = p ∷ ps
+abbrev pub with_given : Option Param → List Param → List Param
+with_given None ps = ps
+with_given (Some p) ps = p ∷ ps
 
-abbrev pub given_params : Signature → List Param
-given_params s = and_given s.0 (and_given s.1 (and_given s.2 []))
+abbrev pub params_of : Signature → List Param
+params_of s = with_given s.0 (with_given s.1 (with_given s.2 []))
 
-abbrev pub taken : ℕ → Take → List Take
-taken n third = take n (takes.Never ∷ takes.Never ∷ third ∷ [])
+abbrev pub takes_of : ℕ → Take → List Take
+takes_of n third = take n (takes.Never ∷ takes.Never ∷ third ∷ [])
 
 abbrev pub plain_row : PlainRow → ℕ × Row
-plain_row p = (p.0, record { form = form.Plain; params = given_params p.1; takes = taken (length (given_params p.1)) p.2; answer = p.3 })
+plain_row p = (p.0, record { form = form.Plain; params = params_of p.1; takes = takes_of (length (params_of p.1)) p.2; answer = p.3 })
 
 abbrev pub special_row : SpecialRow → ℕ × Row
 special_row s = (s.0, record { form = form.Special s.1; params = []; takes = []; answer = answer.Null })
@@ -63,15 +63,15 @@ is_object param.Object = true
 is_object param.ObjectOrNull = true
 is_object _ = false
 
-abbrev pub tells_success : Answer → Bool
-tells_success answer.New = true
-tells_success answer.Status = true
-tells_success _ = false
+abbrev pub has_success : Answer → Bool
+has_success answer.New = true
+has_success answer.Status = true
+has_success _ = false
 
 abbrev pub may_take : Answer → Param → Take → Bool
 may_take a p takes.Never = true
 may_take a p takes.Always = is_object p
-may_take a p takes.OnSuccess = is_object p && tells_success a
+may_take a p takes.OnSuccess = is_object p && has_success a
 
 abbrev pub may_take_all : Answer → List Param → List Take → Bool
 may_take_all a [] [] = true

@@ -1,4 +1,4 @@
-/// What an API call answers.
+/// What an API call returns.
 #[derive(Clone, Copy, Debug, PartialEq, Eq)]
 pub enum Answer {
     /// A new reference, or `NULL`.

@@ -1,4 +1,4 @@
-//! The rows of the Python/C API: what each call takes, which references it takes over, and what it answers.
+//! The rows of the Python/C API: what each call takes, which references it takes over, and what it returns.
 #![tactic(auto)]
 
 mod answer;

@@ -1,7 +1,7 @@
 use crate::{Answer, Param, Special, Take};
 use pungi_base::Seq;
 
-/// How the effect of an API call is told.
+/// How the effect of an API call is described.
 #[derive(Clone, Copy, Debug, PartialEq, Eq)]
 pub enum Form {
     /// By its parameters, what it takes over and its answer.
@@ -10,7 +10,7 @@ pub enum Form {
     Special(Special),
 }
 
-/// What the manual says of an API call: what it takes, which references it takes over, and what it answers
+/// What the manual says of an API call: what it takes, which references it takes over, and what it returns
 /// (Python/C API Reference Manual 3.11).
 #[derive(Debug, Drop)]
 pub struct Row {

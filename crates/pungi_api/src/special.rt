@@ -1,4 +1,5 @@
-/// The API calls whose effect parameters and answer alone don't tell (Python/C API Reference Manual 3.11).
+/// The API calls whose effect isn't described by parameters and return value alone (Python/C API Reference Manual
+/// 3.11).
 #[derive(Clone, Copy, Debug, PartialEq, Eq)]
 pub enum Special {
     /// `Py_INCREF`.

@@ -1,7 +1,7 @@
 ghost use Rattle.std.specs.Prelude.{◌≡◌, ◌++◌, ◌∷◌, [], length, map, option_map, slice_get, is_none, IfOk, IfSome, OnOk, IsTrue};
 ghost use Rattle.std.specs.Option.{option_copied};
 ghost use Rattle.indexmap.specs.IndexMap.{get, keys};
-ghost use Rattle.pungi_api.specs.Rows.{plain_row, special_row, given_params, taken, builtin_rows, row_in, is_row, are_rows, are_plain_rows, named_row, are_new};
+ghost use Rattle.pungi_api.specs.Rows.{plain_row, special_row, params_of, takes_of, builtin_rows, row_in, is_row, are_rows, are_plain_rows, named_row, are_new};
 
 use crate::manual::{PLAIN_ROWS, PlainRow, SPECIAL_ROWS, Signature, SpecialRow};
 use crate::{Answer, Form, Param, Row, Take};
@@ -29,7 +29,7 @@ impl Model for Table {
 }
 
 fn params_of(alloc: Global, signature: Signature) -> Result<Seq<Param>, Memory>
-    ensures { IfOk result (λ params. params ≡ given_params signature) }
+    ensures { IfOk result (λ params. params ≡ params_of signature) }
 {
     let mut params = Seq::new(Vec::new(alloc));
     if let Some(param) = signature.0 {
@@ -45,14 +45,14 @@ fn params_of(alloc: Global, signature: Signature) -> Result<Seq<Param>, Memory>
 }
 
 fn items_taken(alloc: Global, count: usize, third: Take) -> Result<Vec<Take>, AllocError>
-    ensures { IfOk result (λ takes. takes.items ≡ taken count third) }
+    ensures { IfOk result (λ takes. takes.items ≡ takes_of count third) }
 {
     let all = [Take::Never, Take::Never, third];
     all.iter().take(count).copied().collect(alloc)
 }
 
 fn takes_of(alloc: Global, count: usize, third: Take) -> Result<Seq<Take>, Memory>
-    ensures { IfOk result (λ takes. takes ≡ taken count third) }
+    ensures { IfOk result (λ takes. takes ≡ takes_of count third) }
 {
     Ok(Seq::new(items_taken(alloc, count, third)?))
 }
@@ -176,7 +176,7 @@ impl Table {
         }
     }
 
-    /// The same rows, and these behind them. The table is spent where memory runs out.
+    /// The same rows, and these after them. The table is spent where memory runs out.
     pub fn with(self, rows: Vec<(Name, Row)>) -> Result<Table, Memory>
         requires new { IsTrue (are_new self (map named_row rows.items)) }
         requires rows { IsTrue (are_plain_rows (map named_row rows.items)) }

@@ -1,6 +1,7 @@
--- What calls on a shelf do, where it tells its texts.
+-- What calls on a shelf do, where it shows its texts.
 --   Rose before now        a count of faults is greater than before, or stands at the end of its type
---   Opens texts name rest  what is left to read is the text of that name; where no texts are told, nothing is told of it
+--   Opens texts name rest  what is left to read is the text of that name; where no texts are known, nothing is known of
+--                          it
 use Rattle.std.specs.Prelude.{◌≡◌, ℕ, ◌+◌, ◌-◌, ◌^◌, ◌≤◌, min, List, Option, None, Some, IsSome}
 
 abbrev pub Rose : ℕ → ℕ → Type 0

@@ -1,5 +1,6 @@
--- What calls on a sink do, where it tells the bytes taken.
---   Takes before after bytes               the bytes taken grew by these; what isn't told any more is never told again
+-- What calls on a sink do, where it shows the bytes taken.
+--   Takes before after bytes               the bytes taken grew by these; what isn't shown any more is never shown
+--                                          again
 --   WriteTakes before after result piece   a write took the first bytes at `Ok`, and nothing at `Err`
 use Rattle.std.specs.Prelude.{◌≡◌, ℕ, List, ◌++◌, take, Option, None, Some, Result, MatchResult}
 

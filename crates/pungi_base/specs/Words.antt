@@ -3,7 +3,7 @@
 --   macros          the predefined object macros (Python/C API Reference Manual 3.11)
 --   type_words      the names of types (Python/C API Reference Manual 3.11, C11 7.19 and 7.20)
 --   statics         the objects that are there before any run
---   plain_rows      the API calls whose effect is told by their parameters and their answer
+--   plain_rows      the API calls whose effect is described by their parameters and their return value
 --   special_rows    the API calls with effects of their own
 --   other_words     further words that the grammar or a directive names
 --   builtin_words   all of them, in this order

@@ -11,7 +11,7 @@ const FIRST_STATIC: u32 = KEYWORDS + MACROS + TYPE_WORDS;
 /// The first number of an API call.
 const FIRST_ROW: u32 = FIRST_STATIC + STATICS;
 
-/// The first number of an API call with a row of its own.
+/// The first number of an API call with a special row.
 const FIRST_SPECIAL: u32 = FIRST_ROW + PLAIN_ROWS;
 
 /// A keyword, by its number.
@@ -224,7 +224,7 @@ fn plain_row(number: u32) -> &'static str
     }
 }
 
-/// An API call with a row of its own or a further word, by its number.
+/// An API call with a special row or a further word, by its number.
 fn other_word(number: u32) -> &'static str
     requires from { FIRST_SPECIAL ≤ number }
     requires below { number < WORDS }

@@ -3,7 +3,7 @@ ghost use Rattle.pungi_base.specs.Witness.{choice_text};
 
 use std::fmt;
 
-/// What the outside answers at one point of a run: the outcome of an API call, or the content of a slot at its first
+/// What the outside supplies at one point of a run: the outcome of an API call, or the content of a slot at its first
 /// touch.
 #[derive(Clone, Copy, PartialEq, Eq)]
 pub enum Choice {

@@ -36,13 +36,13 @@ impl<T: Drop> From<AllocFailed<T>> for OpenFault {
 
 /// Where texts are read from, by name.
 pub trait Shelf {
-    /// The texts by name, where they are told. They never change.
+    /// The texts by name, where they are known. They never change.
     ghost texts: { Self → Option (List ℕ → Option (List ℕ)) };
 
-    /// What is left of the opened text, where it is told.
+    /// What is left of the opened text, where it is known.
     ghost rest: { Self → Option (List ℕ) };
 
-    /// The names that `open` was given so far, where they are told.
+    /// The names that `open` was given so far, where they are known.
     ghost given: { Self → Option (List (List ℕ)) };
 
     /// How often a call failed. At most 2^64 - 1.
@@ -58,7 +58,7 @@ pub trait Shelf {
         ensures later { faults self.old ≤ faults self.new }
         ensures failed { result ≡ Err OpenFault.Failed → Rose (faults self.old) (faults self.new) };
 
-    /// Copies the next bytes into the front of the buffer, and answers how many.
+    /// Copies the next bytes into the front of the buffer, and returns how many.
     fn read(&mut self, buf: &mut [u8]) -> Result<usize, Failed>
         ensures within { IfOk result (λ count. count ≤ length buf.new) }
         ensures bytes { ReadConsumes (rest self.old) (rest self.new) result buf.new }

@@ -6,13 +6,13 @@ use crate::Failed;
 
 /// Where bytes are written to.
 pub trait Sink {
-    /// The bytes taken so far, where they are told.
+    /// The bytes taken so far, where they are known.
     ghost taken: { Self → Option (List ℕ) };
 
     /// How often a call failed. At most 2^64 - 1.
     ghost faults: { Self → ℕ };
 
-    /// Takes bytes from the front of a piece, and answers how many.
+    /// Takes bytes from the front of a piece, and returns how many.
     fn write(&mut self, piece: &[u8]) -> Result<usize, Failed>
         ensures within { IfOk result (λ count. count ≤ length piece.now) }
         ensures some { IfOk result (λ count. 0 < length piece.now → 0 < count) }

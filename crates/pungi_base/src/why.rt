@@ -11,8 +11,8 @@ pub enum Why {
     Range { pos: Pos, vector: Seq<i64> },
     /// It compares a number that isn't followed, at this place.
     Number { pos: Pos },
-    /// A loop at this place may turn more often than was looked at.
+    /// A loop at this place may turn more often than was explored.
     Loop { pos: Pos },
-    /// A call at this place of this function may go deeper than was looked at.
+    /// A call at this place of this function may go deeper than was explored.
     Call { pos: Pos, name: Name },
 }

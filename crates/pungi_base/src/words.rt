@@ -23,7 +23,7 @@ pub const PLAIN_STATICS: u32 = 18;
 /// How many API calls have plain rows. They come after the statics.
 pub const PLAIN_ROWS: u32 = 64;
 
-/// How many API calls have rows of their own. They come after the plain rows.
+/// How many API calls have special rows. They come after the plain rows.
 pub const SPECIAL_ROWS: u32 = 15;
 
 /// The first name that a source may give to what it defines: all before are keywords, macros, types, statics and rows.

@@ -7,7 +7,7 @@ use Rattle.pungi_types.specs.Files.{SourceFile, Definition, definitions, definit
 use Rattle.pungi_types.specs.Names.{is_some_definition}
 use Rattle.pungi_types.specs.Functions.{refusal}
 use Rattle.pungi_check.specs.Calls.{called_words}
-use Rattle.pungi_check.specs.Graph.{number_in, found, callees}
+use Rattle.pungi_check.specs.Graph.{number_in, as_list, callees}
 use Rattle.pungi_check.proofs.Places.{World, other_in, refused_call}
 use Rattle.pungi_check.proofs.Agreement.{Agree}
 use Rattle.pungi_check.proofs.SameFunctions.{world_of, refusal-same}
@@ -19,7 +19,7 @@ none-defined i (d ∷ ds) w e = elim (d.name.0 == w) as (λ b. (if b then Some i
   | false ↦ λ h. none-defined (i + 1) ds w h
 ] e
 
-none-found : (o : Option ℕ) (js : List ℕ) → found o ++ js ≡ [] → (o ≡ None) × (js ≡ [])
+none-found : (o : Option ℕ) (js : List ℕ) → as_list o ++ js ≡ [] → (o ≡ None) × (js ≡ [])
 none-found None js e = (refl, e)
 none-found (Some j) js e = absurd (cc)
 

@@ -11,7 +11,7 @@ use Rattle.pungi_types.specs.Names.{is_among, with_word}
 use Rattle.pungi_check.specs.Duplicates.{is_taken, uses, use_faults, variable_faults, definition_faults, typedef_faults, tag_faults, count_faults, faults}
 use Rattle.pungi_types.specs.declared.finding.Finding.{Finding}
 use Rattle.pungi_check.specs.Distinct.{are_new}
-use Rattle.pungi_check.specs.Graph.{gathered}
+use Rattle.pungi_check.specs.Graph.{with_marked}
 use Rattle.pungi_check.specs.CallGraph.{refused_names}
 
 earlier-some : (a f : Finding) → earlier (Some a) f ≡ None → ⊥
@@ -182,16 +182,16 @@ within-added ws seen v i = record {
       (sym (any-append (λ x. w == x) ws (v ∷ []) ∙ ap (λ b. is_among ws w || b) (or-false (w == v))) ∙ h);
 }
 
--- the names of marked functions are gathered one behind another
-pub gather : (ws seen : List ℕ) (ds : List Definition) (marks : List Bool) → Within ws seen → are_new seen ds ≡ true → gathered ws ds marks ≡ ws ++ refused_names ds marks
+-- the names of marked functions are gathered one after another
+pub gather : (ws seen : List ℕ) (ds : List Definition) (marks : List Bool) → Within ws seen → are_new seen ds ≡ true → with_marked ws ds marks ≡ ws ++ refused_names ds marks
 gather ws seen [] marks i n = sym (append-none ws)
 gather ws seen (d ∷ ds) [] i n = sym (append-none ws)
 gather ws seen (d ∷ ds) (false ∷ marks) i n =
     gather ws (with_word seen d.name.0) ds marks (within-later ws seen d.name.0 i) (and-right (is_among seen d.name.0) (are_new (with_word seen d.name.0) ds) n)
 gather ws seen (d ∷ ds) (true ∷ marks) i n =
-    ap (λ vs. gathered vs ds marks) (with_new ws d.name.0 (within-new ws seen d.name.0 i (and-left (is_among seen d.name.0) (are_new (with_word seen d.name.0) ds) n)))
+    ap (λ vs. with_marked vs ds marks) (with_new ws d.name.0 (within-new ws seen d.name.0 i (and-left (is_among seen d.name.0) (are_new (with_word seen d.name.0) ds) n)))
     ∙ gather (ws ++ d.name.0 ∷ []) (with_word seen d.name.0) ds marks (within-added ws seen d.name.0 i) (and-right (is_among seen d.name.0) (are_new (with_word seen d.name.0) ds) n)
     ∙ append-list ws (d.name.0 ∷ []) (refused_names ds marks)
 
-pub refused-gathered : (ds : List Definition) (marks : List Bool) → are_new [] ds ≡ true → gathered [] ds marks ≡ refused_names ds marks
+pub refused-gathered : (ds : List Definition) (marks : List Bool) → are_new [] ds ≡ true → with_marked [] ds marks ≡ refused_names ds marks
 refused-gathered ds marks n = gather [] [] ds marks (record { within = λ w h. h }) n

@@ -10,7 +10,7 @@ use Rattle.pungi_types.specs.Names.{is_among, with_word}
 use Rattle.pungi_types.specs.Tags.{Tag, tags}
 use Rattle.pungi_check.specs.Duplicates.{NameUse, uses, used_otherwise, use_faults, is_variable_use, is_taken, variable_faults, definition_faults, typedef_faults, tag_seen, one_tag_fault, tag_faults, count_faults, faults}
 use Rattle.pungi_types.specs.declared.finding.Finding.{Finding}
-use Rattle.pungi_check.specs.Faults.{told, IsFaultOf}
+use Rattle.pungi_check.specs.Faults.{finding_at, IsFaultOf}
 use Rattle.pungi_check.specs.declared.fault.UnitFault.{UnitFault}
 use Rattle.pungi_check.specs.declared.fault.UnitFault.TheVariants as why
 
@@ -93,14 +93,14 @@ of-file file =
 one-or-two : (n : ℕ) → is_fault_rule n ≡ true → (n ≡ 1) ⊎ (n ≡ 2)
 one-or-two n h = grind (arith, nat_tests)
 
--- the fault that is told of a file is of rule 1 or 2
+-- the fault that is reported of a file is of rule 1 or 2
 pub fault-rule : (file : SourceFile) (f : Finding) → least (faults file) ≡ Some f → (f.rule.0 ≡ 1) ⊎ (f.rule.0 ≡ 2)
 fault-rule file f e = one-or-two f.rule.0 (subst IsFault e (least-fault None (faults file) tt (of-file file)))
 
--- the fault that is told for the first finding of a file
+-- the fault that is reported for the first finding of a file
 pub fault-of : (file : SourceFile) (f : Finding) (u : UnitFault) → Some f ≡ least (faults file)
     → (f.rule.0 ≡ 1 → u ≡ why.DuplicateName f.pos) → (f.rule.0 ≡ 2 → u ≡ why.TooManyFunctions f.pos) → IsFaultOf file u
 fault-of file f u is one two = ⊎_elim
-    (λ (e : f.rule.0 ≡ 1). subst (λ (v : UnitFault). IsFaultOf file v) (sym (one e)) (sym is ∙ ap (λ (n : ℕ). told f.pos n) e))
-    (λ (e : f.rule.0 ≡ 2). subst (λ (v : UnitFault). IsFaultOf file v) (sym (two e)) (sym is ∙ ap (λ (n : ℕ). told f.pos n) e))
+    (λ (e : f.rule.0 ≡ 1). subst (λ (v : UnitFault). IsFaultOf file v) (sym (one e)) (sym is ∙ ap (λ (n : ℕ). finding_at f.pos n) e))
+    (λ (e : f.rule.0 ≡ 2). subst (λ (v : UnitFault). IsFaultOf file v) (sym (two e)) (sym is ∙ ap (λ (n : ℕ). finding_at f.pos n) e))
     (fault-rule file f (sym is))

@@ -25,7 +25,7 @@ text-finds file t d =
     let f = first_frame (env_at x [] []) d in
     second q _ _ _ (second q _ _ _ (second q _ _ _ (rw (params_frame-place x t f d.params) (body-finds x t (params_frame (place x [] f) d.params) d.body))))
 
--- the sizes are looked at only where nothing else is told
+-- the sizes are examined only where nothing else is found
 or_sizes-told : (d : Definition) (fs : Findings) (o : Option Finding) → o ≡ least fs → is_some o ≡ true → is_some (least (or_sizes d fs o)) ≡ true
 or_sizes-told d fs None e h = absurd (cc)
 or_sizes-told d fs (Some f) e h = rw (← e) refl

@@ -7,13 +7,13 @@ use Rattle.pungi_types.specs.declared.kind.ValueKind.{ValueKind}
 use Rattle.pungi_types.specs.declared.local.Local.{Local}
 use Rattle.pungi_types.specs.Files.{declr_pos}
 use Rattle.pungi_types.specs.Kinds.{declared_kind}
-use Rattle.pungi_types.specs.Stmts.{Frame, after_var, after_stmt, start_frame, initial_findings, vars_findings, decl_findings, condition_findings, option_findings, option_condition, return_findings, switched_findings, inside, behind, in_loop, in_switch, in_block, labelled, start_findings, stmt_findings, stmts_findings}
+use Rattle.pungi_types.specs.Stmts.{Frame, after_var, after_stmt, start_frame, first_value_findings, vars_findings, decl_findings, condition_findings, option_findings, option_condition, return_findings, switched_findings, in_part, after_part, in_loop, in_switch, in_block, in_label, start_findings, stmt_findings, stmts_findings}
 use Rattle.pungi_check.specs.Calls.{expr_calls, option_calls, init_calls, vars_calls, decl_calls, start_calls, stmt_calls, stmts_calls}
 use Rattle.pungi_check.proofs.Places.{World, env_at, place, refused_call, after_stmt-place, start_frame-place}
 use Rattle.pungi_check.proofs.Agreement.{Finds, none, first, second, both}
 use Rattle.pungi_check.proofs.FindsExprs.{expr-finds}
 
-initial-finds : (x : World) (t : List ℕ) (ls : List Local) (k : Option ValueKind) (p : Pos) (v : Option Init) → Finds (refused_call x t) (init_calls v) (initial_findings (env_at x t ls) k p v)
+initial-finds : (x : World) (t : List ℕ) (ls : List Local) (k : Option ValueKind) (p : Pos) (v : Option Init) → Finds (refused_call x t) (init_calls v) (first_value_findings (env_at x t ls) k p v)
 initial-finds x t ls k p None = none (refused_call x t) _
 initial-finds x t ls k p (Some (table ts)) = none (refused_call x t) _
 initial-finds x t ls k p (Some (value e)) = first (refused_call x t) _ _ _ (expr-finds x t ls e)
@@ -55,9 +55,9 @@ mutual
   stmt-finds x t f (block p ss q) = stmts-finds x t (in_block f ss) ss
   stmt-finds x t f (declare p d) = decl-finds x t f d
   stmt-finds x t f (do_expr p e) = option-finds x t f.env.locals e
-  stmt-finds x t f (if_only p e a) = both (refused_call x t) _ _ _ _ (condition-finds x t f.env.locals p e) (stmt-finds x t (inside f) a)
+  stmt-finds x t f (if_only p e a) = both (refused_call x t) _ _ _ _ (condition-finds x t f.env.locals p e) (stmt-finds x t (in_part f) a)
   stmt-finds x t f (if_else p e a b) =
-      both (refused_call x t) _ _ _ _ (condition-finds x t f.env.locals p e) (both (refused_call x t) _ _ _ _ (stmt-finds x t (inside f) a) (stmt-finds x t (behind (inside f) a) b))
+      both (refused_call x t) _ _ _ _ (condition-finds x t f.env.locals p e) (both (refused_call x t) _ _ _ _ (stmt-finds x t (in_part f) a) (stmt-finds x t (after_part (in_part f) a) b))
   stmt-finds x t f (while p e a) = both (refused_call x t) _ _ _ _ (condition-finds x t f.env.locals p e) (stmt-finds x t (in_loop f) a)
   stmt-finds x t f (do_while p a e) = both (refused_call x t) _ _ _ _ (stmt-finds x t (in_loop f) a) (condition-finds x t f.env.locals p e)
   stmt-finds x t f (for p a b c d) =
@@ -67,9 +67,9 @@ mutual
       (both q _ _ _ _ (start-finds x t f a) (both q _ _ _ _ (option_condition-finds x t g.env.locals p b) (both q _ _ _ _ (option-finds x t g.env.locals c) (stmt-finds x t (in_loop g) d))))
   stmt-finds x t f (switch p e a) =
       both (refused_call x t) _ _ _ _ (switched-finds x t f.env.locals p e) (second (refused_call x t) _ _ _ (stmt-finds x t (in_switch f) a))
-  stmt-finds x t f (case p e a) = second (refused_call x t) _ _ _ (both (refused_call x t) _ _ _ _ (expr-finds x t f.env.locals e) (stmt-finds x t (labelled f) a))
-  stmt-finds x t f (default p a) = second (refused_call x t) _ _ _ (stmt-finds x t (labelled f) a)
-  stmt-finds x t f (label p n a) = stmt-finds x t (labelled f) a
+  stmt-finds x t f (case p e a) = second (refused_call x t) _ _ _ (both (refused_call x t) _ _ _ _ (expr-finds x t f.env.locals e) (stmt-finds x t (in_label f) a))
+  stmt-finds x t f (default p a) = second (refused_call x t) _ _ _ (stmt-finds x t (in_label f) a)
+  stmt-finds x t f (label p n a) = stmt-finds x t (in_label f) a
   stmt-finds x t f (goto p n q) = none (refused_call x t) _
   stmt-finds x t f (break p) = none (refused_call x t) _
   stmt-finds x t f (continue p) = none (refused_call x t) _

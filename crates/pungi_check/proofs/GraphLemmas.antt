@@ -8,7 +8,7 @@ use Rattle.pungi_check.specs.Calls.{called_words}
 use Rattle.pungi_check.specs.CallGraph.{alone_in, callees_in, IsCallGraph}
 use Rattle.pungi_check.specs.declared.call_node.CallNode.{CallNode}
 use Rattle.pungi_check.specs.Distinct.{are_new}
-use Rattle.pungi_check.specs.Graph.{number_in, found, callees, Node, node_view, node_of, graph_of}
+use Rattle.pungi_check.specs.Graph.{number_in, as_list, callees, Node, node_view, node_of, graph_of}
 use Rattle.pungi_check.proofs.DistinctLemmas.{any-append, and-right, kept, later-new, not-both, is-false, or-false, is_word}
 
 number-from : (i : ℕ) (ds : List Definition) (w k : ℕ) → number_in i ds w ≡ Some k → i ≤ k
@@ -22,7 +22,7 @@ abbrev is_number : Option ℕ → ℕ → Bool
 is_number None j = false
 is_number (Some k) j = j == k
 
-found-among : (o : Option ℕ) (j : ℕ) → is_among (found o) j ≡ is_number o j
+found-among : (o : Option ℕ) (j : ℕ) → is_among (as_list o) j ≡ is_number o j
 found-among None j = refl
 found-among (Some k) j = or-false (j == k)
 
@@ -71,7 +71,7 @@ callees-among : (ds : List Definition) (ws : List ℕ) (j : ℕ) (e : Definition
     → is_among (callees (number_in 0 ds) ws) j ≡ is_among ws e.name.0
 callees-among ds [] j e n s = refl
 callees-among ds (w ∷ ws) j e n s =
-    any-append (λ x. j == x) (found (number_in 0 ds w)) (callees (number_in 0 ds) ws)
+    any-append (λ x. j == x) (as_list (number_in 0 ds w)) (callees (number_in 0 ds) ws)
     ∙ ap (λ b. b || is_among (callees (number_in 0 ds) ws) j) (found-among (number_in 0 ds w) j ∙ ap (λ (k : ℕ). is_number (number_in 0 ds w) k) (from-zero j) ∙ number-is 0 [] ds w j e n s)
     ∙ ap (λ b. (e.name.0 == w) || b) (callees-among ds ws j e n s)
 

@@ -135,7 +135,7 @@ pub reaching_done : (fs : List CallNode) (cs : List (Vec ℕ Global)) (marks : L
 reaching_done fs cs marks [] e r = reaching_end fs cs marks r
 reaching_done fs cs marks (j ∷ w) e r = absurd (omega arith)
 
--- what is popped is none where nothing waits
+-- nothing is popped where nothing waits
 pub nothing_waits : (popped : Option ℕ) (old new : ℕ) → ((x : ℕ) → popped ≡ Some x → ⊥) → MatchOption popped ((old ≡ 0) × (new ≡ 0)) (λ x. new + 1 ≡ old) → old ≡ 0
 nothing_waits None old new k h = h.0
 nothing_waits (Some x) old new k h = absurd (k x refl)

@@ -8,7 +8,7 @@ use Rattle.pungi_types.specs.declared.local.Local.{Local}
 use Rattle.pungi_types.specs.Files.{declr_pos}
 use Rattle.pungi_types.specs.Findings.{Findings, ◌and◌}
 use Rattle.pungi_types.specs.Kinds.{declared_kind}
-use Rattle.pungi_types.specs.Stmts.{Frame, after_var, after_stmt, start_frame, initial_findings, vars_findings, decl_findings, condition_findings, option_findings, option_condition, return_findings, switched_findings, inside, behind, in_loop, in_switch, in_block, labelled, start_findings, stmt_findings, stmts_findings}
+use Rattle.pungi_types.specs.Stmts.{Frame, after_var, after_stmt, start_frame, first_value_findings, vars_findings, decl_findings, condition_findings, option_findings, option_condition, return_findings, switched_findings, in_part, after_part, in_loop, in_switch, in_block, in_label, start_findings, stmt_findings, stmts_findings}
 use Rattle.pungi_check.specs.Calls.{expr_calls, option_calls, init_calls, vars_calls, decl_calls, start_calls, stmt_calls, stmts_calls}
 use Rattle.pungi_check.proofs.Places.{World, env_at, place, after_stmt-place, start_frame-place}
 use Rattle.pungi_check.proofs.Agreement.{Agree, left, right}
@@ -18,7 +18,7 @@ use Rattle.pungi_check.proofs.SameExprs.{expr-same}
 pub ands-same : (a b c d : Findings) → a ≡ b → c ≡ d → (a and c) ≡ (b and d)
 ands-same a b c d h k = cc
 
-initial-same : (x : World) (s t : List ℕ) (ls : List Local) (k : Option ValueKind) (p : Pos) (v : Option Init) → Agree x s t (init_calls v) → initial_findings (env_at x s ls) k p v ≡ initial_findings (env_at x t ls) k p v
+initial-same : (x : World) (s t : List ℕ) (ls : List Local) (k : Option ValueKind) (p : Pos) (v : Option Init) → Agree x s t (init_calls v) → first_value_findings (env_at x s ls) k p v ≡ first_value_findings (env_at x t ls) k p v
 initial-same x s t ls k p None h = refl
 initial-same x s t ls k p (Some (table ts)) h = refl
 initial-same x s t ls k p (Some (value e)) h = cc (kind-same x s t ls e h, expr-same x s t ls e h)
@@ -62,13 +62,13 @@ mutual
   stmt-same x s t f (declare p d) h = decl-same x s t f d h
   stmt-same x s t f (do_expr p e) h = option-same x s t f.env.locals e h
   stmt-same x s t f (if_only p e a) h =
-      cc (condition-same x s t f.env.locals p e (left x s t (expr_calls e) (stmt_calls a) h), stmt-same x s t (inside f) a (right x s t (expr_calls e) (stmt_calls a) h))
+      cc (condition-same x s t f.env.locals p e (left x s t (expr_calls e) (stmt_calls a) h), stmt-same x s t (in_part f) a (right x s t (expr_calls e) (stmt_calls a) h))
   stmt-same x s t f (if_else p e a b) h =
       let g = right x s t (expr_calls e) (stmt_calls a ++ stmt_calls b) h in
       cc (
         condition-same x s t f.env.locals p e (left x s t (expr_calls e) (stmt_calls a ++ stmt_calls b) h),
-        stmt-same x s t (inside f) a (left x s t (stmt_calls a) (stmt_calls b) g),
-        stmt-same x s t (behind (inside f) a) b (right x s t (stmt_calls a) (stmt_calls b) g),
+        stmt-same x s t (in_part f) a (left x s t (stmt_calls a) (stmt_calls b) g),
+        stmt-same x s t (after_part (in_part f) a) b (right x s t (stmt_calls a) (stmt_calls b) g),
       )
   stmt-same x s t f (while p e a) h =
       cc (condition-same x s t f.env.locals p e (left x s t (expr_calls e) (stmt_calls a) h), stmt-same x s t (in_loop f) a (right x s t (expr_calls e) (stmt_calls a) h))
@@ -88,9 +88,9 @@ mutual
   stmt-same x s t f (switch p e a) h =
       cc (switched-same x s t f.env.locals p e (left x s t (expr_calls e) (stmt_calls a) h), stmt-same x s t (in_switch f) a (right x s t (expr_calls e) (stmt_calls a) h))
   stmt-same x s t f (case p e a) h =
-      cc (expr-same x s t f.env.locals e (left x s t (expr_calls e) (stmt_calls a) h), stmt-same x s t (labelled f) a (right x s t (expr_calls e) (stmt_calls a) h))
-  stmt-same x s t f (default p a) h = cc (stmt-same x s t (labelled f) a h)
-  stmt-same x s t f (label p n a) h = stmt-same x s t (labelled f) a h
+      cc (expr-same x s t f.env.locals e (left x s t (expr_calls e) (stmt_calls a) h), stmt-same x s t (in_label f) a (right x s t (expr_calls e) (stmt_calls a) h))
+  stmt-same x s t f (default p a) h = cc (stmt-same x s t (in_label f) a h)
+  stmt-same x s t f (label p n a) h = stmt-same x s t (in_label f) a h
   stmt-same x s t f (goto p n q) h = refl
   stmt-same x s t f (break p) h = refl
   stmt-same x s t f (continue p) h = refl

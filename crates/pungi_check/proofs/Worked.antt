@@ -1,4 +1,5 @@
--- What the definitions tell of whole small files, by computing. The expected values come from a reading of the rules of its own.
+-- What the definitions say of whole small files, by computing. The expected values come from a reading of the rules of
+-- its own.
 use Rattle.std.proofs.Common.{◌≡◌, refl, ℕ, List, [], ◌∷◌, map, Option, Some, None, true, false, pos}
 use Rattle.pungi_base.specs.declared.key.Key.TheVariants as keys
 use Rattle.pungi_base.specs.declared.kind.Kind.TheVariants as tokens
@@ -21,7 +22,7 @@ at l c = record { line = l; col = c }
 abbrev name : ℕ → Name
 name n = record { 0 = n }
 
--- those of which nothing is told
+-- those of which nothing is reported
 abbrev go : Option Finding → Definition → List Definition → List Definition
 go None d ds = d ∷ ds
 go (Some f) d ds = ds

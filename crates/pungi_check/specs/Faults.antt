@@ -1,5 +1,5 @@
 -- Why a file is refused.
---   told p n            the finding of this place and number
+--   finding_at p n      the finding of this place and number
 --   IsFaultOf file fault    the first fault in the text, and at one place the lower number: 1 a duplicate name, 2 the 4,097th function
 use Rattle.std.specs.Prelude.{◌≡◌, ℕ, Option, Some}
 use Rattle.pungi_base.specs.declared.pos.Pos.{Pos}
@@ -10,10 +10,10 @@ use Rattle.pungi_types.specs.declared.finding.Finding.{Finding}
 use Rattle.pungi_check.specs.declared.fault.UnitFault.{UnitFault}
 use Rattle.pungi_check.specs.declared.fault.UnitFault.TheVariants as why
 
-abbrev pub told : Pos → ℕ → Option Finding
-told p n = Some (record { pos = p; rule = record { 0 = n } })
+abbrev pub finding_at : Pos → ℕ → Option Finding
+finding_at p n = Some (record { pos = p; rule = record { 0 = n } })
 
 abbrev pub IsFaultOf : SourceFile → UnitFault → Type 0
-IsFaultOf file (why.DuplicateName p) = least (faults file) ≡ told p 1
-IsFaultOf file (why.TooManyFunctions p) = least (faults file) ≡ told p 2
+IsFaultOf file (why.DuplicateName p) = least (faults file) ≡ finding_at p 1
+IsFaultOf file (why.TooManyFunctions p) = least (faults file) ≡ finding_at p 2
 IsFaultOf file why.Memory = Unit {0}

@@ -1,11 +1,11 @@
 -- The call graph of a file's functions, by their numbers.
 --   number_in i ds w    the number of the first function of a name, where the first of these has number i
---   found o             what is found, as a list
+--   as_list o           what is found, as a list
 --   callees find ws     the numbers of those words that have one
 --   Node, node_view     a function of the graph: its finding where no other is refused, and what it calls
 --   node_of file find d that of a definition
 --   graph_of file       that of each function of a file
---   gathered ws ds marks    these words, with the names of the marked definitions
+--   with_marked ws ds marks    these words, with the names of the marked definitions
 use Rattle.std.specs.Prelude.{ℕ, ◌+◌, ◌==◌, Bool, true, false, List, [], ◌∷◌, ◌++◌, map, Option, Some, None, if◌then◌else◌}
 use Rattle.pungi_types.specs.Files.{SourceFile, Definition, definitions}
 use Rattle.pungi_types.specs.Names.{with_word}
@@ -18,13 +18,13 @@ abbrev pub number_in : ℕ → List Definition → ℕ → Option ℕ
 number_in i [] w = None
 number_in i (d ∷ ds) w = (if d.name.0 == w then Some i else number_in (i + 1) ds w)
 
-abbrev pub found : Option ℕ → List ℕ
-found None = []
-found (Some j) = j ∷ []
+abbrev pub as_list : Option ℕ → List ℕ
+as_list None = []
+as_list (Some j) = j ∷ []
 
 abbrev pub callees : (ℕ → Option ℕ) → List ℕ → List ℕ
 callees find [] = []
-callees find (w ∷ ws) = found (find w) ++ callees find ws
+callees find (w ∷ ws) = as_list (find w) ++ callees find ws
 
 pub record Node : Type 0 where
   pub alone : Option Finding
@@ -39,8 +39,8 @@ node_of file find d = record { alone = refusal file [] d; calls = callees find (
 abbrev pub graph_of : SourceFile → List Node
 graph_of file = map (node_of file (number_in 0 (definitions file.items))) (definitions file.items)
 
-abbrev pub gathered : List ℕ → List Definition → List Bool → List ℕ
-gathered ws [] marks = ws
-gathered ws (d ∷ ds) [] = ws
-gathered ws (d ∷ ds) (true ∷ marks) = gathered (with_word ws d.name.0) ds marks
-gathered ws (d ∷ ds) (false ∷ marks) = gathered ws ds marks
+abbrev pub with_marked : List ℕ → List Definition → List Bool → List ℕ
+with_marked ws [] marks = ws
+with_marked ws (d ∷ ds) [] = ws
+with_marked ws (d ∷ ds) (true ∷ marks) = with_marked (with_word ws d.name.0) ds marks
+with_marked ws (d ∷ ds) (false ∷ marks) = with_marked ws ds marks

@@ -1,6 +1,6 @@
 //! A unit is checked as a whole, and then function by function.
 ghost use Rattle.std.specs.Prelude.{◌≡◌, ◌+◌, ◌≤◌, ◌^◌, None, length, IfOk, IfErr, OnOk, IsTrue, map};
-ghost use Rattle.pungi_check.specs.Duplicates.{faults as faults_of};
+ghost use Rattle.pungi_check.specs.Duplicates.{faults};
 ghost use Rattle.pungi_check.specs.Faults.{IsFaultOf};
 ghost use Rattle.pungi_check.specs.Found.{IsFound, IsChecked, checked_view};
 ghost use Rattle.pungi_check.specs.Graph.{graph_of, node_view};
@@ -10,7 +10,7 @@ ghost use Rattle.pungi_declared.specs.DeclaredView.{function_view};
 ghost use Rattle.pungi_names.specs.NamesView.{file_of};
 ghost use Rattle.pungi_resolve.specs.Resolutions.{resolution_of, resolution_view};
 ghost use Rattle.pungi_tree.specs.UnitView.{unit_view};
-ghost use Rattle.pungi_types.specs.Files.{source_file, definitions as definitions_of};
+ghost use Rattle.pungi_types.specs.Files.{source_file, definitions};
 ghost use Rattle.pungi_types.specs.Findings.{least};
 ghost use Rattle.pungi_types.specs.Functions.{refusal};
 ghost use Rattle.pungi_types.specs.Names.{type_objects};
@@ -56,8 +56,8 @@ fn refuse_fault(
     functions: &Vec<&FunctionDef>,
 ) -> Result<(), UnitFault>
     requires unit { unit_view unit.now ≡ (file_of names.now).items }
-    requires listed { map function_view functions.now.items ≡ definitions_of (file_of names.now).items }
-    ensures none { OnOk result (least (faults_of (file_of names.now)) ≡ None) }
+    requires listed { map function_view functions.now.items ≡ definitions (file_of names.now).items }
+    ensures none { OnOk result (least (faults (file_of names.now)) ≡ None) }
     ensures fault { IfErr result (λ e. IsFaultOf (file_of names.now) e) }
 {
     match faults(alloc, names, unit, functions) {
@@ -98,8 +98,8 @@ fn refused_set(
     list: &[&FunctionDef],
     graph: &Vec<CallNode>,
 ) -> Result<IndexSet<u32>, Memory>
-    requires listed { map function_view list.now ≡ definitions_of (file_of names.now).items }
-    requires none { least (faults_of (file_of names.now)) ≡ None }
+    requires listed { map function_view list.now ≡ definitions (file_of names.now).items }
+    requires none { least (faults (file_of names.now)) ≡ None }
     requires graph { map node_view graph.now.items ≡ graph_of (file_of names.now) }
     ensures { IfOk result (λ refused. IsRefusedSet (file_of names.now) refused.keys) }
 {
@@ -118,11 +118,11 @@ struct Found {
 
 /// What is found of the functions of a file without a fault.
 fn find(alloc: Global, names: &UnitNames<'_>, list: &[&FunctionDef]) -> Result<Found, Memory>
-    requires listed { map function_view list.now ≡ definitions_of (file_of names.now).items }
-    requires none { least (faults_of (file_of names.now)) ≡ None }
+    requires listed { map function_view list.now ≡ definitions (file_of names.now).items }
+    requires none { least (faults (file_of names.now)) ≡ None }
     ensures set { IfOk result (λ f. IsRefusedSet (file_of names.now) f.refused.keys) }
-    ensures refusals { IfOk result (λ f. f.refusals.items ≡ map (refusal (file_of names.now) f.refused.keys) (definitions_of (file_of names.now).items)) }
-    ensures resolved { IfOk result (λ f. map resolution_view f.resolved.items ≡ map (resolution_of (file_of names.now) f.refused.keys) (definitions_of (file_of names.now).items)) }
+    ensures refusals { IfOk result (λ f. f.refusals.items ≡ map (refusal (file_of names.now) f.refused.keys) (definitions (file_of names.now).items)) }
+    ensures resolved { IfOk result (λ f. map resolution_view f.resolved.items ≡ map (resolution_of (file_of names.now) f.refused.keys) (definitions (file_of names.now).items)) }
 {
     let graph = graph(alloc, names, list)?;
     let refused = refused_set(alloc, names, list, &graph)?;
@@ -143,7 +143,7 @@ fn look<'u>(
     list: &Vec<&FunctionDef>,
 ) -> Result<Parts, UnitFault>
     requires unit { unit_view unit.now ≡ (file_of names.now).items }
-    requires listed { map function_view list.now.items ≡ definitions_of (file_of names.now).items }
+    requires listed { map function_view list.now.items ≡ definitions (file_of names.now).items }
     requires rows { IsTrue (are_rows (file_of names.now).rows) }
     ensures found { IfOk result (λ p. IsFound (file_of names.now) p.names p.found.refused.keys p.found.refusals.items (map resolution_view p.found.resolved.items) p.statics) }
     ensures fault { IfErr result (λ e. IsFaultOf (file_of names.now) e) }
@@ -175,7 +175,7 @@ fn look_at(
     rows: &Table,
     list: &Vec<&FunctionDef>,
 ) -> Result<Parts, UnitFault>
-    requires { map function_view list.now.items ≡ definitions_of (unit_view unit.now) }
+    requires { map function_view list.now.items ≡ definitions (unit_view unit.now) }
     ensures found { IfOk result (λ p. IsFound (source_file texts.now (unit_view unit.now) rows.now) p.names p.found.refused.keys p.found.refusals.items (map resolution_view p.found.resolved.items) p.statics) }
     ensures fault { IfErr result (λ e. IsFaultOf (source_file texts.now (unit_view unit.now) rows.now) e) }
 {

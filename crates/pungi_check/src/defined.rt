@@ -3,7 +3,7 @@ ghost use Rattle.std.specs.Prelude.{◌≡◌, [], OnOk, map, slice_get};
 ghost use Rattle.pungi_declared.specs.DeclaredView.{function_view};
 ghost use Rattle.pungi_check.specs.UsesView.{use_view, name_use_view};
 ghost use Rattle.pungi_names.specs.NamesView.{file_of};
-ghost use Rattle.pungi_check.specs.Duplicates.{is_taken as is_taken_of, is_variable_use as is_variable_use_of, definition_faults, variable_faults, count_faults};
+ghost use Rattle.pungi_check.specs.Duplicates.{is_taken, is_variable_use, definition_faults, variable_faults, count_faults};
 ghost use Rattle.pungi_types.specs.Findings.{least_from};
 
 use crate::name_use::{NameUse, Use};
@@ -19,7 +19,7 @@ const MOST_FUNCTIONS: usize = 4096;
 
 /// Whether a word is the name of a row or a built-in static.
 fn is_taken(names: &UnitNames<'_>, word: u32) -> bool
-    ensures { result ≡ is_taken_of (file_of names.now).rows word }
+    ensures { result ≡ is_taken (file_of names.now).rows word }
 {
     names.is_row(word) || is_built_in_static(word)
 }
@@ -48,7 +48,7 @@ pub(crate) fn note_definitions(
 }
 
 fn is_variable_use(as_what: Use) -> bool
-    ensures { result ≡ is_variable_use_of (use_view as_what) }
+    ensures { result ≡ is_variable_use (use_view as_what) }
 {
     match as_what {
         Use::Variable => true,

@@ -5,8 +5,8 @@ use pungi_base::{Memory, Pos};
 use std::alloc::{AllocError, AllocFailed};
 use thiserror::Error;
 
-/// Why a unit is refused, and the place of the later name. The first in the text is told, and at one place the earlier of
-/// these.
+/// Why a unit is refused, and the place of the later name. The first in the text is reported, and at one place the
+/// earlier of these.
 #[derive(Debug, Drop, Error)]
 pub enum UnitFault {
     /// Memory ran out.

@@ -3,10 +3,10 @@ ghost use Rattle.std.specs.Prelude.{◌≡◌, OnOk, IfOk, [], map};
 ghost use Rattle.pungi_declared.specs.DeclaredView.{function_view};
 ghost use Rattle.pungi_names.specs.NamesView.{file_of};
 ghost use Rattle.pungi_tree.specs.UnitView.{unit_view};
-ghost use Rattle.pungi_check.specs.Duplicates.{faults as faults_of, use_faults, uses as uses_of, variable_faults, typedef_faults, tag_faults};
-ghost use Rattle.pungi_types.specs.Files.{typedefs as typedefs_of, definitions as definitions_of};
+ghost use Rattle.pungi_check.specs.Duplicates.{faults, use_faults, uses, variable_faults, typedef_faults, tag_faults};
+ghost use Rattle.pungi_types.specs.Files.{typedefs, definitions};
 ghost use Rattle.pungi_types.specs.Findings.{◌and◌, least, least_from};
-ghost use Rattle.pungi_types.specs.Tags.{tags as tags_of};
+ghost use Rattle.pungi_types.specs.Tags.{tags};
 
 use crate::defined::{note_count, note_definitions, note_variables};
 use crate::seen_tags::note_tags;
@@ -27,8 +27,8 @@ fn note_names(
     first: &mut Option<Finding>,
     unit: &Unit,
 ) -> Result<(), Memory>
-    ensures { OnOk result (first.new ≡ least_from first.old (use_faults [] (uses_of (file_of names.now).items (unit_view unit.now))
-        and variable_faults (file_of names.now) (uses_of (file_of names.now).items (unit_view unit.now)))) }
+    ensures { OnOk result (first.new ≡ least_from first.old (use_faults [] (uses (file_of names.now).items (unit_view unit.now))
+        and variable_faults (file_of names.now) (uses (file_of names.now).items (unit_view unit.now)))) }
 {
     let list = uses(alloc, names, unit)?;
     note_uses(alloc, first, &list)?;
@@ -38,7 +38,7 @@ fn note_names(
 
 #[tactic(auto, using(crate::proofs::SeenLemmas::by_names))]
 fn note_types(alloc: Global, first: &mut Option<Finding>, unit: &Unit) -> Result<(), Memory>
-    ensures { OnOk result (first.new ≡ least_from first.old (typedef_faults [] (typedefs_of (unit_view unit.now)) and tag_faults [] (tags_of (unit_view unit.now)))) }
+    ensures { OnOk result (first.new ≡ least_from first.old (typedef_faults [] (typedefs (unit_view unit.now)) and tag_faults [] (tags (unit_view unit.now)))) }
 {
     let words = typedefs(alloc, unit)?;
     note_typedefs(alloc, first, &words)?;
@@ -48,7 +48,7 @@ fn note_types(alloc: Global, first: &mut Option<Finding>, unit: &Unit) -> Result
 }
 
 /// The fault of a file, the first in its text: a name that it may not use twice (1; C11 6.2.3, 6.7, 6.9), or the first
-/// function past the 4,096th (2). `None` where there is none.
+/// function past the 4,096th (2). `None` where there is no fault.
 pub(crate) fn faults(
     alloc: Global,
     names: &UnitNames<'_>,
@@ -56,8 +56,8 @@ pub(crate) fn faults(
     functions: &Vec<&FunctionDef>,
 ) -> Result<Option<Finding>, Memory>
     requires unit { unit_view unit.now ≡ (file_of names.now).items }
-    requires listed { map function_view functions.now.items ≡ definitions_of (file_of names.now).items }
-    ensures { IfOk result (λ told. told ≡ least (faults_of (file_of names.now))) }
+    requires listed { map function_view functions.now.items ≡ definitions (file_of names.now).items }
+    ensures { IfOk result (λ told. told ≡ least (faults (file_of names.now))) }
 {
     let mut first = None;
     note_definitions(alloc, names, &mut first, functions)?;

@@ -3,7 +3,7 @@ ghost use Rattle.std.specs.Prelude.{◌≡◌, ℕ, IfOk, map, nat_eq};
 ghost use Rattle.indexmap.specs.IndexMap.{get};
 ghost use Rattle.pungi_declared.specs.DeclaredView.{function_view};
 ghost use Rattle.pungi_names.specs.NamesView.{file_of};
-ghost use Rattle.pungi_check.specs.Calls.{called_words as called_words_of};
+ghost use Rattle.pungi_check.specs.Calls.{called_words};
 ghost use Rattle.pungi_types.specs.TypesView.{definition_view};
 ghost use Rattle.pungi_check.specs.Graph.{callees as callees_of, node_view, node_of, number_in};
 
@@ -40,7 +40,7 @@ fn called(
     numbers: &IndexMap<u32, usize>,
     f: &FunctionDef,
 ) -> Result<Vec<usize>, Memory>
-    ensures { IfOk result (λ js. js.items ≡ callees_of (λ (w : ℕ). get nat_eq numbers.now w) (called_words_of (definition_view f.now))) }
+    ensures { IfOk result (λ js. js.items ≡ callees_of (λ (w : ℕ). get nat_eq numbers.now w) (called_words (definition_view f.now))) }
 {
     let words = called_words(alloc, &f.body)?;
     callees(alloc, numbers, words.as_slice())

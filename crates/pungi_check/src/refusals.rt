@@ -3,8 +3,8 @@ ghost use Rattle.std.specs.Prelude.{◌≡◌, IfOk, map};
 ghost use Rattle.pungi_check.specs.Graph.{node_view, node_of, number_in};
 ghost use Rattle.pungi_declared.specs.DeclaredView.{function_view};
 ghost use Rattle.pungi_names.specs.NamesView.{file_of};
-ghost use Rattle.pungi_types.specs.Files.{definitions as definitions_of};
-ghost use Rattle.pungi_types.specs.Functions.{refusal as refusal_of};
+ghost use Rattle.pungi_types.specs.Files.{definitions};
+ghost use Rattle.pungi_types.specs.Functions.{refusal};
 ghost use Rattle.pungi_types.specs.TypesView.{definition_view};
 
 use crate::call_node::CallNode;
@@ -23,7 +23,7 @@ pub(crate) fn finding(
     refused: &IndexSet<u32>,
     f: &FunctionDef,
 ) -> Result<Option<Finding>, Memory>
-    ensures { IfOk result (λ found. found ≡ refusal_of (file_of names.now) refused.now.keys (definition_view f.now)) }
+    ensures { IfOk result (λ found. found ≡ refusal (file_of names.now) refused.now.keys (definition_view f.now)) }
 {
     let here = FileNames {
         names,
@@ -41,8 +41,8 @@ fn settled(
     f: &FunctionDef,
     node: &CallNode,
 ) -> Result<Option<Finding>, Memory>
-    requires { node_view node.now ≡ node_of (file_of names.now) (number_in 0 (definitions_of (file_of names.now).items)) (definition_view f.now) }
-    ensures { IfOk result (λ found. found ≡ refusal_of (file_of names.now) refused.now.keys (definition_view f.now)) }
+    requires { node_view node.now ≡ node_of (file_of names.now) (number_in 0 (definitions (file_of names.now).items)) (definition_view f.now) }
+    ensures { IfOk result (λ found. found ≡ refusal (file_of names.now) refused.now.keys (definition_view f.now)) }
 {
     if node.callees.is_empty() {
         Ok(node.alone)
@@ -59,8 +59,8 @@ pub(crate) fn refusals(
     list: &[&FunctionDef],
     graph: &[CallNode],
 ) -> Result<Vec<Option<Finding>>, Memory>
-    requires { map node_view graph.now ≡ map (node_of (file_of names.now) (number_in 0 (definitions_of (file_of names.now).items))) (map function_view list.now) }
-    ensures { IfOk result (λ all. all.items ≡ map (refusal_of (file_of names.now) refused.now.keys) (map function_view list.now)) }
+    requires { map node_view graph.now ≡ map (node_of (file_of names.now) (number_in 0 (definitions (file_of names.now).items))) (map function_view list.now) }
+    ensures { IfOk result (λ all. all.items ≡ map (refusal (file_of names.now) refused.now.keys) (map function_view list.now)) }
 {
     let mut all = Vec::new(alloc);
     for (i, f) in list.iter().enumerate() {

@@ -2,7 +2,7 @@
 ghost use Rattle.std.specs.Prelude.{◌≡◌, [], false, get_or, IfOk, OnOk, map, if◌then◌else◌};
 ghost use Rattle.pungi_declared.specs.DeclaredView.{function_view};
 ghost use Rattle.pungi_types.specs.Names.{with_word};
-ghost use Rattle.pungi_check.specs.Graph.{gathered};
+ghost use Rattle.pungi_check.specs.Graph.{with_marked};
 
 use indexmap::IndexSet;
 use pungi_base::Memory;
@@ -31,7 +31,7 @@ pub(crate) fn refused_words(
     list: &[&FunctionDef],
     marks: &[bool],
 ) -> Result<IndexSet<u32>, Memory>
-    ensures { IfOk result (λ ws. ws.keys ≡ gathered [] (map function_view list.now) marks.now) }
+    ensures { IfOk result (λ ws. ws.keys ≡ with_marked [] (map function_view list.now) marks.now) }
 {
     let mut words = IndexSet::new(alloc);
     for (i, f) in list.iter().enumerate() {

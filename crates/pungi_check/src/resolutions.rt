@@ -3,8 +3,8 @@ ghost use Rattle.std.specs.Prelude.{◌≡◌, Some, IfOk, map};
 ghost use Rattle.pungi_declared.specs.DeclaredView.{function_view};
 ghost use Rattle.pungi_names.specs.NamesView.{file_of};
 ghost use Rattle.pungi_resolve.specs.Resolutions.{resolution_of, resolution_view};
-ghost use Rattle.pungi_types.specs.Files.{AreOwn, definitions as definitions_of, definition_in};
-ghost use Rattle.pungi_types.specs.Functions.{refusal as refusal_of};
+ghost use Rattle.pungi_types.specs.Files.{AreOwn, definitions, definition_in};
+ghost use Rattle.pungi_types.specs.Functions.{refusal};
 ghost use Rattle.pungi_types.specs.Refused.{Holds};
 ghost use Rattle.pungi_types.specs.TypesView.{definition_view};
 
@@ -25,9 +25,9 @@ fn resolution(
     f: &FunctionDef,
     finding: Option<Finding>,
 ) -> Result<Option<Function>, Memory>
-    requires own { definition_in (definitions_of (file_of names.now).items) (definition_view f.now).name.0 ≡ Some (definition_view f.now) }
+    requires own { definition_in (definitions (file_of names.now).items) (definition_view f.now).name.0 ≡ Some (definition_view f.now) }
     requires others { Holds (file_of names.now) refused.now.keys }
-    requires found { finding ≡ refusal_of (file_of names.now) refused.now.keys (definition_view f.now) }
+    requires found { finding ≡ refusal (file_of names.now) refused.now.keys (definition_view f.now) }
     ensures { IfOk result (λ r. resolution_view r ≡ resolution_of (file_of names.now) refused.now.keys (definition_view f.now)) }
 {
     if finding.is_some() {
@@ -50,9 +50,9 @@ pub(crate) fn resolutions(
     list: &[&FunctionDef],
     refusals: &[Option<Finding>],
 ) -> Result<Vec<Option<Function>>, Memory>
-    requires own { AreOwn (definitions_of (file_of names.now).items) (map function_view list.now) }
+    requires own { AreOwn (definitions (file_of names.now).items) (map function_view list.now) }
     requires others { Holds (file_of names.now) refused.now.keys }
-    requires found { refusals.now ≡ map (refusal_of (file_of names.now) refused.now.keys) (map function_view list.now) }
+    requires found { refusals.now ≡ map (refusal (file_of names.now) refused.now.keys) (map function_view list.now) }
     ensures { IfOk result (λ all. map resolution_view all.items ≡ map (resolution_of (file_of names.now) refused.now.keys) (map function_view list.now)) }
 {
     let mut all = Vec::new(alloc);

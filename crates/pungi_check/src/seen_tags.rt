@@ -4,7 +4,7 @@ ghost use Rattle.pungi_declared.specs.DeclaredView.{tag_view};
 ghost use Rattle.pungi_check.specs.SeenNames.{no_tags, tags_of, with_tag, with_some_tag, some_tag_fault, tag_faults_by};
 ghost use Rattle.pungi_check.specs.SeenView.{kept_tags};
 ghost use Rattle.pungi_types.specs.Findings.{least_from};
-ghost use Rattle.pungi_types.specs.Kinds.{is_struct as is_struct_of};
+ghost use Rattle.pungi_types.specs.Kinds.{is_struct};
 ghost use Rattle.pungi_types.specs.Names.{is_among};
 
 use indexmap::IndexSet;
@@ -21,7 +21,7 @@ pub struct KeptTags {
 }
 
 fn is_struct(of: Key) -> bool
-    ensures { result ≡ is_struct_of of }
+    ensures { result ≡ is_struct of }
 {
     match of {
         Key::Struct => true,
@@ -30,7 +30,7 @@ fn is_struct(of: Key) -> bool
 }
 
 fn is_seen(seen: &KeptTags, of: Key, word: u32) -> bool
-    ensures { result ≡ is_among (tags_of (kept_tags seen.now) (is_struct_of of)) word }
+    ensures { result ≡ is_among (tags_of (kept_tags seen.now) (is_struct of)) word }
 {
     if is_struct(of) {
         is_kept(&seen.structs, word)
@@ -40,7 +40,7 @@ fn is_seen(seen: &KeptTags, of: Key, word: u32) -> bool
 }
 
 fn see(seen: &mut KeptTags, of: Key, word: u32) -> Result<(), Memory>
-    ensures { OnOk result (kept_tags seen.new ≡ with_tag (kept_tags seen.old) (is_struct_of of) word) }
+    ensures { OnOk result (kept_tags seen.new ≡ with_tag (kept_tags seen.old) (is_struct of) word) }
 {
     if is_struct(of) {
         keep(&mut seen.structs, word)
@@ -55,8 +55,8 @@ fn note_tag(
     of: Key,
     tag: Option<(Name, Pos)>,
 ) -> Result<(), Memory>
-    ensures kept { OnOk result (kept_tags seen.new ≡ with_some_tag (kept_tags seen.old) (is_struct_of of) tag) }
-    ensures found { OnOk result (first.new ≡ least_from first.old (some_tag_fault (kept_tags seen.old) (is_struct_of of) tag)) }
+    ensures kept { OnOk result (kept_tags seen.new ≡ with_some_tag (kept_tags seen.old) (is_struct of) tag) }
+    ensures found { OnOk result (first.new ≡ least_from first.old (some_tag_fault (kept_tags seen.old) (is_struct of) tag)) }
 {
     match tag {
         None => Ok(()),

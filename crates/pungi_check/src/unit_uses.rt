@@ -5,7 +5,7 @@ ghost use Rattle.pungi_names.specs.NamesView.{file_of};
 ghost use Rattle.pungi_tree.specs.ExprView.{spec_view, declr_view};
 ghost use Rattle.pungi_tree.specs.StmtView.{var_decl_view};
 ghost use Rattle.pungi_tree.specs.UnitView.{unit_view};
-ghost use Rattle.pungi_check.specs.Duplicates.{as_table, as_variable, uses as uses_of, vars_uses};
+ghost use Rattle.pungi_check.specs.Duplicates.{as_table, as_variable, uses, vars_uses};
 ghost use Rattle.pungi_types.specs.Names.{is_table};
 
 use crate::name_use::{NameUse, Use};
@@ -55,7 +55,7 @@ pub(crate) fn uses(
     names: &UnitNames<'_>,
     unit: &Unit,
 ) -> Result<Vec<NameUse>, Memory>
-    ensures { IfOk result (λ us. map name_use_view us.items ≡ uses_of (file_of names.now).items (unit_view unit.now)) }
+    ensures { IfOk result (λ us. map name_use_view us.items ≡ uses (file_of names.now).items (unit_view unit.now)) }
 {
     let mut out = Vec::new(alloc);
     for i in &unit.items {

@@ -64,7 +64,7 @@ fn refused_alone(alloc: Global, functions: &[CallNode]) -> Result<Vec<usize>, Me
 }
 
 /// The least set of refused functions of a file with this call graph, as marks by number: each in which a rule holds, where a call of
-/// another refused function is one of what a rule refuses. Each function waits once, and each call is looked at twice.
+/// another refused function is one of what a rule refuses. Each function waits once, and each call is visited twice.
 pub(crate) fn least_set(alloc: Global, functions: &[CallNode]) -> Result<Vec<bool>, Memory>
     ensures reached { IfOk result (λ marks. IsReached functions.now marks.items) }
     ensures least { IfOk result (λ marks. (file : SourceFile) → IsCallGraph file functions.now → IsRefusedSet file (refused_names (definitions file.items) marks.items)) }

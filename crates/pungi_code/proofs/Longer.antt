@@ -17,12 +17,12 @@ use Rattle.pungi_world.specs.Slots.{load_effect, store_effect}
 use Rattle.pungi_world.specs.Calls.{call_effect}
 use Rattle.pungi_meaning.specs.Values.{fits, arithmetic, number_of}
 use Rattle.pungi_meaning.specs.Todo.{Operation, Computed, Fitted, Compared, Loaded, Stored, Called}
-use Rattle.pungi_meaning.specs.Run.{Run, End, over, noted, Stopped, OutOfFuel}
+use Rattle.pungi_meaning.specs.Run.{Run, End, end_at_once, with_operations, Stopped, OutOfFuel}
 use Rattle.pungi_code.specs.declared.code.Line.{Line}
 use Rattle.pungi_code.specs.declared.instr.Instr.{Instr}
 use Rattle.pungi_code.specs.declared.instr.Instr.TheVariants.{Set, Arith, Fit, Compare, Load, Store, Api, Call, Unset, Jump, Branch, Return, Fall}
-use Rattle.pungi_code.specs.Registers.{Regs, Next, put, content_of, with_value, all_values, with_values, left, reacting, answered, with_outputs}
-use Rattle.pungi_code.specs.Perform.{computing, slot_of, with_slot, perform}
+use Rattle.pungi_code.specs.Registers.{Regs, Next, put, content_of, with_value, all_values, with_values, choices_left, after_effect, put_answer, with_outputs}
+use Rattle.pungi_code.specs.Perform.{with_number, slot_of, with_slot, perform}
 use Rattle.pungi_code.specs.Run.{fetch, exec}
 use Rattle.pungi_code.specs.Alike.{IsOver}
 
@@ -38,11 +38,11 @@ values_extend : (c : Option (List Value)) (p : Pos) (f g : List Value → Run) (
 values_extend None p f g o h e = e
 values_extend (Some x) p f g o h e = h x e
 
-computing_extends : (n : Option ℤ) (p : Pos) (f g : ℤ → Run) (o : Run) → ((x : ℤ) → f x ≡ o → g x ≡ o) → computing p n f ≡ o → computing p n g ≡ o
+computing_extends : (n : Option ℤ) (p : Pos) (f g : ℤ → Run) (o : Run) → ((x : ℤ) → f x ≡ o → g x ≡ o) → with_number p n f ≡ o → with_number p n g ≡ o
 computing_extends None p f g o h e = e
 computing_extends (Some x) p f g o h e = h x e
 
-if_extends : (b : Bool) (f g : Run) (p : Pos) (o : Run) → (f ≡ o → g ≡ o) → (if b then f else over (Stopped p)) ≡ o → (if b then g else over (Stopped p)) ≡ o
+if_extends : (b : Bool) (f g : Run) (p : Pos) (o : Run) → (f ≡ o → g ≡ o) → (if b then f else end_at_once (Stopped p)) ≡ o → (if b then g else end_at_once (Stopped p)) ≡ o
 if_extends true f g p o h e = h e
 if_extends false f g p o h e = e
 
@@ -50,16 +50,16 @@ slot_extends : (s : Option (Slot × Param)) (p : Pos) (f g : Slot → Param → 
 slot_extends None p f g o h e = e
 slot_extends (Some x) p f g o h e = h x.0 x.1 e
 
-reacting_extends : (r : Result (Effect × World) Halt) (p : Pos) (m : Regs) (f g : Effect → Regs → Run) (o : Run) → ((x : Effect) (q : Regs) → f x q ≡ o → g x q ≡ o) → reacting p r m f ≡ o → reacting p r m g ≡ o
+reacting_extends : (r : Result (Effect × World) Halt) (p : Pos) (m : Regs) (f g : Effect → Regs → Run) (o : Run) → ((x : Effect) (q : Regs) → f x q ≡ o → g x q ≡ o) → after_effect p r m f ≡ o → after_effect p r m g ≡ o
 reacting_extends (Ok r) p m f g o h e = h r.0 _ e
 reacting_extends (Err halt.Stopped) p m f g o h e = e
 reacting_extends (Err halt.NeedsChoice) p m f g o h e = e
 reacting_extends (Err halt.Memory) p m f g o h e = e
 
-noted_extends : (f g : Next) → Extends f g → (ops : List Operation) (pc : ℕ) (m : Regs) (o : Run) → IsOver o.end → noted ops (f pc m) ≡ o → noted ops (g pc m) ≡ o
-noted_extends f g h ops pc m o over e =
-    let is : IsOver (f pc m).end = subst IsOver (sym (ap (λ (r : Run). r.end) e)) over in
-    ap (noted ops) (h pc m (f pc m) is refl) ∙ e
+noted_extends : (f g : Next) → Extends f g → (ops : List Operation) (pc : ℕ) (m : Regs) (o : Run) → IsOver o.end → with_operations ops (f pc m) ≡ o → with_operations ops (g pc m) ≡ o
+noted_extends f g h ops pc m o end_at_once e =
+    let is : IsOver (f pc m).end = subst IsOver (sym (ap (λ (r : Run). r.end) e)) end_at_once in
+    ap (with_operations ops) (h pc m (f pc m) is refl) ∙ e
 
 perform_extends : (choices : List Choice) (f g : Next) → Extends f g → (i : Instr) (p : Pos) (pc : ℕ) (m : Regs) (o : Run) → IsOver o.end → perform choices i p f pc m ≡ o → perform choices i p g pc m ≡ o
 perform_extends choices f g h (Set x a) p pc m o is e =
@@ -71,11 +71,11 @@ perform_extends choices f g h (Fit x kind a) p pc m o is e =
 perform_extends choices f g h (Compare x c a b) p pc m o is e =
     value_extends (content_of a m.vars) p _ _ o (λ v d. value_extends (content_of b m.vars) p _ _ o (λ w q. noted_extends f g h (Compared p c v w ∷ []) (pc + 1) _ o is q) d) e
 perform_extends choices f g h (Load x place) p pc m o is e =
-    slot_extends (slot_of place m.vars) p _ _ o (λ s k d. reacting_extends (load_effect m.world s k (left choices m)) p m _ _ o (λ x' q c. noted_extends f g h (Loaded p s x'.value ∷ []) (pc + 1) _ o is c) d) e
+    slot_extends (slot_of place m.vars) p _ _ o (λ s k d. reacting_extends (load_effect m.world s k (choices_left choices m)) p m _ _ o (λ x' q c. noted_extends f g h (Loaded p s x'.value ∷ []) (pc + 1) _ o is c) d) e
 perform_extends choices f g h (Store place a) p pc m o is e =
-    value_extends (content_of a m.vars) p _ _ o (λ v b. slot_extends (slot_of place m.vars) p _ _ o (λ s k d. reacting_extends (store_effect m.world s k v (left choices m)) p m _ _ o (λ x' q c. noted_extends f g h (Stored p s v ∷ []) (pc + 1) _ o is c) d) b) e
+    value_extends (content_of a m.vars) p _ _ o (λ v b. slot_extends (slot_of place m.vars) p _ _ o (λ s k d. reacting_extends (store_effect m.world s k v (choices_left choices m)) p m _ _ o (λ x' q c. noted_extends f g h (Stored p s v ∷ []) (pc + 1) _ o is c) d) b) e
 perform_extends choices f g h (Api x shape as' outs) p pc m o is e =
-    values_extend (all_values as' m.vars) p _ _ o (λ vs d. reacting_extends (call_effect m.world shape vs (left choices m)) p m _ _ o (λ x' q c. noted_extends f g h (Called p shape vs x' ∷ []) (pc + 1) _ o is c) d) e
+    values_extend (all_values as' m.vars) p _ _ o (λ vs d. reacting_extends (call_effect m.world shape vs (choices_left choices m)) p m _ _ o (λ x' q c. noted_extends f g h (Called p shape vs x' ∷ []) (pc + 1) _ o is c) d) e
 perform_extends choices f g h (Call x n as') p pc m o is e = e
 perform_extends choices f g h (Unset x) p pc m o is e = h (pc + 1) (put x content.Unset m) o is e
 perform_extends choices f g h (Jump to) p pc m o is e = h to.0 m o is e

@@ -3,9 +3,9 @@
 --   next_place after      the place of the next instruction, where the run goes on
 --   end_at after m        how a run ends that goes no further
 --   Reaches next after m  the run goes on from here so
---   Does told after m    what an instruction did is what is told of it, however the run goes on
+--   Does told after m    what an instruction did is as defined, however the run goes on
 use Rattle.std.specs.Prelude.{◌≡◌, ℕ, Option, Some, None}
-use Rattle.pungi_meaning.specs.Run.{Run, End, over, Returned, Stopped, NeedsChoice, OutOfFuel}
+use Rattle.pungi_meaning.specs.Run.{Run, End, end_at_once, Returned, Stopped, NeedsChoice, OutOfFuel}
 use Rattle.pungi_code.specs.declared.registers.Registers.{Registers}
 use Rattle.pungi_code.specs.declared.registers.After.{After}
 use Rattle.pungi_code.specs.declared.registers.After.TheVariants as after
@@ -16,9 +16,9 @@ regs_of m = record { world = m.world; used = m.used.items; vars = m.vars.items }
 
 abbrev pub Reaches : Next → After → Regs → Run
 Reaches next (after.Goes pc) m = next pc m
-Reaches next (after.Leaves p v) m = over (Returned m.world v p m.used)
-Reaches next (after.Stops p) m = over (Stopped p)
-Reaches next after.Wants m = over NeedsChoice
+Reaches next (after.Leaves p v) m = end_at_once (Returned m.world v p m.used)
+Reaches next (after.Stops p) m = end_at_once (Stopped p)
+Reaches next after.Wants m = end_at_once NeedsChoice
 
 abbrev pub next_place : After → Option ℕ
 next_place (after.Goes pc) = Some pc

@@ -1,14 +1,15 @@
--- What a run of a code holds, and the small words by which an instruction is told.
+-- What a run of a code holds, and the small words that describe an instruction.
 --   Regs                        the world, the places of the choices that were used, and what the variables hold
 --   Next                        what comes next, from a place of the code on
 --   put x c m                   a variable holds something else
 --   content_of a vars           what an atom stands for
 --   with_value c p go           a value is read at a place of the text; to read what is unset stops
---   both, all_values as vars    the values of atoms, where none is unset
+--   both_values, all_values as vars    the values of atoms, where none is unset
 --   with_values                 so are many values read
---   left choices m              the choices that are left
---   reacting p r m go           what the world answers at a place: with its effect and what is held after it the run goes on
---   answered x o m              a variable gets the answer, where there is one
+--   choices_left choices m      the choices that are left
+--   after_effect p r m go       what the world does at a place: with its effect and what is held after it the run goes
+--                               on
+--   put_answer x o m            a variable gets the answer, where there is one
 --   with_outputs xs os m        so do the variables that a call writes
 use Rattle.std.specs.Prelude.{ℕ, List, [], ◌∷◌, ◌++◌, length, drop, replicate, slice_set, Option, Some, None, Result, Ok, Err}
 use Rattle.pungi_base.specs.declared.choice.Choice.{Choice}
@@ -21,7 +22,7 @@ use Rattle.pungi_world.specs.declared.effect.Effect.{Effect}
 use Rattle.pungi_world.specs.declared.halt.Halt.{Halt}
 use Rattle.pungi_world.specs.declared.halt.Halt.TheVariants as halt
 use Rattle.pungi_world.specs.declared.world.World.{World}
-use Rattle.pungi_meaning.specs.Run.{Run, over, Stopped, NeedsChoice}
+use Rattle.pungi_meaning.specs.Run.{Run, end_at_once, Stopped, NeedsChoice}
 use Rattle.pungi_meaning.specs.Work.{content_at}
 use Rattle.pungi_code.specs.declared.atom.Atom.{Atom}
 use Rattle.pungi_code.specs.declared.atom.Atom.TheVariants as atom
@@ -48,39 +49,39 @@ content_of atom.Text vars = Holds value.Text
 content_of (atom.Static k) vars = Holds (value.Object k)
 
 abbrev pub with_value : Content → Pos → (Value → Run) → Run
-with_value Unset p go = over (Stopped p)
+with_value Unset p go = end_at_once (Stopped p)
 with_value (Holds v) p go = go v
 
-abbrev pub both : Content → Option (List Value) → Option (List Value)
-both Unset o = None
-both (Holds v) None = None
-both (Holds v) (Some vs) = Some (v ∷ vs)
+abbrev pub both_values : Content → Option (List Value) → Option (List Value)
+both_values Unset o = None
+both_values (Holds v) None = None
+both_values (Holds v) (Some vs) = Some (v ∷ vs)
 
 abbrev pub all_values : List Atom → List Content → Option (List Value)
 all_values [] vars = Some []
-all_values (a ∷ as') vars = both (content_of a vars) (all_values as' vars)
+all_values (a ∷ as') vars = both_values (content_of a vars) (all_values as' vars)
 
 abbrev pub with_values : Option (List Value) → Pos → (List Value → Run) → Run
-with_values None p go = over (Stopped p)
+with_values None p go = end_at_once (Stopped p)
 with_values (Some vs) p go = go vs
 
 -- ---- the world
 
-abbrev pub left : List Choice → Regs → List Choice
-left choices m = drop (length m.used) choices
+abbrev pub choices_left : List Choice → Regs → List Choice
+choices_left choices m = drop (length m.used) choices
 
-abbrev pub reacting : Pos → Result (Effect × World) Halt → Regs → (Effect → Regs → Run) → Run
-reacting p (Ok r) m go = go r.0 (record m { world = r.1; used = m.used ++ replicate r.0.used p })
-reacting p (Err halt.Stopped) m go = over (Stopped p)
-reacting p (Err halt.NeedsChoice) m go = over NeedsChoice
-reacting p (Err halt.Memory) m go = over NeedsChoice
+abbrev pub after_effect : Pos → Result (Effect × World) Halt → Regs → (Effect → Regs → Run) → Run
+after_effect p (Ok r) m go = go r.0 (record m { world = r.1; used = m.used ++ replicate r.0.used p })
+after_effect p (Err halt.Stopped) m go = end_at_once (Stopped p)
+after_effect p (Err halt.NeedsChoice) m go = end_at_once NeedsChoice
+after_effect p (Err halt.Memory) m go = end_at_once NeedsChoice
 
-abbrev pub answered : Option Var → Option Value → Regs → Regs
-answered None o m = m
-answered (Some x) None m = m
-answered (Some x) (Some v) m = put x (Holds v) m
+abbrev pub put_answer : Option Var → Option Value → Regs → Regs
+put_answer None o m = m
+put_answer (Some x) None m = m
+put_answer (Some x) (Some v) m = put x (Holds v) m
 
 abbrev pub with_outputs : List (Option Var) → List (Option Value) → Regs → Regs
 with_outputs [] os m = m
 with_outputs (x ∷ xs) [] m = m
-with_outputs (x ∷ xs) (o ∷ os) m = with_outputs xs os (answered x o m)
+with_outputs (x ∷ xs) (o ∷ os) m = with_outputs xs os (put_answer x o m)

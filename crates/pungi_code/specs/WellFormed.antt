@@ -12,11 +12,11 @@
 --   is_place vars place k           a place is a slot of this kind, of an object
 --   is_argument vars p a, are_arguments    an atom may be passed for a parameter
 --   form_params, wanted_params row  what a call of a row takes
---   answer_param a, form_answer, row_answer row    what it answers
+--   answer_param a, form_answer, row_answer row    what it returns
 --   is_answer vars row x, is_output the variable that an answer goes to, where there is one, may hold it; one that a call writes is there
 --   is_label code l                 a label is a place of the code
 --   is_sound code i                 an instruction names variables, labels and kinds that are there
---   leads_on i                      the instruction behind this one may come next
+--   leads_on i                      the instruction after this one may come next
 --   targets i                       the labels that an instruction names
 --   is_head heads l                 a label is a loop's head
 --   goes_back heads place i         each label that leads back is a loop's head
@@ -140,7 +140,7 @@ are_arguments vars [] (a ∷ as') = false
 are_arguments vars (p ∷ ps) [] = false
 are_arguments vars (p ∷ ps) (a ∷ as') = is_argument vars p a && are_arguments vars ps as'
 
--- a row of its own takes one object, or NULL
+-- a special row takes one object, or NULL
 abbrev pub form_params : Form → List Param → List Param
 form_params form.Plain ps = ps
 form_params (form.Special s) ps = param.ObjectOrNull ∷ []

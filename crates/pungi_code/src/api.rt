@@ -1,7 +1,7 @@
 // Calls of the API.
 ghost use Rattle.std.specs.Prelude.{◌≡◌, ◌<◌, ◌^◌, IfOk};
 ghost use Rattle.pungi_code.specs.Machine.{regs_of, Does};
-ghost use Rattle.pungi_code.specs.Perform.{call as calling};
+ghost use Rattle.pungi_code.specs.Perform.{call};
 ghost use Rattle.pungi_code.specs.Registers.{all_values, with_values};
 
 use crate::registers::{After, Registers, answer, write_outputs};
@@ -9,7 +9,7 @@ use crate::values::values_of;
 use crate::{Atom, Var};
 use pungi_api::Shape;
 use pungi_base::{Choice, Memory, Pos, Value};
-use pungi_meaning::{is_told, note_used, unused};
+use pungi_meaning::{is_defined_form, note_used, unused};
 use pungi_world::{ApiCall, Halt};
 use std::alloc::Global;
 
@@ -26,9 +26,9 @@ fn call(
     args: &[Value],
 ) -> Result<After, Memory>
     requires { pc < 2 ^ 63 }
-    ensures { IfOk result (λ after. Does (λ next. calling choices.now x shape.now outs.now pos next pc (regs_of m.old) args.now) after m.new) }
+    ensures { IfOk result (λ after. Does (λ next. call choices.now x shape.now outs.now pos next pc (regs_of m.old) args.now) after m.new) }
 {
-    if !is_told(shape.row.form) {
+    if !is_defined_form(shape.row.form) {
         return Ok(After::Stops(pos));
     }
     let rest = unused(choices, m.used.len());
@@ -59,7 +59,7 @@ pub fn call_api(
     pc: usize,
 ) -> Result<After, Memory>
     requires { pc < 2 ^ 63 }
-    ensures { IfOk result (λ after. Does (λ next. with_values (all_values args.now (regs_of m.old).vars) pos (calling choices.now x shape.now outs.now pos next pc (regs_of m.old))) after m.new) }
+    ensures { IfOk result (λ after. Does (λ next. with_values (all_values args.now (regs_of m.old).vars) pos (call choices.now x shape.now outs.now pos next pc (regs_of m.old))) after m.new) }
 {
     match values_of(alloc, args, &m.vars)? {
         Some(values) => call(m, alloc, choices, x, shape, outs, pos, pc, &values),

@@ -9,8 +9,8 @@ pub struct Line {
     pub instr: Instr,
 }
 
-/// A loop's head: the label of its test, or the target of a backward jump; and a place in the text that it is told by, that of
-/// a loop or of a label in front of a statement.
+/// A loop's head: the label of its test, or the target of a backward jump; and the place in the text by which it is
+/// reported, that of a loop or of a label in front of a statement.
 #[derive(Clone, Copy)]
 pub struct Head {
     pub label: Label,

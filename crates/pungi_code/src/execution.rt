@@ -2,13 +2,13 @@
 ghost use Rattle.std.specs.Prelude.{◌≡◌, ◌<◌, IfOk, MatchOption, None, Some, length, option_map, slice_get};
 ghost use Rattle.pungi_meaning.specs.Outcomes.{end_of, IsCounted};
 ghost use Rattle.pungi_code.specs.Machine.{regs_of, next_place, end_at};
-ghost use Rattle.pungi_code.specs.Run.{start, code_at as code_of, exec, run_of_code};
+ghost use Rattle.pungi_code.specs.Run.{start, code_at, exec, run_of_code};
 
 use crate::perform::perform;
 use crate::registers::{After, Registers};
 use crate::{Code, Codes, Line};
 use pungi_base::{Choice, Entry, Memory, Pos};
-use pungi_meaning::{CountedWorld, Outcome, add_unset, held};
+use pungi_meaning::{CountedWorld, Outcome, add_unset, argument_locals};
 use std::alloc::Global;
 
 /// The instruction at this place, if there is one.
@@ -24,7 +24,7 @@ fn line_at(instrs: &[Line], pc: usize) -> Option<&Line>
 
 /// The code of a function, if it has one.
 fn code_at(codes: &Codes, f: usize) -> Option<&Code>
-    ensures { option_map (λ c. c.now) result ≡ code_of codes.now f }
+    ensures { option_map (λ c. c.now) result ≡ code_at codes.now f }
 {
     if f < codes.codes.len() {
         codes.codes.as_slice()[f].as_ref()
@@ -37,7 +37,7 @@ fn code_at(codes: &Codes, f: usize) -> Option<&Code>
 fn begin(alloc: Global, code: &Code, entry: &Entry) -> Result<Registers, Memory>
     ensures { IfOk result (λ m. regs_of m ≡ start code.now entry.now) }
 {
-    let mut vars = held(alloc, entry.args.as_slice())?;
+    let mut vars = argument_locals(alloc, entry.args.as_slice())?;
     let unset = code.vars.len().saturating_sub(entry.args.len());
     add_unset(&mut vars, unset)?;
     let world = CountedWorld::start(alloc, entry)?;
@@ -49,7 +49,7 @@ fn begin(alloc: Global, code: &Code, entry: &Entry) -> Result<Registers, Memory>
 }
 
 /// The place of the next instruction, where the run goes on.
-fn place_after(after: After) -> Option<usize>
+fn next_place(after: After) -> Option<usize>
     ensures { result ≡ next_place after }
 {
     match after {
@@ -74,7 +74,7 @@ fn go(
             return Ok(After::Stops(Pos { line: 0, col: 0 }));
         };
         let after = perform(m, alloc, choices, line, pc)?;
-        match place_after(after) {
+        match next_place(after) {
             Some(next) => pc = next,
             None => return Ok(after),
         }
@@ -83,7 +83,7 @@ fn go(
 }
 
 /// The outcome of a run that leads nowhere any more.
-fn ended(m: Registers, after: After) -> Outcome
+fn end_at(m: Registers, after: After) -> Outcome
     ensures end { end_of result ≡ end_at after m }
     ensures counted { IsCounted result }
 {
@@ -113,10 +113,10 @@ fn run_code(
 {
     let mut m = begin(alloc, code, entry)?;
     let after = go(&mut m, alloc, choices, code.instrs.as_slice(), fuel)?;
-    Ok(ended(m, after))
+    Ok(end_at(m, after))
 }
 
-/// Runs the code of a function from an entry, for at most `fuel` instructions, with these answers of the outside. The world
+/// Runs the code of a function from an entry, for at most `fuel` instructions, with these choices. The world
 /// that it returns can be counted.
 pub fn code_run(
     alloc: Global,
@@ -126,7 +126,7 @@ pub fn code_run(
     choices: &[Choice],
     fuel: u32,
 ) -> Result<Outcome, Memory>
-    ensures end { IfOk result (λ outcome. end_of outcome ≡ (run_of_code (code_of codes.now f) entry.now choices.now fuel).end) }
+    ensures end { IfOk result (λ outcome. end_of outcome ≡ (run_of_code (code_at codes.now f) entry.now choices.now fuel).end) }
     ensures counted { IfOk result (λ outcome. IsCounted outcome) }
 {
     match code_at(codes, f) {

@@ -3,8 +3,8 @@ ghost use Rattle.std.specs.Prelude.{◌≡◌, ◌<◌, ◌+◌, ◌^◌, [], If
 ghost use Rattle.pungi_code.specs.declared.instr.Instr.TheVariants.{Arith as ArithOf, Fit as FitOf, Compare as CompareOf, Branch as BranchOf, Return as ReturnOf};
 ghost use Rattle.pungi_code.specs.declared.registers.After.TheVariants.{Goes as GoesTo};
 ghost use Rattle.pungi_code.specs.Machine.{regs_of, Does};
-ghost use Rattle.pungi_code.specs.Perform.{perform as performed, load as loading, store as storing, slot_of as slot_at, with_slot};
-ghost use Rattle.pungi_code.specs.Registers.{put as put_in, content_of as content_behind, with_value};
+ghost use Rattle.pungi_code.specs.Perform.{perform as performed, load, store, slot_of, with_slot};
+ghost use Rattle.pungi_code.specs.Registers.{put, content_of, with_value};
 ghost use Rattle.pungi_world.specs.declared.content.Content.TheVariants.{Holds as HoldsContent};
 
 use crate::api::call_api;
@@ -22,7 +22,7 @@ use std::alloc::Global;
 fn put(m: &mut Registers, x: Var, content: Content, pc: usize) -> After
     requires { pc < 2 ^ 63 }
     ensures place { result ≡ GoesTo (pc + 1) }
-    ensures regs { regs_of m.new ≡ put_in x content (regs_of m.old) }
+    ensures regs { regs_of m.new ≡ put x content (regs_of m.old) }
 {
     set(m, x, content);
     After::Goes(pc + 1)
@@ -97,7 +97,7 @@ fn branch(m: &Registers, a: Atom, this: Label, other: Label, pos: Pos) -> After
     }
 }
 
-fn give(m: &Registers, a: Option<Atom>, pos: Pos) -> After
+fn perform_return(m: &Registers, a: Option<Atom>, pos: Pos) -> After
     ensures { Does (λ next. performed [] (ReturnOf a) pos next 0 (regs_of m.now)) result m.now }
 {
     match a {
@@ -119,7 +119,7 @@ fn load_place(
     pc: usize,
 ) -> Result<After, Memory>
     requires { pc < 2 ^ 63 }
-    ensures { IfOk result (λ after. Does (λ next. with_slot (slot_at place (regs_of m.old).vars) pos (loading choices.now x pos next pc (regs_of m.old))) after m.new) }
+    ensures { IfOk result (λ after. Does (λ next. with_slot (slot_of place (regs_of m.old).vars) pos (load choices.now x pos next pc (regs_of m.old))) after m.new) }
 {
     match slot_of(place, &m.vars) {
         Some((slot, kind)) => load(m, alloc, choices, x, pos, pc, slot, kind),
@@ -137,7 +137,7 @@ fn store_place(
     pc: usize,
 ) -> Result<After, Memory>
     requires { pc < 2 ^ 63 }
-    ensures { IfOk result (λ after. Does (λ next. with_value (content_behind a (regs_of m.old).vars) pos (λ v. with_slot (slot_at place (regs_of m.old).vars) pos (storing choices.now pos next pc (regs_of m.old) v))) after m.new) }
+    ensures { IfOk result (λ after. Does (λ next. with_value (content_of a (regs_of m.old).vars) pos (λ v. with_slot (slot_of place (regs_of m.old).vars) pos (store choices.now pos next pc (regs_of m.old) v))) after m.new) }
 {
     let Content::Holds(value) = content_of(a, &m.vars) else {
         return Ok(After::Stops(pos));
@@ -178,7 +178,7 @@ pub fn perform(
         Instr::Unset(x) => Ok(put(m, *x, Content::Unset, pc)),
         Instr::Jump(to) => Ok(After::Goes(to.0 as usize)),
         Instr::Branch(a, this, other) => Ok(branch(m, *a, *this, *other, pos)),
-        Instr::Return(a) => Ok(give(m, *a, pos)),
+        Instr::Return(a) => Ok(perform_return(m, *a, pos)),
         Instr::Fall => Ok(After::Stops(pos)),
     }
 }

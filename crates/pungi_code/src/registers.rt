@@ -1,7 +1,7 @@
 // What a run of a code holds.
 ghost use Rattle.std.specs.Prelude.{◌≡◌};
 ghost use Rattle.pungi_code.specs.Machine.{regs_of};
-ghost use Rattle.pungi_code.specs.Registers.{put as put_in, answered, with_outputs};
+ghost use Rattle.pungi_code.specs.Registers.{put, put_answer, with_outputs};
 
 use crate::Var;
 use pungi_base::{Pos, Value};
@@ -27,14 +27,14 @@ pub enum After {
 
 /// A variable holds something else.
 pub fn set(m: &mut Registers, x: Var, content: Content)
-    ensures { regs_of m.new ≡ put_in x content (regs_of m.old) }
+    ensures { regs_of m.new ≡ put x content (regs_of m.old) }
 {
     put(&mut m.vars, x.0 as usize, content);
 }
 
 /// A variable gets the answer, where there is one.
 pub fn answer(m: &mut Registers, x: Option<Var>, value: Option<Value>)
-    ensures { regs_of m.new ≡ answered x value (regs_of m.old) }
+    ensures { regs_of m.new ≡ put_answer x value (regs_of m.old) }
 {
     if let Some(x) = x {
         if let Some(value) = value {

@@ -1,7 +1,7 @@
 // Loads and stores.
 ghost use Rattle.std.specs.Prelude.{◌≡◌, ◌<◌, ◌^◌, IfOk};
 ghost use Rattle.pungi_code.specs.Machine.{regs_of, Does};
-ghost use Rattle.pungi_code.specs.Perform.{field_of as field_behind, slot_of as slot_at, load as loading, store as storing};
+ghost use Rattle.pungi_code.specs.Perform.{field_of, slot_of, load, store};
 
 use crate::registers::{After, Registers, answer};
 use crate::values::content_of;
@@ -14,7 +14,7 @@ use std::alloc::Global;
 
 /// A field of what a base holds.
 fn field_of(base: Content, tag: Name, field: Name, kind: Param) -> Option<(Slot, Param)>
-    ensures { result ≡ field_behind base tag field kind }
+    ensures { result ≡ field_of base tag field kind }
 {
     match base {
         Content::Holds(Value::Object(object)) => Some((Slot::Field { object, tag, field }, kind)),
@@ -24,7 +24,7 @@ fn field_of(base: Content, tag: Name, field: Name, kind: Param) -> Option<(Slot,
 
 /// The slot that a place is, and what it holds.
 pub fn slot_of(place: Place, vars: &[Content]) -> Option<(Slot, Param)>
-    ensures { result ≡ slot_at place vars.now }
+    ensures { result ≡ slot_of place vars.now }
 {
     match place {
         Place::Global(name, kind) => Some((Slot::Global(name), kind)),
@@ -46,7 +46,7 @@ pub fn load(
     kind: Param,
 ) -> Result<After, Memory>
     requires { pc < 2 ^ 63 }
-    ensures { IfOk result (λ after. Does (λ next. loading choices.now x pos next pc (regs_of m.old) slot kind) after m.new) }
+    ensures { IfOk result (λ after. Does (λ next. load choices.now x pos next pc (regs_of m.old) slot kind) after m.new) }
 {
     let rest = unused(choices, m.used.len());
     match m.world.load(alloc, slot, kind, rest) {
@@ -73,7 +73,7 @@ pub fn store(
     kind: Param,
 ) -> Result<After, Memory>
     requires { pc < 2 ^ 63 }
-    ensures { IfOk result (λ after. Does (λ next. storing choices.now pos next pc (regs_of m.old) value slot kind) after m.new) }
+    ensures { IfOk result (λ after. Does (λ next. store choices.now pos next pc (regs_of m.old) value slot kind) after m.new) }
 {
     let rest = unused(choices, m.used.len());
     match m.world.store(alloc, slot, kind, value, rest) {

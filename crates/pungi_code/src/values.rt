@@ -1,6 +1,6 @@
 // The values of atoms.
 ghost use Rattle.std.specs.Prelude.{◌≡◌, IfOk, option_map};
-ghost use Rattle.pungi_code.specs.Registers.{content_of as content_behind, all_values};
+ghost use Rattle.pungi_code.specs.Registers.{content_of, all_values};
 
 use crate::Atom;
 use pungi_base::{Memory, Value};
@@ -10,7 +10,7 @@ use std::alloc::Global;
 
 /// What an atom stands for.
 pub fn content_of(atom: Atom, vars: &[Content]) -> Content
-    ensures { result ≡ content_behind atom vars.now }
+    ensures { result ≡ content_of atom vars.now }
 {
     match atom {
         Atom::Var(x) => content_at(vars, x.0 as usize),

@@ -4,7 +4,7 @@ ghost use Rattle.pungi_declared.specs.DeclaredView.{variable_view, function_view
 ghost use Rattle.pungi_tree.specs.ExprView.{spec_view};
 ghost use Rattle.pungi_tree.specs.StmtView.{var_decl_view};
 ghost use Rattle.pungi_tree.specs.UnitView.{unit_view};
-ghost use Rattle.pungi_types.specs.Files.{typedefs as typedefs_of, variables_of, decl_variables, definitions as definitions_of, prototypes as prototypes_of};
+ghost use Rattle.pungi_types.specs.Files.{typedefs, variables_of, decl_variables, definitions, prototypes};
 ghost use Rattle.pungi_types.specs.TypesView.{typedef_view};
 
 use crate::{Place, Variable};
@@ -15,7 +15,7 @@ use std::alloc::Global;
 
 /// The typedefs of a file.
 pub fn typedefs<'u>(alloc: Global, unit: &'u Unit) -> Result<Vec<Typedef<'u>>, Memory>
-    ensures { IfOk result (λ ts. map typedef_view ts.items ≡ typedefs_of (unit_view unit.now)) }
+    ensures { IfOk result (λ ts. map typedef_view ts.items ≡ typedefs (unit_view unit.now)) }
 {
     let mut out = Vec::new(alloc);
     for i in &unit.items {
@@ -69,7 +69,7 @@ pub fn variables<'u>(alloc: Global, unit: &'u Unit) -> Result<Vec<Variable<'u>>,
 
 /// The functions that a file defines.
 pub fn definitions<'u>(alloc: Global, unit: &'u Unit) -> Result<Vec<&'u FunctionDef>, Memory>
-    ensures { IfOk result (λ fs. map function_view fs.items ≡ definitions_of (unit_view unit.now)) }
+    ensures { IfOk result (λ fs. map function_view fs.items ≡ definitions (unit_view unit.now)) }
 {
     let mut out = Vec::new(alloc);
     for i in &unit.items {
@@ -90,7 +90,7 @@ fn put_place(out: &mut Vec<Place>, name: Name, pos: Pos) -> Result<(), Memory>
 
 /// The prototypes of a file.
 pub fn prototypes(alloc: Global, unit: &Unit) -> Result<Vec<Place>, Memory>
-    ensures { IfOk result (λ ps. map place_view ps.items ≡ prototypes_of (unit_view unit.now)) }
+    ensures { IfOk result (λ ps. map place_view ps.items ≡ prototypes (unit_view unit.now)) }
 {
     let mut out = Vec::new(alloc);
     for i in &unit.items {

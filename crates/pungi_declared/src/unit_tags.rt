@@ -2,7 +2,7 @@
 ghost use Rattle.std.specs.Prelude.{◌≡◌, ◌++◌, IfOk, OnOk, map};
 ghost use Rattle.pungi_declared.specs.DeclaredView.{tag_view};
 ghost use Rattle.pungi_tree.specs.UnitView.{item_view, unit_view};
-ghost use Rattle.pungi_types.specs.Tags.{item_tags, tags as tags_of};
+ghost use Rattle.pungi_types.specs.Tags.{item_tags, tags};
 
 use crate::Tag;
 use crate::expr_tags::{params, spec};
@@ -32,7 +32,7 @@ fn item<'u>(out: &mut Vec<Tag<'u>>, i: &'u Item) -> Result<(), Memory>
 
 /// The structs and unions of a file that have fields, wherever they stand.
 pub fn tags<'u>(alloc: Global, unit: &'u Unit) -> Result<Vec<Tag<'u>>, Memory>
-    ensures { IfOk result (λ ts. map tag_view ts.items ≡ tags_of (unit_view unit.now)) }
+    ensures { IfOk result (λ ts. map tag_view ts.items ≡ tags (unit_view unit.now)) }
 {
     let mut out = Vec::new(alloc);
     for i in &unit.items {

@@ -130,7 +130,7 @@ applied value0 value gap i x lt e done left = (
   (λ u u_le. get_or-set_other value i u x (pos 0) (λ same. omega (arith, same, u_le)) ∙ left u (omega (arith, u_le))),
 )
 
--- for the two answers of an addition
+-- for the two results of an addition
 pub kept_none : (held : List Constraint) (value : List ℤ) (new : Constraint) → Kept (held ++ new ∷ []) value → (ks : List Constraint) → GoesRound held new ks → ⊥
 kept_none held value new k = no_round (at value) held new k.solves
 

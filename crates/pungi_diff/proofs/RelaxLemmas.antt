@@ -10,7 +10,7 @@ use Rattle.pungi_diff.specs.Constraint.{at, Solves, Small}
 use Rattle.pungi_diff.specs.Held.{nth, IsLatest}
 use Rattle.pungi_diff.specs.Search.{Stays, Drops, IsOpen, IsDone, lowered, Relaxes, Lowers, Reaches, want}
 
--- the number behind the one that the link names
+-- the number after the one that the link names
 abbrev pub behind : Option ℕ → ℕ
 behind None = 0
 behind (Some k) = k + 1

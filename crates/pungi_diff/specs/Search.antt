@@ -2,7 +2,7 @@
 -- A gap is how far the value of a node falls. A node is done once it has a rank, its number among those that are done.
 --   IsOpen, IsDone rank u               whether the node has no rank yet, or has one
 --   lowered value gap u                 the value of a node with its gap
---   want value gap from k               the gap of x that a constraint on `from` asks for
+--   want value gap from k               the gap of x that a constraint on `from` requires
 --   NoneOpen gap rank                   no open node has a gap below 0
 --   IsLeastOpen gap rank u              the node is open, its gap is below 0, and no open node has a lesser one
 --   NoneIn, IsLeastIn gap rank fringe   the same among the nodes of a fringe
@@ -10,7 +10,7 @@
 --   Fringe gap rank fringe              the open nodes with a gap below 0 are all in it, and it has no more nodes than have such gaps
 --   Lowers gap via k next gap' via'     the gap of x becomes `next`, by this constraint, if it was more
 --   Reaches gap rank via k next ..      the same where x is open, and otherwise nothing
---   Stays, Drops ..                     a node is as before, or its gap became what a constraint on `from` asks for
+--   Stays, Drops ..                     a node is as before, or its gap became what a constraint on `from` requires
 --   Relaxes held value rank gap ..      all nodes stay or drop, and the constraints on `from` are met by open nodes
 --   open_one n r, open_count rank       how many nodes are open
 --   HasVia .. by u                      the constraint holds the node exactly at its place, from a node done before it

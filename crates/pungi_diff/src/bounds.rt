@@ -157,7 +157,7 @@ impl Bounds {
     pub fn model(&self, alloc: Global) -> Result<Vec<i128>, Memory>
         ensures { IfOk result (λ v. Solution self.now v.items) }
     {
-        moved(alloc, self.value.as_slice())
+        moved_values(alloc, self.value.as_slice())
     }
 
     /// The same constraints over at least as many nodes, with another room.
@@ -188,7 +188,7 @@ impl Bounds {
 }
 
 /// The values, moved so that node 0 is at 0.
-fn moved(alloc: Global, value: &[i128]) -> Result<Vec<i128>, Memory>
+fn moved_values(alloc: Global, value: &[i128]) -> Result<Vec<i128>, Memory>
     requires some { 0 < length value.now }
     requires small { (u : ℕ) → u < length value.now → IsSmall (at value.now u) }
     ensures { IfOk result (λ v. Moves value.now v.items) }

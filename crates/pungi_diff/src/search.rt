@@ -25,8 +25,8 @@ fn least(gap: &[i128], rank: &[u32], fringe: &[u32]) -> Option<usize>
     best
 }
 
-/// What a constraint wants of its node x, above x's value.
-fn wanted(value: &[i128], gap: &[i128], from: usize, k: &Constraint) -> i128
+/// What a constraint requires of its node x, above x's value.
+fn want(value: &[i128], gap: &[i128], from: usize, k: &Constraint) -> i128
     requires within { (from < length value.now) × (from < length gap.now) × (k.now.x < length value.now) }
     requires value { IsSmall (at value.now from) }
     requires gap { (at gap.now from ≤ℤ pos 0) × (neg_ℤ (pos (2 ^ 84)) ≤ℤ at gap.now from) }
@@ -46,7 +46,7 @@ fn lower(value: &[i128], gap: &mut [i128], via: &mut [Constraint], from: usize, 
     requires other { IsSmall (at value.now k.now.x) }
     ensures { Lowers gap.old via.old k.now (want value.now gap.old from k.now) gap.new via.new }
 {
-    let next = wanted(value, gap, from, k);
+    let next = want(value, gap, from, k);
     let x = k.x as usize;
     if next < gap[x] {
         gap[x] = next;
@@ -54,8 +54,8 @@ fn lower(value: &[i128], gap: &mut [i128], via: &mut [Constraint], from: usize, 
     }
 }
 
-/// Lowers the constraint's node x as far as the constraint, on the node `from`, wants it, if x is open. Where its gap
-/// falls below 0, x comes into the fringe.
+/// Lowers the constraint's node x as far as the constraint, on the node `from`, requires it, if x is open. Where its
+/// gap falls below 0, x comes into the fringe.
 fn reach(
     value: &[i128],
     gap: &mut [i128],
@@ -88,7 +88,7 @@ fn reach(
     }
 }
 
-/// Lowers each open node as far as a constraint on the node `from`, which is done, wants it.
+/// Lowers each open node as far as a constraint on the node `from`, which is done, requires it.
 fn relax(
     held: &Held,
     value: &[i128],

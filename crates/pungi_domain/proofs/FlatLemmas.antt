@@ -75,7 +75,7 @@ module _ (w : ℕ) (cs : List (Option ℤ)) (e : List ℤ) (v : Vector) (width :
       let x : at e p *ℤ rest cs v p ≡ at e p *ℤ v p = ap (λ y. at e p *ℤ y) (rest_open (constant_at cs p) (v 0) (v p) none) in
       omega (arith, ints, r, o, x)
 
-  -- where the equation tells one more constant, the members that meet it have it
+  -- where the equation gives one more constant, the members that meet it have it
   pub told : (p : ℕ) (c : ℤ) → length cs ≡ w → Tells cs e p c → dot e v ≡ pos 0 → v p ≡ c *ℤ v 0
   told p c len t z =
       let o = t.open_at in

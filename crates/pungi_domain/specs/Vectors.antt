@@ -4,7 +4,7 @@
 --   at xs i             the number at a place of a list, and 0 past its end
 --   IsWithin n z        z is at most n in absolute value
 --   dot e v             the coefficients times the coordinates, summed up; v meets the equation e where this is 0
---   IsEquation w e      e has w coefficients, and those behind the first lie within 2^20
+--   IsEquation w e      e has w coefficients, and those after the first lie within 2^20
 --   row_sum row v       the factors times the coordinates that a row of a matrix names, summed up
 --   image rows v        the vector with one such sum a row
 --   IsMatrixRow w row, IsMatrix w rows    each row names coordinates below w, each once

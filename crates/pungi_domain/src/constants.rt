@@ -148,14 +148,14 @@ pub(crate) fn solution(coefficient: i64, sum: i128) -> Option<i64>
     None
 }
 
-/// A coordinate without a known constant, and the one that an equation tells of it.
+/// A coordinate without a known constant, and the one that an equation gives for it.
 #[derive(Clone, Copy)]
 pub(crate) struct Told {
     place: usize,
     constant: i64,
 }
 
-/// What an equation tells.
+/// What an equation gives.
 fn tell(constants: &[Option<i64>], coefficients: &[i64]) -> Option<Told>
     requires constants { AreConstants (length constants.now) constants.now }
     requires width { length coefficients.now ≡ length constants.now }
@@ -169,7 +169,7 @@ fn tell(constants: &[Option<i64>], coefficients: &[i64]) -> Option<Told>
     Some(Told { place, constant })
 }
 
-/// The constants, and what an equation tells of one more coordinate.
+/// The constants, and what an equation gives for one more coordinate.
 pub(crate) fn meet_constants(
     alloc: Global,
     constants: &Seq<Option<i64>>,
@@ -309,7 +309,7 @@ fn agrees(constant: Option<i64>, other: Option<i64>) -> bool
     }
 }
 
-/// Drops the constant of a coordinate where the others don't have it, and answers whether that was so.
+/// Drops the constant of a coordinate where the others don't have it, and returns whether that was so.
 fn join_at(constants: &mut Seq<Option<i64>>, others: &[Option<i64>], i: usize) -> bool
     requires within { (i < length constants.old) × (i < length others.now) }
     ensures { IsJoinedAt constants.old others.now i constants.new result }
@@ -321,7 +321,7 @@ fn join_at(constants: &mut Seq<Option<i64>>, others: &[Option<i64>], i: usize) -
     true
 }
 
-/// Keeps the constants on which both agree, and answers whether one was lost.
+/// Keeps the constants on which both agree, and returns whether one was lost.
 pub(crate) fn join(constants: &mut Seq<Option<i64>>, others: &[Option<i64>]) -> bool
     requires { length others.now ≡ length constants.old }
     ensures joined { AreJoined constants.old others.now constants.new result }

@@ -43,7 +43,7 @@ pub trait Domain: Sized + Drop {
         ensures same { IfOk result (λ s. s ≡ self.now) }
         ensures range { RangeIs least Never result };
 
-    /// Takes in the members of another value, and answers whether that changed anything.
+    /// Takes in the members of another value, and returns whether that changed anything.
     fn grow(&mut self, alloc: Global, from: &Self) -> Result<bool, DomainFault>
         requires { width_of from.now ≡ width_of self.old }
         ensures width { width_of self.new ≡ width_of self.old }

@@ -11,7 +11,7 @@ use Rattle.pungi_symbol.specs.declared.states.known.Status.TheVariants as status
 use Rattle.pungi_symbol.specs.declared.questions.question.Question.{Question}
 use Rattle.pungi_symbol.specs.declared.states.state.State.{State}
 use Rattle.pungi_symbol.specs.declared.states.term.Term.{Term}
-use Rattle.pungi_symbol.specs.questions.NextQuestion.{ask, ask_line, ask_while}
+use Rattle.pungi_symbol.specs.questions.NextQuestion.{ask, asks_line, ask_while}
 use Rattle.pungi_symbol.specs.answers.SymbolicState.{can, apply}
 use Rattle.pungi_symbol.specs.runs.Paths.{Path, path_here, path_on}
 use Rattle.pungi_symbol.specs.Promises.{AllLevel}
@@ -32,7 +32,7 @@ module _ (code : List Line) (s : State) where
   begins _ _ path_here = stays
   begins _ _ (path_on ds t d p c) = one_more t d (begins ds t p) c
 
--- a state that has ended is asked nothing more
+-- a state that has ended asks nothing more
 asked_going : (s : State) (q : Question) (d : Decision) (z : Status) → can s (ask_while z q) d ≡ true → (z ≡ status.Going → ⊥) → ⊥
 asked_going s q d status.Going c ended = ended refl
 asked_going s q d (status.Returned p x) c ended = let bad : false ≡ true = c in cc
@@ -44,7 +44,7 @@ AreLevelFrom codes code s = (ds : List Decision) (last : State) → Path code s 
 module _ (codes : Codes) (code : List Line) (s : State) where
   ended_last : HasEnded s → AllLevel codes s → (last : State) → Begins code s last → AllLevel codes last
   ended_last ended level _ stays = level
-  ended_last ended level _ (answers d ds last c p) = absurd (asked_going s (ask_line s.known (slice_get code s.known.pc)) d s.known.status c ended)
+  ended_last ended level _ (answers d ds last c p) = absurd (asked_going s (asks_line s.known (slice_get code s.known.pc)) d s.known.status c ended)
 
   -- where a state has ended, no path leads on
   pub ended_level : HasEnded s → AllLevel codes s → AreLevelFrom codes code s

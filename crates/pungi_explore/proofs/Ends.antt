@@ -1,4 +1,4 @@
--- What the ends of the paths of a function tell of its runs.
+-- What the ends of the paths of a function show of its runs.
 use Rattle.std.proofs.Common.{◌≡◌, ℕ, ◌+◌, List, refl, sym, ap, ◌∙◌, subst, arith, ◌⊎◌, inl, inr, Option}
 use Rattle.pungi_base.specs.declared.choice.Choice.{Choice}
 use Rattle.pungi_base.specs.declared.entry.Entry.{Entry}

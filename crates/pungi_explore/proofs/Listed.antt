@@ -42,8 +42,8 @@ use Rattle.pungi_symbol.specs.declared.states.state.State.{State}
 use Rattle.pungi_symbol.specs.declared.states.term.Term.{Term}
 use Rattle.pungi_symbol.specs.declared.states.term.Term.TheVariants.{Unset, Null, Text, Number, Token}
 use Rattle.pungi_symbol.specs.states.Terms.{outcomes_of_mark, outcomes_of_answer}
-use Rattle.pungi_symbol.specs.states.Known.{mark, term_of, number, number_in, object_of, slot_note, is_global, is_field, at_place, ask_base, seek, find_token, find_field, find}
-use Rattle.pungi_symbol.specs.questions.NextQuestion.{setting, knowing_mark, knowing, needing_mark, needing, ordering, comparing, ranged, contents, loading, storing, dropping, all_set, needing_for, needing_all, knowing_for, knowing_taken, answering, special_ask, form_ask, first_term, terms_of, return_ask, ask_of, ask_line, ask_while, ask}
+use Rattle.pungi_symbol.specs.states.Known.{mark_of, term_of, number, number_in, object_of, slot_note, is_global, is_field, at_place, ask_base, seek, find_token, find_field, find}
+use Rattle.pungi_symbol.specs.questions.NextQuestion.{asks_set, knows_mark, asks_known, needs_mark, asks_thing, asks_order, asks_same, asks_range, content_mark, asks_load, asks_store, asks_dropped, asks_all_set, asks_param, asks_params, asks_take, asks_takes, asks_answer, asks_special, asks_form, first_term, terms_of, asks_return, asks_instr, asks_line, ask_while, ask}
 use Rattle.pungi_symbol.specs.answers.SymbolicState.{is_decision, is_outcome, can_be, are_one, are_other, can, apply, decisions, after_if}
 use Rattle.pungi_explore.specs.Traces.{states_after}
 use Rattle.pungi_explore.proofs.Each.{Each, IsIn, is_first, is_later, each_mapped, each_flat, each_if}
@@ -74,14 +74,14 @@ FindsListed Nowhere = Unit {0}
 
 -- ---- questions
 
-setting_listed : (x : Term) (q : Question) → AsksListed q → AsksListed (setting x q)
+setting_listed : (x : Term) (q : Question) → AsksListed q → AsksListed (asks_set x q)
 setting_listed Unset q h = refl
 setting_listed Null q h = h
 setting_listed Text q h = h
 setting_listed (Number n) q h = h
 setting_listed (Token t) q h = h
 
-knowing_mark_listed : (m : Mark) (t : ℕ) (q : Question) → AsksListed q → AsksListed (knowing_mark m t q)
+knowing_mark_listed : (m : Mark) (t : ℕ) (q : Question) → AsksListed q → AsksListed (knows_mark m t q)
 knowing_mark_listed Pointer t q h = tt
 knowing_mark_listed TextPointer t q h = tt
 knowing_mark_listed IsNull t q h = h
@@ -89,7 +89,7 @@ knowing_mark_listed IsObject t q h = h
 knowing_mark_listed IsText t q h = h
 knowing_mark_listed (IsNumber n) t q h = h
 
-needing_mark_listed : (m : Mark) (t : ℕ) (q : Question) → AsksListed q → AsksListed (needing_mark m t q)
+needing_mark_listed : (m : Mark) (t : ℕ) (q : Question) → AsksListed q → AsksListed (needs_mark m t q)
 needing_mark_listed Pointer t q h = tt
 needing_mark_listed TextPointer t q h = tt
 needing_mark_listed IsNull t q h = refl
@@ -97,17 +97,17 @@ needing_mark_listed IsObject t q h = h
 needing_mark_listed IsText t q h = h
 needing_mark_listed (IsNumber n) t q h = h
 
-ordering_listed : (a b : Option ℤ) (q : Question) → AsksListed q → AsksListed (ordering a b q)
+ordering_listed : (a b : Option ℤ) (q : Question) → AsksListed q → AsksListed (asks_order a b q)
 ordering_listed None b q h = h
 ordering_listed (Some m) None q h = h
 ordering_listed (Some m) (Some n) q h = refl
 
-comparing_listed : (a b : Option ℕ) → AsksListed (comparing a b)
+comparing_listed : (a b : Option ℕ) → AsksListed (asks_same a b)
 comparing_listed None b = refl
 comparing_listed (Some t) None = refl
 comparing_listed (Some t) (Some u) = tt
 
-ranged_listed : (o : Option ℤ) (b : Bool) → AsksListed (ranged o b)
+ranged_listed : (o : Option ℤ) (b : Bool) → AsksListed (asks_range o b)
 ranged_listed (Some n) b = refl
 ranged_listed None true = refl
 ranged_listed None false = refl
@@ -117,7 +117,7 @@ fitting_listed true c = refl
 fitting_listed false true = refl
 fitting_listed false false = refl
 
-answering_listed : (a : Answer) → AsksListed (answering a)
+answering_listed : (a : Answer) → AsksListed (asks_answer a)
 answering_listed answer.Void = refl
 answering_listed answer.Null = refl
 answering_listed answer.New = tt
@@ -130,33 +130,33 @@ answering_listed answer.Int = tt
 answering_listed answer.Long = tt
 answering_listed answer.Text = tt
 
-all_set_listed : (xs : List Term) (q : Question) → AsksListed q → AsksListed (all_set xs q)
+all_set_listed : (xs : List Term) (q : Question) → AsksListed q → AsksListed (asks_all_set xs q)
 all_set_listed [] q h = h
-all_set_listed (x ∷ xs) q h = setting_listed x (all_set xs q) (all_set_listed xs q h)
+all_set_listed (x ∷ xs) q h = setting_listed x (asks_all_set xs q) (all_set_listed xs q h)
 
 module _ (k : Known) where
-  knowing_listed : (x : Term) (q : Question) → AsksListed q → AsksListed (knowing k x q)
+  knowing_listed : (x : Term) (q : Question) → AsksListed q → AsksListed (asks_known k x q)
   knowing_listed Unset q h = refl
   knowing_listed Null q h = h
   knowing_listed Text q h = h
   knowing_listed (Number n) q h = h
-  knowing_listed (Token t) q h = knowing_mark_listed (mark k t) t q h
+  knowing_listed (Token t) q h = knowing_mark_listed (mark_of k t) t q h
 
-  needing_listed : (x : Term) (q : Question) → AsksListed q → AsksListed (needing k x q)
+  needing_listed : (x : Term) (q : Question) → AsksListed q → AsksListed (asks_thing k x q)
   needing_listed Unset q h = refl
   needing_listed Null q h = refl
   needing_listed Text q h = h
   needing_listed (Number n) q h = h
-  needing_listed (Token t) q h = needing_mark_listed (mark k t) t q h
+  needing_listed (Token t) q h = needing_mark_listed (mark_of k t) t q h
 
-  dropping_listed : (x : Term) → AsksListed (dropping k x)
+  dropping_listed : (x : Term) → AsksListed (asks_dropped k x)
   dropping_listed Unset = refl
   dropping_listed Null = refl
   dropping_listed Text = refl
   dropping_listed (Number n) = refl
-  dropping_listed (Token t) = knowing_mark_listed (mark k t) t (Does Quiet) refl
+  dropping_listed (Token t) = knowing_mark_listed (mark_of k t) t (Does Quiet) refl
 
-  needing_for_listed : (p : Param) (x : Term) (q : Question) → AsksListed q → AsksListed (needing_for k p x q)
+  needing_for_listed : (p : Param) (x : Term) (q : Question) → AsksListed q → AsksListed (asks_param k p x q)
   needing_for_listed param.Object x q h = needing_listed x q h
   needing_for_listed param.Text x q h = needing_listed x q h
   needing_for_listed param.ObjectOrNull x q h = h
@@ -166,22 +166,22 @@ module _ (k : Known) where
   needing_for_listed param.Size x q h = h
   needing_for_listed param.ModuleDef x q h = h
 
-  needing_all_listed : (ps : List Param) (xs : List Term) (q : Question) → AsksListed q → AsksListed (needing_all k ps xs q)
+  needing_all_listed : (ps : List Param) (xs : List Term) (q : Question) → AsksListed q → AsksListed (asks_params k ps xs q)
   needing_all_listed [] xs q h = h
   needing_all_listed (p ∷ ps) [] q h = h
-  needing_all_listed (p ∷ ps) (x ∷ xs) q h = needing_for_listed p x (needing_all k ps xs q) (needing_all_listed ps xs q h)
+  needing_all_listed (p ∷ ps) (x ∷ xs) q h = needing_for_listed p x (asks_params k ps xs q) (needing_all_listed ps xs q h)
 
-  knowing_for_listed : (t : Take) (x : Term) (q : Question) → AsksListed q → AsksListed (knowing_for k t x q)
+  knowing_for_listed : (t : Take) (x : Term) (q : Question) → AsksListed q → AsksListed (asks_take k t x q)
   knowing_for_listed take.Never x q h = h
   knowing_for_listed take.Always x q h = knowing_listed x q h
   knowing_for_listed take.OnSuccess x q h = knowing_listed x q h
 
-  knowing_taken_listed : (ts : List Take) (xs : List Term) (q : Question) → AsksListed q → AsksListed (knowing_taken k ts xs q)
-  knowing_taken_listed [] xs q h = h
-  knowing_taken_listed (t ∷ ts) [] q h = h
-  knowing_taken_listed (t ∷ ts) (x ∷ xs) q h = knowing_for_listed t x (knowing_taken k ts xs q) (knowing_taken_listed ts xs q h)
+  asks_takes_listed : (ts : List Take) (xs : List Term) (q : Question) → AsksListed q → AsksListed (asks_takes k ts xs q)
+  asks_takes_listed [] xs q h = h
+  asks_takes_listed (t ∷ ts) [] q h = h
+  asks_takes_listed (t ∷ ts) (x ∷ xs) q h = knowing_for_listed t x (asks_takes k ts xs q) (asks_takes_listed ts xs q h)
 
-  special_listed : (sp : Special) (x : Term) → AsksListed (special_ask k sp x)
+  special_listed : (sp : Special) (x : Term) → AsksListed (asks_special k sp x)
   special_listed special.IncRef x = needing_listed x (Does Quiet) refl
   special_listed special.DecRef x = needing_listed x (Does Quiet) refl
   special_listed special.XIncRef x = knowing_listed x (Does Quiet) refl
@@ -198,8 +198,8 @@ module _ (k : Known) where
   special_listed special.DictNext x = refl
   special_listed special.BuildValue x = refl
 
-  form_listed : (f : Form) (shape : Shape) (xs : List Term) → AsksListed (form_ask k f shape xs)
-  form_listed form.Plain shape xs = needing_all_listed shape.row.params xs _ (knowing_taken_listed shape.row.takes xs (answering shape.row.answer) (answering_listed shape.row.answer))
+  form_listed : (f : Form) (shape : Shape) (xs : List Term) → AsksListed (asks_form k f shape xs)
+  form_listed form.Plain shape xs = needing_all_listed shape.row.params xs _ (asks_takes_listed shape.row.takes xs (asks_answer shape.row.answer) (answering_listed shape.row.answer))
   form_listed (form.Special sp) shape xs = special_listed sp (first_term xs)
 
   -- ---- slots
@@ -229,36 +229,36 @@ module _ (k : Known) where
   find_field_listed Null tag field = refl
   find_field_listed Text tag field = refl
   find_field_listed (Number n) tag field = refl
-  find_field_listed (Token t) tag field = find_token_listed t (mark k t) tag field
+  find_field_listed (Token t) tag field = find_token_listed t (mark_of k t) tag field
 
   find_listed : (place : Place) → FindsListed (find k place)
   find_listed (places.Global n kind) = at_place_listed (position (λ s. is_global n s.spot) k.slots)
   find_listed (places.Field base tag field kind) = find_field_listed (term_of k base) tag field
 
-  loading_listed : (m : Mark) (f : Finding) → FindsListed f → AsksListed (loading k m f)
+  loading_listed : (m : Mark) (f : Finding) → FindsListed f → AsksListed (asks_load k m f)
   loading_listed m (Waits q) h = h
   loading_listed m (At i) h = setting_listed (slot_note k.slots i).held (Does Quiet) refl
   loading_listed m Nowhere h = tt
 
-  storing_listed : (m : Mark) (f : Finding) → FindsListed f → AsksListed (storing k m f)
+  storing_listed : (m : Mark) (f : Finding) → FindsListed f → AsksListed (asks_store k m f)
   storing_listed m (Waits q) h = h
   storing_listed m (At i) h = dropping_listed (slot_note k.slots i).held
   storing_listed m Nowhere h = tt
 
   -- ---- instructions
 
-  return_listed : (o : Option Atom) → AsksListed (return_ask k o)
+  return_listed : (o : Option Atom) → AsksListed (asks_return k o)
   return_listed None = tt
   return_listed (Some a) = knowing_listed (term_of k a) (Returns (Some (term_of k a))) tt
 
-  instr_listed : (i : Instr) → AsksListed (ask_of k i)
+  instr_listed : (i : Instr) → AsksListed (asks_instr k i)
   instr_listed (Set x a) = setting_listed (term_of k a) (Does Quiet) refl
   instr_listed (Arith x kind o a b) = setting_listed (term_of k a) _ (setting_listed (term_of k b) _ (ranged_listed (arithmetic o kind (number k (term_of k a)) (number k (term_of k b))) _))
   instr_listed (Fit x kind a) = setting_listed (term_of k a) _ (fitting_listed (fits kind (number k (term_of k a))) _)
   instr_listed (Compare x c a b) = ordering_listed (number_in (term_of k a)) (number_in (term_of k b)) _
       (knowing_listed (term_of k a) _ (knowing_listed (term_of k b) _ (comparing_listed (object_of k (term_of k a)) (object_of k (term_of k b)))))
-  instr_listed (Load x place) = loading_listed (contents (place_kind place)) (find k place) (find_listed place)
-  instr_listed (Store place a) = knowing_listed (term_of k a) _ (storing_listed (contents (place_kind place)) (find k place) (find_listed place))
+  instr_listed (Load x place) = loading_listed (content_mark (place_kind place)) (find k place) (find_listed place)
+  instr_listed (Store place a) = knowing_listed (term_of k a) _ (storing_listed (content_mark (place_kind place)) (find k place) (find_listed place))
   instr_listed (Api x shape as' outs) = all_set_listed (terms_of k as') _ (form_listed shape.row.form shape (terms_of k as'))
   instr_listed (Call x f as') = refl
   instr_listed (Forget x) = refl
@@ -267,7 +267,7 @@ module _ (k : Known) where
   instr_listed (Return o) = return_listed o
   instr_listed Fall = refl
 
-  line_listed : (o : Option Line) → AsksListed (ask_line k o)
+  line_listed : (o : Option Line) → AsksListed (asks_line k o)
   line_listed None = refl
   line_listed (Some line) = instr_listed line.instr
 
@@ -277,7 +277,7 @@ while_listed (status.Returned p x) q h = tt
 while_listed (status.Stopped p) q h = tt
 
 pub ask_listed : (code : List Line) (k : Known) → AsksListed (ask code k)
-ask_listed code k = while_listed k.status (ask_line k (slice_get code k.pc)) (line_listed k (slice_get code k.pc))
+ask_listed code k = while_listed k.status (asks_line k (slice_get code k.pc)) (line_listed k (slice_get code k.pc))
 
 -- ---- answers
 
@@ -343,7 +343,7 @@ can_listed : (s : State) (q : Question) (d : Decision) → AsksListed q → can 
 can_listed s (Does d') d h e = decision_listed d' d h e
 can_listed s (Touches m) d h e = decision_listed Quiet d refl e
 can_listed s (Overwrites m) d h e = outcome_listed (length (outcomes_of_mark m)) d (few_of_mark m) e
-can_listed s (AsksNull t) d h e = outcome_listed (length (outcomes_of_mark (mark s.known t))) d (few_of_mark (mark s.known t)) e
+can_listed s (AsksNull t) d h e = outcome_listed (length (outcomes_of_mark (mark_of s.known t))) d (few_of_mark (mark_of s.known t)) e
 can_listed s (Base t u i) d h e = same_listed (are_one s.classes t u) (are_other s.statics s.classes s.others t u) d e
 can_listed s (Answers a) d h e = outcome_listed (length (outcomes_of_answer a)) d (few_of_answer a) e
 can_listed s (Same t u) d h e = same_listed (are_one s.classes t u) (are_other s.statics s.classes s.others t u) d e

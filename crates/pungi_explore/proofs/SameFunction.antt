@@ -13,10 +13,10 @@ use Rattle.pungi_symbol.specs.declared.questions.question.Question.TheVariants.{
 use Rattle.pungi_symbol.specs.declared.states.state.State.{State}
 use Rattle.pungi_symbol.specs.declared.states.term.Term.{Term}
 use Rattle.pungi_symbol.specs.questions.NextQuestion.{ask}
-use Rattle.pungi_symbol.specs.answers.KnownAfter.{answered, arrive, api_var, does, instr_of, load_first, next, store_first, with_line, go}
+use Rattle.pungi_symbol.specs.answers.KnownAfter.{put_answer, arrive, call_var, does, instr_of, load_first, go_on, store_first, perform_line, go}
 use Rattle.pungi_symbol.specs.runs.Paths.{Path, path_here, path_on}
 
-answered_function : (k : Known) (x : Option Var) (o : Option Term) → (next (answered x o k)).function ≡ k.function
+answered_function : (k : Known) (x : Option Var) (o : Option Term) → (go_on (put_answer x o k)).function ≡ k.function
 answered_function k None o = refl
 answered_function k (Some x) None = refl
 answered_function k (Some x) (Some c) = refl
@@ -36,7 +36,7 @@ does_function k (Branch a this other) = refl
 does_function k (Return o) = refl
 does_function k Fall = refl
 
-line_function : (k : Known) (o : Option Line) → (with_line o (λ i. does k i) k).function ≡ k.function
+line_function : (k : Known) (o : Option Line) → (perform_line o (λ i. does k i) k).function ≡ k.function
 line_function k None = refl
 line_function k (Some line) = does_function k line.instr
 
@@ -76,7 +76,7 @@ go_function o k (Touches m) d = load_function (instr_of o) m k
 go_function o k (Overwrites m) d = store_function (instr_of o) _ k
 go_function o k (AsksNull t) d = refl
 go_function o k (Base t u i) d = refl
-go_function o k (Answers a) d = answered_function (arrive _ k) (api_var (instr_of o)) _
+go_function o k (Answers a) d = answered_function (arrive _ k) (call_var (instr_of o)) _
 go_function o k (Same t u) d = refl
 go_function o k (Returns x) d = refl
 go_function o k (Stops d') d = refl

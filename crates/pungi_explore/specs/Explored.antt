@@ -1,12 +1,12 @@
--- What exploring the states of a function tells of its runs (Li and Tan, ECOOP 2014, for when a return is balanced).
---   most_traces                   how many traces of a function are looked at
+-- What exploring the states of a function shows of its runs (Li and Tan, ECOOP 2014, for when a return is balanced).
+--   most_traces                   how many traces of a function are explored
 --   first_states codes f code     the state at the start of a function
 --   HasFew, HasMany               it has at most that many traces; it has more
 --   Returns                       a run returns: after so many instructions, in this world, with this value
 --   AreBalanced statics code      each run that returns is balanced
 --   IsFaultRun statics code w     this run returns unbalanced
 --   IsUnbalanced statics code     some run returns unbalanced
---   IsFew, IsMany codes f         the code of a function has at most as many traces as are looked at; it has more
+--   IsFew, IsMany codes f         the code of a function has at most as many traces as are explored; it has more
 --   IsExplored codes f e          what was found is so
 --   FindsFault codes f e          it is a fault where there is one and the traces are few
 use Rattle.std.specs.Prelude.{◌≡◌, ℕ, ◌+◌, ◌<◌, ◌≤◌, true, List, [], ◌∷◌, length, Option}

@@ -1,7 +1,7 @@
 // All states of a function, one path at a time.
 ghost use Rattle.std.specs.Prelude.{◌≡◌, map, IfOk};
 ghost use Rattle.pungi_code.specs.Run.{code_at};
-ghost use Rattle.pungi_symbol.specs.runs.Paths.{starts};
+ghost use Rattle.pungi_symbol.specs.runs.Paths.{start_states};
 ghost use Rattle.pungi_symbol.specs.Promises.{Covers};
 ghost use Rattle.pungi_explore.specs.Explored.{IsExplored, FindsFault};
 
@@ -13,12 +13,12 @@ use pungi_code::Codes;
 use pungi_symbol::{Sym, start};
 use std::alloc::Global;
 
-/// How many traces of a function are looked at, at most.
+/// How many traces of a function are explored, at most.
 const MOST_TRACES: usize = 16_384;
 
 /// The state at the start of a function.
 fn first(alloc: Global, codes: &Codes, f: usize) -> Result<Seq<Sym>, Memory>
-    ensures first { IfOk result (λ pending. pending ≡ map (λ p. p.1) (starts codes.now.statics f (code_at codes.now f))) }
+    ensures first { IfOk result (λ pending. pending ≡ map (λ p. p.1) (start_states codes.now.statics f (code_at codes.now f))) }
     ensures covers { IfOk result (λ _. Covers codes.now f) }
 {
     let mut pending = Seq::new(Vec::new(alloc));
@@ -53,9 +53,10 @@ fn search(alloc: Global, codes: &Codes, f: usize) -> Result<Explored, Memory>
 /// What the runs of a function show whose code has the object form: that each run that returns is balanced, or one that
 /// isn't (Li and Tan, ECOOP 2014, for when a return is balanced). A run that isn't balanced is found wherever there is one,
 /// if the function has at most 16,384 traces. `TooMany` comes only where it has more. Of a function whose
-/// code hasn't the form nothing is told by any answer.
+/// code hasn't the form, no result says anything.
 ///
-/// `Memory` is want of memory. A walk of 2^64 - 1 states is told as it, too, and so is a count that leaves its integers.
+/// `Memory` is want of memory. A walk of 2^64 - 1 states is reported as it, too, and so is a count that leaves its
+/// integers.
 pub fn explore(alloc: Global, codes: &Codes, f: usize) -> Result<Explored, Memory>
     ensures shown { IfOk result (IsExplored codes.now f) }
     ensures found { IfOk result (FindsFault codes.now f) }

@@ -7,10 +7,10 @@ use Rattle.std.proofs.lemmas.List.Elements.{filter_map-append}
 use Rattle.std.proofs.lemmas.Bool.Decides.{nat_tests}
 use Rattle.pungi_format.specs.declared.out_unit.OutUnit.{OutUnit}
 use Rattle.pungi_format.specs.declared.out_format.Group.{Group}
-use Rattle.pungi_format.specs.OutFormat.{out_letter, closing_of, is_closing, is_blank, is_closed, opened, open_behind, open_in, out_rule, out_units, Closes}
+use Rattle.pungi_format.specs.OutFormat.{out_letter, closing_of, is_closing, is_blank, is_closed, opened, open_after, open_in, out_rule, out_units, Closes}
 use Rattle.pungi_format.proofs.FaultLemmas.{NoFaultBefore, none_yet, none_here}
 
-open_more : (at : ℕ) (groups : List Group) (xs : List ℕ) (b : ℕ) → open_behind at groups (xs ++ b ∷ []) ≡ opened (closing_of b) (at + length xs) (open_behind at groups xs) b
+open_more : (at : ℕ) (groups : List Group) (xs : List ℕ) (b : ℕ) → open_after at groups (xs ++ b ∷ []) ≡ opened (closing_of b) (at + length xs) (open_after at groups xs) b
 open_more at groups [] b = rw add-zero refl
 open_more at groups (x ∷ xs) b =
     let e : (at + 1) + length xs ≡ at + length (x ∷ xs) = omega arith in

@@ -3,10 +3,11 @@
 --   in_letter b                    the unit that a byte alone spells
 --   unit_before b bs               the unit that a byte begins before these: `O!` is one unit
 --   units_of text                  the units of a text, one after another
---   required_of text               how many units stand before the bar, or all where there is none
+--   required_of text               how many units stand before the bar, or all where there is no bar
 --   has_bar text                   whether a bar stands in the text
 --   is_typed before                whether an `O` stands directly before
---   in_rule before b               what is wrong with a byte behind these: a second bar, a `!` that isn't behind an `O`, or no unit
+--   in_rule before b               what is wrong with a byte after these: a second bar, a `!` that isn't after an `O`,
+--                                  or no unit
 --   units_fault, in_fault text     the first fault of the part that has the units, and of a format
 --   units_format, in_format text   the units of that part, and of a format, where no fault is
 --   ReadsUnits text result         the answer for the part of a format that has its units

@@ -4,10 +4,12 @@
 --   closing_of b                 the byte that closes an opening bracket
 --   is_closing b, is_blank b     a closing bracket; a byte that is passed over
 --   is_closed groups b           whether a closing bracket matches the one that was opened last
---   opened closing at groups b   the groups that are open behind one more byte, which this one closes if it opens
---   open_behind at groups text   the groups that are open behind a text that begins at a place, where these were open: the last one first
---   open_in text                 the groups that are open behind a text
---   out_rule before b            what is wrong with a byte behind these: a closing bracket that matches no open one, or no unit
+--   opened closing at groups b   the groups that are open after one more byte, which this one closes if it opens
+--   open_after at groups text    the groups that are open after a text that begins at a place, where these were open:
+--                                the last one first
+--   open_in text                 the groups that are open after a text
+--   out_rule before b            what is wrong with a byte after these: a closing bracket that matches no open one, or
+--                                no unit
 --   left_open groups             the last open bracket, where one is open at the end
 --   out_fault text               the first fault of a format
 --   out_units text               the units of a text
@@ -55,12 +57,12 @@ abbrev pub opened : Option ℕ → ℕ → List Group → ℕ → List Group
 opened (Some c) at groups b = record { place = at; closing = c } ∷ groups
 opened None at groups b = if is_closing b then drop 1 groups else groups
 
-abbrev pub open_behind : ℕ → List Group → List ℕ → List Group
-open_behind at groups [] = groups
-open_behind at groups (b ∷ bs) = open_behind (at + 1) (opened (closing_of b) at groups b) bs
+abbrev pub open_after : ℕ → List Group → List ℕ → List Group
+open_after at groups [] = groups
+open_after at groups (b ∷ bs) = open_after (at + 1) (opened (closing_of b) at groups b) bs
 
 abbrev pub open_in : List ℕ → List Group
-open_in text = open_behind 0 [] text
+open_in text = open_after 0 [] text
 
 abbrev pub out_rule : List ℕ → ℕ → Option FormatFault
 out_rule before b =

@@ -8,7 +8,7 @@ use std::alloc::Global;
 
 /// The byte of an object.
 const OBJECT: u8 = b'O';
-/// The byte behind that of an object whose type stands before it.
+/// The byte after that of an object whose type stands before it.
 const TYPED: u8 = b'!';
 /// The byte that begins the optional units.
 const BAR: u8 = b'|';
@@ -21,7 +21,7 @@ const MESSAGE: u8 = b';';
 #[derive(Debug, Drop)]
 pub struct InFormat {
     pub units: Seq<InUnit>,
-    /// How many units stand before the bar, or all where there is none.
+    /// How many units stand before the bar, or all where there is no bar.
     pub required: usize,
 }
 

@@ -1,5 +1,5 @@
 //! The formats of the calls that take arguments apart and that build values: which units they have, and what is wrong
-//! with those that are none (Python/C API Reference Manual 3.11, 'Parsing arguments and building values').
+//! with those that aren't (Python/C API Reference Manual 3.11, 'Parsing arguments and building values').
 #![tactic(auto)]
 
 mod format_fault;

@@ -291,7 +291,7 @@ fn replaces_macros(rt: HostRuntime) -> Result<(), Fail> {
 }
 
 /// Macros of which the k-th is the one before twice, so that its use costs 2^(k + 2) - 1 tokens and replacements, and
-/// behind them a text.
+/// after them a text.
 fn doubled(alloc: Global, text: &str) -> Result<String, Fail> {
     let mut out = String::new(alloc);
     write!(&mut out, "#define TWICE0 x x\n")?;
@@ -303,7 +303,7 @@ fn doubled(alloc: Global, text: &str) -> Result<String, Fail> {
     Ok(out)
 }
 
-/// The kinds of the tokens of a text behind such macros, once they are replaced; or the fault.
+/// The kinds of the tokens of a text after such macros, once they are replaced; or the fault.
 fn doubled_line(alloc: Global, text: &str) -> Result<String, Fail> {
     let whole = doubled(alloc, text)?;
     line(alloc, whole.as_str(), Stage::Replaced, Aspect::Kinds)

@@ -1,4 +1,4 @@
-//! Tokens that are a file, and those that are none: a row for each production of the grammar and each near miss.
+//! Tokens that are a file, and those that aren't: a row for each production of the grammar and each near miss.
 
 use crate::kinds::{
     ADD, ARROW, ASK, BREAK, CASE, CHAR, COLON, COMMA, CONST, CONTINUE, DEFAULT, DO, DOC, DOT, DOTS,
@@ -11,13 +11,13 @@ use pungi_parse::{ParseFault, parse};
 use std::alloc::{AllocError, Global};
 use std::test::Fail;
 
-/// More than 64 brackets, told from any column.
+/// More than 64 brackets, reported at any column.
 const DEEP: u32 = 100_000;
 
-/// Want of memory, told from any column.
+/// Want of memory, reported at any column.
 const MEMORY: u32 = 200_000;
 
-/// The tokens of these kinds, on one line, each a column behind the one before.
+/// The tokens of these kinds, on one line, each a column after the one before.
 pub(crate) fn placed(alloc: Global, kinds: &[Kind]) -> Result<Vec<Token>, AllocError> {
     let mut tokens = Vec::new(alloc);
     let mut col = 0u32;
@@ -61,7 +61,7 @@ fn repeated(
     Ok(kinds)
 }
 
-/// A function with this body, behind the type definition of `T`.
+/// A function with this body, after the type definition of `T`.
 pub(crate) fn behind_typedef(alloc: Global, body: &[Kind]) -> Result<Vec<Kind>, AllocError> {
     let mut kinds = Vec::new(alloc);
     kinds.extend_from_slice(&[TYPEDEF, INT, WT, SEMI, VOID, WF, LP, VOID, RP, LC])?;
@@ -70,7 +70,7 @@ pub(crate) fn behind_typedef(alloc: Global, body: &[Kind]) -> Result<Vec<Kind>, 
     Ok(kinds)
 }
 
-/// The fault in a function with this body, behind the type definition of `T`: 0, or 5 where there is no function.
+/// The fault in a function with this body, after the type definition of `T`: 0, or 5 where there is no function.
 fn in_body(alloc: Global, body: &[Kind]) -> Result<u32, AllocError> {
     let kinds = behind_typedef(alloc, body)?;
     fault(alloc, &kinds)

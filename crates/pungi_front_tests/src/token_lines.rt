@@ -49,7 +49,7 @@ fn push_text(out: &mut String, names: &Names, name: Name) -> Result<(), Fail> {
     Ok(out.push('"')?)
 }
 
-/// A word as it is spelled, an integer with L or U behind it, a text in quotes; what else there is by its own name.
+/// A word as it is spelled, an integer with L or U after it, a text in quotes; what else there is by its own name.
 fn push_kind(out: &mut String, names: &Names, kind: Kind) -> Result<(), Fail> {
     match kind {
         Kind::Word(name) => return push_name(out, names, name),

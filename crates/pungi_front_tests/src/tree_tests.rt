@@ -84,7 +84,7 @@ fn trees_of_files(rt: HostRuntime) -> Result<(), Fail> {
     Ok(())
 }
 
-/// `return` behind so many `if`s, of a word behind so many `!` and in so many parentheses.
+/// `return` after so many `if`s, of a word after so many `!` and in so many parentheses.
 fn nested(alloc: Global, ifs: u32, nots: u32, parens: u32) -> Result<Vec<Kind>, AllocError> {
     let mut kinds = Vec::new(alloc);
     for _ in 0..ifs {

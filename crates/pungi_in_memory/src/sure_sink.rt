@@ -1,7 +1,7 @@
 ghost use Rattle.std.specs.Prelude.{◌≡◌, ◌≤◌, ◌<◌, [], List, length, false, IfOk, OnErr, Ok};
 ghost use Rattle.pungi_base.specs.Shelf.{Rose};
 ghost use Rattle.pungi_base.specs.Sink.{WriteTakes};
-ghost use Rattle.pungi_in_memory.specs.SureSink.{KeptState, kept_told, kept_wrote};
+ghost use Rattle.pungi_in_memory.specs.SureSink.{KeptState, kept_bytes, kept_wrote};
 
 use pungi_base::{Failed, Memory, Sink};
 use std::alloc::Global;
@@ -48,14 +48,14 @@ impl SureSink {
 }
 
 impl Sink for SureSink {
-    ghost taken = { kept_told };
+    ghost taken = { kept_bytes };
 
     ghost faults = { λ _. 0 };
 
     fn write(&mut self, piece: &[u8]) -> Result<usize, Failed>
         ensures within { IfOk result (λ count. count ≤ length piece.now) }
         ensures some { IfOk result (λ count. 0 < length piece.now → 0 < count) }
-        ensures bytes { WriteTakes (kept_told self.old) (kept_told self.new) result piece.now }
+        ensures bytes { WriteTakes (kept_bytes self.old) (kept_bytes self.new) result piece.now }
         ensures later { 0 ≤ 0 }
         ensures failed { OnErr result (Rose 0 0) }
 

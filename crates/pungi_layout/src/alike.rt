@@ -9,7 +9,7 @@ ghost use Rattle.pungi_layout.specs.code.Heads.{heads_of};
 
 use pungi_resolved::Function;
 
-/// The law of the layout: from any entry and with any answers of the outside, the run of a function and the run of the
+/// The law of the layout: from any entry and with any choices, the run of a function and the run of the
 /// instructions that are laid out for it are alike.
 pub fn layout_is_alike(f: &Function)
     requires sound { IsStmtSound (function_view f.now).locals (function_view f.now).body }

@@ -11,8 +11,8 @@ use Rattle.pungi_lex.specs.declared.lex_fault.LexFault.{LexFault}
 use Rattle.pungi_lex.specs.Join.{plain, joined, places_of, place_in}
 use Rattle.pungi_lex.specs.Line.{next_line}
 use Rattle.pungi_lex.specs.Piece.{length_at, IsKind, spells, with_texts}
-use Rattle.pungi_lex.specs.Start.{starts}
-use Rattle.pungi_lex.specs.Tokens.{Piece, text_of, IsCut, line_behind, tokens_of, spelled, AreTokens, AreTokensOf, HasFault, HasNoTokens, is_memory, fault_at}
+use Rattle.pungi_lex.specs.Start.{start_of}
+use Rattle.pungi_lex.specs.Tokens.{Piece, text_of, IsCut, line_after, tokens_of, spelled, AreTokens, AreTokensOf, HasFault, HasNoTokens, is_memory, fault_at}
 use Rattle.pungi_lex.proofs.KindLemmas.{kind_once}
 
 front_same : (a x b y : List ℕ) → length a ≡ length b → a ++ x ≡ b ++ y → (a ≡ b) × (x ≡ y)
@@ -32,7 +32,7 @@ nil_right : (a b : List ℕ) → a ++ b ≡ [] → b ≡ []
 nil_right [] b e = e
 nil_right (x ∷ a) b e = absurd cc
 
-nothing_begins : (line : Line) → length_at (starts line []) [] ≡ None
+nothing_begins : (line : Line) → length_at (start_of line []) [] ≡ None
 nothing_begins lines.Fresh = refl
 nothing_begins lines.Hash = refl
 nothing_begins lines.Include = refl
@@ -50,7 +50,7 @@ same_head : (n m : List (List ℕ)) (line : Line) (p q : Piece) (ps qs : List Pi
     → SameHead line p q ps qs rest end
 same_head n m line p q ps qs rest end cut other e =
     let same : p.bytes ++ (text_of ps ++ rest) ≡ q.bytes ++ (text_of qs ++ end) = sym (append_assoc p.bytes (text_of ps) rest) ∙ e ∙ append_assoc q.bytes (text_of qs) end in
-    let started : p.start ≡ q.start = cut.0 ∙ ap (starts line) same ∙ sym other.0 in
+    let started : p.start ≡ q.start = cut.0 ∙ ap (start_of line) same ∙ sym other.0 in
     let measured : Some (length p.bytes) ≡ Some (length q.bytes) = sym cut.1 ∙ (λ i. length_at (started i) (same i)) ∙ other.1 in
     let parts = front_same p.bytes (text_of ps ++ rest) q.bytes (text_of qs ++ end) (some_same (length p.bytes) (length q.bytes) measured) same in
     record { start = started; bytes = parts.0; behind = parts.1; line_is = λ i. next_line line (sym started i) (sym parts.0 i) }
@@ -58,17 +58,17 @@ same_head n m line p q ps qs rest end cut other e =
 no_more : (n : List (List ℕ)) (line : Line) (q : Piece) (qs : List Piece) (end : List ℕ) → IsCut n line (q ∷ qs) end → text_of (q ∷ qs) ++ end ≡ [] → ⊥
 no_more n line q qs end cut e =
     let none : q.bytes ++ (text_of qs ++ end) ≡ [] = sym (append_assoc q.bytes (text_of qs) end) ∙ e in
-    let measured : None ≡ Some (length q.bytes) = sym (nothing_begins line) ∙ (λ i. length_at (starts line (sym none i)) (sym none i)) ∙ ap (λ (s : Start). length_at s (q.bytes ++ (text_of qs ++ end))) (sym cut.0) ∙ cut.1 in
+    let measured : None ≡ Some (length q.bytes) = sym (nothing_begins line) ∙ (λ i. length_at (start_of line (sym none i)) (sym none i)) ∙ ap (λ (s : Start). length_at s (q.bytes ++ (text_of qs ++ end))) (sym cut.0) ∙ cut.1 in
     cc
 
 -- ---- a cut that is stuck excludes one that goes to the end
 
-stuck_once : (n m : List (List ℕ)) (line : Line) (ps qs : List Piece) (rest : List ℕ) → IsCut n line ps rest → rest ≢ [] → length_at (starts (line_behind line ps) rest) rest ≡ None
+stuck_once : (n m : List (List ℕ)) (line : Line) (ps qs : List Piece) (rest : List ℕ) → IsCut n line ps rest → rest ≢ [] → length_at (start_of (line_after line ps) rest) rest ≡ None
     → IsCut m line qs [] → text_of ps ++ rest ≡ text_of qs ++ [] → ⊥
 stuck_once n m line [] [] rest cut more none other e = more e
 stuck_once n m line [] (q ∷ qs) rest cut more none other e =
     let whole : rest ≡ q.bytes ++ (text_of qs ++ []) = e ∙ append_assoc q.bytes (text_of qs) [] in
-    let measured : None ≡ Some (length q.bytes) = sym none ∙ (λ i. length_at (starts line (whole i)) (whole i)) ∙ ap (λ (s : Start). length_at s (q.bytes ++ (text_of qs ++ []))) (sym other.0) ∙ other.1 in
+    let measured : None ≡ Some (length q.bytes) = sym none ∙ (λ i. length_at (start_of line (whole i)) (whole i)) ∙ ap (λ (s : Start). length_at s (q.bytes ++ (text_of qs ++ []))) (sym other.0) ∙ other.1 in
     cc
 stuck_once n m line (p ∷ ps) [] rest cut more none other e = more (nil_right (p.bytes ++ text_of ps) rest e)
 stuck_once n m line (p ∷ ps) (q ∷ qs) rest cut more none other e =
@@ -86,19 +86,19 @@ faults_none before text (Err f) h = λ m. fault_none before text f (h m)
 
 -- ---- two cuts that are stuck are stuck at one place
 
-never_both : (line : Line) (q : Piece) (qs : List Piece) (rest end : List ℕ) (m : List (List ℕ)) → length_at (starts line rest) rest ≡ None → IsCut m line (q ∷ qs) end → rest ≡ text_of (q ∷ qs) ++ end → ⊥
+never_both : (line : Line) (q : Piece) (qs : List Piece) (rest end : List ℕ) (m : List (List ℕ)) → length_at (start_of line rest) rest ≡ None → IsCut m line (q ∷ qs) end → rest ≡ text_of (q ∷ qs) ++ end → ⊥
 never_both line q qs rest end m none other e =
     let whole : rest ≡ q.bytes ++ (text_of qs ++ end) = e ∙ append_assoc q.bytes (text_of qs) end in
-    let measured : None ≡ Some (length q.bytes) = sym none ∙ (λ i. length_at (starts line (whole i)) (whole i)) ∙ ap (λ (s : Start). length_at s (q.bytes ++ (text_of qs ++ end))) (sym other.0) ∙ other.1 in
+    let measured : None ≡ Some (length q.bytes) = sym none ∙ (λ i. length_at (start_of line (whole i)) (whole i)) ∙ ap (λ (s : Start). length_at s (q.bytes ++ (text_of qs ++ end))) (sym other.0) ∙ other.1 in
     cc
 
 record SamePlace (line : Line) (ps qs : List Piece) (rest end : List ℕ) : Type 0 where
   pub rest_is : end ≡ rest
-  pub line_is : line_behind line qs ≡ line_behind line ps
+  pub line_is : line_after line qs ≡ line_after line ps
   pub front : text_of qs ≡ text_of ps
 
-stuck_same : (n m : List (List ℕ)) (line : Line) (ps qs : List Piece) (rest end : List ℕ) → IsCut n line ps rest → IsCut m line qs end → length_at (starts (line_behind line ps) rest) rest ≡ None
-    → length_at (starts (line_behind line qs) end) end ≡ None → text_of ps ++ rest ≡ text_of qs ++ end → SamePlace line ps qs rest end
+stuck_same : (n m : List (List ℕ)) (line : Line) (ps qs : List Piece) (rest end : List ℕ) → IsCut n line ps rest → IsCut m line qs end → length_at (start_of (line_after line ps) rest) rest ≡ None
+    → length_at (start_of (line_after line qs) end) end ≡ None → text_of ps ++ rest ≡ text_of qs ++ end → SamePlace line ps qs rest end
 stuck_same n m line [] [] rest end cut other none still e = record { rest_is = sym e; line_is = refl; front = refl }
 stuck_same n m line [] (q ∷ qs) rest end cut other none still e = absurd (never_both line q qs rest end m none other e)
 stuck_same n m line (p ∷ ps) [] rest end cut other none still e = absurd (never_both line p ps end rest n still cut (sym e))
@@ -106,11 +106,11 @@ stuck_same n m line (p ∷ ps) (q ∷ qs) rest end cut other none still e =
     let head = same_head n m line p q ps qs rest end cut other e in
     let next = next_line line p.start p.bytes in
     let later : IsCut m next qs end = subst (λ (l : Line). IsCut m l qs end) head.line_is other.3 in
-    let stays : length_at (starts (line_behind next qs) end) end ≡ None = subst (λ (l : Line). length_at (starts (line_behind l qs) end) end ≡ None) head.line_is still in
+    let stays : length_at (start_of (line_after next qs) end) end ≡ None = subst (λ (l : Line). length_at (start_of (line_after l qs) end) end ≡ None) head.line_is still in
     let r = stuck_same n m next ps qs rest end cut.3 later none stays head.behind in
     record {
       rest_is = r.rest_is;
-      line_is = ap (λ (l : Line). line_behind l qs) head.line_is ∙ r.line_is;
+      line_is = ap (λ (l : Line). line_after l qs) head.line_is ∙ r.line_is;
       front = λ i. sym head.bytes i ++ r.front i;
     }
 
@@ -118,7 +118,7 @@ fault_once : (text : List ℕ) (found other : LexFault) → HasFault text found 
 fault_once text found other x y =
     let place = place_in (places_of (joined text)) in
     let same = stuck_same x.names y.names lines.Fresh x.pieces y.pieces x.rest y.rest x.cut y.cut x.stuck y.stuck (sym x.whole ∙ y.whole) in
-    y.told ∙ (λ i. fault_at (starts (same.line_is i) (same.rest_is i)) (place (length (same.front i)))) ∙ sym x.told
+    y.told ∙ (λ i. fault_at (start_of (same.line_is i) (same.rest_is i)) (place (length (same.front i)))) ∙ sym x.told
 
 pub faults_once : {A : Type 0} (text : List ℕ) (other : LexFault) (r : Result A LexFault) → IfErr r (λ fault. is_memory fault ≡ false → HasFault text fault) → HasFault text other
     → IfErr r (λ fault. is_memory fault ≡ false → other ≡ fault)

@@ -40,7 +40,7 @@ number_once (t ∷ names) zero (suc m) text distinct one other = let is : t ≡ 
 number_once (t ∷ names) (suc n) zero text distinct one other = let is : t ≡ text = cc in absurd (never_later names n t text distinct.0 one is)
 number_once (t ∷ names) (suc n) (suc m) text distinct one other = ap suc (number_once names n m text distinct.1 one other)
 
--- ---- keywords and punctuators are told apart by their numbers and spellings
+-- ---- keywords and punctuators differ in their numbers and spellings
 
 abbrev keys : List Key
 keys =

@@ -12,7 +12,7 @@ use Rattle.pungi_base.specs.declared.token.Token.{Token}
 use Rattle.pungi_base.specs.declared.words.TheConstants.{PY_RETURN_NONE, PY_RETURN_TRUE, PY_RETURN_FALSE, PY_BEGIN_ALLOW_THREADS, PY_END_ALLOW_THREADS, PY_MODINIT_FUNC, PY_OBJECT_HEAD, PY_OBJECT_VAR_HEAD, PY_LT, PY_LE, PY_EQ, PY_NE, PY_GT, PY_GE, PY_OBJECT, PY_VAR_OBJECT, PY_NONE, PY_TRUE, PY_FALSE, PY_NEW_REF, OB_BASE, WORDS}
 use Rattle.pungi_base.specs.Words.{BeginWithWords, builtin_words}
 use Rattle.pungi_lex.specs.declared.macro_fault.MacroFault.{MacroFault}
-use Rattle.pungi_lex.specs.Directive.{Defines, Define, OfFunction, Again, Joint, Obeys, Inclusion, Definition, Other, kinds_of}
+use Rattle.pungi_lex.specs.Directive.{Defines, Define, OfFunction, Again, Joint, Obeys, Inclusion, Definition, Other, kinds_in}
 use Rattle.pungi_lex.specs.Expander.{Part, tokens_in, Runs, Ends, Directs, Expanded, IsExpanded}
 use Rattle.pungi_lex.specs.Known.{IsKnown, AreKnown}
 use Rattle.pungi_lex.specs.Macros.{Macros, Expands, Nothing, Kept, Replaced, body_of, placed}
@@ -103,12 +103,12 @@ expands_known names macros ks out n (Replaced _ k name body rest inner o i j w e
 
 -- ---- directives
 
-kinds_known : (names : ℕ) (tokens : List Token) → AreKnown names tokens → AreKnownKinds names (kinds_of tokens)
+kinds_known : (names : ℕ) (tokens : List Token) → AreKnown names tokens → AreKnownKinds names (kinds_in tokens)
 kinds_known names tokens known = All-map (IsKnown names) (λ (t : Token). t.kind) tokens known
 
 defines_known : (names : ℕ) (macros : Macros) (name : ℕ) (at : Pos) (body : List Token) (r : Result Macros MacroFault) → Defines macros name at body r → AreKnownMacros names macros → AreKnown names body
     → IfOk r (λ next. AreKnownMacros names next)
-defines_known names macros name at body r (Define _ f d n) all known = All-set (IsKnownBody names) macros name (Some (kinds_of body)) (kinds_known names body known) all
+defines_known names macros name at body r (Define _ f d n) all known = All-set (IsKnownBody names) macros name (Some (kinds_in body)) (kinds_known names body known) all
 defines_known names macros name at body r (OfFunction _ f) all known = tt
 defines_known names macros name at body r (Again _ f d) all known = tt
 defines_known names macros name at body r (Joint _ i t f d j is) all known = tt

@@ -13,7 +13,7 @@ use Rattle.pungi_lex.specs.declared.start.Start.{Start}
 use Rattle.pungi_lex.specs.declared.start.Start.TheVariants as start
 use Rattle.pungi_lex.specs.declared.lex_fault.LexFault.{LexFault}
 use Rattle.pungi_lex.specs.Bytes.{is_digit, is_octal_digit, is_hex_digit, begins, begins_with, front_of, after_front}
-use Rattle.pungi_lex.specs.Character.{char_behind, char_value}
+use Rattle.pungi_lex.specs.Character.{char_after, char_value}
 use Rattle.pungi_lex.specs.Known.{IsKnown, AreKnown}
 use Rattle.pungi_lex.specs.Line.{next_line, is_fresh}
 use Rattle.pungi_lex.specs.Number.{number_kind, int_of, int_kind, hex_of, is_float, value_in, begins_hex, is_suffix, suffix_long, suffix_unsigned, is_past_int, is_in_unsigned}
@@ -111,7 +111,7 @@ kind_known names start.LineComment found piece s = subst (IsKnownIfAny (length n
 kind_known names start.Comment found piece s = subst (IsKnownIfAny (length names)) (sym s) tt
 kind_known names start.Word found piece s = word_known names found piece s
 kind_known names start.Number found piece s = subst (IsKnownIfAny (length names)) (sym s) (number_known (length names) piece).is
-kind_known names start.Char found piece s = subst (IsKnownIfAny (length names)) (sym s) (char_known (length names) (char_value (char_behind (drop 1 piece))))
+kind_known names start.Char found piece s = subst (IsKnownIfAny (length names)) (sym s) (char_known (length names) (char_value (char_after (drop 1 piece))))
 kind_known names start.Text found piece s = text_known names found (content piece) s
 kind_known names start.Mark found piece s = mark_known (length names) found piece s
 kind_known names start.Nothing found piece s = absurd s

@@ -298,7 +298,7 @@ never_nothing : (ps more : List Part) (p : Part) → [] ≡ (ps ++ p ∷ []) ++ 
 never_nothing [] more p e = cc
 never_nothing (q ∷ ps) more p e = cc
 
--- where parts with one behind them begin other parts, that one is the last of these, or it stands among them
+-- where parts with one after them begin other parts, that one is the last of these, or it stands among them
 abbrev IsLastOrWithin : List Part → List Part → Part → Part → Type 0
 IsLastOrWithin ps qs p q = ((qs ≡ ps) × (q ≡ p)) ⊎ ((later : List Part) × (qs ≡ ps ++ p ∷ later))
 

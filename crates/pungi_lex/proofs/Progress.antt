@@ -17,8 +17,8 @@ use Rattle.pungi_lex.specs.declared.lex_fault.LexFault.{LexFault}
 use Rattle.pungi_lex.specs.Line.{next_line, is_fresh}
 use Rattle.pungi_lex.specs.Piece.{length_at, IsKind, NamesWord, NamesText, IsPieceAt, spells, with_texts}
 use Rattle.pungi_lex.specs.Quote.{content}
-use Rattle.pungi_lex.specs.Start.{starts, is_token}
-use Rattle.pungi_lex.specs.Tokens.{Piece, text_of, IsCut, token_of, tokens_of, line_behind, spelled, AreTokens, IsStuck, fault_at}
+use Rattle.pungi_lex.specs.Start.{start_of, is_token}
+use Rattle.pungi_lex.specs.Tokens.{Piece, text_of, IsCut, token_of, tokens_of, line_after, spelled, AreTokens, IsStuck, fault_at}
 
 -- ---- names that grow
 
@@ -70,19 +70,19 @@ pub record Reaches (before spelled_names names : List (List ℕ)) (bytes : List 
   pub cut : IsCut names lines.Fresh pieces end
   pub names_are : spelled_names ≡ with_texts before (spelled pieces)
   pub tokens_are : tokens ≡ tokens_of place 0 lines.Fresh false pieces
-  pub line_is : line ≡ line_behind lines.Fresh pieces
+  pub line_is : line ≡ line_after lines.Fresh pieces
   pub done_is : done ≡ length (text_of pieces)
 
 -- Each cut of what is left completes to a cut of the bytes.
 pub record Progress (before names : List (List ℕ)) (bytes : List ℕ) (place : ℕ → Pos) (tokens : List Token) (done : ℕ) (line : Line) (touching : Bool) : Type 0 where
   pub forward : (more : List (List ℕ)) (pieces : List Piece) (end : List ℕ) → drop done bytes ≡ text_of pieces ++ end → IsCut (names ++ more) line pieces end
-      → Reaches before (with_texts names (spelled pieces)) (names ++ more) bytes place end (tokens ++ tokens_of place done line touching pieces) (line_behind line pieces) (done + length (text_of pieces))
+      → Reaches before (with_texts names (spelled pieces)) (names ++ more) bytes place end (tokens ++ tokens_of place done line touching pieces) (line_after line pieces) (done + length (text_of pieces))
 
 pub progress_start : (names : List (List ℕ)) (bytes : List ℕ) (place : ℕ → Pos) → Progress names names bytes place [] 0 lines.Fresh false
 progress_start names bytes place = record { forward = λ more pieces end e cut. record { pieces = pieces; whole = e; cut = cut; names_are = refl; tokens_are = refl; line_is = refl; done_is = omega arith } }
 
 pub progress_step : (before names new : List (List ℕ)) (bytes : List ℕ) (place : ℕ → Pos) (tokens : List Token) (done : ℕ) (line : Line) (touching : Bool) (rest piece : List ℕ) (st : Start) (found : Option Kind) (count : ℕ)
-    → Progress before names bytes place tokens done line touching → Extends names new → rest ≡ drop done bytes → piece ≡ take count rest → st ≡ starts line rest → IsPieceAt new st rest found count → new ≡ with_texts names (spells st piece)
+    → Progress before names bytes place tokens done line touching → Extends names new → rest ≡ drop done bytes → piece ≡ take count rest → st ≡ start_of line rest → IsPieceAt new st rest found count → new ≡ with_texts names (spells st piece)
     → Progress before new bytes place (tokens ++ token_of found (place done) (is_fresh line) touching) (done + count) (next_line line st piece) (is_token st)
 progress_step before names new bytes place tokens done line touching rest piece st found count so_far grows rest-is piece-is start-is is added = record {
   forward = λ more pieces end e cut.
@@ -91,7 +91,7 @@ progress_step before names new bytes place tokens done line touching rest piece 
       let long : length piece ≡ count = ap length piece-is ∙ length-take-le count rest is.within in
       let behind : drop (done + count) bytes ≡ drop count rest = sym (drop-drop count done bytes) ∙ ap (drop count) (sym rest-is) in
       let text : rest ≡ piece ++ (text_of pieces ++ end) = sym (take-append-drop count rest) ∙ (λ i. sym piece-is i ++ (sym behind ∙ e) i) in
-      let started : st ≡ starts line (piece ++ (text_of pieces ++ end)) = start-is ∙ ap (starts line) text in
+      let started : st ≡ start_of line (piece ++ (text_of pieces ++ end)) = start-is ∙ ap (start_of line) text in
       let measured : length_at st (piece ++ (text_of pieces ++ end)) ≡ Some (length piece) = ap (length_at st) (sym text) ∙ is.measured ∙ ap Some (sym long) in
       let named : IsKind (new ++ more) st found piece = kind_more new more st found piece (subst (λ (t : List ℕ). IsKind new st found t) (sym piece-is) is.named) in
       let whole : drop done bytes ≡ (piece ++ text_of pieces) ++ end = sym rest-is ∙ text ∙ sym (append_assoc piece (text_of pieces) end) in
@@ -111,7 +111,7 @@ progress_step before names new bytes place tokens done line touching rest piece 
 
 -- the same, in the words of the code
 pub progress_on : (before names new : List (List ℕ)) (bytes : List ℕ) (place : ℕ → Pos) (tokens later : List Token) (done : ℕ) (line after : Line) (touching first touches : Bool) (st : Start) (rest piece : List ℕ) (found : Option Kind) (count : ℕ)
-    → Progress before names bytes place tokens done line touching → Extends names new → rest ≡ drop done bytes → piece ≡ take count rest → st ≡ starts line rest → IsPieceAt new st rest found count → new ≡ with_texts names (spells st (take count rest))
+    → Progress before names bytes place tokens done line touching → Extends names new → rest ≡ drop done bytes → piece ≡ take count rest → st ≡ start_of line rest → IsPieceAt new st rest found count → new ≡ with_texts names (spells st (take count rest))
     → first ≡ is_fresh line → later ≡ tokens ++ token_of found (place done) first touching → touches ≡ is_token st → after ≡ next_line line st piece
     → Progress before new bytes place later (done + count) after touches
 progress_on before names new bytes place tokens later done line after touching first touches st rest piece found count so_far grows rest-is piece-is start-is is added first-is later-is touches-is after-is =
@@ -138,11 +138,11 @@ progress_end before names bytes place tokens done line touching rest so_far rest
     }
 
 pub progress_stuck : (before names : List (List ℕ)) (bytes : List ℕ) (place : ℕ → Pos) (tokens : List Token) (done : ℕ) (line : Line) (touching : Bool) (rest : List ℕ) (st : Start) (fault : LexFault)
-    → Progress before names bytes place tokens done line touching → rest ≡ drop done bytes → 0 < length rest → st ≡ starts line rest → length_at st rest ≡ None → fault ≡ fault_at st (place done) → IsStuck bytes place fault
+    → Progress before names bytes place tokens done line touching → rest ≡ drop done bytes → 0 < length rest → st ≡ start_of line rest → length_at st rest ≡ None → fault ≡ fault_at st (place done) → IsStuck bytes place fault
 progress_stuck before names bytes place tokens done line touching rest st fault so_far rest-is some start-is none told =
     let r = so_far.forward [] [] rest (sym rest-is) tt in
     let n : done ≡ length (text_of r.pieces) = omega (arith, r.done_is) in
-    let started : st ≡ starts (line_behind lines.Fresh r.pieces) rest = start-is ∙ ap (λ (l : Line). starts l rest) r.line_is in
+    let started : st ≡ start_of (line_after lines.Fresh r.pieces) rest = start-is ∙ ap (λ (l : Line). start_of l rest) r.line_is in
     record {
       names = names ++ [];
       pieces = r.pieces;

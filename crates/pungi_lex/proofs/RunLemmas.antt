@@ -13,7 +13,7 @@ use Rattle.pungi_lex.specs.Macros.{Macros, Expands, Nothing, Kept, placed}
 use Rattle.pungi_lex.specs.Predefined.{predefined}
 use Rattle.pungi_lex.proofs.FrontLemmas.{front_passes}
 
--- parts so far, and behind them `extra`, whose effect is not told
+-- parts so far, and after them `extra`, whose effect is unknown
 pub record Reaches (names : ℕ) (tokens rest : List Token) (extra : List Part) (out : List Token) (last : Macros) (count : ℕ) : Type 0 where
   pub all : List Part
   pub whole : tokens ≡ tokens_in (all ++ extra) ++ rest
@@ -43,7 +43,7 @@ plain_on names tokens behind done next m n count out after t here there other is
       };
 }
 
--- the same progress, told otherwise
+-- the same progress, in other words
 told_as : (names : ℕ) (tokens : List Token) (done done' : ℕ) (m : Macros) (n n' : ℕ) (out out' : List Token) → done ≡ done' → n ≡ n' → out ≡ out' → Progress names tokens done m n out → Progress names tokens done' m n' out'
 told_as names tokens done done' m n n' out out' done-is n-is out-is so_far =
     subst (λ (d : ℕ). Progress names tokens d m n' out') done-is (subst (λ (k : ℕ). Progress names tokens done m k out') n-is (subst (λ (l : List Token). Progress names tokens done m n l) out-is so_far))

@@ -13,7 +13,7 @@ use Rattle.pungi_lex.specs.declared.start.Start.{Start}
 use Rattle.pungi_lex.specs.declared.start.Start.TheVariants as start
 use Rattle.pungi_lex.specs.declared.lex_fault.LexFault.{LexFault}
 use Rattle.pungi_lex.specs.Bytes.{is_digit, is_octal_digit, is_hex_digit, begins, begins_with, front_of, after_front}
-use Rattle.pungi_lex.specs.Character.{char_behind, char_value}
+use Rattle.pungi_lex.specs.Character.{char_after, char_value}
 use Rattle.pungi_lex.specs.Size.{IsSized, AreSized}
 use Rattle.pungi_lex.specs.Line.{next_line, is_fresh}
 use Rattle.pungi_lex.specs.Number.{number_kind, int_of, int_kind, hex_of, is_float, value_in, begins_hex, is_suffix, suffix_long, suffix_unsigned, is_past_int, is_in_unsigned}
@@ -115,7 +115,7 @@ kind_sized names start.LineComment found piece s = subst IsSizedIfAny (sym s) tt
 kind_sized names start.Comment found piece s = subst IsSizedIfAny (sym s) tt
 kind_sized names start.Word found piece s = word_sized names found piece s
 kind_sized names start.Number found piece s = subst IsSizedIfAny (sym s) (number_sized piece).is
-kind_sized names start.Char found piece s = subst IsSizedIfAny (sym s) (char_sized (char_value (char_behind (drop 1 piece))))
+kind_sized names start.Char found piece s = subst IsSizedIfAny (sym s) (char_sized (char_value (char_after (drop 1 piece))))
 kind_sized names start.Text found piece s = text_sized names found (content piece) s
 kind_sized names start.Mark found piece s = mark_sized found piece s
 kind_sized names start.Nothing found piece s = absurd s

@@ -4,7 +4,7 @@ use Rattle.std.specs.Prelude.{codes}
 use Rattle.pungi_lex.specs.declared.line.Line.{Line}
 use Rattle.pungi_lex.specs.declared.start.Start.TheVariants as start
 use Rattle.pungi_lex.specs.Bytes.{is_one_of, is_blank, is_digit, is_letter, is_in_line, begins}
-use Rattle.pungi_lex.specs.Start.{is_mark, is_after_include, starts, starts_bare}
+use Rattle.pungi_lex.specs.Start.{is_mark, is_after_include, start_of, starts_bare}
 use Rattle.pungi_lex.proofs.ClassLemmas.{agree_below, agree_at}
 
 abbrev pub is_plain : ℕ → Bool
@@ -41,5 +41,5 @@ bare : (text : List ℕ) → 0 < length text → get_or text 0 0 < 256 → is_pl
 bare [] some lt is = absurd (omega arith)
 bare (b ∷ text) some lt is = shape (is_blank b) (47 == b) (is_letter b) (is_digit b) (b == 46) (39 == b) (34 == b) (is_mark b) _ _ _ (clear_of (is_plain b) (is_clear b) (all_clear b lt) is)
 
-pub plain_starts : (line : Line) (text : List ℕ) → 0 < length text → get_or text 0 0 < 256 → is_plain (get_or text 0 0) ≡ true → (is_after_include line && begins is_in_line text) ≡ false → starts line text ≡ start.Mark
+pub plain_starts : (line : Line) (text : List ℕ) → 0 < length text → get_or text 0 0 < 256 → is_plain (get_or text 0 0) ≡ true → (is_after_include line && begins is_in_line text) ≡ false → start_of line text ≡ start.Mark
 plain_starts line text some lt is other = rw other (bare text some lt is)

@@ -4,7 +4,7 @@
 --   IsInclusion words     `include` comes next
 --   IsDefinition words    `define` and a word come next
 --   IsDefinitionOf name at words   they define this name, which stands at this place
---   kinds_of tokens       the kinds of tokens
+--   kinds_in tokens       the kinds of tokens
 --   IsFunctionLike body   a ( that touches the defined word comes next (C11 6.10.3, 10)
 --   Redefines macros name body   the name is predefined, or has another body already (C11 6.10.3, 2)
 --   HasNoJointBelow body n   none of the first n tokens is ##
@@ -43,8 +43,8 @@ IsDefinitionOf name at [] = ⊥
 IsDefinitionOf name at (word ∷ []) = ⊥
 IsDefinitionOf name at (word ∷ defined ∷ body) = IsWord DEFINE word × IsWord name defined × (at ≡ defined.pos)
 
-abbrev pub kinds_of : List Token → List Kind
-kinds_of tokens = map (λ t. t.kind) tokens
+abbrev pub kinds_in : List Token → List Kind
+kinds_in tokens = map (λ t. t.kind) tokens
 
 abbrev pub IsFunctionLike : List Token → Type 0
 IsFunctionLike [] = ⊥
@@ -60,10 +60,10 @@ abbrev pub IsJointAt : List Token → ℕ → Type 0
 IsJointAt body n = (n < length body) × HasNoJointBelow body n × ((t : Token) → t ≡ get_or body n t → t.kind ≡ kind.Punct punct.HashHash)
 
 pub data Defines (macros : Macros) (name : ℕ) (at : Pos) : List Token → Result Macros MacroFault → Type 0 where
-  Define : (body : List Token) → (IsFunctionLike body → ⊥) → (Redefines macros name (kinds_of body) → ⊥) → HasNoJointBelow body (length body) → Defines macros name at body (Ok (set macros name (Some (kinds_of body))))
+  Define : (body : List Token) → (IsFunctionLike body → ⊥) → (Redefines macros name (kinds_in body) → ⊥) → HasNoJointBelow body (length body) → Defines macros name at body (Ok (set macros name (Some (kinds_in body))))
   OfFunction : (body : List Token) → IsFunctionLike body → Defines macros name at body (Err (fault.FunctionMacro at))
-  Again : (body : List Token) → (IsFunctionLike body → ⊥) → Redefines macros name (kinds_of body) → Defines macros name at body (Err (fault.Redefined at))
-  Joint : (body : List Token) (i : ℕ) (t : Token) → (IsFunctionLike body → ⊥) → (Redefines macros name (kinds_of body) → ⊥) → IsJointAt body i → t ≡ get_or body i t → Defines macros name at body (Err (fault.Directive t.pos))
+  Again : (body : List Token) → (IsFunctionLike body → ⊥) → Redefines macros name (kinds_in body) → Defines macros name at body (Err (fault.Redefined at))
+  Joint : (body : List Token) (i : ℕ) (t : Token) → (IsFunctionLike body → ⊥) → (Redefines macros name (kinds_in body) → ⊥) → IsJointAt body i → t ≡ get_or body i t → Defines macros name at body (Err (fault.Directive t.pos))
 
 pub data Obeys (macros : Macros) (hash : Token) : List Token → Result Macros MacroFault → Type 0 where
   Inclusion : (words : List Token) → IsInclusion words → Obeys macros hash words (Ok macros)

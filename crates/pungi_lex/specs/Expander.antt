@@ -4,7 +4,7 @@
 --   starts_first tokens   the next token, if there is one, is first on its line
 --   ArePartsBefore parts rest   tokens are these parts and then rest
 --   Runs macros n parts out last m   the parts become the tokens out; the macros and the count of tokens and
---                         replacements are macros and n before them, last and m behind them
+--                         replacements are macros and n before them, last and m after them
 --   IsExpanded names tokens out     the tokens become out, where there are so many names
 --   Refuses macros n part fault     this part is refused
 --   HasMacroFault names tokens fault   the parts run as far as one that is refused

@@ -1,7 +1,7 @@
 -- A text without its line joins (C11 5.1.1.2, phase 2): a backslash directly before a line end goes with that line end.
 --   first_place        where a text begins
---   after_byte at b    the place behind the byte b that stands at a place
---   join_length text   how many bytes the line join at the front of a text has, 0 where there is none
+--   after_byte at b    the place after the byte b that stands at a place
+--   join_length text   how many bytes the line join at the front of a text has, 0 where there is no join
 --   Placed             a byte and its place
 --   still left text    how many bytes of a join come next, where so many are left of one that began before
 --   kept left b at     a byte that stays
@@ -9,7 +9,7 @@
 --   bytes_of, places_of    the bytes and the places of such
 --   plain text         those bytes alone: the text that is cut into tokens
 --   place_in places n  the n-th of these places
--- A line end is a line feed, alone or behind a carriage return. A join that arises only by taking out another one is none.
+-- A line end is a line feed, alone or after a carriage return. What arises only by taking out a join is no join.
 use Rattle.std.specs.Prelude.{ℕ, ◌+◌, ◌-◌, ◌==◌, List, [], ◌∷◌, ◌++◌, map, get_or, codes, if◌then◌else◌}
 use Rattle.pungi_base.specs.declared.pos.Pos.{Pos}
 use Rattle.pungi_lex.specs.Bytes.{is_one_of, begins_with}

@@ -1,5 +1,5 @@
 -- Object macros, and what they make of the kinds of tokens (C11 6.10.3). A word that is a macro is replaced by its
--- body, and the body is looked at again (C11 6.10.3.4). A name isn't replaced inside its own expansion: a body is
+-- body, and the body is scanned again (C11 6.10.3.4). A name isn't replaced inside its own expansion: a body is
 -- expanded under the macros without its own name.
 --   Macros                for each name, by its number, its body, if it is a macro now
 --   word_number kind      the number of a word

@@ -1,7 +1,7 @@
 -- Numbers (C11 6.4.4.1, 6.4.4.2, 6.4.8). A spelling is first taken whole, as a preprocessing number is, and then read.
 --   is_exponent_letter, is_sign    one of e E; one of + -
---   goes_on prev b       b goes on a number's spelling behind the byte prev
---   spelling_len prev text, number_len text    how long the spelling is that goes on, and that begins a text
+--   goes_on prev b       b goes on a number's spelling after the byte prev
+--   spelling_len prev text, number_count text  how long the spelling is that goes on, and that begins a text
 --   digit_value b, value_in base digits    the value of a digit, and of digits
 --   is_u, is_l, is_unsigned_suffix, is_long_suffix, is_mixed_suffix    parts of a suffix: one of u U, one of l L, the one, l L ll LL, and both in either order
 --   is_suffix suffix     nothing, or at most one u or U and at most one of l L ll LL, in either order
@@ -10,8 +10,9 @@
 --   int_kind decimal value suffix    the integer constant of a value and a suffix
 --   begins_hex piece, hex_of piece    0x or 0X comes first; the constant of what follows it
 --   int_of piece         the integer constant of this spelling: hexadecimal, octal or decimal
---   is_float_suffix suffix, behind_sign text, ends_in_exponent text, ends_in_fraction some text    ends of a floating constant
---   is_float piece       digits with one point or an exponent or both, and at most one of f F l L behind
+--   is_float_suffix suffix, after_sign text, ends_in_exponent text, ends_in_fraction some text     ends of a floating
+--                                                                                                  constant
+--   is_float piece       digits with one point or an exponent or both, and at most one of f F l L after
 --   number_kind piece    what a whole spelling is: a floating constant, an integer constant, or neither
 use Rattle.std.specs.Prelude.{ℕ, ◌+◌, ◌*◌, ◌-◌, ◌^◌, ◌==◌, pos, Bool, true, false, not, ◌&&◌, ◌||◌, List, [], ◌∷◌, fold, drop, nat_le, Option, Some, None, codes, if◌then◌else◌}
 use Rattle.pungi_base.specs.declared.kind.Kind.{Kind}
@@ -27,7 +28,7 @@ is_exponent_letter b = is_one_of (codes "Ee") b
 abbrev pub is_sign : ℕ → Bool
 is_sign b = is_one_of (codes "+-") b
 
--- a letter, a digit, _ or ., or a sign directly behind e, E, p or P
+-- a letter, a digit, _ or ., or a sign directly after e, E, p or P
 abbrev pub goes_on : ℕ → ℕ → Bool
 goes_on prev b = is_word_byte b || is_one_of (codes ".") b || (is_sign b && is_one_of (codes "EePp") prev)
 
@@ -35,9 +36,9 @@ abbrev pub spelling_len : ℕ → List ℕ → ℕ
 spelling_len prev [] = 0
 spelling_len prev (b ∷ text) = if goes_on prev b then 1 + spelling_len b text else 0
 
-abbrev pub number_len : List ℕ → ℕ
-number_len [] = 0
-number_len (b ∷ text) = 1 + spelling_len b text
+abbrev pub number_count : List ℕ → ℕ
+number_count [] = 0
+number_count (b ∷ text) = 1 + spelling_len b text
 
 -- ---- integer constants
 
@@ -119,16 +120,16 @@ is_float_suffix [] = true
 is_float_suffix (a ∷ []) = is_one_of (codes "fFlL") a
 is_float_suffix (a ∷ b ∷ rest) = false
 
-abbrev pub behind_sign : List ℕ → List ℕ
-behind_sign [] = []
-behind_sign (b ∷ rest) = if is_sign b then rest else b ∷ rest
+abbrev pub after_sign : List ℕ → List ℕ
+after_sign [] = []
+after_sign (b ∷ rest) = if is_sign b then rest else b ∷ rest
 
 -- e or E, maybe a sign, at least one digit, and a suffix
 abbrev pub ends_in_exponent : List ℕ → Bool
 ends_in_exponent [] = false
-ends_in_exponent (b ∷ rest) = is_exponent_letter b && begins is_digit (behind_sign rest) && is_float_suffix (after_front is_digit (behind_sign rest))
+ends_in_exponent (b ∷ rest) = is_exponent_letter b && begins is_digit (after_sign rest) && is_float_suffix (after_front is_digit (after_sign rest))
 
--- a point, digits, maybe an exponent, and a suffix; at least one digit before the point, as `some` says, or behind it
+-- a point, digits, maybe an exponent, and a suffix; at least one digit before the point, as `some` says, or after it
 abbrev pub ends_in_fraction : Bool → List ℕ → Bool
 ends_in_fraction some [] = false
 ends_in_fraction some (b ∷ rest) =

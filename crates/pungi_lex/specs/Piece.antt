@@ -3,7 +3,7 @@
 --   NamesWord names kind piece, NamesText names kind text, IsMark kind piece    a keyword or a word; a string literal; a punctuator
 --   IsKind names start kind piece   the kind of this piece under these names; None for blanks and comments
 --   spells start piece              what a piece adds to the names: a word its spelling, a string literal its content
---   with_texts names texts          these names, and behind them those of the texts that are new, in order
+--   with_texts names texts          these names, and after them those of the texts that are new, in order
 --   IsPieceAt names start text kind n   the piece at the front of a text has this kind and n bytes
 use Rattle.std.specs.Prelude.{◌≡◌, ◌≤◌, ◌<◌, ◌==◌, ℕ, false, List, [], ◌∷◌, length, take, drop, fold, Option, Some, None, is_some, option_map, slice_get, if◌then◌else◌}
 use Rattle.std.specs.List.{prefix_len}
@@ -15,22 +15,22 @@ use Rattle.pungi_base.specs.Token.{key_number, punct_text}
 use Rattle.pungi_lex.specs.declared.start.Start.{Start}
 use Rattle.pungi_lex.specs.declared.start.Start.TheVariants as start
 use Rattle.pungi_lex.specs.Bytes.{is_blank, is_in_line, is_word_byte}
-use Rattle.pungi_lex.specs.Character.{char_behind, char_length, char_value}
-use Rattle.pungi_lex.specs.Comment.{close_len}
+use Rattle.pungi_lex.specs.Character.{char_after, char_length, char_value}
+use Rattle.pungi_lex.specs.Comment.{close_count}
 use Rattle.pungi_lex.specs.Lengths.{add_to}
 use Rattle.pungi_lex.specs.Mark.{mark_len}
-use Rattle.pungi_lex.specs.Number.{number_kind, number_len}
-use Rattle.pungi_lex.specs.Quote.{quote_len, content}
+use Rattle.pungi_lex.specs.Number.{number_kind, number_count}
+use Rattle.pungi_lex.specs.Quote.{quote_count, content}
 
 abbrev pub length_at : Start → List ℕ → Option ℕ
 length_at start.Header text = Some (prefix_len is_in_line text)
 length_at start.Blank text = Some (prefix_len is_blank text)
 length_at start.LineComment text = Some (prefix_len is_in_line text)
-length_at start.Comment text = add_to 2 (close_len (drop 2 text))
+length_at start.Comment text = add_to 2 (close_count (drop 2 text))
 length_at start.Word text = Some (prefix_len is_word_byte text)
-length_at start.Number text = if is_some (number_kind (take (number_len text) text)) then Some (number_len text) else None
-length_at start.Char text = char_length (char_behind (drop 1 text))
-length_at start.Text text = add_to 1 (quote_len false (drop 1 text))
+length_at start.Number text = if is_some (number_kind (take (number_count text) text)) then Some (number_count text) else None
+length_at start.Char text = char_length (char_after (drop 1 text))
+length_at start.Text text = add_to 1 (quote_count false (drop 1 text))
 length_at start.Mark text = if mark_len text == 0 then None else Some (mark_len text)
 length_at start.Nothing text = None
 
@@ -77,7 +77,7 @@ IsKind names start.LineComment found piece = found ≡ None
 IsKind names start.Comment found piece = found ≡ None
 IsKind names start.Word found piece = NamesWord names found piece
 IsKind names start.Number found piece = found ≡ number_kind piece
-IsKind names start.Char found piece = found ≡ option_map kind.Char (char_value (char_behind (drop 1 piece)))
+IsKind names start.Char found piece = found ≡ option_map kind.Char (char_value (char_after (drop 1 piece)))
 IsKind names start.Text found piece = NamesText names found (content piece)
 IsKind names start.Mark found piece = IsMark found piece
 IsKind names start.Nothing found piece = ⊥

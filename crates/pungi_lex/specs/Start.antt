@@ -1,8 +1,8 @@
--- What begins at a place of a text is told by the line so far and the first two bytes (C11 6.4).
+-- What begins at a place of a text depends on the line so far and the first two bytes (C11 6.4).
 --   is_mark b            a punctuator begins with b
 --   begins_number text   a digit comes next, or a point and a digit (C11 6.4.8)
 --   is_after_include line    an `include` has come, and its header is next
---   starts_bare text, starts line text    what begins here, without a look at the line, and as far as the line has come
+--   starts_bare text, start_of line text  what begins here, without a look at the line, and as far as the line has come
 --   is_token start       what begins so is a token: no blanks, and no comment
 --   Begins start text    what is sure of a text where this begins
 use Rattle.std.specs.Prelude.{ℕ, Bool, true, false, ◌&&◌, ◌||◌, IsTrue, ◌≤◌, ◌<◌, length, List, [], ◌∷◌, codes, if◌then◌else◌}
@@ -37,8 +37,8 @@ starts_bare text =
     else if begins is_mark text then start.Mark
     else start.Nothing
 
-abbrev pub starts : Line → List ℕ → Start
-starts line text = if is_after_include line && begins is_in_line text then start.Header else starts_bare text
+abbrev pub start_of : Line → List ℕ → Start
+start_of line text = if is_after_include line && begins is_in_line text then start.Header else starts_bare text
 
 abbrev pub is_token : Start → Bool
 is_token start.Header = true

@@ -2,7 +2,7 @@
 --   Piece                     blanks, a comment or a token: what begins there, its kind if it is a token, its bytes
 --   text_of pieces            the bytes of these pieces
 --   IsCut names line ps rest  a text is these pieces and then rest, each piece the longest at its place
---   line_behind line pieces   how far the line has come behind these pieces
+--   line_after line pieces    how far the line has come after these pieces
 --   token_of, tokens_of       the token of a kind; those among pieces, each with its place, whether it is the first on its
 --                             line, and whether it touches the token before
 --   spelled pieces            the words and the contents of string literals among pieces, in order
@@ -27,7 +27,7 @@ use Rattle.pungi_lex.specs.declared.lex_fault.LexFault.TheVariants as fault
 use Rattle.pungi_lex.specs.Join.{joined, plain, places_of, place_in}
 use Rattle.pungi_lex.specs.Line.{next_line, is_fresh}
 use Rattle.pungi_lex.specs.Piece.{length_at, IsKind, spells, with_texts}
-use Rattle.pungi_lex.specs.Start.{starts, is_token}
+use Rattle.pungi_lex.specs.Start.{start_of, is_token}
 
 pub record Piece : Type 0 where
   pub start : Start
@@ -41,20 +41,20 @@ text_of (p ∷ pieces) = p.bytes ++ text_of pieces
 abbrev pub IsCut : List (List ℕ) → Line → List Piece → List ℕ → Type 0
 IsCut names line [] rest = Unit {0}
 IsCut names line (p ∷ pieces) rest =
-    (p.start ≡ starts line (p.bytes ++ (text_of pieces ++ rest)))
+    (p.start ≡ start_of line (p.bytes ++ (text_of pieces ++ rest)))
     × (length_at p.start (p.bytes ++ (text_of pieces ++ rest)) ≡ Some (length p.bytes))
     × IsKind names p.start p.found p.bytes
     × IsCut names (next_line line p.start p.bytes) pieces rest
 
-abbrev pub line_behind : Line → List Piece → Line
-line_behind line [] = line
-line_behind line (p ∷ pieces) = line_behind (next_line line p.start p.bytes) pieces
+abbrev pub line_after : Line → List Piece → Line
+line_after line [] = line
+line_after line (p ∷ pieces) = line_after (next_line line p.start p.bytes) pieces
 
 abbrev pub token_of : Option Kind → Pos → Bool → Bool → List Token
 token_of None at first touching = []
 token_of (Some k) at first touching = (record { kind = k; pos = at; first = first; touching = touching }) ∷ []
 
--- the pieces begin at the n-th byte, and `place` tells the place of each byte
+-- the pieces begin at the n-th byte, and `place` gives the place of each byte
 abbrev pub tokens_of : (ℕ → Pos) → ℕ → Line → Bool → List Piece → List Token
 tokens_of place n line touching [] = []
 tokens_of place n line touching (p ∷ pieces) =
@@ -97,8 +97,8 @@ pub record IsStuck (bytes : List ℕ) (place : ℕ → Pos) (found : LexFault) :
   pub whole : bytes ≡ text_of pieces ++ rest
   pub cut : IsCut names lines.Fresh pieces rest
   pub more : rest ≢ []
-  pub stuck : length_at (starts (line_behind lines.Fresh pieces) rest) rest ≡ None
-  pub told : found ≡ fault_at (starts (line_behind lines.Fresh pieces) rest) (place (length (text_of pieces)))
+  pub stuck : length_at (start_of (line_after lines.Fresh pieces) rest) rest ≡ None
+  pub told : found ≡ fault_at (start_of (line_after lines.Fresh pieces) rest) (place (length (text_of pieces)))
 
 abbrev pub HasFault : List ℕ → LexFault → Type 0
 HasFault text found = IsStuck (plain text) (place_in (places_of (joined text))) found

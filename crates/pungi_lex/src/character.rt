@@ -1,14 +1,14 @@
 ghost use Rattle.std.specs.Prelude.{◌≡◌};
-ghost use Rattle.pungi_lex.specs.Character.{is_plain as plain, escape_value as value_of_escape, char_behind as behind_quote};
+ghost use Rattle.pungi_lex.specs.Character.{is_plain, escape_value, char_after};
 
 fn is_plain(b: u8) -> bool
-    ensures { result ≡ plain b }
+    ensures { result ≡ is_plain b }
 {
     b' ' <= b && b <= b'~' && b != b'\'' && b != b'\\'
 }
 
 fn escape_value(b: u8) -> Option<u8>
-    ensures { result ≡ value_of_escape b }
+    ensures { result ≡ escape_value b }
 {
     match b {
         b'n' => Some(b'\n'),
@@ -22,9 +22,9 @@ fn escape_value(b: u8) -> Option<u8>
     }
 }
 
-/// The value of a character and its length, behind its first quote.
+/// The value of a character and its length, after its first quote.
 pub(crate) fn char_behind(text: &[u8]) -> Option<(u8, usize)>
-    ensures { result ≡ behind_quote text.now }
+    ensures { result ≡ char_after text.now }
 {
     match text {
         [] => None,

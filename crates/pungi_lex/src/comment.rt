@@ -1,6 +1,6 @@
 ghost use Rattle.std.specs.Prelude.{◌≡◌, ◌≤◌, length, IsTrue, IfSome, codes};
 ghost use Rattle.pungi_lex.specs.Bytes.{begins_with};
-ghost use Rattle.pungi_lex.specs.Comment.{close_len as len_of_close};
+ghost use Rattle.pungi_lex.specs.Comment.{close_count};
 
 fn is_close(text: &[u8]) -> bool
     ensures close { result ≡ begins_with (codes "*/") text.now }
@@ -15,7 +15,7 @@ fn is_close(text: &[u8]) -> bool
 
 /// How many bytes come before the end of a comment that is open, with that end.
 pub(crate) fn close_count(text: &[u8]) -> Option<usize>
-    ensures count { result ≡ len_of_close text.now }
+    ensures count { result ≡ close_count text.now }
     ensures within { IfSome result (λ count. (2 ≤ count) × (count ≤ length text.now)) }
 {
     for i in 0..text.len() {

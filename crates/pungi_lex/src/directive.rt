@@ -2,9 +2,9 @@ ghost use Rattle.std.specs.Prelude.{◌≡◌, ◌≢◌, ◌<◌, length, map, 
 ghost use Rattle.pungi_base.specs.declared.kind.Kind.TheVariants as kind;
 ghost use Rattle.pungi_base.specs.declared.punct.Punct.TheVariants as punct;
 ghost use Rattle.pungi_lex.specs.declared.macro_fault.MacroFault.TheVariants as fault;
-ghost use Rattle.pungi_lex.specs.Directive.{IsHash, IsWord, IsFunctionLike, Redefines, HasNoJointBelow, IsJointAt, Defines, Obeys, IsInclusion, IsDefinition, IsDefinitionOf, kinds_of};
+ghost use Rattle.pungi_lex.specs.Directive.{IsHash, IsWord, IsFunctionLike, Redefines, HasNoJointBelow, IsJointAt, Defines, Obeys, IsInclusion, IsDefinition, IsDefinitionOf, kinds_in};
 ghost use Rattle.pungi_lex.specs.MacroFault.{is_want_of_memory};
-ghost use Rattle.pungi_lex.specs.Predefined.{is_predefined as predefined_number};
+ghost use Rattle.pungi_lex.specs.Predefined.{is_predefined};
 
 use crate::macro_fault::MacroFault;
 use crate::macros::{Body, put_body};
@@ -47,7 +47,7 @@ fn is_function_like(body: &[Token]) -> bool
 }
 
 fn is_predefined(name: u32) -> bool
-    ensures { result ≡ predefined_number name }
+    ensures { result ≡ is_predefined name }
 {
     KEYWORDS <= name && name < KEYWORDS + MACROS
 }
@@ -123,15 +123,15 @@ fn kind_at(kinds: &[Kind], index: usize) -> Kind
 
 fn kind_of(tokens: &[Token], index: usize) -> Kind
     requires { index < length tokens.now }
-    ensures { result ≡ get_or (kinds_of tokens.now) index result }
+    ensures { result ≡ get_or (kinds_in tokens.now) index result }
 {
     tokens[index].kind
 }
 
 /// Whether tokens have these kinds.
 fn same_kinds(kinds: &[Kind], tokens: &[Token]) -> bool
-    ensures yes { IsTrue result → kinds.now ≡ kinds_of tokens.now }
-    ensures other { result ≡ false → kinds.now ≢ kinds_of tokens.now }
+    ensures yes { IsTrue result → kinds.now ≡ kinds_in tokens.now }
+    ensures other { result ≡ false → kinds.now ≢ kinds_in tokens.now }
 {
     if kinds.len() != tokens.len() {
         return false;
@@ -146,8 +146,8 @@ fn same_kinds(kinds: &[Kind], tokens: &[Token]) -> bool
 
 /// Whether a body isn't the one that the name has already.
 fn redefines(table: &Vec<Option<Body>>, name: u32, body: &[Token]) -> bool
-    ensures yes { IsTrue result → Redefines table.now.items name (kinds_of body.now) }
-    ensures other { result ≡ false → Redefines table.now.items name (kinds_of body.now) → ⊥ }
+    ensures yes { IsTrue result → Redefines table.now.items name (kinds_in body.now) }
+    ensures other { result ≡ false → Redefines table.now.items name (kinds_in body.now) → ⊥ }
 {
     if is_predefined(name) {
         return true;
@@ -169,7 +169,7 @@ fn is_joint(token: &Token) -> bool
 }
 
 /// The place of the first `##` of a body.
-fn joint(body: &[Token]) -> Option<usize>
+fn joint_place(body: &[Token]) -> Option<usize>
     ensures { MatchOption result (HasNoJointBelow body.now (length body.now)) (λ i. IsJointAt body.now i) }
 {
     for i in 0..body.len() {
@@ -181,7 +181,7 @@ fn joint(body: &[Token]) -> Option<usize>
 }
 
 fn kinds_in(alloc: Global, tokens: &[Token]) -> Result<Vec<Kind>, AllocError>
-    ensures { IfOk result (λ kinds. kinds.items ≡ kinds_of tokens.now) }
+    ensures { IfOk result (λ kinds. kinds.items ≡ kinds_in tokens.now) }
 {
     tokens.iter().map(|t| t.kind).collect(alloc)
 }
@@ -210,7 +210,7 @@ fn define(
     if redefines(table, name, body) {
         return Err(MacroFault::Redefined(at));
     }
-    match joint(body) {
+    match joint_place(body) {
         Some(i) => {
             let token = token_at(body, i);
             Err(MacroFault::Directive(token.pos))
@@ -234,7 +234,7 @@ fn is_inclusion(words: &[Token]) -> bool
 }
 
 /// The defined word and its place.
-fn defined(words: &[Token]) -> Option<(u32, Pos)>
+fn defined_word(words: &[Token]) -> Option<(u32, Pos)>
     ensures { MatchOption result (IsDefinition words.now → ⊥) (λ found. IsDefinitionOf found.0 found.1 words.now) }
 {
     match words {
@@ -265,7 +265,7 @@ pub(crate) fn obey(
     if is_inclusion(words) {
         return Ok(());
     }
-    match defined(words) {
+    match defined_word(words) {
         None => Err(MacroFault::Directive(hash.pos)),
         Some((name, at)) => {
             let (_, body) = words.split_at(2);

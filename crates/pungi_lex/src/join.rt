@@ -1,7 +1,7 @@
 ghost use Rattle.std.specs.Prelude.{◌≡◌, ◌≤◌, ◌<◌, ◌+◌, ◌-◌, ◌^◌, ◌∷◌, ◌++◌, length, take, drop, IfOk};
 ghost use Rattle.std.specs.List.{prefix_len, All};
-ghost use Rattle.pungi_lex.specs.Join.{join_length as length_of_join, after_byte as behind_byte, bytes_of, places_of, joined, joined_from, plain};
-ghost use Rattle.pungi_lex.specs.Stretch.{is_unbroken as unbroken, side_by_side, places_along, IsNarrow};
+ghost use Rattle.pungi_lex.specs.Join.{join_length, after_byte, bytes_of, places_of, joined, joined_from, plain};
+ghost use Rattle.pungi_lex.specs.Stretch.{is_unbroken, side_by_side, places_along, IsNarrow};
 
 use crate::stretch::{Stretch, right_of};
 use crate::tokens::TEXT_LIMIT;
@@ -16,8 +16,8 @@ pub(crate) struct Standing {
     pub count: usize,
 }
 
-/// What stands first in a text: so many bytes that stay, side by side, so many bytes with the join behind them, if one
-/// is there, and the place behind it all.
+/// What stands first in a text: so many bytes that stay, side by side, so many bytes with the join after them, if one
+/// is there, and the place after it all.
 #[derive(Clone, Copy)]
 struct Front {
     kept: usize,
@@ -32,7 +32,7 @@ const BYTES_A_STRETCH: usize = 16;
 
 /// How long the line join at the front of a text is.
 fn join_length(text: &[u8]) -> usize
-    ensures { result ≡ length_of_join text.now }
+    ensures { result ≡ join_length text.now }
 {
     match text {
         [] => 0,
@@ -46,9 +46,9 @@ fn join_length(text: &[u8]) -> usize
     }
 }
 
-/// How long a line join is whose backslash has this behind it.
+/// How long a line join is whose backslash has this after it.
 fn join_end_length(rest: &[u8]) -> usize
-    ensures { result ≡ length_of_join (BACKSLASH ∷ rest.now) }
+    ensures { result ≡ join_length (BACKSLASH ∷ rest.now) }
 {
     match rest {
         [] => 0,
@@ -68,7 +68,7 @@ fn join_end_length(rest: &[u8]) -> usize
 fn after_byte(at: Pos, b: u8) -> Pos
     requires line { at.line + 1 < 2 ^ 32 }
     requires col { at.col + 1 < 2 ^ 32 }
-    ensures place { result ≡ behind_byte at b }
+    ensures place { result ≡ after_byte at b }
     ensures line { result.line ≤ at.line + 1 }
     ensures col { result.col ≤ at.col + 1 }
 {
@@ -87,7 +87,7 @@ fn after_byte(at: Pos, b: u8) -> Pos
 
 /// How many bytes come before the next line feed or backslash.
 fn unbroken_count(text: &[u8]) -> usize
-    ensures count { result ≡ prefix_len unbroken text.now }
+    ensures count { result ≡ prefix_len is_unbroken text.now }
     ensures within { result ≤ length text.now }
 {
     match memchr2(b'\n', BACKSLASH, text) {

@@ -2,7 +2,7 @@ ghost use Rattle.std.specs.Prelude.{◌≡◌, codes};
 ghost use Rattle.std.specs.List.{list_any};
 ghost use Rattle.std.specs.Str.{bytes_eq};
 ghost use Rattle.pungi_lex.specs.Bytes.{is_one_of};
-ghost use Rattle.pungi_lex.specs.Line.{behind_token as line_behind_token, next_line as line_next, is_fresh as fresh_line};
+ghost use Rattle.pungi_lex.specs.Line.{after_token, next_line, is_fresh};
 
 use crate::start::{Start, is_token};
 
@@ -38,7 +38,7 @@ fn has_line_end(piece: &[u8]) -> bool
 }
 
 fn behind_token(line: Line, piece: &[u8]) -> Line
-    ensures { result ≡ line_behind_token line piece.now }
+    ensures { result ≡ after_token line piece.now }
 {
     match line {
         Line::Fresh => if is_hash(piece) {
@@ -56,9 +56,9 @@ fn behind_token(line: Line, piece: &[u8]) -> Line
     }
 }
 
-/// The line behind a token, or behind blanks or a comment.
+/// The line after a token, or after blanks or a comment.
 pub(crate) fn next_line(line: Line, start: Start, piece: &[u8]) -> Line
-    ensures { result ≡ line_next line start piece.now }
+    ensures { result ≡ next_line line start piece.now }
 {
     if is_token(start) {
         return behind_token(line, piece);
@@ -72,7 +72,7 @@ pub(crate) fn next_line(line: Line, start: Start, piece: &[u8]) -> Line
 
 /// Whether no token stands on the line.
 pub(crate) fn is_fresh(line: Line) -> bool
-    ensures { result ≡ fresh_line line }
+    ensures { result ≡ is_fresh line }
 {
     match line {
         Line::Fresh => true,

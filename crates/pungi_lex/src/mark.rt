@@ -1,8 +1,8 @@
 ghost use Rattle.std.specs.Prelude.{◌≡◌, ◌≤◌, ◌<◌, Some, IfSome, IsTrue, MatchOption, [], ◌∷◌, take, length};
-ghost use Rattle.pungi_base.specs.Token.{punct_text as text_of_punct};
+ghost use Rattle.pungi_base.specs.Token.{punct_text};
 ghost use Rattle.pungi_lex.specs.Mark.{mark_len};
 ghost use Rattle.pungi_lex.specs.Start.{is_mark as mark};
-ghost use Rattle.pungi_lex.specs.MarkTable.{mark_one as one, mark_two as two, mark_three as three, mark_at};
+ghost use Rattle.pungi_lex.specs.MarkTable.{mark_one, mark_two, mark_three, mark_at};
 
 use crate::bytes::{is_mark, is_second_of_mark};
 use pungi_base::Punct;
@@ -11,8 +11,8 @@ use pungi_base::Punct;
 #[inline(always)]
 fn punct_at(a: u8) -> Punct
     requires { IsTrue (mark a) }
-    ensures mark { one a ≡ Some result }
-    ensures spelled { text_of_punct result ≡ a ∷ [] }
+    ensures mark { mark_one a ≡ Some result }
+    ensures spelled { punct_text result ≡ a ∷ [] }
 {
     match a {
         b'(' => Punct::LeftParen,
@@ -46,16 +46,16 @@ fn punct_at(a: u8) -> Punct
 
 #[inline(always)]
 fn mark_one(a: u8) -> Option<Punct>
-    ensures mark { result ≡ one a }
-    ensures spelled { IfSome result (λ punct. text_of_punct punct ≡ a ∷ []) }
+    ensures mark { result ≡ mark_one a }
+    ensures spelled { IfSome result (λ punct. punct_text punct ≡ a ∷ []) }
 {
     if is_mark(a) { Some(punct_at(a)) } else { None }
 }
 
 #[inline(always)]
 fn mark_two(a: u8, b: u8) -> Option<Punct>
-    ensures mark { result ≡ two a b }
-    ensures spelled { IfSome result (λ punct. text_of_punct punct ≡ a ∷ b ∷ []) }
+    ensures mark { result ≡ mark_two a b }
+    ensures spelled { IfSome result (λ punct. punct_text punct ≡ a ∷ b ∷ []) }
 {
     if !is_second_of_mark(b) {
         return None;
@@ -126,8 +126,8 @@ fn mark_two(a: u8, b: u8) -> Option<Punct>
 
 #[inline(always)]
 fn mark_three(a: u8, b: u8, c: u8) -> Option<Punct>
-    ensures mark { result ≡ three a b c }
-    ensures spelled { IfSome result (λ punct. text_of_punct punct ≡ a ∷ b ∷ c ∷ []) }
+    ensures mark { result ≡ mark_three a b c }
+    ensures spelled { IfSome result (λ punct. punct_text punct ≡ a ∷ b ∷ c ∷ []) }
 {
     if !is_second_of_mark(b) {
         return None;
@@ -146,9 +146,9 @@ fn mark_three(a: u8, b: u8, c: u8) -> Option<Punct>
 #[inline(always)]
 fn mark_found(text: &[u8]) -> Option<Punct>
     ensures mark { result ≡ mark_at text.now }
-    ensures spelled { IfSome result (λ punct. text_of_punct punct ≡ take (length (text_of_punct punct)) text.now) }
-    ensures within { IfSome result (λ punct. length (text_of_punct punct) ≤ length text.now) }
-    ensures some { IfSome result (λ punct. 0 < length (text_of_punct punct)) }
+    ensures spelled { IfSome result (λ punct. punct_text punct ≡ take (length (punct_text punct)) text.now) }
+    ensures within { IfSome result (λ punct. length (punct_text punct) ≤ length text.now) }
+    ensures some { IfSome result (λ punct. 0 < length (punct_text punct)) }
 {
     match text {
         [] => None,
@@ -170,10 +170,10 @@ fn mark_found(text: &[u8]) -> Option<Punct>
 /// The longest punctuator at the front of a text.
 #[inline(always)]
 pub(crate) fn longest_mark(text: &[u8]) -> Option<Punct>
-    ensures longest { MatchOption result (mark_len text.now ≡ 0) (λ punct. length (text_of_punct punct) ≡ mark_len text.now) }
-    ensures spelled { IfSome result (λ punct. text_of_punct punct ≡ take (length (text_of_punct punct)) text.now) }
-    ensures within { IfSome result (λ punct. length (text_of_punct punct) ≤ length text.now) }
-    ensures some { IfSome result (λ punct. 0 < length (text_of_punct punct)) }
+    ensures longest { MatchOption result (mark_len text.now ≡ 0) (λ punct. length (punct_text punct) ≡ mark_len text.now) }
+    ensures spelled { IfSome result (λ punct. punct_text punct ≡ take (length (punct_text punct)) text.now) }
+    ensures within { IfSome result (λ punct. length (punct_text punct) ≤ length text.now) }
+    ensures some { IfSome result (λ punct. 0 < length (punct_text punct)) }
 {
     mark_found(text)
 }
@@ -181,7 +181,7 @@ pub(crate) fn longest_mark(text: &[u8]) -> Option<Punct>
 /// How long the spelling of a punctuator is.
 #[inline(always)]
 pub(crate) fn punct_length(punct: Punct) -> usize
-    ensures { result ≡ length (text_of_punct punct) }
+    ensures { result ≡ length (punct_text punct) }
 {
     match punct {
         Punct::LeftParen => 1,

@@ -1,6 +1,6 @@
 ghost use Rattle.std.specs.Prelude.{◌≡◌, ◌≤◌, ◌<◌, ◌^◌, length, MatchOption, codes};
-ghost use Rattle.pungi_lex.specs.Bytes.{begins, begins_with, after_front, is_digit as digit, is_hex_digit as hex_digit};
-ghost use Rattle.pungi_lex.specs.Number.{goes_on as follows, is_sign as sign, is_u as letter_u, is_l as letter_l, is_exponent_letter as exponent_letter, digit_value as value_of_digit, number_len, value_in, int_kind as kind_of_int, int_of as spelled_int, hex_of as spelled_hex, is_float as spelled_float, is_float_suffix as float_suffix, is_unsigned_suffix as unsigned_suffix, is_long_suffix as long_suffix, is_mixed_suffix as mixed_suffix, is_suffix as any_suffix, ends_in_exponent as exponent_ends, ends_in_fraction as fraction_ends, behind_sign as after_sign, begins_hex as hex_begins, number_kind as kind_of_number};
+ghost use Rattle.pungi_lex.specs.Bytes.{begins, begins_with, after_front, is_digit, is_hex_digit};
+ghost use Rattle.pungi_lex.specs.Number.{goes_on, is_sign as sign, is_u, is_l, is_exponent_letter as exponent_letter, digit_value, number_count, value_in, int_kind, int_of, hex_of, is_float, is_float_suffix, is_unsigned_suffix, is_long_suffix as long_suffix, is_mixed_suffix, is_suffix, ends_in_exponent, ends_in_fraction, after_sign, begins_hex, number_kind};
 
 use crate::bytes::{digit_count, hex_count, is_digit, is_hex_digit, is_word_byte, octal_count};
 use pungi_base::Kind;
@@ -33,7 +33,7 @@ fn is_exponent_letter(b: u8) -> bool
 }
 
 fn goes_on(prev: u8, b: u8) -> bool
-    ensures { result ≡ follows prev b }
+    ensures { result ≡ goes_on prev b }
 {
     is_word_byte(b)
         || b == b'.'
@@ -43,7 +43,7 @@ fn goes_on(prev: u8, b: u8) -> bool
 /// How long the number's spelling at the front of a text is.
 pub(crate) fn number_count(text: &[u8]) -> usize
     requires some { 0 < length text.now }
-    ensures count { result ≡ number_len text.now }
+    ensures count { result ≡ number_count text.now }
     ensures within { result ≤ length text.now }
 {
     let mut prev = text[0];
@@ -56,7 +56,7 @@ pub(crate) fn number_count(text: &[u8]) -> usize
 }
 
 fn digit_value(b: u8) -> u8
-    ensures { result ≡ value_of_digit b }
+    ensures { result ≡ digit_value b }
 {
     if is_digit(b) {
         b.saturating_sub(ZERO)
@@ -88,19 +88,19 @@ fn value_of(base: u128, digits: &[u8]) -> Option<u128>
 }
 
 fn is_u(b: u8) -> bool
-    ensures { result ≡ letter_u b }
+    ensures { result ≡ is_u b }
 {
     b == b'u' || b == b'U'
 }
 
 fn is_l(b: u8) -> bool
-    ensures { result ≡ letter_l b }
+    ensures { result ≡ is_l b }
 {
     b == b'l' || b == b'L'
 }
 
 fn is_unsigned_suffix(s: &[u8]) -> bool
-    ensures { result ≡ unsigned_suffix s.now }
+    ensures { result ≡ is_unsigned_suffix s.now }
 {
     match s {
         [] => false,
@@ -121,7 +121,7 @@ fn is_long_suffix(s: &[u8]) -> bool
 }
 
 fn is_mixed_suffix(s: &[u8]) -> bool
-    ensures { result ≡ mixed_suffix s.now }
+    ensures { result ≡ is_mixed_suffix s.now }
 {
     match s {
         [] => false,
@@ -133,7 +133,7 @@ fn is_mixed_suffix(s: &[u8]) -> bool
 }
 
 fn is_suffix(s: &[u8]) -> bool
-    ensures { result ≡ any_suffix s.now }
+    ensures { result ≡ is_suffix s.now }
 {
     match s {
         [] => true,
@@ -146,7 +146,7 @@ fn is_suffix(s: &[u8]) -> bool
 fn int_kind(decimal: bool, base: u128, digits: &[u8], suffix: &[u8]) -> Option<Kind>
     requires some { 0 < base }
     requires small { base ≤ 16 }
-    ensures { result ≡ kind_of_int decimal (value_in base digits.now) suffix.now }
+    ensures { result ≡ int_kind decimal (value_in base digits.now) suffix.now }
 {
     if !is_suffix(suffix) {
         return None;
@@ -167,7 +167,7 @@ fn int_kind(decimal: bool, base: u128, digits: &[u8], suffix: &[u8]) -> Option<K
 }
 
 fn begins_hex(s: &[u8]) -> bool
-    ensures { result ≡ hex_begins s.now }
+    ensures { result ≡ begins_hex s.now }
 {
     match s {
         [] => false,
@@ -177,7 +177,7 @@ fn begins_hex(s: &[u8]) -> bool
 }
 
 fn is_float_suffix(s: &[u8]) -> bool
-    ensures { result ≡ float_suffix s.now }
+    ensures { result ≡ is_float_suffix s.now }
 {
     match s {
         [] => true,
@@ -187,7 +187,7 @@ fn is_float_suffix(s: &[u8]) -> bool
 }
 
 fn begins_digit(s: &[u8]) -> bool
-    ensures { result ≡ begins digit s.now }
+    ensures { result ≡ begins is_digit s.now }
 {
     match s {
         [] => false,
@@ -196,7 +196,7 @@ fn begins_digit(s: &[u8]) -> bool
 }
 
 fn begins_hex_digit(s: &[u8]) -> bool
-    ensures { result ≡ begins hex_digit s.now }
+    ensures { result ≡ begins is_hex_digit s.now }
 {
     match s {
         [] => false,
@@ -215,7 +215,7 @@ fn begins_zero(s: &[u8]) -> bool
 
 /// What follows the digits at the front.
 fn after_digits(s: &[u8]) -> &[u8]
-    ensures { result.now ≡ after_front digit s.now }
+    ensures { result.now ≡ after_front is_digit s.now }
 {
     &s[digit_count(s)..]
 }
@@ -230,7 +230,7 @@ fn behind_sign(s: &[u8]) -> &[u8]
 }
 
 fn ends_in_exponent(s: &[u8]) -> bool
-    ensures { result ≡ exponent_ends s.now }
+    ensures { result ≡ ends_in_exponent s.now }
 {
     match s {
         [] => false,
@@ -242,7 +242,7 @@ fn ends_in_exponent(s: &[u8]) -> bool
 }
 
 fn ends_in_fraction(some: bool, s: &[u8]) -> bool
-    ensures { result ≡ fraction_ends some s.now }
+    ensures { result ≡ ends_in_fraction some s.now }
 {
     match s {
         [] => false,
@@ -256,16 +256,16 @@ fn ends_in_fraction(some: bool, s: &[u8]) -> bool
 }
 
 fn is_float(s: &[u8]) -> bool
-    ensures { result ≡ spelled_float s.now }
+    ensures { result ≡ is_float s.now }
 {
     let some = begins_digit(s);
     let rest = after_digits(s);
     ends_in_fraction(some, rest) || (some && ends_in_exponent(rest))
 }
 
-/// The integer constant whose spelling is this behind `0x`.
+/// The integer constant whose spelling is this after `0x`.
 fn hex_of(s: &[u8]) -> Option<Kind>
-    ensures { result ≡ spelled_hex s.now }
+    ensures { result ≡ hex_of s.now }
 {
     if !begins_hex_digit(s) {
         return None;
@@ -275,7 +275,7 @@ fn hex_of(s: &[u8]) -> Option<Kind>
 }
 
 fn int_of(s: &[u8]) -> Option<Kind>
-    ensures { result ≡ spelled_int s.now }
+    ensures { result ≡ int_of s.now }
 {
     if begins_hex(s) {
         let (_, behind) = s.split_at(2);
@@ -294,7 +294,7 @@ fn int_of(s: &[u8]) -> Option<Kind>
 
 /// What a whole number's spelling is.
 pub(crate) fn number_kind(s: &[u8]) -> Option<Kind>
-    ensures { result ≡ kind_of_number s.now }
+    ensures { result ≡ number_kind s.now }
 {
     if is_float(s) {
         Some(Kind::Float)

@@ -1,7 +1,7 @@
 ghost use Rattle.std.specs.Prelude.{◌≡◌, ◌≤◌, ◌<◌, ◌+◌, ◌-◌, ◌^◌, ℕ, List, length, take, IfOk, OnOk, OnErr, IfSome, IsTrue, None, Some, MatchOption};
 ghost use Rattle.pungi_base.specs.Names.{with_text, AreNames, Extends};
 ghost use Rattle.pungi_lex.specs.declared.start.Start.TheVariants as start;
-ghost use Rattle.pungi_lex.specs.Bytes.{begins, is_blank as blank, is_in_line as in_line, is_letter as letter};
+ghost use Rattle.pungi_lex.specs.Bytes.{begins, is_blank, is_in_line, is_letter};
 ghost use Rattle.pungi_lex.specs.Start.{Begins};
 ghost use Rattle.pungi_lex.specs.Piece.{length_at, spells, with_texts, NamesWord, NamesText, IsPieceAt};
 
@@ -53,21 +53,21 @@ fn text_kind(alloc: Global, names: &mut Names, text: &[u8]) -> Result<Kind, Memo
 }
 
 fn header_piece(text: &[u8]) -> (Option<Kind>, usize)
-    requires { IsTrue (begins in_line text.now) }
+    requires { IsTrue (begins is_in_line text.now) }
     ensures { (names : List (List ℕ)) → IsPieceAt names start.Header text.now result.0 result.1 }
 {
     (Some(Kind::Header), line_count(text))
 }
 
 fn blank_piece(text: &[u8]) -> (Option<Kind>, usize)
-    requires { IsTrue (begins blank text.now) }
+    requires { IsTrue (begins is_blank text.now) }
     ensures { (names : List (List ℕ)) → IsPieceAt names start.Blank text.now result.0 result.1 }
 {
     (None, blank_count(text))
 }
 
 fn line_comment_piece(text: &[u8]) -> (Option<Kind>, usize)
-    requires { IsTrue (begins in_line text.now) }
+    requires { IsTrue (begins is_in_line text.now) }
     ensures { (names : List (List ℕ)) → IsPieceAt names start.LineComment text.now result.0 result.1 }
 {
     (None, line_count(text))
@@ -123,7 +123,7 @@ fn word_piece(
     recent: &mut Recent,
     text: &[u8],
 ) -> Result<(Option<Kind>, usize), Memory>
-    requires first { IsTrue (begins letter text.now) }
+    requires first { IsTrue (begins is_letter text.now) }
     requires words { KEYWORDS ≤ length names.old }
     requires room { length names.old < 2 ^ 32 - 1 }
     ensures grows { Extends names.old names.new }

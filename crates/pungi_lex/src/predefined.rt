@@ -1,5 +1,5 @@
 ghost use Rattle.std.specs.Prelude.{◌≡◌, IfOk};
-ghost use Rattle.pungi_lex.specs.Predefined.{predefined as first_macros, first_body, returned as returned_kinds, headed as headed_kinds, number as number_kinds};
+ghost use Rattle.pungi_lex.specs.Predefined.{predefined as first_macros, first_body, returned, headed, number as number_kinds};
 
 use crate::macros::Body;
 use pungi_base::words::{
@@ -12,7 +12,7 @@ use std::alloc::{AllocError, Global};
 
 /// `return Py_NewRef(object)`
 fn returned(alloc: Global, object: u32) -> Result<Vec<Kind>, AllocError>
-    ensures { IfOk result (λ kinds. kinds.items ≡ returned_kinds object) }
+    ensures { IfOk result (λ kinds. kinds.items ≡ returned object) }
 {
     Ok(vec![in alloc;
         Kind::Key(Key::Return),
@@ -25,7 +25,7 @@ fn returned(alloc: Global, object: u32) -> Result<Vec<Kind>, AllocError>
 
 /// `head ob_base;`
 fn headed(alloc: Global, head: u32) -> Result<Vec<Kind>, AllocError>
-    ensures { IfOk result (λ kinds. kinds.items ≡ headed_kinds head) }
+    ensures { IfOk result (λ kinds. kinds.items ≡ headed head) }
 {
     Ok(vec![in alloc;
         Kind::Word(Name(head)),

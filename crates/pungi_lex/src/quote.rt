@@ -1,9 +1,9 @@
 ghost use Rattle.std.specs.Prelude.{◌≡◌, ◌≤◌, length, false, IfSome};
-ghost use Rattle.pungi_lex.specs.Quote.{quote_len as len_of_quote};
+ghost use Rattle.pungi_lex.specs.Quote.{quote_count};
 
 /// How many bytes come before the quote that ends a string literal, with that quote.
 pub(crate) fn quote_count(text: &[u8]) -> Option<usize>
-    ensures count { result ≡ len_of_quote false text.now }
+    ensures count { result ≡ quote_count false text.now }
     ensures within { IfSome result (λ count. (1 ≤ count) × (count ≤ length text.now)) }
 {
     let mut taken = false;

@@ -7,8 +7,8 @@ use std::alloc::{AllocError, Global};
 /// How many numbers are kept.
 const ROOM: usize = 2048;
 
-/// Numbers that texts had when they came last, each at a place that a few of the text's bytes tell. What stands there
-/// is a guess, which is taken only if the text of that number is the text that is looked for.
+/// Numbers that texts had when they came last, each at a place that follows from a few of the text's bytes. What stands
+/// there is a guess, which is taken only if the text of that number is the text that is looked for.
 #[derive(Drop)]
 pub(crate) struct Recent {
     numbers: Vec<u32>,

@@ -1,5 +1,5 @@
 ghost use Rattle.std.specs.Prelude.{◌≡◌};
-ghost use Rattle.pungi_lex.specs.Start.{starts, Begins, is_token as token, is_after_include as after_include};
+ghost use Rattle.pungi_lex.specs.Start.{start_of, Begins, is_token, is_after_include};
 
 use crate::bytes::{is_blank, is_digit, is_letter, is_mark, is_plain_mark};
 use crate::line::Line;
@@ -21,7 +21,7 @@ pub enum Start {
 
 /// Whether what begins so is a token: no blanks, and no comment.
 pub(crate) fn is_token(start: Start) -> bool
-    ensures { result ≡ token start }
+    ensures { result ≡ is_token start }
 {
     match start {
         Start::Blank => false,
@@ -32,7 +32,7 @@ pub(crate) fn is_token(start: Start) -> bool
 }
 
 fn is_after_include(line: Line) -> bool
-    ensures { result ≡ after_include line }
+    ensures { result ≡ is_after_include line }
 {
     match line {
         Line::Include => true,
@@ -43,7 +43,7 @@ fn is_after_include(line: Line) -> bool
 /// What begins at the front of a text, as far as the line has come.
 #[tactic(auto, using(crate::proofs::StartLemmas::plain_starts))]
 pub(crate) fn start_of(line: Line, text: &[u8]) -> Start
-    ensures start { result ≡ starts line text.now }
+    ensures start { result ≡ start_of line text.now }
     ensures begins { Begins result text.now }
 {
     if text.is_empty() {

@@ -1,6 +1,6 @@
 ghost use Rattle.std.specs.Prelude.{◌≡◌, ◌≤◌, ◌<◌, ◌+◌, ◌^◌, [], length, drop};
 ghost use Rattle.std.specs.List.{All};
-ghost use Rattle.pungi_lex.specs.Stretch.{right_of as columns_on, places_along, places_left, IsNarrow};
+ghost use Rattle.pungi_lex.specs.Stretch.{right_of, places_along, places_left, IsNarrow};
 
 use pungi_base::Pos;
 
@@ -12,7 +12,7 @@ pub(crate) struct Stretch {
 }
 
 /// How far stretches are read: the place of the next byte, how many bytes of its stretch are left, and which stretch
-/// comes behind it.
+/// comes after it.
 #[derive(Clone, Copy)]
 pub(crate) struct Spot {
     pub at: Pos,
@@ -23,7 +23,7 @@ pub(crate) struct Spot {
 /// The place so many columns on.
 pub(crate) fn right_of(at: Pos, count: u32) -> Pos
     requires { at.col + count < 2 ^ 32 }
-    ensures { result ≡ columns_on at count }
+    ensures { result ≡ right_of at count }
 {
     Pos {
         line: at.line,

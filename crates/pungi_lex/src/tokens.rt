@@ -8,7 +8,7 @@ ghost use Rattle.pungi_lex.specs.Join.{place_in};
 ghost use Rattle.pungi_lex.specs.Known.{AreKnown};
 ghost use Rattle.pungi_lex.specs.Size.{AreSized};
 ghost use Rattle.pungi_lex.specs.Stretch.{places_along, IsNarrow};
-ghost use Rattle.pungi_lex.specs.Tokens.{AreTokens, AreTokensOf, IsRefused, HasFault, HasNoTokens, is_memory, token_of, fault_at as fault_told};
+ghost use Rattle.pungi_lex.specs.Tokens.{AreTokens, AreTokensOf, IsRefused, HasFault, HasNoTokens, is_memory, token_of, fault_at};
 
 use crate::join::{join, stretches_of};
 use crate::lex_fault::LexFault;
@@ -28,7 +28,7 @@ pub const TEXT_LIMIT: usize = 1048576;
 const BYTES_A_TOKEN: usize = 4;
 
 fn fault_at(start: Start, at: Pos) -> LexFault
-    ensures { result ≡ fault_told start at }
+    ensures { result ≡ fault_at start at }
 {
     match start {
         Start::Comment => LexFault::OpenComment(at),

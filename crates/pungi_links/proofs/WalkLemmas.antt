@@ -15,7 +15,7 @@ walk_is (suc k) next c (x ∷ xs) a le l out =
     let rest = walk_is k next (slice_index next c) xs a (omega (arith, le)) l.1 (λ h. out (inr h)) in
     rw (e, rest, l.0) refl
 
--- what comes behind the first of a ring
+-- what comes after the first of a ring
 pub way_is : (next : List ℕ) (a : ℕ) (xs : List ℕ) → IsRing next a (a ∷ xs) → way next (slice_index next a) a ≡ xs
 way_is next a xs r = walk_is (length next) next (slice_index next a) xs a (let h = ring_short next a (a ∷ xs) r in omega (arith, h)) r.leads.1 r.distinct.0
 

@@ -33,7 +33,7 @@ impl Pending {
         Ok(Pending { links, end: n })
     }
 
-    /// Puts a number last, if it isn't in the list, and answers whether it wasn't.
+    /// Puts a number last, if it isn't in the list, and returns whether it wasn't.
     pub fn put(&mut self, i: u32) -> bool
         requires { i < self.old.limit }
         ensures puts { Puts self.old i self.new result }

@@ -22,7 +22,7 @@ use Rattle.pungi_layout.specs.alike.Correct.{temps_of, Behaves}
 use Rattle.pungi_lower.specs.Lowered.{codes_of, names_of, IsEachPassed, IsLowered, AreLowered}
 use Rattle.pungi_layout.specs.code.Sound.{IsStmtSound, stmt_nodes}
 use Rattle.pungi_layout.specs.code.StmtCode.{body_code}
-use Rattle.pungi_layout.specs.code.VarKinds.{kind_held, stmt_reached, temp_kinds, var_kinds}
+use Rattle.pungi_layout.specs.code.VarKinds.{kind_held, stmt_declared, temp_kinds, var_kinds}
 use Rattle.pungi_layout.specs.code.Calls.{has_no_call}
 use Rattle.pungi_layout.specs.code.FunctionCode.{code_of, HasLocals}
 use Rattle.pungi_layout.proofs.boundaries.Heads.{keeps_nothing}
@@ -107,7 +107,7 @@ lowered-one c d code passed is =
       alike = subst (λ (m : ℕ). Behaves f (body_code f) m 65536) (sym long) alike;
       small = code-few env d;
       keeps = keeps_nothing f sound;
-      fits = λ statics entry. entries_alike statics f.params (map kind_held (stmt_reached f.body) ++ temp_kinds (stmt_nodes f.body)) entry;
+      fits = λ statics entry. entries_alike statics f.params (map kind_held (stmt_declared f.body) ++ temp_kinds (stmt_nodes f.body)) entry;
       within = λ statics entry fits. within-locals f (function-locals env d) statics entry fits;
     } in
     subst (λ (k : Code). IsLowered f (function_nodes d) k) is lowered

@@ -1,4 +1,4 @@
--- What the layout makes of the functions of a file of which no rule is told.
+-- What the layout makes of the functions of a file in which no rule holds.
 use Rattle.std.proofs.Common.{◌≡◌, ◌*◌, ◌≤◌, arith, true, List, length, sym, ap, subst}
 use Rattle.std.specs.Prelude.{◌^◌}
 use Rattle.pungi_tree.specs.Syntax.{Item}

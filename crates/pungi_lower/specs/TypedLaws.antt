@@ -1,4 +1,4 @@
--- What the layout makes of the functions of a file of which no rule is told.
+-- What the layout makes of the functions of a file in which no rule holds.
 --   IsSoundIfPassed f        its locals are there, each operand has a value, and each place is one
 --   IsSmallIfPassed f        its tree and its code are within the limits: at most four instructions for a node of the text
 --   IsWellFormedIfPassed f   so is its code, where it calls no function of the file

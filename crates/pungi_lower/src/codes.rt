@@ -14,7 +14,7 @@ use std::alloc::Global;
 
 /// The codes of functions with these names, over so many static objects. There is none of a function that isn't resolved, and
 /// none of one that calls a function of the file. Where the functions are those of a checked file, a code runs as its function
-/// does, from any entry and with any answers of the outside; it has at most four instructions for each node of the text, and no
+/// does, from any entry and with any choices; it has at most four instructions for each node of the text, and no
 /// temporary is kept where one statement ends and another begins; each code is well-formed, and each global and each field has
 /// one kind in all codes.
 pub fn lower(

@@ -1,10 +1,10 @@
-// What the layout makes of the functions of a file of which no rule is told.
+// What the layout makes of the functions of a file in which no rule holds.
 ghost use Rattle.pungi_resolved.specs.ActionView.{function_view};
 ghost use Rattle.pungi_lower.specs.TypedLaws.{IsSoundIfPassed, IsSmallIfPassed, IsWellFormedIfPassed, AgreeIfPassed};
 
 use pungi_resolved::Function;
 
-/// The law of what the layout asks of a function: each of which no rule is told meets it.
+/// The law of what the layout requires of a function: each in which no rule holds meets it.
 pub fn passed_is_sound(f: &Function)
     ensures { IsSoundIfPassed (function_view f.now) }
 {}

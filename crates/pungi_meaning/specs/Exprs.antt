@@ -1,21 +1,23 @@
 -- What an expression does (C11 6.5), from left to right.
---   before place k              the base of a field comes first
---   converting p to from k      a conversion to another kind comes first
---   signing p m k todos         a minus does something, a plus does nothing
---   loaded, stored, called      what a load, a store or a call of the API leaves, where the world answers
---   read_local, load_slot, load_field, old      what a place holds; to read what is unset stops, and so does a NULL base
+--   base_first place k          the base of a field comes first
+--   convert p to from k         a conversion to another kind comes first
+--   sign p m k todos            a minus does something, a plus does nothing
+--   after_load, after_store, after_call    what a load, a store or a call of the API leaves, where the world accepts it
+--   read_local, load_slot, load_field, load_old    what a place holds; to read what is unset stops, and so does a NULL
+--                                                  base
 --   fetch                       an expression that reads a place
 --   store_slot, store_field, store              the newest value is stored, and stays the value of the assignment
 --   step_op m, is_and m         the operator of `++` or `--`; an operator is `&&`
---   keep                        the old content goes to where the value of `++` or `--` behind its operand waits
---   stepping, step_place        the remainders of `++` and `--`; the whole of them
---   computed                    a result, where there is one; else the run stops
+--   keep                        the old content goes to where the value of `++` or `--` after its operand waits
+--   step, step_place            the remainders of `++` and `--`; the whole of them
+--   after_arithmetic            a result, where there is one; else the run stops
 --   minus, step_one, compute, fit               the arithmetic of a node
 --   compare                     a comparison
---   is_wanted, right            the right side of `&&` or `||`, where it is wanted; else the value that waits is the result
+--   is_wanted, right_side       the right side of `&&` or `||`, where it is wanted; else the value that waits is the
+--                               result
 --   call, next_arg              a call of the API; the next argument of a call, or the call
 --   evaluate                    an expression
--- Fields and globals are slots of the world. Loads, stores and calls of the API do what pungi_world tells.
+-- Fields and globals are slots of the world. Loads, stores and calls of the API do what pungi_world defines.
 use Rattle.std.specs.Prelude.{ℕ, ◌+◌, ℤ, pos, Bool, true, false, not, List, [], ◌∷◌, length, drop, Option, Some, None, if◌then◌else◌}
 use Rattle.pungi_base.specs.declared.choice.Choice.{Choice}
 use Rattle.pungi_base.specs.declared.kind.Kind.{Kind}
@@ -42,64 +44,64 @@ use Rattle.pungi_meaning.specs.declared.op.Op.TheVariants as ops
 use Rattle.pungi_meaning.specs.declared.cmp.Cmp.{Cmp}
 use Rattle.pungi_meaning.specs.Values.{fits, is_true, truth, arithmetic, holds, op_of, cmp_of, wide, slot_kind}
 use Rattle.pungi_meaning.specs.Todo.{Operation, Computed, Fitted, Compared, Loaded, Stored, Called, Todo, ToEval, ToLoad, ToOld, ToKeep, ToStep, ToMinus, ToCompute, ToFit, ToCompare, ToNot, ToRight, ToTruth, ToPick, ToStore, ToPop, ToArgs, State, Step, Goes, Stops, listed_values}
-use Rattle.pungi_meaning.specs.Work.{top, below, newest, left, given, taken, instead, for_two, with_answer, content_at, with_local, unused, reacting, shape_of}
+use Rattle.pungi_meaning.specs.Work.{top, below, newest, go_on, push_value, pop_value, replace_value, replace_two, with_result, content_at, with_local, unused, after_effect, shape_of}
 
 -- ---- places
 
-abbrev pub before : expr.Place → List Todo → List Todo
-before (expr.field_place q base tag field) k = ToEval base ∷ k
-before place k = k
+abbrev pub base_first : expr.Place → List Todo → List Todo
+base_first (expr.field_place q base tag field) k = ToEval base ∷ k
+base_first place k = k
 
 abbrev pub read_local : Content → Pos → List Todo → State → Step
 read_local Unset p k s = Stops p
-read_local (Holds v) p k s = given v k s
+read_local (Holds v) p k s = push_value v k s
 
-abbrev pub loaded : Pos → Slot → List Todo → Effect → State → Step
-loaded p slot k e s = Goes (Loaded p slot e.value ∷ []) k (record s { values = with_answer e.value s.values })
+abbrev pub after_load : Pos → Slot → List Todo → Effect → State → Step
+after_load p slot k e s = Goes (Loaded p slot e.value ∷ []) k (record s { values = with_result e.value s.values })
 
 abbrev pub load_slot : List Choice → Pos → ValueKind → Slot → List Todo → State → Step
-load_slot choices p kind slot k s = reacting p (load_effect s.world slot (slot_kind kind) (unused choices s)) (loaded p slot k) s
+load_slot choices p kind slot k s = after_effect p (load_effect s.world slot (slot_kind kind) (unused choices s)) (after_load p slot k) s
 
 abbrev pub load_field : List Choice → Pos → ValueKind → Value → Name → Name → List Todo → State → Step
 load_field choices p kind (value.Object o) tag field k s = load_slot choices p kind (Field o tag field) k s
 load_field choices p kind base tag field k s = Stops p
 
-abbrev pub old : List Choice → ValueKind → expr.Place → List Todo → State → Step
-old choices kind (expr.local_place p x) k s = read_local (content_at s.locals x) p k s
-old choices kind (expr.global_place p n) k s = load_slot choices p kind (Global n) k s
-old choices kind (expr.field_place p base tag field) k s = load_field choices p kind (top s.values) tag field k s
-old choices kind expr.no_place k s = left k s
+abbrev pub load_old : List Choice → ValueKind → expr.Place → List Todo → State → Step
+load_old choices kind (expr.local_place p x) k s = read_local (content_at s.locals x) p k s
+load_old choices kind (expr.global_place p n) k s = load_slot choices p kind (Global n) k s
+load_old choices kind (expr.field_place p base tag field) k s = load_field choices p kind (top s.values) tag field k s
+load_old choices kind expr.no_place k s = go_on k s
 
 abbrev pub fetch : List Choice → ValueKind → expr.Place → List Todo → State → Step
-fetch choices kind (expr.field_place p base tag field) k s = left (ToEval base ∷ ToLoad p kind tag field ∷ k) s
-fetch choices kind place k s = old choices kind place k s
+fetch choices kind (expr.field_place p base tag field) k s = go_on (ToEval base ∷ ToLoad p kind tag field ∷ k) s
+fetch choices kind place k s = load_old choices kind place k s
 
-abbrev pub stored : Pos → Slot → Value → List Value → List Todo → Effect → State → Step
-stored p slot v others k e s = Goes (Stored p slot v ∷ []) k (record s { values = v ∷ others })
+abbrev pub after_store : Pos → Slot → Value → List Value → List Todo → Effect → State → Step
+after_store p slot v others k e s = Goes (Stored p slot v ∷ []) k (record s { values = v ∷ others })
 
 abbrev pub store_slot : List Choice → Pos → ValueKind → Slot → Value → List Value → List Todo → State → Step
 store_slot choices p kind slot v others k s =
-    reacting p (store_effect s.world slot (slot_kind kind) v (unused choices s)) (stored p slot v others k) s
+    after_effect p (store_effect s.world slot (slot_kind kind) v (unused choices s)) (after_store p slot v others k) s
 
 abbrev pub store_field : List Choice → Pos → ValueKind → Value → Name → Name → Value → List Value → List Todo → State → Step
 store_field choices p kind (value.Object o) tag field v others k s = store_slot choices p kind (Field o tag field) v others k s
 store_field choices p kind base tag field v others k s = Stops p
 
 abbrev pub store : List Choice → ValueKind → expr.Place → List Todo → State → Step
-store choices kind (expr.local_place p x) k s = left k (with_local x (Holds (top s.values)) s)
+store choices kind (expr.local_place p x) k s = go_on k (with_local x (Holds (top s.values)) s)
 store choices kind (expr.global_place p n) k s = store_slot choices p kind (Global n) (top s.values) (below s.values) k s
 store choices kind (expr.field_place p base tag field) k s =
     store_field choices p kind (top (below s.values)) tag field (top s.values) (below (below s.values)) k s
-store choices kind expr.no_place k s = left k s
+store choices kind expr.no_place k s = go_on k s
 
 -- ---- operators
 
-abbrev pub converting : Pos → ValueKind → ValueKind → List Todo → List Todo
-converting p to from k = if is_same_kind (Some to) (Some from) then k else ToFit p to ∷ k
+abbrev pub convert : Pos → ValueKind → ValueKind → List Todo → List Todo
+convert p to from k = if is_same_kind (Some to) (Some from) then k else ToFit p to ∷ k
 
-abbrev pub signing : Pos → Kind → ValueKind → List Todo → List Todo
-signing p (tokens.Punct puncts.Minus) kind k = ToMinus p kind ∷ k
-signing p m kind k = k
+abbrev pub sign : Pos → Kind → ValueKind → List Todo → List Todo
+sign p (tokens.Punct puncts.Minus) kind k = ToMinus p kind ∷ k
+sign p m kind k = k
 
 abbrev pub step_op : Kind → Op
 step_op (tokens.Punct m) = op_of m
@@ -114,76 +116,76 @@ abbrev pub keep : expr.Place → List Value → List Value
 keep (expr.field_place q base tag field) vs = top vs ∷ top (below vs) ∷ top vs ∷ below (below (below vs))
 keep place vs = top vs ∷ top vs ∷ below (below vs)
 
-abbrev pub stepping : Pos → Kind → ValueKind → expr.Place → List Todo → List Todo
-stepping p m kind place k = ToStep p (step_op m) (wide kind) ∷ converting p kind (wide kind) (ToStore kind place ∷ k)
+abbrev pub step : Pos → Kind → ValueKind → expr.Place → List Todo → List Todo
+step p m kind place k = ToStep p (step_op m) (wide kind) ∷ convert p kind (wide kind) (ToStore kind place ∷ k)
 
 abbrev pub step_place : Bool → Pos → Kind → ValueKind → expr.Place → List Todo → State → Step
-step_place false p m kind place k s = left (before place (ToOld kind place ∷ stepping p m kind place k)) s
+step_place false p m kind place k s = go_on (base_first place (ToOld kind place ∷ step p m kind place k)) s
 step_place true p m kind place k s =
-    given (value.Int (pos 0)) (before place (ToOld kind place ∷ ToKeep place ∷ stepping p m kind place (ToPop ∷ k))) s
+    push_value (value.Int (pos 0)) (base_first place (ToOld kind place ∷ ToKeep place ∷ step p m kind place (ToPop ∷ k))) s
 
-abbrev pub computed : Pos → Op → ValueKind → ℤ → ℤ → Option ℤ → (List Operation → Value → List Todo → State → Step) → List Todo → State → Step
-computed p o kind a b None go k s = Stops p
-computed p o kind a b (Some n) go k s = go (Computed p o kind a b ∷ []) (value.Int n) k s
+abbrev pub after_arithmetic : Pos → Op → ValueKind → ℤ → ℤ → Option ℤ → (List Operation → Value → List Todo → State → Step) → List Todo → State → Step
+after_arithmetic p o kind a b None go k s = Stops p
+after_arithmetic p o kind a b (Some n) go k s = go (Computed p o kind a b ∷ []) (value.Int n) k s
 
 abbrev pub compute : Pos → Op → ValueKind → ℤ → ℤ → List Todo → State → Step
-compute p o kind a b k s = computed p o kind a b (arithmetic o kind a b) for_two k s
+compute p o kind a b k s = after_arithmetic p o kind a b (arithmetic o kind a b) replace_two k s
 
 abbrev pub step_one : Pos → Op → ValueKind → ℤ → List Todo → State → Step
-step_one p o kind a k s = computed p o kind a (pos 1) (arithmetic o kind a (pos 1)) instead k s
+step_one p o kind a k s = after_arithmetic p o kind a (pos 1) (arithmetic o kind a (pos 1)) replace_value k s
 
 abbrev pub minus : Pos → ValueKind → ℤ → List Todo → State → Step
-minus p kind a k s = computed p ops.Sub kind (pos 0) a (arithmetic ops.Sub kind (pos 0) a) instead k s
+minus p kind a k s = after_arithmetic p ops.Sub kind (pos 0) a (arithmetic ops.Sub kind (pos 0) a) replace_value k s
 
 abbrev pub fit : Pos → ValueKind → ℤ → List Todo → State → Step
-fit p kind n k s = if fits kind n then instead (Fitted p kind n ∷ []) (value.Int n) k s else Stops p
+fit p kind n k s = if fits kind n then replace_value (Fitted p kind n ∷ []) (value.Int n) k s else Stops p
 
 abbrev pub compare : Pos → Cmp → Value → Value → List Todo → State → Step
-compare p c v w k s = for_two (Compared p c v w ∷ []) (truth (holds c v w)) k s
+compare p c v w k s = replace_two (Compared p c v w ∷ []) (truth (holds c v w)) k s
 
 abbrev pub is_wanted : Bool → Bool → Bool
-is_wanted true left = left
-is_wanted false left = not left
+is_wanted true go_on = go_on
+is_wanted false go_on = not go_on
 
-abbrev pub right : Bool → Value → expr.Value → List Todo → State → Step
-right on v b k s = taken (if is_wanted on (is_true v) then ToEval b ∷ ToTruth ∷ k else k) s
+abbrev pub right_side : Bool → Value → expr.Value → List Todo → State → Step
+right_side on v b k s = pop_value (if is_wanted on (is_true v) then ToEval b ∷ ToTruth ∷ k else k) s
 
 -- ---- calls of the API
 
-abbrev pub called : Pos → Row → List Value → List Value → List Todo → Effect → State → Step
-called p row args others k e s = Goes (Called p (shape_of row) args e ∷ []) k (record s { values = with_answer e.value others })
+abbrev pub after_call : Pos → Row → List Value → List Value → List Todo → Effect → State → Step
+after_call p row args others k e s = Goes (Called p (shape_of row) args e ∷ []) k (record s { values = with_result e.value others })
 
 abbrev pub call : List Choice → Pos → Row → ℕ → List Todo → State → Step
 call choices p row n k s =
-    reacting p (call_effect s.world (shape_of row) (newest n s.values) (unused choices s)) (called p row (newest n s.values) (drop n s.values) k) s
+    after_effect p (call_effect s.world (shape_of row) (newest n s.values) (unused choices s)) (after_call p row (newest n s.values) (drop n s.values) k) s
 
 abbrev pub next_arg : List Choice → Pos → Row → List expr.Value → ℕ → Option expr.Value → List Todo → State → Step
-next_arg choices p row args i (Some v) k s = left (ToEval v ∷ ToArgs p row args (i + 1) ∷ k) s
+next_arg choices p row args i (Some v) k s = go_on (ToEval v ∷ ToArgs p row args (i + 1) ∷ k) s
 next_arg choices p row args i None k s = call choices p row (length args) k s
 
 -- ---- a node
 
 abbrev pub evaluate : List Choice → expr.Value → List Todo → State → Step
-evaluate choices (expr.constant p n) k s = given (value.Int n) k s
-evaluate choices (expr.text_of p ns) k s = given value.Text k s
-evaluate choices (expr.null_of p) k s = given value.Null k s
-evaluate choices (expr.static_of p n) k s = given (value.Object n) k s
-evaluate choices (expr.module_of p n) k s = given value.Text k s
+evaluate choices (expr.constant p n) k s = push_value (value.Int n) k s
+evaluate choices (expr.text_of p ns) k s = push_value value.Text k s
+evaluate choices (expr.null_of p) k s = push_value value.Null k s
+evaluate choices (expr.static_of p n) k s = push_value (value.Object n) k s
+evaluate choices (expr.module_of p n) k s = push_value value.Text k s
 evaluate choices (expr.read p kind place) k s = fetch choices kind place k s
-evaluate choices (expr.inner p v) k s = left (ToEval v ∷ k) s
-evaluate choices (expr.signed p m kind v) k s = left (ToEval v ∷ signing p m kind k) s
-evaluate choices (expr.negated p v) k s = given (value.Int (pos 1)) (ToEval v ∷ ToNot ∷ k) s
-evaluate choices (expr.stepped p behind m kind place) k s = step_place behind p m kind place k s
-evaluate choices (expr.computed p m kind a b) k s = left (ToEval a ∷ ToEval b ∷ ToCompute p (op_of m) kind ∷ k) s
-evaluate choices (expr.compared p m a b) k s = left (ToEval a ∷ ToEval b ∷ ToCompare p (cmp_of m) ∷ k) s
-evaluate choices (expr.joined_by p m a b) k s = given (truth (not (is_and m))) (ToEval a ∷ ToRight (is_and m) b ∷ k) s
-evaluate choices (expr.stored p kind place v) k s = left (before place (ToEval v ∷ ToStore kind place ∷ k)) s
+evaluate choices (expr.inner p v) k s = go_on (ToEval v ∷ k) s
+evaluate choices (expr.signed p m kind v) k s = go_on (ToEval v ∷ sign p m kind k) s
+evaluate choices (expr.negated p v) k s = push_value (value.Int (pos 1)) (ToEval v ∷ ToNot ∷ k) s
+evaluate choices (expr.stepped p is_postfix m kind place) k s = step_place is_postfix p m kind place k s
+evaluate choices (expr.computed p m kind a b) k s = go_on (ToEval a ∷ ToEval b ∷ ToCompute p (op_of m) kind ∷ k) s
+evaluate choices (expr.compared p m a b) k s = go_on (ToEval a ∷ ToEval b ∷ ToCompare p (cmp_of m) ∷ k) s
+evaluate choices (expr.joined_by p m a b) k s = push_value (truth (not (is_and m))) (ToEval a ∷ ToRight (is_and m) b ∷ k) s
+evaluate choices (expr.stored p kind place v) k s = go_on (base_first place (ToEval v ∷ ToStore kind place ∷ k)) s
 evaluate choices (expr.updated p m counted kind place v) k s =
-    left (before place (ToOld kind place ∷ ToEval v ∷ ToCompute p (op_of m) counted ∷ converting p kind counted (ToStore kind place ∷ k))) s
-evaluate choices (expr.chosen p c a b) k s = left (ToEval c ∷ ToPick a b ∷ k) s
-evaluate choices (expr.converted p kind v) k s = left (ToEval v ∷ ToFit p kind ∷ k) s
-evaluate choices (expr.cast_of p v) k s = left (ToEval v ∷ k) s
-evaluate choices (expr.dropped p v) k s = left (ToEval v ∷ k) s
+    go_on (base_first place (ToOld kind place ∷ ToEval v ∷ ToCompute p (op_of m) counted ∷ convert p kind counted (ToStore kind place ∷ k))) s
+evaluate choices (expr.chosen p c a b) k s = go_on (ToEval c ∷ ToPick a b ∷ k) s
+evaluate choices (expr.converted p kind v) k s = go_on (ToEval v ∷ ToFit p kind ∷ k) s
+evaluate choices (expr.cast_of p v) k s = go_on (ToEval v ∷ k) s
+evaluate choices (expr.dropped p v) k s = go_on (ToEval v ∷ k) s
 evaluate choices (expr.called p n vs) k s = Stops p
-evaluate choices (expr.called_row p n row vs) k s = left (ToArgs p row (listed_values vs) 0 ∷ k) s
+evaluate choices (expr.called_row p n row vs) k s = go_on (ToArgs p row (listed_values vs) 0 ∷ k) s
 evaluate choices (expr.nonsense p) k s = Stops p

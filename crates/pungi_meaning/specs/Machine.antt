@@ -2,21 +2,21 @@
 --   loop_of, todo_of t      what a task stands for
 --   todos tasks             what a stack of tasks stands for: the last task is the first thing to do
 --   state_of m              the state of a machine
---   Tells step halt m       what the machine did is this step
+--   Matches step halt m     what the machine did is this step
 --   IfReady result P        an answer that isn't want of memory is so
 use Rattle.std.specs.Prelude.{◌≡◌, List, Option, Some, None, option_map, map, reverse}
 use Rattle.pungi_resolved.specs.ValueView.{value_view, place_view}
-use Rattle.pungi_resolved.specs.ActionView.{action_view, reached_view}
+use Rattle.pungi_resolved.specs.ActionView.{action_view, declared_view}
 use Rattle.pungi_meaning.specs.declared.task.Task.{Task}
 use Rattle.pungi_meaning.specs.declared.task.Task.TheVariants as tasks
 use Rattle.pungi_meaning.specs.declared.task.Turns.{Turns}
 use Rattle.pungi_meaning.specs.declared.machine.Machine.{Machine}
 use Rattle.pungi_meaning.specs.declared.machine.Ending.{Ending}
 use Rattle.pungi_meaning.specs.declared.machine.Ending.TheVariants as endings
-use Rattle.pungi_meaning.specs.Todo.{Loop, Todo, ToEval, ToLoad, ToOld, ToKeep, ToStep, ToMinus, ToCompute, ToFit, ToCompare, ToNot, ToRight, ToTruth, ToPick, ToStore, ToPop, ToArgs, ToExec, ToForget, ToReach, ToBind, ToChoose, ToJoin, ToRest, ToTest, ToTurn, ToAgain, ToBack, ToSwitch, ToSwitchEnd, ToReturn, ToEnd, State, Step, Goes, Returns, Stops, Wants}
+use Rattle.pungi_meaning.specs.Todo.{Loop, Todo, ToEval, ToLoad, ToOld, ToKeep, ToStep, ToMinus, ToCompute, ToFit, ToCompare, ToNot, ToRight, ToTruth, ToPick, ToStore, ToPop, ToArgs, ToExec, ToForget, ToDeclare, ToBind, ToChoose, ToJoin, ToRest, ToTest, ToTurn, ToAgain, ToBack, ToSwitch, ToSwitchEnd, ToReturn, ToEnd, State, Step, Goes, Returns, Stops, Wants}
 
 abbrev pub loop_of : Turns → Loop
-loop_of l = record { test = option_map (λ v. value_view v.now) l.test; behind = option_map (λ v. value_view v.now) l.behind; body = action_view l.body.now }
+loop_of l = record { test = option_map (λ v. value_view v.now) l.test; increment = option_map (λ v. value_view v.now) l.increment; body = action_view l.body.now }
 
 abbrev pub todo_of : Task → Todo
 todo_of (tasks.Eval v) = ToEval (value_view v.now)
@@ -37,7 +37,7 @@ todo_of tasks.Pop = ToPop
 todo_of (tasks.Args p shape args i) = ToArgs p shape.now.row (map value_view args.now) i
 todo_of (tasks.Exec a) = ToExec (action_view a.now)
 todo_of tasks.Forget = ToForget
-todo_of (tasks.Reach rs) = ToReach (map reached_view rs.now)
+todo_of (tasks.Declare rs) = ToDeclare (map declared_view rs.now)
 todo_of (tasks.Bind x) = ToBind x
 todo_of (tasks.Choose a b) = ToChoose (action_view a.now) (option_map (λ c. action_view c.now) b)
 todo_of tasks.Join = ToJoin
@@ -57,9 +57,9 @@ todos ts = map todo_of (reverse ts)
 abbrev pub state_of : Machine → State
 state_of m = record { world = m.world; used = m.used.items; locals = m.locals.items; values = reverse m.values.items }
 
-abbrev pub Tells : Step → Option Ending → Machine → Type 0
-Tells (Goes os k s) None m = (todos m.tasks.items ≡ k) × (state_of m ≡ s)
-Tells (Returns w v p used) (Some (endings.Leave q x)) m = (q ≡ p) × (x ≡ v) × (m.world ≡ w) × (m.used.items ≡ used)
-Tells (Stops p) (Some (endings.Stop q)) m = q ≡ p
-Tells Wants (Some endings.Want) m = Unit {0}
-Tells step halt m = ⊥
+abbrev pub Matches : Step → Option Ending → Machine → Type 0
+Matches (Goes os k s) None m = (todos m.tasks.items ≡ k) × (state_of m ≡ s)
+Matches (Returns w v p used) (Some (endings.Leave q x)) m = (q ≡ p) × (x ≡ v) × (m.world ≡ w) × (m.used.items ≡ used)
+Matches (Stops p) (Some (endings.Stop q)) m = q ≡ p
+Matches Wants (Some endings.Want) m = Unit {0}
+Matches step halt m = ⊥

@@ -4,9 +4,10 @@
 --   act choices k s               one step: the first thing that remains is done, or leaves its parts and its remainder
 --   End                           how a run ends
 --   Run                           a run: how it ends, and what it does before, in order
---   over, noted, after            a run that ends at once; with operations before it; what a step makes of the rest
+--   end_at_once, with_operations, run_after    a run that ends at once; with operations before it; what a step makes of
+--                                              the rest
 --   run_from choices fuel k s     a run of at most so many steps
---   closing body                  the closing brace of a function's body
+--   closing_brace body            the closing brace of a function's body
 --   start, body_of                where the run of a function begins
 --   run_of f entry choices fuel   the run of a function from an entry
 use Rattle.std.specs.Prelude.{ℕ, zero, suc, ◌+◌, ◌-◌, Bool, true, false, not, List, [], ◌∷◌, ◌++◌, length, map, replicate, slice_get, Option, Some, None, if◌then◌else◌}
@@ -21,10 +22,10 @@ use Rattle.pungi_world.specs.declared.content.Content.TheVariants.{Unset, Holds}
 use Rattle.pungi_world.specs.declared.world.World.{World}
 use Rattle.pungi_world.specs.World.{world_at}
 use Rattle.pungi_meaning.specs.Values.{number_of, is_true, truth}
-use Rattle.pungi_meaning.specs.Todo.{Operation, Todo, ToEval, ToLoad, ToOld, ToKeep, ToStep, ToMinus, ToCompute, ToFit, ToCompare, ToNot, ToRight, ToTruth, ToPick, ToStore, ToPop, ToArgs, ToExec, ToForget, ToReach, ToBind, ToChoose, ToJoin, ToRest, ToTest, ToTurn, ToAgain, ToBack, ToSwitch, ToSwitchEnd, ToReturn, ToEnd, State, Step, Goes, Returns, Stops, Wants}
-use Rattle.pungi_meaning.specs.Work.{top, below, left, taken, for_two}
-use Rattle.pungi_meaning.specs.Exprs.{evaluate, load_field, old, keep, step_one, minus, compute, fit, compare, right, store, next_arg}
-use Rattle.pungi_meaning.specs.Stmts.{execute, reach_next, bind, others, tested, turn, started, switch, next_stmt}
+use Rattle.pungi_meaning.specs.Todo.{Operation, Todo, ToEval, ToLoad, ToOld, ToKeep, ToStep, ToMinus, ToCompute, ToFit, ToCompare, ToNot, ToRight, ToTruth, ToPick, ToStore, ToPop, ToArgs, ToExec, ToForget, ToDeclare, ToBind, ToChoose, ToJoin, ToRest, ToTest, ToTurn, ToAgain, ToBack, ToSwitch, ToSwitchEnd, ToReturn, ToEnd, State, Step, Goes, Returns, Stops, Wants}
+use Rattle.pungi_meaning.specs.Work.{top, below, go_on, pop_value, replace_two}
+use Rattle.pungi_meaning.specs.Exprs.{evaluate, load_field, load_old, keep, step_one, minus, compute, fit, compare, right_side, store, next_arg}
+use Rattle.pungi_meaning.specs.Stmts.{execute, declare_next, bind, else_part, test_loop, turn, evaluate_first, switch, next_stmt}
 
 abbrev pub nowhere : Pos
 nowhere = record { line = 0; col = 0 }
@@ -37,33 +38,33 @@ abbrev pub act : List Choice → List Todo → State → Step
 act choices [] s = Stops nowhere
 act choices (ToEval v ∷ k) s = evaluate choices v k s
 act choices (ToLoad p kind tag field ∷ k) s = load_field choices p kind (top s.values) tag field k (record s { values = below s.values })
-act choices (ToOld kind place ∷ k) s = old choices kind place k s
-act choices (ToKeep place ∷ k) s = left k (record s { values = keep place s.values })
+act choices (ToOld kind place ∷ k) s = load_old choices kind place k s
+act choices (ToKeep place ∷ k) s = go_on k (record s { values = keep place s.values })
 act choices (ToStep p o kind ∷ k) s = step_one p o kind (number_of (top s.values)) k s
 act choices (ToMinus p kind ∷ k) s = minus p kind (number_of (top s.values)) k s
 act choices (ToCompute p o kind ∷ k) s = compute p o kind (number_of (top (below s.values))) (number_of (top s.values)) k s
 act choices (ToFit p kind ∷ k) s = fit p kind (number_of (top s.values)) k s
 act choices (ToCompare p c ∷ k) s = compare p c (top (below s.values)) (top s.values) k s
-act choices (ToNot ∷ k) s = for_two [] (truth (not (is_true (top s.values)))) k s
-act choices (ToRight on b ∷ k) s = right on (top s.values) b k s
-act choices (ToTruth ∷ k) s = for_two [] (truth (is_true (top s.values))) k s
-act choices (ToPick a b ∷ k) s = taken (ToEval (if is_true (top s.values) then a else b) ∷ ToJoin ∷ k) s
+act choices (ToNot ∷ k) s = replace_two [] (truth (not (is_true (top s.values)))) k s
+act choices (ToRight on b ∷ k) s = right_side on (top s.values) b k s
+act choices (ToTruth ∷ k) s = replace_two [] (truth (is_true (top s.values))) k s
+act choices (ToPick a b ∷ k) s = pop_value (ToEval (if is_true (top s.values) then a else b) ∷ ToJoin ∷ k) s
 act choices (ToStore kind place ∷ k) s = store choices kind place k s
-act choices (ToPop ∷ k) s = taken k s
+act choices (ToPop ∷ k) s = pop_value k s
 act choices (ToArgs p row args i ∷ k) s = next_arg choices p row args i (slice_get args i) k s
 act choices (ToExec a ∷ k) s = execute a k s
-act choices (ToForget ∷ k) s = left k (record s { values = [] })
-act choices (ToReach rs ∷ k) s = reach_next rs k s
+act choices (ToForget ∷ k) s = go_on k (record s { values = [] })
+act choices (ToDeclare rs ∷ k) s = declare_next rs k s
 act choices (ToBind x ∷ k) s = bind x k s
-act choices (ToChoose a b ∷ k) s = taken (if is_true (top s.values) then ToExec a ∷ ToJoin ∷ k else others b (ToJoin ∷ k)) s
-act choices (ToJoin ∷ k) s = left k s
+act choices (ToChoose a b ∷ k) s = pop_value (if is_true (top s.values) then ToExec a ∷ ToJoin ∷ k else else_part b (ToJoin ∷ k)) s
+act choices (ToJoin ∷ k) s = go_on k s
 act choices (ToRest list i ∷ k) s = next_stmt list i (slice_get list i) k s
-act choices (ToTest loop ∷ k) s = left (tested loop k) s
-act choices (ToTurn loop ∷ k) s = taken (turn (is_true (top s.values)) loop k) s
-act choices (ToAgain loop ∷ k) s = left (started loop.behind (ToBack loop ∷ k)) s
-act choices (ToBack loop ∷ k) s = left (tested loop k) s
+act choices (ToTest loop ∷ k) s = go_on (test_loop loop k) s
+act choices (ToTurn loop ∷ k) s = pop_value (turn (is_true (top s.values)) loop k) s
+act choices (ToAgain loop ∷ k) s = go_on (evaluate_first loop.increment (ToBack loop ∷ k)) s
+act choices (ToBack loop ∷ k) s = go_on (test_loop loop k) s
 act choices (ToSwitch p a ∷ k) s = switch p (top s.values) a k s
-act choices (ToSwitchEnd ∷ k) s = left k s
+act choices (ToSwitchEnd ∷ k) s = go_on k s
 act choices (ToReturn p ∷ k) s = Returns s.world (Some (top s.values)) p s.used
 act choices (ToEnd p v ∷ k) s = at_end p v s
 
@@ -79,27 +80,27 @@ pub record Run : Type 0 where
   pub end : End
   pub ops : List Operation
 
-abbrev pub over : End → Run
-over e = record { end = e; ops = [] }
+abbrev pub end_at_once : End → Run
+end_at_once e = record { end = e; ops = [] }
 
-abbrev pub noted : List Operation → Run → Run
-noted os r = record { end = r.end; ops = os ++ r.ops }
+abbrev pub with_operations : List Operation → Run → Run
+with_operations os r = record { end = r.end; ops = os ++ r.ops }
 
-abbrev pub after : (List Todo → State → Run) → Step → Run
-after go (Goes os k s) = noted os (go k s)
-after go (Returns w v p used) = over (Returned w v p used)
-after go (Stops p) = over (Stopped p)
-after go Wants = over NeedsChoice
+abbrev pub run_after : (List Todo → State → Run) → Step → Run
+run_after go (Goes os k s) = with_operations os (go k s)
+run_after go (Returns w v p used) = end_at_once (Returned w v p used)
+run_after go (Stops p) = end_at_once (Stopped p)
+run_after go Wants = end_at_once NeedsChoice
 
 abbrev pub run_from : List Choice → ℕ → List Todo → State → Run
-run_from choices zero k s = over OutOfFuel
-run_from choices (suc fuel) k s = after (run_from choices fuel) (act choices k s)
+run_from choices zero k s = end_at_once OutOfFuel
+run_from choices (suc fuel) k s = run_after (run_from choices fuel) (act choices k s)
 
 -- ---- functions
 
-abbrev pub closing : stmt.Action → Pos
-closing (stmt.block_of p ss q) = q
-closing a = nowhere
+abbrev pub closing_brace : stmt.Action → Pos
+closing_brace (stmt.block p ss q) = q
+closing_brace a = nowhere
 
 abbrev pub start : ResolvedFunction → Entry → State
 start f entry = record {
@@ -110,7 +111,7 @@ start f entry = record {
 }
 
 abbrev pub body_of : ResolvedFunction → List Todo
-body_of f = ToExec f.body ∷ ToEnd (closing f.body) (is_void f.result) ∷ []
+body_of f = ToExec f.body ∷ ToEnd (closing_brace f.body) (is_void f.result) ∷ []
 
 abbrev pub run_of : ResolvedFunction → Entry → List Choice → ℕ → Run
 run_of f entry choices fuel = run_from choices fuel (body_of f) (start f entry)

@@ -1,11 +1,11 @@
 -- What remains to be done in a run, and where a run stands.
---   Loop                a loop's test, what it does behind its body, and its body
---   Operation           what a step does that can be told from outside: arithmetic and conversions with their operands,
+--   Loop                a loop's test, what it does after its body, and its body
+--   Operation           what a step does that can be seen from outside: arithmetic and conversions with their operands,
 --                       comparisons, loads and stores of slots, calls of the API; each with its place in the text
 --   Todo                a node that is to be done, or the remainder of a node
 --   State               the world, the places of the choices that were used, the locals, and the values that wait for their
 --                       operator, the newest first
---   Step                a step goes on, returns, stops at a place, or wants a choice that isn't there or isn't accepted
+--   Step                a step goes on, returns, stops at a place, or needs a choice that isn't there or isn't accepted
 --   listed, listed_values    the statements of a block, the arguments of a call
 use Rattle.std.specs.Prelude.{ℕ, ℤ, Bool, List, [], ◌∷◌, Option}
 use Rattle.pungi_base.specs.declared.names.Name.{Name}
@@ -25,7 +25,7 @@ use Rattle.pungi_meaning.specs.declared.cmp.Cmp.{Cmp}
 
 pub record Loop : Type 0 where
   pub test : Option expr.Value  -- none holds always
-  pub behind : Option expr.Value
+  pub increment : Option expr.Value
   pub body : stmt.Action
 
 pub data Operation : Type 0 where
@@ -41,7 +41,7 @@ pub data Todo : Type 0 where
   ToEval : expr.Value → Todo
   ToLoad : Pos → ValueKind → Name → Name → Todo  -- of `->`: its base waits
   ToOld : ValueKind → expr.Place → Todo  -- what a place that is written afterwards holds; the base of a field waits and stays
-  ToKeep : expr.Place → Todo  -- of `++` and `--` behind their operand: the old content is the value
+  ToKeep : expr.Place → Todo  -- of `++` and `--` after their operand: the old content is the value
   ToStep : Pos → Op → ValueKind → Todo  -- of `++` and `--`
   ToMinus : Pos → ValueKind → Todo
   ToCompute : Pos → Op → ValueKind → Todo
@@ -57,7 +57,7 @@ pub data Todo : Type 0 where
   -- statements
   ToExec : stmt.Action → Todo
   ToForget : Todo
-  ToReach : List stmt.Reached → Todo  -- of a declaration: the variables that are left
+  ToDeclare : List stmt.DeclaredLocal → Todo  -- of a declaration: the variables that are left
   ToBind : ℕ → Todo
   ToChoose : stmt.Action → Option stmt.Action → Todo
   ToJoin : Todo

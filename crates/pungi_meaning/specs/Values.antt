@@ -3,8 +3,8 @@
 --   fits k n              a number is in the range of an integer kind
 --   number_of v           a value as a number
 --   is_true v             a condition holds: a number that isn't 0, a pointer that isn't NULL (6.8.4.1)
---   truth b               the `int` that tells whether something holds (6.5.8, 6.5.9)
---   result_of o a b       what an operator gives where no range is asked; `/` cuts towards 0 (6.5.5)
+--   truth b               the `int` that says whether something holds (6.5.8, 6.5.9)
+--   result_of o a b       what an operator gives without regard to the range; `/` cuts towards 0 (6.5.5)
 --   is_undefined o b      a division by 0
 --   in_range k n          a number, where it is in range
 --   arithmetic o k a b    the result in a kind, where it has one
@@ -36,7 +36,7 @@ bits k = 63
 abbrev pub fits : ValueKind → ℤ → Bool
 fits k n = is_between (negsuc (2 ^ bits k - 1)) (pos (2 ^ bits k - 1)) n
 
--- a pointer is no number: that answer is of no use
+-- a pointer is no number: that result is never used
 abbrev pub number_of : Value → ℤ
 number_of (value.Int n) = n
 number_of v = pos 0

@@ -1,13 +1,13 @@
 // Arithmetic, comparisons and truth.
 ghost use Rattle.std.specs.Prelude.{◌≡◌, [], not, reverse, IfOk};
 ghost use Rattle.pungi_resolved.specs.ValueView.{value_view, place_view};
-ghost use Rattle.pungi_meaning.specs.Exprs.{keep as kept, minus as minus_step, step_one as one_step, compute as compute_step, compare as compare_step, fit as fit_step, right as right_step, is_wanted as is_wanted_side};
-ghost use Rattle.pungi_meaning.specs.Machine.{todos, state_of, Tells};
-ghost use Rattle.pungi_meaning.specs.Values.{arithmetic as arithmetic_result, number_of as value_number, truth as truth_value, is_true as is_true_value};
-ghost use Rattle.pungi_meaning.specs.Work.{top, below, for_two, left as goes_on};
+ghost use Rattle.pungi_meaning.specs.Exprs.{keep, minus, step_one, compute, compare, fit, right_side, is_wanted};
+ghost use Rattle.pungi_meaning.specs.Machine.{todos, state_of, Matches};
+ghost use Rattle.pungi_meaning.specs.Values.{arithmetic, number_of, truth, is_true};
+ghost use Rattle.pungi_meaning.specs.Work.{top, below, replace_two, go_on};
 
 use crate::cmp::number_of;
-use crate::expr::one;
+use crate::expr::evaluate_then;
 use crate::machine::{Ending, Machine};
 use crate::stack::take;
 use crate::task::Task;
@@ -18,7 +18,7 @@ use pungi_types::ValueKind;
 
 /// The newest value as a number, taken off.
 fn take_number(values: &mut Vec<Value>) -> i64
-    ensures value { result ≡ value_number (top (reverse values.old.items)) }
+    ensures value { result ≡ number_of (top (reverse values.old.items)) }
     ensures rest { reverse values.new.items ≡ below (reverse values.old.items) }
 {
     number_of(take(values))
@@ -26,7 +26,7 @@ fn take_number(values: &mut Vec<Value>) -> i64
 
 /// What an operator gives on the two newest values, which are taken off.
 fn combine(values: &mut Vec<Value>, op: Op, kind: ValueKind) -> Option<i64>
-    ensures value { result ≡ arithmetic_result op kind (value_number (top (below (reverse values.old.items)))) (value_number (top (reverse values.old.items))) }
+    ensures value { result ≡ arithmetic op kind (number_of (top (below (reverse values.old.items)))) (number_of (top (reverse values.old.items))) }
     ensures rest { reverse values.new.items ≡ below (below (reverse values.old.items)) }
 {
     let right = take_number(values);
@@ -36,7 +36,7 @@ fn combine(values: &mut Vec<Value>, op: Op, kind: ValueKind) -> Option<i64>
 
 /// An operator on the two newest values.
 pub fn compute(m: &mut Machine, pos: Pos, op: Op, kind: ValueKind) -> Result<Option<Ending>, Memory>
-    ensures { IfOk result (λ halt. Tells (compute_step pos op kind (value_number (top (below (reverse m.old.values.items)))) (value_number (top (reverse m.old.values.items))) (todos m.old.tasks.items) (state_of m.old)) halt m.new) }
+    ensures { IfOk result (λ halt. Matches (compute pos op kind (number_of (top (below (reverse m.old.values.items)))) (number_of (top (reverse m.old.values.items))) (todos m.old.tasks.items) (state_of m.old)) halt m.new) }
 {
     match combine(&mut m.values, op, kind) {
         Some(n) => {
@@ -54,7 +54,7 @@ pub fn step_one(
     op: Op,
     kind: ValueKind,
 ) -> Result<Option<Ending>, Memory>
-    ensures { IfOk result (λ halt. Tells (one_step pos op kind (value_number (top (reverse m.old.values.items))) (todos m.old.tasks.items) (state_of m.old)) halt m.new) }
+    ensures { IfOk result (λ halt. Matches (step_one pos op kind (number_of (top (reverse m.old.values.items))) (todos m.old.tasks.items) (state_of m.old)) halt m.new) }
 {
     let left = take_number(&mut m.values);
     match arithmetic(op, kind, left, 1) {
@@ -68,7 +68,7 @@ pub fn step_one(
 
 /// The newest value with the other sign.
 pub fn minus(m: &mut Machine, pos: Pos, kind: ValueKind) -> Result<Option<Ending>, Memory>
-    ensures { IfOk result (λ halt. Tells (minus_step pos kind (value_number (top (reverse m.old.values.items))) (todos m.old.tasks.items) (state_of m.old)) halt m.new) }
+    ensures { IfOk result (λ halt. Matches (minus pos kind (number_of (top (reverse m.old.values.items))) (todos m.old.tasks.items) (state_of m.old)) halt m.new) }
 {
     let right = take_number(&mut m.values);
     match arithmetic(Op::Sub, kind, 0, right) {
@@ -82,7 +82,7 @@ pub fn minus(m: &mut Machine, pos: Pos, kind: ValueKind) -> Result<Option<Ending
 
 /// The newest value in another kind.
 pub fn fit(m: &mut Machine, pos: Pos, kind: ValueKind) -> Result<Option<Ending>, Memory>
-    ensures { IfOk result (λ halt. Tells (fit_step pos kind (value_number (top (reverse m.old.values.items))) (todos m.old.tasks.items) (state_of m.old)) halt m.new) }
+    ensures { IfOk result (λ halt. Matches (fit pos kind (number_of (top (reverse m.old.values.items))) (todos m.old.tasks.items) (state_of m.old)) halt m.new) }
 {
     let n = take_number(&mut m.values);
     if fits(kind, n) {
@@ -95,7 +95,7 @@ pub fn fit(m: &mut Machine, pos: Pos, kind: ValueKind) -> Result<Option<Ending>,
 
 /// A comparison of the two newest values.
 pub fn compare(m: &mut Machine, pos: Pos, cmp: Cmp) -> Result<Option<Ending>, Memory>
-    ensures { IfOk result (λ halt. Tells (compare_step pos cmp (top (below (reverse m.old.values.items))) (top (reverse m.old.values.items)) (todos m.old.tasks.items) (state_of m.old)) halt m.new) }
+    ensures { IfOk result (λ halt. Matches (compare pos cmp (top (below (reverse m.old.values.items))) (top (reverse m.old.values.items)) (todos m.old.tasks.items) (state_of m.old)) halt m.new) }
 {
     let right = take(&mut m.values);
     let left = take(&mut m.values);
@@ -105,7 +105,7 @@ pub fn compare(m: &mut Machine, pos: Pos, cmp: Cmp) -> Result<Option<Ending>, Me
 
 /// The newest value is false, in place of the two newest.
 pub fn negate(m: &mut Machine) -> Result<Option<Ending>, Memory>
-    ensures { IfOk result (λ halt. Tells (for_two [] (truth_value (not (is_true_value (top (reverse m.old.values.items))))) (todos m.old.tasks.items) (state_of m.old)) halt m.new) }
+    ensures { IfOk result (λ halt. Matches (replace_two [] (truth (not (is_true (top (reverse m.old.values.items))))) (todos m.old.tasks.items) (state_of m.old)) halt m.new) }
 {
     let value = take(&mut m.values);
     take(&mut m.values);
@@ -115,7 +115,7 @@ pub fn negate(m: &mut Machine) -> Result<Option<Ending>, Memory>
 
 /// The newest value is true, in place of the two newest.
 pub fn to_truth(m: &mut Machine) -> Result<Option<Ending>, Memory>
-    ensures { IfOk result (λ halt. Tells (for_two [] (truth_value (is_true_value (top (reverse m.old.values.items)))) (todos m.old.tasks.items) (state_of m.old)) halt m.new) }
+    ensures { IfOk result (λ halt. Matches (replace_two [] (truth (is_true (top (reverse m.old.values.items)))) (todos m.old.tasks.items) (state_of m.old)) halt m.new) }
 {
     let value = take(&mut m.values);
     take(&mut m.values);
@@ -124,25 +124,29 @@ pub fn to_truth(m: &mut Machine) -> Result<Option<Ending>, Memory>
 }
 
 fn is_wanted(on: bool, left: bool) -> bool
-    ensures { result ≡ is_wanted_side on left }
+    ensures { result ≡ is_wanted on left }
 {
     if on { left } else { !left }
 }
 
 /// The right side of `&&` or `||`, where it is wanted.
-pub fn right<'a>(m: &mut Machine<'a>, on: bool, part: &'a Node) -> Result<Option<Ending>, Memory>
-    ensures { IfOk result (λ halt. Tells (right_step on (top (reverse m.old.values.items)) (value_view part.now) (todos m.old.tasks.items) (state_of m.old)) halt m.new) }
+pub fn right_side<'a>(
+    m: &mut Machine<'a>,
+    on: bool,
+    part: &'a Node,
+) -> Result<Option<Ending>, Memory>
+    ensures { IfOk result (λ halt. Matches (right_side on (top (reverse m.old.values.items)) (value_view part.now) (todos m.old.tasks.items) (state_of m.old)) halt m.new) }
 {
     if is_wanted(on, is_true(take(&mut m.values))) {
-        one(m, Task::Truth, part)
+        evaluate_then(m, Task::Truth, part)
     } else {
         Ok(None)
     }
 }
 
-/// The old content goes to where the value of `++` or `--` behind its operand waits.
+/// The old content goes to where the value of `++` or `--` after its operand waits.
 pub fn keep(m: &mut Machine, place: &Place) -> Result<Option<Ending>, Memory>
-    ensures { IfOk result (λ halt. Tells (goes_on (todos m.old.tasks.items) (record (state_of m.old) { values = kept (place_view place.now) (reverse m.old.values.items) })) halt m.new) }
+    ensures { IfOk result (λ halt. Matches (go_on (todos m.old.tasks.items) (record (state_of m.old) { values = keep (place_view place.now) (reverse m.old.values.items) })) halt m.new) }
 {
     let old = take(&mut m.values);
     match place {

@@ -1,12 +1,12 @@
 // Calls of the API.
 ghost use Rattle.std.specs.Prelude.{◌≡◌, ◌<◌, [], drop, length, map, reverse, slice_get, IfOk, OnOk, MatchOption, None, Some};
 ghost use Rattle.pungi_resolved.specs.ValueView.{value_view};
-ghost use Rattle.pungi_world.specs.Calls.{is_told_form};
-ghost use Rattle.pungi_meaning.specs.Exprs.{call as call_step, next_arg as next_arg_step};
-ghost use Rattle.pungi_meaning.specs.Machine.{todos, state_of, Tells};
+ghost use Rattle.pungi_world.specs.Calls.{is_defined_form};
+ghost use Rattle.pungi_meaning.specs.Exprs.{call as call_step, next_arg};
+ghost use Rattle.pungi_meaning.specs.Machine.{todos, state_of, Matches};
 ghost use Rattle.pungi_meaning.specs.Work.{newest};
 
-use crate::expr::one;
+use crate::expr::evaluate_then;
 use crate::machine::{Ending, Machine};
 use crate::stack::{note_used, unused};
 use crate::task::Task;
@@ -16,9 +16,9 @@ use pungi_resolved::Value as Node;
 use pungi_world::{ApiCall, Halt};
 use std::alloc::Global;
 
-/// Whether the effect of a row of this form is told.
-pub fn is_told(form: Form) -> bool
-    ensures { result ≡ is_told_form form }
+/// Whether the effect of a row of this form is defined.
+pub fn is_defined_form(form: Form) -> bool
+    ensures { result ≡ is_defined_form form }
 {
     match form {
         Form::Plain => true,
@@ -55,9 +55,9 @@ fn call(
     shape: &Shape,
     count: usize,
 ) -> Result<Option<Ending>, Memory>
-    ensures { IfOk result (λ halt. Tells (call_step choices.now pos shape.now.row count (todos m.old.tasks.items) (state_of m.old)) halt m.new) }
+    ensures { IfOk result (λ halt. Matches (call_step choices.now pos shape.now.row count (todos m.old.tasks.items) (state_of m.old)) halt m.new) }
 {
-    if !is_told(shape.row.form) {
+    if !is_defined_form(shape.row.form) {
         return Ok(Some(Ending::Stop(pos)));
     }
     let args = take_newest(alloc, &mut m.values, count)?;
@@ -94,9 +94,9 @@ fn go_on<'a>(
     arg: &'a Node,
 ) -> Result<Option<Ending>, Memory>
     requires { i < length args.now }
-    ensures { IfOk result (λ halt. Tells (next_arg_step [] pos shape.now.row (map value_view args.now) i (Some (value_view arg.now)) (todos m.old.tasks.items) (state_of m.old)) halt m.new) }
+    ensures { IfOk result (λ halt. Matches (next_arg [] pos shape.now.row (map value_view args.now) i (Some (value_view arg.now)) (todos m.old.tasks.items) (state_of m.old)) halt m.new) }
 {
-    one(m, Task::Args(pos, shape, args, i + 1), arg)
+    evaluate_then(m, Task::Args(pos, shape, args, i + 1), arg)
 }
 
 /// The next argument of a call, or the call.
@@ -110,7 +110,7 @@ pub fn next_arg<'a>(
     args: &'a [Node],
     i: usize,
 ) -> Result<Option<Ending>, Memory>
-    ensures { IfOk result (λ halt. Tells (next_arg_step choices.now pos shape.now.row (map value_view args.now) i (slice_get (map value_view args.now) i) (todos m.old.tasks.items) (state_of m.old)) halt m.new) }
+    ensures { IfOk result (λ halt. Matches (next_arg choices.now pos shape.now.row (map value_view args.now) i (slice_get (map value_view args.now) i) (todos m.old.tasks.items) (state_of m.old)) halt m.new) }
 {
     match arg_at(args, i) {
         Some(arg) => go_on(m, pos, shape, args, i, arg),

@@ -1,5 +1,5 @@
 ghost use Rattle.std.specs.Prelude.{◌≡◌};
-ghost use Rattle.pungi_meaning.specs.Values.{cmp_of as named_cmp, is_equal as is_equal_value, holds as comparison_holds, number_of as value_number};
+ghost use Rattle.pungi_meaning.specs.Values.{cmp_of, is_equal, holds as comparison_holds, number_of};
 
 use pungi_base::{Punct, Value};
 
@@ -17,7 +17,7 @@ pub enum Cmp {
 impl Cmp {
     /// The comparison that a punctuator stands for.
     pub fn of(punct: Punct) -> Cmp
-        ensures { result ≡ named_cmp punct }
+        ensures { result ≡ cmp_of punct }
     {
         match punct {
             Punct::NotEqual => Cmp::NotEqual,
@@ -29,7 +29,7 @@ impl Cmp {
         }
     }
 
-    /// Whether two values compare so. Of two pointers only equality tells anything: each other comparison
+    /// Whether two values compare so. Of two pointers only equality says anything: each other comparison
     /// takes them as 0.
     pub fn holds(self, left: Value, right: Value) -> bool
         ensures { result ≡ comparison_holds self left right }
@@ -46,7 +46,7 @@ impl Cmp {
 }
 
 fn is_equal(left: Value, right: Value) -> bool
-    ensures { result ≡ is_equal_value left right }
+    ensures { result ≡ is_equal left right }
 {
     match (left, right) {
         (Value::Int(a), Value::Int(b)) => a == b,
@@ -57,9 +57,9 @@ fn is_equal(left: Value, right: Value) -> bool
     }
 }
 
-/// A value as a number. A pointer is none, and counts as 0.
+/// A value as a number. A pointer is no number, and counts as 0.
 pub fn number_of(value: Value) -> i64
-    ensures { result ≡ value_number value }
+    ensures { result ≡ number_of value }
 {
     match value {
         Value::Int(n) => n,

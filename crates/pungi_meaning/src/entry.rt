@@ -1,7 +1,7 @@
 // The entries of a function.
 ghost use Rattle.std.specs.Prelude.{◌≡◌, Some};
-ghost use Rattle.pungi_types.specs.Operators.{is_integer as is_integer_kind, is_object as is_object_kind};
-ghost use Rattle.pungi_meaning.specs.Entries.{fits_kind as fits_kind_of, fits_param as fits_param_of, fit_params as fit_params_of, entry_fits};
+ghost use Rattle.pungi_types.specs.Operators.{is_integer, is_object};
+ghost use Rattle.pungi_meaning.specs.Entries.{fits_kind, fits_param, fit_params, entry_fits};
 
 use crate::fits;
 use pungi_base::{Entry, Value};
@@ -9,7 +9,7 @@ use pungi_resolved::Function;
 use pungi_types::ValueKind;
 
 fn is_integer(kind: ValueKind) -> bool
-    ensures { result ≡ is_integer_kind (Some kind) }
+    ensures { result ≡ is_integer (Some kind) }
 {
     match kind {
         ValueKind::Int | ValueKind::Long | ValueKind::Size => true,
@@ -18,7 +18,7 @@ fn is_integer(kind: ValueKind) -> bool
 }
 
 fn is_object(kind: ValueKind) -> bool
-    ensures { result ≡ is_object_kind (Some kind) }
+    ensures { result ≡ is_object (Some kind) }
 {
     match kind {
         ValueKind::Object(_) => true,
@@ -28,7 +28,7 @@ fn is_object(kind: ValueKind) -> bool
 
 /// A value is one of this kind, where there are so many objects.
 fn fits_kind(objects: u32, kind: ValueKind, value: Value) -> bool
-    ensures { result ≡ fits_kind_of objects kind value }
+    ensures { result ≡ fits_kind objects kind value }
 {
     match value {
         Value::Int(n) => is_integer(kind) && fits(kind, n),
@@ -45,7 +45,7 @@ fn fits_kind(objects: u32, kind: ValueKind, value: Value) -> bool
 }
 
 fn fits_param(objects: u32, param: Option<ValueKind>, value: Value) -> bool
-    ensures { result ≡ fits_param_of objects param value }
+    ensures { result ≡ fits_param objects param value }
 {
     match param {
         Some(kind) => fits_kind(objects, kind, value),
@@ -56,7 +56,7 @@ fn fits_param(objects: u32, param: Option<ValueKind>, value: Value) -> bool
 /// One value of its kind for each parameter.
 #[tactic(auto, using(crate::proofs::LocalLemmas::fit_step, crate::proofs::LocalLemmas::fit_lengths, crate::proofs::LocalLemmas::fit_end))]
 fn fit_params(objects: u32, params: &[Option<ValueKind>], args: &[Value]) -> bool
-    ensures { result ≡ fit_params_of objects params.now args.now }
+    ensures { result ≡ fit_params objects params.now args.now }
 {
     if params.len() != args.len() {
         return false;

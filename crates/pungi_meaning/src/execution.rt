@@ -1,16 +1,16 @@
 // The run of a function.
 ghost use Rattle.std.specs.Prelude.{◌≡◌, ◌∷◌, ◌+◌, ◌++◌, [], IfOk, OnOk, map, replicate};
 ghost use Rattle.pungi_resolved.specs.ActionView.{action_view, function_view};
-ghost use Rattle.pungi_types.specs.Operators.{is_void as is_void_kind};
+ghost use Rattle.pungi_types.specs.Operators.{is_void};
 ghost use Rattle.pungi_world.specs.declared.content.Content.TheVariants.{Unset as UnsetContent, Holds as HoldsContent};
 ghost use Rattle.pungi_meaning.specs.Machine.{todos, state_of};
 ghost use Rattle.pungi_meaning.specs.Outcomes.{end_of, end_at, end_after, IsCounted};
-ghost use Rattle.pungi_meaning.specs.Run.{closing as closing_of, start, run_from, run_of};
+ghost use Rattle.pungi_meaning.specs.Run.{closing_brace, start, run_from, run_of};
 ghost use Rattle.pungi_meaning.specs.Todo.{ToEnd, ToExec};
 
 use crate::Outcome;
 use crate::counted_world::CountedWorld;
-use crate::expr::later;
+use crate::expr::do_first;
 use crate::machine::{Ending, Machine};
 use crate::step::step;
 use crate::task::Task;
@@ -21,7 +21,7 @@ use pungi_world::Content;
 use std::alloc::Global;
 
 fn is_void(kind: Option<ValueKind>) -> bool
-    ensures { result ≡ is_void_kind kind }
+    ensures { result ≡ is_void kind }
 {
     match kind {
         Some(ValueKind::Void) => true,
@@ -30,8 +30,8 @@ fn is_void(kind: Option<ValueKind>) -> bool
 }
 
 /// The closing brace of a function's body.
-fn closing(body: &Action) -> Pos
-    ensures { result ≡ closing_of (action_view body.now) }
+fn closing_brace(body: &Action) -> Pos
+    ensures { result ≡ closing_brace (action_view body.now) }
 {
     match &body.node {
         ActionNode::Block(_, brace) => *brace,
@@ -40,7 +40,7 @@ fn closing(body: &Action) -> Pos
 }
 
 /// The parameters hold the arguments.
-pub fn held(alloc: Global, args: &[Value]) -> Result<Vec<Content>, Memory>
+pub fn argument_locals(alloc: Global, args: &[Value]) -> Result<Vec<Content>, Memory>
     ensures { IfOk result (λ locals. locals.items ≡ map HoldsContent args.now) }
 {
     let mut locals = Vec::new(alloc);
@@ -66,7 +66,7 @@ fn begin<'a>(alloc: Global, f: &Function, entry: &Entry) -> Result<Machine<'a>, 
     ensures todos { IfOk result (λ m. todos m.tasks.items ≡ []) }
     ensures state { IfOk result (λ m. state_of m ≡ start (function_view f.now) entry.now) }
 {
-    let mut locals = held(alloc, entry.args.as_slice())?;
+    let mut locals = argument_locals(alloc, entry.args.as_slice())?;
     let unset = f.locals.saturating_sub(entry.args.len());
     add_unset(&mut locals, unset)?;
     let world = CountedWorld::start(alloc, entry)?;
@@ -104,15 +104,15 @@ fn do_body<'a>(
     choices: &[Choice],
     fuel: u32,
 ) -> Result<Option<Ending>, Memory>
-    ensures { IfOk result (λ ending. end_after ending m.new ≡ (run_from choices.now fuel (ToExec (action_view f.now.body) ∷ ToEnd (closing_of (action_view f.now.body)) (is_void_kind f.now.result) ∷ todos m.old.tasks.items) (state_of m.old)).end) }
+    ensures { IfOk result (λ ending. end_after ending m.new ≡ (run_from choices.now fuel (ToExec (action_view f.now.body) ∷ ToEnd (closing_brace (action_view f.now.body)) (is_void f.now.result) ∷ todos m.old.tasks.items) (state_of m.old)).end) }
 {
-    later(m, Task::End(closing(&f.body), is_void(f.result)))?;
-    later(m, Task::Exec(&f.body))?;
+    do_first(m, Task::End(closing_brace(&f.body), is_void(f.result)))?;
+    do_first(m, Task::Exec(&f.body))?;
     go(m, alloc, choices, fuel)
 }
 
 /// The outcome of a run that ends here.
-fn ended(m: Machine, ending: Ending) -> Outcome
+fn end_at(m: Machine, ending: Ending) -> Outcome
     ensures end { end_of result ≡ end_at ending m.entry }
     ensures counted { IsCounted result }
 {
@@ -128,7 +128,7 @@ fn ended(m: Machine, ending: Ending) -> Outcome
     }
 }
 
-/// Runs a function from an entry, for at most `fuel` steps, with these answers of the outside (C11 5.1.2.3, 6.5, 6.8). The
+/// Runs a function from an entry, for at most `fuel` steps, with these choices (C11 5.1.2.3, 6.5, 6.8). The
 /// world that it returns can be counted.
 pub fn run(
     alloc: Global,
@@ -142,7 +142,7 @@ pub fn run(
 {
     let mut m = begin(alloc, f, entry)?;
     match do_body(&mut m, alloc, f, choices, fuel)? {
-        Some(ending) => Ok(ended(m, ending)),
+        Some(ending) => Ok(end_at(m, ending)),
         None => Ok(Outcome::OutOfFuel),
     }
 }

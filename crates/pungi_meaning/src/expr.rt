@@ -1,11 +1,11 @@
 // Expressions.
 ghost use Rattle.std.specs.Prelude.{◌≡◌, ◌∷◌, IfOk, OnOk, None, Some, map};
 ghost use Rattle.pungi_resolved.specs.ValueView.{value_view, values_of, place_view};
-ghost use Rattle.pungi_types.specs.Operators.{is_same_kind as is_one_kind};
+ghost use Rattle.pungi_types.specs.Operators.{is_same_kind};
 ghost use Rattle.pungi_meaning.specs.Todo.{ToArgs, ToCompute, ToEval, ToOld, ToStore, listed_values};
-ghost use Rattle.pungi_meaning.specs.Machine.{todo_of, todos, state_of, Tells};
-ghost use Rattle.pungi_meaning.specs.Work.{given};
-ghost use Rattle.pungi_meaning.specs.Exprs.{before as before_place, converting, signing, stepping, is_and as is_and_mark, step_op as op_of_step, evaluate as evaluated, fetch as fetched, step_place as place_stepped};
+ghost use Rattle.pungi_meaning.specs.Machine.{todo_of, todos, state_of, Matches};
+ghost use Rattle.pungi_meaning.specs.Work.{push_value};
+ghost use Rattle.pungi_meaning.specs.Exprs.{base_first, convert, sign, step, is_and, step_op, evaluate, fetch, step_place};
 
 use crate::machine::{Ending, Machine};
 use crate::slot::load_old;
@@ -18,7 +18,7 @@ use pungi_types::ValueKind;
 use std::alloc::Global;
 
 fn is_same_kind(a: ValueKind, b: ValueKind) -> bool
-    ensures { result ≡ is_one_kind (Some a) (Some b) }
+    ensures { result ≡ is_same_kind (Some a) (Some b) }
 {
     match (a, b) {
         (ValueKind::Int, ValueKind::Int) => true,
@@ -29,7 +29,7 @@ fn is_same_kind(a: ValueKind, b: ValueKind) -> bool
 }
 
 fn is_and(mark: Punct) -> bool
-    ensures { result ≡ is_and_mark mark }
+    ensures { result ≡ is_and mark }
 {
     match mark {
         Punct::AndAnd => true,
@@ -38,7 +38,7 @@ fn is_and(mark: Punct) -> bool
 }
 
 fn step_op(mark: Kind) -> Op
-    ensures { result ≡ op_of_step mark }
+    ensures { result ≡ step_op mark }
 {
     match mark {
         Kind::Punct(punct) => Op::of(punct),
@@ -47,15 +47,15 @@ fn step_op(mark: Kind) -> Op
 }
 
 /// One value more waits.
-pub fn give(m: &mut Machine, value: Value) -> Result<Option<Ending>, Memory>
-    ensures { IfOk result (λ halt. Tells (given value (todos m.old.tasks.items) (state_of m.old)) halt m.new) }
+pub fn push_value(m: &mut Machine, value: Value) -> Result<Option<Ending>, Memory>
+    ensures { IfOk result (λ halt. Matches (push_value value (todos m.old.tasks.items) (state_of m.old)) halt m.new) }
 {
     m.values.push(value)?;
     Ok(None)
 }
 
 /// One thing more comes first.
-pub fn push<'a>(tasks: &mut Vec<Task<'a>>, task: Task<'a>) -> Result<(), Memory>
+pub fn push_task<'a>(tasks: &mut Vec<Task<'a>>, task: Task<'a>) -> Result<(), Memory>
     ensures { OnOk result (todos tasks.new.items ≡ todo_of task.entry ∷ todos tasks.old.items) }
 {
     tasks.push(task)?;
@@ -63,17 +63,17 @@ pub fn push<'a>(tasks: &mut Vec<Task<'a>>, task: Task<'a>) -> Result<(), Memory>
 }
 
 /// One thing more comes first, and the run goes on.
-pub fn later<'a>(m: &mut Machine<'a>, task: Task<'a>) -> Result<Option<Ending>, Memory>
+pub fn do_first<'a>(m: &mut Machine<'a>, task: Task<'a>) -> Result<Option<Ending>, Memory>
     ensures goes { IfOk result (λ halt. halt ≡ None) }
     ensures todos { OnOk result (todos m.new.tasks.items ≡ todo_of task.entry ∷ todos m.old.tasks.items) }
     ensures state { OnOk result (state_of m.new ≡ state_of m.old) }
 {
-    push(&mut m.tasks, task)?;
+    push_task(&mut m.tasks, task)?;
     Ok(None)
 }
 
-/// A part, and what comes behind it.
-pub fn one<'a>(
+/// A part, and what comes after it.
+pub fn evaluate_then<'a>(
     m: &mut Machine<'a>,
     then: Task<'a>,
     part: &'a Node,
@@ -82,12 +82,12 @@ pub fn one<'a>(
     ensures todos { OnOk result (todos m.new.tasks.items ≡ ToEval (value_view part.now) ∷ todo_of then.entry ∷ todos m.old.tasks.items) }
     ensures state { OnOk result (state_of m.new ≡ state_of m.old) }
 {
-    later(m, then)?;
-    later(m, Task::Eval(part))
+    do_first(m, then)?;
+    do_first(m, Task::Eval(part))
 }
 
-/// Two parts, from left to right, and what comes behind them.
-fn two<'a>(
+/// Two parts, from left to right, and what comes after them.
+fn evaluate_two_then<'a>(
     m: &mut Machine<'a>,
     then: Task<'a>,
     left: &'a Node,
@@ -97,31 +97,31 @@ fn two<'a>(
     ensures todos { OnOk result (todos m.new.tasks.items ≡ ToEval (value_view left.now) ∷ ToEval (value_view right.now) ∷ todo_of then.entry ∷ todos m.old.tasks.items) }
     ensures state { OnOk result (state_of m.new ≡ state_of m.old) }
 {
-    one(m, then, right)?;
-    later(m, Task::Eval(left))
+    evaluate_then(m, then, right)?;
+    do_first(m, Task::Eval(left))
 }
 
 /// A value waits, and a part comes in front of what is made of both.
-fn beside<'a>(
+fn push_and_evaluate<'a>(
     m: &mut Machine<'a>,
     value: Value,
     then: Task<'a>,
     part: &'a Node,
 ) -> Result<Option<Ending>, Memory>
-    ensures { IfOk result (λ halt. Tells (given value (ToEval (value_view part.now) ∷ todo_of then.entry ∷ todos m.old.tasks.items) (state_of m.old)) halt m.new) }
+    ensures { IfOk result (λ halt. Matches (push_value value (ToEval (value_view part.now) ∷ todo_of then.entry ∷ todos m.old.tasks.items) (state_of m.old)) halt m.new) }
 {
     m.values.push(value)?;
-    one(m, then, part)
+    evaluate_then(m, then, part)
 }
 
 /// The base of a field comes first.
-fn before<'a>(m: &mut Machine<'a>, place: &'a Place) -> Result<Option<Ending>, Memory>
+fn base_first<'a>(m: &mut Machine<'a>, place: &'a Place) -> Result<Option<Ending>, Memory>
     ensures goes { IfOk result (λ halt. halt ≡ None) }
-    ensures todos { OnOk result (todos m.new.tasks.items ≡ before_place (place_view place.now) (todos m.old.tasks.items)) }
+    ensures todos { OnOk result (todos m.new.tasks.items ≡ base_first (place_view place.now) (todos m.old.tasks.items)) }
     ensures state { OnOk result (state_of m.new ≡ state_of m.old) }
 {
     match place {
-        Place::Field(_, base, _, _) => later(m, Task::Eval(base)),
+        Place::Field(_, base, _, _) => do_first(m, Task::Eval(base)),
         _ => Ok(None),
     }
 }
@@ -134,18 +134,18 @@ fn convert(
     from: ValueKind,
 ) -> Result<Option<Ending>, Memory>
     ensures goes { IfOk result (λ halt. halt ≡ None) }
-    ensures todos { OnOk result (todos m.new.tasks.items ≡ converting pos to from (todos m.old.tasks.items)) }
+    ensures todos { OnOk result (todos m.new.tasks.items ≡ convert pos to from (todos m.old.tasks.items)) }
     ensures state { OnOk result (state_of m.new ≡ state_of m.old) }
 {
     if is_same_kind(to, from) {
         Ok(None)
     } else {
-        later(m, Task::Fit(pos, to))
+        do_first(m, Task::Fit(pos, to))
     }
 }
 
 /// A part with a sign. A minus does something, a plus does nothing.
-fn signed<'a>(
+fn evaluate_signed<'a>(
     m: &mut Machine<'a>,
     pos: Pos,
     mark: Kind,
@@ -153,12 +153,12 @@ fn signed<'a>(
     part: &'a Node,
 ) -> Result<Option<Ending>, Memory>
     ensures goes { IfOk result (λ halt. halt ≡ None) }
-    ensures todos { OnOk result (todos m.new.tasks.items ≡ ToEval (value_view part.now) ∷ signing pos mark kind (todos m.old.tasks.items)) }
+    ensures todos { OnOk result (todos m.new.tasks.items ≡ ToEval (value_view part.now) ∷ sign pos mark kind (todos m.old.tasks.items)) }
     ensures state { OnOk result (state_of m.new ≡ state_of m.old) }
 {
     match mark {
-        Kind::Punct(Punct::Minus) => one(m, Task::Minus(pos, kind), part),
-        _ => later(m, Task::Eval(part)),
+        Kind::Punct(Punct::Minus) => evaluate_then(m, Task::Minus(pos, kind), part),
+        _ => do_first(m, Task::Eval(part)),
     }
 }
 
@@ -170,11 +170,11 @@ fn fetch<'a>(
     kind: ValueKind,
     place: &'a Place,
 ) -> Result<Option<Ending>, Memory>
-    ensures { IfOk result (λ halt. Tells (fetched choices.now kind (place_view place.now) (todos m.old.tasks.items) (state_of m.old)) halt m.new) }
+    ensures { IfOk result (λ halt. Matches (fetch choices.now kind (place_view place.now) (todos m.old.tasks.items) (state_of m.old)) halt m.new) }
 {
     match place {
         Place::Field(pos, base, tag, field) => {
-            one(m, Task::Load(*pos, kind, *tag, *field), base)
+            evaluate_then(m, Task::Load(*pos, kind, *tag, *field), base)
         }
         _ => load_old(m, alloc, choices, kind, place),
     }
@@ -189,12 +189,12 @@ fn step<'a>(
     place: &'a Place,
 ) -> Result<Option<Ending>, Memory>
     ensures goes { IfOk result (λ halt. halt ≡ None) }
-    ensures todos { OnOk result (todos m.new.tasks.items ≡ stepping pos mark kind (place_view place.now) (todos m.old.tasks.items)) }
+    ensures todos { OnOk result (todos m.new.tasks.items ≡ step pos mark kind (place_view place.now) (todos m.old.tasks.items)) }
     ensures state { OnOk result (state_of m.new ≡ state_of m.old) }
 {
-    later(m, Task::Store(kind, place))?;
+    do_first(m, Task::Store(kind, place))?;
     convert(m, pos, kind, wide(kind))?;
-    later(m, Task::Step(pos, step_op(mark), wide(kind)))
+    do_first(m, Task::Step(pos, step_op(mark), wide(kind)))
 }
 
 /// What a place holds is wanted before it is written.
@@ -204,29 +204,29 @@ fn look_first<'a>(
     place: &'a Place,
 ) -> Result<Option<Ending>, Memory>
     ensures goes { IfOk result (λ halt. halt ≡ None) }
-    ensures todos { OnOk result (todos m.new.tasks.items ≡ before_place (place_view place.now) (ToOld kind (place_view place.now) ∷ todos m.old.tasks.items)) }
+    ensures todos { OnOk result (todos m.new.tasks.items ≡ base_first (place_view place.now) (ToOld kind (place_view place.now) ∷ todos m.old.tasks.items)) }
     ensures state { OnOk result (state_of m.new ≡ state_of m.old) }
 {
-    later(m, Task::Old(kind, place))?;
-    before(m, place)
+    do_first(m, Task::Old(kind, place))?;
+    base_first(m, place)
 }
 
 /// `++` and `--`.
 fn step_place<'a>(
     m: &mut Machine<'a>,
-    behind: bool,
+    is_postfix: bool,
     pos: Pos,
     mark: Kind,
     kind: ValueKind,
     place: &'a Place,
 ) -> Result<Option<Ending>, Memory>
-    ensures { IfOk result (λ halt. Tells (place_stepped behind pos mark kind (place_view place.now) (todos m.old.tasks.items) (state_of m.old)) halt m.new) }
+    ensures { IfOk result (λ halt. Matches (step_place is_postfix pos mark kind (place_view place.now) (todos m.old.tasks.items) (state_of m.old)) halt m.new) }
 {
-    if behind {
+    if is_postfix {
         m.values.push(Value::Int(0))?;
-        later(m, Task::Pop)?;
+        do_first(m, Task::Pop)?;
         step(m, pos, mark, kind, place)?;
-        later(m, Task::Keep(place))?;
+        do_first(m, Task::Keep(place))?;
     } else {
         step(m, pos, mark, kind, place)?;
     }
@@ -241,11 +241,11 @@ fn assign<'a>(
     part: &'a Node,
 ) -> Result<Option<Ending>, Memory>
     ensures goes { IfOk result (λ halt. halt ≡ None) }
-    ensures todos { OnOk result (todos m.new.tasks.items ≡ before_place (place_view place.now) (ToEval (value_view part.now) ∷ ToStore kind (place_view place.now) ∷ todos m.old.tasks.items)) }
+    ensures todos { OnOk result (todos m.new.tasks.items ≡ base_first (place_view place.now) (ToEval (value_view part.now) ∷ ToStore kind (place_view place.now) ∷ todos m.old.tasks.items)) }
     ensures state { OnOk result (state_of m.new ≡ state_of m.old) }
 {
-    one(m, Task::Store(kind, place), part)?;
-    before(m, place)
+    evaluate_then(m, Task::Store(kind, place), part)?;
+    base_first(m, place)
 }
 
 /// `+=` and its kin.
@@ -259,12 +259,12 @@ fn update<'a>(
     part: &'a Node,
 ) -> Result<Option<Ending>, Memory>
     ensures goes { IfOk result (λ halt. halt ≡ None) }
-    ensures todos { OnOk result (todos m.new.tasks.items ≡ before_place (place_view place.now) (ToOld kind (place_view place.now) ∷ ToEval (value_view part.now) ∷ ToCompute pos op counted ∷ converting pos kind counted (ToStore kind (place_view place.now) ∷ todos m.old.tasks.items))) }
+    ensures todos { OnOk result (todos m.new.tasks.items ≡ base_first (place_view place.now) (ToOld kind (place_view place.now) ∷ ToEval (value_view part.now) ∷ ToCompute pos op counted ∷ convert pos kind counted (ToStore kind (place_view place.now) ∷ todos m.old.tasks.items))) }
     ensures state { OnOk result (state_of m.new ≡ state_of m.old) }
 {
-    later(m, Task::Store(kind, place))?;
+    do_first(m, Task::Store(kind, place))?;
     convert(m, pos, kind, counted)?;
-    one(m, Task::Compute(pos, op, counted), part)?;
+    evaluate_then(m, Task::Compute(pos, op, counted), part)?;
     look_first(m, kind, place)
 }
 
@@ -279,7 +279,7 @@ fn prepare<'a>(
     ensures todos { OnOk result (todos m.new.tasks.items ≡ ToArgs pos shape.now.row (listed_values (values_of (map value_view args.now))) 0 ∷ todos m.old.tasks.items) }
     ensures state { OnOk result (state_of m.new ≡ state_of m.old) }
 {
-    later(m, Task::Args(pos, shape, args, 0))
+    do_first(m, Task::Args(pos, shape, args, 0))
 }
 
 /// An expression is evaluated, or leaves its parts and its remainder.
@@ -289,36 +289,38 @@ pub fn evaluate<'a>(
     choices: &[Choice],
     node: &'a Node,
 ) -> Result<Option<Ending>, Memory>
-    ensures { IfOk result (λ halt. Tells (evaluated choices.now (value_view node.now) (todos m.old.tasks.items) (state_of m.old)) halt m.new) }
+    ensures { IfOk result (λ halt. Matches (evaluate choices.now (value_view node.now) (todos m.old.tasks.items) (state_of m.old)) halt m.new) }
 {
     match &node.node {
-        ValueNode::Constant(n) => give(m, Value::Int(*n)),
-        ValueNode::Text(_) => give(m, Value::Text),
-        ValueNode::Null => give(m, Value::Null),
-        ValueNode::Static(n) => give(m, Value::Object(*n)),
-        ValueNode::Module(_) => give(m, Value::Text),
+        ValueNode::Constant(n) => push_value(m, Value::Int(*n)),
+        ValueNode::Text(_) => push_value(m, Value::Text),
+        ValueNode::Null => push_value(m, Value::Null),
+        ValueNode::Static(n) => push_value(m, Value::Object(*n)),
+        ValueNode::Module(_) => push_value(m, Value::Text),
         ValueNode::Read(kind, place) => fetch(m, alloc, choices, *kind, place),
-        ValueNode::Inner(part) => later(m, Task::Eval(part)),
-        ValueNode::Signed(mark, kind, part) => signed(m, node.pos, *mark, *kind, part),
-        ValueNode::Negated(part) => beside(m, Value::Int(1), Task::Negate, part),
-        ValueNode::Stepped(behind, mark, kind, place) => {
-            step_place(m, *behind, node.pos, *mark, *kind, place)
+        ValueNode::Inner(part) => do_first(m, Task::Eval(part)),
+        ValueNode::Signed(mark, kind, part) => evaluate_signed(m, node.pos, *mark, *kind, part),
+        ValueNode::Negated(part) => push_and_evaluate(m, Value::Int(1), Task::Negate, part),
+        ValueNode::Stepped(is_postfix, mark, kind, place) => {
+            step_place(m, *is_postfix, node.pos, *mark, *kind, place)
         }
         ValueNode::Computed(mark, kind, a, b) => {
-            two(m, Task::Compute(node.pos, Op::of(*mark), *kind), a, b)
+            evaluate_two_then(m, Task::Compute(node.pos, Op::of(*mark), *kind), a, b)
         }
-        ValueNode::Compared(mark, a, b) => { two(m, Task::Compare(node.pos, Cmp::of(*mark)), a, b) }
+        ValueNode::Compared(mark, a, b) => {
+            evaluate_two_then(m, Task::Compare(node.pos, Cmp::of(*mark)), a, b)
+        }
         ValueNode::Joined(mark, a, b) => {
-            beside(m, truth(!is_and(*mark)), Task::Right(is_and(*mark), b), a)
+            push_and_evaluate(m, truth(!is_and(*mark)), Task::Right(is_and(*mark), b), a)
         }
         ValueNode::Stored(kind, place, part) => assign(m, *kind, place, part),
         ValueNode::Updated(mark, counted, kind, place, part) => {
             update(m, node.pos, Op::of(*mark), *counted, *kind, place, part)
         }
-        ValueNode::Chosen(c, a, b) => one(m, Task::Pick(a, b), c),
-        ValueNode::Converted(kind, part) => one(m, Task::Fit(node.pos, *kind), part),
-        ValueNode::Cast(part) => later(m, Task::Eval(part)),
-        ValueNode::Dropped(part) => later(m, Task::Eval(part)),
+        ValueNode::Chosen(c, a, b) => evaluate_then(m, Task::Pick(a, b), c),
+        ValueNode::Converted(kind, part) => evaluate_then(m, Task::Fit(node.pos, *kind), part),
+        ValueNode::Cast(part) => do_first(m, Task::Eval(part)),
+        ValueNode::Dropped(part) => do_first(m, Task::Eval(part)),
         ValueNode::Called(_, _) => Ok(Some(Ending::Stop(node.pos))),
         ValueNode::CalledRow(_, shape, args) => prepare(m, node.pos, shape, args),
     }

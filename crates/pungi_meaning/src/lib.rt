@@ -20,12 +20,12 @@ mod stmt;
 mod task;
 mod unwind;
 
-pub use call::is_told;
+pub use call::is_defined_form;
 pub use cmp::{Cmp, number_of};
 pub use condition::{is_true, truth};
 pub use counted_world::CountedWorld;
 pub use entry::entry_ok;
-pub use execution::{add_unset, held, run};
+pub use execution::{add_unset, argument_locals, run};
 pub use number::{arithmetic, fits, wide};
 pub use op::Op;
 pub use outcome::Outcome;

@@ -1,5 +1,5 @@
 ghost use Rattle.std.specs.Prelude.{◌≡◌};
-ghost use Rattle.pungi_meaning.specs.Values.{fits as fits_kind, wide as wide_kind, arithmetic as arithmetic_result, in_range as in_range_of};
+ghost use Rattle.pungi_meaning.specs.Values.{fits, wide, arithmetic, in_range};
 
 use crate::Op;
 use pungi_types::ValueKind;
@@ -7,7 +7,7 @@ use pungi_types::ValueKind;
 /// Whether a number is in the range of an integer kind: `int` has 32 bits, `long` and `Py_ssize_t` have 64
 /// (C11 5.2.4.2.1, 6.3.1.3).
 pub fn fits(kind: ValueKind, number: i64) -> bool
-    ensures { result ≡ fits_kind kind number }
+    ensures { result ≡ fits kind number }
 {
     match kind {
         ValueKind::Int => i32::MIN as i64 <= number && number <= i32::MAX as i64,
@@ -17,7 +17,7 @@ pub fn fits(kind: ValueKind, number: i64) -> bool
 
 /// The kind in which a value of this kind and an `int` are counted (C11 6.3.1.8).
 pub fn wide(kind: ValueKind) -> ValueKind
-    ensures { result ≡ wide_kind kind }
+    ensures { result ≡ wide kind }
 {
     match kind {
         ValueKind::Int => ValueKind::Int,
@@ -26,7 +26,7 @@ pub fn wide(kind: ValueKind) -> ValueKind
 }
 
 fn in_range(kind: ValueKind, number: i64) -> Option<i64>
-    ensures { result ≡ in_range_of kind number }
+    ensures { result ≡ in_range kind number }
 {
     if fits(kind, number) {
         Some(number)
@@ -38,7 +38,7 @@ fn in_range(kind: ValueKind, number: i64) -> Option<i64>
 /// What an operator gives in a kind. There is no result past the kind's range, and none of a division by 0
 /// (C11 6.5, 6.5.5). `/` cuts towards 0. `%` of the least number by -1, which C11 leaves undefined, is 0 here.
 pub fn arithmetic(op: Op, kind: ValueKind, left: i64, right: i64) -> Option<i64>
-    ensures { result ≡ arithmetic_result op kind left right }
+    ensures { result ≡ arithmetic op kind left right }
 {
     match op {
         Op::Add => in_range(kind, left.checked_add(right)?),

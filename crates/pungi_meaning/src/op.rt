@@ -1,5 +1,5 @@
 ghost use Rattle.std.specs.Prelude.{◌≡◌};
-ghost use Rattle.pungi_meaning.specs.Values.{op_of as named_op};
+ghost use Rattle.pungi_meaning.specs.Values.{op_of};
 
 use pungi_base::Punct;
 
@@ -16,7 +16,7 @@ pub enum Op {
 impl Op {
     /// The operator that a punctuator stands for, alone, doubled or in front of `=`.
     pub fn of(punct: Punct) -> Op
-        ensures { result ≡ named_op punct }
+        ensures { result ≡ op_of punct }
     {
         match punct {
             Punct::Minus | Punct::MinusMinus | Punct::MinusAssign => Op::Sub,

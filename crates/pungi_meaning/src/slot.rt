@@ -1,9 +1,9 @@
 // Loads and stores.
 ghost use Rattle.std.specs.Prelude.{◌≡◌, reverse, IfOk};
 ghost use Rattle.pungi_resolved.specs.ValueView.{place_view};
-ghost use Rattle.pungi_meaning.specs.Exprs.{load_slot as slot_loaded, load_field as field_loaded, old as old_content, store as place_stored, store_slot as slot_stored};
-ghost use Rattle.pungi_meaning.specs.Machine.{todos, state_of, Tells};
-ghost use Rattle.pungi_meaning.specs.Values.{slot_kind as kind_of_slot};
+ghost use Rattle.pungi_meaning.specs.Exprs.{load_slot, load_field, load_old, store, store_slot};
+ghost use Rattle.pungi_meaning.specs.Machine.{todos, state_of, Matches};
+ghost use Rattle.pungi_meaning.specs.Values.{slot_kind};
 
 use crate::machine::{Ending, Machine};
 use crate::stack::{content_at, newest, note_used, put, take, unused};
@@ -16,7 +16,7 @@ use std::alloc::Global;
 
 /// What a slot of this kind holds.
 fn slot_kind(kind: ValueKind) -> Param
-    ensures { result ≡ kind_of_slot kind }
+    ensures { result ≡ slot_kind kind }
 {
     match kind {
         ValueKind::Int => Param::Int,
@@ -36,7 +36,7 @@ fn load_slot(
     kind: ValueKind,
     slot: Slot,
 ) -> Result<Option<Ending>, Memory>
-    ensures { IfOk result (λ halt. Tells (slot_loaded choices.now pos kind slot (todos m.old.tasks.items) (state_of m.old)) halt m.new) }
+    ensures { IfOk result (λ halt. Matches (load_slot choices.now pos kind slot (todos m.old.tasks.items) (state_of m.old)) halt m.new) }
 {
     let rest = unused(choices, m.used.len());
     match m.world.load(alloc, slot, slot_kind(kind), rest) {
@@ -64,7 +64,7 @@ pub fn load_field(
     tag: Name,
     field: Name,
 ) -> Result<Option<Ending>, Memory>
-    ensures { IfOk result (λ halt. Tells (field_loaded choices.now pos kind base tag field (todos m.old.tasks.items) (state_of m.old)) halt m.new) }
+    ensures { IfOk result (λ halt. Matches (load_field choices.now pos kind base tag field (todos m.old.tasks.items) (state_of m.old)) halt m.new) }
 {
     match base {
         Value::Object(object) => {
@@ -83,7 +83,7 @@ pub fn load_old(
     kind: ValueKind,
     place: &Place,
 ) -> Result<Option<Ending>, Memory>
-    ensures { IfOk result (λ halt. Tells (old_content choices.now kind (place_view place.now) (todos m.old.tasks.items) (state_of m.old)) halt m.new) }
+    ensures { IfOk result (λ halt. Matches (load_old choices.now kind (place_view place.now) (todos m.old.tasks.items) (state_of m.old)) halt m.new) }
 {
     match place {
         Place::Local(pos, local) => match content_at(&m.locals, *local) {
@@ -113,7 +113,7 @@ fn store_slot(
     slot: Slot,
     value: Value,
 ) -> Result<Option<Ending>, Memory>
-    ensures { IfOk result (λ halt. Tells (slot_stored choices.now pos kind slot value (reverse m.old.values.items) (todos m.old.tasks.items) (state_of m.old)) halt m.new) }
+    ensures { IfOk result (λ halt. Matches (store_slot choices.now pos kind slot value (reverse m.old.values.items) (todos m.old.tasks.items) (state_of m.old)) halt m.new) }
 {
     let rest = unused(choices, m.used.len());
     match m.world.store(alloc, slot, slot_kind(kind), value, rest) {
@@ -136,7 +136,7 @@ pub fn store(
     kind: ValueKind,
     place: &Place,
 ) -> Result<Option<Ending>, Memory>
-    ensures { IfOk result (λ halt. Tells (place_stored choices.now kind (place_view place.now) (todos m.old.tasks.items) (state_of m.old)) halt m.new) }
+    ensures { IfOk result (λ halt. Matches (store choices.now kind (place_view place.now) (todos m.old.tasks.items) (state_of m.old)) halt m.new) }
 {
     match place {
         Place::Local(_, local) => {

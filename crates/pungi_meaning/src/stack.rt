@@ -1,7 +1,7 @@
 // The values that wait for their operator, the newest last.
 ghost use Rattle.std.specs.Prelude.{◌≡◌, ◌∷◌, drop, length, replicate, reverse, slice_set, ◌++◌, OnOk};
-ghost use Rattle.pungi_meaning.specs.Values.{number_of as value_number};
-ghost use Rattle.pungi_meaning.specs.Work.{top, below, content_at as content_of};
+ghost use Rattle.pungi_meaning.specs.Values.{number_of};
+ghost use Rattle.pungi_meaning.specs.Work.{top, below, content_at};
 
 use pungi_base::{Choice, Memory, Pos, Value};
 use pungi_world::Content;
@@ -29,7 +29,7 @@ pub fn newest(values: &[Value]) -> Value
 
 /// What a local holds.
 pub fn content_at(locals: &[Content], local: usize) -> Content
-    ensures { result ≡ content_of locals.now local }
+    ensures { result ≡ content_at locals.now local }
 {
     if local < locals.len() {
         locals[local]

@@ -2,19 +2,19 @@
 ghost use Rattle.std.specs.Prelude.{◌≡◌, ◌<◌, ◌∷◌, [], IfOk, MatchOption, None, Some, length, map, option_map, reverse, slice_get};
 ghost use Rattle.pungi_resolved.specs.ValueView.{value_view};
 ghost use Rattle.pungi_resolved.specs.ActionView.{action_view};
-ghost use Rattle.pungi_meaning.specs.Machine.{loop_of, todo_of, todos, state_of, Tells};
+ghost use Rattle.pungi_meaning.specs.Machine.{loop_of, todo_of, todos, state_of, Matches};
 ghost use Rattle.pungi_meaning.specs.Run.{act};
-ghost use Rattle.pungi_meaning.specs.Stmts.{bind as bind_step, next_stmt as next_stmt_step};
+ghost use Rattle.pungi_meaning.specs.Stmts.{bind, next_stmt};
 ghost use Rattle.pungi_meaning.specs.Todo.{ToAgain, ToChoose, ToPick, ToTurn};
 
-use crate::arith::{compare, compute, fit, keep, minus, negate, right, step_one, to_truth};
+use crate::arith::{compare, compute, fit, keep, minus, negate, right_side, step_one, to_truth};
 use crate::call::next_arg;
-use crate::expr::{evaluate, later, one};
+use crate::expr::{do_first, evaluate, evaluate_then};
 use crate::is_true;
 use crate::machine::{Ending, Machine};
 use crate::slot::{load_field, load_old, store};
 use crate::stack::{newest, put, take};
-use crate::stmt::{body_first, execute, reach_next, start, switch, test};
+use crate::stmt::{body_first, declare_next, evaluate_first, execute, switch, test_loop};
 use crate::task::{Task, Turns};
 use pungi_base::{Choice, Memory, Pos};
 use pungi_resolved::{Action, Value as Node};
@@ -36,7 +36,7 @@ fn go_on<'a>(
     action: &'a Action,
 ) -> Result<Option<Ending>, Memory>
     requires { i < length list.now }
-    ensures { IfOk result (λ halt. Tells (next_stmt_step (map action_view list.now) i (Some (action_view action.now)) (todos m.old.tasks.items) (state_of m.old)) halt m.new) }
+    ensures { IfOk result (λ halt. Matches (next_stmt (map action_view list.now) i (Some (action_view action.now)) (todos m.old.tasks.items) (state_of m.old)) halt m.new) }
 {
     body_first(m, Task::Rest(list, i + 1), action)
 }
@@ -48,7 +48,7 @@ fn next_stmt<'a>(
     list: &'a [Action],
     i: usize,
 ) -> Result<Option<Ending>, Memory>
-    ensures { IfOk result (λ halt. Tells (next_stmt_step (map action_view list.now) i (slice_get (map action_view list.now) i) (todos m.old.tasks.items) (state_of m.old)) halt m.new) }
+    ensures { IfOk result (λ halt. Matches (next_stmt (map action_view list.now) i (slice_get (map action_view list.now) i) (todos m.old.tasks.items) (state_of m.old)) halt m.new) }
 {
     match action_at(list, i) {
         Some(action) => go_on(m, list, i, action),
@@ -58,12 +58,12 @@ fn next_stmt<'a>(
 
 /// One of two values.
 fn pick<'a>(m: &mut Machine<'a>, part: &'a Node, other: &'a Node) -> Result<Option<Ending>, Memory>
-    ensures { IfOk result (λ halt. Tells (act [] (ToPick (value_view part.now) (value_view other.now) ∷ todos m.old.tasks.items) (state_of m.old)) halt m.new) }
+    ensures { IfOk result (λ halt. Matches (act [] (ToPick (value_view part.now) (value_view other.now) ∷ todos m.old.tasks.items) (state_of m.old)) halt m.new) }
 {
     if is_true(take(&mut m.values)) {
-        one(m, Task::Join, part)
+        evaluate_then(m, Task::Join, part)
     } else {
-        one(m, Task::Join, other)
+        evaluate_then(m, Task::Join, other)
     }
 }
 
@@ -73,20 +73,20 @@ fn choose<'a>(
     part: &'a Action,
     other: Option<&'a Action>,
 ) -> Result<Option<Ending>, Memory>
-    ensures { IfOk result (λ halt. Tells (act [] (ToChoose (action_view part.now) (option_map (λ b. action_view b.now) other.entry) ∷ todos m.old.tasks.items) (state_of m.old)) halt m.new) }
+    ensures { IfOk result (λ halt. Matches (act [] (ToChoose (action_view part.now) (option_map (λ b. action_view b.now) other.entry) ∷ todos m.old.tasks.items) (state_of m.old)) halt m.new) }
 {
     if is_true(take(&mut m.values)) {
         return body_first(m, Task::Join, part);
     }
     match other {
         Some(other) => body_first(m, Task::Join, other),
-        None => later(m, Task::Join),
+        None => do_first(m, Task::Join),
     }
 }
 
 /// The body of a loop, where its test holds.
 fn turn<'a>(m: &mut Machine<'a>, turns: Turns<'a>) -> Result<Option<Ending>, Memory>
-    ensures { IfOk result (λ halt. Tells (act [] (ToTurn (loop_of turns.entry) ∷ todos m.old.tasks.items) (state_of m.old)) halt m.new) }
+    ensures { IfOk result (λ halt. Matches (act [] (ToTurn (loop_of turns.entry) ∷ todos m.old.tasks.items) (state_of m.old)) halt m.new) }
 {
     if is_true(take(&mut m.values)) {
         body_first(m, Task::Again(turns), turns.body)
@@ -95,17 +95,17 @@ fn turn<'a>(m: &mut Machine<'a>, turns: Turns<'a>) -> Result<Option<Ending>, Mem
     }
 }
 
-/// What a loop does behind its body, and then its next turn.
+/// What a loop does after its body, and then its next turn.
 fn turn_again<'a>(m: &mut Machine<'a>, turns: Turns<'a>) -> Result<Option<Ending>, Memory>
-    ensures { IfOk result (λ halt. Tells (act [] (ToAgain (loop_of turns.entry) ∷ todos m.old.tasks.items) (state_of m.old)) halt m.new) }
+    ensures { IfOk result (λ halt. Matches (act [] (ToAgain (loop_of turns.entry) ∷ todos m.old.tasks.items) (state_of m.old)) halt m.new) }
 {
-    later(m, Task::Back(turns))?;
-    start(m, turns.behind)
+    do_first(m, Task::Back(turns))?;
+    evaluate_first(m, turns.increment)
 }
 
 /// A variable gets its first value.
 fn bind(m: &mut Machine, local: usize)
-    ensures { Tells (bind_step local (todos m.old.tasks.items) (state_of m.old)) None m.new }
+    ensures { Matches (bind local (todos m.old.tasks.items) (state_of m.old)) None m.new }
 {
     let value = take(&mut m.values);
     put(&mut m.locals, local, Content::Holds(value));
@@ -118,7 +118,7 @@ fn operate<'a>(
     choices: &[Choice],
     task: Task<'a>,
 ) -> Result<Option<Ending>, Memory>
-    ensures { IfOk result (λ halt. Tells (act choices.now (todo_of task.entry ∷ todos m.old.tasks.items) (state_of m.old)) halt m.new) }
+    ensures { IfOk result (λ halt. Matches (act choices.now (todo_of task.entry ∷ todos m.old.tasks.items) (state_of m.old)) halt m.new) }
 {
     match task {
         Task::Eval(node) => evaluate(m, alloc, choices, node),
@@ -134,7 +134,7 @@ fn operate<'a>(
         Task::Fit(pos, kind) => fit(m, pos, kind),
         Task::Compare(pos, cmp) => compare(m, pos, cmp),
         Task::Negate => negate(m),
-        Task::Right(on, part) => right(m, on, part),
+        Task::Right(on, part) => right_side(m, on, part),
         Task::Truth => to_truth(m),
         Task::Pick(a, b) => pick(m, a, b),
         Task::Store(kind, place) => store(m, alloc, choices, kind, place),
@@ -148,7 +148,7 @@ fn operate<'a>(
             m.values.clear();
             Ok(None)
         }
-        Task::Reach(list) => reach_next(m, list),
+        Task::Declare(list) => declare_next(m, list),
         Task::Bind(local) => {
             bind(m, local);
             Ok(None)
@@ -156,10 +156,10 @@ fn operate<'a>(
         Task::Choose(part, other) => choose(m, part, other),
         Task::Join => Ok(None),
         Task::Rest(list, i) => next_stmt(m, list, i),
-        Task::Test(turns) => test(m, turns),
+        Task::Test(turns) => test_loop(m, turns),
         Task::Turn(turns) => turn(m, turns),
         Task::Again(turns) => turn_again(m, turns),
-        Task::Back(turns) => test(m, turns),
+        Task::Back(turns) => test_loop(m, turns),
         Task::Switch(pos, body) => {
             let value = newest(&m.values);
             switch(m, pos, value, body)
@@ -177,7 +177,7 @@ pub fn step<'a>(
     alloc: Global,
     choices: &[Choice],
 ) -> Result<Option<Ending>, Memory>
-    ensures { IfOk result (λ halt. Tells (act choices.now (todos m.old.tasks.items) (state_of m.old)) halt m.new) }
+    ensures { IfOk result (λ halt. Matches (act choices.now (todos m.old.tasks.items) (state_of m.old)) halt m.new) }
 {
     match m.tasks.pop() {
         Some(task) => operate(m, alloc, choices, task),

@@ -1,26 +1,26 @@
 // Statements.
 ghost use Rattle.std.specs.Prelude.{◌≡◌, ◌∷◌, IfOk, OnOk, map, option_map, None, Some};
 ghost use Rattle.pungi_resolved.specs.ValueView.{value_view, optional_view};
-ghost use Rattle.pungi_resolved.specs.ActionView.{action_view, actions_of, reached_view};
-ghost use Rattle.pungi_meaning.specs.Machine.{loop_of, todo_of, todos, state_of, Tells};
-ghost use Rattle.pungi_meaning.specs.Stmts.{started, tested as tested_loop, reach_next as reached_next, bears_case as bears_this_case, is_default as is_default_action, first_from, target as target_of, enter_at as entered_at, switch as switched, execute as executed};
-ghost use Rattle.pungi_meaning.specs.Todo.{ToExec, ToReach, ToRest, ToTest, listed};
+ghost use Rattle.pungi_resolved.specs.ActionView.{action_view, actions_of, declared_view};
+ghost use Rattle.pungi_meaning.specs.Machine.{loop_of, todo_of, todos, state_of, Matches};
+ghost use Rattle.pungi_meaning.specs.Stmts.{evaluate_first, test_loop, declare_next, bears_case, is_default, first_from, target, enter_at, switch, execute};
+ghost use Rattle.pungi_meaning.specs.Todo.{ToExec, ToDeclare, ToRest, ToTest, listed};
 ghost use Rattle.pungi_meaning.specs.Jumps.{a_loop};
-ghost use Rattle.pungi_meaning.specs.Work.{below, declared_by, declared, unset_reached};
+ghost use Rattle.pungi_meaning.specs.Work.{below, action_locals, block_locals, unset_locals};
 
 use crate::Cmp;
-use crate::expr::{later, one};
+use crate::expr::{do_first, evaluate_then};
 use crate::machine::{Ending, Machine};
 use crate::stack::{put, take};
 use crate::task::{Task, Turns};
-use crate::unwind::{jump, leave, next_turn};
+use crate::unwind::{after_break, after_continue, from_label};
 use pungi_base::{Memory, Pos, Value};
-use pungi_resolved::{Action, ActionNode, Reached, Value as Node};
+use pungi_resolved::{Action, ActionNode, DeclaredLocal, Value as Node};
 use pungi_world::Content;
 
 /// The locals that are declared here hold nothing.
-fn clear_reached(locals: &mut [Content], list: &[Reached])
-    ensures { locals.new ≡ unset_reached (map reached_view list.now) locals.old }
+fn unset_locals(locals: &mut [Content], list: &[DeclaredLocal])
+    ensures { locals.new ≡ unset_locals (map declared_view list.now) locals.old }
 {
     for reached in list {
         put(locals, reached.number, Content::Unset);
@@ -28,35 +28,35 @@ fn clear_reached(locals: &mut [Content], list: &[Reached])
 }
 
 /// The locals that a statement declares hold nothing.
-fn clear_declared_by(locals: &mut [Content], action: &Action)
-    ensures { locals.new ≡ unset_reached (declared_by (action_view action.now)) locals.old }
+fn unset_action_locals(locals: &mut [Content], action: &Action)
+    ensures { locals.new ≡ unset_locals (action_locals (action_view action.now)) locals.old }
 {
     match &action.node {
-        ActionNode::Reach(list) => clear_reached(locals, list.as_slice()),
+        ActionNode::Declare(list) => unset_locals(locals, list.as_slice()),
         ActionNode::Block(_, _)
-        | ActionNode::Evaluate(_)
-        | ActionNode::Test(_, _)
-        | ActionNode::TestElse(_, _, _)
-        | ActionNode::RepeatWhile(_, _)
-        | ActionNode::RepeatUntil(_, _)
-        | ActionNode::RepeatFor(_, _, _, _, _)
-        | ActionNode::SwitchOn(_, _)
-        | ActionNode::AtCase(_, _)
-        | ActionNode::AtDefault(_)
-        | ActionNode::AtLabel(_, _)
-        | ActionNode::Jump(_)
-        | ActionNode::Leave
-        | ActionNode::NextTurn
-        | ActionNode::Give(_) => {}
+        | ActionNode::Do(_)
+        | ActionNode::If(_, _)
+        | ActionNode::IfElse(_, _, _)
+        | ActionNode::While(_, _)
+        | ActionNode::DoWhile(_, _)
+        | ActionNode::For(_, _, _, _, _)
+        | ActionNode::Switch(_, _)
+        | ActionNode::Case(_, _)
+        | ActionNode::Default(_)
+        | ActionNode::Label(_, _)
+        | ActionNode::Goto(_)
+        | ActionNode::Break
+        | ActionNode::Continue
+        | ActionNode::Return(_) => {}
     }
 }
 
 /// The locals of a block hold nothing.
-fn clear(locals: &mut [Content], list: &[Action])
-    ensures { locals.new ≡ unset_reached (declared (listed (actions_of (map action_view list.now)))) locals.old }
+fn unset_block_locals(locals: &mut [Content], list: &[Action])
+    ensures { locals.new ≡ unset_locals (block_locals (listed (actions_of (map action_view list.now)))) locals.old }
 {
     for action in list {
-        clear_declared_by(locals, action);
+        unset_action_locals(locals, action);
     }
 }
 
@@ -71,18 +71,21 @@ pub fn unboxed(value: &Option<Box<Node>>) -> Option<&Node>
 }
 
 /// What is done first, if anything.
-pub fn start<'a>(m: &mut Machine<'a>, first: Option<&'a Node>) -> Result<Option<Ending>, Memory>
+pub fn evaluate_first<'a>(
+    m: &mut Machine<'a>,
+    first: Option<&'a Node>,
+) -> Result<Option<Ending>, Memory>
     ensures goes { IfOk result (λ halt. halt ≡ None) }
-    ensures todos { OnOk result (todos m.new.tasks.items ≡ started (option_map (λ v. value_view v.now) first.entry) (todos m.old.tasks.items)) }
+    ensures todos { OnOk result (todos m.new.tasks.items ≡ evaluate_first (option_map (λ v. value_view v.now) first.entry) (todos m.old.tasks.items)) }
     ensures state { OnOk result (state_of m.new ≡ state_of m.old) }
 {
     match first {
-        Some(value) => one(m, Task::Forget, value),
+        Some(value) => evaluate_then(m, Task::Forget, value),
         None => Ok(None),
     }
 }
 
-/// A statement, and what comes behind it.
+/// A statement, and what comes after it.
 pub fn body_first<'a>(
     m: &mut Machine<'a>,
     then: Task<'a>,
@@ -92,32 +95,35 @@ pub fn body_first<'a>(
     ensures todos { OnOk result (todos m.new.tasks.items ≡ ToExec (action_view body.now) ∷ todo_of then.entry ∷ todos m.old.tasks.items) }
     ensures state { OnOk result (state_of m.new ≡ state_of m.old) }
 {
-    later(m, then)?;
-    later(m, Task::Exec(body))
+    do_first(m, then)?;
+    do_first(m, Task::Exec(body))
 }
 
 /// A loop's test, or its body where it has none.
-pub fn test<'a>(m: &mut Machine<'a>, turns: Turns<'a>) -> Result<Option<Ending>, Memory>
+pub fn test_loop<'a>(m: &mut Machine<'a>, turns: Turns<'a>) -> Result<Option<Ending>, Memory>
     ensures goes { IfOk result (λ halt. halt ≡ None) }
-    ensures todos { OnOk result (todos m.new.tasks.items ≡ tested_loop (loop_of turns.entry) (todos m.old.tasks.items)) }
+    ensures todos { OnOk result (todos m.new.tasks.items ≡ test_loop (loop_of turns.entry) (todos m.old.tasks.items)) }
     ensures state { OnOk result (state_of m.new ≡ state_of m.old) }
 {
     match turns.test {
-        Some(value) => one(m, Task::Turn(turns), value),
+        Some(value) => evaluate_then(m, Task::Turn(turns), value),
         None => body_first(m, Task::Again(turns), turns.body),
     }
 }
 
 /// The next declared variable: its value comes first, and without one it holds nothing.
-pub fn reach_next<'a>(m: &mut Machine<'a>, list: &'a [Reached]) -> Result<Option<Ending>, Memory>
-    ensures { IfOk result (λ halt. Tells (reached_next (map reached_view list.now) (todos m.old.tasks.items) (state_of m.old)) halt m.new) }
+pub fn declare_next<'a>(
+    m: &mut Machine<'a>,
+    list: &'a [DeclaredLocal],
+) -> Result<Option<Ending>, Memory>
+    ensures { IfOk result (λ halt. Matches (declare_next (map declared_view list.now) (todos m.old.tasks.items) (state_of m.old)) halt m.new) }
 {
     let Some((reached, rest)) = list.split_first() else {
         return Ok(None);
     };
-    later(m, Task::Reach(rest))?;
+    do_first(m, Task::Declare(rest))?;
     match &reached.value {
-        Some(value) => one(m, Task::Bind(reached.number), value),
+        Some(value) => evaluate_then(m, Task::Bind(reached.number), value),
         None => {
             put(&mut m.locals, reached.number, Content::Unset);
             Ok(None)
@@ -125,35 +131,35 @@ pub fn reach_next<'a>(m: &mut Machine<'a>, list: &'a [Reached]) -> Result<Option
     }
 }
 
-/// A statement stands behind the case of this value.
+/// A statement stands after the case of this value.
 fn bears_case(value: Value, action: &Action) -> bool
-    ensures { result ≡ bears_this_case value (action_view action.now) }
+    ensures { result ≡ bears_case value (action_view action.now) }
 {
     match &action.node {
-        ActionNode::AtCase(case, part) => {
+        ActionNode::Case(case, part) => {
             Cmp::Equal.holds(value, Value::Int(*case)) || bears_case(value, part)
         }
-        ActionNode::AtDefault(part) => bears_case(value, part),
-        ActionNode::AtLabel(_, part) => bears_case(value, part),
+        ActionNode::Default(part) => bears_case(value, part),
+        ActionNode::Label(_, part) => bears_case(value, part),
         _ => false,
     }
 }
 
-/// A statement stands behind `default`.
+/// A statement stands after `default`.
 fn is_default(action: &Action) -> bool
-    ensures { result ≡ is_default_action (action_view action.now) }
+    ensures { result ≡ is_default (action_view action.now) }
 {
     match &action.node {
-        ActionNode::AtDefault(_) => true,
-        ActionNode::AtCase(_, part) => is_default(part),
-        ActionNode::AtLabel(_, part) => is_default(part),
+        ActionNode::Default(_) => true,
+        ActionNode::Case(_, part) => is_default(part),
+        ActionNode::Label(_, part) => is_default(part),
         _ => false,
     }
 }
 
-/// The place of the first statement behind the case of this value.
+/// The place of the first statement after the case of this value.
 fn case_place(value: Value, block: &[Action]) -> Option<usize>
-    ensures { result ≡ first_from (bears_this_case value) 0 (map action_view block.now) }
+    ensures { result ≡ first_from (bears_case value) 0 (map action_view block.now) }
 {
     for (i, action) in block.iter().enumerate() {
         if bears_case(value, action) {
@@ -163,9 +169,9 @@ fn case_place(value: Value, block: &[Action]) -> Option<usize>
     None
 }
 
-/// The place of the first statement behind `default`.
+/// The place of the first statement after `default`.
 fn default_place(block: &[Action]) -> Option<usize>
-    ensures { result ≡ first_from is_default_action 0 (map action_view block.now) }
+    ensures { result ≡ first_from is_default 0 (map action_view block.now) }
 {
     for (i, action) in block.iter().enumerate() {
         if is_default(action) {
@@ -177,7 +183,7 @@ fn default_place(block: &[Action]) -> Option<usize>
 
 /// The place in a block where a `switch` goes on.
 fn target(value: Value, block: &[Action]) -> Option<usize>
-    ensures { result ≡ target_of value (map action_view block.now) }
+    ensures { result ≡ target value (map action_view block.now) }
 {
     match case_place(value, block) {
         Some(place) => Some(place),
@@ -192,13 +198,13 @@ fn enter_at<'a>(
     place: Option<usize>,
 ) -> Result<Option<Ending>, Memory>
     ensures goes { IfOk result (λ halt. halt ≡ None) }
-    ensures todos { OnOk result (todos m.new.tasks.items ≡ entered_at (map action_view list.now) place (todos m.old.tasks.items)) }
+    ensures todos { OnOk result (todos m.new.tasks.items ≡ enter_at (map action_view list.now) place (todos m.old.tasks.items)) }
     ensures state { OnOk result (state_of m.new ≡ state_of m.old) }
 {
     match place {
         Some(place) => {
-            later(m, Task::SwitchEnd)?;
-            later(m, Task::Rest(list, place))
+            do_first(m, Task::SwitchEnd)?;
+            do_first(m, Task::Rest(list, place))
         }
         None => Ok(None),
     }
@@ -211,7 +217,7 @@ fn to_case<'a>(
     list: &'a [Action],
 ) -> Result<Option<Ending>, Memory>
     ensures goes { IfOk result (λ halt. halt ≡ None) }
-    ensures todos { OnOk result (todos m.new.tasks.items ≡ entered_at (listed (actions_of (map action_view list.now))) (target_of value (listed (actions_of (map action_view list.now)))) (todos m.old.tasks.items)) }
+    ensures todos { OnOk result (todos m.new.tasks.items ≡ enter_at (listed (actions_of (map action_view list.now))) (target value (listed (actions_of (map action_view list.now)))) (todos m.old.tasks.items)) }
     ensures state { OnOk result (state_of m.new ≡ state_of m.old) }
 {
     enter_at(m, list, target(value, list))
@@ -224,11 +230,11 @@ fn switch_block<'a>(
     list: &'a [Action],
 ) -> Result<Option<Ending>, Memory>
     ensures goes { IfOk result (λ halt. halt ≡ None) }
-    ensures todos { OnOk result (todos m.new.tasks.items ≡ entered_at (listed (actions_of (map action_view list.now))) (target_of value (listed (actions_of (map action_view list.now)))) (todos m.old.tasks.items)) }
-    ensures state { OnOk result (state_of m.new ≡ record (state_of m.old) { locals = unset_reached (declared (listed (actions_of (map action_view list.now)))) (state_of m.old).locals; values = below (state_of m.old).values }) }
+    ensures todos { OnOk result (todos m.new.tasks.items ≡ enter_at (listed (actions_of (map action_view list.now))) (target value (listed (actions_of (map action_view list.now)))) (todos m.old.tasks.items)) }
+    ensures state { OnOk result (state_of m.new ≡ record (state_of m.old) { locals = unset_locals (block_locals (listed (actions_of (map action_view list.now)))) (state_of m.old).locals; values = below (state_of m.old).values }) }
 {
     take(&mut m.values);
-    clear(&mut m.locals, list);
+    unset_block_locals(&mut m.locals, list);
     to_case(m, value, list)
 }
 
@@ -239,7 +245,7 @@ pub fn switch<'a>(
     value: Value,
     body: &'a Action,
 ) -> Result<Option<Ending>, Memory>
-    ensures { IfOk result (λ halt. Tells (switched pos value (action_view body.now) (todos m.old.tasks.items) (state_of m.old)) halt m.new) }
+    ensures { IfOk result (λ halt. Matches (switch pos value (action_view body.now) (todos m.old.tasks.items) (state_of m.old)) halt m.new) }
 {
     match &body.node {
         ActionNode::Block(list, _) => switch_block(m, value, list),
@@ -256,73 +262,90 @@ fn all_of<'a>(m: &mut Machine<'a>, list: &'a [Action]) -> Result<Option<Ending>,
     ensures todos { OnOk result (todos m.new.tasks.items ≡ ToRest (listed (actions_of (map action_view list.now))) 0 ∷ todos m.old.tasks.items) }
     ensures state { OnOk result (state_of m.new ≡ state_of m.old) }
 {
-    later(m, Task::Rest(list, 0))
+    do_first(m, Task::Rest(list, 0))
 }
 
 /// A block is entered: its locals hold nothing.
 fn enter_block<'a>(m: &mut Machine<'a>, list: &'a [Action]) -> Result<Option<Ending>, Memory>
     ensures goes { IfOk result (λ halt. halt ≡ None) }
     ensures todos { OnOk result (todos m.new.tasks.items ≡ ToRest (listed (actions_of (map action_view list.now))) 0 ∷ todos m.old.tasks.items) }
-    ensures state { OnOk result (state_of m.new ≡ record (state_of m.old) { locals = unset_reached (declared (listed (actions_of (map action_view list.now)))) (state_of m.old).locals }) }
+    ensures state { OnOk result (state_of m.new ≡ record (state_of m.old) { locals = unset_locals (block_locals (listed (actions_of (map action_view list.now)))) (state_of m.old).locals }) }
 {
-    clear(&mut m.locals, list);
+    unset_block_locals(&mut m.locals, list);
     all_of(m, list)
 }
 
 /// A `for` begins: the locals that it declares hold nothing.
 fn begin_for<'a>(
     m: &mut Machine<'a>,
-    list: &'a [Reached],
+    list: &'a [DeclaredLocal],
     first: Option<&'a Node>,
     turns: Turns<'a>,
 ) -> Result<Option<Ending>, Memory>
     ensures goes { IfOk result (λ halt. halt ≡ None) }
-    ensures todos { OnOk result (todos m.new.tasks.items ≡ ToReach (map reached_view list.now) ∷ started (option_map (λ v. value_view v.now) first.entry) (ToTest (loop_of turns.entry) ∷ todos m.old.tasks.items)) }
-    ensures state { OnOk result (state_of m.new ≡ record (state_of m.old) { locals = unset_reached (map reached_view list.now) (state_of m.old).locals }) }
+    ensures todos { OnOk result (todos m.new.tasks.items ≡ ToDeclare (map declared_view list.now) ∷ evaluate_first (option_map (λ v. value_view v.now) first.entry) (ToTest (loop_of turns.entry) ∷ todos m.old.tasks.items)) }
+    ensures state { OnOk result (state_of m.new ≡ record (state_of m.old) { locals = unset_locals (map declared_view list.now) (state_of m.old).locals }) }
 {
-    clear_reached(&mut m.locals, list);
-    later(m, Task::Test(turns))?;
-    start(m, first)?;
-    later(m, Task::Reach(list))
+    unset_locals(&mut m.locals, list);
+    do_first(m, Task::Test(turns))?;
+    evaluate_first(m, first)?;
+    do_first(m, Task::Declare(list))
 }
 
-/// A loop with a test that does nothing behind its body.
-pub fn tested_by<'a>(test: &'a Node, body: &'a Action) -> Turns<'a>
+/// A loop with a test that does nothing after its body.
+pub fn simple_loop<'a>(test: &'a Node, body: &'a Action) -> Turns<'a>
     ensures { loop_of result ≡ a_loop (Some (value_view test.now)) None (action_view body.now) }
 {
     Turns {
         test: Some(test),
-        behind: None,
+        increment: None,
         body,
     }
 }
 
 /// A statement is done, or leaves its parts and its remainder.
 pub fn execute<'a>(m: &mut Machine<'a>, action: &'a Action) -> Result<Option<Ending>, Memory>
-    ensures { IfOk result (λ halt. Tells (executed (action_view action.now) (todos m.old.tasks.items) (state_of m.old)) halt m.new) }
+    ensures { IfOk result (λ halt. Matches (execute (action_view action.now) (todos m.old.tasks.items) (state_of m.old)) halt m.new) }
 {
     match &action.node {
         ActionNode::Block(list, _) => enter_block(m, list),
-        ActionNode::Reach(list) => later(m, Task::Reach(list)),
-        ActionNode::Evaluate(value) => start(m, unboxed(value)),
-        ActionNode::Test(test, part) => one(m, Task::Choose(part, None), test),
-        ActionNode::TestElse(test, part, other) => one(m, Task::Choose(part, Some(other)), test),
-        ActionNode::RepeatWhile(value, body) => one(m, Task::Turn(tested_by(value, body)), value),
-        ActionNode::RepeatUntil(body, value) => {
-            body_first(m, Task::Again(tested_by(value, body)), body)
+        ActionNode::Declare(list) => do_first(m, Task::Declare(list)),
+        ActionNode::Do(value) => evaluate_first(m, unboxed(value)),
+        ActionNode::If(test, part) => evaluate_then(m, Task::Choose(part, None), test),
+        ActionNode::IfElse(test, part, other) => evaluate_then(
+            m,
+            Task::Choose(part, Some(other)),
+            test,
+        ),
+        ActionNode::While(value, body) => evaluate_then(
+            m,
+            Task::Turn(simple_loop(value, body)),
+            value,
+        ),
+        ActionNode::DoWhile(body, value) => {
+            body_first(m, Task::Again(simple_loop(value, body)), body)
         }
-        ActionNode::RepeatFor(list, first, test, behind, body) => {
-            let (test, behind) = (unboxed(test), unboxed(behind));
-            begin_for(m, list, unboxed(first), Turns { test, behind, body })
+        ActionNode::For(list, first, test, increment, body) => {
+            let (test, increment) = (unboxed(test), unboxed(increment));
+            begin_for(
+                m,
+                list,
+                unboxed(first),
+                Turns {
+                    test,
+                    increment,
+                    body,
+                },
+            )
         }
-        ActionNode::SwitchOn(value, body) => one(m, Task::Switch(action.pos, body), value),
-        ActionNode::AtCase(_, part) => later(m, Task::Exec(part)),
-        ActionNode::AtDefault(part) => later(m, Task::Exec(part)),
-        ActionNode::AtLabel(_, part) => later(m, Task::Exec(part)),
-        ActionNode::Jump(label) => jump(&mut m.tasks, *label),
-        ActionNode::Leave => leave(&mut m.tasks),
-        ActionNode::NextTurn => next_turn(&mut m.tasks),
-        ActionNode::Give(None) => Ok(Some(Ending::Leave(action.pos, None))),
-        ActionNode::Give(Some(value)) => one(m, Task::Return(action.pos), value),
+        ActionNode::Switch(value, body) => evaluate_then(m, Task::Switch(action.pos, body), value),
+        ActionNode::Case(_, part) => do_first(m, Task::Exec(part)),
+        ActionNode::Default(part) => do_first(m, Task::Exec(part)),
+        ActionNode::Label(_, part) => do_first(m, Task::Exec(part)),
+        ActionNode::Goto(label) => from_label(&mut m.tasks, *label),
+        ActionNode::Break => after_break(&mut m.tasks),
+        ActionNode::Continue => after_continue(&mut m.tasks),
+        ActionNode::Return(None) => Ok(Some(Ending::Leave(action.pos, None))),
+        ActionNode::Return(Some(value)) => evaluate_then(m, Task::Return(action.pos), value),
     }
 }

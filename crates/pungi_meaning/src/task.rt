@@ -1,15 +1,15 @@
 use crate::{Cmp, Op};
 use pungi_api::Shape;
 use pungi_base::{Name, Pos};
-use pungi_resolved::{Action, Place, Reached, Value};
+use pungi_resolved::{Action, DeclaredLocal, Place, Value};
 use pungi_types::ValueKind;
 
 /// A loop by its parts. A loop without a test goes on for ever.
 #[derive(Clone, Copy)]
 pub struct Turns<'a> {
     pub test: Option<&'a Value>,
-    /// What it does behind its body.
-    pub behind: Option<&'a Value>,
+    /// What it does after its body.
+    pub increment: Option<&'a Value>,
     pub body: &'a Action,
 }
 
@@ -34,7 +34,7 @@ pub enum Task<'a> {
     Args(Pos, &'a Shape, &'a [Value], usize),
     Exec(&'a Action),
     Forget,
-    Reach(&'a [Reached]),
+    Declare(&'a [DeclaredLocal]),
     Bind(usize),
     Choose(&'a Action, Option<&'a Action>),
     Join,

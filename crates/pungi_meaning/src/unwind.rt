@@ -2,11 +2,11 @@
 ghost use Rattle.std.specs.Prelude.{◌≡◌, ◌∷◌, IfOk, None, OnOk, is_some, map};
 ghost use Rattle.pungi_resolved.specs.ActionView.{action_view};
 ghost use Rattle.pungi_meaning.specs.Machine.{todo_of, todos};
-ghost use Rattle.pungi_meaning.specs.Jumps.{entered, entered_among, found_or, from_label, after_break, after_continue};
+ghost use Rattle.pungi_meaning.specs.Jumps.{enter, enter_among, found_or, from_label, after_break, after_continue};
 
-use crate::expr::push;
+use crate::expr::push_task;
 use crate::machine::Ending;
-use crate::stmt::{tested_by, unboxed};
+use crate::stmt::{simple_loop, unboxed};
 use crate::task::{Task, Turns};
 use pungi_base::{Memory, Name};
 use pungi_resolved::{Action, ActionNode};
@@ -19,10 +19,10 @@ fn enter_before<'a>(
     part: &'a Action,
     then: Task<'a>,
 ) -> Result<bool, Memory>
-    ensures found { IfOk result (λ found. found ≡ is_some (entered label (action_view part.now) (todo_of then.entry ∷ todos tasks.old.items))) }
-    ensures tasks { OnOk result (todos tasks.new.items ≡ found_or (entered label (action_view part.now) (todo_of then.entry ∷ todos tasks.old.items)) (todos tasks.old.items)) }
+    ensures found { IfOk result (λ found. found ≡ is_some (enter label (action_view part.now) (todo_of then.entry ∷ todos tasks.old.items))) }
+    ensures tasks { OnOk result (todos tasks.new.items ≡ found_or (enter label (action_view part.now) (todo_of then.entry ∷ todos tasks.old.items)) (todos tasks.old.items)) }
 {
-    push(tasks, then)?;
+    push_task(tasks, then)?;
     let found = enter(tasks, label, part)?;
     if !found {
         tasks.pop();
@@ -33,38 +33,42 @@ fn enter_before<'a>(
 /// What remains of a statement from a label on. A label in an inner block isn't found.
 #[cycle(entering)]
 fn enter<'a>(tasks: &mut Vec<Task<'a>>, label: Name, action: &'a Action) -> Result<bool, Memory>
-    ensures found { IfOk result (λ found. found ≡ is_some (entered label (action_view action.now) (todos tasks.old.items))) }
-    ensures tasks { OnOk result (todos tasks.new.items ≡ found_or (entered label (action_view action.now) (todos tasks.old.items)) (todos tasks.old.items)) }
+    ensures found { IfOk result (λ found. found ≡ is_some (enter label (action_view action.now) (todos tasks.old.items))) }
+    ensures tasks { OnOk result (todos tasks.new.items ≡ found_or (enter label (action_view action.now) (todos tasks.old.items)) (todos tasks.old.items)) }
 {
     match &action.node {
-        ActionNode::AtLabel(name, part) => {
+        ActionNode::Label(name, part) => {
             if name.0 == label.0 {
-                push(tasks, Task::Exec(part))?;
+                push_task(tasks, Task::Exec(part))?;
                 return Ok(true);
             }
             enter(tasks, label, part)
         }
-        ActionNode::AtCase(_, part) => enter(tasks, label, part),
-        ActionNode::AtDefault(part) => enter(tasks, label, part),
-        ActionNode::Test(_, part) => enter_before(tasks, label, part, Task::Join),
-        ActionNode::TestElse(_, part, other) => {
+        ActionNode::Case(_, part) => enter(tasks, label, part),
+        ActionNode::Default(part) => enter(tasks, label, part),
+        ActionNode::If(_, part) => enter_before(tasks, label, part, Task::Join),
+        ActionNode::IfElse(_, part, other) => {
             if enter_before(tasks, label, part, Task::Join)? {
                 return Ok(true);
             }
             enter_before(tasks, label, other, Task::Join)
         }
-        ActionNode::RepeatWhile(test, body) => {
-            enter_before(tasks, label, body, Task::Again(tested_by(test, body)))
+        ActionNode::While(test, body) => {
+            enter_before(tasks, label, body, Task::Again(simple_loop(test, body)))
         }
-        ActionNode::RepeatUntil(body, test) => {
-            enter_before(tasks, label, body, Task::Again(tested_by(test, body)))
+        ActionNode::DoWhile(body, test) => {
+            enter_before(tasks, label, body, Task::Again(simple_loop(test, body)))
         }
-        ActionNode::RepeatFor(_, _, test, behind, body) => {
-            let (test, behind) = (unboxed(test), unboxed(behind));
-            let again = Task::Again(Turns { test, behind, body });
+        ActionNode::For(_, _, test, increment, body) => {
+            let (test, increment) = (unboxed(test), unboxed(increment));
+            let again = Task::Again(Turns {
+                test,
+                increment,
+                body,
+            });
             enter_before(tasks, label, body, again)
         }
-        ActionNode::SwitchOn(_, body) => enter_before(tasks, label, body, Task::SwitchEnd),
+        ActionNode::Switch(_, body) => enter_before(tasks, label, body, Task::SwitchEnd),
         _ => Ok(false),
     }
 }
@@ -75,8 +79,8 @@ fn enter_block<'a>(
     label: Name,
     block: &'a [Action],
 ) -> Result<bool, Memory>
-    ensures found { IfOk result (λ found. found ≡ is_some (entered_among label (map action_view block.now) 0 (map action_view block.now) (todos tasks.old.items))) }
-    ensures tasks { OnOk result (todos tasks.new.items ≡ found_or (entered_among label (map action_view block.now) 0 (map action_view block.now) (todos tasks.old.items)) (todos tasks.old.items)) }
+    ensures found { IfOk result (λ found. found ≡ is_some (enter_among label (map action_view block.now) 0 (map action_view block.now) (todos tasks.old.items))) }
+    ensures tasks { OnOk result (todos tasks.new.items ≡ found_or (enter_among label (map action_view block.now) 0 (map action_view block.now) (todos tasks.old.items)) (todos tasks.old.items)) }
 {
     for (i, action) in block.iter().enumerate() {
         if enter_before(tasks, label, action, Task::Rest(block, i + 1))? {
@@ -87,14 +91,14 @@ fn enter_block<'a>(
 }
 
 /// What remains from a label on.
-pub fn jump(tasks: &mut Vec<Task>, label: Name) -> Result<Option<Ending>, Memory>
+pub fn from_label(tasks: &mut Vec<Task>, label: Name) -> Result<Option<Ending>, Memory>
     ensures goes { IfOk result (λ halt. halt ≡ None) }
     ensures tasks { OnOk result (todos tasks.new.items ≡ from_label label (todos tasks.old.items)) }
 {
     while let Some(task) = tasks.pop() {
         match task {
             Task::End(_, _) => {
-                push(tasks, task)?;
+                push_task(tasks, task)?;
                 return Ok(None);
             }
             Task::Rest(block, _) => {
@@ -108,15 +112,15 @@ pub fn jump(tasks: &mut Vec<Task>, label: Name) -> Result<Option<Ending>, Memory
     Ok(None)
 }
 
-/// What remains behind the innermost loop or `switch`.
-pub fn leave(tasks: &mut Vec<Task>) -> Result<Option<Ending>, Memory>
+/// What remains after the innermost loop or `switch`.
+pub fn after_break(tasks: &mut Vec<Task>) -> Result<Option<Ending>, Memory>
     ensures goes { IfOk result (λ halt. halt ≡ None) }
     ensures tasks { OnOk result (todos tasks.new.items ≡ after_break (todos tasks.old.items)) }
 {
     while let Some(task) = tasks.pop() {
         match task {
             Task::End(_, _) => {
-                push(tasks, task)?;
+                push_task(tasks, task)?;
                 return Ok(None);
             }
             Task::Again(_) | Task::SwitchEnd => return Ok(None),
@@ -127,14 +131,14 @@ pub fn leave(tasks: &mut Vec<Task>) -> Result<Option<Ending>, Memory>
 }
 
 /// What remains from the next turn of the innermost loop on.
-pub fn next_turn(tasks: &mut Vec<Task>) -> Result<Option<Ending>, Memory>
+pub fn after_continue(tasks: &mut Vec<Task>) -> Result<Option<Ending>, Memory>
     ensures goes { IfOk result (λ halt. halt ≡ None) }
     ensures tasks { OnOk result (todos tasks.new.items ≡ after_continue (todos tasks.old.items)) }
 {
     while let Some(task) = tasks.pop() {
         match task {
             Task::End(_, _) | Task::Again(_) => {
-                push(tasks, task)?;
+                push_task(tasks, task)?;
                 return Ok(None);
             }
             _ => {}

@@ -3,7 +3,7 @@ use Rattle.std.proofs.Common.{◌≡◌, ℕ, zero, suc, ◌+◌, ◌==◌, Bool
 use Rattle.std.specs.Prelude.{nat_le}
 use Rattle.std.proofs.lemmas.Bool.Decides.{nat_tests}
 use Rattle.pungi_types.specs.Kinds.{Core, base_words, builtin, struct_of, no_core, Followed, more_stars}
-use Rattle.pungi_names.specs.Depth.{Reached, nowhere, with_stars, known, behind, Reaches, Leads}
+use Rattle.pungi_names.specs.Depth.{DeclaredLocal, nowhere, with_stars, known, after_typedef, Reaches, Leads}
 use Rattle.pungi_names.specs.Walk.{on_path, IsPath}
 
 within_one_more : (d n : ℕ) → nat_le (d + 1) (suc n) ≡ nat_le d n
@@ -13,24 +13,24 @@ not_within : (d : ℕ) → nat_le (d + 1) zero ≡ false
 not_within d = grind (arith, nat_tests)
 
 -- stars are added before or after those of no type are left out
-behind-known-at : (c : Core) (m k : ℕ) → with_stars c (m + k) ≡ behind k (with_stars c m)
+behind-known-at : (c : Core) (m k : ℕ) → with_stars c (m + k) ≡ after_typedef k (with_stars c m)
 behind-known-at (base_words ks) m k = refl
 behind-known-at (builtin w) m k = refl
 behind-known-at (struct_of w) m k = refl
 behind-known-at no_core m k = refl
 
-pub behind-known : (k : ℕ) (f : Followed) → known (more_stars k f) ≡ behind k (known f)
+pub behind-known : (k : ℕ) (f : Followed) → known (more_stars k f) ≡ after_typedef k (known f)
 behind-known k f = behind-known-at f.core f.stars k
 
-behind-choice : (b : Bool) (k : ℕ) (f : Followed) → behind k (cond b (known f) nowhere) ≡ cond b (known (more_stars k f)) nowhere
+behind-choice : (b : Bool) (k : ℕ) (f : Followed) → after_typedef k (cond b (known f) nowhere) ≡ cond b (known (more_stars k f)) nowhere
 behind-choice true k f = sym (behind-known k f)
 behind-choice false k f = refl
 
-pub one_more : (step : ℕ → ℕ → Followed) (w k v : ℕ) (r : Reached) → Leads step w k v → Reaches step v r
+pub one_more : (step : ℕ → ℕ → Followed) (w k v : ℕ) (r : DeclaredLocal) → Leads step w k v → Reaches step v r
     → Reaches step w (record { depth = r.depth + 1; at = more_stars k r.at })
 one_more step w k v r l h zero = l.first ∙ sym (ap (λ b. cond b (known (more_stars k r.at)) nowhere) (not_within r.depth))
 one_more step w k v r l h (suc n) =
-    l.later n ∙ ap (behind k) (h n) ∙ behind-choice (nat_le r.depth n) k r.at
+    l.later n ∙ ap (after_typedef k) (h n) ∙ behind-choice (nat_le r.depth n) k r.at
     ∙ sym (ap (λ b. cond b (known (more_stars k r.at)) nowhere) (within_one_more r.depth n))
 
 -- where every word leads to one of the same, none leads anywhere
@@ -39,7 +39,7 @@ circle : (step : ℕ → ℕ → Followed) (In : ℕ → Type 0) → ((w : ℕ) 
 circle step In next zero w i = (next w i).2.0.first
 circle step In next (suc n) w i =
     let there = next w i in
-    there.2.0.later n ∙ ap (behind there.0) (circle step In next n there.1 there.2.1)
+    there.2.0.later n ∙ ap (after_typedef there.0) (circle step In next n there.1 there.2.1)
 
 pub same_word : (a b : ℕ) → (a == b) ≡ true → a ≡ b
 same_word a b h = grind (arith, nat_tests)

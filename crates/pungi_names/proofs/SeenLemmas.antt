@@ -1,4 +1,4 @@
--- What is asked of a callee, by what is seen of it.
+-- What is required of a callee, by what is seen of it.
 use Rattle.std.proofs.Common.{◌≡◌, ℕ, Option, None, Some, option_map, is_some, refl, ap, List}
 use Rattle.pungi_api.specs.declared.row.Row.{Row}
 use Rattle.pungi_tree.specs.Syntax.{Item}
@@ -8,7 +8,7 @@ use Rattle.pungi_types.specs.Names.{Env, is_some_definition}
 use Rattle.pungi_types.specs.Standing.{row_called, is_defined}
 use Rattle.pungi_types.specs.declared.kind.ValueKind.{ValueKind}
 use Rattle.pungi_types.specs.declared.lookup.Want.{Want}
-use Rattle.pungi_names.specs.CallsView.{signature_of}
+use Rattle.pungi_names.specs.CallsView.{function_signature}
 use Rattle.pungi_names.specs.RowsView.{row_seen}
 use Rattle.pungi_names.specs.SeenCalls as s
 use Rattle.pungi_names.specs.SeenCalls.{Seen, seen, defined_called}
@@ -84,12 +84,12 @@ row-missing file w None e = refl
 row-missing file w (Some q) e = absurd cc
 
 -- and where a function is
-pub definition-there : (env : Env) (w : ℕ) (x : ℕ × (List Want × Option ValueKind)) (o : Option Definition) → Some x ≡ option_map (signature_of env.file.items) o
+pub definition-there : (env : Env) (w : ℕ) (x : ℕ × (List Want × Option ValueKind)) (o : Option Definition) → Some x ≡ option_map (function_signature env.file.items) o
     → defined_called x ≡ seen env.file.items (defined_or env w o)
-definition-there env w x (Some d) e = let same : x ≡ signature_of env.file.items d = cc in ap defined_called same
+definition-there env w x (Some d) e = let same : x ≡ function_signature env.file.items d = cc in ap defined_called same
 definition-there env w x None e = absurd cc
 
-pub definition-missing : (env : Env) (w : ℕ) (o : Option Definition) → None ≡ option_map (signature_of env.file.items) o
+pub definition-missing : (env : Env) (w : ℕ) (o : Option Definition) → None ≡ option_map (function_signature env.file.items) o
     → seen env.file.items (defined_or env w None) ≡ seen env.file.items (defined_or env w o)
 definition-missing env w None e = refl
 definition-missing env w (Some d) e = absurd cc

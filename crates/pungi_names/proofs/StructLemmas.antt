@@ -24,7 +24,7 @@ untagged-found (t ∷ ts) w =
     at true = refl
     at false = refl
 
--- what is found of the tags and then of the typedefs tells which structs are objects
+-- what is found of the tags and then of the typedefs shows which structs are objects
 pub objects-found : (file : List Item) (start tagged all : ℕ → Option Bool) → ((w : ℕ) → start w ≡ None)
     → ((w : ℕ) → tagged w ≡ or_first (start w) (head_kept file (tagged_in (tags file) w)))
     → ((w : ℕ) → all w ≡ or_first (tagged w) (typedef_head file (typedef_in (typedefs file) w)))

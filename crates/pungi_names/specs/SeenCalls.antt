@@ -1,4 +1,4 @@
--- What a call asks of what is called.
+-- What a call requires of what is called.
 --   Seen                what stands before the parenthesis, with what it takes and gives
 --   seen file c         the same of a callee
 --   is_refused_seen own refused w    another function that is refused

@@ -2,7 +2,7 @@
 ghost use Rattle.std.specs.Prelude.{◌≡◌, ◌==◌, ◌&&◌, not, option_map};
 ghost use Rattle.pungi_names.specs.SeenCalls.{wants_seen, result_seen, is_value_seen, takes_seen, is_unknown_seen, row_of_seen, is_defined_seen, is_refused_seen};
 ghost use Rattle.pungi_names.specs.CalledView.{called_view};
-ghost use Rattle.pungi_types.specs.Exprs.{answer_kind as answer_kind_of, special_kind as special_kind_of, row_kind as row_kind_of};
+ghost use Rattle.pungi_types.specs.Exprs.{answer_kind, special_kind, row_kind};
 ghost use Rattle.pungi_types.specs.Names.{is_among};
 
 use crate::signature::Signature;
@@ -20,7 +20,7 @@ pub(crate) enum Called<'n> {
 }
 
 fn answer_kind(answer: Answer) -> ValueKind
-    ensures { result ≡ answer_kind_of answer }
+    ensures { result ≡ answer_kind answer }
 {
     match answer {
         Answer::New | Answer::Borrowed | Answer::BorrowedSure | Answer::Null => {
@@ -35,7 +35,7 @@ fn answer_kind(answer: Answer) -> ValueKind
 }
 
 fn special_kind(special: Special) -> ValueKind
-    ensures { result ≡ special_kind_of special }
+    ensures { result ≡ special_kind special }
 {
     match special {
         Special::NewRef | Special::XNewRef => ValueKind::Object(None),
@@ -44,7 +44,7 @@ fn special_kind(special: Special) -> ValueKind
 }
 
 fn row_kind(row: &Row) -> ValueKind
-    ensures { result ≡ row_kind_of row.now.form row.now.answer }
+    ensures { result ≡ row_kind row.now.form row.now.answer }
 {
     match row.form {
         Form::Plain => answer_kind(row.answer),

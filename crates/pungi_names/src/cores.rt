@@ -5,9 +5,9 @@ ghost use Rattle.indexmap.specs.IndexSet.{contains};
 ghost use Rattle.pungi_names.specs.Depth.{known, word_base, found_within, reached_within};
 ghost use Rattle.pungi_names.specs.Finds.{FindsTags, reached_view};
 ghost use Rattle.pungi_tree.specs.UnitView.{unit_view};
-ghost use Rattle.pungi_types.specs.Kinds.{is_listed_type as is_listed_type_of, written_tag as written_tag_of, is_fielded as is_fielded_of, core_of as core_of_base};
+ghost use Rattle.pungi_types.specs.Kinds.{is_listed_type, written_tag, is_fielded, core_of};
 
-use crate::step::Reached;
+use crate::step::DeclaredLocal;
 use crate::written::alias_of;
 use indexmap::{IndexMap, IndexSet};
 use pungi_base::Name;
@@ -27,11 +27,11 @@ pub(crate) struct Cores<'u> {
     pub(crate) unit: &'u Unit,
     /// The tags of structs with fields.
     pub(crate) tags: IndexSet<u32>,
-    pub(crate) reached: IndexMap<u32, Reached<'u>>,
+    pub(crate) reached: IndexMap<u32, DeclaredLocal<'u>>,
     /// How many typedefs the file has.
     pub(crate) count: usize,
     pub(crate) ghost tags_found: { FindsTags (contains nat_eq tags) (unit_view unit.now) },
-    pub(crate) ghost followed: { (w : ℕ) → is_listed_type_of w ≡ false → found_within (option_map reached_view (get nat_eq reached w)) count ≡ known (core_of_base (unit_view unit.now) (word_base w)) },
+    pub(crate) ghost followed: { (w : ℕ) → is_listed_type w ≡ false → found_within (option_map reached_view (get nat_eq reached w)) count ≡ known (core_of (unit_view unit.now) (word_base w)) },
 }
 
 impl<'u> Cores<'u> {
@@ -39,7 +39,7 @@ impl<'u> Cores<'u> {
     ghost use Rattle.pungi_names.specs.CoresView.{followed_view};
 
     fn word_core(&self, word: Name) -> Followed<'_>
-        ensures { known (followed_view result) ≡ known (core_of_base (unit_view self.now.unit.now) (word_base word.0)) }
+        ensures { known (followed_view result) ≡ known (core_of (unit_view self.now.unit.now) (word_base word.0)) }
     {
         if is_listed_type(word.0) {
             return Followed {
@@ -56,7 +56,7 @@ impl<'u> Cores<'u> {
         }
     }
 
-    fn within<'a>(&self, reached: &Reached<'a>) -> Followed<'a>
+    fn within<'a>(&self, reached: &DeclaredLocal<'a>) -> Followed<'a>
         ensures { known (followed_view result) ≡ reached_within (reached_view reached.now) self.now.count }
     {
         if reached.depth <= self.count {
@@ -73,7 +73,7 @@ impl<'u> Cores<'u> {
     }
 
     fn is_fielded(&self, base: &Base) -> bool
-        ensures { result ≡ is_fielded_of (unit_view self.now.unit.now) (written_tag_of (base_view base.now)) }
+        ensures { result ≡ is_fielded (unit_view self.now.unit.now) (written_tag (base_view base.now)) }
     {
         match written_tag(base) {
             Some(tag) => self.tags.contains(&tag.0),
@@ -83,7 +83,7 @@ impl<'u> Cores<'u> {
 
     /// What a type is once typedefs are followed.
     pub(crate) fn core_of<'a>(&'a self, base: &'a Base) -> Followed<'a>
-        ensures { known (followed_view result) ≡ known (core_of_base (unit_view self.now.unit.now) (base_view base.now)) }
+        ensures { known (followed_view result) ≡ known (core_of (unit_view self.now.unit.now) (base_view base.now)) }
     {
         match alias_of(base) {
             Some(word) => self.word_core(word),

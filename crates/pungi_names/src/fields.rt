@@ -4,11 +4,11 @@ ghost use Rattle.indexmap.specs.IndexMap.{get, IsEmpty};
 ghost use Rattle.pungi_declared.specs.DeclaredView.{tag_view};
 ghost use Rattle.pungi_names.specs.First.{or_first};
 ghost use Rattle.pungi_names.specs.FieldsView.{kind_in};
-ghost use Rattle.pungi_names.specs.StructsView.{fields_list, field_or as field_or_of, fields_kept, typedef_kept, kept_or};
+ghost use Rattle.pungi_names.specs.StructsView.{fields_list, field_or, fields_kept, typedef_kept, kept_or};
 ghost use Rattle.pungi_tree.specs.ExprView.{base_view, declr_view, declrs_of, field_view, spec_view};
 ghost use Rattle.pungi_tree.specs.UnitView.{unit_view};
 ghost use Rattle.pungi_types.specs.Files.{typedefs as typedefs_of};
-ghost use Rattle.pungi_types.specs.Kinds.{field_in, field_in_some, member_kind, declr_named, untagged_fields as untagged_fields_of, is_struct, tag_is, tagged_in, typedef_in, struct_fields};
+ghost use Rattle.pungi_types.specs.Kinds.{field_in, field_in_some, member_kind, declr_named, untagged_fields, is_struct, tag_is, tagged_in, typedef_in, struct_fields};
 ghost use Rattle.pungi_types.specs.Tags.{tags as tags_of};
 ghost use Rattle.pungi_types.specs.TypesView.{typedef_view};
 ghost use Rattle.pungi_types.specs.declared.kind.ValueKind.{ValueKind as Kind};
@@ -44,7 +44,7 @@ fn note_field(
     fields: &mut IndexMap<u32, Option<ValueKind>>,
     field: &Field,
 ) -> Result<(), Memory>
-    ensures { OnOk result ((w : ℕ) (r : Option Kind) → kept_or (get nat_eq fields.new w) r ≡ kept_or (get nat_eq fields.old w) (field_or_of (unit_view kinds.now.cores.unit.now) (field_view field.now) w r)) }
+    ensures { OnOk result ((w : ℕ) (r : Option Kind) → kept_or (get nat_eq fields.new w) r ≡ kept_or (get nat_eq fields.old w) (field_or (unit_view kinds.now.cores.unit.now) (field_view field.now) w r)) }
 {
     match field {
         Field::Empty => Ok(()),
@@ -132,7 +132,7 @@ fn untagged_kinds(
     kinds: &Kinds,
     base: &Base,
 ) -> Result<IndexMap<u32, Option<ValueKind>>, Memory>
-    ensures { IfOk result (λ found. (w : ℕ) → kind_in w found ≡ field_in_some (unit_view kinds.now.cores.unit.now) (untagged_fields_of (base_view base.now)) w) }
+    ensures { IfOk result (λ found. (w : ℕ) → kind_in w found ≡ field_in_some (unit_view kinds.now.cores.unit.now) (untagged_fields (base_view base.now)) w) }
 {
     match base {
         Base::Tagged {

@@ -3,7 +3,7 @@ ghost use Rattle.std.specs.Prelude.{◌≡◌, ℕ, ◌==◌, ◌||◌, nat_eq, 
 ghost use Rattle.indexmap.specs.IndexMap.{get};
 ghost use Rattle.indexmap.specs.IndexSet.{contains};
 ghost use Rattle.pungi_declared.specs.DeclaredView.{function_view, place_view};
-ghost use Rattle.pungi_names.specs.CallsView.{signature_view, signature_of};
+ghost use Rattle.pungi_names.specs.CallsView.{signature_view, function_signature};
 ghost use Rattle.pungi_names.specs.First.{or_first};
 ghost use Rattle.pungi_tree.specs.UnitView.{unit_view};
 ghost use Rattle.pungi_types.specs.Files.{definition_in, is_place_in};
@@ -24,7 +24,7 @@ pub(crate) fn note_definitions(
     signatures: &mut IndexMap<u32, Signature>,
     functions: &Vec<&FunctionDef>,
 ) -> Result<(), Memory>
-    ensures { OnOk result ((w : ℕ) → option_map signature_view (get nat_eq signatures.new w) ≡ or_first (option_map signature_view (get nat_eq signatures.old w)) (option_map (signature_of (unit_view kinds.now.cores.unit.now)) (definition_in (map function_view functions.now.items) w))) }
+    ensures { OnOk result ((w : ℕ) → option_map signature_view (get nat_eq signatures.new w) ≡ or_first (option_map signature_view (get nat_eq signatures.old w)) (option_map (function_signature (unit_view kinds.now.cores.unit.now)) (definition_in (map function_view functions.now.items) w))) }
 {
     for function in functions {
         let signature = function_signature(alloc, kinds, function)?;

@@ -4,15 +4,15 @@ ghost use Rattle.indexmap.specs.IndexMap.{get, IsEmpty};
 ghost use Rattle.indexmap.specs.IndexSet.{contains, IsEmpty as IsEmptySet};
 ghost use Rattle.pungi_api.specs.Rows.{row_in};
 ghost use Rattle.pungi_declared.specs.DeclaredView.{function_view, tag_view, variable_view};
-ghost use Rattle.pungi_names.specs.CallsView.{signature_view, signature_of};
+ghost use Rattle.pungi_names.specs.CallsView.{signature_view, function_signature};
 ghost use Rattle.pungi_names.specs.FieldsView.{kind_in};
 ghost use Rattle.pungi_names.specs.NamesView.{file_of};
 ghost use Rattle.pungi_names.specs.RowsView.{call_view, row_seen};
 ghost use Rattle.pungi_names.specs.StructsView.{kept_or};
 ghost use Rattle.pungi_tree.specs.UnitView.{unit_view};
-ghost use Rattle.pungi_types.specs.Files.{source_file, typedefs as typedefs_of, variables_of, definitions as definitions_of, definition_in, prototypes as prototypes_of, is_place_in};
+ghost use Rattle.pungi_types.specs.Files.{source_file, typedefs as typedefs_of, variables_of, definitions, definition_in, prototypes as prototypes_of, is_place_in};
 ghost use Rattle.pungi_types.specs.Kinds.{field_in_some, struct_fields};
-ghost use Rattle.pungi_types.specs.Names.{global_kind as global_kind_of, is_table_name, is_module as is_module_of, type_objects as type_objects_of};
+ghost use Rattle.pungi_types.specs.Names.{global_kind, is_table_name, is_module, type_objects as type_objects_of};
 ghost use Rattle.pungi_types.specs.Tags.{tags as tags_of};
 ghost use Rattle.pungi_types.specs.TypesView.{typedef_view};
 
@@ -34,7 +34,7 @@ use pungi_tree::{FunctionDef, Unit};
 use pungi_types::{Typedef, ValueKind};
 use std::alloc::Global;
 
-/// So many type objects have numbers behind those of the API.
+/// So many type objects have numbers after those of the API.
 const MOST_TYPE_OBJECTS: usize = 0xffff_ffe7;
 
 fn gather_kinds<'u>(
@@ -84,9 +84,9 @@ fn fill_values(
     requires no_modules { IsEmptySet parts.old.modules }
     requires no_type_objects { IsEmptySet parts.old.type_objects }
     ensures fields { OnOk result ((s : ℕ) (w : ℕ) → kept_or (option_map (kind_in w) (get nat_eq parts.new.fields s)) None ≡ field_in_some (unit_view kinds.now.cores.unit.now) (struct_fields (unit_view kinds.now.cores.unit.now) s) w) }
-    ensures globals { OnOk result ((w : ℕ) → kept_or (get nat_eq parts.new.globals w) None ≡ global_kind_of (unit_view kinds.now.cores.unit.now) w) }
+    ensures globals { OnOk result ((w : ℕ) → kept_or (get nat_eq parts.new.globals w) None ≡ global_kind (unit_view kinds.now.cores.unit.now) w) }
     ensures tables { OnOk result ((w : ℕ) → contains nat_eq parts.new.tables w ≡ is_table_name (unit_view kinds.now.cores.unit.now) w) }
-    ensures modules { OnOk result ((w : ℕ) → contains nat_eq parts.new.modules w ≡ is_module_of (unit_view kinds.now.cores.unit.now) w) }
+    ensures modules { OnOk result ((w : ℕ) → contains nat_eq parts.new.modules w ≡ is_module (unit_view kinds.now.cores.unit.now) w) }
     ensures type_objects { OnOk result (parts.new.type_objects.keys ≡ type_objects_of (unit_view kinds.now.cores.unit.now)) }
     ensures few { OnOk result (length parts.new.type_objects.keys + 24 < 2 ^ 32) }
 {
@@ -186,12 +186,12 @@ fn fill_calls<'u>(
     parts: &mut CallParts<'u>,
 ) -> Result<(), Memory>
     requires unit { unit_view kinds.now.cores.unit.now ≡ unit_view unit.now }
-    requires functions { map function_view functions.now.items ≡ definitions_of (unit_view kinds.now.cores.unit.now) }
+    requires functions { map function_view functions.now.items ≡ definitions (unit_view kinds.now.cores.unit.now) }
     requires no_prototypes { IsEmptySet parts.old.prototypes }
     requires no_signatures { IsEmpty parts.old.signatures }
     requires no_calls { IsEmpty parts.old.calls }
     ensures prototypes { OnOk result ((w : ℕ) → contains nat_eq parts.new.prototypes w ≡ is_place_in (prototypes_of (unit_view kinds.now.cores.unit.now)) w) }
-    ensures signatures { OnOk result ((w : ℕ) → option_map signature_view (get nat_eq parts.new.signatures w) ≡ option_map (signature_of (unit_view kinds.now.cores.unit.now)) (definition_in (definitions_of (unit_view kinds.now.cores.unit.now)) w)) }
+    ensures signatures { OnOk result ((w : ℕ) → option_map signature_view (get nat_eq parts.new.signatures w) ≡ option_map (function_signature (unit_view kinds.now.cores.unit.now)) (definition_in (definitions (unit_view kinds.now.cores.unit.now)) w)) }
     ensures calls { OnOk result ((w : ℕ) → option_map call_view (get nat_eq parts.new.calls w) ≡ option_map row_seen (row_in rows.now w)) }
 {
     note_prototypes(alloc, unit, &mut parts.prototypes)?;
@@ -208,7 +208,7 @@ pub fn unit_names<'u>(
     rows: &'u Table,
     functions: &Vec<&FunctionDef>,
 ) -> Result<UnitNames<'u>, Memory>
-    requires { map function_view functions.now.items ≡ definitions_of (unit_view unit.now) }
+    requires { map function_view functions.now.items ≡ definitions (unit_view unit.now) }
     ensures { IfOk result (λ names. file_of names ≡ source_file texts.now (unit_view unit.now) rows.now) }
 {
     let values = unit_values(alloc, unit)?;

@@ -7,7 +7,7 @@ ghost use Rattle.pungi_names.specs.GlobalsView.{global_else};
 ghost use Rattle.pungi_names.specs.StructsView.{kept_or};
 ghost use Rattle.pungi_tree.specs.UnitView.{unit_view};
 ghost use Rattle.pungi_types.specs.Files.{declr_name, variables_of};
-ghost use Rattle.pungi_types.specs.Names.{global_kind, is_table_name, is_module, type_objects as type_objects_of, is_single as is_single_of, is_table as is_table_of, with_word};
+ghost use Rattle.pungi_types.specs.Names.{global_kind, is_table_name, is_module, type_objects as type_objects_of, is_single, is_table, with_word};
 ghost use Rattle.pungi_types.specs.declared.kind.ValueKind.{ValueKind as Kind};
 
 use crate::first::keep_first;
@@ -53,7 +53,7 @@ pub(crate) fn note_globals(
 
 #[tactic(auto, using(crate::proofs::SpecLemmas::views))]
 fn note_table(kinds: &Kinds, tables: &mut IndexSet<u32>, variable: &Variable) -> Result<(), Memory>
-    ensures { OnOk result ((w : ℕ) → contains nat_eq tables.new w ≡ (contains nat_eq tables.old w || ((declr_name (variable_view variable.now).declr).0 == w && is_table_of (unit_view kinds.now.cores.unit.now) (variable_view variable.now)))) }
+    ensures { OnOk result ((w : ℕ) → contains nat_eq tables.new w ≡ (contains nat_eq tables.old w || ((declr_name (variable_view variable.now).declr).0 == w && is_table (unit_view kinds.now.cores.unit.now) (variable_view variable.now)))) }
 {
     if is_table(&kinds.cores, variable.spec, variable.declr) {
         tables.insert(variable.declr.name.0)?;
@@ -83,7 +83,7 @@ fn note_module(
     modules: &mut IndexSet<u32>,
     variable: &Variable,
 ) -> Result<(), Memory>
-    ensures { OnOk result ((w : ℕ) → contains nat_eq modules.new w ≡ (contains nat_eq modules.old w || ((declr_name (variable_view variable.now).declr).0 == w && is_single_of (unit_view kinds.now.cores.unit.now) PY_MODULE_DEF (variable_view variable.now)))) }
+    ensures { OnOk result ((w : ℕ) → contains nat_eq modules.new w ≡ (contains nat_eq modules.old w || ((declr_name (variable_view variable.now).declr).0 == w && is_single (unit_view kinds.now.cores.unit.now) PY_MODULE_DEF (variable_view variable.now)))) }
 {
     if is_single(&kinds.cores, PY_MODULE_DEF, variable.spec, variable.declr) {
         modules.insert(variable.declr.name.0)?;
@@ -113,7 +113,7 @@ fn note_type_object(
     objects: &mut IndexSet<u32>,
     variable: &Variable,
 ) -> Result<(), Memory>
-    ensures { OnOk result (objects.new.keys ≡ (if is_single_of (unit_view kinds.now.cores.unit.now) PY_TYPE_OBJECT (variable_view variable.now) then with_word objects.old.keys (declr_name (variable_view variable.now).declr).0 else objects.old.keys)) }
+    ensures { OnOk result (objects.new.keys ≡ (if is_single (unit_view kinds.now.cores.unit.now) PY_TYPE_OBJECT (variable_view variable.now) then with_word objects.old.keys (declr_name (variable_view variable.now).declr).0 else objects.old.keys)) }
 {
     if is_single(&kinds.cores, PY_TYPE_OBJECT, variable.spec, variable.declr) {
         objects.insert(variable.declr.name.0)?;

@@ -3,11 +3,11 @@ ghost use Rattle.std.specs.Prelude.{◌≡◌, ℕ, ◌==◌, ◌&&◌, nat_eq, 
 ghost use Rattle.indexmap.specs.IndexMap.{get};
 ghost use Rattle.pungi_declared.specs.DeclaredView.{tag_view};
 ghost use Rattle.pungi_names.specs.First.{or_first};
-ghost use Rattle.pungi_names.specs.StructsView.{fields_list, first_declr, field_head as field_head_of, head_kept, typedef_head, kept_or};
+ghost use Rattle.pungi_names.specs.StructsView.{fields_list, first_declr, field_head, head_kept, typedef_head, kept_or};
 ghost use Rattle.pungi_tree.specs.ExprView.{base_view, declr_view, declrs_of, field_view};
 ghost use Rattle.pungi_tree.specs.UnitView.{unit_view};
 ghost use Rattle.pungi_types.specs.Files.{typedefs as typedefs_of};
-ghost use Rattle.pungi_types.specs.Kinds.{begins_with_head as begins_with_head_of, is_head as is_head_of, untagged_fields as untagged_fields_of, is_struct, tag_is, tagged_in, typedef_in, is_object_struct as is_object_struct_of};
+ghost use Rattle.pungi_types.specs.Kinds.{begins_with_head, is_head as is_head_of, untagged_fields, is_struct, tag_is, tagged_in, typedef_in, is_object_struct};
 ghost use Rattle.pungi_types.specs.Tags.{tags as tags_of};
 ghost use Rattle.pungi_types.specs.TypesView.{typedef_view};
 
@@ -31,7 +31,7 @@ fn is_first_head(cores: &Cores, spec: &Spec, declrs: &Vec<Declr>) -> bool
 }
 
 fn field_head(cores: &Cores, field: &Field) -> Option<bool>
-    ensures { result ≡ field_head_of (unit_view cores.now.unit.now) (field_view field.now) }
+    ensures { result ≡ field_head (unit_view cores.now.unit.now) (field_view field.now) }
 {
     match field {
         Field::Empty => None,
@@ -41,7 +41,7 @@ fn field_head(cores: &Cores, field: &Field) -> Option<bool>
 
 #[tactic(auto, using(crate::proofs::StructLemmas::head_step))]
 fn begins_with_head(cores: &Cores, fields: &Vec<Field>) -> bool
-    ensures { result ≡ begins_with_head_of (unit_view cores.now.unit.now) (Some (fields_list fields.now)) }
+    ensures { result ≡ begins_with_head (unit_view cores.now.unit.now) (Some (fields_list fields.now)) }
 {
     for field in fields {
         if let Some(is_head) = field_head(cores, field) {
@@ -74,7 +74,7 @@ fn note_tags(
 }
 
 fn is_untagged_head(cores: &Cores, of: Key, fields: &Vec<Field>) -> bool
-    ensures { result ≡ begins_with_head_of (unit_view cores.now.unit.now) (if is_struct of then Some (fields_list fields.now) else None) }
+    ensures { result ≡ begins_with_head (unit_view cores.now.unit.now) (if is_struct of then Some (fields_list fields.now) else None) }
 {
     match of {
         Key::Struct => begins_with_head(cores, fields),
@@ -84,7 +84,7 @@ fn is_untagged_head(cores: &Cores, of: Key, fields: &Vec<Field>) -> bool
 
 #[tactic(auto, using(crate::proofs::SpecLemmas::views))]
 fn is_untagged_object(cores: &Cores, base: &Base) -> bool
-    ensures { result ≡ begins_with_head_of (unit_view cores.now.unit.now) (untagged_fields_of (base_view base.now)) }
+    ensures { result ≡ begins_with_head (unit_view cores.now.unit.now) (untagged_fields (base_view base.now)) }
 {
     match base {
         Base::Tagged {
@@ -138,7 +138,7 @@ pub(crate) fn object_structs(
 ) -> Result<IndexMap<u32, bool>, Memory>
     requires typedefs { map typedef_view typedefs.now.items ≡ typedefs_of (unit_view cores.now.unit.now) }
     requires tags { map tag_view tags.now.items ≡ tags_of (unit_view cores.now.unit.now) }
-    ensures { IfOk result (λ objects. (w : ℕ) → kept_or (get nat_eq objects w) false ≡ is_object_struct_of (unit_view cores.now.unit.now) w) }
+    ensures { IfOk result (λ objects. (w : ℕ) → kept_or (get nat_eq objects w) false ≡ is_object_struct (unit_view cores.now.unit.now) w) }
 {
     let mut objects = IndexMap::new(alloc);
     note_tags(cores, &mut objects, tags)?;

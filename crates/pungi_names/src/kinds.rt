@@ -3,7 +3,7 @@ ghost use Rattle.std.specs.Prelude.{◌≡◌, ℕ, ◌+◌, nat_eq, false};
 ghost use Rattle.indexmap.specs.IndexMap.{get};
 ghost use Rattle.pungi_names.specs.StructsView.{kept_or};
 ghost use Rattle.pungi_tree.specs.UnitView.{unit_view};
-ghost use Rattle.pungi_types.specs.Kinds.{is_object_struct as is_object_struct_of};
+ghost use Rattle.pungi_types.specs.Kinds.{is_object_struct};
 
 use crate::cores::{Cores, Followed};
 use indexmap::IndexMap;
@@ -17,17 +17,17 @@ type Known = Option<ValueKind>;
 pub(crate) struct Kinds<'u> {
     pub(crate) cores: Cores<'u>,
     pub(crate) objects: IndexMap<u32, bool>,
-    pub(crate) ghost objects_found: { (w : ℕ) → kept_or (get nat_eq objects w) false ≡ is_object_struct_of (unit_view cores.unit.now) w },
+    pub(crate) ghost objects_found: { (w : ℕ) → kept_or (get nat_eq objects w) false ≡ is_object_struct (unit_view cores.unit.now) w },
 }
 
 impl<'u> Kinds<'u> {
     ghost use Rattle.pungi_names.specs.CoresView.{followed_view};
     ghost use Rattle.pungi_tree.specs.ExprView.{spec_view, declr_view, param_declr_view};
-    ghost use Rattle.pungi_types.specs.Exprs.{param_kind as param_kind_of};
-    ghost use Rattle.pungi_types.specs.Kinds.{core_kind, type_kind as type_kind_of, declared_kind as declared_kind_of, spec_base};
+    ghost use Rattle.pungi_types.specs.Exprs.{param_kind};
+    ghost use Rattle.pungi_types.specs.Kinds.{core_kind, type_kind, declared_kind, spec_base};
 
     fn is_object(&self, word: u32) -> bool
-        ensures { result ≡ is_object_struct_of (unit_view self.now.cores.unit.now) word }
+        ensures { result ≡ is_object_struct (unit_view self.now.cores.unit.now) word }
     {
         match self.objects.get(&word) {
             Some(is_object) => *is_object,
@@ -63,7 +63,7 @@ impl<'u> Kinds<'u> {
 
     /// The kind of a type with so many stars.
     pub(crate) fn type_kind(&self, spec: &Spec, stars: usize) -> Known
-        ensures { result ≡ type_kind_of (unit_view self.now.cores.unit.now) (spec_base (spec_view spec.now)) stars }
+        ensures { result ≡ type_kind (unit_view self.now.cores.unit.now) (spec_base (spec_view spec.now)) stars }
     {
         let followed = self.cores.core_of(&spec.base);
         self.starred_kind(&followed, stars)
@@ -71,7 +71,7 @@ impl<'u> Kinds<'u> {
 
     /// The kind of what is declared. An array, a pointer to a function and `void` have none.
     pub(crate) fn declared_kind(&self, spec: &Spec, declr: &Declr) -> Known
-        ensures { result ≡ declared_kind_of (unit_view self.now.cores.unit.now) (spec_view spec.now) (declr_view declr.now) }
+        ensures { result ≡ declared_kind (unit_view self.now.cores.unit.now) (spec_view spec.now) (declr_view declr.now) }
     {
         if is_plain(declr) {
             not_void(self.type_kind(spec, declr.stars.len()))
@@ -82,7 +82,7 @@ impl<'u> Kinds<'u> {
 
     /// The kind of a parameter.
     pub(crate) fn param_kind(&self, spec: &Spec, declr: &ParamDeclr) -> Known
-        ensures { result ≡ param_kind_of (unit_view self.now.cores.unit.now) (spec_view spec.now) (param_declr_view declr.now) }
+        ensures { result ≡ param_kind (unit_view self.now.cores.unit.now) (spec_view spec.now) (param_declr_view declr.now) }
     {
         match declr {
             ParamDeclr::Named(named) => self.declared_kind(spec, named),

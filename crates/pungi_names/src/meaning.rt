@@ -1,7 +1,7 @@
 // What words stand for.
 ghost use Rattle.std.specs.Prelude.{◌≡◌};
 ghost use Rattle.pungi_names.specs.MeaningView.{meaning_view};
-ghost use Rattle.pungi_types.specs.Exprs.{meaning_kind, is_slot as is_slot_of, is_function_meaning, is_unknown as is_unknown_of};
+ghost use Rattle.pungi_types.specs.Exprs.{meaning_kind, is_slot, is_function_meaning, is_unknown};
 ghost use Rattle.pungi_types.specs.Standing.{standing_of};
 
 use pungi_types::{Standing, ValueKind};
@@ -28,7 +28,7 @@ impl Meaning {
     }
 
     pub(crate) fn is_slot(&self) -> bool
-        ensures { result ≡ is_slot_of (meaning_view self.now) }
+        ensures { result ≡ is_slot (meaning_view self.now) }
     {
         match self {
             Meaning::Function => false,
@@ -50,7 +50,7 @@ impl Meaning {
     }
 
     pub(crate) fn is_unknown(&self) -> bool
-        ensures { result ≡ is_unknown_of (meaning_view self.now) }
+        ensures { result ≡ is_unknown (meaning_view self.now) }
     {
         match self {
             Meaning::Function => false,

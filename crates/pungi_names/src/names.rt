@@ -3,10 +3,10 @@ ghost use Rattle.std.specs.Prelude.{◌≡◌, ℕ, nat_eq, option_map};
 ghost use Rattle.indexmap.specs.IndexMap.{get};
 ghost use Rattle.indexmap.specs.IndexSet.{contains};
 ghost use Rattle.pungi_api.specs.Rows.{row_in};
-ghost use Rattle.pungi_names.specs.CallsView.{signature_view, signature_of};
+ghost use Rattle.pungi_names.specs.CallsView.{signature_view, function_signature};
 ghost use Rattle.pungi_names.specs.RowsView.{call_view, row_seen};
 ghost use Rattle.pungi_tree.specs.UnitView.{unit_view};
-ghost use Rattle.pungi_types.specs.Files.{definitions as definitions_of, definition_in, prototypes as prototypes_of, is_place_in};
+ghost use Rattle.pungi_types.specs.Files.{definitions, definition_in, prototypes as prototypes_of, is_place_in};
 
 use crate::called::Called;
 use crate::meaning::Meaning;
@@ -28,7 +28,7 @@ pub struct UnitNames<'u> {
     pub(crate) signatures: IndexMap<u32, Signature>,
     pub(crate) calls: IndexMap<u32, RowCall<'u>>,
     pub(crate) ghost prototypes_found: { (w : ℕ) → contains nat_eq prototypes w ≡ is_place_in (prototypes_of (unit_view values.kinds.cores.unit.now)) w },
-    pub(crate) ghost signatures_found: { (w : ℕ) → option_map signature_view (get nat_eq signatures w) ≡ option_map (signature_of (unit_view values.kinds.cores.unit.now)) (definition_in (definitions_of (unit_view values.kinds.cores.unit.now)) w) },
+    pub(crate) ghost signatures_found: { (w : ℕ) → option_map signature_view (get nat_eq signatures w) ≡ option_map (function_signature (unit_view values.kinds.cores.unit.now)) (definition_in (definitions (unit_view values.kinds.cores.unit.now)) w) },
     pub(crate) ghost calls_found: { (w : ℕ) → option_map call_view (get nat_eq calls w) ≡ option_map row_seen (row_in rows.now w) },
 }
 
@@ -58,18 +58,18 @@ impl<'u> UnitNames<'u> {
     ghost use Rattle.pungi_names.specs.SeenCalls.{seen};
     ghost use Rattle.pungi_tree.specs.ExprView.{spec_view, declr_view};
     ghost use Rattle.pungi_types.specs.Exprs.{row_or, value_or_none};
-    ghost use Rattle.pungi_types.specs.Names.{is_table as is_table_of, is_static as is_static_of, type_objects as type_objects_of, is_function as is_function_of, global_kind, global_or, local_or};
+    ghost use Rattle.pungi_types.specs.Names.{is_table, is_static, type_objects as type_objects_of, is_function, global_kind, global_or, local_or};
 
     /// Whether what is declared is a table.
     pub fn is_table(&self, spec: &Spec, declr: &Declr) -> bool
-        ensures { result ≡ is_table_of (file_of self.now).items (record { spec = spec_view spec.now; declr = declr_view declr.now }) }
+        ensures { result ≡ is_table (file_of self.now).items (record { spec = spec_view spec.now; declr = declr_view declr.now }) }
     {
         is_table(&self.values.kinds.cores, spec, declr)
     }
 
     /// Whether a word names a static object.
     pub fn is_static(&self, word: u32) -> bool
-        ensures { result ≡ is_static_of (file_of self.now).items word }
+        ensures { result ≡ is_static (file_of self.now).items word }
     {
         self.values.is_static(word)
     }
@@ -89,14 +89,14 @@ impl<'u> UnitNames<'u> {
     }
 
     fn is_defined(&self, word: u32) -> bool
-        ensures { result ≡ is_some (definition_in (definitions_of (file_of self.now).items) word) }
+        ensures { result ≡ is_some (definition_in (definitions (file_of self.now).items) word) }
     {
         self.signatures.contains_key(&word)
     }
 
     /// Whether a word names a function of the file.
     pub(crate) fn is_function(&self, word: u32) -> bool
-        ensures { result ≡ is_function_of (file_of self.now).items word }
+        ensures { result ≡ is_function (file_of self.now).items word }
     {
         self.is_defined(word) || self.prototypes.contains(&word)
     }

@@ -5,7 +5,7 @@ ghost use Rattle.std.specs.Option.{option_to_list};
 ghost use Rattle.pungi_api.specs.Rows.{row_in};
 ghost use Rattle.pungi_names.specs.First.{or_first};
 ghost use Rattle.pungi_names.specs.RowsView.{call_view, row_seen, entry_view};
-ghost use Rattle.pungi_types.specs.Exprs.{param_want as param_want_of, row_wants as row_wants_of};
+ghost use Rattle.pungi_types.specs.Exprs.{param_want, row_wants};
 
 use crate::first::keep_first;
 use indexmap::IndexMap;
@@ -22,7 +22,7 @@ pub(crate) struct RowCall<'u> {
 }
 
 fn param_want(param: Param) -> Want
-    ensures { result ≡ param_want_of param }
+    ensures { result ≡ param_want param }
 {
     match param {
         Param::Object | Param::ObjectOrNull => Want::OfKind(ValueKind::Object(None)),
@@ -35,7 +35,7 @@ fn param_want(param: Param) -> Want
 }
 
 fn put_wants(wants: &mut Vec<Want>, params: &[Param]) -> Result<(), Memory>
-    ensures { OnOk result (wants.new.items ≡ wants.old.items ++ map param_want_of params.now) }
+    ensures { OnOk result (wants.new.items ≡ wants.old.items ++ map param_want params.now) }
 {
     for param in params {
         wants.push(param_want(*param))?;
@@ -44,7 +44,7 @@ fn put_wants(wants: &mut Vec<Want>, params: &[Param]) -> Result<(), Memory>
 }
 
 fn row_wants(alloc: Global, row: &Row) -> Result<Vec<Want>, Memory>
-    ensures { IfOk result (λ wants. wants.items ≡ row_wants_of row.now.form row.now.params) }
+    ensures { IfOk result (λ wants. wants.items ≡ row_wants row.now.form row.now.params) }
 {
     let mut wants = Vec::new(alloc);
     match row.form {

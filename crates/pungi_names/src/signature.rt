@@ -1,9 +1,9 @@
 // What a call of a function takes and gives.
 ghost use Rattle.std.specs.Prelude.{◌≡◌, ◌++◌, IfOk, OnOk, map};
-ghost use Rattle.pungi_names.specs.CallsView.{signature_view, signature_of};
+ghost use Rattle.pungi_names.specs.CallsView.{signature_view, function_signature};
 ghost use Rattle.pungi_tree.specs.ExprView.{param_decl_view, param_decls_of, params_view};
 ghost use Rattle.pungi_tree.specs.UnitView.{unit_view};
-ghost use Rattle.pungi_types.specs.Exprs.{kind_want as kind_want_of, param_wants, params_wants as params_wants_of};
+ghost use Rattle.pungi_types.specs.Exprs.{kind_want, param_wants, params_wants};
 ghost use Rattle.pungi_types.specs.TypesView.{definition_view};
 
 use crate::kinds::Kinds;
@@ -21,7 +21,7 @@ pub(crate) struct Signature {
 }
 
 fn kind_want(kind: Option<ValueKind>) -> Want
-    ensures { result ≡ kind_want_of kind }
+    ensures { result ≡ kind_want kind }
 {
     match kind {
         None => Want::Anything,
@@ -39,7 +39,7 @@ fn put_wants(kinds: &Kinds, wants: &mut Vec<Want>, params: &Vec<ParamDecl>) -> R
 }
 
 fn params_wants(alloc: Global, kinds: &Kinds, params: &Params) -> Result<Vec<Want>, Memory>
-    ensures { IfOk result (λ wants. wants.items ≡ params_wants_of (unit_view kinds.now.cores.unit.now) (params_view params.now)) }
+    ensures { IfOk result (λ wants. wants.items ≡ params_wants (unit_view kinds.now.cores.unit.now) (params_view params.now)) }
 {
     let mut wants = Vec::new(alloc);
     put_wants(kinds, &mut wants, &params.list)?;
@@ -52,7 +52,7 @@ pub(crate) fn function_signature(
     kinds: &Kinds,
     function: &FunctionDef,
 ) -> Result<Signature, Memory>
-    ensures { IfOk result (λ s. signature_view s ≡ signature_of (unit_view kinds.now.cores.unit.now) (definition_view function.now)) }
+    ensures { IfOk result (λ s. signature_view s ≡ function_signature (unit_view kinds.now.cores.unit.now) (definition_view function.now)) }
 {
     let wants = params_wants(alloc, kinds, &function.params)?;
     Ok(Signature {

@@ -6,7 +6,7 @@ ghost use Rattle.pungi_names.specs.Depth.{known_at};
 ghost use Rattle.pungi_names.specs.Finds.{FindsTypedefs, FindsTags, IsStep};
 ghost use Rattle.pungi_tree.specs.UnitView.{unit_view};
 ghost use Rattle.pungi_types.specs.Files.{typedefs as typedefs_of};
-ghost use Rattle.pungi_types.specs.Kinds.{typedef_in, is_listed_type as is_listed_type_of};
+ghost use Rattle.pungi_types.specs.Kinds.{typedef_in, is_listed_type};
 ghost use Rattle.pungi_types.specs.TypesView.{typedef_view};
 
 use crate::written::{alias_of, own_core, struct_word};
@@ -17,7 +17,7 @@ use pungi_types::{Core, Typedef, is_listed_type};
 
 /// What the word of a typedef stands for, and how many typedefs lead there.
 #[derive(Clone, Copy)]
-pub(crate) struct Reached<'u> {
+pub(crate) struct DeclaredLocal<'u> {
     pub(crate) core: Core<'u>,
     pub(crate) stars: usize,
     pub(crate) depth: usize,
@@ -26,12 +26,12 @@ pub(crate) struct Reached<'u> {
 /// What a word is at once, or the word that it leads to with so many stars more.
 #[derive(Clone, Copy)]
 pub(crate) enum Step<'u> {
-    Ends(Reached<'u>),
+    Ends(DeclaredLocal<'u>),
     Leads(usize, u32),
 }
 
 fn typedef_step<'u>(unit: &Unit, tags: &IndexSet<u32>, word: u32, found: &Typedef<'u>) -> Step<'u>
-    requires unlisted { is_listed_type_of word ≡ false }
+    requires unlisted { is_listed_type word ≡ false }
     requires found { typedef_in (typedefs_of (unit_view unit.now)) word ≡ Some (typedef_view found.now) }
     requires tags { FindsTags (contains nat_eq tags.now) (unit_view unit.now) }
     ensures { IsStep (known_at (unit_view unit.now)) word result }
@@ -40,7 +40,7 @@ fn typedef_step<'u>(unit: &Unit, tags: &IndexSet<u32>, word: u32, found: &Typede
     let _ = word;
     match alias_of(&found.spec.base) {
         Some(next) => Step::Leads(found.stars, next.0),
-        None => Step::Ends(Reached {
+        None => Step::Ends(DeclaredLocal {
             core: own_core(
                 tags.contains(&struct_word(found.name, &found.spec.base).0),
                 found.name,
@@ -64,7 +64,7 @@ pub(crate) fn next_step<'u>(
     ensures { IsStep (known_at (unit_view unit.now)) word result }
 {
     if is_listed_type(word) {
-        return Step::Ends(Reached {
+        return Step::Ends(DeclaredLocal {
             core: Core::Listed(Name(word)),
             stars: 0,
             depth: 0,
@@ -72,7 +72,7 @@ pub(crate) fn next_step<'u>(
     }
     match typedefs.get(&word) {
         Some(found) => typedef_step(unit, tags, word, found),
-        None => Step::Ends(Reached {
+        None => Step::Ends(DeclaredLocal {
             core: Core::Other,
             stars: 0,
             depth: 0,

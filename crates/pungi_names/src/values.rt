@@ -6,7 +6,7 @@ ghost use Rattle.pungi_names.specs.FieldsView.{kind_in};
 ghost use Rattle.pungi_names.specs.StructsView.{kept_or};
 ghost use Rattle.pungi_tree.specs.UnitView.{unit_view};
 ghost use Rattle.pungi_types.specs.Kinds.{field_in_some, struct_fields};
-ghost use Rattle.pungi_types.specs.Names.{global_kind as global_kind_of, is_module as is_module_of, is_table_name, type_objects as type_objects_of, is_plain_static as is_plain_static_of};
+ghost use Rattle.pungi_types.specs.Names.{global_kind, is_module, is_table_name, type_objects as type_objects_of, is_plain_static};
 
 use crate::kinds::Kinds;
 use crate::meaning::Meaning;
@@ -24,16 +24,16 @@ pub(crate) struct Values<'u> {
     pub(crate) modules: IndexSet<u32>,
     pub(crate) type_objects: IndexSet<u32>,
     pub(crate) ghost fields_found: { (s : ℕ) (w : ℕ) → kept_or (option_map (kind_in w) (get nat_eq fields s)) None ≡ field_in_some (unit_view kinds.cores.unit.now) (struct_fields (unit_view kinds.cores.unit.now) s) w },
-    pub(crate) ghost globals_found: { (w : ℕ) → kept_or (get nat_eq globals w) None ≡ global_kind_of (unit_view kinds.cores.unit.now) w },
+    pub(crate) ghost globals_found: { (w : ℕ) → kept_or (get nat_eq globals w) None ≡ global_kind (unit_view kinds.cores.unit.now) w },
     pub(crate) ghost tables_found: { (w : ℕ) → contains nat_eq tables w ≡ is_table_name (unit_view kinds.cores.unit.now) w },
-    pub(crate) ghost modules_found: { (w : ℕ) → contains nat_eq modules w ≡ is_module_of (unit_view kinds.cores.unit.now) w },
+    pub(crate) ghost modules_found: { (w : ℕ) → contains nat_eq modules w ≡ is_module (unit_view kinds.cores.unit.now) w },
     pub(crate) ghost type_objects_found: { type_objects.keys ≡ type_objects_of (unit_view kinds.cores.unit.now) },
     pub(crate) ghost few: { length type_objects.keys + 24 < 2 ^ 32 },
 }
 
 /// A static that is used without `&`.
 fn is_plain_static(word: u32) -> bool
-    ensures { result ≡ is_plain_static_of word }
+    ensures { result ≡ is_plain_static word }
 {
     FIRST_STATIC <= word && !(FIRST_TYPE_OBJECT <= word)
 }
@@ -55,8 +55,8 @@ fn kind_of_field(fields: &IndexMap<u32, Option<ValueKind>>, word: u32) -> Option
 
 impl<'u> Values<'u> {
     ghost use Rattle.pungi_names.specs.MeaningView.{meaning_view};
-    ghost use Rattle.pungi_types.specs.Kinds.{field_kind as field_kind_of};
-    ghost use Rattle.pungi_types.specs.Names.{is_among, is_type_object as is_type_object_of, is_static as is_static_of, is_own_static as is_own_static_of, static_number as static_number_of, static_or_unknown, place_among};
+    ghost use Rattle.pungi_types.specs.Kinds.{field_kind};
+    ghost use Rattle.pungi_types.specs.Names.{is_among, is_type_object, is_static, is_own_static, static_number, static_or_unknown, place_among};
 
     fn field_of_struct(&self, name: u32, word: u32) -> Option<ValueKind>
         ensures { result ≡ field_in_some (unit_view self.now.kinds.cores.unit.now) (struct_fields (unit_view self.now.kinds.cores.unit.now) name) word }
@@ -69,7 +69,7 @@ impl<'u> Values<'u> {
 
     /// The kind of a field of the struct of a pointer.
     pub(crate) fn field_kind(&self, base: Option<ValueKind>, word: u32) -> Option<ValueKind>
-        ensures { result ≡ field_kind_of (unit_view self.now.kinds.cores.unit.now) base word }
+        ensures { result ≡ field_kind (unit_view self.now.kinds.cores.unit.now) base word }
     {
         match base {
             Some(ValueKind::Object(Some(name))) => self.field_of_struct(name.0, word),
@@ -86,7 +86,7 @@ impl<'u> Values<'u> {
 
     /// The kind of a variable.
     pub(crate) fn global_kind(&self, word: u32) -> Option<ValueKind>
-        ensures { result ≡ global_kind_of (unit_view self.now.kinds.cores.unit.now) word }
+        ensures { result ≡ global_kind (unit_view self.now.kinds.cores.unit.now) word }
     {
         match self.globals.get(&word) {
             Some(kind) => *kind,
@@ -96,7 +96,7 @@ impl<'u> Values<'u> {
 
     /// Whether a word names a table of type `PyModuleDef`.
     pub(crate) fn is_module(&self, word: u32) -> bool
-        ensures { result ≡ is_module_of (unit_view self.now.kinds.cores.unit.now) word }
+        ensures { result ≡ is_module (unit_view self.now.kinds.cores.unit.now) word }
     {
         self.modules.contains(&word)
     }
@@ -109,14 +109,14 @@ impl<'u> Values<'u> {
 
     /// Whether a word names a type object.
     pub(crate) fn is_type_object(&self, word: u32) -> bool
-        ensures { result ≡ is_type_object_of (unit_view self.now.kinds.cores.unit.now) word }
+        ensures { result ≡ is_type_object (unit_view self.now.kinds.cores.unit.now) word }
     {
         is_built_in_type_object(word) || self.has_type_object(word)
     }
 
     /// Whether a word names a static object.
     pub(crate) fn is_static(&self, word: u32) -> bool
-        ensures { result ≡ is_static_of (unit_view self.now.kinds.cores.unit.now) word }
+        ensures { result ≡ is_static (unit_view self.now.kinds.cores.unit.now) word }
     {
         is_plain_static(word) || self.is_type_object(word)
     }
@@ -140,7 +140,7 @@ impl<'u> Values<'u> {
 
     /// The number of a static's object.
     pub(crate) fn static_number(&self, word: u32) -> u32
-        ensures { result ≡ static_number_of (unit_view self.now.kinds.cores.unit.now) word }
+        ensures { result ≡ static_number (unit_view self.now.kinds.cores.unit.now) word }
     {
         if is_built_in_static(word) {
             word - FIRST_STATIC
@@ -151,7 +151,7 @@ impl<'u> Values<'u> {
 
     /// Whether a word names a static that is used without `&`, and is no table of the file.
     pub(crate) fn is_own_static(&self, word: u32) -> bool
-        ensures { result ≡ is_own_static_of (unit_view self.now.kinds.cores.unit.now) word }
+        ensures { result ≡ is_own_static (unit_view self.now.kinds.cores.unit.now) word }
     {
         is_plain_static(word) && !self.tables.contains(&word)
     }

@@ -1,8 +1,8 @@
 // What a type is, as it is written.
 ghost use Rattle.std.specs.Prelude.{◌≡◌, ◌&&◌, not, if◌then◌else◌};
-ghost use Rattle.pungi_names.specs.Depth.{alias_of as alias_of_base, struct_word as struct_word_of, own_core as own_core_of};
+ghost use Rattle.pungi_names.specs.Depth.{alias_of, struct_word, own_core};
 ghost use Rattle.pungi_tree.specs.ExprView.{base_view};
-ghost use Rattle.pungi_types.specs.Kinds.{is_struct, struct_of, no_core, written_tag as written_tag_of};
+ghost use Rattle.pungi_types.specs.Kinds.{is_struct, struct_of, no_core, written_tag};
 ghost use Rattle.pungi_types.specs.TypesView.{core_view};
 
 use pungi_base::{Key, Name};
@@ -11,7 +11,7 @@ use pungi_types::{Core, written_core, written_tag};
 
 /// The word that a type is.
 pub(crate) fn alias_of(base: &Base) -> Option<Name>
-    ensures { result ≡ alias_of_base (base_view base.now) }
+    ensures { result ≡ alias_of (base_view base.now) }
 {
     match base {
         Base::Alias(name) => Some(*name),
@@ -26,7 +26,7 @@ pub(crate) fn alias_of(base: &Base) -> Option<Name>
 
 /// The word by which a struct is found: its tag, or where it has none the word of its typedef.
 pub(crate) fn struct_word(name: Name, base: &Base) -> Name
-    ensures { result ≡ struct_word_of name (written_tag_of (base_view base.now)) }
+    ensures { result ≡ struct_word name (written_tag (base_view base.now)) }
 {
     match written_tag(base) {
         Some(tag) => tag,
@@ -45,7 +45,7 @@ fn untagged_core(of: Key, name: Name, is_tag: bool) -> Core<'static>
 
 /// The type that a typedef of a word writes itself.
 pub(crate) fn own_core(is_tag: bool, name: Name, base: &Base) -> Core<'_>
-    ensures { core_view result ≡ own_core_of is_tag name (base_view base.now) }
+    ensures { core_view result ≡ own_core is_tag name (base_view base.now) }
 {
     match base {
         Base::Tagged {

@@ -1,6 +1,7 @@
 -- Loops over lists of nodes, one node at a turn.
 --   before put front rest     the nodes of a list before others
---   Places put build          `build front` takes what comes behind `front`, and a node more in front of that is a node more of `front`
+--   Places put build          `build front` takes what comes after `front`, and a node more in front of that is a node
+--                             more of `front`
 --   ListTo more build whole front ts    all that is read is what `build front` makes of the rest, which is read with enough fuel
 --   list_turn, list_fail, list_end      one node more, a failure, and the end
 --   placed_shorter        fewer tokens are fewer with their places

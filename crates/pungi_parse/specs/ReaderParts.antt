@@ -1,11 +1,11 @@
 -- Parts of the readers that the program reads by functions of their own.
 --   joined o              what there is, where it is something itself
---   size_at low ts        what stands behind the bracket of an array, with the closing one
+--   size_at low ts        what stands after the bracket of an array, with the closing one
 --   size_depth o          how deep that is
---   function_front types ts    `( * word ) (`: the word, its place, and the tokens behind
+--   function_front types ts    `( * word ) (`: the word, its place, and the tokens after
 --   goes_on ts            something stands here that goes on with a postfix expression
 --   close_params ds dots ts    the closing parenthesis of these parameters
---   sizeof_front types ts      the tokens behind a parenthesis before a type
+--   sizeof_front types ts      the tokens after a parenthesis before a type
 --   member_or_step types e ts  a member of `e`, or `e` with a step
 use Rattle.std.specs.Prelude.{ℕ, Bool, false, ◌||◌, List, Option, Some, None, is_some}
 use Rattle.pungi_base.specs.declared.names.Name.{Name}

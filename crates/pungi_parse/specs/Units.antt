@@ -1,9 +1,11 @@
--- Which tokens are a unit, and where tokens that are none stop.
+-- Which tokens are a unit, and where other tokens stop.
 --   StandsAt types items ts rest    these items stand at the front of the tokens, are allowed under the type words, and are no deeper than trees may be
 --   IsUnit items ts     the tokens are those of a file of these items, which the grammar allows
 --   StopsAt ts pos      items stand in front of the token at this place, under the type words of all tokens, and none leave less
---   brackets_after n k  how many brackets are open behind a token, where `n` are open before it; a closing one without an opening one changes nothing
---   too_deep n ts       the place of the first token behind which more than `most_brackets` are open, where `n` are open before
+--   brackets_after n k  how many brackets are open after a token, where `n` are open before it; a closing one without
+--                       an opening one changes nothing
+--   too_deep n ts       the place of the first token after which more than `most_brackets` are open, where `n` are open
+--                       before
 --   most_brackets       how many brackets may be open at a time
 use Rattle.std.specs.Prelude.{◌≡◌, ℕ, suc, pred, ◌≤◌, Bool, true, false, nat_lt, if◌then◌else◌, List, [], ◌∷◌, length, Option, Some, None, is_some}
 use Rattle.pungi_base.specs.declared.kind.Kind.{Kind}

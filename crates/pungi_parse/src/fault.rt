@@ -11,10 +11,10 @@ pub enum ParseFault {
     /// Memory ran out.
     #[error("out of memory")]
     Memory,
-    /// A token behind which more than 64 brackets are open.
+    /// A token after which more than 64 brackets are open.
     #[error("{0}: too deep")]
     Deep(Pos),
-    /// The first token behind the longest front of the tokens that is a file (C11 6.9).
+    /// The first token after the longest front of the tokens that is a file (C11 6.9).
     #[error("{0}: not a unit")]
     NotAUnit(Pos),
 }

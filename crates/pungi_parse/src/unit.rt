@@ -21,8 +21,8 @@ use pungi_tree::{Item, Unit};
 use std::alloc::Global;
 
 /// The one syntax tree of a file with these tokens (C11 6.9), whose expressions and statements have at most 256 nodes on
-/// a path. A token behind which more than 64 brackets are open is looked for first. Where there is no such tree, the
-/// fault is at the first token behind the longest front that is one under the type words of all tokens.
+/// a path. A token after which more than 64 brackets are open is looked for first. Where there is no such tree, the
+/// fault is at the first token after the longest front that is one under the type words of all tokens.
 pub fn parse(alloc: Global, tokens: &[Token]) -> Result<Unit, ParseFault>
     ensures unit { IfOk result (λ u. IsUnit (unit_view u) (placed tokens.now)) }
     ensures only { (items : List PlainItem) → too_deep 0 (placed tokens.now) ≡ None → IsUnit items (placed tokens.now) → MatchResult result (λ u. unit_view u ≡ items) (λ e. e ≡ ParseFault.Memory) }

@@ -31,7 +31,7 @@ told (f and g) first h = elim (is_found f) as (λ b. (is_found f ≡ b) → (b |
   | false ↦ λ e k. told g (least_from first f) k
 ] refl h
 
--- where no rule is told, none holds
+-- where no rule is reported, none holds
 pub clean : (fs : Findings) → least_from None fs ≡ None → Clean fs
 clean fs h = elim (is_found fs) as (λ b. (is_found fs ≡ b) → Clean fs) [
   | true ↦ λ e. let t = told fs None e in let k = ap is_some h in absurd (cc)

@@ -6,7 +6,7 @@ use Rattle.pungi_resolved.specs.Actions.{Action, Actions, no_actions, action_and
 use Rattle.pungi_resolved.specs.ValueView.{values_of}
 use Rattle.pungi_resolved.specs.ActionView.{actions_of}
 
--- these values, and others behind them
+-- these values, and others after them
 abbrev pub values_before : List Value → Values → Values
 values_before [] vs = vs
 values_before (x ∷ xs) vs = value_and x (values_before xs vs)
@@ -19,7 +19,7 @@ pub values_before-all : (xs : List Value) → values_before xs no_values ≡ val
 values_before-all [] = refl
 values_before-all (x ∷ xs) = ap (value_and x) (values_before-all xs)
 
--- these actions, and others behind them
+-- these actions, and others after them
 abbrev pub actions_before : List Action → Actions → Actions
 actions_before [] as' = as'
 actions_before (x ∷ xs) as' = action_and x (actions_before xs as')

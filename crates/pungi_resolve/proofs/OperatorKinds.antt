@@ -4,7 +4,7 @@ use Rattle.std.specs.Prelude.{◌&&◌, ◌||◌, not, is_some, if◌then◌else
 use Rattle.pungi_types.specs.declared.kind.ValueKind.{ValueKind}
 use Rattle.pungi_types.specs.declared.kind.ValueKind.TheVariants as kinds
 use Rattle.pungi_types.specs.declared.operator.Prefix.TheVariants as prefixes
-use Rattle.pungi_types.specs.Operators.{is_integer, is_pointer, is_void, is_null, is_text, has_same, struct_part, wider, fits, comparable, joinable, joined, both_known}
+use Rattle.pungi_types.specs.Operators.{is_integer, is_pointer, is_void, is_null, is_text, has_same, struct_part, wider, fits, comparable, joinable, joined_kind, both_known}
 use Rattle.pungi_types.specs.Exprs.{step_kind, unary_wrong, cond_kind, cond_wrong, cast_kind, cast_wrong, crosses}
 use Rattle.pungi_resolve.proofs.Clean.{or_left, or_right, and_true}
 
@@ -125,7 +125,7 @@ assign-kept false false false a b s t n e w p =
     let f = or_left (is_some a && true) _ w in
     absurd (none-there (is_some a) s f)
 
-joined-known : (a b : Option ValueKind) → is_some a ≡ true → is_some b ≡ true → is_some (joined a b) ≡ true
+joined-known : (a b : Option ValueKind) → is_some a ≡ true → is_some b ≡ true → is_some (joined_kind a b) ≡ true
 joined-known a b s t =
     if-some (is_integer a && is_integer b) (Some (wider a b)) _ refl
     (if-some (is_null a) b _ t (if-some (is_null b) a _ s (if-some (is_text a) a _ s (if-some (has_same (struct_part a) (struct_part b)) a (Some (kinds.Object None)) s refl))))
@@ -136,7 +136,7 @@ chosen-fits _ _ _ _ _ _ _ w x y h = absurd (cc)
 
 pub cond-kept : (c a b : Option ValueKind) → is_some c ≡ true → is_some a ≡ true → is_some b ≡ true → cond_wrong c a b ≡ false → is_some (cond_kind c a b) ≡ true
 cond-kept c a b r s t w =
-    if-true ((is_some c && not (is_void c)) && (both_known a b && joinable a b)) (joined a b)
+    if-true ((is_some c && not (is_void c)) && (both_known a b && joinable a b)) (joined_kind a b)
     (chosen-fits (is_some c) (is_void c) (is_void a) (is_void b) (is_some a) (is_some b) (joinable a b) r s t w) (joined-known a b s t)
 
 cast-fits : (st vt vk sk c f : Bool) → st ≡ true → sk ≡ true → c ≡ false → (st && (not vt && (vk || (sk && (not c && not f))))) ≡ false → ((vt && sk) || f) ≡ true

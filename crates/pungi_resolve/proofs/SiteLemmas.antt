@@ -1,4 +1,4 @@
--- A statement only adds locals, and counts those that it declares; what is left behind it is what was there before.
+-- A statement only adds locals, and counts those that it declares; what is left after it is what was there before.
 use Rattle.std.proofs.Common.{◌≡◌, ℕ, ◌+◌, ◌-◌, List, [], ◌∷◌, ◌++◌, length, drop, refl, sym, ap, ◌∙◌, append_assoc, add_assoc, add-zero, arith, length-append, Option, suc, subst}
 use Rattle.pungi_tree.specs.Syntax.{Spec, VarDecl, var_decl, decl, ForStart, start_decl, start_expr, Stmt, declare, Stmts, no_stmts, stmt_and}
 use Rattle.pungi_types.specs.Files.{Definition, declr_name}
@@ -7,7 +7,7 @@ use Rattle.pungi_types.specs.Kinds.{declared_kind}
 use Rattle.pungi_types.specs.Names.{Env}
 use Rattle.pungi_types.specs.Labels.{stmt_locals, stmts_locals, start_locals}
 use Rattle.pungi_resolve.specs.Functions.{first_site}
-use Rattle.pungi_resolve.specs.Stmts.{Site, with_var, with_vars, with_start, after}
+use Rattle.pungi_resolve.specs.Stmts.{Site, with_var, with_vars, with_start, site_after}
 use Rattle.pungi_types.specs.declared.kind.ValueKind.{ValueKind}
 use Rattle.pungi_types.specs.declared.local.Local.{Local}
 use Rattle.pungi_scope.specs.ScopeEnv.{inner_env}
@@ -46,13 +46,13 @@ adds-vars f s (v ∷ vs) =
 adds-count : (f : Site) (n : ℕ) → Adds f (record f { next = f.next + n }) n
 adds-count f n = record { more = []; locals = refl; next = refl }
 
-adds-stmt : (f : Site) (s : Stmt) → Adds f (after f s) (stmt_locals s)
+adds-stmt : (f : Site) (s : Stmt) → Adds f (site_after f s) (stmt_locals s)
 adds-stmt f (declare p (decl qs s vs)) = adds-vars f s vs
 adds-stmt f s = adds-count f (stmt_locals s)
 
 adds-stmts : (f : Site) (ss : Stmts) → Adds f (after_all f ss) (stmts_locals ss)
 adds-stmts f no_stmts = adds-nothing f
-adds-stmts f (stmt_and s ss) = adds-both f (after f s) (after_all (after f s) ss) (stmt_locals s) (stmts_locals ss) (adds-stmt f s) (adds-stmts (after f s) ss)
+adds-stmts f (stmt_and s ss) = adds-both f (site_after f s) (after_all (site_after f s) ss) (stmt_locals s) (stmts_locals ss) (adds-stmt f s) (adds-stmts (site_after f s) ss)
 
 adds-start : (f : Site) (a : ForStart) → Adds f (with_start f a) (start_locals a)
 adds-start f (start_decl (decl qs s vs)) = adds-vars f s vs
@@ -97,9 +97,9 @@ left env old new r n a =
     in
     ap (λ l. made l new.next) back ∙ ap (λ k. made old.locals k) a.next
 
--- behind a statement that is part of another
+-- after a statement that is part of another
 pub left_part : (env : Env) (old new final : Walk) (r : Option ValueKind) (s : Stmt) (k : ℕ) → k ≡ length old.locals
-    → site_of env new r ≡ after (site_of env old r) s → final ≡ record new { locals = drop (length new.locals - k) new.locals }
+    → site_of env new r ≡ site_after (site_of env old r) s → final ≡ record new { locals = drop (length new.locals - k) new.locals }
     → final ≡ record old { next = old.next + stmt_locals s }
 left_part env old new final r s k kept site e =
     let F = site_of env old r in
@@ -107,7 +107,7 @@ left_part env old new final r s k kept site e =
     let adds : Adds F (site_of env new r) (stmt_locals s) = subst P (sym site) (adds-stmt F s) in
     e ∙ ap (λ (n : ℕ). record new { locals = drop (length new.locals - n) new.locals }) kept ∙ left env old new r (stmt_locals s) adds
 
--- behind a block
+-- after a block
 pub left_block : (env : Env) (old new final : Walk) (r : Option ValueKind) (ss : Stmts) (k : ℕ) → k ≡ length old.locals
     → site_of env new r ≡ after_all (site_of env old r) ss → final ≡ record new { locals = drop (length new.locals - k) new.locals }
     → final ≡ record old { next = old.next + stmts_locals ss }
@@ -117,7 +117,7 @@ left_block env old new final r ss k kept site e =
     let adds : Adds F (site_of env new r) (stmts_locals ss) = subst P (sym site) (adds-stmts F ss) in
     e ∙ ap (λ (n : ℕ). record new { locals = drop (length new.locals - n) new.locals }) kept ∙ left env old new r (stmts_locals ss) adds
 
--- behind a `for`
+-- after a `for`
 pub left_for : (env : Env) (old one two final : Walk) (r : Option ValueKind) (a : ForStart) (n k : ℕ) → k ≡ length old.locals
     → site_of env one r ≡ with_start (site_of env old r) a → two ≡ record one { next = one.next + n }
     → final ≡ record two { locals = drop (length two.locals - k) two.locals }

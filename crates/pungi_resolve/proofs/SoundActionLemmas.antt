@@ -1,26 +1,26 @@
 -- What is sound by the test has the fact for each part.
 use Rattle.std.proofs.Common.{◌≡◌, true, List, [], ◌∷◌}
-use Rattle.pungi_resolved.specs.Actions.{Reached, Action, block_of, reach, evaluate, test, test_else, repeat_while, repeat_until, repeat_for, switch_on, at_case, at_default, at_label, jump, leave, next_turn, give, Actions, no_actions, action_and}
+use Rattle.pungi_resolved.specs.Actions.{DeclaredLocal, Action, block, declare, do_expr, if_only, if_else, while, do_while, for, switch, case, default, label, goto, break, continue, return, Actions, no_actions, action_and}
 use Rattle.pungi_resolve.specs.Sound.{is_sound, is_sound_option, are_sound_locals, is_sound_action, are_sound_actions}
 use Rattle.pungi_resolve.specs.SoundActions.{AreSoundLocals, IsSoundAction, AreSoundActions}
 use Rattle.pungi_resolve.proofs.Clean.{and_left, and_right}
 
-locals-hold : (rs : List Reached) → are_sound_locals rs ≡ true → AreSoundLocals rs
+locals-hold : (rs : List DeclaredLocal) → are_sound_locals rs ≡ true → AreSoundLocals rs
 locals-hold [] h = tt
 locals-hold (r ∷ rs) h = (and_left _ _ h, locals-hold rs (and_right (is_sound_option r.value) _ h))
 
 mutual
   pub action-holds : (a : Action) → is_sound_action a ≡ true → IsSoundAction a
-  action-holds (block_of p ss q) h = actions-hold ss h
-  action-holds (reach p rs) h = locals-hold rs h
-  action-holds (evaluate p v) h = h
-  action-holds (test p v a) h = (and_left _ _ h, action-holds a (and_right (is_sound v) _ h))
-  action-holds (test_else p v a b) h =
+  action-holds (block p ss q) h = actions-hold ss h
+  action-holds (declare p rs) h = locals-hold rs h
+  action-holds (do_expr p v) h = h
+  action-holds (if_only p v a) h = (and_left _ _ h, action-holds a (and_right (is_sound v) _ h))
+  action-holds (if_else p v a b) h =
       let r = and_right (is_sound v) _ h in
       (and_left _ _ h, action-holds a (and_left (is_sound_action a) (is_sound_action b) r), action-holds b (and_right (is_sound_action a) _ r))
-  action-holds (repeat_while p v a) h = (and_left _ _ h, action-holds a (and_right (is_sound v) _ h))
-  action-holds (repeat_until p a v) h = (action-holds a (and_left (is_sound_action a) (is_sound v) h), and_right (is_sound_action a) _ h)
-  action-holds (repeat_for p rs u v w a) h =
+  action-holds (while p v a) h = (and_left _ _ h, action-holds a (and_right (is_sound v) _ h))
+  action-holds (do_while p a v) h = (action-holds a (and_left (is_sound_action a) (is_sound v) h), and_right (is_sound_action a) _ h)
+  action-holds (for p rs u v w a) h =
       let r1 = and_right (are_sound_locals rs) _ h in
       let r2 = and_right (is_sound_option u) _ r1 in
       let r3 = and_right (is_sound_option v) _ r2 in (
@@ -30,14 +30,14 @@ mutual
         and_left (is_sound_option w) _ r3,
         action-holds a (and_right (is_sound_option w) _ r3),
       )
-  action-holds (switch_on p v a) h = (and_left _ _ h, action-holds a (and_right (is_sound v) _ h))
-  action-holds (at_case p v a) h = action-holds a h
-  action-holds (at_default p a) h = action-holds a h
-  action-holds (at_label p n a) h = action-holds a h
-  action-holds (jump p n) h = tt
-  action-holds (leave p) h = tt
-  action-holds (next_turn p) h = tt
-  action-holds (give p v) h = h
+  action-holds (switch p v a) h = (and_left _ _ h, action-holds a (and_right (is_sound v) _ h))
+  action-holds (case p v a) h = action-holds a h
+  action-holds (default p a) h = action-holds a h
+  action-holds (label p n a) h = action-holds a h
+  action-holds (goto p n) h = tt
+  action-holds (break p) h = tt
+  action-holds (continue p) h = tt
+  action-holds (return p v) h = h
 
   actions-hold : (as' : Actions) → are_sound_actions as' ≡ true → AreSoundActions as'
   actions-hold no_actions h = tt

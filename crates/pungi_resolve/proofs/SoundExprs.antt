@@ -14,8 +14,8 @@ use Rattle.pungi_types.specs.Names.{Env, meaning_of, local_in}
 use Rattle.pungi_types.specs.Kinds.{type_name_kind, field_kind}
 use Rattle.pungi_types.specs.Findings.{Findings, nothing_found, ◌and◌}
 use Rattle.pungi_types.specs.Operators.{prefix_of, is_bits, is_arithmetic, is_order, is_equality, is_bits_assign, is_arithmetic_assign, is_pointer, struct_part}
-use Rattle.pungi_types.specs.Exprs.{kind_of, is_place, is_address, is_left_out, is_step_or_sign, names_type_object, is_module_address, callee, wants, wants_module, other_wants, are_met, is_word, unary_kind, unary_wrong, binary_wrong, assign_wrong, cond_wrong, int_kind, is_bad_int, result_kind, used, n1, n2, n3, n4, n5, n9, n10, n12, n13, n14, node_findings, expr_findings, args_findings}
-use Rattle.pungi_resolve.specs.Exprs.{resolve, place_of, resolve_all, unary_value, int_value, convert, want_kind, expr_pos, module_behind, callee_name}
+use Rattle.pungi_types.specs.Exprs.{kind_of, is_place, is_address, is_left_out, is_step_or_sign, names_type_object, is_module_address, callee, wants, wants_module, other_wants, are_met, is_word, unary_kind, unary_wrong, binary_wrong, assign_wrong, cond_wrong, int_kind, is_bad_int, result_kind, void_use, n1, n2, n3, n4, n5, n9, n10, n12, n13, n14, node_findings, expr_findings, args_findings}
+use Rattle.pungi_resolve.specs.Exprs.{resolve, place_of, resolve_all, unary_value, int_value, convert, want_kind, expr_pos, module_address, callee_name}
 use Rattle.pungi_resolve.specs.Sound.{is_sound, are_sound, is_sound_place}
 use Rattle.pungi_resolve.proofs.Clean.{Clean, left, right, not_when, not_false, is_there, and_true, and_right}
 use Rattle.pungi_resolve.proofs.Known.{HasKinds, answers, place-not_void}
@@ -85,7 +85,7 @@ int-good env p v l u k =
     let i = int-known v l u (not_when _ p 14 k.fourteen) in
     record { known = i; sound = int-sound p v (int_kind v l u) i; place = λ s. absurd (cc) }
 
--- what the operator before an operand asks of it
+-- what the operator before an operand requires of it
 record Before (env : Env) (pr : Prefix) (e : Expr) : Type 0 where
   two : is_left_out pr ≡ false
   five : (is_address pr && not (names_type_object env e)) ≡ false
@@ -121,7 +121,7 @@ unless false fs c e = c
 
 -- an argument: a module table, or what is sound as an expression
 arg-sound : (env : Env) (ws : List Want) (e : Expr) (b : Bool) → (wants_module ws && is_module_address env e) ≡ b → (b ≡ false → is_sound (resolve env e) ≡ true)
-    → is_sound (if b then module_behind e else convert (expr_pos e) (want_kind ws) (kind_of env e) (resolve env e)) ≡ true
+    → is_sound (if b then module_address e else convert (expr_pos e) (want_kind ws) (kind_of env e) (resolve env e)) ≡ true
 arg-sound env ws e true t g = module-sound env e (and_right (wants_module ws) (is_module_address env e) t)
 arg-sound env ws e false t g = convert-same (expr_pos e) (want_kind ws) (kind_of env e) (resolve env e) ∙ g refl
 
@@ -233,4 +233,4 @@ mutual
   args-good env h ws (expr_and e es) c =
       and_true _ _
       (arg-sound env ws e (wants_module ws && is_module_address env e) refl (λ k. (expr-good env h e (left (expr_findings env e) _ (unless (wants_module ws && is_module_address env e) _ (left _ _ c) k))).sound))
-      (args-good env h (other_wants ws) es (right (if wants_module ws && is_module_address env e then nothing_found else expr_findings env e and used env e) _ c))
+      (args-good env h (other_wants ws) es (right (if wants_module ws && is_module_address env e then nothing_found else expr_findings env e and void_use env e) _ c))

@@ -1,4 +1,4 @@
--- A function of which no rule is told is sound once it is resolved.
+-- A function in which no rule holds is sound once it is resolved.
 use Rattle.std.proofs.Common.{◌≡◌, ◌∙◌, ℕ, suc, arith, Bool, true, false, List, [], ◌∷◌, Option, Some, None, refl, sym, ap, subst}
 use Rattle.std.specs.Prelude.{IsTrue, ◌==◌, ◌&&◌, ◌||◌, not, is_some, is_none, slice_get, if◌then◌else◌}
 use Rattle.std.proofs.lemmas.Bool.Decides.{nat_tests}
@@ -69,7 +69,7 @@ parts-sound : (f : Frame) (d : Definition) → HasKinds f.env → Clean (parts_f
 parts-sound f d h c =
     of_params f d.pos d.body d.params h (left (params_findings f d.params) _ c) (right (label_findings [] d.body) _ (right (params_findings f d.params) _ c))
 
--- .. the rules that are told
+-- .. the rules that are reported
 none-told : (d : Definition) (fs : Findings) → least (or_sizes d fs (least fs)) ≡ None → least fs ≡ None
 none-told d fs h = elim (least fs) as (λ o. (least fs ≡ o) → least (or_sizes d fs o) ≡ None → least fs ≡ None) [
   | Some x ↦ λ e k. k

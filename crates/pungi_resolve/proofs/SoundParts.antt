@@ -16,7 +16,7 @@ use Rattle.pungi_types.specs.Kinds.{field_kind}
 use Rattle.pungi_types.specs.Names.{Env, Meaning, a_local, a_global, a_function, a_static, unknown, local_in, local_or, global_or, global_kind, is_function, is_own_static, static_number}
 use Rattle.pungi_types.specs.Operators.{prefix_of, is_integer, is_void, is_order, is_equality, is_arithmetic, is_arithmetic_assign, struct_part, wider, is_same_kind}
 use Rattle.pungi_types.specs.Exprs.{Callee, no_word, a_value, defined, a_row, no_function, callee, local_called_or, defined_or, row_or, is_refused, result_kind, is_unknown_call, is_value_called, takes_arguments, is_function_meaning, is_unknown, is_slot, meaning_kind, is_word, is_address, names_type_object, names_module, is_module_address}
-use Rattle.pungi_resolve.specs.Exprs.{convert, convert_some, cast_value, read_as, field_of, word_place, word_value, or_int, binary_value, assign_value, call_value, static_behind, module_behind}
+use Rattle.pungi_resolve.specs.Exprs.{convert, convert_some, cast_value, read_as, field_of, word_place, word_value, or_int, binary_value, assign_value, call_value, static_address, module_address}
 use Rattle.pungi_resolved.specs.Values.{Value, Values, Place, computed, compared, joined_by, updated, stored, dropped, cast_of}
 use Rattle.pungi_resolve.specs.Sound.{is_sound, are_sound, is_sound_place}
 use Rattle.pungi_resolve.proofs.Clean.{and_right}
@@ -122,15 +122,15 @@ word-holds file p n None h f u =
     ] f u
 
 -- .. addresses
-pub static-sound : (env : Env) (p : Pos) (e : Expr) → names_type_object env e ≡ true → is_sound (static_behind env p e) ≡ true
+pub static-sound : (env : Env) (p : Pos) (e : Expr) → names_type_object env e ≡ true → is_sound (static_address env p e) ≡ true
 static-sound env p (word q n) h = refl
 static-sound env p _ h = absurd (cc)
 
-under-module : (env : Env) (p : Pos) (k : Kind) (e : Expr) → names_module env e ≡ true → is_sound (module_behind (unary p k e)) ≡ true
+under-module : (env : Env) (p : Pos) (k : Kind) (e : Expr) → names_module env e ≡ true → is_sound (module_address (unary p k e)) ≡ true
 under-module env p k (word q n) h = refl
 under-module env p k _ h = absurd (cc)
 
-pub module-sound : (env : Env) (e : Expr) → is_module_address env e ≡ true → is_sound (module_behind e) ≡ true
+pub module-sound : (env : Env) (e : Expr) → is_module_address env e ≡ true → is_sound (module_address e) ≡ true
 module-sound env (unary p k e) h = under-module env p k e (and_right (is_address (prefix_of k)) (names_module env e) h)
 module-sound env _ h = absurd (cc)
 

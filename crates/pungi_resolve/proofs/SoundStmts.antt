@@ -12,9 +12,9 @@ use Rattle.pungi_types.specs.Operators.{is_void}
 use Rattle.pungi_types.specs.Exprs.{kind_of, expr_findings}
 use Rattle.pungi_types.specs.Labels.{switch_findings}
 use Rattle.pungi_resolve.specs.Exprs.{resolve}
-use Rattle.pungi_resolve.specs.Stmts.{Site, with_vars, with_start, after, initial, reached, start_reached, start_value, option_value, returned, action, actions}
+use Rattle.pungi_resolve.specs.Stmts.{Site, with_vars, with_start, site_after, initial_value, declared_locals, start_declared, start_value, option_value, return_value, action, actions}
 use Rattle.pungi_resolve.specs.Sound.{is_sound, is_sound_option, are_sound_locals, is_sound_action, are_sound_actions}
-use Rattle.pungi_types.specs.Stmts.{Frame, spec_pos, has_file_storage, declared_n1, declared_n8, initial_findings, after_var, after_vars, var_findings, vars_findings, condition_findings, option_findings, option_condition, return_findings, switched_findings, inside, in_loop, in_switch, in_block, labelled, start_frame, behind, after_stmt, start_findings, stmt_findings, stmts_findings}
+use Rattle.pungi_types.specs.Stmts.{Frame, spec_pos, has_file_storage, declared_n1, declared_n8, first_value_findings, after_var, after_vars, var_findings, vars_findings, condition_findings, option_findings, option_condition, return_findings, switched_findings, in_part, in_loop, in_switch, in_block, in_label, start_frame, after_part, after_stmt, start_findings, stmt_findings, stmts_findings}
 use Rattle.pungi_resolve.proofs.Clean.{Clean, left, right, not_when, or_left, and_true}
 use Rattle.pungi_resolve.proofs.Known.{HasKinds, one_more, is_value_kind, declared-not_void}
 use Rattle.pungi_resolve.proofs.SoundParts.{convert-same}
@@ -30,17 +30,17 @@ value_kind (Some k) a b = rw b refl
 
 -- .. declarations
 initial-sound : (f : Frame) (s : Spec) (d : Declr) (i : Option Init) → HasKinds (after_var f s (var_decl d i)).env
-    → Clean (initial_findings (after_var f s (var_decl d i)).env (declared_kind f.env.file.items s d) (declr_pos d) i) → is_sound_option (initial (site f) s (var_decl d i)) ≡ true
+    → Clean (first_value_findings (after_var f s (var_decl d i)).env (declared_kind f.env.file.items s d) (declr_pos d) i) → is_sound_option (initial_value (site f) s (var_decl d i)) ≡ true
 initial-sound f s d None h c = refl
 initial-sound f s d (Some (table ts)) h c = refl
 initial-sound f s d (Some (value e)) h c =
     let env = (after_var f s (var_decl d None)).env in
     convert-same (declr_pos d) (declared_kind f.env.file.items s d) (kind_of env e) (resolve env e) ∙ (expr-good env h e (left (expr_findings env e) _ c)).sound
 
--- variables, and the names behind them
+-- variables, and the names after them
 pub record Declared (f : Frame) (s : Spec) (vs : List VarDecl) : Type 0 where
   pub names : HasKinds (after_vars f s vs).env
-  pub sound : are_sound_locals (reached (site f) s vs) ≡ true
+  pub sound : are_sound_locals (declared_locals (site f) s vs) ≡ true
 
 pub vars-sound : (f : Frame) (qs : List Key) (s : Spec) (vs : List VarDecl) → HasKinds f.env → Clean (vars_findings f qs s vs) → Declared f s vs
 vars-sound f qs s [] h c = record { names = h; sound = refl }
@@ -53,7 +53,7 @@ vars-sound f qs s (var_decl d i ∷ vs) h c =
     let two = right (declared_n8 f.env f.block (declr_name d) (declr_pos d)) _ (right (declared_n1 qs s (declared_kind f.env.file.items s d)) _ one) in
     record { names = rest.names; sound = and_true _ _ (initial-sound f s d i g two) rest.sound }
 
--- .. the sites behind what declares
+-- .. the sites after what declares
 vars-site : (f : Frame) (s : Spec) (vs : List VarDecl) → site (after_vars f s vs) ≡ with_vars (site f) s vs
 vars-site f s [] = refl
 vars-site f s (var_decl d i ∷ vs) = vars-site (after_var f s (var_decl d i)) s vs
@@ -62,7 +62,7 @@ pub start-site : (f : Frame) (a : ForStart) → site (start_frame f a) ≡ with_
 start-site f (start_decl (decl qs s vs)) = vars-site (record f { block = [] }) s vs
 start-site f (start_expr e) = refl
 
-pub stmt-site : (f : Frame) (s : Stmt) → site (after_stmt f s) ≡ after (site f) s
+pub stmt-site : (f : Frame) (s : Stmt) → site (after_stmt f s) ≡ site_after (site f) s
 stmt-site f (declare p (decl qs s vs)) = vars-site f s vs
 stmt-site f _ = refl
 
@@ -78,7 +78,7 @@ option_condition-sound : (env : Env) → HasKinds env → (p : Pos) (e : Option 
 option_condition-sound env h p None c = refl
 option_condition-sound env h p (Some e) c = condition-sound env h p e c
 
-return-sound : (f : Frame) → HasKinds f.env → (p : Pos) (e : Option Expr) → Clean (return_findings f.env f.result p e) → is_sound_option (returned (site f) p e) ≡ true
+return-sound : (f : Frame) → HasKinds f.env → (p : Pos) (e : Option Expr) → Clean (return_findings f.env f.result p e) → is_sound_option (return_value (site f) p e) ≡ true
 return-sound f h p None c = refl
 return-sound f h p (Some e) c =
     convert-same p f.result (kind_of f.env e) (resolve f.env e) ∙ (expr-good f.env h e (left (expr_findings f.env e) _ c)).sound
@@ -86,10 +86,10 @@ return-sound f h p (Some e) c =
 switched-sound : (env : Env) → HasKinds env → (p : Pos) (e : Expr) → Clean (switched_findings env p e) → is_sound (resolve env e) ≡ true
 switched-sound env h p e c = (expr-good env h e (left (expr_findings env e) _ c)).sound
 
--- what begins a `for`, and the names behind it
+-- what begins a `for`, and the names after it
 record Started (f : Frame) (a : ForStart) : Type 0 where
   names : HasKinds (start_frame f a).env
-  locals : are_sound_locals (start_reached (site f) a) ≡ true
+  locals : are_sound_locals (start_declared (site f) a) ≡ true
   first : is_sound_option (start_value f.env a) ≡ true
 
 start-sound : (f : Frame) → HasKinds f.env → (a : ForStart) → Clean (start_findings f a) → Started f a
@@ -99,7 +99,7 @@ start-sound f h (start_decl (decl qs s vs)) c =
 start-sound f h (start_expr e) c = record { names = h; locals = refl; first = option-sound f.env h e c }
 
 -- .. statements
--- the names behind a statement in which no rule holds
+-- the names after a statement in which no rule holds
 pub names-behind : (f : Frame) → HasKinds f.env → (s : Stmt) → Clean (stmt_findings f s) → HasKinds (after_stmt f s).env
 names-behind f h (declare p (decl qs s vs)) c = (vars-sound f qs s vs h c).names
 names-behind f h _ c = h
@@ -110,11 +110,11 @@ mutual
   stmt-sound f h (declare p (decl qs s vs)) c = (vars-sound f qs s vs h c).sound
   stmt-sound f h (do_expr p e) c = option-sound f.env h e c
   stmt-sound f h (if_only p e s) c =
-      and_true _ _ (condition-sound f.env h p e (left (condition_findings f.env p e) _ c)) (stmt-sound (inside f) h s (right (condition_findings f.env p e) _ c))
+      and_true _ _ (condition-sound f.env h p e (left (condition_findings f.env p e) _ c)) (stmt-sound (in_part f) h s (right (condition_findings f.env p e) _ c))
   stmt-sound f h (if_else p e s t) c =
       let rest = right (condition_findings f.env p e) _ c in
       and_true _ _ (condition-sound f.env h p e (left (condition_findings f.env p e) _ c))
-      (and_true _ _ (stmt-sound (inside f) h s (left (stmt_findings (inside f) s) _ rest)) (stmt-sound (behind (inside f) s) h t (right (stmt_findings (inside f) s) _ rest)))
+      (and_true _ _ (stmt-sound (in_part f) h s (left (stmt_findings (in_part f) s) _ rest)) (stmt-sound (after_part (in_part f) s) h t (right (stmt_findings (in_part f) s) _ rest)))
   stmt-sound f h (while p e s) c =
       and_true _ _ (condition-sound f.env h p e (left (condition_findings f.env p e) _ c)) (stmt-sound (in_loop f) h s (right (condition_findings f.env p e) _ c))
   stmt-sound f h (do_while p s e) c =
@@ -131,9 +131,9 @@ mutual
   stmt-sound f h (switch p e s) c =
       and_true _ _ (switched-sound f.env h p e (left (switched_findings f.env p e) _ c))
       (stmt-sound (in_switch f) h s (right (switch_findings s) _ (right (switched_findings f.env p e) _ c)))
-  stmt-sound f h (case p e s) c = stmt-sound (labelled f) h s (right (expr_findings f.env e) _ (right _ _ c))
-  stmt-sound f h (default p s) c = stmt-sound (labelled f) h s (right _ _ c)
-  stmt-sound f h (label p n s) c = stmt-sound (labelled f) h s c
+  stmt-sound f h (case p e s) c = stmt-sound (in_label f) h s (right (expr_findings f.env e) _ (right _ _ c))
+  stmt-sound f h (default p s) c = stmt-sound (in_label f) h s (right _ _ c)
+  stmt-sound f h (label p n s) c = stmt-sound (in_label f) h s c
   stmt-sound f h (goto p n q) c = refl
   stmt-sound f h (break p) c = refl
   stmt-sound f h (continue p) c = refl

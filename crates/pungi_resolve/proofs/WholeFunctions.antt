@@ -66,7 +66,7 @@ counted f (params ds v dots) = list_counted f ds
 made : Name → Pos → List (Option ValueKind) → ℕ → Option ValueKind → Action → ResolvedFunction
 made n p ps m k a = record { name = n; pos = p; params = ps; locals = m; result = k; body = a }
 
--- what is answered for a function
+-- what is returned for a function
 pub whole : (env : Env) (f : FunctionDef) (w v : Walk) (k : Option ValueKind) (ps : List (Option ValueKind)) (m : ℕ) (a : Action)
     → w.locals ≡ [] → w.next ≡ 0 → k ≡ result_kind env (definition_view f)
     → site_of env v k ≡ params_site (site_of env w k) (params_view f.params)

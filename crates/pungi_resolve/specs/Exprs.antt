@@ -1,7 +1,8 @@
 -- How an expression of a function in which no rule holds is resolved.
 --   convert_some, convert p to from v    a conversion between two integer kinds that differ
 --   want_kind, expr_pos    the kind of a wanted argument, and where an expression stands
---   read_as, word_place, word_value, int_value, field_of, or_int, binary_value, assign_value, cast_value, call_value, callee_name, static_behind, module_behind, post_kind,
+--   read_as, word_place, word_value, int_value, field_of, or_int, binary_value, assign_value, cast_value, call_value,
+--   callee_name, static_address, module_address, post_kind,
 --   unary_value         a node from what is known of its parts
 --   resolve env e, place_of env e, resolve_all env ws es    an expression, as a place, and arguments
 use Rattle.std.specs.Prelude.{ℤ, pos, true, false, ◌&&◌, ◌||◌, not, List, ◌∷◌, Option, Some, None, if◌then◌else◌}
@@ -103,19 +104,19 @@ abbrev pub callee_name : Expr → Name
 callee_name (word p n) = n
 callee_name _ = record { 0 = 0 }
 
-abbrev pub static_behind : Env → Pos → Expr → Value
-static_behind env p (word q n) = static_of p (static_number env.file.items n.0)
-static_behind env p _ = nonsense p
+abbrev pub static_address : Env → Pos → Expr → Value
+static_address env p (word q n) = static_of p (static_number env.file.items n.0)
+static_address env p _ = nonsense p
 
-abbrev pub module_behind : Expr → Value
-module_behind (unary p k (word q n)) = module_of p n
-module_behind e = nonsense (expr_pos e)
+abbrev pub module_address : Expr → Value
+module_address (unary p k (word q n)) = module_of p n
+module_address e = nonsense (expr_pos e)
 
 abbrev pub post_kind : Punct → Kind
 post_kind m = tokens.Punct m
 
 abbrev pub unary_value : Env → Pos → Kind → Expr → Prefix → Value → Place → Value
-unary_value env p k e prefixes.Address v s = static_behind env p e
+unary_value env p k e prefixes.Address v s = static_address env p e
 unary_value env p k e prefixes.Step v s = stepped p false k (or_int (kind_of env e)) s
 unary_value env p k e prefixes.Sign v s = signed p k (if is_int (kind_of env e) then kinds.Int else kinds.Long) v
 unary_value env p k e prefixes.Negation v s = negated p v
@@ -153,5 +154,5 @@ abbrev mutual
   pub resolve_all : Env → List Want → Exprs → Values
   resolve_all env ws no_exprs = no_values
   resolve_all env ws (expr_and e es) =
-      value_and (if wants_module ws && is_module_address env e then module_behind e else convert (expr_pos e) (want_kind ws) (kind_of env e) (resolve env e))
+      value_and (if wants_module ws && is_module_address env e then module_address e else convert (expr_pos e) (want_kind ws) (kind_of env e) (resolve env e))
       (resolve_all env (other_wants ws) es)

@@ -1,4 +1,4 @@
--- A function that is resolved: no rule is told of it, where the names of its file are in force.
+-- A function that is resolved: no rule holds in it, where the names of its file are in force.
 --   IsPassed env d     what is known of such a function
 use Rattle.std.specs.Prelude.{◌≡◌, [], Some, None}
 use Rattle.pungi_types.specs.Files.{Definition, definitions, definition_in}
@@ -7,7 +7,7 @@ use Rattle.pungi_types.specs.Functions.{refusal_in}
 use Rattle.pungi_types.specs.Refused.{Holds}
 
 -- no locals are in force around a function, it is the one of its name, each function in which a rule holds is among those that are refused, and no rule
--- is told of this one
+-- holds in this one
 pub record IsPassed (env : Env) (d : Definition) : Type 0 where
   pub outside : env.locals ≡ []
   pub own : definition_in (definitions env.file.items) env.self ≡ Some d

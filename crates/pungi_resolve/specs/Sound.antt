@@ -3,7 +3,7 @@
 --   is_sound_action, are_sound_actions    statements
 use Rattle.std.specs.Prelude.{Bool, true, false, ◌&&◌, List, [], ◌∷◌, Option, Some, None}
 use Rattle.pungi_resolved.specs.Values.{Value, constant, text_of, null_of, static_of, module_of, read, inner, signed, negated, stepped, computed, compared, joined_by, stored, updated, chosen, converted, cast_of, dropped, called, called_row, nonsense, Values, no_values, value_and, Place, local_place, global_place, field_place, no_place}
-use Rattle.pungi_resolved.specs.Actions.{Reached, Action, block_of, reach, evaluate, test, test_else, repeat_while, repeat_until, repeat_for, switch_on, at_case, at_default, at_label, jump, leave, next_turn, give, Actions, no_actions, action_and}
+use Rattle.pungi_resolved.specs.Actions.{DeclaredLocal, Action, block, declare, do_expr, if_only, if_else, while, do_while, for, switch, case, default, label, goto, break, continue, return, Actions, no_actions, action_and}
 
 abbrev mutual
   pub is_sound : Value → Bool
@@ -44,28 +44,28 @@ abbrev pub is_sound_option : Option Value → Bool
 is_sound_option None = true
 is_sound_option (Some v) = is_sound v
 
-abbrev pub are_sound_locals : List Reached → Bool
+abbrev pub are_sound_locals : List DeclaredLocal → Bool
 are_sound_locals [] = true
 are_sound_locals (r ∷ rs) = is_sound_option r.value && are_sound_locals rs
 
 abbrev mutual
   pub is_sound_action : Action → Bool
-  is_sound_action (block_of p ss q) = are_sound_actions ss
-  is_sound_action (reach p rs) = are_sound_locals rs
-  is_sound_action (evaluate p v) = is_sound_option v
-  is_sound_action (test p v a) = is_sound v && is_sound_action a
-  is_sound_action (test_else p v a b) = is_sound v && (is_sound_action a && is_sound_action b)
-  is_sound_action (repeat_while p v a) = is_sound v && is_sound_action a
-  is_sound_action (repeat_until p a v) = is_sound_action a && is_sound v
-  is_sound_action (repeat_for p rs u v w a) = are_sound_locals rs && (is_sound_option u && (is_sound_option v && (is_sound_option w && is_sound_action a)))
-  is_sound_action (switch_on p v a) = is_sound v && is_sound_action a
-  is_sound_action (at_case p v a) = is_sound_action a
-  is_sound_action (at_default p a) = is_sound_action a
-  is_sound_action (at_label p n a) = is_sound_action a
-  is_sound_action (jump p n) = true
-  is_sound_action (leave p) = true
-  is_sound_action (next_turn p) = true
-  is_sound_action (give p v) = is_sound_option v
+  is_sound_action (block p ss q) = are_sound_actions ss
+  is_sound_action (declare p rs) = are_sound_locals rs
+  is_sound_action (do_expr p v) = is_sound_option v
+  is_sound_action (if_only p v a) = is_sound v && is_sound_action a
+  is_sound_action (if_else p v a b) = is_sound v && (is_sound_action a && is_sound_action b)
+  is_sound_action (while p v a) = is_sound v && is_sound_action a
+  is_sound_action (do_while p a v) = is_sound_action a && is_sound v
+  is_sound_action (for p rs u v w a) = are_sound_locals rs && (is_sound_option u && (is_sound_option v && (is_sound_option w && is_sound_action a)))
+  is_sound_action (switch p v a) = is_sound v && is_sound_action a
+  is_sound_action (case p v a) = is_sound_action a
+  is_sound_action (default p a) = is_sound_action a
+  is_sound_action (label p n a) = is_sound_action a
+  is_sound_action (goto p n) = true
+  is_sound_action (break p) = true
+  is_sound_action (continue p) = true
+  is_sound_action (return p v) = is_sound_option v
 
   pub are_sound_actions : Actions → Bool
   are_sound_actions no_actions = true

@@ -1,7 +1,7 @@
 //! Conversions between integer kinds (C11 6.3.1.3).
 ghost use Rattle.std.specs.Prelude.{◌≡◌, IfOk};
-ghost use Rattle.pungi_resolve.specs.Exprs.{convert_some as convert_some_of, convert as convert_of};
-ghost use Rattle.pungi_types.specs.Operators.{is_same_kind as is_same_kind_of};
+ghost use Rattle.pungi_resolve.specs.Exprs.{convert_some, convert as convert_of};
+ghost use Rattle.pungi_types.specs.Operators.{is_same_kind};
 ghost use Rattle.pungi_resolved.specs.ValueView.{boxed_view};
 
 use pungi_base::{Memory, Pos};
@@ -14,7 +14,7 @@ type Known = Option<ValueKind>;
 
 /// Both are the same kind of integers.
 pub(crate) fn is_same_kind(a: Known, b: Known) -> bool
-    ensures { result ≡ is_same_kind_of a b }
+    ensures { result ≡ is_same_kind a b }
 {
     match (a, b) {
         (Some(ValueKind::Int), Some(ValueKind::Int)) => true,
@@ -31,7 +31,7 @@ pub(crate) fn convert_some(
     to: Known,
     v: Box<Value>,
 ) -> Result<Box<Value>, Memory>
-    ensures { IfOk result (λ x. boxed_view x ≡ convert_some_of pos to (boxed_view v)) }
+    ensures { IfOk result (λ x. boxed_view x ≡ convert_some pos to (boxed_view v)) }
 {
     match to {
         None => Ok(v),

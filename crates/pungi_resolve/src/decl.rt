@@ -1,19 +1,19 @@
 //! Locals as their declarations are reached (C11 6.7.9).
 ghost use Rattle.std.specs.Prelude.{◌≡◌, ◌+◌, ◌∷◌, IfOk, OnOk, map, true};
-ghost use Rattle.pungi_resolve.specs.Stmts.{with_var, with_vars, reached as reached_of};
+ghost use Rattle.pungi_resolve.specs.Stmts.{with_var, with_vars, declared_locals};
 ghost use Rattle.pungi_resolve.specs.Sound.{is_sound_option};
 ghost use Rattle.pungi_resolve.specs.SoundActions.{AreSoundLocals};
 ghost use Rattle.pungi_scope.specs.ScopeEnv.{inner_env};
 ghost use Rattle.pungi_tree.specs.ExprView.{spec_view};
 ghost use Rattle.pungi_tree.specs.StmtView.{init_option_view, var_decl_view};
 ghost use Rattle.pungi_resolved.specs.ValueView.{optional_view};
-ghost use Rattle.pungi_resolved.specs.ActionView.{reached_view};
-ghost use Rattle.pungi_resolve.specs.Sites.{site_of, first_value as first_value_of, reached_var};
+ghost use Rattle.pungi_resolved.specs.ActionView.{declared_view};
+ghost use Rattle.pungi_resolve.specs.Sites.{site_of, first_value, declared_var};
 
 use crate::values::value_as;
 use crate::walk::{Around, Walk};
 use pungi_base::{Memory, Pos};
-use pungi_resolved::{Reached, Value};
+use pungi_resolved::{DeclaredLocal, Value};
 use pungi_tree::{Init, Spec, VarDecl};
 use pungi_types::{Lookup, ValueKind, declared_kind};
 
@@ -26,8 +26,8 @@ fn first_value<N: Lookup>(
     pos: Pos,
     value: &Option<Init>,
 ) -> Result<Option<Box<Value>>, Memory>
-    requires { is_sound_option (first_value_of (inner_env (N.env names.now) walk.now.locals) kind pos (init_option_view value.now)) ≡ true }
-    ensures { IfOk result (λ x. optional_view x ≡ first_value_of (inner_env (N.env names.now) walk.now.locals) kind pos (init_option_view value.now)) }
+    requires { is_sound_option (first_value (inner_env (N.env names.now) walk.now.locals) kind pos (init_option_view value.now)) ≡ true }
+    ensures { IfOk result (λ x. optional_view x ≡ first_value (inner_env (N.env names.now) walk.now.locals) kind pos (init_option_view value.now)) }
 {
     match value {
         None => Ok(None),
@@ -46,9 +46,9 @@ fn resolve_var<N: Lookup>(
     walk: &mut Walk,
     spec: &Spec,
     var: &VarDecl,
-) -> Result<Reached, Memory>
-    requires { is_sound_option (reached_var (site_of (N.env names.now) walk.old around.result) (spec_view spec.now) (var_decl_view var.now)).value ≡ true }
-    ensures reached { IfOk result (λ x. reached_view x ≡ reached_var (site_of (N.env names.now) walk.old around.result) (spec_view spec.now) (var_decl_view var.now)) }
+) -> Result<DeclaredLocal, Memory>
+    requires { is_sound_option (declared_var (site_of (N.env names.now) walk.old around.result) (spec_view spec.now) (var_decl_view var.now)).value ≡ true }
+    ensures reached { IfOk result (λ x. declared_view x ≡ declared_var (site_of (N.env names.now) walk.old around.result) (spec_view spec.now) (var_decl_view var.now)) }
     ensures after { OnOk result (site_of (N.env names.now) walk.new around.result ≡ with_var (site_of (N.env names.now) walk.old around.result) (spec_view spec.now) (var_decl_view var.now)) }
 {
     let number = walk.next;
@@ -56,7 +56,7 @@ fn resolve_var<N: Lookup>(
     let kind = declared_kind(names, spec, &var.declr);
     walk.declare(var.declr.name, kind)?;
     let value = first_value(names, around, walk, kind, at, &var.value)?;
-    Ok(Reached {
+    Ok(DeclaredLocal {
         number,
         at,
         kind,
@@ -71,9 +71,9 @@ pub(crate) fn resolve_vars<N: Lookup>(
     walk: &mut Walk,
     spec: &Spec,
     list: &Vec<VarDecl>,
-) -> Result<Vec<Reached>, Memory>
-    requires { AreSoundLocals (reached_of (site_of (N.env names.now) walk.old around.result) (spec_view spec.now) (map var_decl_view list.now.items)) }
-    ensures reached { IfOk result (λ x. map reached_view x.items ≡ reached_of (site_of (N.env names.now) walk.old around.result) (spec_view spec.now) (map var_decl_view list.now.items)) }
+) -> Result<Vec<DeclaredLocal>, Memory>
+    requires { AreSoundLocals (declared_locals (site_of (N.env names.now) walk.old around.result) (spec_view spec.now) (map var_decl_view list.now.items)) }
+    ensures reached { IfOk result (λ x. map declared_view x.items ≡ declared_locals (site_of (N.env names.now) walk.old around.result) (spec_view spec.now) (map var_decl_view list.now.items)) }
     ensures after { OnOk result (site_of (N.env names.now) walk.new around.result ≡ with_vars (site_of (N.env names.now) walk.old around.result) (spec_view spec.now) (map var_decl_view list.now.items)) }
 {
     let mut locals = Vec::new(around.alloc);

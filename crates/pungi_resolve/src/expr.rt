@@ -2,8 +2,8 @@
 ghost use Rattle.std.specs.Prelude.{◌≡◌, IfOk, map, true};
 ghost use Rattle.pungi_types.specs.Operators.{struct_part};
 ghost use Rattle.pungi_types.specs.Kinds.{field_kind};
-ghost use Rattle.pungi_types.specs.Exprs.{kind_of, step_kind, is_place as is_place_of, operand as operand_of, are_met, first_met as first_met_of, is_module_address as is_module_address_of};
-ghost use Rattle.pungi_resolve.specs.Exprs.{resolve as resolve_of, expr_pos, or_int, want_kind, place_of, resolve_all, field_of as field_of_of};
+ghost use Rattle.pungi_types.specs.Exprs.{kind_of, step_kind, is_place as is_place_of, operand, are_met, first_met, is_module_address};
+ghost use Rattle.pungi_resolve.specs.Exprs.{resolve, expr_pos, or_int, want_kind, place_of, resolve_all, field_of};
 ghost use Rattle.pungi_resolved.specs.Values as values;
 ghost use Rattle.pungi_resolve.specs.Sound.{is_sound, are_sound, is_sound_place};
 ghost use Rattle.pungi_tree.specs.Syntax as plain;
@@ -25,7 +25,7 @@ use pungi_types::{
 };
 use std::alloc::Global;
 
-fn wanted_kind(wants: &[Want]) -> Option<ValueKind>
+fn want_kind(wants: &[Want]) -> Option<ValueKind>
     ensures { result ≡ want_kind wants.now }
 {
     match wants {
@@ -35,7 +35,7 @@ fn wanted_kind(wants: &[Want]) -> Option<ValueKind>
 }
 
 /// The place of an expression, whatever it is.
-fn pos_of(e: &Expr) -> Pos
+fn expr_pos(e: &Expr) -> Pos
     ensures { result ≡ expr_pos (expr_view e.now) }
 {
     match &e.node {
@@ -65,8 +65,8 @@ fn pos_of(e: &Expr) -> Pos
 /// What an expression does.
 #[cycle(expr)]
 pub(crate) fn resolve_expr<N: Lookup>(alloc: Global, names: &N, e: &Expr) -> Result<Typed, Memory>
-    requires { is_sound (resolve_of (N.env names.now) (expr_view e.now)) ≡ true }
-    ensures value { IfOk result (λ x. boxed_view x.value ≡ resolve_of (N.env names.now) (expr_view e.now)) }
+    requires { is_sound (resolve (N.env names.now) (expr_view e.now)) ≡ true }
+    ensures value { IfOk result (λ x. boxed_view x.value ≡ resolve (N.env names.now) (expr_view e.now)) }
     ensures kind { IfOk result (λ x. x.kind ≡ kind_of (N.env names.now) (expr_view e.now)) }
 {
     match &e.node {
@@ -115,8 +115,8 @@ pub(crate) fn resolve_expr<N: Lookup>(alloc: Global, names: &N, e: &Expr) -> Res
 
 #[cycle(expr)]
 fn resolve_paren<N: Lookup>(alloc: Global, names: &N, pos: Pos, a: &Expr) -> Result<Typed, Memory>
-    requires { is_sound (resolve_of (N.env names.now) (expr_view a.now)) ≡ true }
-    ensures value { IfOk result (λ x. boxed_view x.value ≡ values.inner pos (resolve_of (N.env names.now) (expr_view a.now))) }
+    requires { is_sound (resolve (N.env names.now) (expr_view a.now)) ≡ true }
+    ensures value { IfOk result (λ x. boxed_view x.value ≡ values.inner pos (resolve (N.env names.now) (expr_view a.now))) }
     ensures kind { IfOk result (λ x. x.kind ≡ kind_of (N.env names.now) (expr_view a.now)) }
 {
     let a = resolve_expr(alloc, names, a)?;
@@ -131,8 +131,8 @@ fn resolve_unary<N: Lookup>(
     operator: Kind,
     a: &Expr,
 ) -> Result<Typed, Memory>
-    requires { is_sound (resolve_of (N.env names.now) (plain.unary pos operator (expr_view a.now))) ≡ true }
-    ensures value { IfOk result (λ x. boxed_view x.value ≡ resolve_of (N.env names.now) (plain.unary pos operator (expr_view a.now))) }
+    requires { is_sound (resolve (N.env names.now) (plain.unary pos operator (expr_view a.now))) ≡ true }
+    ensures value { IfOk result (λ x. boxed_view x.value ≡ resolve (N.env names.now) (plain.unary pos operator (expr_view a.now))) }
     ensures kind { IfOk result (λ x. x.kind ≡ kind_of (N.env names.now) (plain.unary pos operator (expr_view a.now))) }
 {
     match prefix_of(operator) {
@@ -150,23 +150,23 @@ fn resolve_unary<N: Lookup>(
     }
 }
 
-/// `++` or `--`, behind the place where `behind` is true.
+/// `++` or `--`, after the place where `is_postfix` is true.
 #[cycle(expr)]
 fn resolve_step<N: Lookup>(
     alloc: Global,
     names: &N,
     pos: Pos,
-    behind: bool,
+    is_postfix: bool,
     operator: Kind,
     a: &Expr,
 ) -> Result<Typed, Memory>
     requires { is_sound_place (place_of (N.env names.now) (expr_view a.now)) ≡ true }
-    ensures value { IfOk result (λ x. boxed_view x.value ≡ values.stepped pos behind operator (or_int (kind_of (N.env names.now) (expr_view a.now))) (place_of (N.env names.now) (expr_view a.now))) }
+    ensures value { IfOk result (λ x. boxed_view x.value ≡ values.stepped pos is_postfix operator (or_int (kind_of (N.env names.now) (expr_view a.now))) (place_of (N.env names.now) (expr_view a.now))) }
     ensures kind { IfOk result (λ x. x.kind ≡ step_kind (is_place_of (N.env names.now) (expr_view a.now)) (kind_of (N.env names.now) (expr_view a.now))) }
 {
     let is_place = is_place(names, a);
     let a = resolve_place(alloc, names, a)?;
-    step(alloc, pos, behind, operator, is_place, a)
+    step(alloc, pos, is_postfix, operator, is_place, a)
 }
 
 #[cycle(expr)]
@@ -177,8 +177,8 @@ fn resolve_cast<N: Lookup>(
     a: &Expr,
     name: &TypeName,
 ) -> Result<Typed, Memory>
-    requires { is_sound (resolve_of (N.env names.now) (plain.cast pos (type_name_view name.now) (expr_view a.now))) ≡ true }
-    ensures value { IfOk result (λ x. boxed_view x.value ≡ resolve_of (N.env names.now) (plain.cast pos (type_name_view name.now) (expr_view a.now))) }
+    requires { is_sound (resolve (N.env names.now) (plain.cast pos (type_name_view name.now) (expr_view a.now))) ≡ true }
+    ensures value { IfOk result (λ x. boxed_view x.value ≡ resolve (N.env names.now) (plain.cast pos (type_name_view name.now) (expr_view a.now))) }
     ensures kind { IfOk result (λ x. x.kind ≡ kind_of (N.env names.now) (plain.cast pos (type_name_view name.now) (expr_view a.now))) }
 {
     let to = names.type_kind(&name.spec, name.stars.len());
@@ -194,8 +194,8 @@ fn resolve_call<N: Lookup>(
     list: &Vec<Expr>,
     f: &Expr,
 ) -> Result<Typed, Memory>
-    requires { is_sound (resolve_of (N.env names.now) (plain.call pos (expr_view f.now) (exprs_of (map expr_view list.now.items)))) ≡ true }
-    ensures value { IfOk result (λ x. boxed_view x.value ≡ resolve_of (N.env names.now) (plain.call pos (expr_view f.now) (exprs_of (map expr_view list.now.items)))) }
+    requires { is_sound (resolve (N.env names.now) (plain.call pos (expr_view f.now) (exprs_of (map expr_view list.now.items)))) ≡ true }
+    ensures value { IfOk result (λ x. boxed_view x.value ≡ resolve (N.env names.now) (plain.call pos (expr_view f.now) (exprs_of (map expr_view list.now.items)))) }
     ensures kind { IfOk result (λ x. x.kind ≡ kind_of (N.env names.now) (plain.call pos (expr_view f.now) (exprs_of (map expr_view list.now.items)))) }
 {
     let args = resolve_args(alloc, names, callee_wants(names, f), list)?;
@@ -211,8 +211,8 @@ fn resolve_arrow<N: Lookup>(
     a: &Expr,
     name: Name,
 ) -> Result<Typed, Memory>
-    requires { is_sound (resolve_of (N.env names.now) (plain.arrow pos (expr_view a.now) name)) ≡ true }
-    ensures value { IfOk result (λ x. boxed_view x.value ≡ resolve_of (N.env names.now) (plain.arrow pos (expr_view a.now) name)) }
+    requires { is_sound (resolve (N.env names.now) (plain.arrow pos (expr_view a.now) name)) ≡ true }
+    ensures value { IfOk result (λ x. boxed_view x.value ≡ resolve (N.env names.now) (plain.arrow pos (expr_view a.now) name)) }
     ensures kind { IfOk result (λ x. x.kind ≡ kind_of (N.env names.now) (plain.arrow pos (expr_view a.now) name)) }
 {
     let field = resolve_field(alloc, names, pos, a, name)?;
@@ -236,7 +236,7 @@ fn resolve_place<N: Lookup>(alloc: Global, names: &N, e: &Expr) -> Result<TypedP
     }
 }
 
-/// The field of this name behind a pointer.
+/// The field of this name, reached through a pointer.
 #[cycle(expr)]
 fn resolve_field<N: Lookup>(
     alloc: Global,
@@ -245,8 +245,8 @@ fn resolve_field<N: Lookup>(
     a: &Expr,
     name: Name,
 ) -> Result<TypedPlace, Memory>
-    requires { is_sound_place (field_of_of pos (resolve_of (N.env names.now) (expr_view a.now)) (struct_part (kind_of (N.env names.now) (expr_view a.now))) name) ≡ true }
-    ensures place { IfOk result (λ x. place_view x.place ≡ field_of_of pos (resolve_of (N.env names.now) (expr_view a.now)) (struct_part (kind_of (N.env names.now) (expr_view a.now))) name) }
+    requires { is_sound_place (field_of pos (resolve (N.env names.now) (expr_view a.now)) (struct_part (kind_of (N.env names.now) (expr_view a.now))) name) ≡ true }
+    ensures place { IfOk result (λ x. place_view x.place ≡ field_of pos (resolve (N.env names.now) (expr_view a.now)) (struct_part (kind_of (N.env names.now) (expr_view a.now))) name) }
     ensures kind { IfOk result (λ x. x.kind ≡ field_kind (N.env names.now).file.items (kind_of (N.env names.now) (expr_view a.now)) name.0) }
 {
     let base = resolve_expr(alloc, names, a)?;
@@ -290,7 +290,7 @@ fn resolve_arg<N: Lookup>(
 ) -> Result<Argument, Memory>
     requires { is_sound (argument_in (N.env names.now) wants.now (expr_view e.now)) ≡ true }
     ensures value { IfOk result (λ x. boxed_view x.value ≡ argument_in (N.env names.now) wants.now (expr_view e.now)) }
-    ensures met { IfOk result (λ x. x.met ≡ first_met_of wants.now (is_module_address_of (N.env names.now) (expr_view e.now)) (operand_of (kind_of (N.env names.now) (expr_view e.now)) (expr_view e.now))) }
+    ensures met { IfOk result (λ x. x.met ≡ first_met wants.now (is_module_address (N.env names.now) (expr_view e.now)) (operand (kind_of (N.env names.now) (expr_view e.now)) (expr_view e.now))) }
 {
     let is_module = is_module_address(names, e);
     if wants_module(wants) && is_module {
@@ -302,7 +302,7 @@ fn resolve_arg<N: Lookup>(
     }
     let a = resolve_expr(alloc, names, e)?;
     let met = first_met(wants, is_module, operand(a.kind, e));
-    let pos = pos_of(e);
-    let value = convert(alloc, pos, wanted_kind(wants), a.kind, a.value)?;
+    let pos = expr_pos(e);
+    let value = convert(alloc, pos, want_kind(wants), a.kind, a.value)?;
     Ok(Argument { value, met })
 }

@@ -56,7 +56,7 @@ fn resolve_body<N: Lookup>(
     }
 }
 
-/// What a function does of which no rule is told, where the names of its file are in force. Each word and operator in it
+/// What a function does in which no rule holds, where the names of its file are in force. Each word and operator in it
 /// has a meaning.
 pub fn resolve<N: Lookup>(alloc: Global, names: &N, f: &FunctionDef) -> Result<Function, Memory>
     requires { IsPassed (N.env names.now) (definition_view f.now) }

@@ -1,4 +1,4 @@
-//! What a function does of which no rule is told: names resolved to locals by number, and conversions written out.
+//! What a function does in which no rule holds: names resolved to locals by number, and conversions written out.
 #![tactic(auto)]
 
 mod call;

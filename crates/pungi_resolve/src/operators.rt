@@ -1,11 +1,11 @@
 //! What operators do with their operands, conversions written out (C11 6.5).
 ghost use Rattle.std.specs.Prelude.{◌≡◌, IfOk, if◌then◌else◌, true, false};
-ghost use Rattle.pungi_types.specs.Operators.{is_int as is_int_of};
+ghost use Rattle.pungi_types.specs.Operators.{is_int};
 ghost use Rattle.pungi_types.specs.declared.kind.ValueKind.TheVariants as kinds;
-ghost use Rattle.pungi_types.specs.Exprs.{step_kind as step_kind_of, binary_kind as binary_kind_of, assign_kind as assign_kind_of, cond_kind as cond_kind_of, cast_kind as cast_kind_of, unary_kind as unary_kind_of};
+ghost use Rattle.pungi_types.specs.Exprs.{step_kind, binary_kind, assign_kind, cond_kind, cast_kind, unary_kind};
 ghost use Rattle.pungi_types.specs.declared.operator.Prefix.TheVariants as prefixes;
 ghost use Rattle.pungi_resolved.specs.Values as plain;
-ghost use Rattle.pungi_resolve.specs.Exprs.{or_int as or_int_of, binary_value as binary_value_of, assign_value as assign_value_of, cast_value as cast_value_of};
+ghost use Rattle.pungi_resolve.specs.Exprs.{or_int, binary_value, assign_value, cast_value};
 ghost use Rattle.pungi_resolved.specs.ValueView.{boxed_view, place_view};
 
 use crate::convert::{convert, convert_some, is_same_kind};
@@ -22,7 +22,7 @@ use std::alloc::Global;
 type Known = Option<ValueKind>;
 
 fn or_int(kind: Known) -> ValueKind
-    ensures { result ≡ or_int_of kind }
+    ensures { result ≡ or_int kind }
 {
     match kind {
         None => ValueKind::Int,
@@ -38,24 +38,24 @@ pub(crate) fn paren(alloc: Global, pos: Pos, a: Typed) -> Result<Typed, Memory>
     Typed::new(alloc, pos, ValueNode::Inner(a.value), a.kind)
 }
 
-/// `++` or `--` of a place, behind it where `behind` is true.
+/// `++` or `--` of a place, after it where `is_postfix` is true.
 pub(crate) fn step(
     alloc: Global,
     pos: Pos,
-    behind: bool,
+    is_postfix: bool,
     operator: Kind,
     is_place: bool,
     a: TypedPlace,
 ) -> Result<Typed, Memory>
-    ensures value { IfOk result (λ x. boxed_view x.value ≡ plain.stepped pos behind operator (or_int_of a.kind) (place_view a.place)) }
-    ensures kind { IfOk result (λ x. x.kind ≡ step_kind_of is_place a.kind) }
+    ensures value { IfOk result (λ x. boxed_view x.value ≡ plain.stepped pos is_postfix operator (or_int a.kind) (place_view a.place)) }
+    ensures kind { IfOk result (λ x. x.kind ≡ step_kind is_place a.kind) }
 {
-    let node = ValueNode::Stepped(behind, operator, or_int(a.kind), a.place);
+    let node = ValueNode::Stepped(is_postfix, operator, or_int(a.kind), a.place);
     Typed::new(alloc, pos, node, step_kind(is_place, a.kind))
 }
 
 fn sign_kind(kind: Known) -> ValueKind
-    ensures { result ≡ (if is_int_of kind then kinds.Int else kinds.Long) }
+    ensures { result ≡ (if is_int kind then kinds.Int else kinds.Long) }
 {
     if is_int(kind) {
         ValueKind::Int
@@ -66,8 +66,8 @@ fn sign_kind(kind: Known) -> ValueKind
 
 /// `+` or `-` of an operand.
 pub(crate) fn sign(alloc: Global, pos: Pos, operator: Kind, a: Typed) -> Result<Typed, Memory>
-    ensures value { IfOk result (λ x. boxed_view x.value ≡ plain.signed pos operator (if is_int_of a.kind then kinds.Int else kinds.Long) (boxed_view a.value)) }
-    ensures kind { IfOk result (λ x. x.kind ≡ unary_kind_of prefixes.Sign false false a.kind) }
+    ensures value { IfOk result (λ x. boxed_view x.value ≡ plain.signed pos operator (if is_int a.kind then kinds.Int else kinds.Long) (boxed_view a.value)) }
+    ensures kind { IfOk result (λ x. x.kind ≡ unary_kind prefixes.Sign false false a.kind) }
 {
     let kind = unary_kind(Prefix::Sign, false, false, a.kind);
     let node = ValueNode::Signed(operator, sign_kind(a.kind), a.value);
@@ -77,7 +77,7 @@ pub(crate) fn sign(alloc: Global, pos: Pos, operator: Kind, a: Typed) -> Result<
 /// `!` of an operand.
 pub(crate) fn negation(alloc: Global, pos: Pos, a: Typed) -> Result<Typed, Memory>
     ensures value { IfOk result (λ x. boxed_view x.value ≡ plain.negated pos (boxed_view a.value)) }
-    ensures kind { IfOk result (λ x. x.kind ≡ unary_kind_of prefixes.Negation false false a.kind) }
+    ensures kind { IfOk result (λ x. x.kind ≡ unary_kind prefixes.Negation false false a.kind) }
 {
     let kind = unary_kind(Prefix::Negation, false, false, a.kind);
     Typed::new(alloc, pos, ValueNode::Negated(a.value), kind)
@@ -91,8 +91,8 @@ pub(crate) fn binary(
     a: Typed,
     b: Typed,
 ) -> Result<Typed, Memory>
-    ensures value { IfOk result (λ x. boxed_view x.value ≡ binary_value_of pos operator (binary_kind_of operator a.kind b.kind) (boxed_view a.value) (boxed_view b.value)) }
-    ensures kind { IfOk result (λ x. x.kind ≡ binary_kind_of operator a.kind b.kind) }
+    ensures value { IfOk result (λ x. boxed_view x.value ≡ binary_value pos operator (binary_kind operator a.kind b.kind) (boxed_view a.value) (boxed_view b.value)) }
+    ensures kind { IfOk result (λ x. x.kind ≡ binary_kind operator a.kind b.kind) }
 {
     let kind = binary_kind(operator, a.kind, b.kind);
     if is_arithmetic(operator) {
@@ -124,8 +124,8 @@ pub(crate) fn assign(
     a: TypedPlace,
     b: Typed,
 ) -> Result<Typed, Memory>
-    ensures value { IfOk result (λ x. boxed_view x.value ≡ assign_value_of pos operator a.kind b.kind (place_view a.place) (boxed_view b.value)) }
-    ensures kind { IfOk result (λ x. x.kind ≡ assign_kind_of operator is_place a.kind b.kind) }
+    ensures value { IfOk result (λ x. boxed_view x.value ≡ assign_value pos operator a.kind b.kind (place_view a.place) (boxed_view b.value)) }
+    ensures kind { IfOk result (λ x. x.kind ≡ assign_kind operator is_place a.kind b.kind) }
 {
     let kind = assign_kind(operator, is_place, a.kind, b.kind);
     let to = or_int(a.kind);
@@ -148,7 +148,7 @@ pub(crate) fn conditional(
     no: Typed,
 ) -> Result<Typed, Memory>
     ensures value { IfOk result (λ x. boxed_view x.value ≡ plain.chosen pos (boxed_view test.value) (boxed_view yes.value) (boxed_view no.value)) }
-    ensures kind { IfOk result (λ x. x.kind ≡ cond_kind_of test.kind yes.kind no.kind) }
+    ensures kind { IfOk result (λ x. x.kind ≡ cond_kind test.kind yes.kind no.kind) }
 {
     let kind = cond_kind(test.kind, yes.kind, no.kind);
     let node = ValueNode::Chosen(test.value, yes.value, no.value);
@@ -157,8 +157,8 @@ pub(crate) fn conditional(
 
 /// A cast to a type of this kind.
 pub(crate) fn cast(alloc: Global, pos: Pos, to: Known, a: Typed) -> Result<Typed, Memory>
-    ensures value { IfOk result (λ x. boxed_view x.value ≡ cast_value_of pos to a.kind (boxed_view a.value)) }
-    ensures kind { IfOk result (λ x. x.kind ≡ cast_kind_of to a.kind) }
+    ensures value { IfOk result (λ x. boxed_view x.value ≡ cast_value pos to a.kind (boxed_view a.value)) }
+    ensures kind { IfOk result (λ x. x.kind ≡ cast_kind to a.kind) }
 {
     let kind = cast_kind(to, a.kind);
     if is_void(to) {

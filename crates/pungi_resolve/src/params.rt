@@ -1,6 +1,6 @@
 //! Parameters, which are the first locals of a function (C11 6.9.1).
 ghost use Rattle.std.specs.Prelude.{◌≡◌, ◌+◌, ◌∷◌, IfOk, OnOk, map};
-ghost use Rattle.pungi_types.specs.Exprs.{param_kind as param_kind_of};
+ghost use Rattle.pungi_types.specs.Exprs.{param_kind};
 ghost use Rattle.pungi_resolve.specs.Functions.{param_kinds, params_kinds};
 ghost use Rattle.pungi_resolve.specs.Stmts.{with_param, with_params, params_site};
 ghost use Rattle.pungi_tree.specs.ExprView.{spec_view, param_declr_view, param_decl_view, param_decls_of, params_view};
@@ -19,7 +19,7 @@ fn resolve_param<N: Lookup>(
     walk: &mut Walk,
     p: &ParamDecl,
 ) -> Result<Option<ValueKind>, Memory>
-    ensures kind { IfOk result (λ x. x ≡ param_kind_of (N.env names.now).file.items (spec_view p.now.spec) (param_declr_view p.now.declr)) }
+    ensures kind { IfOk result (λ x. x ≡ param_kind (N.env names.now).file.items (spec_view p.now.spec) (param_declr_view p.now.declr)) }
     ensures after { OnOk result (site_of (N.env names.now) walk.new around.result ≡ with_param (site_of (N.env names.now) walk.old around.result) (plain.param_decl p.now.quals.items (spec_view p.now.spec) (param_declr_view p.now.declr))) }
 {
     let kind = param_kind(names, &p.spec, &p.declr);
@@ -52,7 +52,7 @@ fn resolve_list<N: Lookup>(
     Ok(kinds)
 }
 
-/// The parameters of a function come into force. Their kinds are answered.
+/// The parameters of a function come into force. Their kinds are returned.
 pub(crate) fn resolve_params<N: Lookup>(
     names: &N,
     around: Around,

@@ -1,8 +1,8 @@
 //! What can be read and assigned to.
 ghost use Rattle.std.specs.Prelude.{◌≡◌, IfOk, true};
-ghost use Rattle.pungi_types.specs.Operators.{struct_part as struct_part_of};
+ghost use Rattle.pungi_types.specs.Operators.{struct_part};
 ghost use Rattle.pungi_types.specs.Names.{meaning_of};
-ghost use Rattle.pungi_resolve.specs.Exprs.{read_as as read_as_of, word_place as word_place_of, field_of as field_of_of};
+ghost use Rattle.pungi_resolve.specs.Exprs.{read_as, word_place, field_of};
 ghost use Rattle.pungi_resolve.specs.Sound.{is_sound, is_sound_place};
 ghost use Rattle.pungi_resolved.specs.ValueView.{boxed_view, place_view};
 
@@ -20,8 +20,8 @@ pub(crate) fn read_as(
     kind: Option<ValueKind>,
     place: Place,
 ) -> Result<Typed, Memory>
-    requires { is_sound (read_as_of pos kind (place_view place)) ≡ true }
-    ensures value { IfOk result (λ x. boxed_view x.value ≡ read_as_of pos kind (place_view place)) }
+    requires { is_sound (read_as pos kind (place_view place)) ≡ true }
+    ensures value { IfOk result (λ x. boxed_view x.value ≡ read_as pos kind (place_view place)) }
     ensures kind { IfOk result (λ x. x.kind ≡ kind) }
 {
     match kind {
@@ -32,8 +32,8 @@ pub(crate) fn read_as(
 
 /// The place of a word.
 pub(crate) fn word_place<N: Lookup>(names: &N, pos: Pos, name: Name) -> Place
-    requires { is_sound_place (word_place_of pos (meaning_of (N.env names.now) name.0) name) ≡ true }
-    ensures { place_view result ≡ word_place_of pos (meaning_of (N.env names.now) name.0) name }
+    requires { is_sound_place (word_place pos (meaning_of (N.env names.now) name.0) name) ≡ true }
+    ensures { place_view result ≡ word_place pos (meaning_of (N.env names.now) name.0) name }
 {
     match names.standing(name.0) {
         Standing::Local(number) => Place::Local(pos, number),
@@ -42,10 +42,10 @@ pub(crate) fn word_place<N: Lookup>(names: &N, pos: Pos, name: Name) -> Place
     }
 }
 
-/// The place of a field behind a pointer.
+/// The place of a field, reached through a pointer.
 pub(crate) fn field_of(pos: Pos, base: Typed, field: Name) -> Place
-    requires { is_sound_place (field_of_of pos (boxed_view base.value) (struct_part_of base.kind) field) ≡ true }
-    ensures { place_view result ≡ field_of_of pos (boxed_view base.value) (struct_part_of base.kind) field }
+    requires { is_sound_place (field_of pos (boxed_view base.value) (struct_part base.kind) field) ≡ true }
+    ensures { place_view result ≡ field_of pos (boxed_view base.value) (struct_part base.kind) field }
 {
     match struct_part(base.kind) {
         None => unreachable!(),

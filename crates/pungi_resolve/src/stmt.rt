@@ -2,7 +2,7 @@
 ghost use Rattle.std.specs.Prelude.{◌≡◌, ◌+◌, ◌-◌, IfOk, OnOk, map, true, length, drop};
 ghost use Rattle.pungi_types.specs.Labels.{constant_of, stmt_locals, stmts_locals};
 ghost use Rattle.pungi_resolved.specs.Actions as actions;
-ghost use Rattle.pungi_resolve.specs.Stmts.{action, actions as actions_in, after, with_start, start_reached, start_value, option_value, case_value};
+ghost use Rattle.pungi_resolve.specs.Stmts.{action, actions as actions_in, site_after, with_start, start_declared, start_value, option_value, case_value};
 ghost use Rattle.pungi_resolve.specs.Sound.{is_sound_option};
 ghost use Rattle.pungi_resolve.specs.SoundActions.{AreSoundLocals, IsSoundAction, AreSoundActions};
 ghost use Rattle.pungi_scope.specs.ScopeEnv.{inner_env};
@@ -10,14 +10,14 @@ ghost use Rattle.pungi_tree.specs.Syntax as plain;
 ghost use Rattle.pungi_tree.specs.ExprView.{expr_view, optional_view as optional_expr_view};
 ghost use Rattle.pungi_tree.specs.StmtView.{decl_view, for_start_view, stmt_view, stmts_of};
 ghost use Rattle.pungi_resolved.specs.ValueView.{optional_view};
-ghost use Rattle.pungi_resolved.specs.ActionView.{action_view, actions_of, reached_view};
+ghost use Rattle.pungi_resolved.specs.ActionView.{action_view, actions_of, declared_view};
 ghost use Rattle.pungi_resolve.specs.Sites.{site_of, after_all};
 
 use crate::decl::resolve_vars;
-use crate::values::{optional_value, returned, value};
+use crate::values::{optional_value, return_value, value};
 use crate::walk::{Around, Walk};
 use pungi_base::{Memory, Name, Pos};
-use pungi_resolved::{Action, ActionNode, Reached, Value};
+use pungi_resolved::{Action, ActionNode, DeclaredLocal, Value};
 use pungi_scope::constant;
 use pungi_tree::{Decl, Expr, ForStart, Stmt, StmtNode};
 use pungi_types::Lookup;
@@ -25,7 +25,7 @@ use pungi_types::Lookup;
 /// What stands before the body of a `for`.
 #[derive(Drop)]
 struct Head {
-    locals: Vec<Reached>,
+    locals: Vec<DeclaredLocal>,
     first: Option<Box<Value>>,
     test: Option<Box<Value>>,
     step: Option<Box<Value>>,
@@ -34,7 +34,7 @@ struct Head {
 /// The locals and the value with which a `for` begins.
 #[derive(Drop)]
 struct Start {
-    locals: Vec<Reached>,
+    locals: Vec<DeclaredLocal>,
     first: Option<Box<Value>>,
 }
 
@@ -55,9 +55,9 @@ fn resolve_start<N: Lookup>(
     walk: &mut Walk,
     start: &ForStart,
 ) -> Result<Start, Memory>
-    requires locals { AreSoundLocals (start_reached (site_of (N.env names.now) walk.old around.result) (for_start_view start.now)) }
+    requires locals { AreSoundLocals (start_declared (site_of (N.env names.now) walk.old around.result) (for_start_view start.now)) }
     requires first { is_sound_option (start_value (inner_env (N.env names.now) walk.old.locals) (for_start_view start.now)) ≡ true }
-    ensures locals { IfOk result (λ x. map reached_view x.locals.items ≡ start_reached (site_of (N.env names.now) walk.old around.result) (for_start_view start.now)) }
+    ensures locals { IfOk result (λ x. map declared_view x.locals.items ≡ start_declared (site_of (N.env names.now) walk.old around.result) (for_start_view start.now)) }
     ensures first { IfOk result (λ x. optional_view x.first ≡ start_value (inner_env (N.env names.now) walk.old.locals) (for_start_view start.now)) }
     ensures after { OnOk result (site_of (N.env names.now) walk.new around.result ≡ with_start (site_of (N.env names.now) walk.old around.result) (for_start_view start.now)) }
 {
@@ -88,11 +88,11 @@ fn resolve_head<N: Lookup>(
     test: &Option<Expr>,
     step: &Option<Expr>,
 ) -> Result<Head, Memory>
-    requires locals { AreSoundLocals (start_reached (site_of (N.env names.now) walk.old around.result) (for_start_view start.now)) }
+    requires locals { AreSoundLocals (start_declared (site_of (N.env names.now) walk.old around.result) (for_start_view start.now)) }
     requires first { is_sound_option (start_value (inner_env (N.env names.now) walk.old.locals) (for_start_view start.now)) ≡ true }
     requires test { is_sound_option (option_value (with_start (site_of (N.env names.now) walk.old around.result) (for_start_view start.now)).env (optional_expr_view test.now)) ≡ true }
     requires step { is_sound_option (option_value (with_start (site_of (N.env names.now) walk.old around.result) (for_start_view start.now)).env (optional_expr_view step.now)) ≡ true }
-    ensures locals { IfOk result (λ x. map reached_view x.locals.items ≡ start_reached (site_of (N.env names.now) walk.old around.result) (for_start_view start.now)) }
+    ensures locals { IfOk result (λ x. map declared_view x.locals.items ≡ start_declared (site_of (N.env names.now) walk.old around.result) (for_start_view start.now)) }
     ensures first { IfOk result (λ x. optional_view x.first ≡ start_value (inner_env (N.env names.now) walk.old.locals) (for_start_view start.now)) }
     ensures test { IfOk result (λ x. optional_view x.test ≡ option_value (with_start (site_of (N.env names.now) walk.old around.result) (for_start_view start.now)).env (optional_expr_view test.now)) }
     ensures step { IfOk result (λ x. optional_view x.step ≡ option_value (with_start (site_of (N.env names.now) walk.old around.result) (for_start_view start.now)).env (optional_expr_view step.now)) }
@@ -119,10 +119,10 @@ fn resolve_decl<N: Lookup>(
 ) -> Result<Action, Memory>
     requires { IsSoundAction (action (site_of (N.env names.now) walk.old around.result) (plain.declare pos (decl_view d.now))) }
     ensures action { IfOk result (λ x. action_view x ≡ action (site_of (N.env names.now) walk.old around.result) (plain.declare pos (decl_view d.now))) }
-    ensures after { OnOk result ((site_of (N.env names.now) walk.new around.result) ≡ after (site_of (N.env names.now) walk.old around.result) (plain.declare pos (decl_view d.now))) }
+    ensures after { OnOk result ((site_of (N.env names.now) walk.new around.result) ≡ site_after (site_of (N.env names.now) walk.old around.result) (plain.declare pos (decl_view d.now))) }
 {
     let locals = resolve_vars(names, around, walk, &d.type_name, &d.vars)?;
-    let node = ActionNode::Reach(locals);
+    let node = ActionNode::Declare(locals);
     Ok(Action { pos, node })
 }
 
@@ -138,7 +138,7 @@ fn resolve_do<N: Lookup>(
     ensures { IfOk result (λ x. action_view x ≡ action (site_of (N.env names.now) walk.now around.result) (plain.do_expr pos (optional_expr_view e.now))) }
 {
     let found = optional_value(names, around, walk, e)?;
-    let node = ActionNode::Evaluate(found);
+    let node = ActionNode::Do(found);
     Ok(Action { pos, node })
 }
 
@@ -153,8 +153,8 @@ fn resolve_return<N: Lookup>(
     requires { IsSoundAction (action (site_of (N.env names.now) walk.now around.result) (plain.return pos (optional_expr_view e.now))) }
     ensures { IfOk result (λ x. action_view x ≡ action (site_of (N.env names.now) walk.now around.result) (plain.return pos (optional_expr_view e.now))) }
 {
-    let found = returned(names, around, walk, pos, e)?;
-    let node = ActionNode::Give(found);
+    let found = return_value(names, around, walk, pos, e)?;
+    let node = ActionNode::Return(found);
     Ok(Action { pos, node })
 }
 
@@ -168,7 +168,7 @@ pub(crate) fn resolve_stmt<N: Lookup>(
 ) -> Result<Action, Memory>
     requires { IsSoundAction (action (site_of (N.env names.now) walk.old around.result) (stmt_view s.now)) }
     ensures action { IfOk result (λ x. action_view x ≡ action (site_of (N.env names.now) walk.old around.result) (stmt_view s.now)) }
-    ensures after { OnOk result ((site_of (N.env names.now) walk.new around.result) ≡ after (site_of (N.env names.now) walk.old around.result) (stmt_view s.now)) }
+    ensures after { OnOk result ((site_of (N.env names.now) walk.new around.result) ≡ site_after (site_of (N.env names.now) walk.old around.result) (stmt_view s.now)) }
 {
     let pos = s.pos;
     match &s.node {
@@ -180,7 +180,7 @@ pub(crate) fn resolve_stmt<N: Lookup>(
             let test = value(names, around, walk, e)?;
             let yes = resolve_part(names, around, walk, yes)?;
             let no = resolve_part(names, around, walk, no)?;
-            let node = ActionNode::TestElse(test, yes, no);
+            let node = ActionNode::IfElse(test, yes, no);
             Ok(Action { pos, node })
         }
         StmtNode::While(e, body) => resolve_while(names, around, walk, pos, body, e),
@@ -194,15 +194,15 @@ pub(crate) fn resolve_stmt<N: Lookup>(
         StmtNode::Label(name, inner) => resolve_label(names, around, walk, pos, *name, inner),
         StmtNode::Goto(name, _) => Ok(Action {
             pos,
-            node: ActionNode::Jump(*name),
+            node: ActionNode::Goto(*name),
         }),
         StmtNode::Break => Ok(Action {
             pos,
-            node: ActionNode::Leave,
+            node: ActionNode::Break,
         }),
         StmtNode::Continue => Ok(Action {
             pos,
-            node: ActionNode::NextTurn,
+            node: ActionNode::Continue,
         }),
         StmtNode::Return(e) => resolve_return(names, around, walk, pos, e),
     }
@@ -219,11 +219,11 @@ fn resolve_if<N: Lookup>(
 ) -> Result<Action, Memory>
     requires { IsSoundAction (action (site_of (N.env names.now) walk.old around.result) (plain.if_only pos (expr_view e.now) (stmt_view yes.now))) }
     ensures action { IfOk result (λ x. action_view x ≡ action (site_of (N.env names.now) walk.old around.result) (plain.if_only pos (expr_view e.now) (stmt_view yes.now))) }
-    ensures after { OnOk result ((site_of (N.env names.now) walk.new around.result) ≡ after (site_of (N.env names.now) walk.old around.result) (plain.if_only pos (expr_view e.now) (stmt_view yes.now))) }
+    ensures after { OnOk result ((site_of (N.env names.now) walk.new around.result) ≡ site_after (site_of (N.env names.now) walk.old around.result) (plain.if_only pos (expr_view e.now) (stmt_view yes.now))) }
 {
     let test = value(names, around, walk, e)?;
     let yes = resolve_part(names, around, walk, yes)?;
-    let node = ActionNode::Test(test, yes);
+    let node = ActionNode::If(test, yes);
     Ok(Action { pos, node })
 }
 
@@ -238,11 +238,11 @@ fn resolve_while<N: Lookup>(
 ) -> Result<Action, Memory>
     requires { IsSoundAction (action (site_of (N.env names.now) walk.old around.result) (plain.while pos (expr_view e.now) (stmt_view body.now))) }
     ensures action { IfOk result (λ x. action_view x ≡ action (site_of (N.env names.now) walk.old around.result) (plain.while pos (expr_view e.now) (stmt_view body.now))) }
-    ensures after { OnOk result ((site_of (N.env names.now) walk.new around.result) ≡ after (site_of (N.env names.now) walk.old around.result) (plain.while pos (expr_view e.now) (stmt_view body.now))) }
+    ensures after { OnOk result ((site_of (N.env names.now) walk.new around.result) ≡ site_after (site_of (N.env names.now) walk.old around.result) (plain.while pos (expr_view e.now) (stmt_view body.now))) }
 {
     let test = value(names, around, walk, e)?;
     let body = resolve_part(names, around, walk, body)?;
-    let node = ActionNode::RepeatWhile(test, body);
+    let node = ActionNode::While(test, body);
     Ok(Action { pos, node })
 }
 
@@ -257,11 +257,11 @@ fn resolve_do_while<N: Lookup>(
 ) -> Result<Action, Memory>
     requires { IsSoundAction (action (site_of (N.env names.now) walk.old around.result) (plain.do_while pos (stmt_view body.now) (expr_view e.now))) }
     ensures action { IfOk result (λ x. action_view x ≡ action (site_of (N.env names.now) walk.old around.result) (plain.do_while pos (stmt_view body.now) (expr_view e.now))) }
-    ensures after { OnOk result ((site_of (N.env names.now) walk.new around.result) ≡ after (site_of (N.env names.now) walk.old around.result) (plain.do_while pos (stmt_view body.now) (expr_view e.now))) }
+    ensures after { OnOk result ((site_of (N.env names.now) walk.new around.result) ≡ site_after (site_of (N.env names.now) walk.old around.result) (plain.do_while pos (stmt_view body.now) (expr_view e.now))) }
 {
     let test = value(names, around, walk, e)?;
     let body = resolve_part(names, around, walk, body)?;
-    let node = ActionNode::RepeatUntil(body, test);
+    let node = ActionNode::DoWhile(body, test);
     Ok(Action { pos, node })
 }
 
@@ -278,7 +278,7 @@ fn resolve_for<N: Lookup>(
 ) -> Result<Action, Memory>
     requires { IsSoundAction (action (site_of (N.env names.now) walk.old around.result) (plain.for pos (for_start_view start.now) (optional_expr_view test.now) (optional_expr_view step.now) (stmt_view body.now))) }
     ensures action { IfOk result (λ x. action_view x ≡ action (site_of (N.env names.now) walk.old around.result) (plain.for pos (for_start_view start.now) (optional_expr_view test.now) (optional_expr_view step.now) (stmt_view body.now))) }
-    ensures after { OnOk result ((site_of (N.env names.now) walk.new around.result) ≡ after (site_of (N.env names.now) walk.old around.result) (plain.for pos (for_start_view start.now) (optional_expr_view test.now) (optional_expr_view step.now) (stmt_view body.now))) }
+    ensures after { OnOk result ((site_of (N.env names.now) walk.new around.result) ≡ site_after (site_of (N.env names.now) walk.old around.result) (plain.for pos (for_start_view start.now) (optional_expr_view test.now) (optional_expr_view step.now) (stmt_view body.now))) }
 {
     let kept = walk.locals.len();
     let head = resolve_head(names, around, walk, start, test, step)?;
@@ -290,7 +290,7 @@ fn resolve_for<N: Lookup>(
         test,
         step,
     } = head;
-    let node = ActionNode::RepeatFor(locals, first, test, step, body);
+    let node = ActionNode::For(locals, first, test, step, body);
     Ok(Action { pos, node })
 }
 
@@ -305,11 +305,11 @@ fn resolve_switch<N: Lookup>(
 ) -> Result<Action, Memory>
     requires { IsSoundAction (action (site_of (N.env names.now) walk.old around.result) (plain.switch pos (expr_view e.now) (stmt_view body.now))) }
     ensures action { IfOk result (λ x. action_view x ≡ action (site_of (N.env names.now) walk.old around.result) (plain.switch pos (expr_view e.now) (stmt_view body.now))) }
-    ensures after { OnOk result ((site_of (N.env names.now) walk.new around.result) ≡ after (site_of (N.env names.now) walk.old around.result) (plain.switch pos (expr_view e.now) (stmt_view body.now))) }
+    ensures after { OnOk result ((site_of (N.env names.now) walk.new around.result) ≡ site_after (site_of (N.env names.now) walk.old around.result) (plain.switch pos (expr_view e.now) (stmt_view body.now))) }
 {
     let test = value(names, around, walk, e)?;
     let body = resolve_part(names, around, walk, body)?;
-    let node = ActionNode::SwitchOn(test, body);
+    let node = ActionNode::Switch(test, body);
     Ok(Action { pos, node })
 }
 
@@ -324,11 +324,11 @@ fn resolve_case<N: Lookup>(
 ) -> Result<Action, Memory>
     requires { IsSoundAction (action (site_of (N.env names.now) walk.old around.result) (plain.case pos (expr_view e.now) (stmt_view inner.now))) }
     ensures action { IfOk result (λ x. action_view x ≡ action (site_of (N.env names.now) walk.old around.result) (plain.case pos (expr_view e.now) (stmt_view inner.now))) }
-    ensures after { OnOk result ((site_of (N.env names.now) walk.new around.result) ≡ after (site_of (N.env names.now) walk.old around.result) (plain.case pos (expr_view e.now) (stmt_view inner.now))) }
+    ensures after { OnOk result ((site_of (N.env names.now) walk.new around.result) ≡ site_after (site_of (N.env names.now) walk.old around.result) (plain.case pos (expr_view e.now) (stmt_view inner.now))) }
 {
     let number = case_number(e)?;
     let inner = resolve_part(names, around, walk, inner)?;
-    let node = ActionNode::AtCase(number, inner);
+    let node = ActionNode::Case(number, inner);
     Ok(Action { pos, node })
 }
 
@@ -342,10 +342,10 @@ fn resolve_default<N: Lookup>(
 ) -> Result<Action, Memory>
     requires { IsSoundAction (action (site_of (N.env names.now) walk.old around.result) (plain.default pos (stmt_view inner.now))) }
     ensures action { IfOk result (λ x. action_view x ≡ action (site_of (N.env names.now) walk.old around.result) (plain.default pos (stmt_view inner.now))) }
-    ensures after { OnOk result ((site_of (N.env names.now) walk.new around.result) ≡ after (site_of (N.env names.now) walk.old around.result) (plain.default pos (stmt_view inner.now))) }
+    ensures after { OnOk result ((site_of (N.env names.now) walk.new around.result) ≡ site_after (site_of (N.env names.now) walk.old around.result) (plain.default pos (stmt_view inner.now))) }
 {
     let inner = resolve_part(names, around, walk, inner)?;
-    let node = ActionNode::AtDefault(inner);
+    let node = ActionNode::Default(inner);
     Ok(Action { pos, node })
 }
 
@@ -360,10 +360,10 @@ fn resolve_label<N: Lookup>(
 ) -> Result<Action, Memory>
     requires { IsSoundAction (action (site_of (N.env names.now) walk.old around.result) (plain.label pos name (stmt_view inner.now))) }
     ensures action { IfOk result (λ x. action_view x ≡ action (site_of (N.env names.now) walk.old around.result) (plain.label pos name (stmt_view inner.now))) }
-    ensures after { OnOk result ((site_of (N.env names.now) walk.new around.result) ≡ after (site_of (N.env names.now) walk.old around.result) (plain.label pos name (stmt_view inner.now))) }
+    ensures after { OnOk result ((site_of (N.env names.now) walk.new around.result) ≡ site_after (site_of (N.env names.now) walk.old around.result) (plain.label pos name (stmt_view inner.now))) }
 {
     let inner = resolve_part(names, around, walk, inner)?;
-    let node = ActionNode::AtLabel(name, inner);
+    let node = ActionNode::Label(name, inner);
     Ok(Action { pos, node })
 }
 
@@ -396,7 +396,7 @@ fn resolve_block<N: Lookup>(
     end: Pos,
 ) -> Result<Action, Memory>
     requires { AreSoundActions (actions_in (site_of (N.env names.now) walk.old around.result) (stmts_of (map stmt_view list.now.items))) }
-    ensures action { IfOk result (λ x. action_view x ≡ actions.block_of pos (actions_in (site_of (N.env names.now) walk.old around.result) (stmts_of (map stmt_view list.now.items))) end) }
+    ensures action { IfOk result (λ x. action_view x ≡ actions.block pos (actions_in (site_of (N.env names.now) walk.old around.result) (stmts_of (map stmt_view list.now.items))) end) }
     ensures walk { OnOk result (walk.new ≡ record walk.old { next = walk.old.next + stmts_locals (stmts_of (map stmt_view list.now.items)) }) }
 {
     let kept = walk.locals.len();

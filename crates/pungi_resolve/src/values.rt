@@ -1,8 +1,8 @@
 //! The values of a statement.
 ghost use Rattle.std.specs.Prelude.{◌≡◌, IfOk, true};
 ghost use Rattle.pungi_types.specs.Exprs.{kind_of};
-ghost use Rattle.pungi_resolve.specs.Exprs.{convert as convert_of, resolve as resolve_of};
-ghost use Rattle.pungi_resolve.specs.Stmts.{option_value, returned as returned_of};
+ghost use Rattle.pungi_resolve.specs.Exprs.{convert as convert_of, resolve};
+ghost use Rattle.pungi_resolve.specs.Stmts.{option_value, return_value};
 ghost use Rattle.pungi_resolve.specs.Sound.{is_sound, is_sound_option};
 ghost use Rattle.pungi_scope.specs.ScopeEnv.{inner_env};
 ghost use Rattle.pungi_tree.specs.ExprView.{expr_view, optional_view as optional_expr_view};
@@ -25,8 +25,8 @@ pub(crate) fn value<N: Lookup>(
     walk: &Walk,
     e: &Expr,
 ) -> Result<Box<Value>, Memory>
-    requires { is_sound (resolve_of (inner_env (N.env names.now) walk.now.locals) (expr_view e.now)) ≡ true }
-    ensures { IfOk result (λ x. boxed_view x ≡ resolve_of (inner_env (N.env names.now) walk.now.locals) (expr_view e.now)) }
+    requires { is_sound (resolve (inner_env (N.env names.now) walk.now.locals) (expr_view e.now)) ≡ true }
+    ensures { IfOk result (λ x. boxed_view x ≡ resolve (inner_env (N.env names.now) walk.now.locals) (expr_view e.now)) }
 {
     let scope = Scope {
         names,
@@ -64,8 +64,8 @@ pub(crate) fn value_as<N: Lookup>(
     kind: Option<ValueKind>,
     e: &Expr,
 ) -> Result<Box<Value>, Memory>
-    requires { is_sound (convert_of pos kind (kind_of (inner_env (N.env names.now) walk.now.locals) (expr_view e.now)) (resolve_of (inner_env (N.env names.now) walk.now.locals) (expr_view e.now))) ≡ true }
-    ensures { IfOk result (λ x. boxed_view x ≡ convert_of pos kind (kind_of (inner_env (N.env names.now) walk.now.locals) (expr_view e.now)) (resolve_of (inner_env (N.env names.now) walk.now.locals) (expr_view e.now))) }
+    requires { is_sound (convert_of pos kind (kind_of (inner_env (N.env names.now) walk.now.locals) (expr_view e.now)) (resolve (inner_env (N.env names.now) walk.now.locals) (expr_view e.now))) ≡ true }
+    ensures { IfOk result (λ x. boxed_view x ≡ convert_of pos kind (kind_of (inner_env (N.env names.now) walk.now.locals) (expr_view e.now)) (resolve (inner_env (N.env names.now) walk.now.locals) (expr_view e.now))) }
 {
     let scope = Scope {
         names,
@@ -76,15 +76,15 @@ pub(crate) fn value_as<N: Lookup>(
 }
 
 /// What a `return` at this place gives back.
-pub(crate) fn returned<N: Lookup>(
+pub(crate) fn return_value<N: Lookup>(
     names: &N,
     around: Around,
     walk: &Walk,
     pos: Pos,
     e: &Option<Expr>,
 ) -> Result<Option<Box<Value>>, Memory>
-    requires { is_sound_option (returned_of (site_of (N.env names.now) walk.now around.result) pos (optional_expr_view e.now)) ≡ true }
-    ensures { IfOk result (λ x. optional_view x ≡ returned_of (site_of (N.env names.now) walk.now around.result) pos (optional_expr_view e.now)) }
+    requires { is_sound_option (return_value (site_of (N.env names.now) walk.now around.result) pos (optional_expr_view e.now)) ≡ true }
+    ensures { IfOk result (λ x. optional_view x ≡ return_value (site_of (N.env names.now) walk.now around.result) pos (optional_expr_view e.now)) }
 {
     match e {
         None => Ok(None),

@@ -3,10 +3,10 @@ ghost use Rattle.std.specs.Prelude.{◌≡◌, IfOk, Some, true, is_some};
 ghost use Rattle.std.specs.Prelude as ints;
 ghost use Rattle.pungi_types.specs.Labels.{byte};
 ghost use Rattle.pungi_types.specs.Names.{meaning_of};
-ghost use Rattle.pungi_types.specs.Exprs.{meaning_kind, int_kind as int_kind_of, unary_kind as unary_kind_of, names_type_object as names_type_object_of, is_place as is_place_of, kind_of};
+ghost use Rattle.pungi_types.specs.Exprs.{meaning_kind, int_kind, unary_kind, names_type_object, is_place as is_place_of, kind_of};
 ghost use Rattle.pungi_types.specs.declared.kind.ValueKind.TheVariants as kinds;
 ghost use Rattle.pungi_types.specs.declared.operator.Prefix.TheVariants as prefixes;
-ghost use Rattle.pungi_resolve.specs.Exprs.{word_value as word_value_of, int_value, static_behind as static_behind_of, module_behind as module_behind_of};
+ghost use Rattle.pungi_resolve.specs.Exprs.{word_value, int_value, static_address, module_address};
 ghost use Rattle.pungi_resolved.specs.Values.{constant, null_of, text_of};
 ghost use Rattle.pungi_resolve.specs.Sound.{is_sound};
 ghost use Rattle.pungi_tree.specs.ExprView.{expr_view};
@@ -28,8 +28,8 @@ pub(crate) fn word<N: Lookup>(
     pos: Pos,
     name: Name,
 ) -> Result<Typed, Memory>
-    requires { is_sound (word_value_of pos name (meaning_of (N.env names.now) name.0) (meaning_kind (meaning_of (N.env names.now) name.0))) ≡ true }
-    ensures value { IfOk result (λ x. boxed_view x.value ≡ word_value_of pos name (meaning_of (N.env names.now) name.0) (meaning_kind (meaning_of (N.env names.now) name.0))) }
+    requires { is_sound (word_value pos name (meaning_of (N.env names.now) name.0) (meaning_kind (meaning_of (N.env names.now) name.0))) ≡ true }
+    ensures value { IfOk result (λ x. boxed_view x.value ≡ word_value pos name (meaning_of (N.env names.now) name.0) (meaning_kind (meaning_of (N.env names.now) name.0))) }
     ensures kind { IfOk result (λ x. x.kind ≡ meaning_kind (meaning_of (N.env names.now) name.0)) }
 {
     let kind = names.word_kind(name.0);
@@ -43,7 +43,7 @@ pub(crate) fn word<N: Lookup>(
 
 /// The number of an integer constant.
 fn number(value: i128, long: bool, unsigned: bool) -> i64
-    requires { is_some (int_kind_of value long unsigned) ≡ true }
+    requires { is_some (int_kind value long unsigned) ≡ true }
     ensures { result ≡ value }
 {
     if value < 0 {
@@ -63,9 +63,9 @@ pub(crate) fn int(
     long: bool,
     unsigned: bool,
 ) -> Result<Typed, Memory>
-    requires { is_sound (int_value pos (int_kind_of value long unsigned) value) ≡ true }
-    ensures value { IfOk result (λ x. boxed_view x.value ≡ int_value pos (int_kind_of value long unsigned) value) }
-    ensures kind { IfOk result (λ x. x.kind ≡ int_kind_of value long unsigned) }
+    requires { is_sound (int_value pos (int_kind value long unsigned) value) ≡ true }
+    ensures value { IfOk result (λ x. boxed_view x.value ≡ int_value pos (int_kind value long unsigned) value) }
+    ensures kind { IfOk result (λ x. x.kind ≡ int_kind value long unsigned) }
 {
     let node = ValueNode::Constant(number(value, long, unsigned));
     Typed::new(alloc, pos, node, int_kind(value, long, unsigned))
@@ -104,9 +104,9 @@ pub(crate) fn address<N: Lookup>(
     pos: Pos,
     a: &Expr,
 ) -> Result<Typed, Memory>
-    requires { is_sound (static_behind_of (N.env names.now) pos (expr_view a.now)) ≡ true }
-    ensures value { IfOk result (λ x. boxed_view x.value ≡ static_behind_of (N.env names.now) pos (expr_view a.now)) }
-    ensures kind { IfOk result (λ x. x.kind ≡ unary_kind_of prefixes.Address (names_type_object_of (N.env names.now) (expr_view a.now)) (is_place_of (N.env names.now) (expr_view a.now)) (kind_of (N.env names.now) (expr_view a.now))) }
+    requires { is_sound (static_address (N.env names.now) pos (expr_view a.now)) ≡ true }
+    ensures value { IfOk result (λ x. boxed_view x.value ≡ static_address (N.env names.now) pos (expr_view a.now)) }
+    ensures kind { IfOk result (λ x. x.kind ≡ unary_kind prefixes.Address (names_type_object (N.env names.now) (expr_view a.now)) (is_place_of (N.env names.now) (expr_view a.now)) (kind_of (N.env names.now) (expr_view a.now))) }
 {
     let kind = unary_kind(Prefix::Address, names_type_object(names, a), false, None);
     match &a.node {
@@ -118,10 +118,10 @@ pub(crate) fn address<N: Lookup>(
     }
 }
 
-/// The module table behind an `&`.
+/// The module table after an `&`.
 pub(crate) fn module_behind(alloc: Global, e: &Expr) -> Result<Box<Value>, Memory>
-    requires { is_sound (module_behind_of (expr_view e.now)) ≡ true }
-    ensures { IfOk result (λ x. boxed_view x ≡ module_behind_of (expr_view e.now)) }
+    requires { is_sound (module_address (expr_view e.now)) ≡ true }
+    ensures { IfOk result (λ x. boxed_view x ≡ module_address (expr_view e.now)) }
 {
     match &e.node {
         ExprNode::Unary(_, a) => match &a.node {

@@ -1,5 +1,5 @@
 -- What an action of the program stands for.
---   reached_view        a local as it is reached
+--   declared_view       a local as it is reached
 --   action_view         an action
 --   actions_of as       a list of actions, as `ResolvedStmts` writes it
 --   function_view       a function
@@ -9,13 +9,13 @@ use Rattle.pungi_base.specs.declared.pos.Pos.{Pos}
 use Rattle.pungi_resolved.specs.Actions as plain
 use Rattle.pungi_resolved.specs.Functions.{ResolvedFunction}
 use Rattle.pungi_resolved.specs.ValueView.{boxed_view, optional_view}
-use Rattle.pungi_resolved.specs.declared.action.Reached.{Reached}
+use Rattle.pungi_resolved.specs.declared.action.DeclaredLocal.{DeclaredLocal}
 use Rattle.pungi_resolved.specs.declared.action.ActionNode.TheOpen.{ActionNode-F, Action-F}
 use Rattle.pungi_resolved.specs.declared.action.Action.{Action, fold-Action}
 use Rattle.pungi_resolved.specs.declared.function.Function.{Function}
 
-abbrev pub reached_view : Reached → plain.Reached
-reached_view r = record { number = r.number; at = r.at; kind = r.kind; value = optional_view r.value }
+abbrev pub declared_view : DeclaredLocal → plain.DeclaredLocal
+declared_view r = record { number = r.number; at = r.at; kind = r.kind; value = optional_view r.value }
 
 abbrev pub actions_of : List plain.Action → plain.Actions
 actions_of [] = plain.no_actions
@@ -25,22 +25,22 @@ abbrev pub Node : Type 0
 Node = Pos → plain.Action
 
 abbrev pub action_node_step : ActionNode-F Node plain.Action → Node
-action_node_step (ActionNode-F.Block as' q) = λ p. plain.block_of p (actions_of as'.items) q
-action_node_step (ActionNode-F.Reach rs) = λ p. plain.reach p (map reached_view rs.items)
-action_node_step (ActionNode-F.Evaluate v) = λ p. plain.evaluate p (optional_view v)
-action_node_step (ActionNode-F.Test c a) = λ p. plain.test p (boxed_view c) a.value
-action_node_step (ActionNode-F.TestElse c a b) = λ p. plain.test_else p (boxed_view c) a.value b.value
-action_node_step (ActionNode-F.RepeatWhile c a) = λ p. plain.repeat_while p (boxed_view c) a.value
-action_node_step (ActionNode-F.RepeatUntil a c) = λ p. plain.repeat_until p a.value (boxed_view c)
-action_node_step (ActionNode-F.RepeatFor rs u c w a) = λ p. plain.repeat_for p (map reached_view rs.items) (optional_view u) (optional_view c) (optional_view w) a.value
-action_node_step (ActionNode-F.SwitchOn v a) = λ p. plain.switch_on p (boxed_view v) a.value
-action_node_step (ActionNode-F.AtCase n a) = λ p. plain.at_case p n a.value
-action_node_step (ActionNode-F.AtDefault a) = λ p. plain.at_default p a.value
-action_node_step (ActionNode-F.AtLabel n a) = λ p. plain.at_label p n a.value
-action_node_step (ActionNode-F.Jump n) = λ p. plain.jump p n
-action_node_step ActionNode-F.Leave = λ p. plain.leave p
-action_node_step ActionNode-F.NextTurn = λ p. plain.next_turn p
-action_node_step (ActionNode-F.Give v) = λ p. plain.give p (optional_view v)
+action_node_step (ActionNode-F.Block as' q) = λ p. plain.block p (actions_of as'.items) q
+action_node_step (ActionNode-F.Declare rs) = λ p. plain.declare p (map declared_view rs.items)
+action_node_step (ActionNode-F.Do v) = λ p. plain.do_expr p (optional_view v)
+action_node_step (ActionNode-F.If c a) = λ p. plain.if_only p (boxed_view c) a.value
+action_node_step (ActionNode-F.IfElse c a b) = λ p. plain.if_else p (boxed_view c) a.value b.value
+action_node_step (ActionNode-F.While c a) = λ p. plain.while p (boxed_view c) a.value
+action_node_step (ActionNode-F.DoWhile a c) = λ p. plain.do_while p a.value (boxed_view c)
+action_node_step (ActionNode-F.For rs u c w a) = λ p. plain.for p (map declared_view rs.items) (optional_view u) (optional_view c) (optional_view w) a.value
+action_node_step (ActionNode-F.Switch v a) = λ p. plain.switch p (boxed_view v) a.value
+action_node_step (ActionNode-F.Case n a) = λ p. plain.case p n a.value
+action_node_step (ActionNode-F.Default a) = λ p. plain.default p a.value
+action_node_step (ActionNode-F.Label n a) = λ p. plain.label p n a.value
+action_node_step (ActionNode-F.Goto n) = λ p. plain.goto p n
+action_node_step ActionNode-F.Break = λ p. plain.break p
+action_node_step ActionNode-F.Continue = λ p. plain.continue p
+action_node_step (ActionNode-F.Return v) = λ p. plain.return p (optional_view v)
 
 abbrev pub action_step : Action-F Node plain.Action → plain.Action
 action_step a = a.node a.pos

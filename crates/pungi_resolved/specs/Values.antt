@@ -21,7 +21,7 @@ mutual
     inner : Pos → Value → Value  -- a parenthesis
     signed : Pos → Kind → ValueKind → Value → Value  -- `+` and `-`: the kind of the result
     negated : Pos → Value → Value  -- `!`
-    stepped : Pos → Bool → Kind → ValueKind → Place → Value  -- `++` and `--`, true behind the operand
+    stepped : Pos → Bool → Kind → ValueKind → Place → Value  -- `++` and `--`, true after the operand
     computed : Pos → Punct → ValueKind → Value → Value → Value
     compared : Pos → Punct → Value → Value → Value
     joined_by : Pos → Punct → Value → Value → Value  -- `&&` and `||`

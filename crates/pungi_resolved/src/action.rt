@@ -4,7 +4,7 @@ use pungi_types::ValueKind;
 
 /// A local as its declaration is reached. Without a value it becomes unset.
 #[derive(Drop)]
-pub struct Reached {
+pub struct DeclaredLocal {
     /// Its number among the locals of the function.
     pub number: usize,
     /// The place of its name.
@@ -30,39 +30,39 @@ pub enum ActionNode {
     /// A block: its statements, and the place of its closing brace.
     Block(Vec<Action>, Pos),
     /// A declaration.
-    Reach(Vec<Reached>),
+    Declare(Vec<DeclaredLocal>),
     /// An expression statement, or `;`.
-    Evaluate(Option<Box<Value>>),
+    Do(Option<Box<Value>>),
     /// `if` without `else`.
-    Test(Box<Value>, Box<Action>),
+    If(Box<Value>, Box<Action>),
     /// `if` with `else`.
-    TestElse(Box<Value>, Box<Action>, Box<Action>),
+    IfElse(Box<Value>, Box<Action>, Box<Action>),
     /// `while`.
-    RepeatWhile(Box<Value>, Box<Action>),
+    While(Box<Value>, Box<Action>),
     /// `do` and `while`: the body, and the test for another turn.
-    RepeatUntil(Box<Action>, Box<Value>),
-    /// `for`: its locals, or what it does first; its test; what it does behind its body; and its body.
-    RepeatFor(
-        Vec<Reached>,
+    DoWhile(Box<Action>, Box<Value>),
+    /// `for`: its locals, or what it does first; its test; what it does after its body; and its body.
+    For(
+        Vec<DeclaredLocal>,
         Option<Box<Value>>,
         Option<Box<Value>>,
         Option<Box<Value>>,
         Box<Action>,
     ),
     /// `switch`.
-    SwitchOn(Box<Value>, Box<Action>),
+    Switch(Box<Value>, Box<Action>),
     /// `case`, by the value of its constant.
-    AtCase(i64, Box<Action>),
+    Case(i64, Box<Action>),
     /// `default`.
-    AtDefault(Box<Action>),
+    Default(Box<Action>),
     /// A label.
-    AtLabel(Name, Box<Action>),
+    Label(Name, Box<Action>),
     /// `goto`.
-    Jump(Name),
+    Goto(Name),
     /// `break`.
-    Leave,
+    Break,
     /// `continue`.
-    NextTurn,
+    Continue,
     /// `return`.
-    Give(Option<Box<Value>>),
+    Return(Option<Box<Value>>),
 }

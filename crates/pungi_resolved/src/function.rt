@@ -2,7 +2,7 @@ use crate::Action;
 use pungi_base::{Name, Pos, Seq};
 use pungi_types::ValueKind;
 
-/// A function of which no rule is told. The parameters are the first of its locals.
+/// A function in which no rule holds. The parameters are the first of its locals.
 #[derive(Drop)]
 pub struct Function {
     pub name: Name,

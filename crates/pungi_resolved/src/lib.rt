@@ -5,6 +5,6 @@ mod action;
 mod function;
 mod value;
 
-pub use action::{Action, ActionNode, Reached};
+pub use action::{Action, ActionNode, DeclaredLocal};
 pub use function::Function;
 pub use value::{Place, Value, ValueNode};

@@ -33,7 +33,7 @@ pub enum ValueNode {
     Signed(Kind, ValueKind, Box<Value>),
     /// `!`.
     Negated(Box<Value>),
-    /// `++` and `--`, behind the operand where true.
+    /// `++` and `--`, after the operand where true.
     Stepped(bool, Kind, ValueKind, Place),
     /// An arithmetic operator between two operands, in the kind of the arithmetic.
     Computed(Punct, ValueKind, Box<Value>, Box<Value>),

@@ -1,4 +1,4 @@
--- A statement only adds locals, and counts those that it declares; what is left behind it is what was there before.
+-- A statement only adds locals, and counts those that it declares; what is left after it is what was there before.
 use Rattle.std.proofs.Common.{◌≡◌, ℕ, ◌+◌, ◌-◌, List, [], ◌∷◌, ◌++◌, length, drop, refl, sym, ap, ◌∙◌, append_assoc, add_assoc, add-zero, arith, length-append, Option, Some, None, suc, subst, Bool, true, false, Result, Ok, Err, OnOk}
 use Rattle.pungi_tree.specs.Syntax.{Spec, VarDecl, var_decl, Decl, decl, ForStart, start_decl, start_expr, Expr, Stmt, declare, for, Stmts, no_stmts, stmt_and, Params, params, ParamDecl, param_decl, ParamDecls, no_params, param_and, named, bare, unused}
 use Rattle.std.specs.declared.alloc.Global.{Global}
@@ -97,7 +97,7 @@ left env old new b c around inner n x a e =
     in
     ap (λ l. made l new.next new.first) back ∙ ap (λ k. made old.locals k new.first) a.next ∙ ap (λ y. made old.locals (old.next + n) y) e
 
--- behind a statement that is part of another
+-- after a statement that is part of another
 pub left_part : {T E : Type 0} (r : Result T E) (env : Env) (old new final : Walk) (b c : List ℕ) (around : Around) (s : Stmt) (k : ℕ) → b ≡ [] → k ≡ length old.locals
     → OnOk r (frame_of env new c around ≡ after_stmt (frame_of env old b around) s) → OnOk r (new.first ≡ least_from old.first (stmt_findings (frame_of env old b around) s))
     → final ≡ record new { locals = drop (length new.locals - k) new.locals }
@@ -111,7 +111,7 @@ left_part (Ok x) env old new final b c around s k none kept frame found e =
     ∙ left env old new b c around around (stmt_locals s) (least_from old.first (stmt_findings F s)) adds found
     ∙ ap (λ (ws : List ℕ). record old { first = least_from old.first (stmt_findings (frame_of env old ws around) s); next = old.next + stmt_locals s }) none
 
--- behind the statements of a block
+-- after the statements of a block
 pub left_list : {T E : Type 0} (r : Result T E) (env : Env) (old new final : Walk) (b c : List ℕ) (around : Around) (ss : Stmts) (k : ℕ) → b ≡ [] → k ≡ length old.locals
     → OnOk r (frame_of env new c around ≡ after_stmts (frame_of env old b around) ss) → OnOk r (new.first ≡ least_from old.first (stmts_findings (frame_of env old b around) ss))
     → final ≡ record new { locals = drop (length new.locals - k) new.locals }
@@ -142,7 +142,7 @@ entered_block env old around inner ls bs ss known r l t u v w =
     ∙ ap (λ x. of_parts e bs old.next around.result (block_labels [] ss ++ labels_of around.labels) around.breaks around.continues x inner.switched) v
     ∙ ap (λ x. of_parts e bs old.next around.result (block_labels [] ss ++ labels_of around.labels) around.breaks around.continues around.switched x) w
 
--- the frame behind a statement, and what it finds, by the declaration that it is
+-- the frame after a statement, and what it finds, by the declaration that it is
 abbrev pub after_of : Frame → ℕ → Option Decl → Frame
 after_of f n (Some d) = after_decl f d
 after_of f n None = record f { next = f.next + n }
@@ -164,7 +164,7 @@ findings_split f s = refl
 adds-head : (f : Frame) (a : ForStart) → Adds f (record (start_frame f a) { block = [] }) (start_locals a)
 adds-head f a = let s = adds-start f a in record { more = s.more; locals = s.locals; next = s.next }
 
--- behind a `for`
+-- after a `for`
 pub left_for : {T E : Type 0} (r : Result T E) (env : Env) (old one two final : Walk) (around loop : Around) (p : Pos) (a : ForStart) (b c : Option Expr) (s : Stmt) (k : ℕ)
     → k ≡ length old.locals
     → one.first ≡ least_from old.first (start_findings (frame_of env old [] around) a and (option_condition (start_frame (frame_of env old [] around) a).env p b and option_findings (start_frame (frame_of env old [] around) a).env c))
@@ -194,7 +194,7 @@ left_for (Ok v) env old one two final around loop p a b c s k kept first frame i
     ∙ left env old (record one { first = x; next = one.next + n }) [] [] around around (start_locals a + n) x there refl
     ∙ ap (λ (y : Option Finding). record old { first = y; next = old.next + (start_locals a + n) }) found
 
--- how many locals are counted behind the statements of a block
+-- how many locals are counted after the statements of a block
 pub counted : {T E : Type 0} (r : Result T E) (env : Env) (old new : Walk) (b c : List ℕ) (inner : Around) (ss : Stmts)
     → OnOk r (frame_of env new c inner ≡ after_stmts (frame_of env old b inner) ss) → OnOk r (new.next ≡ old.next + stmts_locals ss)
 counted (Err x) env old new b c inner ss frame = tt
@@ -212,7 +212,7 @@ param_counted f (param_and d ds) =
     let one = param_added f d in
     omega arith
 
--- how many locals are counted behind the parameters
+-- how many locals are counted after the parameters
 pub params_counted : (f : Frame) (ps : Params) → (params_frame f ps).next ≡ f.next + params_count ps
 params_counted f (params ds v dots) = param_counted f ds
 

@@ -1,7 +1,7 @@
 //! The cases of a `switch` (C11 6.8.1, 6.8.4.2).
 ghost use Rattle.std.specs.Prelude.{◌≡◌, map, OnOk};
 ghost use Rattle.pungi_types.specs.Findings.{least_from};
-ghost use Rattle.pungi_types.specs.Labels.{unsigned_constant as unsigned_constant_of, constant_of, is_equal_case as is_equal_case_of, with_constant, with_value, cases_after, case_findings, cases_findings, switch_findings};
+ghost use Rattle.pungi_types.specs.Labels.{unsigned_constant, constant_of, is_equal_case, with_constant, with_value, cases_after, case_findings, cases_findings, switch_findings};
 ghost use Rattle.pungi_scope.specs.CasesView.{cases_of};
 ghost use Rattle.pungi_tree.specs.ExprView.{expr_view};
 ghost use Rattle.pungi_tree.specs.StmtView.{stmt_view, stmts_of};
@@ -21,7 +21,7 @@ pub(crate) struct SeenCases {
 }
 
 fn unsigned_constant(e: &Expr) -> Option<i128>
-    ensures { result ≡ unsigned_constant_of (expr_view e.now) }
+    ensures { result ≡ unsigned_constant (expr_view e.now) }
 {
     match &e.node {
         ExprNode::Int { value, .. } => { if *value < 0 { None } else { Some(*value) } }
@@ -44,7 +44,7 @@ pub fn constant(e: &Expr) -> Option<i128>
 }
 
 fn is_equal_case(seen: &SeenCases, value: Option<i128>) -> bool
-    ensures { result ≡ is_equal_case_of (cases_of seen.now) value }
+    ensures { result ≡ is_equal_case (cases_of seen.now) value }
 {
     match value {
         None => false,
@@ -71,7 +71,7 @@ fn see(seen: &mut SeenCases, value: Option<i128>) -> Result<(), Memory>
     }
 }
 
-/// Sees the cases that stand directly at a statement, also behind labels.
+/// Sees the cases that stand directly at a statement, also after labels.
 fn note_cases(seen: &mut SeenCases, first: &mut Option<Finding>, s: &Stmt) -> Result<(), Memory>
     ensures seen { OnOk result (cases_of seen.new ≡ cases_after (cases_of seen.old) (stmt_view s.now)) }
     ensures found { OnOk result (first.new ≡ least_from first.old (case_findings (cases_of seen.old) (stmt_view s.now))) }

@@ -1,8 +1,8 @@
 //! Where rules hold in declarations of locals.
 ghost use Rattle.std.specs.Prelude.{◌≡◌, map, OnOk};
 ghost use Rattle.pungi_types.specs.Findings.{least_from, ◌and◌};
-ghost use Rattle.pungi_types.specs.Kinds.{declared_kind as declared_kind_of};
-ghost use Rattle.pungi_types.specs.Stmts.{declared_n1, declared_n8, initial_findings, var_findings, vars_findings, decl_findings, after_var, after_vars, after_decl};
+ghost use Rattle.pungi_types.specs.Kinds.{declared_kind};
+ghost use Rattle.pungi_types.specs.Stmts.{declared_n1, declared_n8, first_value_findings, var_findings, vars_findings, decl_findings, after_var, after_vars, after_decl};
 ghost use Rattle.pungi_scope.specs.Frames.{frame_of};
 ghost use Rattle.pungi_scope.specs.ScopeEnv.{inner_env};
 ghost use Rattle.pungi_tree.specs.ExprView.{spec_view, declr_view};
@@ -41,8 +41,8 @@ fn check_declr<N: Lookup>(
     spec: &Spec,
     declr: &Declr,
 ) -> Option<ValueKind>
-    ensures kind { result ≡ declared_kind_of (N.env names.now).file.items (spec_view spec.now) (declr_view declr.now) }
-    ensures found { walk.new ≡ record walk.old { first = least_from walk.old.first (declared_n1 quals.now.items (spec_view spec.now) (declared_kind_of (N.env names.now).file.items (spec_view spec.now) (declr_view declr.now)) and declared_n8 (inner_env (N.env names.now) walk.old.locals) block.now.keys declr.now.name declr.now.pos) } }
+    ensures kind { result ≡ declared_kind (N.env names.now).file.items (spec_view spec.now) (declr_view declr.now) }
+    ensures found { walk.new ≡ record walk.old { first = least_from walk.old.first (declared_n1 quals.now.items (spec_view spec.now) (declared_kind (N.env names.now).file.items (spec_view spec.now) (declr_view declr.now)) and declared_n8 (inner_env (N.env names.now) walk.old.locals) block.now.keys declr.now.name declr.now.pos) } }
 {
     let scope = Scope {
         names,
@@ -62,7 +62,7 @@ fn check_initial<N: Lookup>(
     pos: Pos,
     value: &Option<Init>,
 )
-    ensures { walk.new ≡ record walk.old { first = least_from walk.old.first (initial_findings (inner_env (N.env names.now) walk.old.locals) kind pos (init_option_view value.now)) } }
+    ensures { walk.new ≡ record walk.old { first = least_from walk.old.first (first_value_findings (inner_env (N.env names.now) walk.old.locals) kind pos (init_option_view value.now)) } }
 {
     let scope = Scope {
         names,

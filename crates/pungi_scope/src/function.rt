@@ -1,9 +1,9 @@
-//! Which rule is told of a function.
+//! Which rule is reported of a function.
 ghost use Rattle.std.specs.Prelude.{◌≡◌, ◌+◌, map, OnOk, IfOk};
 ghost use Rattle.pungi_types.specs.Findings.{least_from};
 ghost use Rattle.pungi_types.specs.Labels.{stmts_locals};
 ghost use Rattle.pungi_types.specs.Stmts.{in_block, stmts_findings};
-ghost use Rattle.pungi_types.specs.Functions.{body_findings, body_locals, result_kind as result_kind_of, result_findings, parts_findings, text_findings, params_count, refusal_in};
+ghost use Rattle.pungi_types.specs.Functions.{body_findings, body_locals, result_kind, result_findings, parts_findings, text_findings, params_count, refusal_in};
 ghost use Rattle.pungi_types.specs.TypesView.{definition_view};
 ghost use Rattle.pungi_scope.specs.Frames.{frame_of};
 ghost use Rattle.pungi_tree.specs.ExprView.{params_view};
@@ -62,7 +62,7 @@ fn check_body<N: Lookup>(
     }
 }
 
-/// Walks through the parameters and the body of a function, and answers the number of the next local.
+/// Walks through the parameters and the body of a function, and returns the number of the next local.
 fn check_parts<N: Lookup>(
     names: &N,
     around: &Around<'_>,
@@ -85,7 +85,7 @@ fn note_result<N: Lookup>(
     first: &mut Option<Finding>,
     f: &FunctionDef,
 ) -> Option<ValueKind>
-    ensures kind { result ≡ result_kind_of (N.env names.now) (definition_view f.now) }
+    ensures kind { result ≡ result_kind (N.env names.now) (definition_view f.now) }
     ensures found { first.new ≡ least_from first.old (result_findings (N.env names.now) (definition_view f.now)) }
 {
     let kind = names.type_kind(&f.result, f.stars.len());
@@ -93,7 +93,7 @@ fn note_result<N: Lookup>(
     kind
 }
 
-/// Walks through a function, and answers how many locals it has.
+/// Walks through a function, and returns how many locals it has.
 fn check_text<N: Lookup>(
     alloc: Global,
     names: &N,
@@ -124,7 +124,7 @@ fn check_text<N: Lookup>(
     locals
 }
 
-/// The rule that is told of a function with the place where it holds, or `None` where it holds to all rules.
+/// The rule that is reported of a function, with the place where it holds, or `None` where none holds.
 pub fn refusal<N: Lookup>(
     alloc: Global,
     names: &N,

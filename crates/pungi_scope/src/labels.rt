@@ -1,7 +1,7 @@
 //! The labels that a `goto` may go to (C11 6.8.1, 6.8.6.1).
 ghost use Rattle.std.specs.Prelude.{◌≡◌, [], map, OnOk, IfOk};
 ghost use Rattle.pungi_types.specs.Names.{is_among};
-ghost use Rattle.pungi_types.specs.Labels.{own_labels as own_labels_of, block_labels as block_labels_of, labels_after, labels_after_all, label_findings, labels_findings};
+ghost use Rattle.pungi_types.specs.Labels.{own_labels, block_labels, labels_after, labels_after_all, label_findings, labels_findings};
 ghost use Rattle.pungi_types.specs.Findings.{least_from};
 ghost use Rattle.pungi_scope.specs.Frames.{labels_of};
 ghost use Rattle.pungi_tree.specs.StmtView.{stmt_view, stmts_of};
@@ -33,7 +33,7 @@ pub(crate) fn has_label(labels: &Labels<'_>, word: u32) -> bool
 
 /// Adds the labels of a statement that are in no inner block.
 fn own_labels(kept: &mut IndexSet<u32>, s: &Stmt) -> Result<(), Memory>
-    ensures { OnOk result (kept.new.keys ≡ own_labels_of kept.old.keys (stmt_view s.now)) }
+    ensures { OnOk result (kept.new.keys ≡ own_labels kept.old.keys (stmt_view s.now)) }
 {
     match &s.node {
         StmtNode::If(_, yes, Some(no)) => {
@@ -64,7 +64,7 @@ fn own_labels(kept: &mut IndexSet<u32>, s: &Stmt) -> Result<(), Memory>
 
 /// The labels of a block, without those of the blocks in it.
 pub(crate) fn block_labels(alloc: Global, list: &Vec<Stmt>) -> Result<IndexSet<u32>, Memory>
-    ensures { IfOk result (λ labels. labels.keys ≡ block_labels_of [] (stmts_of (map stmt_view list.now.items))) }
+    ensures { IfOk result (λ labels. labels.keys ≡ block_labels [] (stmts_of (map stmt_view list.now.items))) }
 {
     let mut labels = IndexSet::new(alloc);
     for s in list {

@@ -1,7 +1,7 @@
 //! Where rules hold in the parameters of a function.
 ghost use Rattle.std.specs.Prelude.{◌≡◌, ◌+◌, [], map, OnOk};
 ghost use Rattle.pungi_types.specs.Findings.{least_from, ◌and◌};
-ghost use Rattle.pungi_types.specs.Exprs.{param_kind as param_kind_of};
+ghost use Rattle.pungi_types.specs.Exprs.{param_kind};
 ghost use Rattle.pungi_types.specs.Stmts.{declared_n1};
 ghost use Rattle.pungi_types.specs.Functions.{name_findings, param_findings, after_param, after_params, params_findings, params_frame, dots_findings};
 ghost use Rattle.pungi_scope.specs.Frames.{frame_of};
@@ -26,8 +26,8 @@ fn check_type<N: Lookup>(
     spec: &Spec,
     declr: &ParamDeclr,
 ) -> Option<ValueKind>
-    ensures kind { result ≡ param_kind_of (N.env names.now).file.items (spec_view spec.now) (param_declr_view declr.now) }
-    ensures found { walk.new ≡ record walk.old { first = least_from walk.old.first (declared_n1 quals.now.items (spec_view spec.now) (param_kind_of (N.env names.now).file.items (spec_view spec.now) (param_declr_view declr.now))) } }
+    ensures kind { result ≡ param_kind (N.env names.now).file.items (spec_view spec.now) (param_declr_view declr.now) }
+    ensures found { walk.new ≡ record walk.old { first = least_from walk.old.first (declared_n1 quals.now.items (spec_view spec.now) (param_kind (N.env names.now).file.items (spec_view spec.now) (param_declr_view declr.now))) } }
 {
     let kind = param_kind(names, spec, declr);
     note_declared(&mut walk.first, quals, spec, kind);
@@ -43,7 +43,7 @@ fn declare_param<N: Lookup>(
     kind: Option<ValueKind>,
     p: &ParamDecl,
 ) -> Result<(), Memory>
-    requires { kind ≡ param_kind_of (N.env names.now).file.items (spec_view p.now.spec) (param_declr_view p.now.declr) }
+    requires { kind ≡ param_kind (N.env names.now).file.items (spec_view p.now.spec) (param_declr_view p.now.declr) }
     ensures found { OnOk result (walk.new.first ≡ least_from walk.old.first (name_findings (frame_of (N.env names.now) walk.old block.old.keys around.now) (param_declr_view p.now.declr))) }
     ensures frame { OnOk result (frame_of (N.env names.now) walk.new block.new.keys around.now ≡ after_param (frame_of (N.env names.now) walk.old block.old.keys around.now) (plain.param_decl p.now.quals.items (spec_view p.now.spec) (param_declr_view p.now.declr))) }
 {
@@ -72,7 +72,7 @@ fn check_param<N: Lookup>(
     block: &mut IndexSet<u32>,
     p: &ParamDecl,
 ) -> Result<(), Memory>
-    ensures found { OnOk result (walk.new.first ≡ least_from walk.old.first (declared_n1 p.now.quals.items (spec_view p.now.spec) (param_kind_of (N.env names.now).file.items (spec_view p.now.spec) (param_declr_view p.now.declr)) and name_findings (frame_of (N.env names.now) walk.old block.old.keys around.now) (param_declr_view p.now.declr))) }
+    ensures found { OnOk result (walk.new.first ≡ least_from walk.old.first (declared_n1 p.now.quals.items (spec_view p.now.spec) (param_kind (N.env names.now).file.items (spec_view p.now.spec) (param_declr_view p.now.declr)) and name_findings (frame_of (N.env names.now) walk.old block.old.keys around.now) (param_declr_view p.now.declr))) }
     ensures frame { OnOk result (frame_of (N.env names.now) walk.new block.new.keys around.now ≡ after_param (frame_of (N.env names.now) walk.old block.old.keys around.now) (plain.param_decl p.now.quals.items (spec_view p.now.spec) (param_declr_view p.now.declr))) }
 {
     let kind = check_type(names, walk, &p.quals, &p.spec, &p.declr);

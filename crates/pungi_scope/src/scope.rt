@@ -5,7 +5,7 @@ use pungi_api::Row;
 use pungi_tree::Spec;
 use pungi_types::{Lookup, Standing, ValueKind, Want};
 
-/// The names in force at a place of a function: its locals, and behind them the names of the file.
+/// The names in force at a place of a function: its locals, and after them the names of the file.
 #[derive(Clone, Copy)]
 pub struct Scope<'a, N> {
     pub names: &'a N,

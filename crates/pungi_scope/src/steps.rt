@@ -10,7 +10,7 @@ use crate::Scope;
 use crate::walk::Walk;
 use pungi_base::Pos;
 use pungi_tree::Expr;
-use pungi_types::{Lookup, ValueKind, check_expr, condition, note, return_value, switched};
+use pungi_types::{Lookup, ValueKind, check_expr, check_switched, condition, note, return_value};
 
 /// A rule holds at this place, where the condition does.
 pub(crate) fn note_at(walk: &mut Walk, holds: bool, pos: Pos, rule: u8)
@@ -72,7 +72,7 @@ pub(crate) fn visit_switched<N: Lookup>(names: &N, walk: &mut Walk, pos: Pos, e:
         names,
         locals: &walk.locals,
     };
-    switched(&scope, &mut walk.first, pos, e);
+    check_switched(&scope, &mut walk.first, pos, e);
 }
 
 /// A `return` in a function with a result of this kind.

@@ -2,7 +2,7 @@
 ghost use Rattle.std.specs.Prelude.{◌≡◌, ◌++◌, ◌+◌, ◌-◌, [], length, drop, map, option_map, OnOk, true, false};
 ghost use Rattle.pungi_types.specs.Findings.{least_from, ◌and◌};
 ghost use Rattle.pungi_types.specs.Labels.{start_locals, stmt_locals, stmts_locals};
-ghost use Rattle.pungi_types.specs.Stmts.{decl_findings, stmt_findings, stmts_findings, after_stmt, after_stmts, start_findings, start_frame, option_condition, option_findings, inside as inside_of, in_loop as in_loop_of, in_switch as in_switch_of, labelled as labelled_of, in_block};
+ghost use Rattle.pungi_types.specs.Stmts.{decl_findings, stmt_findings, stmts_findings, after_stmt, after_stmts, start_findings, start_frame, option_condition, option_findings, in_part, in_loop, in_switch, in_label, in_block};
 ghost use Rattle.pungi_scope.specs.Frames.{frame_of, labels_of, declaration_of};
 ghost use Rattle.pungi_tree.specs.Syntax as plain;
 ghost use Rattle.pungi_tree.specs.ExprView.{optional_view};
@@ -22,7 +22,7 @@ use pungi_tree::{Decl, Expr, ForStart, Stmt, StmtNode};
 use pungi_types::Lookup;
 
 /// What surrounds a part that is no part of a block.
-fn inside<'a>(around: &Around<'a>) -> Around<'a>
+fn in_part<'a>(around: &Around<'a>) -> Around<'a>
     ensures { result ≡ record around.now { cases = false; switched = false } }
 {
     Around {
@@ -57,8 +57,8 @@ fn in_switch<'a>(around: &Around<'a>) -> Around<'a>
     }
 }
 
-/// What surrounds a statement behind a `case`, `default` or label.
-fn labelled<'a>(around: &Around<'a>) -> Around<'a>
+/// What surrounds a statement after a `case`, `default` or label.
+fn in_label<'a>(around: &Around<'a>) -> Around<'a>
     ensures { result ≡ record around.now { switched = false } }
 {
     Around {
@@ -194,12 +194,12 @@ fn check_part<N: Lookup>(
         }
         StmtNode::If(e, yes, None) => {
             visit_condition(names, walk, s.pos, e);
-            check_part(names, &inside(around), walk, yes)
+            check_part(names, &in_part(around), walk, yes)
         }
         StmtNode::If(e, yes, Some(no)) => {
             visit_condition(names, walk, s.pos, e);
-            check_part(names, &inside(around), walk, yes)?;
-            check_part(names, &inside(around), walk, no)
+            check_part(names, &in_part(around), walk, yes)?;
+            check_part(names, &in_part(around), walk, no)
         }
         StmtNode::While(e, body) => {
             visit_condition(names, walk, s.pos, e);
@@ -222,13 +222,13 @@ fn check_part<N: Lookup>(
             let wrong = !around.cases || constant(e).is_none();
             note_at(walk, wrong, s.pos, 7);
             visit(names, walk, e);
-            check_part(names, &labelled(around), walk, inner)
+            check_part(names, &in_label(around), walk, inner)
         }
         StmtNode::Default(inner) => {
             note_at(walk, !around.cases, s.pos, 7);
-            check_part(names, &labelled(around), walk, inner)
+            check_part(names, &in_label(around), walk, inner)
         }
-        StmtNode::Label(_, inner) => { check_part(names, &labelled(around), walk, inner) }
+        StmtNode::Label(_, inner) => { check_part(names, &in_label(around), walk, inner) }
         StmtNode::Goto(name, pos) => {
             let known = has_label(&around.labels, name.0);
             note_at(walk, !known, *pos, 6);

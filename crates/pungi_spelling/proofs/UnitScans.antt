@@ -1,4 +1,5 @@
--- The type words of a file that the grammar allows are the words of its items that are `typedef`s, so either list tells the same of it.
+-- The type words of a file that the grammar allows are the words of its items that are `typedef`s, so either list says
+-- the same of it.
 use Rattle.std.proofs.Common.{◌≡◌, ℕ, Bool, true, false, List, [], ◌∷◌, ◌++◌, Some, None, refl, sym, ◌∙◌}
 use Rattle.std.proofs.lemmas.List.{append_assoc}
 use Rattle.pungi_base.specs.declared.key.Key.{Key}

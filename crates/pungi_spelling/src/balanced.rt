@@ -1,12 +1,12 @@
 ghost use Rattle.std.specs.Prelude.{◌≡◌, ◌<◌, ◌∷◌, List, length, false, IfSome, IfNone};
 ghost use Rattle.pungi_base.specs.declared.punct.Punct.{Punct as Mark};
-ghost use Rattle.pungi_tree.specs.Balanced.{closes as closes_of, is_balanced as is_balanced_of, is_same as is_same_of, awaited_by as awaited_by_of, closing as closing_of};
+ghost use Rattle.pungi_tree.specs.Balanced.{closes, is_balanced, is_same, awaited_by, closing};
 
 use pungi_base::{Kind, Pos, Punct};
 
 /// The bracket that one that opens awaits.
 fn awaited_by(kind: Kind) -> Option<Punct>
-    ensures { result ≡ awaited_by_of kind }
+    ensures { result ≡ awaited_by kind }
 {
     match kind {
         Kind::Punct(Punct::LeftParen) => Some(Punct::RightParen),
@@ -18,7 +18,7 @@ fn awaited_by(kind: Kind) -> Option<Punct>
 
 /// The bracket, where it is one that closes.
 fn closing(kind: Kind) -> Option<Punct>
-    ensures { result ≡ closing_of kind }
+    ensures { result ≡ closing kind }
 {
     match kind {
         Kind::Punct(Punct::RightParen) => Some(Punct::RightParen),
@@ -29,7 +29,7 @@ fn closing(kind: Kind) -> Option<Punct>
 }
 
 fn is_same(mark: Punct, other: Punct) -> bool
-    ensures { result ≡ is_same_of mark other }
+    ensures { result ≡ is_same mark other }
 {
     matches!(
         (mark, other),
@@ -39,11 +39,11 @@ fn is_same(mark: Punct, other: Punct) -> bool
     )
 }
 
-/// What stands behind the bracket that closes a group, whose tokens come next. Groups in it are as many calls deep.
+/// What stands after the bracket that closes a group, whose tokens come next. Groups in it are as many calls deep.
 fn after_group<'a>(tokens: &'a [(Kind, Pos)], close: Punct) -> Option<&'a [(Kind, Pos)]>
     ensures shorter { IfSome result (λ rest. length rest.now < length tokens.now) }
-    ensures closed { IfSome result (λ rest. (awaited : List Mark) → closes_of tokens.now (close ∷ awaited) ≡ closes_of rest.now awaited) }
-    ensures open_still { IfNone result ((awaited : List Mark) → closes_of tokens.now (close ∷ awaited) ≡ false) }
+    ensures closed { IfSome result (λ rest. (awaited : List Mark) → closes tokens.now (close ∷ awaited) ≡ closes rest.now awaited) }
+    ensures open_still { IfNone result ((awaited : List Mark) → closes tokens.now (close ∷ awaited) ≡ false) }
 {
     let mut rest = tokens;
     while let Some((token, after)) = rest.split_first() {
@@ -64,7 +64,7 @@ fn after_group<'a>(tokens: &'a [(Kind, Pos)], close: Punct) -> Option<&'a [(Kind
 
 /// Whether the brackets match. It calls itself as deep as they stand in one another.
 pub(crate) fn is_balanced(tokens: &[(Kind, Pos)]) -> bool
-    ensures { result ≡ is_balanced_of tokens.now }
+    ensures { result ≡ is_balanced tokens.now }
 {
     let mut rest = tokens;
     while let Some((token, after)) = rest.split_first() {

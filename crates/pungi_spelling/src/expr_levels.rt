@@ -1,5 +1,5 @@
 ghost use Rattle.std.specs.Prelude.{◌≡◌, map};
-ghost use Rattle.pungi_tree.specs.ExprLevels.{is_just_void as is_just_void_of, is_void_base as is_void_base_of, is_void_spec as is_void_spec_of, is_nothing as is_nothing_of, is_void_param as is_void_param_of, is_lone_void as is_lone_void_of, void_ok as void_ok_of, expr_at as expr_at_of, args_ok, type_name_ok, spec_ok, base_ok, field_ok, fields_ok, declr_ok, some_declrs_ok, declrs_ok, tail_ok, sizes_ok, params_ok, param_decl_ok, param_decls_ok, param_declr_ok};
+ghost use Rattle.pungi_tree.specs.ExprLevels.{is_just_void, is_void_base, is_void_spec, is_nothing, is_void_param, is_lone_void, void_ok, expr_at, args_ok, type_name_ok, spec_ok, base_ok, field_ok, fields_ok, declr_ok, some_declrs_ok, declrs_ok, tail_ok, sizes_ok, params_ok, param_decl_ok, param_decls_ok, param_declr_ok};
 ghost use Rattle.pungi_tree.specs.ExprView.{expr_view, exprs_of, type_name_view, spec_view, base_view, field_view, fields_of, declr_view, declrs_of, tail_view, sizes_of, optional_view, params_view, param_decl_view, param_decls_of, param_declr_view};
 ghost use Rattle.pungi_tree.specs.UnitLevels.{typedef_names};
 ghost use Rattle.pungi_tree.specs.UnitView.{item_view};
@@ -16,7 +16,7 @@ use pungi_tree::{
 
 #[cycle(levels)]
 pub(crate) fn expr_at(file: &[Item], least: u32, e: &Expr) -> bool
-    ensures { result ≡ expr_at_of (typedef_names (map item_view file.now)) least (expr_view e.now) }
+    ensures { result ≡ expr_at (typedef_names (map item_view file.now)) least (expr_view e.now) }
 {
     match &e.node {
         ExprNode::Word(name) => least <= 16 && !is_type(file, *name),
@@ -179,7 +179,7 @@ fn sizes(file: &[Item], list: &Vec<Option<Expr>>) -> bool
 }
 
 fn is_void_base(b: &Base) -> bool
-    ensures { result ≡ is_void_base_of (base_view b.now) }
+    ensures { result ≡ is_void_base (base_view b.now) }
 {
     match b {
         Base::Words(keys) => is_just_void(keys),
@@ -188,7 +188,7 @@ fn is_void_base(b: &Base) -> bool
 }
 
 fn is_just_void(keys: &[Key]) -> bool
-    ensures { result ≡ is_just_void_of keys.now }
+    ensures { result ≡ is_just_void keys.now }
 {
     match keys.split_first() {
         Some((key, others)) => matches!(key, Key::Void) && others.is_empty(),
@@ -197,13 +197,13 @@ fn is_just_void(keys: &[Key]) -> bool
 }
 
 fn is_void_spec(s: &Spec) -> bool
-    ensures { result ≡ is_void_spec_of (spec_view s.now) }
+    ensures { result ≡ is_void_spec (spec_view s.now) }
 {
     is_void_base(&s.base) && s.consts == 0
 }
 
 fn is_nothing(d: &ParamDeclr) -> bool
-    ensures { result ≡ is_nothing_of (param_declr_view d.now) }
+    ensures { result ≡ is_nothing (param_declr_view d.now) }
 {
     match d {
         ParamDeclr::Bare(stars) => stars.is_empty(),
@@ -212,14 +212,14 @@ fn is_nothing(d: &ParamDeclr) -> bool
 }
 
 fn is_void_param(d: &ParamDecl) -> bool
-    ensures { result ≡ is_void_param_of (param_decl_view d.now) }
+    ensures { result ≡ is_void_param (param_decl_view d.now) }
 {
     d.quals.is_empty() && is_void_spec(&d.spec) && is_nothing(&d.declr)
 }
 
 #[tactic(auto, using(crate::proofs::ParamLemmas::has_no_params_is))]
 fn is_lone_void(list: &Vec<ParamDecl>) -> bool
-    ensures { result ≡ is_lone_void_of (param_decls_of (map param_decl_view list.now.items)) }
+    ensures { result ≡ is_lone_void (param_decls_of (map param_decl_view list.now.items)) }
 {
     match list.split_first() {
         Some((d, others)) => is_void_param(d) && others.is_empty(),
@@ -229,7 +229,7 @@ fn is_lone_void(list: &Vec<ParamDecl>) -> bool
 
 #[tactic(auto, using(crate::proofs::ParamLemmas::has_no_params_is))]
 fn void_ok(void: bool, list: &Vec<ParamDecl>, dots: &Option<Pos>) -> bool
-    ensures { result ≡ void_ok_of void (param_decls_of (map param_decl_view list.now.items)) dots.now }
+    ensures { result ≡ void_ok void (param_decls_of (map param_decl_view list.now.items)) dots.now }
 {
     if void {
         list.is_empty() && dots.is_none()

@@ -1,5 +1,5 @@
 ghost use Rattle.std.specs.Prelude.{◌≡◌};
-ghost use Rattle.pungi_tree.specs.Operators.{binary_level as binary_level_of, is_assign as is_assign_of, prefix_need as prefix_need_of, is_step as is_step_of, is_base_word as is_base_word_of, is_qualifier as is_qualifier_of, is_aggregate as is_aggregate_of, all_keys};
+ghost use Rattle.pungi_tree.specs.Operators.{binary_level, is_assign, prefix_need, is_step, is_base_word, is_qualifier, is_aggregate, all_keys};
 
 use pungi_base::{Key, Kind, Punct};
 
@@ -8,7 +8,7 @@ const NOWHERE: u32 = 100;
 
 /// The level of a binary operator.
 pub(crate) fn binary_level(mark: Punct) -> u32
-    ensures { result ≡ binary_level_of mark }
+    ensures { result ≡ binary_level mark }
 {
     match mark {
         Punct::OrOr => 3,
@@ -26,7 +26,7 @@ pub(crate) fn binary_level(mark: Punct) -> u32
 }
 
 pub(crate) fn is_assign(mark: Punct) -> bool
-    ensures { result ≡ is_assign_of mark }
+    ensures { result ≡ is_assign mark }
 {
     matches!(
         mark,
@@ -46,7 +46,7 @@ pub(crate) fn is_assign(mark: Punct) -> bool
 
 /// The level that the operand of a prefix operator needs.
 pub(crate) fn prefix_need(kind: Kind) -> u32
-    ensures { result ≡ prefix_need_of kind }
+    ensures { result ≡ prefix_need kind }
 {
     match kind {
         Kind::Punct(Punct::PlusPlus | Punct::MinusMinus) | Kind::Key(Key::Sizeof) => 14,
@@ -58,19 +58,19 @@ pub(crate) fn prefix_need(kind: Kind) -> u32
 }
 
 pub(crate) fn is_step(mark: Punct) -> bool
-    ensures { result ≡ is_step_of mark }
+    ensures { result ≡ is_step mark }
 {
     matches!(mark, Punct::PlusPlus | Punct::MinusMinus)
 }
 
 pub(crate) fn is_aggregate(key: Key) -> bool
-    ensures { result ≡ is_aggregate_of key }
+    ensures { result ≡ is_aggregate key }
 {
     matches!(key, Key::Struct | Key::Union)
 }
 
 fn is_base_word(key: Key) -> bool
-    ensures { result ≡ is_base_word_of key }
+    ensures { result ≡ is_base_word key }
 {
     matches!(
         key,
@@ -88,7 +88,7 @@ fn is_base_word(key: Key) -> bool
 }
 
 fn is_qualifier(key: Key) -> bool
-    ensures { result ≡ is_qualifier_of key }
+    ensures { result ≡ is_qualifier key }
 {
     matches!(
         key,
@@ -97,7 +97,7 @@ fn is_qualifier(key: Key) -> bool
 }
 
 pub(crate) fn base_words(keys: &Vec<Key>) -> bool
-    ensures { result ≡ all_keys is_base_word_of keys.now.items }
+    ensures { result ≡ all_keys is_base_word keys.now.items }
 {
     for key in keys {
         if !is_base_word(*key) {
@@ -108,7 +108,7 @@ pub(crate) fn base_words(keys: &Vec<Key>) -> bool
 }
 
 pub(crate) fn qualifiers(keys: &Vec<Key>) -> bool
-    ensures { result ≡ all_keys is_qualifier_of keys.now.items }
+    ensures { result ≡ all_keys is_qualifier keys.now.items }
 {
     for key in keys {
         if !is_qualifier(*key) {

@@ -1,6 +1,6 @@
 ghost use Rattle.std.specs.Prelude.{◌≡◌, map};
 ghost use Rattle.pungi_tree.specs.ExprView.{optional_view};
-ghost use Rattle.pungi_tree.specs.StmtLevels.{open_if as open_if_of, is_statement as is_statement_of, optional_ok, init_ok, var_ok, some_vars_ok, decl_ok, start_ok, stmt_ok, stmts_ok};
+ghost use Rattle.pungi_tree.specs.StmtLevels.{open_if, is_statement, optional_ok, init_ok, var_ok, some_vars_ok, decl_ok, start_ok, stmt_ok, stmts_ok};
 ghost use Rattle.pungi_tree.specs.StmtView.{init_option_view, var_decl_view, decl_view, for_start_view, stmt_view, stmts_of};
 ghost use Rattle.pungi_tree.specs.UnitLevels.{typedef_names};
 ghost use Rattle.pungi_tree.specs.UnitView.{item_view};
@@ -11,9 +11,9 @@ use crate::operators::qualifiers;
 use crate::type_words::is_type;
 use pungi_tree::{Decl, Expr, ForStart, Init, Item, Stmt, StmtNode, VarDecl};
 
-/// Whether an `else` behind a statement would belong to an `if` in it.
+/// Whether an `else` after a statement would belong to an `if` in it.
 fn open_if(s: &Stmt) -> bool
-    ensures { result ≡ open_if_of (stmt_view s.now) }
+    ensures { result ≡ open_if (stmt_view s.now) }
 {
     match &s.node {
         StmtNode::If(_, _, None) => true,
@@ -29,7 +29,7 @@ fn open_if(s: &Stmt) -> bool
 }
 
 fn is_statement(s: &Stmt) -> bool
-    ensures { result ≡ is_statement_of (stmt_view s.now) }
+    ensures { result ≡ is_statement (stmt_view s.now) }
 {
     !matches!(&s.node, StmtNode::Declare(_))
 }

@@ -1,5 +1,5 @@
 ghost use Rattle.std.specs.Prelude.{◌≡◌, map};
-ghost use Rattle.pungi_tree.specs.TypeWords.{is_known_type as is_known_type_of, is_type as is_type_of};
+ghost use Rattle.pungi_tree.specs.TypeWords.{is_known_type, is_type};
 ghost use Rattle.pungi_tree.specs.UnitLevels.{typedef_names};
 ghost use Rattle.pungi_tree.specs.UnitView.{item_view};
 
@@ -8,14 +8,14 @@ use pungi_base::words::{KEYWORDS, MACROS, TYPE_WORDS};
 use pungi_tree::Item;
 
 fn is_known_type(name: Name) -> bool
-    ensures { result ≡ is_known_type_of name }
+    ensures { result ≡ is_known_type name }
 {
     KEYWORDS + MACROS <= name.0 && name.0 < KEYWORDS + MACROS + TYPE_WORDS
 }
 
 /// Whether a word is a type word of a file with these items. It looks through the items, since it takes no memory.
 pub(crate) fn is_type(file: &[Item], name: Name) -> bool
-    ensures { result ≡ is_type_of (typedef_names (map item_view file.now)) name }
+    ensures { result ≡ is_type (typedef_names (map item_view file.now)) name }
 {
     if is_known_type(name) {
         return true;

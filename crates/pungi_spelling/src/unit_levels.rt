@@ -1,7 +1,7 @@
 ghost use Rattle.std.specs.Prelude.{◌≡◌, map};
 ghost use Rattle.pungi_tree.specs.ExprView.{spec_view, params_view};
 ghost use Rattle.pungi_tree.specs.StmtView.{stmt_view};
-ghost use Rattle.pungi_tree.specs.UnitLevels.{typedef_names, is_block as is_block_of, signature_ok, item_ok, is_levelled};
+ghost use Rattle.pungi_tree.specs.UnitLevels.{typedef_names, is_block, signature_ok, item_ok, is_levelled};
 ghost use Rattle.pungi_tree.specs.UnitView.{item_view, unit_view};
 
 use crate::expr_levels::{params, spec};
@@ -30,7 +30,7 @@ pub fn levels_ok(unit: &Unit) -> bool
 }
 
 fn is_block(s: &Stmt) -> bool
-    ensures { result ≡ is_block_of (stmt_view s.now) }
+    ensures { result ≡ is_block (stmt_view s.now) }
 {
     matches!(&s.node, StmtNode::Block(_, _))
 }

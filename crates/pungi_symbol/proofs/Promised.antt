@@ -41,12 +41,12 @@ use Rattle.pungi_code.specs.declared.instr.Instr.TheVariants.{Set, Arith, Fit, C
 use Rattle.pungi_world.specs.Escapes.{IsLevel}
 use Rattle.pungi_symbol.specs.declared.states.known.Status.{Status}
 use Rattle.pungi_symbol.specs.states.Known.{count}
-use Rattle.pungi_symbol.specs.questions.NextQuestion.{ask, contents}
-use Rattle.pungi_symbol.specs.answers.KnownAfter.{go, instr_of, does, with_line, load_first, store_first, answered, next, arrive, api_var, pos_of}
-use Rattle.pungi_symbol.specs.answers.SymbolicState.{balance}
+use Rattle.pungi_symbol.specs.questions.NextQuestion.{ask, content_mark}
+use Rattle.pungi_symbol.specs.answers.KnownAfter.{go, instr_of, does, perform_line, load_first, store_first, put_answer, go_on, arrive, call_var, place_of_line}
+use Rattle.pungi_symbol.specs.answers.SymbolicState.{balance_at}
 use Rattle.pungi_symbol.specs.runs.ObjectForm.{is_pointer_param}
 use Rattle.pungi_symbol.specs.runs.RunInState.{IsOf}
-use Rattle.pungi_symbol.specs.runs.Paths.{own_values, arguments, start_state, table_of, Path, path_here, path_on, run_for, Meets, GoesBack, AreApart, canon, choice_of, wanted, IsLevelState, returned_value}
+use Rattle.pungi_symbol.specs.runs.Paths.{own_values, argument_count, start_state, table_of, Path, path_here, path_on, run_for, Meets, GoesBack, AreApart, canon, choice_of, wanted, IsLevelState, returned_value}
 use Rattle.pungi_symbol.specs.Promises.{next_states, Covers, IsReached, IsRunOf, IsOwn, HasEachChoice, AllLevel, OwnUneven, LevelBy, OffBy, HasReturned}
 use Rattle.pungi_symbol.proofs.runs.Canon.{own_table, own_apart}
 use Rattle.pungi_symbol.proofs.steps.StepForward.{AreObjectLines, two_true}
@@ -64,7 +64,7 @@ returned_same p q x y e = cc
 stopped_returned : (p q : Pos) (x : Option Term) → status.Stopped p ≡ status.Returned q x → ⊥
 stopped_returned p q x e = cc
 
-answered_status : (k : Known) (x : Option Var) (o : Option Term) → (next (answered x o k)).status ≡ k.status
+answered_status : (k : Known) (x : Option Var) (o : Option Term) → (go_on (put_answer x o k)).status ≡ k.status
 answered_status k None o = refl
 answered_status k (Some x) None = refl
 answered_status k (Some x) (Some c) = refl
@@ -94,8 +94,8 @@ module _ (codes : Codes) (s : State) (ds : List Decision) (code : Code) (reached
   pub reached_sound : IsSound s × (s.statics ≡ codes.statics)
   reached_sound = path_sound code.instrs codes.statics lines_form Start (start_sound codes.statics s.known.function code) refl ds s reached.1
 
-  pub all_back : (next : List (Decision × State)) → next ≡ next_states codes s → All (GoesBack code.instrs s) next
-  all_back next is = of_code (GoesBack code.instrs s) codes s ds code next is reached
+  pub all_back : (go_on : List (Decision × State)) → go_on ≡ next_states codes s → All (GoesBack code.instrs s) go_on
+  all_back go_on is = of_code (GoesBack code.instrs s) codes s ds code go_on is reached
       (all_next (GoesBack code.instrs s) code.instrs s (λ d c table f. step_back code.instrs codes.statics lines_form s reached_sound.0 reached_sound.1 table d c f))
 
   -- ---- the state's own run
@@ -108,7 +108,7 @@ module _ (codes : Codes) (s : State) (ds : List Decision) (code : Code) (reached
       omega (arith, before, many)
 
   abbrev N : ℕ
-  N = arguments code
+  N = argument_count code
 
   long : codes.statics + N ≤ count s.known
   long = let a = path_grows ds s reached.1 in let b = marks_long codes.statics s.known.function code in omega (arith, a, b)
@@ -166,13 +166,13 @@ module _ (codes : Codes) (s : State) (ds : List Decision) (code : Code) (reached
     first_fits : FitsState (canon s) Start
     first_fits = (path_fits code.instrs codes.statics lines_form Start (start_sound codes.statics s.known.function code) refl (canon s) ds s reached.1 (canon_fits s reached_sound.0)).0
 
-    argument_good : (j : ℕ) → j < N → (is_mark (get_or (map contents (take code.params code.vars)) j IsNull) (get_or input.args j value.Null) ≡ true) × IsOf input.objects (get_or input.args j value.Null)
+    argument_good : (j : ℕ) → j < N → (is_mark (get_or (map content_mark (take code.params code.vars)) j IsNull) (get_or input.args j value.Null) ≡ true) × IsOf input.objects (get_or input.args j value.Null)
     argument_good j lt =
         let e = argument_at j lt in
         let b = marks_long codes.statics s.known.function code in
         let h = first_fits.marks (codes.statics + j) (omega (arith, lt, b)) in
         let l = long in (
-          ap (is_mark (get_or (map contents (take code.params code.vars)) j IsNull)) e ∙ ap (λ r. is_mark r (at (canon s) (codes.statics + j))) (sym (argument_mark codes.statics s.known.function code j)) ∙ h,
+          ap (is_mark (get_or (map content_mark (take code.params code.vars)) j IsNull)) e ∙ ap (λ r. is_mark r (at (canon s) (codes.statics + j))) (sym (argument_mark codes.statics s.known.function code j)) ∙ h,
           subst (IsOf input.objects) (sym e) (canon_below s reached_sound.0 input.objects (omega (arith, objects)) (codes.statics + j) (omega (arith, lt, l))),
         )
 
@@ -182,7 +182,7 @@ module _ (codes : Codes) (s : State) (ds : List Decision) (code : Code) (reached
     le_true : (a b : ℕ) → a ≤ b → nat_le a b ≡ true
     le_true a b h = grind (arith, nat_tests)
 
-    one_held : (k : Param) (v : Value) → is_pointer_param k ≡ true → is_mark (contents k) v ≡ true → IsOf input.objects v → holds_value input.objects k v ≡ true
+    one_held : (k : Param) (v : Value) → is_pointer_param k ≡ true → is_mark (content_mark k) v ≡ true → IsOf input.objects v → holds_value input.objects k v ≡ true
     one_held param.ObjectOrNull value.Null p h o = refl
     one_held param.ObjectOrNull (value.Object k) p h o = lt_true k input.objects o
     one_held param.ObjectOrNull (value.Int i) p h o = h
@@ -202,7 +202,7 @@ module _ (codes : Codes) (s : State) (ds : List Decision) (code : Code) (reached
     both_true a b e f = ap (λ z. z && b) e ∙ f
 
     all_held : (ks : List Param) (vs : List Value) → length vs ≡ length ks → list_all is_pointer_param ks ≡ true
-        → ((j : ℕ) → j < length ks → (is_mark (get_or (map contents ks) j IsNull) (get_or vs j value.Null) ≡ true) × IsOf input.objects (get_or vs j value.Null)) → hold_values input.objects ks vs ≡ true
+        → ((j : ℕ) → j < length ks → (is_mark (get_or (map content_mark ks) j IsNull) (get_or vs j value.Null) ≡ true) × IsOf input.objects (get_or vs j value.Null)) → hold_values input.objects ks vs ≡ true
     all_held [] [] e p h = refl
     all_held [] (v ∷ vs) e p h = absurd (let bad : suc (length vs) ≡ 0 = e in omega (arith, bad))
     all_held (k ∷ ks) [] e p h = absurd (let bad : 0 ≡ suc (length ks) = e in omega (arith, bad))
@@ -259,15 +259,15 @@ module _ (codes : Codes) (s : State) (ds : List Decision) (code : Code) (reached
 -- the parts of a run that `solve` gives
 abbrev pub HasParts : Codes → State → Witness → Type 0
 HasParts codes s w = (w.input.objects ≡ count s.known) × (w.input.objects < 2 ^ 31)
-    × (w.input.args ≡ take (option_map_or arguments (code_at codes s.known.function) 0) (drop codes.statics (canon s)))
-    × (w.choices ≡ map choice_of (drop (option_map_or arguments (code_at codes s.known.function) 0) (drop codes.statics (canon s))))
+    × (w.input.args ≡ take (option_map_or argument_count (code_at codes s.known.function) 0) (drop codes.statics (canon s)))
+    × (w.choices ≡ map choice_of (drop (option_map_or argument_count (code_at codes s.known.function) 0) (drop codes.statics (canon s))))
 
 module _ (codes : Codes) (s : State) (w : Witness) (h : HasParts codes s w) where
-  args_of : (code : Code) (ds : List Decision) → IsReached codes s ds code → w.input.args ≡ take (arguments code) (drop codes.statics (canon s))
-  args_of code ds r = h.2 ∙ ap (λ o. take (option_map_or arguments o 0) (drop codes.statics (canon s))) r.0.is
+  args_of : (code : Code) (ds : List Decision) → IsReached codes s ds code → w.input.args ≡ take (argument_count code) (drop codes.statics (canon s))
+  args_of code ds r = h.2 ∙ ap (λ o. take (option_map_or argument_count o 0) (drop codes.statics (canon s))) r.0.is
 
-  choices_of : (code : Code) (ds : List Decision) → IsReached codes s ds code → w.choices ≡ map choice_of (drop (arguments code) (drop codes.statics (canon s)))
-  choices_of code ds r = h.3 ∙ ap (λ o. map choice_of (drop (option_map_or arguments o 0) (drop codes.statics (canon s)))) r.0.is
+  choices_of : (code : Code) (ds : List Decision) → IsReached codes s ds code → w.choices ≡ map choice_of (drop (argument_count code) (drop codes.statics (canon s)))
+  choices_of code ds r = h.3 ∙ ap (λ o. map choice_of (drop (option_map_or argument_count o 0) (drop codes.statics (canon s)))) r.0.is
 
   pub solved_run : IsRunOf codes s w
   solved_run code ds r = (run_fits codes s ds code r w.input w.choices h.0 h.1 (args_of code ds r) (choices_of code ds r), run_meets codes s ds code r w.input w.choices h.0 h.1 (args_of code ds r) (choices_of code ds r))
@@ -305,7 +305,7 @@ module _ (code : List Line) (n : ℕ) (form : AreObjectLines n code) where
   does_status k (Return o) = refl
   does_status k Fall = refl
 
-  line_status : (k : Known) (o : Option Line) → (with_line o (λ i. does k i) k).status ≡ k.status
+  line_status : (k : Known) (o : Option Line) → (perform_line o (λ i. does k i) k).status ≡ k.status
   line_status k None = refl
   line_status k (Some line) = does_status k line.instr
 
@@ -345,10 +345,10 @@ module _ (code : List Line) (n : ℕ) (form : AreObjectLines n code) where
   given_by k o (Overwrites r) d e a = going_given (go o k (Overwrites r) d) (store_status (instr_of o) _ k ∙ e)
   given_by k o (AsksNull t) d e a = going_given (go o k (AsksNull t) d) e
   given_by k o (Base t u j) d e a = going_given (go o k (Base t u j) d) e
-  given_by k o (Answers x) d e a = going_given (go o k (Answers x) d) (answered_status (arrive _ k) (api_var (instr_of o)) _ ∙ e)
+  given_by k o (Answers x) d e a = going_given (go o k (Answers x) d) (answered_status (arrive _ k) (call_var (instr_of o)) _ ∙ e)
   given_by k o (Same t u) d e a = going_given (go o k (Same t u) d) e
-  given_by k o (Returns y) d e a = λ p x h. let same : y ≡ x = returned_same (pos_of o) p y x h in subst (IsGiven k) same a
-  given_by k o (Stops d') d e a = λ p x h. absurd (stopped_returned (pos_of o) p x h)
+  given_by k o (Returns y) d e a = λ p x h. let same : y ≡ x = returned_same (place_of_line o) p y x h in subst (IsGiven k) same a
+  given_by k o (Stops d') d e a = λ p x h. absurd (stopped_returned (place_of_line o) p x h)
   given_by k o Over d e a = going_given k e
 
   -- what a state at the end of a path returns is known
@@ -370,11 +370,11 @@ all_level s h codes code entry choices n ds p x has e r =
     let first = start_sound codes.statics f code in
     let sound = path_sound code.instrs codes.statics form (start_state codes.statics f code) first refl ds s r.path in
     let given = path_given code.instrs codes.statics form (start_state codes.statics f code) first refl refl ds s r.path p x e in
-    level_balanced code.instrs (table_of codes.statics entry choices) (codes.statics + arguments code) r.m s sound.0 r.lies x given (level_case s s.known.status p x e h)
+    level_balanced code.instrs (table_of codes.statics entry choices) (codes.statics + argument_count code) r.m s sound.0 r.lies x given (level_case s s.known.status p x e h)
 
-off_case : (s : State) (z : Status) (t : ℕ) (p : Pos) (x : Option Term) → z ≡ status.Returned p x → OffBy s z t → (t < count s.known) × (balance s.balances t ≡ wanted s x t → ⊥)
+off_case : (s : State) (z : Status) (t : ℕ) (p : Pos) (x : Option Term) → z ≡ status.Returned p x → OffBy s z t → (t < count s.known) × (balance_at s.balances t ≡ wanted s x t → ⊥)
 off_case s status.Going t p x e h = absurd h
-off_case s (status.Returned p' x') t p x e h = let same : x' ≡ x = returned_same p' p x' x e in subst (λ y. (t < count s.known) × (balance s.balances t ≡ wanted s y t → ⊥)) same h
+off_case s (status.Returned p' x') t p x e h = let same : x' ≡ x = returned_same p' p x' x e in subst (λ y. (t < count s.known) × (balance_at s.balances t ≡ wanted s y t → ⊥)) same h
 off_case s (status.Stopped p') t p x e h = absurd h
 
 pub own_uneven : (s : State) (t : ℕ) → OffBy s s.known.status t → (codes : Codes) → OwnUneven codes s
@@ -385,8 +385,8 @@ own_uneven s t h codes code entry choices n ds p x has e own r =
     let sound = path_sound code.instrs codes.statics form (start_state codes.statics f code) first refl ds s r.path in
     let given = path_given code.instrs codes.statics form (start_state codes.statics f code) first refl refl ds s r.path p x e in
     let off = off_case s s.known.status t p x e h in
-    let lies = subst (λ y. Lies code.instrs y (codes.statics + arguments code) r.m s) own r.lies in
-    let u = uneven s sound.0 code.instrs (codes.statics + arguments code) r.m lies x t given off.0 off.1 in
+    let lies = subst (λ y. Lies code.instrs y (codes.statics + argument_count code) r.m s) own r.lies in
+    let u = uneven s sound.0 code.instrs (codes.statics + argument_count code) r.m lies x t given off.0 off.1 in
     record { object = t; there = u.0; differs = λ level. u.1 (subst (λ y. IsLevel r.m.world (returned_value y x) t) own level) }
 
 pub off_returned : (s : State) (t : ℕ) → OffBy s s.known.status t → HasReturned s

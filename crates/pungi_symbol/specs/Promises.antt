@@ -29,9 +29,9 @@ use Rattle.pungi_symbol.specs.declared.states.known.Status.TheVariants as status
 use Rattle.pungi_symbol.specs.declared.states.state.State.{State}
 use Rattle.pungi_symbol.specs.declared.states.term.Term.{Term}
 use Rattle.pungi_symbol.specs.states.Known.{count}
-use Rattle.pungi_symbol.specs.answers.SymbolicState.{balance, successors}
+use Rattle.pungi_symbol.specs.answers.SymbolicState.{balance_at, successors}
 use Rattle.pungi_symbol.specs.runs.ObjectForm.{has_object_form}
-use Rattle.pungi_symbol.specs.runs.Paths.{arguments, start_state, Path, Meets, IsCovered, canon, table_of, returned_value, wanted, IsLevelState}
+use Rattle.pungi_symbol.specs.runs.Paths.{argument_count, start_state, Path, Meets, IsCovered, canon, table_of, returned_value, wanted, IsLevelState}
 
 abbrev pub lines_in : Option Code → List Line
 lines_in None = []
@@ -61,7 +61,7 @@ abbrev pub IsOwn : Codes → State → Witness → Type 0
 IsOwn codes s w = (code : Code) (ds : List Decision) → IsReached codes s ds code → table_of codes.statics w.input w.choices ≡ canon s
 
 abbrev pub HasEachChoice : Codes → State → Witness → Type 0
-HasEachChoice codes s w = (code : Code) (ds : List Decision) → IsReached codes s ds code → codes.statics + arguments code + length w.choices ≡ count s.known
+HasEachChoice codes s w = (code : Code) (ds : List Decision) → IsReached codes s ds code → codes.statics + argument_count code + length w.choices ≡ count s.known
 
 abbrev pub LevelBy : State → Status → Type 0
 LevelBy s status.Going = Unit {0}
@@ -70,7 +70,7 @@ LevelBy s (status.Stopped p) = Unit {0}
 
 abbrev pub OffBy : State → Status → ℕ → Type 0
 OffBy s status.Going t = ⊥
-OffBy s (status.Returned p x) t = (t < count s.known) × (balance s.balances t ≡ wanted s x t → ⊥)
+OffBy s (status.Returned p x) t = (t < count s.known) × (balance_at s.balances t ≡ wanted s x t → ⊥)
 OffBy s (status.Stopped p) t = ⊥
 
 abbrev pub HasReturned : State → Type 0

@@ -4,7 +4,7 @@ ghost use Rattle.pungi_code.specs.declared.code.Code.{Code};
 ghost use Rattle.pungi_symbol.specs.declared.answers.decision.Decision.{Decision as DecisionOf};
 ghost use Rattle.pungi_code.specs.declared.code.Codes.{Codes as CodesOf};
 ghost use Rattle.pungi_code.specs.Run.{code_at};
-ghost use Rattle.pungi_symbol.specs.runs.Paths.{end_of, starts, start_state, table_of, Path, GoesBack, AreApart};
+ghost use Rattle.pungi_symbol.specs.runs.Paths.{end_of, start_states, start_state, table_of, Path, GoesBack, AreApart};
 ghost use Rattle.pungi_symbol.specs.Promises.{next_states, lines_of, Covers, IsReached, IsRunOf, IsOwn, HasEachChoice, AllLevel, OwnUneven, HasReturned};
 
 use crate::answers::successors::{next_from, next_of};
@@ -21,7 +21,7 @@ use std::alloc::Global;
 /// that isn't there, or it is, after each instruction, in a state at the end of a path that begins here, and has the path's
 /// answers as its trace.
 pub fn start(alloc: Global, codes: &Codes, f: usize) -> Result<Vec<(Decision, Sym)>, Memory>
-    ensures first { IfOk result (λ first. first.items ≡ starts codes.now.statics f (code_at codes.now f)) }
+    ensures first { IfOk result (λ first. first.items ≡ start_states codes.now.statics f (code_at codes.now f)) }
     ensures forward { IfOk result (λ _. Covers codes.now f) }
 {
     let first = first_of(alloc, codes, f)?;

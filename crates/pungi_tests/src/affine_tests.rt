@@ -61,7 +61,7 @@ fn copy_of<D: Domain>(alloc: Global, value: &D) -> Result<D, DomainFault>
     value.copy(alloc)
 }
 
-// Whether the outcome is the fault that tells this row.
+// Whether the outcome is the fault that reports this row.
 fn tells(outcome: Result<Span, DomainFault>, row: &[i128]) -> bool {
     let Err(DomainFault::Range(told)) = outcome else {
         return false;

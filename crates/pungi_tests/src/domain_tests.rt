@@ -21,7 +21,7 @@ fn multiples(alloc: Global, b: i64, c: i64) -> Result<Flat, Fail>
     Ok(both)
 }
 
-// Whether the constants 0 and 0 are no longer told once 1 and 1 are there too.
+// Whether the constants 0 and 0 are no longer given once 1 and 1 are there too.
 fn drops_constants(alloc: Global, flat: &mut Flat, other: &Flat) -> Result<bool, Fail>
     requires flat { flat.old.width ≡ 3 }
     requires other { other.now.width ≡ 3 }
@@ -47,7 +47,7 @@ fn growth_drops_constants(rt: HostRuntime) -> Result<(), Fail> {
     Ok(())
 }
 
-// Whether the first constant alone is told.
+// Whether the first constant alone is given.
 fn holds_first(alloc: Global, flat: &Flat) -> Result<bool, Fail>
     requires { flat.now.width ≡ 3 }
 {

@@ -59,7 +59,7 @@ fn agree(copies: &[(Decision, Sym)], moved: &[(Decision, Sym)]) -> bool {
             && with_end(NOTHING, &a.1) == with_end(NOTHING, &b.1))
 }
 
-/// Adds the next states of a state, and tells whether they are the same as these.
+/// Adds the next states of a state, and returns whether they are the same as these.
 fn add_same(
     copies: &[(Decision, Sym)],
     moved: Vec<(Decision, Sym)>,
@@ -71,7 +71,7 @@ fn add_same(
     Ok(same)
 }
 
-/// Adds the next states of a state, and tells whether they are the same where it is used up and where not.
+/// Adds the next states of a state, and returns whether they are the same where it is used up and where not.
 fn add_next(
     alloc: Global,
     codes: &Codes,
@@ -83,7 +83,8 @@ fn add_next(
     add_same(copies.as_slice(), moved, pending)
 }
 
-/// What these states and all behind them show, if the next states of each are the same where it is used up and where not.
+/// What these states and all after them show, if the next states of each are the same where it is used up and where
+/// not.
 fn show_all(
     alloc: Global,
     codes: &Codes,

@@ -49,7 +49,7 @@ fn is_halt(outcome: &Result<Effect, Halt>, wanted: Halt) -> bool {
     }
 }
 
-/// Whether the first load of a slot gives the value of the choice, or wants another one.
+/// Whether the first load of a slot gives the value of the choice, or needs another one.
 fn loads(
     alloc: Global,
     slot: Slot,

@@ -1,6 +1,6 @@
 //! What calls of rows show, for tables of cases.
 ghost use Rattle.std.specs.Prelude.{◌≡◌};
-ghost use Rattle.pungi_world.specs.Calls.{is_told_form};
+ghost use Rattle.pungi_world.specs.Calls.{is_defined_form};
 
 use pungi_api::{Form, Row, Shape, Special, Table};
 use pungi_base::{Choice, Entry, Memory, Name, Seq, Value};
@@ -55,7 +55,7 @@ pub(crate) const HANDED: Account = Account {
 };
 
 fn is_told(form: Form) -> bool
-    ensures { result ≡ is_told_form form }
+    ensures { result ≡ is_defined_form form }
 {
     match form {
         Form::Plain => true,

@@ -1,6 +1,6 @@
 -- Tokens in which the three kinds of brackets match.
 --   awaited_by k, closing k    the bracket that one that opens awaits, and the bracket that closes; none for any other token. awaited_by_mark and
---                              closing_mark tell it of a punctuator
+--                              closing_mark say it of a punctuator
 --   is_right_paren, is_right_bracket, is_right_brace    this closing bracket
 --   is_same m n                the same closing bracket
 --   closed m awaited           the brackets that are awaited once a closing one was read, where it is the innermost that was

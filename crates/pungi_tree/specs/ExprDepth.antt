@@ -1,5 +1,5 @@
 -- How deep an expression or a type is: the greatest number of statement and expression nodes on a path. A parenthesis is a node; a type, a declarator
--- and a parameter are none.
+-- and a parameter aren't nodes.
 --   capped n      a number, or the largest of 32 bits where it is larger
 --   expr_depth, exprs_depth    an expression, and a list of arguments
 --   type_name_depth, spec_depth, base_depth, field_depth, fields_depth, declr_depth, declrs_depth, tail_depth, sizes_depth, params_depth,

@@ -4,7 +4,7 @@
 --   type_name_flat, spec_flat, base_flat, field_flat, fields_flat, declr_flat, declrs_flat, sizes_flat, params_flat, param_decl_flat,
 --   param_decls_flat, param_declr_flat    the type of the same name
 --   more_declrs_flat, more_param_decls_flat    as more_args_flat
---   tail_flat n t                a declared name and what stands behind it
+--   tail_flat n t                a declared name and what stands after it
 use Rattle.std.specs.Prelude.{List, [], ◌∷◌, ◌++◌}
 use Rattle.pungi_base.specs.declared.key.Key.TheVariants as keys
 use Rattle.pungi_base.specs.declared.kind.Kind.{Kind}
@@ -77,7 +77,7 @@ abbrev mutual
   more_declrs_flat no_declrs = []
   more_declrs_flat (declr_and d ds) = mark puncts.Comma ∷ (declr_flat d ++ more_declrs_flat ds)
 
-  -- the name and what stands behind it
+  -- the name and what stands after it
   pub tail_flat : Name → Tail → List Kind
   tail_flat n (sizes ss) = kind.Word n ∷ sizes_flat ss
   tail_flat n (function ps) = mark puncts.LeftParen ∷ mark puncts.Star ∷ kind.Word n ∷ mark puncts.RightParen ∷ mark puncts.LeftParen ∷ (params_flat ps ++ mark puncts.RightParen ∷ [])

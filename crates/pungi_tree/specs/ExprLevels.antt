@@ -3,9 +3,10 @@
 --   is_empty xs            an empty list
 --   tag_ok types tag       a tag before fields is no type word, where it is there; alone it may be one
 --   is_void, is_just_void, is_void_base, is_void_spec    the keyword `void`, and what is spelled by it alone
---   is_nothing, is_void_param, is_lone_void    nothing behind a type, a parameter that is spelled `void`, and a list of this one alone
+--   is_nothing, is_void_param, is_lone_void    nothing after a type, a parameter that is spelled `void`, and a list of
+--                                              this one alone
 --   has_no_params ds       an empty list of parameters
---   void_ok v ds dots      the lone `void` is the empty list, and `, ...` stands behind a parameter
+--   void_ok v ds dots      the lone `void` is the empty list, and `, ...` stands after a parameter
 --   expr_at types l e      the expression binds at least as tightly as the level `l`, and so does each operand in it for its place
 --   args_ok, type_name_ok, spec_ok, base_ok, field_ok, fields_ok, declr_ok, declrs_ok, tail_ok, sizes_ok, params_ok, param_decl_ok, param_decls_ok,
 --   param_declr_ok         the type of the same name

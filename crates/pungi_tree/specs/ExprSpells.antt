@@ -1,8 +1,8 @@
 -- Which tokens an expression or a type spells, with their places. `Spells e ts rest` says that `e` stands at the front of the tokens `ts`, and that
 -- `rest` follows it. An operator stands at its token, any other node at its first token (C11 6.5 and 6.7).
 --   named_word number            the word of this number
---   SpellsTexts, SpellsKeys      texts, or keywords, one behind the other
---   SpellsConsts, SpellsStars    so many `const`, and each `*` with the `const` behind it
+--   SpellsTexts, SpellsKeys      texts, or keywords, one after the other
+--   SpellsConsts, SpellsStars    so many `const`, and each `*` with the `const` after it
 --   SpellsTag, SpellsVoid, SpellsDots    a tag, the lone `void`, and `, ...`, where they are there
 --   Spells                       an expression
 --   SpellsArgs, SpellsMoreArgs   arguments with a comma between, and further ones with a comma before each
@@ -124,7 +124,7 @@ abbrev mutual
   SpellsMoreDeclrs (declr_and d ds) ts rest =
       (inner after : List Placed) × (q : Pos) × (ts ≡ mark_at puncts.Comma q ∷ inner) × SpellsDeclr d inner after × SpellsMoreDeclrs ds after rest
 
-  -- the name at its place, and what stands behind it
+  -- the name at its place, and what stands after it
   pub SpellsTail : Name → Pos → Tail → List Placed → List Placed → Type 0
   SpellsTail n p (sizes ss) ts rest = (after : List Placed) × (ts ≡ word_at n p ∷ after) × SpellsSizes ss after rest
   SpellsTail n p (function ps) ts rest =

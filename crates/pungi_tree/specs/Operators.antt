@@ -5,7 +5,7 @@
 --   binary_level m        the level of a binary operator, and `nowhere` for any other punctuator
 --   is_assign m           an operator of assignment
 --   prefix_need k         the level that the operand of a prefix operator needs, and `nowhere` for any other token; prefix_mark_need and
---                         prefix_key_need tell it of a punctuator and of a keyword
+--                         prefix_key_need say it of a punctuator and of a keyword
 --   is_step m             `++` or `--`
 --   is_base_word, is_qualifier, is_aggregate    a keyword of a type, a qualifier, `struct` or `union`
 --   all_keys test ks      each keyword passes the test

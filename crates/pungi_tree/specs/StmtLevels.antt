@@ -1,5 +1,5 @@
 -- Which declarations and statements the grammar allows (C11 6.7 and 6.8), where `types` are the words of the `typedef`s of the file.
---   open_if s          an `else` behind the statement would belong to an `if` in it (C11 6.8.4.1)
+--   open_if s          an `else` after the statement would belong to an `if` in it (C11 6.8.4.1)
 --   is_statement s     a statement, and no declaration, which stands directly in a block alone
 --   optional_ok types e    an expression, where it is there
 --   init_ok, var_ok, vars_ok, some_vars_ok, decl_ok    a first value, variables, at least one of them, and their declaration

@@ -3,7 +3,7 @@
 --   Expr, Exprs               expressions, and a list of arguments; a place comes first
 --   TypeName, Spec, Base      types: with their pointers, without them, without their `const`
 --   Field, Fields             what stands between the braces of a struct
---   Declr, Declrs, Tail, Sizes    declarators, and what stands behind the declared name
+--   Declr, Declrs, Tail, Sizes    declarators, and what stands after the declared name
 --   Params, ParamDecl, ParamDecls, ParamDeclr    parameters
 --   Init, VarDecl, Decl       declarations of variables
 --   ForStart, Stmt, Stmts     statements; a place comes first

@@ -1,9 +1,9 @@
 -- Lists of token kinds that trees share.
 --   mark m, key k         a punctuator, a keyword
 --   named_word number     the word of this number
---   keys_flat, texts_flat    keywords, or texts, one behind the other
+--   keys_flat, texts_flat    keywords, or texts, one after the other
 --   consts_flat n         so many `const`
---   stars_flat stars      each `*` with the `const` behind it
+--   stars_flat stars      each `*` with the `const` after it
 --   tag_flat, void_flat, dots_flat    a tag, the lone `void`, and `, ...`, where they are there
 use Rattle.std.specs.Prelude.{ℕ, Bool, true, false, List, [], ◌∷◌, ◌++◌, map, replicate, Option, Some, None}
 use Rattle.pungi_base.specs.declared.key.Key.{Key}

@@ -1,8 +1,9 @@
 -- The type words of a file: the names of types that are known before a text is read, and for each `typedef` outside braces the last word before the
 -- next `;` outside braces (C11 6.7.8). They hold for the whole file, and a type word is no other word. Brackets of the other two kinds count for nothing
 -- here, and a `}` that closes nothing neither.
---   is_semicolon, is_typedef    this token; is_semicolon_mark and is_typedef_key tell it of a punctuator and of a keyword
---   braces_after_mark n m, braces_after n k    how many braces are open behind a token, where `n` are open before it
+--   is_semicolon, is_typedef    this token; is_semicolon_mark and is_typedef_key say it of a punctuator and of a
+--                               keyword
+--   braces_after_mark n m, braces_after n k    how many braces are open after a token, where `n` are open before it
 --   last_word last k      the last word once this token was read
 --   declared_word n last ks    the last word before the next `;` outside braces, where `last` is the last one so far
 --   typedef_words n ks    the words of the `typedef`s, in order, where `n` braces are open

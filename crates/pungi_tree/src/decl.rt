@@ -39,7 +39,7 @@ impl Drop for VarDecl {
     }
 }
 
-/// The first value of a variable, behind its `=` (C11 6.7.9).
+/// The first value of a variable, after its `=` (C11 6.7.9).
 pub enum Init {
     /// `assign`.
     Value(Expr),

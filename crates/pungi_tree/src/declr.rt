@@ -1,13 +1,13 @@
 use crate::{Expr, Params};
 use pungi_base::{Name, Pos};
 
-/// A declarator: a declared name with its pointers, and what stands behind it (C11 6.7.6):
+/// A declarator: a declared name with its pointers, and what stands after it (C11 6.7.6):
 ///
 /// ```text
 /// declr = stars word ("[" expr? "]")* | stars "(" "*" word ")" "(" params ")"
 /// ```
 ///
-/// `stars` has a number for each `*` in front, that of the `const` behind it. `pos` is the name's place.
+/// `stars` has a number for each `*` in front, that of the `const` after it. `pos` is the name's place.
 #[cycle(tree)]
 pub struct Declr {
     pub stars: Vec<u32>,

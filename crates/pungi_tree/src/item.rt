@@ -11,7 +11,7 @@ use pungi_base::{Key, Name, Pos};
 ///      | quals type stars word "(" params ")" (";" | block)
 /// ```
 ///
-/// A position beside a name is the name's. `stars` has a number for each `*`, that of the `const` behind it.
+/// A position beside a name is the name's. `stars` has a number for each `*`, that of the `const` after it.
 pub enum Item {
     /// `;`, at its place.
     Empty(Pos),

@@ -7,7 +7,7 @@ use pungi_base::{Key, Name, Pos};
 /// params = nothing | "void" | param ("," param)* ("," "...")?
 /// ```
 ///
-/// `void` tells that the lone `void` stands there, and `dots` holds the place of `...`.
+/// `void` says that the lone `void` stands there, and `dots` holds the place of `...`.
 #[cycle(tree)]
 pub struct Params {
     pub list: Vec<ParamDecl>,
@@ -49,7 +49,7 @@ impl Drop for ParamDecl {
     }
 }
 
-/// What stands behind the type of a parameter. `stars` has a number for each `*`, that of the `const` behind it.
+/// What stands after the type of a parameter. `stars` has a number for each `*`, that of the `const` after it.
 #[cycle(tree)]
 pub enum ParamDeclr {
     /// `declr`.

@@ -7,7 +7,7 @@ use pungi_base::{Key, Name, Pos};
 /// type = base "const"*
 /// ```
 ///
-/// `pos` is the place of its first token, and `consts` how many `const` stand behind the base.
+/// `pos` is the place of its first token, and `consts` how many `const` stand after the base.
 #[cycle(tree)]
 pub struct Spec {
     pub pos: Pos,
@@ -100,7 +100,7 @@ impl Drop for Field {
 /// stars    = ("*" "const"*)*
 /// ```
 ///
-/// `stars` has a number for each `*`, that of the `const` behind it.
+/// `stars` has a number for each `*`, that of the `const` after it.
 #[cycle(tree)]
 pub struct TypeName {
     pub spec: Spec,

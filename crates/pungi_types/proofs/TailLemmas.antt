@@ -1,4 +1,4 @@
--- What stands behind a declared name, seen through the tree that it stands for.
+-- What stands after a declared name, seen through the tree that it stands for.
 use Rattle.std.proofs.Common.{◌≡◌, map, rules, Vec, Option}
 use Rattle.std.specs.declared.alloc.Global.{Global}
 use Rattle.pungi_types.specs.Files.{declr_tail}

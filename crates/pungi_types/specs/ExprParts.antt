@@ -1,7 +1,7 @@
 -- Where rules hold in the node of an expression, by the kinds of its operands (C11 6.5).
 --   used_of k e          the value of an expression of this kind is used
 --   word_findings m p    a word that means this
---   step_findings p place k e    `++` or `--` behind an operand
+--   step_findings p place k e    `++` or `--` after an operand
 --   binary_findings p m k a l b, assign_findings p m place k a l b, cond_findings p j c k a l b    operators between operands of these kinds
 --   call_findings env p f met    a call whose arguments are met or not
 use Rattle.std.specs.Prelude.{Bool, ◌&&◌, ◌||◌, not, Option}

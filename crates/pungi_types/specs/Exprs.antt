@@ -1,19 +1,19 @@
 -- The kind of an expression, and where each rule holds in it (C11 6.5; Python/C API Reference Manual 3.11).
 --   meaning_kind, is_slot, is_place env e    the kind of a word; what may be assigned to
---   names_type_object, names_module, is_address, is_module_address    what stands behind an `&`
+--   names_type_object, names_module, is_address, is_module_address    what stands after an `&`
 --   kind_want, param_want, answer_kind, param_kind, param_wants, params_wants, special_kind    what arguments are to be, and what calls answer
 --   Callee              what stands before the parenthesis of a call
 --   value_or_none, row_or, defined_or, local_called_or, callee_of, callee env f    how it is found
---   row_wants, wants env c, row_kind, is_refused, result_kind env c, takes_arguments    what a callee takes and answers
+--   row_wants, wants env c, row_kind, is_refused, result_kind env c, takes_arguments    what a callee takes and returns
 --   want_met, is_word, wants_module, other_wants, is_done, first_met    an argument is what it is to be
 --   is_bad_int, int_kind, step_kind, unary_kind, binary_kind, assign_kind, cond_kind, cast_kind    the kind of an expression from those of its operands
---   void_call e, operand k e    the place of a call, also in parentheses; what is asked of a value that is used
+--   void_call e, operand k e    the place of a call, also in parentheses; what is required of a value that is used
 --   kind_of env e, are_met env ws es    the kind of an expression; as many arguments as are wanted, and each fits
---   when_some, used env e    the value of a Void call is used
+--   when_some, void_use env e    the value of a Void call is used
 --   type_name_pos t     where a type's name begins
 --   n1 n2 n3 n4 n5 n9 n10 n12 n13 n14    where a rule holds in the expression's own node
 --   is_left_out, is_function_meaning, crosses, is_unknown, is_unknown_call, is_value_called, unary_wrong, binary_wrong, assign_wrong, cond_wrong, cast_wrong,
---   is_step_or_sign     what the rules ask
+--   is_step_or_sign     what the rules require
 --   node_findings, expr_findings env e, args_findings, arg_findings, called_findings, cast_findings    where a rule holds in an expression, and in its parts
 use Rattle.std.specs.Prelude.{ℕ, ℤ, pos, int_lt, ◌==◌, Bool, true, false, ◌&&◌, ◌||◌, not, List, [], ◌∷◌, length, map, Option, Some, None, is_some, is_none, if◌then◌else◌}
 use Rattle.pungi_base.specs.declared.pos.Pos.{Pos}
@@ -34,7 +34,7 @@ use Rattle.pungi_types.specs.Kinds.{type_kind, not_void, declared_kind, type_nam
 use Rattle.pungi_types.specs.Names.{Env, Meaning, a_local, a_function, a_global, a_static, unknown, meaning_of, local_in, is_among, is_type_object, is_module, global_kind, is_own_static}
 use Rattle.pungi_types.specs.declared.local.Local.{Local}
 use Rattle.pungi_types.specs.Findings.{Findings, nothing_found, ◌and◌, when}
-use Rattle.pungi_types.specs.Operators.{is_bits, is_arithmetic, is_order, is_equality, is_bits_assign, is_arithmetic_assign, prefix_of, on_pointers, assigns_pointers, is_integer, is_pointer, is_void, wider, fits, comparable, joinable, joined, both_known}
+use Rattle.pungi_types.specs.Operators.{is_bits, is_arithmetic, is_order, is_equality, is_bits_assign, is_arithmetic_assign, prefix_of, on_pointers, assigns_pointers, is_integer, is_pointer, is_void, wider, fits, comparable, joinable, joined_kind, both_known}
 use Rattle.pungi_types.specs.declared.lookup.Want.{Want}
 use Rattle.pungi_types.specs.declared.operator.Prefix.{Prefix}
 use Rattle.pungi_types.specs.declared.operator.Prefix.TheVariants as prefixes
@@ -60,7 +60,7 @@ is_place env (word p n) = is_slot (meaning_of env n.0)
 is_place env (arrow p e n) = true
 is_place env _ = false
 
--- a type object, behind an `&`
+-- a type object, after an `&`
 abbrev pub names_type_object : Env → Expr → Bool
 names_type_object env (word p n) = is_none (local_in env.locals n.0) && is_type_object env.file.items n.0
 names_type_object env _ = false
@@ -239,7 +239,7 @@ assign_kind m place a b =
     (if place && fits a b then a else None)))
 
 abbrev pub cond_kind : Option ValueKind → Option ValueKind → Option ValueKind → Option ValueKind
-cond_kind c a b = (if (is_some c && not (is_void c)) && (both_known a b && joinable a b) then joined a b else None)
+cond_kind c a b = (if (is_some c && not (is_void c)) && (both_known a b && joinable a b) then joined_kind a b else None)
 
 -- a cast to `void` takes any kind
 abbrev pub cast_kind : Option ValueKind → Option ValueKind → Option ValueKind
@@ -251,7 +251,7 @@ void_call (paren p e) = void_call e
 void_call (call p f es) = Some p
 void_call _ = None
 
--- what is asked of a value that is used: nothing of a Void call, since a rule holds at that call
+-- what is required of a value that is used: nothing of a Void call, since a rule holds at that call
 abbrev pub operand : Option ValueKind → Expr → Option ValueKind
 operand k e = (if is_some (void_call e) then not_void k else k)
 
@@ -289,8 +289,8 @@ when_some b None n = nothing_found
 when_some b (Some p) n = when b p n
 
 -- N10: the value of a Void call is used
-abbrev pub used : Env → Expr → Findings
-used env e = when_some (is_void (kind_of env e)) (void_call e) 10
+abbrev pub void_use : Env → Expr → Findings
+void_use env e = when_some (is_void (kind_of env e)) (void_call e) 10
 
 abbrev pub type_name_pos : TypeName → Pos
 type_name_pos (type_name (spec p b c) stars) = p
@@ -348,7 +348,7 @@ is_unknown_call env no_function = true
 is_unknown_call env (defined d) = is_refused env d
 is_unknown_call env _ = false
 
--- N9: a name that is none of those that may be used, and a call of another function that is refused
+-- N9: a name that isn't one of those that may be used, and a call of another function that is refused
 abbrev pub n9 : Env → Expr → Findings
 n9 env (word p n) = when (is_unknown (meaning_of env n.0)) p 9
 n9 env (call p f es) = when (is_unknown_call env (callee env f)) p 9
@@ -370,7 +370,7 @@ binary_wrong m a b =
     not (is_bits m) && (is_void a || (is_void b ||
     ((is_order m && (is_pointer a || is_pointer b)) || (is_equality m && (both_known a b && not (comparable a b))))))
 
--- of a pointer operand of `+=` and its kin only N13 is asked
+-- of a pointer operand of `+=` and its kin only N13 is tested
 abbrev pub assign_wrong : Punct → Bool → Option ValueKind → Option ValueKind → Bool
 assign_wrong m place a b =
     not (is_bits_assign m) && ((is_some a && (not place && not (is_arithmetic_assign m && is_pointer a))) || (is_void b ||
@@ -384,19 +384,19 @@ cast_wrong to k = is_some to && (not (is_void to) && (is_void k || (is_some k &&
 
 -- N10: a wrong kind or number of operands or arguments, at the node; and a used value of a Void call, at that call alone
 abbrev pub n10 : Env → Expr → Findings
-n10 env (unary p k e) = when (unary_wrong (prefix_of k) (is_place env e) (operand (kind_of env e) e)) p 10 and used env e
-n10 env (post p m e) = when (unary_wrong prefixes.Step (is_place env e) (operand (kind_of env e) e)) p 10 and used env e
-n10 env (binary p m a b) = when (binary_wrong m (operand (kind_of env a) a) (operand (kind_of env b) b)) p 10 and (used env a and used env b)
-n10 env (assign p m a b) = when (assign_wrong m (is_place env a) (operand (kind_of env a) a) (operand (kind_of env b) b)) p 10 and (used env a and used env b)
+n10 env (unary p k e) = when (unary_wrong (prefix_of k) (is_place env e) (operand (kind_of env e) e)) p 10 and void_use env e
+n10 env (post p m e) = when (unary_wrong prefixes.Step (is_place env e) (operand (kind_of env e) e)) p 10 and void_use env e
+n10 env (binary p m a b) = when (binary_wrong m (operand (kind_of env a) a) (operand (kind_of env b) b)) p 10 and (void_use env a and void_use env b)
+n10 env (assign p m a b) = when (assign_wrong m (is_place env a) (operand (kind_of env a) a) (operand (kind_of env b) b)) p 10 and (void_use env a and void_use env b)
 n10 env (conditional p c a b) =
-    when (cond_wrong (operand (kind_of env c) c) (operand (kind_of env a) a) (operand (kind_of env b) b)) p 10 and (used env c and (used env a and used env b))
+    when (cond_wrong (operand (kind_of env c) c) (operand (kind_of env a) a) (operand (kind_of env b) b)) p 10 and (void_use env c and (void_use env a and void_use env b))
 n10 env (cast p t e) =
-    when (cast_wrong (type_name_kind env.file.items t) (operand (kind_of env e) e)) p 10 and (if is_void (type_name_kind env.file.items t) then nothing_found else used env e)
+    when (cast_wrong (type_name_kind env.file.items t) (operand (kind_of env e) e)) p 10 and (if is_void (type_name_kind env.file.items t) then nothing_found else void_use env e)
 n10 env (call p f es) =
     when (is_value_called (callee env f) || (takes_arguments (callee env f) && not (are_met env (wants env (callee env f)) es))) p 10
-n10 env (index p a b) = used env a and used env b
-n10 env (dot p e n) = used env e
-n10 env (arrow p e n) = used env e
+n10 env (index p a b) = void_use env a and void_use env b
+n10 env (dot p e n) = void_use env e
+n10 env (arrow p e n) = void_use env e
 n10 env _ = nothing_found
 
 -- N12: a field that isn't there or has no kind, or a base that is no pointer to an object struct
@@ -427,7 +427,7 @@ abbrev pub node_findings : Env → Expr → Findings
 node_findings env e = n1 env e and (n2 env e and (n3 env e and (n4 env e and (n5 env e and (n9 env e and (n10 env e and (n12 env e and (n13 env e and n14 env e))))))))
 
 abbrev mutual
-  -- where a rule holds in an expression; a word that is called is looked at by the call alone
+  -- where a rule holds in an expression; a word that is called is examined by the call alone
   pub expr_findings : Env → Expr → Findings
   expr_findings env (word p n) = node_findings env (word p n)
   expr_findings env (int p v l u) = node_findings env (int p v l u)
@@ -450,15 +450,15 @@ abbrev mutual
   expr_findings env (dot p e n) = expr_findings env e and node_findings env (dot p e n)
   expr_findings env (arrow p e n) = expr_findings env e and node_findings env (arrow p e n)
 
-  -- the address of a module table is looked at by its call alone
+  -- the address of a module table is examined by its call alone
   pub args_findings : Env → List Want → Exprs → Findings
   args_findings env ws no_exprs = nothing_found
   args_findings env ws (expr_and e es) =
-      (if wants_module ws && is_module_address env e then nothing_found else expr_findings env e and used env e) and args_findings env (other_wants ws) es
+      (if wants_module ws && is_module_address env e then nothing_found else expr_findings env e and void_use env e) and args_findings env (other_wants ws) es
 
 -- where a rule holds in an argument
 abbrev pub arg_findings : Bool → Env → Expr → Findings
-arg_findings skipped env e = (if skipped then nothing_found else expr_findings env e and used env e)
+arg_findings skipped env e = (if skipped then nothing_found else expr_findings env e and void_use env e)
 
 abbrev pub called_findings : Env → Expr → Findings
 called_findings env f = (if is_word f then nothing_found else expr_findings env f)

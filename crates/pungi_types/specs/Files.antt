@@ -3,7 +3,8 @@
 --   source_file texts items rows    the same, of a file whose names have these texts
 --   Typedef, Variable, Definition, Place    a typedef, a variable or table, a function with its body, a name and where it stands
 --   declr_name, declr_pos, declr_stars, declr_tail    the parts of a declarator
---   is_no_array ss, is_plain_tail t    no sizes stand behind a name; neither these nor the parameters of a pointer to a function
+--   is_no_array ss, is_plain_tail t    no sizes stand after a name; neither these nor the parameters of a pointer to a
+--                                      function
 --   typedefs, variables_of, definitions, prototypes    those of a file, in text order; decl_variables those of one declaration
 --   is_place_in ps w, definition_in ds w    a name is among these; the first definition of a name
 --   AreOwn whole ds     each of these is the first definition of its name in the whole list

@@ -1,10 +1,11 @@
--- Findings: a rule and the place where it holds. The one that is told is the first in the text, and at one place the lowest rule.
+-- Findings: a rule and the place where it holds. The one that is reported is the first in the text, and at one place
+-- that of the lowest rule.
 --   Findings            all that is found in a part of the text: nothing, one finding, or what is found in two parts (`and`)
 --   when holds p n      rule n holds at p, where the condition does
 --   is_before a b       a finding comes before another
 --   earlier first f     the earlier of one that may be there and a new one
 --   least_from first fs the earliest of one that may be there and of these
---   least fs            the finding that is told
+--   least fs            the finding that is reported
 use Rattle.std.specs.Prelude.{ℕ, ◌==◌, nat_lt, Bool, true, false, ◌&&◌, ◌||◌, Option, Some, None, if◌then◌else◌}
 use Rattle.pungi_base.specs.declared.pos.Pos.{Pos}
 use Rattle.pungi_types.specs.declared.finding.Finding.{Finding}
@@ -34,6 +35,6 @@ least_from first nothing_found = first
 least_from first (one_found f) = earlier first f
 least_from first (a and b) = least_from (least_from first a) b
 
--- the finding that is told
+-- the finding that is reported
 abbrev pub least : Findings → Option Finding
 least fs = least_from None fs

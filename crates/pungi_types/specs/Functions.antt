@@ -1,12 +1,12 @@
--- Where each rule holds in a function, and which is told (C11 6.9.1).
+-- Where each rule holds in a function, and which is reported (C11 6.9.1).
 --   file_env file refused self    the names of the file, where a function of this name stands
 --   result_kind env d   the kind of a function's result
---   first_frame env d, after_param, after_params, params_frame    the frames before and behind parameters
+--   first_frame env d, after_param, after_params, params_frame    the frames before and after parameters
 --   name_findings, param_findings, dots_findings, params_findings    what holds in parameters
 --   body_findings f s, body_locals s    what holds in a body, and how many locals it declares
 --   result_findings, parts_findings, text_findings env d    N1 to N14
 --   params_count, size_findings d, or_sizes    N15 and N16, where no other rule holds
---   findings env d, refusal_in env d, refusal file refused d    all that holds, and the finding that is told
+--   findings env d, refusal_in env d, refusal file refused d    all that holds, and the finding that is reported
 use Rattle.std.specs.Prelude.{ℕ, ◌+◌, nat_lt, true, false, List, [], Option, Some, None, is_none}
 use Rattle.pungi_base.specs.declared.pos.Pos.{Pos}
 use Rattle.pungi_tree.specs.Syntax.{Params, params, ParamDecl, param_decl, ParamDecls, no_params, param_and, ParamDeclr, named, bare, unused, Stmt, block}
@@ -108,14 +108,14 @@ abbrev pub or_sizes : Definition → Findings → Option Finding → Findings
 or_sizes d fs None = size_findings d
 or_sizes d fs (Some f) = fs
 
--- where a rule holds in a function; its sizes are looked at only where no other rule holds
+-- where a rule holds in a function; its sizes are examined only where no other rule holds
 abbrev pub findings : Env → Definition → Findings
 findings env d = or_sizes d (text_findings env d) (least (text_findings env d))
 
--- the finding that is told of a function, where these names are in force
+-- the finding that is reported of a function, where these names are in force
 abbrev pub refusal_in : Env → Definition → Option Finding
 refusal_in env d = least (findings env d)
 
--- the finding that is told of a function, where these functions are refused
+-- the finding that is reported of a function, where these functions are refused
 abbrev pub refusal : SourceFile → List ℕ → Definition → Option Finding
 refusal file refused d = refusal_in (file_env file refused d.name.0) d

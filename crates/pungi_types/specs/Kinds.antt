@@ -1,11 +1,11 @@
 -- What a type is once typedefs are followed, and the kind of its values (C11 6.7.2, 6.7.8; Python/C API Reference Manual 3.11, 'Object Structures').
---   Core, Followed      a type without its stars, and with as many as stand behind typedefs
+--   Core, Followed      a type without its stars, and with as many as stand after typedefs
 --   core_alone c, more_stars n f    no stars; more of them
 --   spec_base s, is_struct k, tag_is t w    the parts of a type
 --   typedef_in ts w, tagged_in ts w    the first typedef of a word; the fields of the first struct with a tag
 --   tagged_core, written_core    the core of a tagged type, and of a type as it is written, where a struct with its tag has fields or none has
 --   written_tag b, is_fielded file tag, core_here file b    the tag of a type, whether a struct with it has fields in the file, and the core there
---   named_core, typedef_core    the core behind a typedef, and of a typedef
+--   named_core, typedef_core    the core after a typedef, and of a typedef
 --   is_listed_type w    the name of a type that is known before a text is read
 --   core_at n file b, core_of file b    typedefs followed so many times, and to their end
 --   untagged_fields, untagged_in, or_else, struct_fields file w    the fields of the struct of this name
@@ -66,7 +66,7 @@ abbrev pub tagged_in : List Tag → ℕ → Option Fields
 tagged_in [] w = None
 tagged_in (t ∷ ts) w = (if is_struct t.of && tag_is t.tag w then Some t.fields else tagged_in ts w)
 
--- `struct PyModuleDef` is `PyModuleDef`; unions are no structs, and a tag that no struct with fields has is none
+-- `struct PyModuleDef` is `PyModuleDef`; unions are no structs, and a tag that no struct with fields has is no type
 abbrev pub tagged_core : Bool → Key → Name → Core
 tagged_core fielded of n = (if is_struct of then (if n.0 == PY_MODULE_DEF then builtin n else (if fielded then struct_of n else no_core)) else no_core)
 

@@ -3,7 +3,7 @@
 --   labels_after, labels_after_all    these words, and all labels of a statement or of statements
 --   label_findings ws s, labels_findings    a label twice
 --   byte c              a character's number
---   unsigned_constant, negated, is_minus, constant_of e    the value of an Int or Char, with at most one `-`
+--   unsigned_constant, negate, is_minus, constant_of e     the value of an Int or Char, with at most one `-`
 --   Cases, no_cases     the cases of a switch so far
 --   has_value, with_value, with_constant, is_equal_case, with_default, cases_after    one more of them
 --   case_findings, cases_findings, switch_findings s    an equal case, a second default
@@ -86,9 +86,9 @@ unsigned_constant (int p v l u) = (if int_lt v (pos 0) then None else Some v)
 unsigned_constant (char p c) = Some (pos (byte c))
 unsigned_constant _ = None
 
-abbrev pub negated : Option ℤ → Option ℤ
-negated None = None
-negated (Some v) = Some (neg_ℤ v)
+abbrev pub negate : Option ℤ → Option ℤ
+negate None = None
+negate (Some v) = Some (neg_ℤ v)
 
 abbrev pub is_minus : Kind → Bool
 is_minus (tokens.Punct puncts.Minus) = true
@@ -96,7 +96,7 @@ is_minus _ = false
 
 -- one of these, with at most one `-`
 abbrev pub constant_of : Expr → Option ℤ
-constant_of (unary p k e) = (if is_minus k then negated (unsigned_constant e) else None)
+constant_of (unary p k e) = (if is_minus k then negate (unsigned_constant e) else None)
 constant_of e = unsigned_constant e
 
 -- the cases of a switch so far
@@ -125,7 +125,7 @@ is_equal_case c (Some v) = has_value c.values v
 abbrev pub with_default : Cases → Cases
 with_default c = record c { has_default = true }
 
--- the cases that stand directly in a switch's block, also behind labels
+-- the cases that stand directly in a switch's block, also after labels
 abbrev pub cases_after : Cases → Stmt → Cases
 cases_after c (case p e s) = cases_after (with_constant c (constant_of e)) s
 cases_after c (default p s) = cases_after (with_default c) s

@@ -1,11 +1,12 @@
--- Operators by what the rules ask of their operands, and tests of kinds. An operand with no kind is asked nothing (C11 6.5).
+-- Operators by what the rules require of their operands, and tests of kinds. Of an operand with no kind nothing is
+-- required (C11 6.5).
 --   is_bits, is_arithmetic, is_order, is_equality, is_bits_assign, is_arithmetic_assign    binary operators and assignments
 --   mark_prefix, prefix_of    what an operator before its operand is
 --   is_int, is_integer, is_pointer, is_object, is_text, is_null, is_void    tests of a kind
 --   is_same_kind        two kinds are one integer kind
 --   wider a b           the kind of arithmetic: Int with Int is Int, any other pair of integers is Long
 --   fits a b            a value of the second kind may be assigned to the first
---   comparable a b, joinable a b, joined a b    what `==` and `?:` take, and the kind of `?:`
+--   comparable a b, joinable a b, joined_kind a b    what `==` and `?:` take, and the kind of `?:`
 --   struct_part k, has_same a b    the struct of a pointer
 --   both_known a b      both have a kind
 --   on_pointers, assigns_pointers    arithmetic on a pointer
@@ -147,8 +148,8 @@ has_same (Some a) (Some b) = a.0 == b.0
 has_same _ _ = false
 
 -- the kind of `?:`: over two objects of different structs it has no struct
-abbrev pub joined : Option ValueKind → Option ValueKind → Option ValueKind
-joined a b =
+abbrev pub joined_kind : Option ValueKind → Option ValueKind → Option ValueKind
+joined_kind a b =
     (if is_integer a && is_integer b then Some (wider a b) else
     (if is_null a then b else
     (if is_null b then a else

@@ -1,4 +1,4 @@
--- What the program tells of a word that stands as a value, and of one that is called.
+-- What a word is that stands as a value, and what is called.
 --   standing_of m       what a word is as a value
 --   row_called c        the row that is called
 --   is_defined c        a function of the file is called

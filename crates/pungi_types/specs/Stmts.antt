@@ -2,12 +2,14 @@
 --   Frame               where a statement stands
 --   with_local env l    a local comes into force
 --   spec_pos s, is_file_storage k, has_file_storage ks    where a type begins; `static` or `extern`
---   declared_n1, is_taken, declared_n8, is_wrong_initial, initial_findings    what holds at a declared name and its first value
---   after_var, after_vars, after_decl    the frame behind variables
+--   declared_n1, is_taken, declared_n8, is_wrong_initial, first_value_findings    what holds at a declared name and its
+--                                                                                 first value
+--   after_var, after_vars, after_decl    the frame after variables
 --   var_findings, vars_findings, decl_findings    what holds in declarations
 --   condition_findings, option_findings, option_condition, is_wrong_return, return_findings, is_no_integer, switched_findings    what holds in the
 --   expressions of a statement
---   inside, in_loop, in_switch, in_block, labelled, start_frame, after_stmt, behind, after_stmts    the frames of its parts, and behind it
+--   in_part, in_loop, in_switch, in_block, in_label, start_frame, after_stmt, after_part, after_stmts    the frames of
+--                                                                                                        its parts, and after it
 --   start_findings, stmt_findings f s, stmts_findings f ss    what holds in what begins a `for`, in a statement, and in statements
 use Rattle.std.specs.Prelude.{ℕ, ◌+◌, Bool, true, false, ◌&&◌, ◌||◌, not, List, [], ◌∷◌, ◌++◌, Option, Some, None, is_some, is_none}
 use Rattle.pungi_base.specs.declared.key.Key.{Key}
@@ -22,7 +24,7 @@ use Rattle.pungi_types.specs.Names.{Env, is_among, with_word, is_function, is_st
 use Rattle.pungi_types.specs.declared.local.Local.{Local}
 use Rattle.pungi_types.specs.Findings.{Findings, nothing_found, ◌and◌, when}
 use Rattle.pungi_types.specs.Operators.{is_integer, is_void, fits, both_known}
-use Rattle.pungi_types.specs.Exprs.{kind_of, operand, used, expr_findings}
+use Rattle.pungi_types.specs.Exprs.{kind_of, operand, void_use, expr_findings}
 use Rattle.pungi_types.specs.Labels.{block_labels, constant_of, switch_findings, stmt_locals}
 use Rattle.pungi_types.specs.declared.kind.ValueKind.{ValueKind}
 
@@ -69,13 +71,13 @@ abbrev pub is_wrong_initial : Option ValueKind → Option ValueKind → Bool
 is_wrong_initial k v = is_void v || (both_known k v && not (fits k v))
 
 -- N10: an initialiser that doesn't fit, or a braced one
-abbrev pub initial_findings : Env → Option ValueKind → Pos → Option Init → Findings
-initial_findings env k p None = nothing_found
-initial_findings env k p (Some (table ts)) = when true p 10
-initial_findings env k p (Some (value e)) =
-    expr_findings env e and (when (is_wrong_initial k (operand (kind_of env e) e)) p 10 and used env e)
+abbrev pub first_value_findings : Env → Option ValueKind → Pos → Option Init → Findings
+first_value_findings env k p None = nothing_found
+first_value_findings env k p (Some (table ts)) = when true p 10
+first_value_findings env k p (Some (value e)) =
+    expr_findings env e and (when (is_wrong_initial k (operand (kind_of env e) e)) p 10 and void_use env e)
 
--- the frame behind a declared variable
+-- the frame after a declared variable
 abbrev pub after_var : Frame → Spec → VarDecl → Frame
 after_var f s (var_decl d v) =
     record f {
@@ -88,7 +90,7 @@ after_var f s (var_decl d v) =
 abbrev pub var_findings : Frame → List Key → Spec → VarDecl → Findings
 var_findings f qs s (var_decl d v) =
     declared_n1 qs s (declared_kind f.env.file.items s d) and (declared_n8 f.env f.block (declr_name d) (declr_pos d)
-    and initial_findings (after_var f s (var_decl d v)).env (declared_kind f.env.file.items s d) (declr_pos d) v)
+    and first_value_findings (after_var f s (var_decl d v)).env (declared_kind f.env.file.items s d) (declr_pos d) v)
 
 abbrev pub vars_findings : Frame → List Key → Spec → List VarDecl → Findings
 vars_findings f qs s [] = nothing_found
@@ -106,7 +108,7 @@ decl_findings f (decl qs s vs) = vars_findings f qs s vs
 
 -- N10: a condition is an integer or a pointer
 abbrev pub condition_findings : Env → Pos → Expr → Findings
-condition_findings env p e = expr_findings env e and (when (is_void (operand (kind_of env e) e)) p 10 and used env e)
+condition_findings env p e = expr_findings env e and (when (is_void (operand (kind_of env e) e)) p 10 and void_use env e)
 
 abbrev pub option_findings : Env → Option Expr → Findings
 option_findings env None = nothing_found
@@ -124,11 +126,11 @@ is_wrong_return r v = is_void r || (both_known r v && not (fits r v))
 abbrev pub return_findings : Env → Option ValueKind → Pos → Option Expr → Findings
 return_findings env r p None = when (is_some r && not (is_void r)) p 10
 return_findings env r p (Some e) =
-    expr_findings env e and (when (is_wrong_return r (operand (kind_of env e) e)) p 10 and used env e)
+    expr_findings env e and (when (is_wrong_return r (operand (kind_of env e) e)) p 10 and void_use env e)
 
 -- the frame of a part that is no part of a block: it declares nothing
-abbrev pub inside : Frame → Frame
-inside f = record f { block = []; cases = false; switched = false }
+abbrev pub in_part : Frame → Frame
+in_part f = record f { block = []; cases = false; switched = false }
 
 abbrev pub in_loop : Frame → Frame
 in_loop f = record f { block = []; breaks = true; continues = true; cases = false; switched = false }
@@ -141,9 +143,9 @@ in_switch f = record f { block = []; breaks = true; cases = false; switched = tr
 abbrev pub in_block : Frame → Stmts → Frame
 in_block f ss = record f { block = []; labels = block_labels [] ss ++ f.labels; cases = f.switched; switched = false }
 
--- the frame behind a `case`, `default` or label
-abbrev pub labelled : Frame → Frame
-labelled f = record f { block = []; switched = false }
+-- the frame after a `case`, `default` or label
+abbrev pub in_label : Frame → Frame
+in_label f = record f { block = []; switched = false }
 
 abbrev pub start_frame : Frame → ForStart → Frame
 start_frame f (start_decl d) = after_decl (record f { block = [] }) d
@@ -158,17 +160,17 @@ is_no_integer k = is_some k && not (is_integer k)
 
 -- N10: what a `switch` goes by is an integer
 abbrev pub switched_findings : Env → Pos → Expr → Findings
-switched_findings env p e = expr_findings env e and (when (is_no_integer (operand (kind_of env e) e)) p 10 and used env e)
+switched_findings env p e = expr_findings env e and (when (is_no_integer (operand (kind_of env e) e)) p 10 and void_use env e)
 
--- the frame behind a statement of a block
+-- the frame after a statement of a block
 abbrev pub after_stmt : Frame → Stmt → Frame
 after_stmt f (declare p d) = after_decl f d
 after_stmt f s = record f { next = f.next + stmt_locals s }
 
-abbrev pub behind : Frame → Stmt → Frame
-behind f s = record f { next = f.next + stmt_locals s }
+abbrev pub after_part : Frame → Stmt → Frame
+after_part f s = record f { next = f.next + stmt_locals s }
 
--- the frame behind the statements of a block
+-- the frame after the statements of a block
 abbrev pub after_stmts : Frame → Stmts → Frame
 after_stmts f no_stmts = f
 after_stmts f (stmt_and s ss) = after_stmts (after_stmt f s) ss
@@ -178,17 +180,17 @@ abbrev mutual
   stmt_findings f (block p ss q) = stmts_findings (in_block f ss) ss
   stmt_findings f (declare p d) = decl_findings f d
   stmt_findings f (do_expr p e) = option_findings f.env e
-  stmt_findings f (if_only p e s) = condition_findings f.env p e and stmt_findings (inside f) s
-  stmt_findings f (if_else p e s t) = condition_findings f.env p e and (stmt_findings (inside f) s and stmt_findings (behind (inside f) s) t)
+  stmt_findings f (if_only p e s) = condition_findings f.env p e and stmt_findings (in_part f) s
+  stmt_findings f (if_else p e s t) = condition_findings f.env p e and (stmt_findings (in_part f) s and stmt_findings (after_part (in_part f) s) t)
   stmt_findings f (while p e s) = condition_findings f.env p e and stmt_findings (in_loop f) s
   stmt_findings f (do_while p s e) = stmt_findings (in_loop f) s and condition_findings f.env p e
   stmt_findings f (for p a b c s) =
       start_findings f a and (option_condition (start_frame f a).env p b and (option_findings (start_frame f a).env c and stmt_findings (in_loop (start_frame f a)) s))
   stmt_findings f (switch p e s) =
       switched_findings f.env p e and (switch_findings s and stmt_findings (in_switch f) s)
-  stmt_findings f (case p e s) = when (not f.cases || is_none (constant_of e)) p 7 and (expr_findings f.env e and stmt_findings (labelled f) s)
-  stmt_findings f (default p s) = when (not f.cases) p 7 and stmt_findings (labelled f) s
-  stmt_findings f (label p n s) = stmt_findings (labelled f) s
+  stmt_findings f (case p e s) = when (not f.cases || is_none (constant_of e)) p 7 and (expr_findings f.env e and stmt_findings (in_label f) s)
+  stmt_findings f (default p s) = when (not f.cases) p 7 and stmt_findings (in_label f) s
+  stmt_findings f (label p n s) = stmt_findings (in_label f) s
   stmt_findings f (goto p n q) = when (not (is_among f.labels n.0)) q 6
   stmt_findings f (break p) = when (not f.breaks) p 7
   stmt_findings f (continue p) = when (not f.continues) p 7

@@ -1,10 +1,10 @@
 // Where rules hold in declarations.
 ghost use Rattle.std.specs.Prelude.{◌≡◌, ◌&&◌, not, is_some};
 ghost use Rattle.pungi_types.specs.Findings.{least_from};
-ghost use Rattle.pungi_types.specs.Stmts.{has_file_storage as has_file_storage_of, declared_n1, is_wrong_initial as is_wrong_initial_of, initial_findings, condition_findings, is_wrong_return as is_wrong_return_of, return_findings, is_no_integer as is_no_integer_of, switched_findings};
-ghost use Rattle.pungi_types.specs.Operators.{is_void as is_void_of};
-ghost use Rattle.pungi_types.specs.Kinds.{declared_kind as declared_kind_of};
-ghost use Rattle.pungi_types.specs.Exprs.{param_kind as param_kind_of};
+ghost use Rattle.pungi_types.specs.Stmts.{has_file_storage, declared_n1, is_wrong_initial, first_value_findings, condition_findings, is_wrong_return, return_findings, is_no_integer, switched_findings};
+ghost use Rattle.pungi_types.specs.Operators.{is_void};
+ghost use Rattle.pungi_types.specs.Kinds.{declared_kind};
+ghost use Rattle.pungi_types.specs.Exprs.{param_kind};
 ghost use Rattle.pungi_tree.specs.ExprView.{expr_view, spec_view, declr_view, param_declr_view};
 ghost use Rattle.pungi_tree.specs.StmtView.{init_option_view};
 ghost use Rattle.pungi_tree.specs.ExprView.{optional_view};
@@ -22,7 +22,7 @@ use pungi_tree::{Declr, Expr, Init, ParamDeclr, Spec};
 type Known = Option<ValueKind>;
 
 fn has_file_storage(quals: &Vec<Key>) -> bool
-    ensures { result ≡ has_file_storage_of quals.now.items }
+    ensures { result ≡ has_file_storage quals.now.items }
 {
     for key in quals {
         if matches!(key, Key::Static | Key::Extern) {
@@ -46,7 +46,7 @@ pub fn note_declared(first: &mut Option<Finding>, quals: &Vec<Key>, spec: &Spec,
 
 /// The kind of what is declared. An array, a pointer to a function and `void` have none.
 pub fn declared_kind<N: Lookup>(names: &N, spec: &Spec, declr: &Declr) -> Known
-    ensures { result ≡ declared_kind_of (N.env names.now).file.items (spec_view spec.now) (declr_view declr.now) }
+    ensures { result ≡ declared_kind (N.env names.now).file.items (spec_view spec.now) (declr_view declr.now) }
 {
     if is_plain(declr) {
         not_void(names.type_kind(spec, declr.stars.len()))
@@ -57,7 +57,7 @@ pub fn declared_kind<N: Lookup>(names: &N, spec: &Spec, declr: &Declr) -> Known
 
 /// The kind of a parameter.
 pub fn param_kind<N: Lookup>(names: &N, spec: &Spec, declr: &ParamDeclr) -> Known
-    ensures { result ≡ param_kind_of (N.env names.now).file.items (spec_view spec.now) (param_declr_view declr.now) }
+    ensures { result ≡ param_kind (N.env names.now).file.items (spec_view spec.now) (param_declr_view declr.now) }
 {
     match declr {
         ParamDeclr::Named(named) => declared_kind(names, spec, named),
@@ -74,7 +74,7 @@ pub fn initial<N: Lookup>(
     pos: Pos,
     value: &Option<Init>,
 )
-    ensures { first.new ≡ least_from first.old (initial_findings (N.env names.now) kind pos (init_option_view value.now)) }
+    ensures { first.new ≡ least_from first.old (first_value_findings (N.env names.now) kind pos (init_option_view value.now)) }
 {
     match value {
         None => {}
@@ -88,7 +88,7 @@ pub fn initial<N: Lookup>(
 }
 
 fn is_wrong_initial(wanted: Known, kind: Known) -> bool
-    ensures { result ≡ is_wrong_initial_of wanted kind }
+    ensures { result ≡ is_wrong_initial wanted kind }
 {
     is_void(kind) || ((wanted.is_some() && kind.is_some()) && !fits(wanted, kind))
 }
@@ -128,19 +128,19 @@ pub fn return_value<N: Lookup>(
 }
 
 fn is_some_but_void(kind: Known) -> bool
-    ensures { result ≡ (is_some kind && not (is_void_of kind)) }
+    ensures { result ≡ (is_some kind && not (is_void kind)) }
 {
     kind.is_some() && !is_void(kind)
 }
 
 fn is_wrong_return(wanted: Known, kind: Known) -> bool
-    ensures { result ≡ is_wrong_return_of wanted kind }
+    ensures { result ≡ is_wrong_return wanted kind }
 {
     is_void(wanted) || ((wanted.is_some() && kind.is_some()) && !fits(wanted, kind))
 }
 
 /// What holds at the value by which a `switch` that stands at this place goes.
-pub fn switched<N: Lookup>(names: &N, first: &mut Option<Finding>, pos: Pos, e: &Expr)
+pub fn check_switched<N: Lookup>(names: &N, first: &mut Option<Finding>, pos: Pos, e: &Expr)
     ensures { first.new ≡ least_from first.old (switched_findings (N.env names.now) pos (expr_view e.now)) }
 {
     let kind = check_expr(names, first, e);
@@ -149,7 +149,7 @@ pub fn switched<N: Lookup>(names: &N, first: &mut Option<Finding>, pos: Pos, e: 
 }
 
 fn is_no_integer(kind: Known) -> bool
-    ensures { result ≡ is_no_integer_of kind }
+    ensures { result ≡ is_no_integer kind }
 {
     kind.is_some() && !is_integer(kind)
 }

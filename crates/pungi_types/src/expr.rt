@@ -1,7 +1,7 @@
 //! The kind of an expression, and where rules hold in it.
 ghost use Rattle.std.specs.Prelude.{◌≡◌, ◌&&◌, ◌||◌, not, map, None, if◌then◌else◌};
 ghost use Rattle.pungi_types.specs.Findings.{least_from, ◌and◌};
-ghost use Rattle.pungi_types.specs.Exprs.{is_place as is_place_of, names_type_object as names_type_object_of, is_module_address as is_module_address_of, operand as operand_of, kind_of, expr_findings, args_findings, arg_findings, are_met, first_met as first_met_of, wants_module as wants_module_of, is_word as is_word_of, called_findings, cast_findings, cast_kind as cast_kind_of, callee, wants, is_unknown_call, result_kind, is_value_called, takes_arguments, meaning_kind, step_kind as step_kind_of};
+ghost use Rattle.pungi_types.specs.Exprs.{is_place, names_type_object, is_module_address, operand, kind_of, expr_findings, args_findings, arg_findings, are_met, first_met, wants_module, is_word, called_findings, cast_findings, cast_kind, callee, wants, is_unknown_call, result_kind, is_value_called, takes_arguments, meaning_kind, step_kind};
 ghost use Rattle.pungi_types.specs.ExprParts.{used_of, word_findings, step_findings, binary_findings, assign_findings, cond_findings, call_findings};
 ghost use Rattle.pungi_types.specs.Names.{meaning_of};
 ghost use Rattle.pungi_types.specs.Kinds.{type_name_kind};
@@ -24,7 +24,7 @@ type Known = Option<ValueKind>;
 
 /// Whether an expression may be assigned to (C11 6.5.16).
 pub fn is_place<N: Lookup>(names: &N, e: &Expr) -> bool
-    ensures { result ≡ is_place_of (N.env names.now) (expr_view e.now) }
+    ensures { result ≡ is_place (N.env names.now) (expr_view e.now) }
 {
     match &e.node {
         ExprNode::Word(name) => names.is_slot(name.0),
@@ -35,7 +35,7 @@ pub fn is_place<N: Lookup>(names: &N, e: &Expr) -> bool
 
 /// Whether an expression is the name of a type object.
 pub fn names_type_object<N: Lookup>(names: &N, e: &Expr) -> bool
-    ensures { result ≡ names_type_object_of (N.env names.now) (expr_view e.now) }
+    ensures { result ≡ names_type_object (N.env names.now) (expr_view e.now) }
 {
     match &e.node {
         ExprNode::Word(name) => names.is_type_object(name.0),
@@ -45,7 +45,7 @@ pub fn names_type_object<N: Lookup>(names: &N, e: &Expr) -> bool
 
 /// Whether an expression is `&` of a module table.
 pub fn is_module_address<N: Lookup>(names: &N, e: &Expr) -> bool
-    ensures { result ≡ is_module_address_of (N.env names.now) (expr_view e.now) }
+    ensures { result ≡ is_module_address (N.env names.now) (expr_view e.now) }
 {
     match &e.node {
         ExprNode::Unary(Kind::Punct(Punct::And), a) => match &a.node {
@@ -166,9 +166,9 @@ fn note_both_used(first: &mut Option<Finding>, left: Known, a: &Expr, right: Kno
     note_used(first, right, b);
 }
 
-/// What holds at `++` or `--` behind an operand of this kind, and the kind of the whole.
+/// What holds at `++` or `--` after an operand of this kind, and the kind of the whole.
 fn step(first: &mut Option<Finding>, pos: Pos, place: bool, kind: Known, a: &Expr) -> Known
-    ensures kind { result ≡ step_kind_of place kind }
+    ensures kind { result ≡ step_kind place kind }
     ensures found { first.new ≡ least_from first.old (step_findings pos place kind (expr_view a.now)) }
 {
     let wrong = unary_wrong(Prefix::Step, place, operand(kind, a));
@@ -265,7 +265,7 @@ fn unary<N: Lookup>(names: &N, first: &mut Option<Finding>, pos: Pos, op: Kind, 
     unary_kind(prefix, type_object, place, kind)
 }
 
-// A word that is called is looked at by the call alone.
+// A word that is called is examined by the call alone.
 #[cycle(expr)]
 fn called<N: Lookup>(names: &N, first: &mut Option<Finding>, f: &Expr)
     ensures { first.new ≡ least_from first.old (called_findings (N.env names.now) (expr_view f.now)) }
@@ -292,8 +292,8 @@ fn args<N: Lookup>(names: &N, first: &mut Option<Finding>, wants: &[Want], list:
 
 #[cycle(expr)]
 fn arg<N: Lookup>(names: &N, first: &mut Option<Finding>, wants: &[Want], e: &Expr) -> bool
-    ensures met { result ≡ first_met_of wants.now (is_module_address_of (N.env names.now) (expr_view e.now)) (operand_of (kind_of (N.env names.now) (expr_view e.now)) (expr_view e.now)) }
-    ensures found { first.new ≡ least_from first.old (arg_findings (wants_module_of wants.now && is_module_address_of (N.env names.now) (expr_view e.now)) (N.env names.now) (expr_view e.now)) }
+    ensures met { result ≡ first_met wants.now (is_module_address (N.env names.now) (expr_view e.now)) (operand (kind_of (N.env names.now) (expr_view e.now)) (expr_view e.now)) }
+    ensures found { first.new ≡ least_from first.old (arg_findings (wants_module wants.now && is_module_address (N.env names.now) (expr_view e.now)) (N.env names.now) (expr_view e.now)) }
 {
     let is_module = is_module_address(names, e);
     if wants_module(wants) && is_module {
@@ -312,7 +312,7 @@ fn cast<N: Lookup>(
     kind: Known,
     a: &Expr,
 ) -> Known
-    ensures kind { result ≡ cast_kind_of (type_name_kind (N.env names.now).file.items (type_name_view name.now)) kind }
+    ensures kind { result ≡ cast_kind (type_name_kind (N.env names.now).file.items (type_name_view name.now)) kind }
     ensures found { first.new ≡ least_from first.old (cast_findings (type_name_kind (N.env names.now).file.items (type_name_view name.now)) pos (type_name_view name.now) kind (expr_view a.now)) }
 {
     let to = names.type_kind(&name.spec, name.stars.len());
@@ -326,7 +326,7 @@ fn cast<N: Lookup>(
 }
 
 fn is_word(e: &Expr) -> bool
-    ensures { result ≡ is_word_of (expr_view e.now) }
+    ensures { result ≡ is_word (expr_view e.now) }
 {
     matches!(&e.node, ExprNode::Word(_))
 }
@@ -363,7 +363,7 @@ fn is_wrong_call<N: Lookup>(names: &N, f: &Expr, met: bool) -> bool
 
 /// The kind of a call, whose arguments are met or not.
 pub fn call_kind<N: Lookup>(names: &N, f: &Expr, met: bool) -> Known
-    ensures { result ≡ (if is_word_of (expr_view f.now) && met then result_kind (N.env names.now) (callee (N.env names.now) (expr_view f.now)) else None) }
+    ensures { result ≡ (if is_word (expr_view f.now) && met then result_kind (N.env names.now) (callee (N.env names.now) (expr_view f.now)) else None) }
 {
     match &f.node {
         ExprNode::Word(name) if met => names.result_kind(name.0),

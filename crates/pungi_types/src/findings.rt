@@ -1,7 +1,7 @@
 ghost use Rattle.std.specs.Prelude.{◌≡◌};
-ghost use Rattle.pungi_types.specs.Findings.{when, is_before as is_before_of, least_from};
+ghost use Rattle.pungi_types.specs.Findings.{when, is_before, least_from};
 ghost use Rattle.pungi_types.specs.Operators.{is_void};
-ghost use Rattle.pungi_types.specs.Exprs.{void_call as void_call_of, operand as operand_of, when_some};
+ghost use Rattle.pungi_types.specs.Exprs.{void_call, operand, when_some};
 ghost use Rattle.pungi_tree.specs.ExprView.{expr_view};
 
 use crate::types::not_void;
@@ -10,7 +10,7 @@ use pungi_base::{Pos, Rule};
 use pungi_tree::{Expr, ExprNode};
 
 fn is_before(a: Finding, b: Finding) -> bool
-    ensures { result ≡ is_before_of a b }
+    ensures { result ≡ is_before a b }
 {
     a.pos.line < b.pos.line
         || (a.pos.line == b.pos.line
@@ -38,7 +38,7 @@ pub fn note(first: &mut Option<Finding>, holds: bool, pos: Pos, rule: u8)
 }
 
 fn void_call(e: &Expr) -> Option<Pos>
-    ensures { result ≡ void_call_of (expr_view e.now) }
+    ensures { result ≡ void_call (expr_view e.now) }
 {
     match &e.node {
         ExprNode::Paren(inner) => void_call(inner),
@@ -47,10 +47,10 @@ fn void_call(e: &Expr) -> Option<Pos>
     }
 }
 
-/// What is asked of the value of an expression of this kind where it is used: nothing of a call that answers nothing, since
-/// a rule holds at that call.
+/// What is required of the value of an expression of this kind where it is used: nothing of a call that returns
+/// nothing, since a rule holds at that call.
 pub fn operand(kind: Option<ValueKind>, e: &Expr) -> Option<ValueKind>
-    ensures { result ≡ operand_of kind (expr_view e.now) }
+    ensures { result ≡ operand kind (expr_view e.now) }
 {
     if void_call(e).is_some() {
         not_void(kind)
@@ -61,7 +61,7 @@ pub fn operand(kind: Option<ValueKind>, e: &Expr) -> Option<ValueKind>
 
 /// The value of an expression of this kind is used.
 pub fn note_used(first: &mut Option<Finding>, kind: Option<ValueKind>, e: &Expr)
-    ensures { first.new ≡ least_from first.old (when_some (is_void kind) (void_call_of (expr_view e.now)) 10) }
+    ensures { first.new ≡ least_from first.old (when_some (is_void kind) (void_call (expr_view e.now)) 10) }
 {
     if let Some(pos) = void_call(e) {
         note(first, matches!(kind, Some(ValueKind::Void)), pos, 10);

@@ -16,7 +16,7 @@ mod types;
 mod words;
 
 pub use decl::{
-    condition, declared_kind, initial, note_declared, param_kind, return_value, switched,
+    check_switched, condition, declared_kind, initial, note_declared, param_kind, return_value,
 };
 pub use expr::{
     call_kind, callee_wants, check_expr, is_module_address, is_place, names_type_object,

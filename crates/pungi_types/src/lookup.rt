@@ -16,10 +16,10 @@ pub enum Want {
 
 /// The names in force where an expression stands.
 pub trait Lookup {
-    ghost use Rattle.pungi_types.specs.Names.{Env, meaning_of, local_in, is_type_object as names_type_object_of, is_module as is_module_of, static_number as static_number_of};
-    ghost use Rattle.pungi_types.specs.Kinds.{type_kind as type_kind_of, spec_base, field_kind as field_kind_of};
-    ghost use Rattle.pungi_types.specs.Exprs.{meaning_kind, is_slot as is_slot_of, is_function_meaning, is_unknown as is_unknown_of, callee_of, wants as wants_of, result_kind as result_kind_of, is_value_called as is_value_called_of, takes_arguments as takes_arguments_of, is_unknown_call as is_unknown_call_of};
-    ghost use Rattle.pungi_types.specs.Stmts.{is_taken as is_taken_of};
+    ghost use Rattle.pungi_types.specs.Names.{Env, meaning_of, local_in, is_type_object, is_module as is_module_of, static_number};
+    ghost use Rattle.pungi_types.specs.Kinds.{type_kind, spec_base, field_kind};
+    ghost use Rattle.pungi_types.specs.Exprs.{meaning_kind, is_slot, is_function_meaning, is_unknown, callee_of, wants as wants_of, result_kind as result_kind_of, is_value_called, takes_arguments, is_unknown_call};
+    ghost use Rattle.pungi_types.specs.Stmts.{is_taken};
     ghost use Rattle.pungi_types.specs.Standing.{standing_of, row_called, is_defined};
 
     ghost env: { Self → Env };
@@ -28,26 +28,26 @@ pub trait Lookup {
         ensures { result ≡ meaning_kind (meaning_of (env self.now) word) };
 
     fn is_slot(&self, word: u32) -> bool
-        ensures { result ≡ is_slot_of (meaning_of (env self.now) word) };
+        ensures { result ≡ is_slot (meaning_of (env self.now) word) };
 
     fn is_function(&self, word: u32) -> bool
         ensures { result ≡ is_function_meaning (meaning_of (env self.now) word) };
 
     fn is_unknown(&self, word: u32) -> bool
-        ensures { result ≡ is_unknown_of (meaning_of (env self.now) word) };
+        ensures { result ≡ is_unknown (meaning_of (env self.now) word) };
 
     fn is_type_object(&self, word: u32) -> bool
-        ensures { result ≡ (is_none (local_in (env self.now).locals word) && names_type_object_of (env self.now).file.items word) };
+        ensures { result ≡ (is_none (local_in (env self.now).locals word) && is_type_object (env self.now).file.items word) };
 
     fn is_module(&self, word: u32) -> bool
         ensures { result ≡ (is_none (local_in (env self.now).locals word) && is_module_of (env self.now).file.items word) };
 
     /// The kind of a type with so many stars.
     fn type_kind(&self, spec: &Spec, stars: usize) -> Option<ValueKind>
-        ensures { result ≡ type_kind_of (env self.now).file.items (spec_base (spec_view spec.now)) stars };
+        ensures { result ≡ type_kind (env self.now).file.items (spec_base (spec_view spec.now)) stars };
 
     fn field_kind(&self, base: Option<ValueKind>, word: u32) -> Option<ValueKind>
-        ensures { result ≡ field_kind_of (env self.now).file.items base word };
+        ensures { result ≡ field_kind (env self.now).file.items base word };
 
     fn wants(&self, word: u32) -> &[Want]
         ensures { result.now ≡ wants_of (env self.now) (callee_of (env self.now) word) };
@@ -56,17 +56,17 @@ pub trait Lookup {
         ensures { result ≡ result_kind_of (env self.now) (callee_of (env self.now) word) };
 
     fn is_value_called(&self, word: u32) -> bool
-        ensures { result ≡ is_value_called_of (callee_of (env self.now) word) };
+        ensures { result ≡ is_value_called (callee_of (env self.now) word) };
 
     fn takes_arguments(&self, word: u32) -> bool
-        ensures { result ≡ takes_arguments_of (callee_of (env self.now) word) };
+        ensures { result ≡ takes_arguments (callee_of (env self.now) word) };
 
     fn is_unknown_call(&self, word: u32) -> bool
-        ensures { result ≡ is_unknown_call_of (env self.now) (callee_of (env self.now) word) };
+        ensures { result ≡ is_unknown_call (env self.now) (callee_of (env self.now) word) };
 
     /// Whether it is the name of a function, row or static.
     fn is_taken(&self, word: u32) -> bool
-        ensures { result ≡ is_taken_of (env self.now) word };
+        ensures { result ≡ is_taken (env self.now) word };
 
     /// What it is as a value.
     fn standing(&self, word: u32) -> Standing
@@ -74,7 +74,7 @@ pub trait Lookup {
 
     /// The number of a static's object.
     fn static_number(&self, word: u32) -> u32
-        ensures { result ≡ static_number_of (env self.now).file.items word };
+        ensures { result ≡ static_number (env self.now).file.items word };
 
     /// The row that is called by this word.
     fn row(&self, word: u32) -> Option<&Row>

@@ -1,8 +1,8 @@
 //! What operators make of the kinds of their operands (C11 6.5).
 ghost use Rattle.std.specs.Prelude.{◌≡◌, ◌&&◌, ◌||◌, pos};
 ghost use Rattle.pungi_types.specs.Labels.{byte};
-ghost use Rattle.pungi_types.specs.Operators.{is_bits as is_bits_of, is_arithmetic as is_arithmetic_of, is_order as is_order_of, is_equality as is_equality_of, is_bits_assign as is_bits_assign_of, is_arithmetic_assign as is_arithmetic_assign_of, prefix_of as prefix_of_kind, on_pointers as on_pointers_of, assigns_pointers as assigns_pointers_of, is_int as is_int_of, is_integer as is_integer_of, is_pointer as is_pointer_of, is_object as is_object_of, is_text as is_text_of, is_null as is_null_of, is_void as is_void_of, wider as wider_of, fits as fits_of, comparable as comparable_of, joinable as joinable_of, joined as joined_of, has_same as has_same_of, struct_part as struct_part_of};
-ghost use Rattle.pungi_types.specs.Exprs.{binary_kind as binary_kind_of, binary_wrong as binary_wrong_of, assign_kind as assign_kind_of, assign_wrong as assign_wrong_of, cond_kind as cond_kind_of, cond_wrong as cond_wrong_of, cast_kind as cast_kind_of, cast_wrong as cast_wrong_of, crosses as crosses_of, step_kind as step_kind_of, want_met as want_met_of, first_met as first_met_of, wants_module as wants_module_of, other_wants as other_wants_of, unary_kind as unary_kind_of, unary_wrong as unary_wrong_of, is_step_or_sign, is_bad_int as is_bad_int_of, int_kind as int_kind_of};
+ghost use Rattle.pungi_types.specs.Operators.{is_bits, is_arithmetic, is_order as is_order_of, is_equality, is_bits_assign, is_arithmetic_assign, prefix_of, on_pointers, assigns_pointers, is_int, is_integer as is_integer_of, is_pointer as is_pointer_of, is_object as is_object_of, is_text as is_text_of, is_null as is_null_of, is_void as is_void_of, wider, fits, comparable, joinable, joined_kind, has_same, struct_part};
+ghost use Rattle.pungi_types.specs.Exprs.{binary_kind, binary_wrong, assign_kind, assign_wrong, cond_kind, cond_wrong, cast_kind, cast_wrong, crosses, step_kind, want_met, first_met, wants_module, other_wants, unary_kind, unary_wrong, is_step_or_sign, is_bad_int, int_kind};
 
 use crate::ValueKind;
 use crate::lookup::Want;
@@ -22,7 +22,7 @@ pub enum Prefix {
 
 /// What an operator before its operand is.
 pub fn prefix_of(k: Kind) -> Prefix
-    ensures { result ≡ prefix_of_kind k }
+    ensures { result ≡ prefix_of k }
 {
     match k {
         Kind::Punct(Punct::And) => Prefix::Address,
@@ -35,7 +35,7 @@ pub fn prefix_of(k: Kind) -> Prefix
 
 /// The kind of an operand with an operator before it, and none where a rule holds there.
 pub fn unary_kind(op: Prefix, type_object: bool, place: bool, k: Known) -> Known
-    ensures { result ≡ unary_kind_of op type_object place k }
+    ensures { result ≡ unary_kind op type_object place k }
 {
     match op {
         Prefix::Address => {
@@ -66,7 +66,7 @@ pub fn unary_kind(op: Prefix, type_object: bool, place: bool, k: Known) -> Known
 
 /// An operand of the wrong kind, or a stepped one that is no place.
 pub fn unary_wrong(op: Prefix, place: bool, k: Known) -> bool
-    ensures { result ≡ unary_wrong_of op place k }
+    ensures { result ≡ unary_wrong op place k }
 {
     match op {
         Prefix::Step => is_void(k) || (is_integer(k) && !place),
@@ -84,21 +84,21 @@ pub fn steps_pointer(op: Prefix, k: Known) -> bool
 
 /// Arithmetic on a pointer.
 pub fn on_pointers(m: Punct, a: Known, b: Known) -> bool
-    ensures { result ≡ on_pointers_of m a b }
+    ensures { result ≡ on_pointers m a b }
 {
     is_arithmetic(m) && (is_pointer(a) || is_pointer(b))
 }
 
 /// Arithmetic on a pointer in an assignment.
 pub fn assigns_pointers(m: Punct, a: Known, b: Known) -> bool
-    ensures { result ≡ assigns_pointers_of m a b }
+    ensures { result ≡ assigns_pointers m a b }
 {
     is_arithmetic_assign(m) && (is_pointer(a) || is_pointer(b))
 }
 
 /// The first wanted argument is met by one of this kind.
 pub fn first_met(wants: &[Want], is_module: bool, k: Known) -> bool
-    ensures { result ≡ first_met_of wants.now is_module k }
+    ensures { result ≡ first_met wants.now is_module k }
 {
     match wants {
         [] => false,
@@ -108,7 +108,7 @@ pub fn first_met(wants: &[Want], is_module: bool, k: Known) -> bool
 
 /// The first wanted argument is a module table.
 pub fn wants_module(wants: &[Want]) -> bool
-    ensures { result ≡ wants_module_of wants.now }
+    ensures { result ≡ wants_module wants.now }
 {
     match wants {
         [Want::ModuleTable, ..] => true,
@@ -116,9 +116,9 @@ pub fn wants_module(wants: &[Want]) -> bool
     }
 }
 
-/// The wanted arguments behind the first.
+/// The wanted arguments after the first.
 pub fn other_wants(wants: &[Want]) -> &[Want]
-    ensures { result.now ≡ other_wants_of wants.now }
+    ensures { result.now ≡ other_wants wants.now }
 {
     match wants {
         [] => wants,
@@ -128,7 +128,7 @@ pub fn other_wants(wants: &[Want]) -> &[Want]
 
 /// A constant that is marked unsigned, too large, or below 0.
 pub fn is_bad_int(value: i128, unsigned: bool) -> bool
-    ensures { result ≡ is_bad_int_of value unsigned }
+    ensures { result ≡ is_bad_int value unsigned }
 {
     unsigned || (value < 0 || value > 9223372036854775807)
 }
@@ -142,7 +142,7 @@ pub fn byte_value(code: u8) -> i64
 
 /// The kind of an integer constant (C11 6.4.4.1).
 pub fn int_kind(value: i128, long: bool, unsigned: bool) -> Known
-    ensures { result ≡ int_kind_of value long unsigned }
+    ensures { result ≡ int_kind value long unsigned }
 {
     if is_bad_int(value, unsigned) {
         None
@@ -155,7 +155,7 @@ pub fn int_kind(value: i128, long: bool, unsigned: bool) -> Known
 
 /// `& | ^ << >>`.
 pub fn is_bits(m: Punct) -> bool
-    ensures { result ≡ is_bits_of m }
+    ensures { result ≡ is_bits m }
 {
     matches!(
         m,
@@ -165,7 +165,7 @@ pub fn is_bits(m: Punct) -> bool
 
 /// `+ - * / %`.
 pub fn is_arithmetic(m: Punct) -> bool
-    ensures { result ≡ is_arithmetic_of m }
+    ensures { result ≡ is_arithmetic m }
 {
     matches!(
         m,
@@ -185,14 +185,14 @@ pub fn is_order(m: Punct) -> bool
 
 /// `== !=`.
 pub fn is_equality(m: Punct) -> bool
-    ensures { result ≡ is_equality_of m }
+    ensures { result ≡ is_equality m }
 {
     matches!(m, Punct::Equal | Punct::NotEqual)
 }
 
 /// `&= |= ^= <<= >>=`.
 pub fn is_bits_assign(m: Punct) -> bool
-    ensures { result ≡ is_bits_assign_of m }
+    ensures { result ≡ is_bits_assign m }
 {
     matches!(
         m,
@@ -206,7 +206,7 @@ pub fn is_bits_assign(m: Punct) -> bool
 
 /// `+= -= *= /= %=`.
 pub fn is_arithmetic_assign(m: Punct) -> bool
-    ensures { result ≡ is_arithmetic_assign_of m }
+    ensures { result ≡ is_arithmetic_assign m }
 {
     matches!(
         m,
@@ -220,7 +220,7 @@ pub fn is_arithmetic_assign(m: Punct) -> bool
 
 /// An int.
 pub fn is_int(k: Known) -> bool
-    ensures { result ≡ is_int_of k }
+    ensures { result ≡ is_int k }
 {
     matches!(k, Some(ValueKind::Int))
 }
@@ -260,7 +260,7 @@ fn is_null(k: Known) -> bool
     matches!(k, Some(ValueKind::Null))
 }
 
-/// The kind of a call that answers nothing.
+/// The kind of a call that returns nothing.
 pub fn is_void(k: Known) -> bool
     ensures { result ≡ is_void_of k }
 {
@@ -269,7 +269,7 @@ pub fn is_void(k: Known) -> bool
 
 /// The kind of arithmetic: int of two ints, else long (C11 6.3.1.8).
 pub fn wider(a: Known, b: Known) -> ValueKind
-    ensures { result ≡ wider_of a b }
+    ensures { result ≡ wider a b }
 {
     if is_int(a) && is_int(b) {
         ValueKind::Int
@@ -280,7 +280,7 @@ pub fn wider(a: Known, b: Known) -> ValueKind
 
 /// A value of the second kind may be assigned to the first (C11 6.5.16.1).
 pub fn fits(a: Known, b: Known) -> bool
-    ensures { result ≡ fits_of a b }
+    ensures { result ≡ fits a b }
 {
     (is_integer(a) && is_integer(b))
         || ((is_object(a) && (is_object(b) || is_null(b)))
@@ -288,7 +288,7 @@ pub fn fits(a: Known, b: Known) -> bool
 }
 
 fn comparable(a: Known, b: Known) -> bool
-    ensures { result ≡ comparable_of a b }
+    ensures { result ≡ comparable a b }
 {
     (is_integer(a) && is_integer(b))
         || ((is_object(a) && is_object(b))
@@ -296,14 +296,14 @@ fn comparable(a: Known, b: Known) -> bool
 }
 
 fn joinable(a: Known, b: Known) -> bool
-    ensures { result ≡ joinable_of a b }
+    ensures { result ≡ joinable a b }
 {
     comparable(a, b) || (is_text(a) && is_text(b))
 }
 
 /// The struct of a pointer's kind.
 pub fn struct_part(k: Known) -> Option<Name>
-    ensures { result ≡ struct_part_of k }
+    ensures { result ≡ struct_part k }
 {
     match k {
         Some(ValueKind::Object(name)) => name,
@@ -312,7 +312,7 @@ pub fn struct_part(k: Known) -> Option<Name>
 }
 
 fn has_same(a: Option<Name>, b: Option<Name>) -> bool
-    ensures { result ≡ has_same_of a b }
+    ensures { result ≡ has_same a b }
 {
     match (a, b) {
         (Some(a), Some(b)) => a.0 == b.0,
@@ -320,8 +320,8 @@ fn has_same(a: Option<Name>, b: Option<Name>) -> bool
     }
 }
 
-fn joined(a: Known, b: Known) -> Known
-    ensures { result ≡ joined_of a b }
+fn joined_kind(a: Known, b: Known) -> Known
+    ensures { result ≡ joined_kind a b }
 {
     if is_integer(a) && is_integer(b) {
         Some(wider(a, b))
@@ -340,14 +340,14 @@ fn joined(a: Known, b: Known) -> Known
 
 /// The kind of `++` and `--`.
 pub fn step_kind(place: bool, k: Known) -> Known
-    ensures { result ≡ step_kind_of place k }
+    ensures { result ≡ step_kind place k }
 {
     if place && is_integer(k) { k } else { None }
 }
 
 /// The kind of two operands with a binary operator between, and none where a rule holds there.
 pub fn binary_kind(m: Punct, a: Known, b: Known) -> Known
-    ensures { result ≡ binary_kind_of m a b }
+    ensures { result ≡ binary_kind m a b }
 {
     if is_bits(m) {
         None
@@ -378,7 +378,7 @@ pub fn binary_kind(m: Punct, a: Known, b: Known) -> Known
 
 /// Operands of the wrong kinds.
 pub fn binary_wrong(m: Punct, a: Known, b: Known) -> bool
-    ensures { result ≡ binary_wrong_of m a b }
+    ensures { result ≡ binary_wrong m a b }
 {
     !is_bits(m)
         && (is_void(a)
@@ -389,7 +389,7 @@ pub fn binary_wrong(m: Punct, a: Known, b: Known) -> bool
 
 /// The kind of an assignment, and none where a rule holds there.
 pub fn assign_kind(m: Punct, place: bool, a: Known, b: Known) -> Known
-    ensures { result ≡ assign_kind_of m place a b }
+    ensures { result ≡ assign_kind m place a b }
 {
     if is_bits_assign(m) {
         None
@@ -408,7 +408,7 @@ pub fn assign_kind(m: Punct, place: bool, a: Known, b: Known) -> Known
 
 /// An assignment of the wrong kinds, or to what is no place.
 pub fn assign_wrong(m: Punct, place: bool, a: Known, b: Known) -> bool
-    ensures { result ≡ assign_wrong_of m place a b }
+    ensures { result ≡ assign_wrong m place a b }
 {
     !is_bits_assign(m)
         && ((a.is_some() && (!place && !(is_arithmetic_assign(m) && is_pointer(a))))
@@ -419,10 +419,10 @@ pub fn assign_wrong(m: Punct, place: bool, a: Known, b: Known) -> bool
 
 /// The kind of `?:`, and none where a rule holds there.
 pub fn cond_kind(c: Known, a: Known, b: Known) -> Known
-    ensures { result ≡ cond_kind_of c a b }
+    ensures { result ≡ cond_kind c a b }
 {
     if (c.is_some() && !is_void(c)) && ((a.is_some() && b.is_some()) && joinable(a, b)) {
-        joined(a, b)
+        joined_kind(a, b)
     } else {
         None
     }
@@ -430,21 +430,21 @@ pub fn cond_kind(c: Known, a: Known, b: Known) -> Known
 
 /// Operands of `?:` of the wrong kinds.
 pub fn cond_wrong(c: Known, a: Known, b: Known) -> bool
-    ensures { result ≡ cond_wrong_of c a b }
+    ensures { result ≡ cond_wrong c a b }
 {
     is_void(c) || (is_void(a) || (is_void(b) || ((a.is_some() && b.is_some()) && !joinable(a, b))))
 }
 
 /// One is an integer and the other a pointer.
 pub fn crosses(a: Known, b: Known) -> bool
-    ensures { result ≡ crosses_of a b }
+    ensures { result ≡ crosses a b }
 {
     (is_integer(a) && is_pointer(b)) || (is_pointer(a) && is_integer(b))
 }
 
 /// The kind of a cast, and none where a rule holds there.
 pub fn cast_kind(to: Known, k: Known) -> Known
-    ensures { result ≡ cast_kind_of to k }
+    ensures { result ≡ cast_kind to k }
 {
     if (is_void(to) && k.is_some()) || fits(to, k) {
         to
@@ -455,7 +455,7 @@ pub fn cast_kind(to: Known, k: Known) -> Known
 
 /// A cast of the wrong kind.
 pub fn cast_wrong(to: Known, k: Known) -> bool
-    ensures { result ≡ cast_wrong_of to k }
+    ensures { result ≡ cast_wrong to k }
 {
     to.is_some()
         && (!is_void(to) && (is_void(k) || (k.is_some() && (!crosses(to, k) && !fits(to, k)))))
@@ -463,7 +463,7 @@ pub fn cast_wrong(to: Known, k: Known) -> bool
 
 /// An argument of this kind is what is wanted.
 pub fn want_met(want: Want, is_module: bool, k: Known) -> bool
-    ensures { result ≡ want_met_of want is_module k }
+    ensures { result ≡ want_met want is_module k }
 {
     match want {
         Want::Anything => !is_void(k),

@@ -1,8 +1,8 @@
 // What a type is once typedefs are followed.
 ghost use Rattle.std.specs.Prelude.{◌≡◌};
-ghost use Rattle.pungi_types.specs.Kinds.{words_kind as words_kind_of, listed_kind as listed_kind_of, only as only_of, both as both_of, is_int_key, is_long_key, is_char_key, is_void_key, not_void as not_void_of, is_listed_type as is_listed_type_of};
+ghost use Rattle.pungi_types.specs.Kinds.{words_kind, listed_kind, only, both, is_int_key, is_long_key, is_char_key, is_void_key, not_void, is_listed_type};
 ghost use Rattle.pungi_types.specs.TypesView.{core_view};
-ghost use Rattle.pungi_types.specs.Kinds.{tagged_core as tagged_core_of, written_tag as written_tag_of, written_core as written_core_of};
+ghost use Rattle.pungi_types.specs.Kinds.{tagged_core, written_tag, written_core};
 ghost use Rattle.pungi_tree.specs.ExprView.{base_view};
 
 use crate::ValueKind;
@@ -33,7 +33,7 @@ pub struct Typedef<'a> {
 
 /// The kind of base words with so many stars.
 pub fn words_kind(keys: &[Key], stars: usize) -> Known
-    ensures { result ≡ words_kind_of keys.now stars }
+    ensures { result ≡ words_kind keys.now stars }
 {
     match (keys, stars) {
         ([Key::Int], 0) => Some(ValueKind::Int),
@@ -46,7 +46,7 @@ pub fn words_kind(keys: &[Key], stars: usize) -> Known
 
 /// The kind of a type that is known before a text is read, with so many stars.
 pub fn listed_kind(word: u32, stars: usize) -> Known
-    ensures { result ≡ listed_kind_of word stars }
+    ensures { result ≡ listed_kind word stars }
 {
     if stars == 0 && word == PY_SSIZE_T {
         Some(ValueKind::Size)
@@ -59,7 +59,7 @@ pub fn listed_kind(word: u32, stars: usize) -> Known
 
 /// The kind of what is declared: only a result or a cast may be of kind `Void`.
 pub fn not_void(kind: Known) -> Known
-    ensures { result ≡ not_void_of kind }
+    ensures { result ≡ not_void kind }
 {
     match kind {
         Some(ValueKind::Void) => None,
@@ -69,13 +69,13 @@ pub fn not_void(kind: Known) -> Known
 
 /// Whether a word is the name of a type that is known before a text is read.
 pub fn is_listed_type(word: u32) -> bool
-    ensures { result ≡ is_listed_type_of word }
+    ensures { result ≡ is_listed_type word }
 {
     FIRST_TYPE <= word && !(TYPES_END <= word)
 }
 
 fn tagged_core(fielded: bool, of: Key, name: Name) -> Core<'static>
-    ensures { core_view result ≡ tagged_core_of fielded of name }
+    ensures { core_view result ≡ tagged_core fielded of name }
 {
     match of {
         Key::Struct if name.0 == PY_MODULE_DEF => Core::Listed(name),
@@ -86,7 +86,7 @@ fn tagged_core(fielded: bool, of: Key, name: Name) -> Core<'static>
 
 /// The tag that a type is written with.
 pub fn written_tag(base: &Base) -> Option<Name>
-    ensures { result ≡ written_tag_of (base_view base.now) }
+    ensures { result ≡ written_tag (base_view base.now) }
 {
     match base {
         Base::Tagged {
@@ -100,7 +100,7 @@ pub fn written_tag(base: &Base) -> Option<Name>
 
 /// The type that is written, where no typedef is followed: a struct by its tag only where one with that tag has fields.
 pub fn written_core(fielded: bool, base: &Base) -> Core<'_>
-    ensures { core_view result ≡ written_core_of fielded (base_view base.now) }
+    ensures { core_view result ≡ written_core fielded (base_view base.now) }
 {
     match base {
         Base::Words(keys) => Core::Words(keys.as_slice()),

@@ -1,6 +1,6 @@
 //! Words that are kept to be found again, and those of the built-in statics.
 ghost use Rattle.std.specs.Prelude.{◌≡◌, OnOk};
-ghost use Rattle.pungi_types.specs.Names.{is_among, with_word, is_built_in_static as is_built_in_static_of};
+ghost use Rattle.pungi_types.specs.Names.{is_among, with_word, is_built_in_static};
 
 use crate::type_words::{FIRST_STATIC, STATICS_END};
 use indexmap::IndexSet;
@@ -23,7 +23,7 @@ pub fn keep(words: &mut IndexSet<u32>, word: u32) -> Result<(), Memory>
 
 /// Whether a word names a static that is there whatever a file declares.
 pub fn is_built_in_static(word: u32) -> bool
-    ensures { result ≡ is_built_in_static_of word }
+    ensures { result ≡ is_built_in_static word }
 {
     FIRST_STATIC <= word && !(STATICS_END <= word)
 }

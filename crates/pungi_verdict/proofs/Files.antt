@@ -21,13 +21,13 @@ use Rattle.pungi_resolve.specs.Resolutions.{resolution_of, resolution_view, IsRe
 use Rattle.pungi_types.specs.Refused.{CheckedFile}
 use Rattle.pungi_code.specs.declared.code.Code.{Code}
 use Rattle.pungi_code.specs.declared.code.Codes.{Codes}
-use Rattle.pungi_code.specs.Run.{code_at, joined}
+use Rattle.pungi_code.specs.Run.{code_at, flatten}
 use Rattle.pungi_code.specs.WellFormed.{AreWellFormed}
 use Rattle.pungi_layout.specs.code.Codes.{code_for}
 use Rattle.pungi_lower.specs.Lowered.{codes_of, names_of, IsLowered, AreLowered}
 use Rattle.pungi_explore.specs.Explored.{IsFew, IsMany}
 use Rattle.pungi_verdict.specs.Replays.{IsGiven}
-use Rattle.pungi_verdict.specs.Verdicts.{IsRight, IsShown, object_code, statics_of, file_codes, HasFewTraces, HasManyTraces, IsTold, IsVerdict, IsJudged}
+use Rattle.pungi_verdict.specs.Verdicts.{IsRight, IsShown, object_code, statics_of, file_codes, HasFewTraces, HasManyTraces, IsReported, IsVerdict, IsJudged}
 use Rattle.pungi_verdict.proofs.Forms.{object-is}
 
 -- ---- the function and the code of a place
@@ -90,7 +90,7 @@ code-here c i d is none =
     mapped-at (resolution_of c.file c.refused) (definitions c.file.items) i d is ∙ ap (λ (o : Option ResolvedFunction). Some o) (resolution-is c d none) in
     mapped-at code_for (map (resolution_of c.file c.refused) (definitions c.file.items)) i (Some (resolved c.file c.refused d)) first
 
-joined-is : (o : Option (Option Code)) (code : Code) → joined o ≡ Some code → o ≡ Some (Some code)
+joined-is : (o : Option (Option Code)) (code : Code) → flatten o ≡ Some code → o ≡ Some (Some code)
 joined-is None code e = absurd (cc)
 joined-is (Some o) code e = ap (λ (x : Option Code). Some x) e
 
@@ -129,13 +129,13 @@ judged-verdict c codes i d f v same at none is h =
     subst (λ (cs : Codes). IsShown cs.statics f (IsFew cs i) (IsMany cs i) (object_code cs.statics (code_at cs i)) v) same h in
     let of_it : IsShown n g (IsFew (file_codes c) i) (IsMany (file_codes c) i) (object_code n (code_at (file_codes c) i)) v =
     subst (λ (x : ResolvedFunction). IsShown n x (IsFew (file_codes c) i) (IsMany (file_codes c) i) (object_code n (code_at (file_codes c) i)) v) is in_file in
-    let its_code : code_at (file_codes c) i ≡ code_for (Some g) = ap joined (code-here c i d at none) in
+    let its_code : code_at (file_codes c) i ≡ code_for (Some g) = ap flatten (code-here c i d at none) in
     let by_code : IsShown n g (IsFew (file_codes c) i) (IsMany (file_codes c) i) (object_code n (code_for (Some g))) v =
     subst (λ (o : Option Code). IsShown n g (IsFew (file_codes c) i) (IsMany (file_codes c) i) (object_code n o) v) its_code of_it in
     let shown : IsShown n g (HasFewTraces c d) (HasManyTraces c d) (object_code n (code_for (Some g))) v =
     shown-more n g (IsFew (file_codes c) i) (HasFewTraces c d) (IsMany (file_codes c) i) (HasManyTraces c d) (object_code n (code_for (Some g))) v
     (λ few. record { place = i; is = at; few = few }) (λ many. record { place = i; is = at; many = many }) by_code in
-    subst (λ (o : Option Finding). IsTold c d o v) (sym none) shown
+    subst (λ (o : Option Finding). IsReported c d o v) (sym none) shown
 
 -- the finding of the function at a place
 pub finding-here : (c : CheckedFile) (fs : List (Option Finding)) (i : ℕ) (o : Option Finding) → fs ≡ map (refusal c.file c.refused) (definitions c.file.items) → i < length (definitions c.file.items)
@@ -148,7 +148,7 @@ finding-here c fs i o same lt is d at =
     same-some (refusal c.file c.refused d) o (sym there ∙ ap (λ (l : List (Option Finding)). slice_get l i) (sym same) ∙ here)
 
 pub refused-verdict : (c : CheckedFile) (e : Finding) (d : Definition) → refusal c.file c.refused d ≡ Some e → IsVerdict c d (verdict.Refused e.pos e.rule)
-refused-verdict c e d found = subst (λ (o : Option Finding). IsTold c d o (verdict.Refused e.pos e.rule)) (sym found) refl
+refused-verdict c e d found = subst (λ (o : Option Finding). IsReported c d o (verdict.Refused e.pos e.rule)) (sym found) refl
 
 -- the definition at a place
 pub defined-at : (ds : List Definition) (i : ℕ) → i < length ds → (d : Definition) × (slice_get ds i ≡ Some d)

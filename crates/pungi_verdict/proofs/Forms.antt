@@ -23,7 +23,7 @@ is-zero n e = grind (arith, nat_tests)
 pub flat : (n : ℕ) (code : Code) → is_object_code n code ≡ true → length code.heads ≡ 0
 flat n code e = is-zero (length code.heads) (and-left (has_no_head code) (has_object_form n code && (has_pointers code && are_signed None code.instrs)) e)
 
--- its instructions are told
+-- its instructions are known
 pub formed : (n : ℕ) (code : Code) → is_object_code n code ≡ true → has_object_form n code ≡ true
 formed n code e =
     and-left (has_object_form n code) (has_pointers code && are_signed None code.instrs)

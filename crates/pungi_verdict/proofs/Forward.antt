@@ -17,14 +17,14 @@ use Rattle.pungi_world.specs.declared.world.World.{World}
 use Rattle.pungi_world.specs.Slots.{load_effect, store_effect}
 use Rattle.pungi_world.specs.Calls.{call_effect}
 use Rattle.pungi_meaning.specs.Values.{fits, arithmetic, is_true, number_of}
-use Rattle.pungi_meaning.specs.Run.{Run, over, Stopped}
+use Rattle.pungi_meaning.specs.Run.{Run, end_at_once, Stopped}
 use Rattle.pungi_code.specs.declared.code.Head.{Head}
 use Rattle.pungi_code.specs.declared.code.Line.{Line}
 use Rattle.pungi_code.specs.declared.instr.Instr.{Instr}
 use Rattle.pungi_code.specs.declared.instr.Instr.TheVariants.{Set, Arith, Fit, Compare, Load, Store, Api, Call, Unset, Jump, Branch, Return, Fall}
 use Rattle.pungi_code.specs.Alike.{IsOver}
-use Rattle.pungi_code.specs.Perform.{computing, slot_of, with_slot, perform}
-use Rattle.pungi_code.specs.Registers.{Regs, Next, content_of, with_value, all_values, with_values, left, reacting}
+use Rattle.pungi_code.specs.Perform.{with_number, slot_of, with_slot, perform}
+use Rattle.pungi_code.specs.Registers.{Regs, Next, content_of, with_value, all_values, with_values, choices_left, after_effect}
 use Rattle.pungi_code.specs.Run.{fetch, exec}
 use Rattle.pungi_code.specs.WellFormed.{goes_back}
 
@@ -42,11 +42,11 @@ values-over : (o : Option (List Value)) (p : Pos) (go : List Value → Run) → 
 values-over None p go h = tt
 values-over (Some vs) p go h = h vs
 
-computing-over : (o : Option ℤ) (p : Pos) (go : ℤ → Run) → ((n : ℤ) → IsOver (go n).end) → IsOver (computing p o go).end
+computing-over : (o : Option ℤ) (p : Pos) (go : ℤ → Run) → ((n : ℤ) → IsOver (go n).end) → IsOver (with_number p o go).end
 computing-over None p go h = tt
 computing-over (Some n) p go h = h n
 
-if-over : (b : Bool) (r : Run) (p : Pos) → IsOver r.end → IsOver (if b then r else over (Stopped p)).end
+if-over : (b : Bool) (r : Run) (p : Pos) → IsOver r.end → IsOver (if b then r else end_at_once (Stopped p)).end
 if-over true r p h = h
 if-over false r p h = tt
 
@@ -54,7 +54,7 @@ slot-over : (s : Option (Slot × Param)) (p : Pos) (go : Slot → Param → Run)
 slot-over None p go h = tt
 slot-over (Some x) p go h = h x.0 x.1
 
-reacting-over : (r : Result (Effect × World) Halt) (p : Pos) (m : Regs) (go : Effect → Regs → Run) → ((e : Effect) (q : Regs) → IsOver (go e q).end) → IsOver (reacting p r m go).end
+reacting-over : (r : Result (Effect × World) Halt) (p : Pos) (m : Regs) (go : Effect → Regs → Run) → ((e : Effect) (q : Regs) → IsOver (go e q).end) → IsOver (after_effect p r m go).end
 reacting-over (Ok r) p m go h = h r.0 _
 reacting-over (Err halt.Stopped) p m go h = tt
 reacting-over (Err halt.NeedsChoice) p m go h = tt
@@ -84,11 +84,11 @@ perform-over choices go (Arith x kind o a c) p pc m h b =
     value-over (content_of a m.vars) p _ (λ v. value-over (content_of c m.vars) p _ (λ w. computing-over (arithmetic o kind (number_of v) (number_of w)) p _ (λ n. h (pc + 1) _ (next-later pc))))
 perform-over choices go (Fit x kind a) p pc m h b = value-over (content_of a m.vars) p _ (λ v. if-over (fits kind (number_of v)) _ p (h (pc + 1) _ (next-later pc)))
 perform-over choices go (Compare x c a d) p pc m h b = value-over (content_of a m.vars) p _ (λ v. value-over (content_of d m.vars) p _ (λ w. h (pc + 1) _ (next-later pc)))
-perform-over choices go (Load x place) p pc m h b = slot-over (slot_of place m.vars) p _ (λ s k. reacting-over (load_effect m.world s k (left choices m)) p m _ (λ e r. h (pc + 1) _ (next-later pc)))
+perform-over choices go (Load x place) p pc m h b = slot-over (slot_of place m.vars) p _ (λ s k. reacting-over (load_effect m.world s k (choices_left choices m)) p m _ (λ e r. h (pc + 1) _ (next-later pc)))
 perform-over choices go (Store place a) p pc m h b =
-    value-over (content_of a m.vars) p _ (λ v. slot-over (slot_of place m.vars) p _ (λ s k. reacting-over (store_effect m.world s k v (left choices m)) p m _ (λ e r. h (pc + 1) _ (next-later pc))))
+    value-over (content_of a m.vars) p _ (λ v. slot-over (slot_of place m.vars) p _ (λ s k. reacting-over (store_effect m.world s k v (choices_left choices m)) p m _ (λ e r. h (pc + 1) _ (next-later pc))))
 perform-over choices go (Api x shape as' outs) p pc m h b =
-    values-over (all_values as' m.vars) p _ (λ vs. reacting-over (call_effect m.world shape vs (left choices m)) p m _ (λ e r. h (pc + 1) _ (next-later pc)))
+    values-over (all_values as' m.vars) p _ (λ vs. reacting-over (call_effect m.world shape vs (choices_left choices m)) p m _ (λ e r. h (pc + 1) _ (next-later pc)))
 perform-over choices go (Call x f as') p pc m h b = tt
 perform-over choices go (Unset x) p pc m h b = h (pc + 1) _ (next-later pc)
 perform-over choices go (Jump to) p pc m h b = h to.0 m (jump-later pc to.0 b)

@@ -15,7 +15,7 @@ use Rattle.pungi_resolved.specs.Functions.{ResolvedFunction}
 use Rattle.pungi_types.specs.Refused.{CheckedFile}
 use Rattle.pungi_code.specs.declared.code.Code.{Code}
 use Rattle.pungi_layout.specs.code.Codes.{code_for}
-use Rattle.pungi_verdict.specs.Verdicts.{IsRight, IsShown, object_code, statics_of, HasFewTraces, HasManyTraces, IsTold, IsJudged, IsReportable}
+use Rattle.pungi_verdict.specs.Verdicts.{IsRight, IsShown, object_code, statics_of, HasFewTraces, HasManyTraces, IsReported, IsJudged, IsReportable}
 
 refused-reportable : (v : Verdict) (at : Pos) (rule : Rule) → v ≡ verdict.Refused at rule → IsReportable v
 refused-reportable v at rule is = subst (λ (x : Verdict). IsReportable x) (sym is) tt
@@ -30,7 +30,7 @@ shown-reportable : (n : ℕ) (f : ResolvedFunction) (few many : Type 0) (o : Opt
 shown-reportable n f few many None v shown = refused-reportable v f.pos (record { 0 = 0 }) shown
 shown-reportable n f few many (Some code) v shown = right-reportable n f few many v shown
 
-told-reportable : (c : CheckedFile) (d : Definition) (o : Option Finding) (v : Verdict) → IsTold c d o v → IsReportable v
+told-reportable : (c : CheckedFile) (d : Definition) (o : Option Finding) (v : Verdict) → IsReported c d o v → IsReportable v
 told-reportable c d (Some e) v told = refused-reportable v e.pos e.rule told
 told-reportable c d None v told =
     let f = resolved c.file c.refused d in

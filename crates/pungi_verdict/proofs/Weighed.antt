@@ -10,7 +10,7 @@ use Rattle.pungi_world.specs.Escapes.{IsBalanced}
 use Rattle.pungi_meaning.specs.Run.{Returned, Stopped, NeedsChoice, OutOfFuel, run_of}
 use Rattle.pungi_code.specs.declared.code.Code.{Code}
 use Rattle.pungi_verdict.specs.Replays.{IsUneven}
-use Rattle.pungi_verdict.specs.Verdicts.{TellsLowest, IsReturnOf}
+use Rattle.pungi_verdict.specs.Verdicts.{ReportsLowest, IsReturnOf}
 
 -- ---- a return is one return
 
@@ -40,7 +40,7 @@ not-out w v p us e = absurd (cc)
 
 pub told : (f : ResolvedFunction) (code : Code) (w : Witness) (u : IsUneven code w) (steps : ℕ) (world : World) (value : Option Value) (p : Pos) (used : List Pos) (fault : Fault)
     → (run_of f w.input w.choices steps).end ≡ Returned world value p used → Returned world value p used ≡ Returned u.world u.value u.at u.used
-    → fault.witness ≡ w → fault.pos ≡ p → fault.used ≡ used → TellsLowest world value fault → IsReturnOf f fault
+    → fault.witness ≡ w → fault.pos ≡ p → fault.used ≡ used → ReportsLowest world value fault → IsReturnOf f fault
 told f code w u steps world value p used fault run same witness place places h = record {
   steps = steps;
   world = world;

@@ -1,4 +1,4 @@
--- The object form of a function: the codes whose runs are told apart by a bounded number of traces.
+-- The object form of a function: the codes whose runs are distinguished by a bounded number of traces.
 --   is_minus o, is_zero a       the operator that takes away; the constant 0
 --   constant_of i               the variable that an instruction sets to a number
 --   is_constant before a        an atom is the variable that was set to a number right before

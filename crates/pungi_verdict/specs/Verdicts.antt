@@ -1,14 +1,15 @@
 -- Which verdict is right for a function of a checked file.
 --   IsClean n f                 each run that returns, from each entry and with each list of choices, returns balanced, where there are n static objects
---   TellsLowest w v fault       where this value is returned in this world, a fault tells the lowest object that isn't level, with its change and escapes
+--   ReportsLowest w v fault     where this value is returned in this world, a fault names the lowest object that isn't
+--                               level, with its change and escapes
 --   IsReturnOf f fault          the run of a fault returns, and is not balanced
 --   IsFaultOf n f fault         so does it, from an entry of the function
 --   statics_of c, file_codes c  the static objects of a file; its codes
---   HasFewTraces, HasManyTraces c d   the code of a function has at most as many traces as are looked at; it has more
+--   HasFewTraces, HasManyTraces c d   the code of a function has at most as many traces as are explored; it has more
 --   IsRight n f few many v      a verdict is right for a function of the object form; few and many say how many traces it has
 --   object_code n o             a code, where it has the object form
 --   IsShown n f few many o v    a verdict is right for a function with this code of the object form; without one it is refused at its name, by rule 0
---   IsTold c d e v              so is one of which this finding is told: it is refused at the finding
+--   IsReported c d e v          so is one that has this finding: it is refused at the finding
 --   IsVerdict c d v             a verdict is right for a function
 --   IsJudged c d line           a line has the name of a function, and a verdict that is right for it
 --   IsReportable v              a verdict can be reported: a fault has a place for each of its choices, and no reason names a function
@@ -47,21 +48,22 @@ abbrev pub IsClean : ℕ → ResolvedFunction → Type 0
 IsClean n f = (entry : Entry) → entry_fits f.params n entry ≡ true → (choices : List Choice) (steps : ℕ) (world : World) (value : Option Value) (p : Pos) (used : List Pos)
     → (run_of f entry choices steps).end ≡ Returned world value p used → IsBalanced world value
 
-pub record TellsLowest (world : World) (value : Option Value) (fault : Fault) : Type 0 where
+pub record ReportsLowest (world : World) (value : Option Value) (fault : Fault) : Type 0 where
   pub object : fault.object < length world.accounts
   pub change : fault.change ≡ (account_of world fault.object).change
   pub escaped : fault.escaped ≡ escaped_of world fault.object value
   pub differ : fault.change ≢ fault.escaped
   pub lowest : (k : ℕ) → k < fault.object → IsLevel world value k
 
--- It returns where the fault says, after each choice was used where the fault says, and the fault tells the lowest object that isn't level.
+-- It returns where the fault says, after each choice was used where the fault says, and the fault names the lowest
+-- object that isn't level.
 pub record IsReturnOf (f : ResolvedFunction) (fault : Fault) : Type 0 where
   pub steps : ℕ
   pub world : World
   pub value : Option Value
   pub run : (run_of f fault.witness.input fault.witness.choices steps).end ≡ Returned world value fault.pos fault.used
   pub all_used : length fault.used ≡ length fault.witness.choices
-  pub told : TellsLowest world value fault
+  pub told : ReportsLowest world value fault
 
 pub record IsFaultOf (n : ℕ) (f : ResolvedFunction) (fault : Fault) : Type 0 where
   pub entry : entry_fits f.params n fault.witness.input ≡ true
@@ -101,13 +103,13 @@ pub record HasManyTraces (c : CheckedFile) (d : Definition) : Type 0 where
   pub is : slice_get (definitions c.file.items) place ≡ Some d
   pub many : IsMany (file_codes c) place
 
-abbrev pub IsTold : CheckedFile → Definition → Option Finding → Verdict → Type 0
-IsTold c d (Some e) v = v ≡ verdict.Refused e.pos e.rule
-IsTold c d None v =
+abbrev pub IsReported : CheckedFile → Definition → Option Finding → Verdict → Type 0
+IsReported c d (Some e) v = v ≡ verdict.Refused e.pos e.rule
+IsReported c d None v =
     IsShown (statics_of c) (resolved c.file c.refused d) (HasFewTraces c d) (HasManyTraces c d) (object_code (statics_of c) (code_for (Some (resolved c.file c.refused d)))) v
 
 abbrev pub IsVerdict : CheckedFile → Definition → Verdict → Type 0
-IsVerdict c d v = IsTold c d (refusal c.file c.refused d) v
+IsVerdict c d v = IsReported c d (refusal c.file c.refused d) v
 
 abbrev pub IsJudged : CheckedFile → Definition → Name × Verdict → Type 0
 IsJudged c d line = (line.0 ≡ d.name) × IsVerdict c d line.1

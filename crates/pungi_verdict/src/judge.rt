@@ -7,7 +7,7 @@ ghost use Rattle.pungi_code.specs.Run.{code_at};
 ghost use Rattle.pungi_code.specs.WellFormed.{AreWellFormed};
 ghost use Rattle.pungi_lower.specs.Lowered.{AreLowered};
 ghost use Rattle.pungi_resolved.specs.ActionView.{function_view};
-ghost use Rattle.pungi_types.specs.Files.{Definition, definitions as definitions_of};
+ghost use Rattle.pungi_types.specs.Files.{Definition, definitions};
 ghost use Rattle.pungi_explore.specs.Explored.{IsFew, IsMany};
 ghost use Rattle.pungi_verdict.specs.Replays.{IsGiven};
 ghost use Rattle.pungi_verdict.specs.Verdicts.{IsRight, IsShown, object_code, file_codes, IsVerdict, IsJudged, IsReportable};
@@ -62,12 +62,12 @@ fn judge(alloc: Global, codes: &Codes, i: usize, f: &Function) -> Result<Verdict
 
 /// The verdict on a function of a file.
 fn verdict(alloc: Global, checked: &Checked<'_>, codes: &Codes, i: usize) -> Result<Verdict, Memory>
-    requires there { i < length (definitions_of (checked_view checked.now).file.items) }
+    requires there { i < length (definitions (checked_view checked.now).file.items) }
     requires checked { IsChecked checked.now }
     requires codes { codes.now ≡ file_codes (checked_view checked.now) }
     requires lowered { AreLowered (checked_view checked.now) codes.now.codes }
     requires formed { AreWellFormed codes.now }
-    ensures { IfOk result (λ v. (d : Definition) → slice_get (definitions_of (checked_view checked.now).file.items) i ≡ Some d → IsVerdict (checked_view checked.now) d v) }
+    ensures { IfOk result (λ v. (d : Definition) → slice_get (definitions (checked_view checked.now).file.items) i ≡ Some d → IsVerdict (checked_view checked.now) d v) }
 {
     match checked.refusals[i] {
         Some(finding) => Ok(Verdict::Refused(finding.pos, finding.rule)),
@@ -85,12 +85,12 @@ fn verdicts(
     codes: &Codes,
     names: &[Name],
 ) -> Result<Vec<(Name, Verdict)>, Memory>
-    requires named { names.now ≡ map (λ d. d.name) (definitions_of (checked_view checked.now).file.items) }
+    requires named { names.now ≡ map (λ d. d.name) (definitions (checked_view checked.now).file.items) }
     requires checked { IsChecked checked.now }
     requires codes { codes.now ≡ file_codes (checked_view checked.now) }
     requires lowered { AreLowered (checked_view checked.now) codes.now.codes }
     requires formed { AreWellFormed codes.now }
-    ensures { IfOk result (λ lines. AllZip (IsJudged (checked_view checked.now)) (definitions_of (checked_view checked.now).file.items) lines.items) }
+    ensures { IfOk result (λ lines. AllZip (IsJudged (checked_view checked.now)) (definitions (checked_view checked.now).file.items) lines.items) }
 {
     let mut lines = Vec::new(alloc);
     for (i, name) in names.iter().enumerate() {
@@ -120,12 +120,12 @@ fn codes(alloc: Global, checked: &Checked<'_>) -> Result<Codes, Memory>
 
 /// The verdict on each function of a checked file, by its name, in the order of the file. A function in which a rule holds
 /// is refused by the rule. Of the others only those are judged whose code has the object form: a clean one has no run that
-/// returns and isn't balanced, from any entry and with any answers of the outside, and at most 16,384 traces; a faulty one has the run of its fault,
-/// which reports the lowest object whose change there differs from its escapes; of one that is neither there are more than
-/// 16,384 traces. Each verdict can be reported.
+/// returns and isn't balanced, from any entry and with any choices, and at most 16,384 traces; a faulty one has the run
+/// of its fault, which reports the lowest object whose change there differs from its escapes; of one that is neither
+/// there are more than 16,384 traces. Each verdict can be reported.
 pub fn judge_all(alloc: Global, checked: &Checked<'_>) -> Result<Vec<(Name, Verdict)>, Memory>
     requires { IsChecked checked.now }
-    ensures judged { IfOk result (λ lines. AllZip (IsJudged (checked_view checked.now)) (definitions_of (checked_view checked.now).file.items) lines.items) }
+    ensures judged { IfOk result (λ lines. AllZip (IsJudged (checked_view checked.now)) (definitions (checked_view checked.now).file.items) lines.items) }
     ensures reportable { IfOk result (λ lines. All (λ line. IsReportable line.1) lines.items) }
 {
     let codes = codes(alloc, checked)?;

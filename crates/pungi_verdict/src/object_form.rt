@@ -2,8 +2,8 @@
 ghost use Rattle.std.specs.Prelude.{◌≡◌, ◌≤◌, None, length, take};
 ghost use Rattle.std.specs.List.{list_all};
 ghost use Rattle.pungi_code.specs.WellFormed.{place_kind};
-ghost use Rattle.pungi_symbol.specs.runs.ObjectForm.{atoms_in, atoms_of, is_there as is_there_of, is_pointer as is_pointer_of, is_pointer_param, is_small as is_small_of, has_small as has_small_of, is_told_here, is_object_instr as is_object_instr_of, has_object_form as has_object_form_of};
-ghost use Rattle.pungi_verdict.specs.ObjectForm.{is_minus as is_minus_of, is_zero as is_zero_of, constant_of, is_constant as is_constant_of, is_signed as is_signed_of, are_signed as are_signed_of, is_object_code as is_object_code_of};
+ghost use Rattle.pungi_symbol.specs.runs.ObjectForm.{atoms_in, atoms_of, is_there, is_pointer, is_pointer_param, is_small, has_small, is_known_here, is_object_instr, has_object_form};
+ghost use Rattle.pungi_verdict.specs.ObjectForm.{is_minus, is_zero, constant_of, is_constant, is_signed, are_signed, is_object_code};
 
 use pungi_api::{Answer, Form, Param, Row};
 use pungi_code::{Atom, Code, Instr, Line, Place};
@@ -12,7 +12,7 @@ use pungi_meaning::Op;
 // ---- what an instruction takes
 
 fn is_there(statics: u32, atom: Atom) -> bool
-    ensures { result ≡ is_there_of statics atom }
+    ensures { result ≡ is_there statics atom }
 {
     match atom {
         Atom::Static(k) => k < statics,
@@ -21,13 +21,13 @@ fn is_there(statics: u32, atom: Atom) -> bool
 }
 
 fn are_there(statics: u32, atoms: &[Atom]) -> bool
-    ensures { result ≡ list_all (is_there_of statics) atoms.now }
+    ensures { result ≡ list_all (is_there statics) atoms.now }
 {
     atoms.iter().all(|atom| is_there(statics, *atom))
 }
 
 fn is_base_there(statics: u32, place: &Place) -> bool
-    ensures { result ≡ list_all (is_there_of statics) (atoms_in place.now) }
+    ensures { result ≡ list_all (is_there statics) (atoms_in place.now) }
 {
     match place {
         Place::Global(_, _) => true,
@@ -37,7 +37,7 @@ fn is_base_there(statics: u32, place: &Place) -> bool
 
 /// Whether each static object that an instruction takes is there.
 fn takes_there(statics: u32, instr: &Instr) -> bool
-    ensures { result ≡ list_all (is_there_of statics) (atoms_of instr.now) }
+    ensures { result ≡ list_all (is_there statics) (atoms_of instr.now) }
 {
     match instr {
         Instr::Set(_, a) | Instr::Fit(_, _, a) | Instr::Branch(a, _, _) | Instr::Return(Some(a)) =>
@@ -52,10 +52,10 @@ fn takes_there(statics: u32, instr: &Instr) -> bool
     }
 }
 
-// ---- what an instruction asks
+// ---- what an instruction requires
 
 fn is_pointer(kind: Param) -> bool
-    ensures { result ≡ is_pointer_of kind }
+    ensures { result ≡ is_pointer kind }
 {
     match kind {
         Param::Object | Param::ObjectOrNull | Param::Text | Param::TextOrNull => true,
@@ -64,7 +64,7 @@ fn is_pointer(kind: Param) -> bool
 }
 
 fn is_pointer_slot(place: &Place) -> bool
-    ensures { result ≡ is_pointer_of (place_kind place.now) }
+    ensures { result ≡ is_pointer (place_kind place.now) }
 {
     match place {
         Place::Global(_, kind) | Place::Field(_, _, _, kind) => is_pointer(*kind),
@@ -72,7 +72,7 @@ fn is_pointer_slot(place: &Place) -> bool
 }
 
 fn is_small(answer: Answer) -> bool
-    ensures { result ≡ is_small_of answer }
+    ensures { result ≡ is_small answer }
 {
     match answer {
         Answer::Size | Answer::Int | Answer::Long => false,
@@ -88,7 +88,7 @@ fn is_small(answer: Answer) -> bool
 }
 
 fn has_small(row: &Row) -> bool
-    ensures { result ≡ has_small_of row.now.form row.now }
+    ensures { result ≡ has_small row.now.form row.now }
 {
     match row.form {
         Form::Plain => is_small(row.answer),
@@ -97,8 +97,8 @@ fn has_small(row: &Row) -> bool
 }
 
 /// Whether each integer that an instruction brings in is known, and it calls no function of the file.
-fn is_told(instr: &Instr) -> bool
-    ensures { result ≡ is_told_here instr.now }
+fn is_known_here(instr: &Instr) -> bool
+    ensures { result ≡ is_known_here instr.now }
 {
     match instr {
         Instr::Load(_, place) | Instr::Store(place, _) => is_pointer_slot(place),
@@ -109,13 +109,13 @@ fn is_told(instr: &Instr) -> bool
 }
 
 fn is_object_instr(statics: u32, instr: &Instr) -> bool
-    ensures { result ≡ is_object_instr_of statics instr.now }
+    ensures { result ≡ is_object_instr statics instr.now }
 {
-    is_told(instr) && takes_there(statics, instr)
+    is_known_here(instr) && takes_there(statics, instr)
 }
 
 fn are_object_instrs(statics: u32, lines: &[Line]) -> bool
-    ensures { result ≡ list_all (λ line. is_object_instr_of statics line.instr) lines.now }
+    ensures { result ≡ list_all (λ line. is_object_instr statics line.instr) lines.now }
 {
     lines
         .iter()
@@ -125,7 +125,7 @@ fn are_object_instrs(statics: u32, lines: &[Line]) -> bool
 // ---- signs
 
 fn is_minus(op: Op) -> bool
-    ensures { result ≡ is_minus_of op }
+    ensures { result ≡ is_minus op }
 {
     match op {
         Op::Sub => true,
@@ -134,7 +134,7 @@ fn is_minus(op: Op) -> bool
 }
 
 fn is_zero(atom: Atom) -> bool
-    ensures { result ≡ is_zero_of atom }
+    ensures { result ≡ is_zero atom }
 {
     match atom {
         Atom::Int(n) => n == 0,
@@ -153,7 +153,7 @@ fn constant(instr: &Instr) -> Option<u32>
 }
 
 fn is_constant(before: Option<u32>, atom: Atom) -> bool
-    ensures { result ≡ is_constant_of before atom }
+    ensures { result ≡ is_constant before atom }
 {
     match (before, atom) {
         (Some(x), Atom::Var(y)) => x == y.0,
@@ -163,7 +163,7 @@ fn is_constant(before: Option<u32>, atom: Atom) -> bool
 
 /// Whether an instruction does no arithmetic but a sign before the number that was set right before it.
 fn is_signed(before: Option<u32>, instr: &Instr) -> bool
-    ensures { result ≡ is_signed_of before instr.now }
+    ensures { result ≡ is_signed before instr.now }
 {
     match instr {
         Instr::Arith(_, _, op, a, b) => is_minus(*op) && is_zero(*a) && is_constant(before, *b),
@@ -172,7 +172,7 @@ fn is_signed(before: Option<u32>, instr: &Instr) -> bool
 }
 
 fn are_signed(lines: &[Line]) -> bool
-    ensures { result ≡ are_signed_of None lines.now }
+    ensures { result ≡ are_signed None lines.now }
 {
     let mut before = None;
     for line in lines {
@@ -203,7 +203,7 @@ fn are_pointers(kinds: &[Param], count: usize) -> bool
 }
 
 fn has_object_form(statics: u32, code: &Code) -> bool
-    ensures { result ≡ has_object_form_of statics code.now }
+    ensures { result ≡ has_object_form statics code.now }
 {
     are_pointers(code.vars.as_slice(), code.params as usize)
         && are_object_instrs(statics, code.instrs.as_slice())
@@ -211,7 +211,7 @@ fn has_object_form(statics: u32, code: &Code) -> bool
 
 /// Whether a code has the object form: no loop, locals that are pointers, no integer that isn't known, and no arithmetic.
 pub fn is_object_code(statics: u32, code: &Code) -> bool
-    ensures { result ≡ is_object_code_of statics code.now }
+    ensures { result ≡ is_object_code statics code.now }
 {
     code.heads.is_empty()
         && has_object_form(statics, code)

@@ -5,7 +5,7 @@ ghost use Rattle.pungi_world.specs.Escapes.{IsBalanced, IsCountable, IsLevel};
 ghost use Rattle.pungi_code.specs.WellFormed.{IsWellFormed};
 ghost use Rattle.pungi_layout.specs.alike.Correct.{Behaves};
 ghost use Rattle.pungi_verdict.specs.Replays.{IsUneven};
-ghost use Rattle.pungi_verdict.specs.Verdicts.{TellsLowest, IsReturnOf};
+ghost use Rattle.pungi_verdict.specs.Verdicts.{ReportsLowest, IsReturnOf};
 
 use pungi_base::{Fault, Memory, Pos, Seq, Value, Witness};
 use pungi_code::Code;
@@ -23,7 +23,7 @@ fn fuel(code: &Code) -> u32
 }
 
 /// The lowest object whose change differs from its escapes.
-fn uneven(world: &World, value: Option<Value>) -> u32
+fn uneven_object(world: &World, value: Option<Value>) -> u32
     requires countable { IsCountable world.now }
     requires off { IsBalanced world.now value → ⊥ }
     ensures there { result < length world.now.accounts }
@@ -43,9 +43,9 @@ fn weigh(witness: Witness, world: World, value: Option<Value>, pos: Pos, used: V
     ensures witness { result.witness ≡ witness }
     ensures place { result.pos ≡ pos }
     ensures places { result.used ≡ used.items }
-    ensures told { TellsLowest world value result }
+    ensures told { ReportsLowest world value result }
 {
-    let object = uneven(&world, value);
+    let object = uneven_object(&world, value);
     let change = world.accounts.as_slice()[object as usize].change;
     let escaped = world.escaped(object, value);
     Fault {

@@ -20,10 +20,10 @@ use Rattle.pungi_world.specs.declared.effect.Effect.{Effect}
 use Rattle.pungi_world.specs.declared.halt.Halt.{Halt}
 use Rattle.pungi_world.specs.declared.halt.Halt.TheVariants.{Stopped, NeedsChoice}
 use Rattle.pungi_world.specs.declared.world.World.{World}
-use Rattle.pungi_world.specs.Counts.{with_value, counted_value, handed_over, IsWithin, AreWithin}
+use Rattle.pungi_world.specs.Counts.{with_value, count_value, hand_over, IsWithin, AreWithin}
 use Rattle.pungi_world.specs.Effects.{◌>>=◌, effect}
-use Rattle.pungi_world.specs.Choices.{chosen, answer_of}
-use Rattle.pungi_world.specs.Calls.{lacks, stops, answered, is_taken, is_success, taken_over, plain_world, plain_effect, first_of, counting, special_effect, form_effect, call_effect}
+use Rattle.pungi_world.specs.Choices.{choose, answer_of}
+use Rattle.pungi_world.specs.Calls.{lacks, stops, with_new_reference, is_taken, is_success, take_over, plain_world, plain_effect, first_of, change_count, special_effect, form_effect, call_effect}
 use Rattle.pungi_world.specs.Follows.{Follows}
 use Rattle.pungi_world.proofs.FollowLemmas.{follows_then, follows_later, follows_self, follows_counted, follows_handed, follows_there}
 
@@ -35,24 +35,24 @@ down = (omega (arith, ints), omega (arith, ints))
 
 -- ---- arguments that are taken over
 
-follows_if_taken : (b : Bool) (w : World) (x : Value) → Follows w (if b then handed_over w x else w) 0 0 1
+follows_if_taken : (b : Bool) (w : World) (x : Value) → Follows w (if b then hand_over w x else w) 0 0 1
 follows_if_taken true w x = follows_handed w x
 follows_if_taken false w x = follows_later w w 0 0 0 0 0 1 (omega arith) (omega arith) (omega arith) (follows_self w)
 
-follows_taken : (w : World) (success : Bool) (takes : List Take) (args : List Value) → Follows w (taken_over w success takes args) 0 0 (length args)
+follows_taken : (w : World) (success : Bool) (takes : List Take) (args : List Value) → Follows w (take_over w success takes args) 0 0 (length args)
 follows_taken w success [] args = follows_later w w 0 0 0 0 0 (length args) (omega arith) (omega arith) (omega arith) (follows_self w)
 follows_taken w success (t ∷ takes) [] = follows_self w
 follows_taken w success (t ∷ takes) (x ∷ args) =
-    let one : World = if is_taken success t then handed_over w x else w in
-    let all : World = taken_over one success takes args in
+    let one : World = if is_taken success t then hand_over w x else w in
+    let all : World = take_over one success takes args in
     follows_later w all (0 + 0) 0 (0 + 0) 0 (1 + length args) (length (x ∷ args)) (omega arith) (omega arith) (omega arith)
     (follows_then w one all 0 0 0 0 1 (length args) (follows_if_taken (is_taken success t) w x) (follows_taken one success takes args))
 
 -- ---- the answer
 
-follows_new : (w : World) (x : Value) → Follows w (counted_value (with_value w x) x (pos 1)) 1 0 1
-follows_new w x = follows_later w (counted_value (with_value w x) x (pos 1)) (1 + 0) 1 (0 + 0) 0 (0 + 1) 1 (omega arith) (omega arith) (omega arith)
-    (follows_then w (with_value w x) (counted_value (with_value w x) x (pos 1)) 1 0 0 0 0 1 (follows_there w x) (follows_counted (with_value w x) x (pos 1) up))
+follows_new : (w : World) (x : Value) → Follows w (count_value (with_value w x) x (pos 1)) 1 0 1
+follows_new w x = follows_later w (count_value (with_value w x) x (pos 1)) (1 + 0) 1 (0 + 0) 0 (0 + 1) 1 (omega arith) (omega arith) (omega arith)
+    (follows_then w (with_value w x) (count_value (with_value w x) x (pos 1)) 1 0 0 0 0 1 (follows_there w x) (follows_counted (with_value w x) x (pos 1) up))
 
 abbrev by_one_choice : Result Value Halt → Result (Option Value × ℕ) Halt
 by_one_choice r = r >>= λ x. Ok (Some x, 1)
@@ -76,17 +76,17 @@ still w u = follows_later w w 0 u 0 0 0 1 (omega arith) (omega arith) (omega ari
 there : (w : World) (x : Value) (u : ℕ) → 1 ≤ u → Follows w (with_value w x) u 0 1
 there w x u le = follows_later w (with_value w x) 1 u 0 0 0 1 le (omega arith) (omega arith) (follows_there w x)
 
-follows_answer : (a : Answer) (w : World) (n : ℕ) (choices : List Choice) (v : Option Value) (u : ℕ) → answer_of n a choices ≡ answers v u → Follows w (answered a w v) u 0 1
+follows_answer : (a : Answer) (w : World) (n : ℕ) (choices : List Choice) (v : Option Value) (u : ℕ) → answer_of n a choices ≡ answers v u → Follows w (with_new_reference a w v) u 0 1
 follows_answer a w n choices None u e = still w u
-follows_answer answer.New w n choices (Some x) u e = follows_later w (counted_value (with_value w x) x (pos 1)) 1 u 0 0 1 1 (used_one (chosen n answer.New choices) (Some x) u e) (omega arith) (omega arith) (follows_new w x)
-follows_answer answer.Borrowed w n choices (Some x) u e = there w x u (used_one (chosen n answer.Borrowed choices) (Some x) u e)
-follows_answer answer.BorrowedSure w n choices (Some x) u e = there w x u (used_one (chosen n answer.BorrowedSure choices) (Some x) u e)
-follows_answer answer.Status w n choices (Some x) u e = there w x u (used_one (chosen n answer.Status choices) (Some x) u e)
-follows_answer answer.Truth w n choices (Some x) u e = there w x u (used_one (chosen n answer.Truth choices) (Some x) u e)
-follows_answer answer.Size w n choices (Some x) u e = there w x u (used_one (chosen n answer.Size choices) (Some x) u e)
-follows_answer answer.Int w n choices (Some x) u e = there w x u (used_one (chosen n answer.Int choices) (Some x) u e)
-follows_answer answer.Long w n choices (Some x) u e = there w x u (used_one (chosen n answer.Long choices) (Some x) u e)
-follows_answer answer.Text w n choices (Some x) u e = there w x u (used_one (chosen n answer.Text choices) (Some x) u e)
+follows_answer answer.New w n choices (Some x) u e = follows_later w (count_value (with_value w x) x (pos 1)) 1 u 0 0 1 1 (used_one (choose n answer.New choices) (Some x) u e) (omega arith) (omega arith) (follows_new w x)
+follows_answer answer.Borrowed w n choices (Some x) u e = there w x u (used_one (choose n answer.Borrowed choices) (Some x) u e)
+follows_answer answer.BorrowedSure w n choices (Some x) u e = there w x u (used_one (choose n answer.BorrowedSure choices) (Some x) u e)
+follows_answer answer.Status w n choices (Some x) u e = there w x u (used_one (choose n answer.Status choices) (Some x) u e)
+follows_answer answer.Truth w n choices (Some x) u e = there w x u (used_one (choose n answer.Truth choices) (Some x) u e)
+follows_answer answer.Size w n choices (Some x) u e = there w x u (used_one (choose n answer.Size choices) (Some x) u e)
+follows_answer answer.Int w n choices (Some x) u e = there w x u (used_one (choose n answer.Int choices) (Some x) u e)
+follows_answer answer.Long w n choices (Some x) u e = there w x u (used_one (choose n answer.Long choices) (Some x) u e)
+follows_answer answer.Text w n choices (Some x) u e = there w x u (used_one (choose n answer.Text choices) (Some x) u e)
 follows_answer answer.Void w n choices (Some x) u e = let is : None ≡ Some x = first_answer (None, 0) (Some x, u) e in absurd cc
 follows_answer answer.Null w n choices (Some value.Null) u e = still w u
 follows_answer answer.Null w n choices (Some (value.Object k)) u e = let is : Some value.Null ≡ Some (value.Object k) = first_answer (Some value.Null, 0) (Some (value.Object k), u) e in absurd cc
@@ -94,7 +94,7 @@ follows_answer answer.Null w n choices (Some (value.Int i)) u e = let is : Some 
 follows_answer answer.Null w n choices (Some value.Text) u e = let is : Some value.Null ≡ Some value.Text = first_answer (Some value.Null, 0) (Some value.Text, u) e in absurd cc
 
 -- the counts alone, whatever the answer
-pub within_answered : (a : Answer) (w : World) (v : Option Value) (most : ℕ) → AreWithin most w → AreWithin (most + 1) (answered a w v)
+pub within_answered : (a : Answer) (w : World) (v : Option Value) (most : ℕ) → AreWithin most w → AreWithin (most + 1) (with_new_reference a w v)
 within_answered a w None most within = (still w 0).within most within
 within_answered answer.New w (Some x) most within = (follows_new w x).within most within
 within_answered answer.Borrowed w (Some x) most within = (there w x 1 (omega arith)).within most within
@@ -110,9 +110,9 @@ within_answered answer.Null w (Some x) most within = (there w x 1 (omega arith))
 
 -- ---- calls
 
-follows_plain_world : (row : Row) (args : List Value) (w : World) (v : Option Value) (u : ℕ) → Follows w (answered row.answer w v) u 0 1 → Follows w (plain_world row args w v) u 0 (length args + 1)
+follows_plain_world : (row : Row) (args : List Value) (w : World) (v : Option Value) (u : ℕ) → Follows w (with_new_reference row.answer w v) u 0 1 → Follows w (plain_world row args w v) u 0 (length args + 1)
 follows_plain_world row args w v u first =
-    let one : World = answered row.answer w v in
+    let one : World = with_new_reference row.answer w v in
     let all : World = plain_world row args w v in
     follows_later w all (u + 0) u (0 + 0) 0 (1 + length args) (length args + 1) (omega arith) (omega arith) (omega arith)
     (follows_then w one all u 0 0 0 1 (length args) first (follows_taken one (is_success row.answer v) row.takes args))
@@ -148,10 +148,10 @@ follows_plain true r row args choices w w' e answers is = absurd cc
 follows_plain false (Err h) row args choices w w' e answers is = absurd cc
 follows_plain false (Ok p) row args choices w w' e answers is = meant_world w (length args + 1) (plain_world row args w p.0) w' (effect p.0 p.1) e is (follows_plain_world row args w p.0 p.1 (follows_answer row.answer w (length w.accounts) choices p.0 p.1 answers))
 
-follows_counting : (b : Bool) (args : List Value) (w w' : World) (by : ℤ) (x : Value) (answer : Option Value) (e : Effect) → IsWithin 1 by → (if b then Err Stopped else ends (effect answer 0) (counted_value w x by)) ≡ ends e w' → GoesOn w (length args + 1) w' e
+follows_counting : (b : Bool) (args : List Value) (w w' : World) (by : ℤ) (x : Value) (answer : Option Value) (e : Effect) → IsWithin 1 by → (if b then Err Stopped else ends (effect answer 0) (count_value w x by)) ≡ ends e w' → GoesOn w (length args + 1) w' e
 follows_counting true args w w' by x answer e one is = absurd cc
-follows_counting false args w w' by x answer e one is = meant_world w (length args + 1) (counted_value w x by) w' (effect answer 0) e is
-    (follows_later w (counted_value w x by) 0 0 0 0 1 (length args + 1) (omega arith) (omega arith) (omega arith) (follows_counted w x by one))
+follows_counting false args w w' by x answer e one is = meant_world w (length args + 1) (count_value w x by) w' (effect answer 0) e is
+    (follows_later w (count_value w x by) 0 0 0 0 1 (length args + 1) (omega arith) (omega arith) (omega arith) (follows_counted w x by one))
 
 follows_special : (s : Special) (args : List Value) (w w' : World) (e : Effect) → special_effect s w args ≡ ends e w' → GoesOn w (length args + 1) w' e
 follows_special special.IncRef args w w' e is = follows_counting (lacks param.Object (first_of args)) args w w' (pos 1) (first_of args) None e up is

@@ -8,8 +8,8 @@ use Rattle.pungi_base.specs.declared.value.Value.TheVariants as value
 use Rattle.pungi_world.specs.declared.account.Account.{Account}
 use Rattle.pungi_world.specs.declared.slot.SlotState.{SlotState}
 use Rattle.pungi_world.specs.declared.world.World.{World}
-use Rattle.pungi_world.specs.World.{untouched, account_of}
-use Rattle.pungi_world.specs.Counts.{with_value, counted_value, handed_over, IsWithin, AreWithin}
+use Rattle.pungi_world.specs.World.{fresh_account, account_of}
+use Rattle.pungi_world.specs.Counts.{with_value, count_value, hand_over, IsWithin, AreWithin}
 use Rattle.pungi_world.specs.Follows.{AreDistinct, Follows}
 use Rattle.pungi_world.proofs.CountLemmas.{within_more, within_counted_value, within_handed_over, within_with_value}
 
@@ -55,41 +55,41 @@ follows_self w = same_slots w w 0 0 refl (omega arith) (omega arith) (λ most wi
 
 -- ---- the steps
 
-length_counted : (w : World) (x : Value) (by : ℤ) → length (counted_value w x by).accounts ≡ length w.accounts
+length_counted : (w : World) (x : Value) (by : ℤ) → length (count_value w x by).accounts ≡ length w.accounts
 length_counted w (value.Object k) by = length-set w.accounts k (record (account_of w k) { change = (account_of w k).change +ℤ by })
 length_counted w value.Null by = refl
 length_counted w (value.Int n) by = refl
 length_counted w value.Text by = refl
 
-slots_counted : (w : World) (x : Value) (by : ℤ) → (counted_value w x by).slots ≡ w.slots
+slots_counted : (w : World) (x : Value) (by : ℤ) → (count_value w x by).slots ≡ w.slots
 slots_counted w (value.Object k) by = refl
 slots_counted w value.Null by = refl
 slots_counted w (value.Int n) by = refl
 slots_counted w value.Text by = refl
 
-pub follows_counted : (w : World) (x : Value) (by : ℤ) → IsWithin 1 by → Follows w (counted_value w x by) 0 0 1
-follows_counted w x by one = same_slots w (counted_value w x by) 0 1 (slots_counted w x by) (omega (arith, length_counted w x by)) (omega (arith, length_counted w x by)) (λ most within. within_counted_value w x most by one within)
+pub follows_counted : (w : World) (x : Value) (by : ℤ) → IsWithin 1 by → Follows w (count_value w x by) 0 0 1
+follows_counted w x by one = same_slots w (count_value w x by) 0 1 (slots_counted w x by) (omega (arith, length_counted w x by)) (omega (arith, length_counted w x by)) (λ most within. within_counted_value w x most by one within)
 
-length_handed : (w : World) (x : Value) → length (handed_over w x).accounts ≡ length w.accounts
+length_handed : (w : World) (x : Value) → length (hand_over w x).accounts ≡ length w.accounts
 length_handed w (value.Object k) = length-set w.accounts k (record (account_of w k) { handed = (account_of w k).handed +ℤ pos 1 })
 length_handed w value.Null = refl
 length_handed w (value.Int n) = refl
 length_handed w value.Text = refl
 
-slots_handed : (w : World) (x : Value) → (handed_over w x).slots ≡ w.slots
+slots_handed : (w : World) (x : Value) → (hand_over w x).slots ≡ w.slots
 slots_handed w (value.Object k) = refl
 slots_handed w value.Null = refl
 slots_handed w (value.Int n) = refl
 slots_handed w value.Text = refl
 
-pub follows_handed : (w : World) (x : Value) → Follows w (handed_over w x) 0 0 1
-follows_handed w x = same_slots w (handed_over w x) 0 1 (slots_handed w x) (omega (arith, length_handed w x)) (omega (arith, length_handed w x)) (λ most within. within_handed_over w x most within)
+pub follows_handed : (w : World) (x : Value) → Follows w (hand_over w x) 0 0 1
+follows_handed w x = same_slots w (hand_over w x) 0 1 (slots_handed w x) (omega (arith, length_handed w x)) (omega (arith, length_handed w x)) (λ most within. within_handed_over w x most within)
 
-pushed_many : (b : Bool) (w : World) → (length w.accounts ≤ length (if b then record w { accounts = w.accounts ++ untouched ∷ [] } else w).accounts) × (length (if b then record w { accounts = w.accounts ++ untouched ∷ [] } else w).accounts ≤ length w.accounts + 1)
-pushed_many true w = (omega (arith, length-append w.accounts (untouched ∷ [])), omega (arith, length-append w.accounts (untouched ∷ [])))
+pushed_many : (b : Bool) (w : World) → (length w.accounts ≤ length (if b then record w { accounts = w.accounts ++ fresh_account ∷ [] } else w).accounts) × (length (if b then record w { accounts = w.accounts ++ fresh_account ∷ [] } else w).accounts ≤ length w.accounts + 1)
+pushed_many true w = (omega (arith, length-append w.accounts (fresh_account ∷ [])), omega (arith, length-append w.accounts (fresh_account ∷ [])))
 pushed_many false w = (omega arith, omega arith)
 
-same_if_pushed : (b : Bool) (w : World) → (if b then record w { accounts = w.accounts ++ untouched ∷ [] } else w).slots ≡ w.slots
+same_if_pushed : (b : Bool) (w : World) → (if b then record w { accounts = w.accounts ++ fresh_account ∷ [] } else w).slots ≡ w.slots
 same_if_pushed true w = refl
 same_if_pushed false w = refl
 

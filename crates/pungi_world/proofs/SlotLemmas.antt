@@ -22,7 +22,7 @@ use Rattle.pungi_world.specs.declared.world.World.{World}
 use Rattle.pungi_world.specs.Counts.{AreWithin, with_value}
 use Rattle.pungi_world.specs.Choices.{value_of}
 use Rattle.pungi_world.specs.Effects.{◌>>=◌, effect}
-use Rattle.pungi_world.specs.Slots.{is_same, place_of, no_slot, slot_at, is_fresh, is_content, found, entered, with_content, with_slot, first_touch, touched_at, touched, loaded, load_effect, stored, store_effect}
+use Rattle.pungi_world.specs.Slots.{is_same, place_of, no_slot, slot_at, is_fresh, is_content, find_content, enter, with_content, with_slot, first_touch, touch_at, touch, after_load, load_effect, put_at, store_effect}
 use Rattle.pungi_world.specs.Follows.{AreDistinct, Follows}
 use Rattle.pungi_world.proofs.CountLemmas.{within_more}
 use Rattle.pungi_world.proofs.FollowLemmas.{follows_then, follows_later, follows_self, follows_there, slots_there}
@@ -80,7 +80,7 @@ held_one : (w : World) (kind : Param) (choices : List Choice) (b : Bool) (c : Ch
 held_one w kind choices true c p e = let q : Content × ℕ = (Holds (value_of c), 1) in let same : q ≡ p = cc in let one : 1 ≡ p.1 = ap (λ (r : Content × ℕ). r.1) same in omega arith
 held_one w kind choices false c p e = absurd cc
 
-found_one : (w : World) (kind : Param) (choices : List Choice) (p : Content × ℕ) → found w kind choices ≡ Ok p → 1 ≤ p.1
+found_one : (w : World) (kind : Param) (choices : List Choice) (p : Content × ℕ) → find_content w kind choices ≡ Ok p → 1 ≤ p.1
 found_one w kind [] p e = absurd cc
 found_one w kind (c ∷ choices) p e = held_one w kind choices (is_content w kind c) c p e
 
@@ -97,7 +97,7 @@ follows_unset w p e =
     let After : Content × ℕ → Type 0 = λ q. Follows w (with_content w q.0) q.1 0 0 in
     subst After same (follows_self w)
 
-follows_entered : (b : Bool) (w : World) (kind : Param) (choices : List Choice) (p : Content × ℕ) → (if b then Ok nothing else found w kind choices) ≡ Ok p → Follows w (with_content w p.0) p.1 0 0
+follows_entered : (b : Bool) (w : World) (kind : Param) (choices : List Choice) (p : Content × ℕ) → (if b then Ok nothing else find_content w kind choices) ≡ Ok p → Follows w (with_content w p.0) p.1 0 0
 follows_entered true w kind choices p e = follows_unset w p e
 follows_entered false w kind choices p e = follows_found w p.0 p.1 (found_one w kind choices p e)
 
@@ -129,7 +129,7 @@ meant_touch w new new' t t' same follows =
 abbrev entry_touch : World → Slot → Result (Content × ℕ) Halt → Result (Touch × World) Halt
 entry_touch w s r = r >>= λ p. Ok (record { place = length w.slots; used = p.1 }, with_slot (with_content w p.0) s p.0)
 
-follows_first : (w w' : World) (s : Slot) (kind : Param) (choices : List Choice) (t : Touch) (r : Result (Content × ℕ) Halt) → place_of w.slots s ≡ None → entered w s kind choices ≡ r → entry_touch w s r ≡ touches t w' → Touches w t w'
+follows_first : (w w' : World) (s : Slot) (kind : Param) (choices : List Choice) (t : Touch) (r : Result (Content × ℕ) Halt) → place_of w.slots s ≡ None → enter w s kind choices ≡ r → entry_touch w s r ≡ touches t w' → Touches w t w'
 follows_first w w' s kind choices t (Err h) none is same = absurd cc
 follows_first w w' s kind choices t (Ok p) none is same =
     let v : World = with_content w p.0 in
@@ -138,8 +138,8 @@ follows_first w w' s kind choices t (Ok p) none is same =
     (follows_later w (with_slot v s p.0) (p.1 + 0) p.1 (0 + 1) 1 (0 + 0) 0 (omega arith) (omega arith) (omega arith)
     (follows_then w v (with_slot v s p.0) p.1 0 0 1 0 0 (follows_entered (is_fresh w s) w kind choices p is) (follows_slot v s p.0 still)))
 
-follows_touched : (w w' : World) (s : Slot) (kind : Param) (choices : List Choice) (t : Touch) (place : Option ℕ) → place_of w.slots s ≡ place → touched_at w s kind choices place ≡ touches t w' → Touches w t w'
-follows_touched w w' s kind choices t None is same = follows_first w w' s kind choices t (entered w s kind choices) is refl same
+follows_touched : (w w' : World) (s : Slot) (kind : Param) (choices : List Choice) (t : Touch) (place : Option ℕ) → place_of w.slots s ≡ place → touch_at w s kind choices place ≡ touches t w' → Touches w t w'
+follows_touched w w' s kind choices t None is same = follows_first w w' s kind choices t (enter w s kind choices) is refl same
 follows_touched w w' s kind choices t (Some i) is same = meant_touch w w w' (record { place = i; used = 0 }) t same (follows_later w w 0 0 0 1 0 0 (omega arith) (omega arith) (omega arith) (follows_self w))
 
 -- ---- loads
@@ -160,20 +160,20 @@ meant_effect w new new' e e' same follows =
     let With : Effect → Type 0 = λ u. Follows w new' u.used 1 0 in
     subst With (same_end e e' new new' same).0 (subst After (same_end e e' new new' same).1 follows)
 
-follows_loaded : (w v w' : World) (x : Content) (used : ℕ) (e : Effect) → Follows w v used 1 0 → loaded x used v ≡ ends e w' → Follows w w' e.used 1 0
+follows_loaded : (w v w' : World) (x : Content) (used : ℕ) (e : Effect) → Follows w v used 1 0 → after_load x used v ≡ ends e w' → Follows w w' e.used 1 0
 follows_loaded w v w' Unset used e follows same = absurd cc
 follows_loaded w v w' (Holds x) used e follows same = meant_effect w v w' (effect (Some x) used) e same follows
 
 abbrev load_of : Result (Touch × World) Halt → Result (Effect × World) Halt
-load_of r = r >>= λ t. loaded (slot_at t.1 t.0.place).held t.0.used t.1
+load_of r = r >>= λ t. after_load (slot_at t.1 t.0.place).held t.0.used t.1
 
-follows_load_of : (w w' : World) (s : Slot) (kind : Param) (choices : List Choice) (e : Effect) (r : Result (Touch × World) Halt) → touched w s kind choices ≡ r → load_of r ≡ ends e w' → Follows w w' e.used 1 0
+follows_load_of : (w w' : World) (s : Slot) (kind : Param) (choices : List Choice) (e : Effect) (r : Result (Touch × World) Halt) → touch w s kind choices ≡ r → load_of r ≡ ends e w' → Follows w w' e.used 1 0
 follows_load_of w w' s kind choices e (Err h) is same = absurd cc
 follows_load_of w w' s kind choices e (Ok t) is same = follows_loaded w t.1 w' (slot_at t.1 t.0.place).held t.0.used e (follows_touched w t.1 s kind choices t.0 (place_of w.slots s) refl is) same
 
 -- what a load keeps of a world
 pub follows_load : (w w' : World) (s : Slot) (kind : Param) (choices : List Choice) (e : Effect) → load_effect w s kind choices ≡ Ok (e, w') → Follows w w' e.used 1 0
-follows_load w w' s kind choices e is = follows_load_of w w' s kind choices e (touched w s kind choices) refl is
+follows_load w w' s kind choices e is = follows_load_of w w' s kind choices e (touch w s kind choices) refl is
 
 -- ---- stores
 
@@ -184,7 +184,7 @@ keeps_slots (t ∷ slots) zero x (suc k) = refl
 keeps_slots (t ∷ slots) (suc i) x zero = refl
 keeps_slots (t ∷ slots) (suc i) x (suc k) = keeps_slots slots i x k
 
-follows_stored : (w : World) (i : ℕ) (x : Value) → Follows w (stored w i x) 0 0 0
+follows_stored : (w : World) (i : ℕ) (x : Value) → Follows w (put_at w i x) 0 0 0
 follows_stored w i x =
     let t : SlotState = record (slot_at w i) { held = Holds x } in
     let long : length (slice_set w.slots i t) ≡ length w.slots = length-set w.slots i t in
@@ -204,16 +204,16 @@ follows_stored w i x =
     }
 
 abbrev store_of : Value → Result (Touch × World) Halt → Result (Effect × World) Halt
-store_of x r = r >>= λ t. Ok (effect None t.0.used, stored t.1 t.0.place x)
+store_of x r = r >>= λ t. Ok (effect None t.0.used, put_at t.1 t.0.place x)
 
-follows_store_of : (w w' : World) (s : Slot) (kind : Param) (x : Value) (choices : List Choice) (e : Effect) (r : Result (Touch × World) Halt) → touched w s kind choices ≡ r → store_of x r ≡ ends e w' → Follows w w' e.used 1 0
+follows_store_of : (w w' : World) (s : Slot) (kind : Param) (x : Value) (choices : List Choice) (e : Effect) (r : Result (Touch × World) Halt) → touch w s kind choices ≡ r → store_of x r ≡ ends e w' → Follows w w' e.used 1 0
 follows_store_of w w' s kind x choices e (Err h) is same = absurd cc
 follows_store_of w w' s kind x choices e (Ok t) is same =
-    let v : World = stored t.1 t.0.place x in
+    let v : World = put_at t.1 t.0.place x in
     meant_effect w v w' (effect None t.0.used) e same
     (follows_later w v (t.0.used + 0) t.0.used (1 + 0) 1 (0 + 0) 0 (omega arith) (omega arith) (omega arith)
     (follows_then w t.1 v t.0.used 0 1 0 0 0 (follows_touched w t.1 s kind choices t.0 (place_of w.slots s) refl is) (follows_stored t.1 t.0.place x)))
 
 -- what a store keeps of a world
 pub follows_store : (w w' : World) (s : Slot) (kind : Param) (x : Value) (choices : List Choice) (e : Effect) → store_effect w s kind x choices ≡ Ok (e, w') → Follows w w' e.used 1 0
-follows_store w w' s kind x choices e is = follows_store_of w w' s kind x choices e (touched w s kind choices) refl is
+follows_store w w' s kind x choices e is = follows_store_of w w' s kind x choices e (touch w s kind choices) refl is

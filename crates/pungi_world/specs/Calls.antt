@@ -1,19 +1,19 @@
 -- What a call of the API does (Python/C API Reference Manual 3.11, 'Reference Counting').
 --   lacks p x                   an argument is NULL where the parameter may not be
 --   stops params args           so is some argument
---   answered answer w value     the world after the answer: the count of a new reference rises
+--   with_new_reference answer w value    the world after the answer: the count of a new reference rises
 --   is_zero x, is_object x      a value is 0; it is an object
 --   is_success answer value     the answer says that the call succeeded
 --   is_taken success t          the call takes over the argument of such a parameter
---   taken_at success takes i    it takes over the argument at this place
---   taken_over w success takes args   the world after the arguments were taken over
---   plain_world row args w value      the world after a call of a plain row that answers this value
+--   is_taken_at success takes i    it takes over the argument at this place
+--   take_over w success takes args    the world after the arguments were taken over
+--   plain_world row args w value      the world after a call of a plain row that returns this value
 --   plain_effect w row args choices   what a call of a plain row does
 --   first_of args               the first argument
---   counting w p by x value     the count of an argument changes, and this is the answer
---   is_told s                   the effect of a row of its own is told here
---   is_told_form f              so is that of a row of this form
---   special_effect, form_effect what a call of a row of its own does; of any row
+--   change_count w p by x value    the count of an argument changes, and this is the answer
+--   is_defined_special s        the effect of a special row is defined here
+--   is_defined_form f           so is that of a row of this form
+--   special_effect, form_effect what a call of a special row does; of any row
 --   call_effect                 what a call of the API does
 use Rattle.std.specs.Prelude.{ℕ, ℤ, pos, negsuc, Bool, true, false, List, [], ◌∷◌, length, get_or, Option, None, Some, Result, Ok, Err, if◌then◌else◌}
 use Rattle.std.specs.List.{list_any, zip}
@@ -36,7 +36,7 @@ use Rattle.pungi_world.specs.declared.effect.Effect.{Effect}
 use Rattle.pungi_world.specs.declared.halt.Halt.{Halt}
 use Rattle.pungi_world.specs.declared.halt.Halt.TheVariants.{Stopped}
 use Rattle.pungi_world.specs.declared.world.World.{World}
-use Rattle.pungi_world.specs.Counts.{with_value, counted_value, handed_over}
+use Rattle.pungi_world.specs.Counts.{with_value, count_value, hand_over}
 use Rattle.pungi_world.specs.Choices.{answer_of, is_between}
 use Rattle.pungi_world.specs.Effects.{◌>>=◌, effect}
 
@@ -50,10 +50,10 @@ lacks p x = false
 abbrev pub stops : List Param → List Value → Bool
 stops params args = list_any (λ p. lacks p.0 p.1) (zip params args)
 
-abbrev pub answered : Answer → World → Option Value → World
-answered a w None = w
-answered answer.New w (Some x) = counted_value (with_value w x) x (pos 1)
-answered a w (Some x) = with_value w x
+abbrev pub with_new_reference : Answer → World → Option Value → World
+with_new_reference a w None = w
+with_new_reference answer.New w (Some x) = count_value (with_value w x) x (pos 1)
+with_new_reference a w (Some x) = with_value w x
 
 abbrev pub is_zero : Value → Bool
 is_zero (value.Int n) = is_between (pos 0) (pos 0) n
@@ -73,49 +73,49 @@ is_taken success take.Never = false
 is_taken success take.Always = true
 is_taken success take.OnSuccess = success
 
-abbrev pub taken_at : Bool → List Take → ℕ → Bool
-taken_at success takes i = is_taken success (get_or takes i take.Never)
+abbrev pub is_taken_at : Bool → List Take → ℕ → Bool
+is_taken_at success takes i = is_taken success (get_or takes i take.Never)
 
-abbrev pub taken_over : World → Bool → List Take → List Value → World
-taken_over w success [] args = w
-taken_over w success (t ∷ takes) [] = w
-taken_over w success (t ∷ takes) (x ∷ args) = taken_over (if is_taken success t then handed_over w x else w) success takes args
+abbrev pub take_over : World → Bool → List Take → List Value → World
+take_over w success [] args = w
+take_over w success (t ∷ takes) [] = w
+take_over w success (t ∷ takes) (x ∷ args) = take_over (if is_taken success t then hand_over w x else w) success takes args
 
 abbrev pub plain_world : Row → List Value → World → Option Value → World
-plain_world row args w answer = taken_over (answered row.answer w answer) (is_success row.answer answer) row.takes args
+plain_world row args w answer = take_over (with_new_reference row.answer w answer) (is_success row.answer answer) row.takes args
 
 abbrev pub plain_effect : World → Row → List Value → List Choice → Result (Effect × World) Halt
 plain_effect w row args choices = if stops row.params args then Err Stopped else answer_of (length w.accounts) row.answer choices >>= λ r. Ok (effect r.0 r.1, plain_world row args w r.0)
 
--- ---- rows of their own
+-- ---- special rows
 
 abbrev pub first_of : List Value → Value
 first_of [] = value.Null
 first_of (x ∷ args) = x
 
-abbrev pub counting : World → Param → ℤ → Value → Option Value → Result (Effect × World) Halt
-counting w p by x answer = if lacks p x then Err Stopped else Ok (effect answer 0, counted_value w x by)
+abbrev pub change_count : World → Param → ℤ → Value → Option Value → Result (Effect × World) Halt
+change_count w p by x answer = if lacks p x then Err Stopped else Ok (effect answer 0, count_value w x by)
 
-abbrev pub is_told : Special → Bool
-is_told special.IncRef = true
-is_told special.DecRef = true
-is_told special.XIncRef = true
-is_told special.XDecRef = true
-is_told special.NewRef = true
-is_told special.XNewRef = true
-is_told s = false
+abbrev pub is_defined_special : Special → Bool
+is_defined_special special.IncRef = true
+is_defined_special special.DecRef = true
+is_defined_special special.XIncRef = true
+is_defined_special special.XDecRef = true
+is_defined_special special.NewRef = true
+is_defined_special special.XNewRef = true
+is_defined_special s = false
 
-abbrev pub is_told_form : Form → Bool
-is_told_form form.Plain = true
-is_told_form (form.Special s) = is_told s
+abbrev pub is_defined_form : Form → Bool
+is_defined_form form.Plain = true
+is_defined_form (form.Special s) = is_defined_special s
 
 abbrev pub special_effect : Special → World → List Value → Result (Effect × World) Halt
-special_effect special.IncRef w args = counting w param.Object (pos 1) (first_of args) None
-special_effect special.DecRef w args = counting w param.Object (negsuc 0) (first_of args) None
-special_effect special.XIncRef w args = counting w param.ObjectOrNull (pos 1) (first_of args) None
-special_effect special.XDecRef w args = counting w param.ObjectOrNull (negsuc 0) (first_of args) None
-special_effect special.NewRef w args = counting w param.Object (pos 1) (first_of args) (Some (first_of args))
-special_effect special.XNewRef w args = counting w param.ObjectOrNull (pos 1) (first_of args) (Some (first_of args))
+special_effect special.IncRef w args = change_count w param.Object (pos 1) (first_of args) None
+special_effect special.DecRef w args = change_count w param.Object (negsuc 0) (first_of args) None
+special_effect special.XIncRef w args = change_count w param.ObjectOrNull (pos 1) (first_of args) None
+special_effect special.XDecRef w args = change_count w param.ObjectOrNull (negsuc 0) (first_of args) None
+special_effect special.NewRef w args = change_count w param.Object (pos 1) (first_of args) (Some (first_of args))
+special_effect special.XNewRef w args = change_count w param.ObjectOrNull (pos 1) (first_of args) (Some (first_of args))
 special_effect s w args = Err Stopped
 
 abbrev pub form_effect : Form → World → Shape → List Value → List Choice → Result (Effect × World) Halt

@@ -6,8 +6,8 @@
 --   is_between low high n         a number is in this range
 --   is_number low high c          a choice is such a number
 --   is_accepted n answer c        a call with this answer accepts it, where there are n objects
---   chosen n answer choices       the value that such a call answers
---   answer_of n answer choices    what it answers, and how many choices it uses
+--   choose n answer choices       the value that such a call returns
+--   answer_of n answer choices    what it returns, and how many choices it uses
 use Rattle.std.specs.Prelude.{ℕ, ◌-◌, ◌^◌, ℤ, pos, negsuc, int_le, nat_le, Bool, true, false, ◌&&◌, ◌||◌, List, [], ◌∷◌, Option, None, Some, Result, Ok, Err, if◌then◌else◌}
 use Rattle.pungi_base.specs.declared.value.Value.{Value}
 use Rattle.pungi_base.specs.declared.value.Value.TheVariants as value
@@ -61,11 +61,11 @@ is_accepted n answer.Text c = is_null c || is_text c
 is_accepted n answer.Void c = false
 is_accepted n answer.Null c = false
 
-abbrev pub chosen : ℕ → Answer → List Choice → Result Value Halt
-chosen n a [] = Err NeedsChoice
-chosen n a (c ∷ choices) = if is_accepted n a c then Ok (value_of c) else Err NeedsChoice
+abbrev pub choose : ℕ → Answer → List Choice → Result Value Halt
+choose n a [] = Err NeedsChoice
+choose n a (c ∷ choices) = if is_accepted n a c then Ok (value_of c) else Err NeedsChoice
 
 abbrev pub answer_of : ℕ → Answer → List Choice → Result (Option Value × ℕ) Halt
 answer_of n answer.Void choices = Ok (None, 0)
 answer_of n answer.Null choices = Ok (Some value.Null, 0)
-answer_of n a choices = chosen n a choices >>= λ x. Ok (Some x, 1)
+answer_of n a choices = choose n a choices >>= λ x. Ok (Some x, 1)

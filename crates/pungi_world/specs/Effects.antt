@@ -1,6 +1,6 @@
--- What calls, loads and stores answer.
+-- What calls, loads and stores return.
 --   >>=                    one step after another, as `?` joins them
---   effect value used      a step that writes no variable answers this, after so many choices
+--   effect value used      a step that writes no variable returns this, after so many choices
 --   Gives result w meant   the answer, and the world after it, are those that are meant; want of memory may always come
 use Rattle.std.specs.Prelude.{◌≡◌, ℕ, List, [], Option, Result, Ok, Err}
 use Rattle.pungi_base.specs.declared.value.Value.{Value}

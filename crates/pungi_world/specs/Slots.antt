@@ -1,4 +1,4 @@
--- Loads and stores (C11 6.5.16, 6.3.2.1). The first touch of a slot tells what it held at entry.
+-- Loads and stores (C11 6.5.16, 6.3.2.1). The first touch of a slot fixes what it held at entry.
 --   is_same s t                 two slots are one
 --   place_of slots s            the place of a slot among those that were touched
 --   no_slot                     what stands where no slot is
@@ -7,15 +7,15 @@
 --   is_fresh w s                a slot belongs to a made object, and held nothing at entry
 --   is_old w c                  a choice is an object that wasn't made in this run, or the next one
 --   is_content w kind c         a choice may be what a slot of this kind held at entry
---   found w kind choices        what the next choice says that a slot held at entry
---   entered w s kind choices    what a slot held at entry, and how many choices that uses
+--   find_content w kind choices    what the next choice says that a slot held at entry
+--   enter w s kind choices      what a slot held at entry, and how many choices that uses
 --   with_content w x, with_slot w s x    the world with an object of this content, and with a slot that held it at entry
 --   first_touch w s kind choices the first touch of a slot, and the world after it
---   touched_at w s kind choices place    the touch of a slot that stands at this place, or at none
---   touched w s kind choices    the touch of a slot, and the world after it
+--   touch_at w s kind choices place      the touch of a slot that stands at this place, or at none
+--   touch w s kind choices      the touch of a slot, and the world after it
 --   GivesTouch result w meant   these are those that are meant; want of memory may always come
---   loaded x used w             what a load of this content answers
---   stored w i x                the world after a store at a touched place
+--   after_load x used w         what a load of this content returns
+--   put_at w i x                the world after a store at a touched place
 --   load_effect, store_effect   what a load does; what a store does
 use Rattle.std.specs.Prelude.{◌≡◌, ℕ, ◌==◌, ◌-◌, ◌^◌, pos, negsuc, nat_le, Bool, true, false, ◌&&◌, ◌||◌, not, List, [], ◌∷◌, ◌++◌, length, get_or, slice_set, position, Option, None, Some, Result, Ok, Err, if◌then◌else◌}
 use Rattle.pungi_base.specs.declared.names.Name.{Name}
@@ -78,12 +78,12 @@ is_content w param.Text c = is_null c || is_text c
 is_content w param.TextOrNull c = is_null c || is_text c
 is_content w param.ModuleDef c = false
 
-abbrev pub found : World → Param → List Choice → Result (Content × ℕ) Halt
-found w kind [] = Err NeedsChoice
-found w kind (c ∷ choices) = if is_content w kind c then Ok (Holds (value_of c), 1) else Err NeedsChoice
+abbrev pub find_content : World → Param → List Choice → Result (Content × ℕ) Halt
+find_content w kind [] = Err NeedsChoice
+find_content w kind (c ∷ choices) = if is_content w kind c then Ok (Holds (value_of c), 1) else Err NeedsChoice
 
-abbrev pub entered : World → Slot → Param → List Choice → Result (Content × ℕ) Halt
-entered w s kind choices = if is_fresh w s then Ok (Unset, 0) else found w kind choices
+abbrev pub enter : World → Slot → Param → List Choice → Result (Content × ℕ) Halt
+enter w s kind choices = if is_fresh w s then Ok (Unset, 0) else find_content w kind choices
 
 -- ---- touching a slot
 
@@ -95,14 +95,14 @@ abbrev pub with_slot : World → Slot → Content → World
 with_slot w s x = record w { slots = w.slots ++ (record { slot = s; at_entry = x; held = x }) ∷ [] }
 
 abbrev pub first_touch : World → Slot → Param → List Choice → Result (Touch × World) Halt
-first_touch w s kind choices = entered w s kind choices >>= λ r. Ok (record { place = length w.slots; used = r.1 }, with_slot (with_content w r.0) s r.0)
+first_touch w s kind choices = enter w s kind choices >>= λ r. Ok (record { place = length w.slots; used = r.1 }, with_slot (with_content w r.0) s r.0)
 
-abbrev pub touched_at : World → Slot → Param → List Choice → Option ℕ → Result (Touch × World) Halt
-touched_at w s kind choices (Some i) = Ok (record { place = i; used = 0 }, w)
-touched_at w s kind choices None = first_touch w s kind choices
+abbrev pub touch_at : World → Slot → Param → List Choice → Option ℕ → Result (Touch × World) Halt
+touch_at w s kind choices (Some i) = Ok (record { place = i; used = 0 }, w)
+touch_at w s kind choices None = first_touch w s kind choices
 
-abbrev pub touched : World → Slot → Param → List Choice → Result (Touch × World) Halt
-touched w s kind choices = touched_at w s kind choices (place_of w.slots s)
+abbrev pub touch : World → Slot → Param → List Choice → Result (Touch × World) Halt
+touch w s kind choices = touch_at w s kind choices (place_of w.slots s)
 
 abbrev pub GivesTouch : Result Touch Halt → World → Result (Touch × World) Halt → Type 0
 GivesTouch (Ok t) w meant = meant ≡ Ok (t, w)
@@ -112,15 +112,15 @@ GivesTouch (Err Memory) w meant = Unit {0}
 
 -- ---- loads and stores
 
-abbrev pub loaded : Content → ℕ → World → Result (Effect × World) Halt
-loaded Unset used w = Err Stopped
-loaded (Holds x) used w = Ok (effect (Some x) used, w)
+abbrev pub after_load : Content → ℕ → World → Result (Effect × World) Halt
+after_load Unset used w = Err Stopped
+after_load (Holds x) used w = Ok (effect (Some x) used, w)
 
 abbrev pub load_effect : World → Slot → Param → List Choice → Result (Effect × World) Halt
-load_effect w s kind choices = touched w s kind choices >>= λ t. loaded (slot_at t.1 t.0.place).held t.0.used t.1
+load_effect w s kind choices = touch w s kind choices >>= λ t. after_load (slot_at t.1 t.0.place).held t.0.used t.1
 
-abbrev pub stored : World → ℕ → Value → World
-stored w i x = record w { slots = slice_set w.slots i (record (slot_at w i) { held = Holds x }) }
+abbrev pub put_at : World → ℕ → Value → World
+put_at w i x = record w { slots = slice_set w.slots i (record (slot_at w i) { held = Holds x }) }
 
 abbrev pub store_effect : World → Slot → Param → Value → List Choice → Result (Effect × World) Halt
-store_effect w s kind x choices = touched w s kind choices >>= λ t. Ok (effect None t.0.used, stored t.1 t.0.place x)
+store_effect w s kind x choices = touch w s kind choices >>= λ t. Ok (effect None t.0.used, put_at t.1 t.0.place x)

@@ -1,7 +1,7 @@
 ghost use Rattle.std.specs.Prelude.{◌≡◌, IfOk};
 ghost use Rattle.pungi_world.specs.Effects.{Gives};
 ghost use Rattle.pungi_world.specs.Follows.{Follows};
-ghost use Rattle.pungi_world.specs.Slots.{slot_at, loaded, load_effect, stored, store_effect};
+ghost use Rattle.pungi_world.specs.Slots.{slot_at, after_load, load_effect, put_at, store_effect};
 
 use crate::touch::touch_slot;
 use crate::{Content, Effect, Halt, Slot, World};
@@ -9,7 +9,7 @@ use pungi_api::Param;
 use pungi_base::{Choice, Value};
 use std::alloc::Global;
 
-/// What the touched slot at a place holds. Nothing where there is none.
+/// What the touched slot at a place holds. Nothing where there is no such slot.
 fn held_at(world: &World, place: usize) -> Content
     ensures { result ≡ (slot_at world.now place).held }
 {
@@ -22,7 +22,7 @@ fn held_at(world: &World, place: usize) -> Content
 
 /// The touched slot at a place holds a value from now on.
 fn put_at(world: &mut World, place: usize, value: Value)
-    ensures { world.new ≡ stored world.old place value }
+    ensures { world.new ≡ put_at world.old place value }
 {
     if place >= world.slots.len() {
         return;
@@ -32,9 +32,9 @@ fn put_at(world: &mut World, place: usize, value: Value)
     world.slots.set(place, state);
 }
 
-/// What a load of a content answers.
+/// What a load of a content returns.
 fn read(alloc: Global, world: &World, content: Content, used: usize) -> Result<Effect, Halt>
-    ensures { Gives result world.now (loaded content used world.now) }
+    ensures { Gives result world.now (after_load content used world.now) }
 {
     match content {
         Content::Unset => Err(Halt::Stopped),

@@ -1,7 +1,7 @@
 ghost use Rattle.std.specs.Prelude.{◌≡◌, ◌^◌, ◌<◌, ◌+◌, length, IsTrue, IfOk};
 ghost use Rattle.pungi_world.specs.Counts.{AreWithin};
 ghost use Rattle.pungi_world.specs.Effects.{Gives};
-ghost use Rattle.pungi_world.specs.Calls.{is_told_form, call_effect};
+ghost use Rattle.pungi_world.specs.Calls.{is_defined_form, call_effect};
 ghost use Rattle.pungi_world.specs.Follows.{Follows};
 
 use crate::calls::{plain, special};
@@ -37,7 +37,7 @@ impl World {
         api: &ApiCall,
         choices: &[Choice],
     ) -> Result<Effect, Halt>
-        requires told { IsTrue (is_told_form api.now.shape.now.row.form) }
+        requires told { IsTrue (is_defined_form api.now.shape.now.row.form) }
         requires few { length api.now.args.now < 2 ^ 60 }
         requires within { AreWithin (2 ^ 61) self.old }
         ensures effect { Gives result self.new (call_effect self.old api.now.shape.now api.now.args.now choices.now) }

@@ -1,5 +1,5 @@
 ghost use Rattle.std.specs.Prelude.{◌≡◌};
-ghost use Rattle.pungi_world.specs.Slots.{is_made, is_fresh, is_old, is_content, found, entered};
+ghost use Rattle.pungi_world.specs.Slots.{is_made, is_fresh, is_old, is_content, find_content, enter};
 
 use crate::choices::{is_null, is_number, is_text, value_of};
 use crate::{Content, Halt, Slot, World};
@@ -52,7 +52,7 @@ fn is_content(world: &World, kind: Param, choice: &Choice) -> bool
 
 /// What a slot held at entry by a choice, and how many choices that uses.
 fn find_content(world: &World, kind: Param, choices: &[Choice]) -> Result<(Content, usize), Halt>
-    ensures { result ≡ found world.now kind choices.now }
+    ensures { result ≡ find_content world.now kind choices.now }
 {
     match choices {
         [choice, ..] => {
@@ -73,7 +73,7 @@ pub fn enter(
     kind: Param,
     choices: &[Choice],
 ) -> Result<(Content, usize), Halt>
-    ensures { result ≡ entered world.now slot.now kind choices.now }
+    ensures { result ≡ enter world.now slot.now kind choices.now }
 {
     if is_fresh(world, slot) {
         Ok((Content::Unset, 0))

@@ -1,8 +1,8 @@
 ghost use Rattle.std.specs.Prelude.{◌≡◌, ◌+◌, ◌^◌, ◌<◌, pos, if◌then◌else◌, length, OnOk, IsTrue};
-ghost use Rattle.pungi_world.specs.Counts.{by_one, handed_over, AreWithin};
+ghost use Rattle.pungi_world.specs.Counts.{by_one, hand_over, AreWithin};
 ghost use Rattle.pungi_world.specs.Choices.{answer_of};
 ghost use Rattle.pungi_world.specs.Effects.{effect, Gives};
-ghost use Rattle.pungi_world.specs.Calls.{lacks, stops, answered, is_success, is_taken, taken_at, taken_over, plain_world, plain_effect, first_of, counting, is_told, special_effect, form_effect, call_effect};
+ghost use Rattle.pungi_world.specs.Calls.{lacks, stops, with_new_reference, is_success, is_taken, is_taken_at, take_over, plain_world, plain_effect, first_of, change_count, is_defined_special, special_effect, form_effect, call_effect};
 
 use crate::choices::{answer_of, is_between};
 use crate::counts::{Way, add_value, count_value, hand_over};
@@ -36,9 +36,9 @@ fn stops(params: &[Param], args: &[Value]) -> bool
 }
 
 /// The object of an answer is there, and the count of a new reference rises.
-fn answer(world: &mut World, answer: Answer, value: Option<Value>) -> Result<(), Memory>
+fn with_new_reference(world: &mut World, answer: Answer, value: Option<Value>) -> Result<(), Memory>
     requires { AreWithin (2 ^ 61) world.old }
-    ensures { OnOk result (world.new ≡ answered answer world.old value) }
+    ensures { OnOk result (world.new ≡ with_new_reference answer world.old value) }
 {
     let Some(value) = value else {
         return Ok(());
@@ -75,7 +75,7 @@ fn is_taken(success: bool, take: Take) -> bool
 
 /// Whether a call takes over the argument at this place.
 fn is_taken_at(success: bool, takes: &[Take], i: usize) -> bool
-    ensures { result ≡ taken_at success takes.now i }
+    ensures { result ≡ is_taken_at success takes.now i }
 {
     if i < takes.len() {
         is_taken(success, takes[i])
@@ -87,7 +87,7 @@ fn is_taken_at(success: bool, takes: &[Take], i: usize) -> bool
 /// An argument is handed over, if it is taken over.
 fn take_one(world: &mut World, taken: bool, value: Value)
     requires { AreWithin (2 ^ 62) world.old }
-    ensures { world.new ≡ (if taken then handed_over world.old value else world.old) }
+    ensures { world.new ≡ (if taken then hand_over world.old value else world.old) }
 {
     if taken {
         hand_over(world, value);
@@ -98,20 +98,20 @@ fn take_one(world: &mut World, taken: bool, value: Value)
 fn take_over(world: &mut World, success: bool, takes: &[Take], args: &[Value])
     requires within { AreWithin (2 ^ 61 + 1) world.old }
     requires few { length args.now < 2 ^ 60 }
-    ensures { world.new ≡ taken_over world.old success takes.now args.now }
+    ensures { world.new ≡ take_over world.old success takes.now args.now }
 {
     for (i, value) in args.iter().enumerate() {
         take_one(world, is_taken_at(success, takes, i), *value);
     }
 }
 
-/// The world after a call of a plain row that answers this value.
+/// The world after a call of a plain row that returns this value.
 fn finish(world: &mut World, row: &Row, args: &[Value], value: Option<Value>) -> Result<(), Memory>
     requires within { AreWithin (2 ^ 61) world.old }
     requires few { length args.now < 2 ^ 60 }
     ensures { OnOk result (world.new ≡ plain_world row.now args.now world.old value) }
 {
-    answer(world, row.answer, value)?;
+    with_new_reference(world, row.answer, value)?;
     let success = is_success(row.answer, value);
     take_over(world, success, row.takes.as_slice(), args);
     Ok(())
@@ -148,7 +148,7 @@ fn first_of(args: &[Value]) -> Value
 }
 
 /// The count of an argument changes, and this is the answer.
-fn counting(
+fn change_count(
     world: &mut World,
     alloc: Global,
     param: Param,
@@ -157,7 +157,7 @@ fn counting(
     answer: Option<Value>,
 ) -> Result<Effect, Halt>
     requires { AreWithin (2 ^ 61) world.old }
-    ensures { Gives result world.new (counting world.old param (by_one way) value answer) }
+    ensures { Gives result world.new (change_count world.old param (by_one way) value answer) }
 {
     if lacks(param, value) {
         return Err(Halt::Stopped);
@@ -166,7 +166,7 @@ fn counting(
     Ok(Effect::of(alloc, answer, 0))
 }
 
-/// What a call of a row of its own does.
+/// What a call of a special row does.
 pub fn special(
     world: &mut World,
     alloc: Global,
@@ -186,5 +186,5 @@ pub fn special(
         Special::XNewRef => (Param::ObjectOrNull, Way::Up, Some(value)),
         _ => return Err(Halt::Stopped),
     };
-    counting(world, alloc, param, way, value, answer)
+    change_count(world, alloc, param, way, value, answer)
 }

@@ -1,5 +1,5 @@
 ghost use Rattle.std.specs.Prelude.{◌≡◌, ◌&&◌, int_le};
-ghost use Rattle.pungi_world.specs.Choices.{value_of, is_null, is_text, is_object_choice, is_between, is_number, is_accepted, chosen, answer_of};
+ghost use Rattle.pungi_world.specs.Choices.{value_of, is_null, is_text, is_object_choice, is_between, is_number, is_accepted, choose, answer_of};
 
 use crate::Halt;
 use pungi_api::Answer;
@@ -75,9 +75,9 @@ fn is_accepted(objects: usize, answer: Answer, choice: &Choice) -> bool
     }
 }
 
-/// The value that a call answers by a choice.
+/// The value that a call returns by a choice.
 fn choose(objects: usize, answer: Answer, choices: &[Choice]) -> Result<Value, Halt>
-    ensures { result ≡ chosen objects answer choices.now }
+    ensures { result ≡ choose objects answer choices.now }
 {
     match choices {
         [choice, ..] => {
@@ -91,7 +91,7 @@ fn choose(objects: usize, answer: Answer, choices: &[Choice]) -> Result<Value, H
     }
 }
 
-/// What a call answers, and how many choices it uses.
+/// What a call returns, and how many choices it uses.
 pub fn answer_of(
     objects: usize,
     answer: Answer,

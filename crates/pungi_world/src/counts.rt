@@ -1,5 +1,5 @@
 ghost use Rattle.std.specs.Prelude.{◌≡◌, ◌^◌, OnOk};
-ghost use Rattle.pungi_world.specs.Counts.{by_one, counted, handed, with_object, with_value, counted_value, handed_over, AreWithin};
+ghost use Rattle.pungi_world.specs.Counts.{by_one, count, handed, with_object, with_value, count_value, hand_over, AreWithin};
 
 use crate::{Account, World};
 use pungi_base::{Memory, Value};
@@ -14,7 +14,7 @@ pub enum Way {
 /// The reference count of an object rises or falls.
 fn count(world: &mut World, object: u32, way: Way)
     requires { AreWithin (2 ^ 62) world.old }
-    ensures { world.new ≡ counted world.old object (by_one way) }
+    ensures { world.new ≡ count world.old object (by_one way) }
 {
     if object as usize >= world.accounts.len() {
         return;
@@ -30,7 +30,7 @@ fn count(world: &mut World, object: u32, way: Way)
 /// The reference count of the object of a value rises or falls.
 pub fn count_value(world: &mut World, value: Value, way: Way)
     requires { AreWithin (2 ^ 62) world.old }
-    ensures { world.new ≡ counted_value world.old value (by_one way) }
+    ensures { world.new ≡ count_value world.old value (by_one way) }
 {
     match value {
         Value::Object(object) => count(world, object, way),
@@ -53,7 +53,7 @@ fn hand(world: &mut World, object: u32)
 /// A reference to the object of a value is handed over.
 pub fn hand_over(world: &mut World, value: Value)
     requires { AreWithin (2 ^ 62) world.old }
-    ensures { world.new ≡ handed_over world.old value }
+    ensures { world.new ≡ hand_over world.old value }
 {
     match value {
         Value::Object(object) => hand(world, object),

@@ -4,7 +4,7 @@ ghost use Rattle.pungi_world.specs.Effects.{effect};
 use pungi_base::{Seq, Value};
 use std::alloc::Global;
 
-/// What an API call, a load or a store answers.
+/// What an API call, a load or a store returns.
 #[derive(Drop)]
 pub struct Effect {
     /// The value, where there is one.

@@ -89,7 +89,7 @@ impl World {
         total(account.handed, given, now, before)
     }
 
-    /// The lowest object whose count changed by another number than references escaped. None where there is none.
+    /// The lowest object whose count changed by another number than references escaped, if there is one.
     pub fn unbalanced(&self, returned: Option<Value>) -> Option<u32>
         requires { IsCountable self.now }
         ensures none { IfNone result (IsBalanced self.now returned) }

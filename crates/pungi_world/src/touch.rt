@@ -1,5 +1,5 @@
 ghost use Rattle.std.specs.Prelude.{◌≡◌, OnOk};
-ghost use Rattle.pungi_world.specs.Slots.{is_same, place_of, with_content, with_slot, first_touch, touched, GivesTouch};
+ghost use Rattle.pungi_world.specs.Slots.{is_same, place_of, with_content, with_slot, first_touch, touch, GivesTouch};
 
 use crate::at_entry::enter;
 use crate::counts::add_value;
@@ -48,7 +48,7 @@ fn add_content(world: &mut World, content: Content) -> Result<(), Memory>
     }
 }
 
-/// A slot stands behind those that were touched.
+/// A slot stands after those that were touched.
 fn add_slot(world: &mut World, slot: Slot, content: Content) -> Result<(), Memory>
     ensures { OnOk result (world.new ≡ with_slot world.old slot content) }
 {
@@ -83,7 +83,7 @@ pub fn touch_slot(
     kind: Param,
     choices: &[Choice],
 ) -> Result<Touch, Halt>
-    ensures { GivesTouch result world.new (touched world.old slot kind choices.now) }
+    ensures { GivesTouch result world.new (touch world.old slot kind choices.now) }
 {
     match place_of(world.slots.as_slice(), &slot) {
         Some(place) => Ok(Touch { place, used: 0 }),

@@ -31,7 +31,7 @@ grown c0 c1 a n e f = ap length e ∙ length-append c0 a ∙ ap (λ m. length c0
 pub moved : (code : ℕ → List Line) (c0 c1 : List Line) (n : ℕ) → length c0 ≡ n → c1 ≡ c0 ++ code (length c0) → c1 ≡ c0 ++ code n
 moved code c0 c1 n e f = f ∙ ap (λ m. c0 ++ code m) e
 
--- an instruction behind a front is put in place of another
+-- an instruction after a front is put in place of another
 pub set_behind : (front rest : List Line) (x y : Line) → slice_set (front ++ x ∷ rest) (length front) y ≡ front ++ y ∷ rest
 set_behind [] rest x y = refl
 set_behind (l ∷ front) rest x y = ap (λ c. l ∷ c) (set_behind front rest x y)

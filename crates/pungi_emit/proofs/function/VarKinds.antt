@@ -5,15 +5,15 @@ use Rattle.pungi_api.specs.declared.param.Param.TheVariants as param
 use Rattle.pungi_resolved.specs.Actions as stmt
 use Rattle.pungi_layout.specs.code.VarKinds.{kind_held, temp_kinds}
 
-held_append : (rs qs : List stmt.Reached) → map kind_held (rs ++ qs) ≡ map kind_held rs ++ map kind_held qs
+held_append : (rs qs : List stmt.DeclaredLocal) → map kind_held (rs ++ qs) ≡ map kind_held rs ++ map kind_held qs
 held_append [] qs = refl
 held_append (r ∷ rs) qs = ap (λ l. kind_held r ∷ l) (held_append rs qs)
 
-pub both_added : (rs qs : List stmt.Reached) (k0 k1 k2 : List Param) → k1 ≡ k0 ++ map kind_held rs → k2 ≡ k1 ++ map kind_held qs → k2 ≡ k0 ++ map kind_held (rs ++ qs)
+pub both_added : (rs qs : List stmt.DeclaredLocal) (k0 k1 k2 : List Param) → k1 ≡ k0 ++ map kind_held rs → k2 ≡ k1 ++ map kind_held qs → k2 ≡ k0 ++ map kind_held (rs ++ qs)
 both_added rs qs k0 k1 k2 e f =
     f ∙ ap (λ k. k ++ map kind_held qs) e ∙ append_assoc k0 (map kind_held rs) (map kind_held qs) ∙ ap (λ l. k0 ++ l) (sym (held_append rs qs))
 
-pub next_added : (rs qs : List stmt.Reached) (k0 k1 : List Param) → k1 ≡ k0 ++ map kind_held rs → k0 ++ map kind_held (rs ++ qs) ≡ k1 ++ map kind_held qs
+pub next_added : (rs qs : List stmt.DeclaredLocal) (k0 k1 : List Param) → k1 ≡ k0 ++ map kind_held rs → k0 ++ map kind_held (rs ++ qs) ≡ k1 ++ map kind_held qs
 next_added rs qs k0 k1 e = sym (both_added rs qs k0 k1 (k1 ++ map kind_held qs) e refl)
 
 pub temps_more : (n : ℕ) → temp_kinds n ++ temp_kinds 1 ≡ temp_kinds (suc n)

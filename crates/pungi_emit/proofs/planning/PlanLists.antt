@@ -14,7 +14,7 @@ room_is_there p0 p1 p2 xs i n m e h f k =
     let c : length (replicate {A = ℕ} n 0) ≡ n = length-replicate n 0 in
     omega (arith, a, b, c, h, k)
 
--- it is filled, and the places that came behind it stay
+-- it is filled, and the places that came after it stay
 pub filled : (p0 p1 p2 p3 known xs : List ℕ) (i n : ℕ) → p1 ≡ p0 ++ replicate n 0 → i ≡ length p0 → p2 ≡ p1 ++ xs → length known ≡ n → p3 ≡ take i p2 ++ (known ++ drop (i + length known) p2) → p3 ≡ p0 ++ (known ++ xs)
 filled p0 p1 p2 p3 known xs i n e h f m g =
     let whole : p2 ≡ p0 ++ (replicate n 0 ++ xs) = f ∙ ap (λ p. p ++ xs) e ∙ append_assoc p0 (replicate n 0) xs in

@@ -5,7 +5,7 @@ use Rattle.pungi_base.specs.declared.pos.Pos.{Pos}
 use Rattle.pungi_resolved.specs.Values as expr
 use Rattle.pungi_resolved.specs.Actions as stmt
 use Rattle.pungi_resolved.specs.ActionView.{actions_of}
-use Rattle.pungi_meaning.specs.Work.{declared}
+use Rattle.pungi_meaning.specs.Work.{block_locals}
 use Rattle.pungi_code.specs.declared.code.Line.{Line}
 use Rattle.pungi_emit.specs.declared.planning.scope.Placed.{Placed}
 use Rattle.pungi_layout.specs.code.Sizes.{expr_size, test_size, stmt_size, stmts_size}
@@ -21,25 +21,25 @@ use Rattle.pungi_emit.proofs.planning.PlanLists.{names_append, same_labels, begi
 
 -- the names of labels
 pub stmt_names_are : (a : stmt.Action) (pc : ℕ) → stmt_names a ≡ names_of (stmt_labels pc a)
-stmt_names_are (stmt.at_label p n a) pc = ap (λ l. n ∷ l) (stmt_names_are a pc)
-stmt_names_are (stmt.at_case p n a) pc = stmt_names_are a pc
-stmt_names_are (stmt.at_default p a) pc = stmt_names_are a pc
-stmt_names_are (stmt.test p c a) pc = stmt_names_are a (pc + expr_size c + 1)
-stmt_names_are (stmt.test_else p c a b) pc =
+stmt_names_are (stmt.label p n a) pc = ap (λ l. n ∷ l) (stmt_names_are a pc)
+stmt_names_are (stmt.case p n a) pc = stmt_names_are a pc
+stmt_names_are (stmt.default p a) pc = stmt_names_are a pc
+stmt_names_are (stmt.if_only p c a) pc = stmt_names_are a (pc + expr_size c + 1)
+stmt_names_are (stmt.if_else p c a b) pc =
     let at = pc + expr_size c + 1 in
     let bt = at + stmt_size a + 1 in
     ap (λ l. l ++ stmt_names b) (stmt_names_are a at) ∙ ap (λ l. names_of (stmt_labels at a) ++ l) (stmt_names_are b bt) ∙ sym (names_append (stmt_labels at a) (stmt_labels bt b))
-stmt_names_are (stmt.repeat_while p c a) pc = stmt_names_are a (pc + (expr_size c + 1))
-stmt_names_are (stmt.repeat_until p a c) pc = stmt_names_are a (pc + 1 + (expr_size c + 1))
-stmt_names_are (stmt.repeat_for p rs u c w a) pc = stmt_names_are a (for_head pc rs u + test_size c)
-stmt_names_are (stmt.switch_on p v a) pc = stmt_names_are a (pc + expr_size v + 1)
-stmt_names_are (stmt.block_of p ss q) pc = refl
-stmt_names_are (stmt.reach p rs) pc = refl
-stmt_names_are (stmt.evaluate p v) pc = refl
-stmt_names_are (stmt.jump p l) pc = refl
-stmt_names_are (stmt.leave p) pc = refl
-stmt_names_are (stmt.next_turn p) pc = refl
-stmt_names_are (stmt.give p v) pc = refl
+stmt_names_are (stmt.while p c a) pc = stmt_names_are a (pc + (expr_size c + 1))
+stmt_names_are (stmt.do_while p a c) pc = stmt_names_are a (pc + 1 + (expr_size c + 1))
+stmt_names_are (stmt.for p rs u c w a) pc = stmt_names_are a (for_head pc rs u + test_size c)
+stmt_names_are (stmt.switch p v a) pc = stmt_names_are a (pc + expr_size v + 1)
+stmt_names_are (stmt.block p ss q) pc = refl
+stmt_names_are (stmt.declare p rs) pc = refl
+stmt_names_are (stmt.do_expr p v) pc = refl
+stmt_names_are (stmt.goto p l) pc = refl
+stmt_names_are (stmt.break p) pc = refl
+stmt_names_are (stmt.continue p) pc = refl
+stmt_names_are (stmt.return p v) pc = refl
 
 pub list_names_are : (list : List stmt.Action) (pc : ℕ) → list_names list ≡ names_of (list_labels pc list)
 list_names_are [] pc = refl
@@ -70,53 +70,53 @@ labels_left own list pc more l after b e h = back_begins (places_of (list_labels
 -- ---- blocks
 
 pub block_plan_is : (p q : Pos) (list : List stmt.Action) (pc : ℕ) →
-    plan_of pc (stmt.block_of p (actions_of list) q) ≡ places_of (list_labels (pc + length (declared list)) list) ++ plans_of (pc + length (declared list)) (actions_of list)
-block_plan_is p q list pc = ap (λ l. places_of (list_labels (pc + length (declared l)) l) ++ plans_of (pc + length (declared l)) (actions_of list)) (as_actions list)
+    plan_of pc (stmt.block p (actions_of list) q) ≡ places_of (list_labels (pc + length (block_locals list)) list) ++ plans_of (pc + length (block_locals list)) (actions_of list)
+block_plan_is p q list pc = ap (λ l. places_of (list_labels (pc + length (block_locals l)) l) ++ plans_of (pc + length (block_locals l)) (actions_of list)) (as_actions list)
 
 pub switch_plan_is : (p q : Pos) (list : List stmt.Action) (pc : ℕ) →
-    switch_plan pc (stmt.block_of p (actions_of list) q)
+    switch_plan pc (stmt.block p (actions_of list) q)
     ≡ (switch_from pc list + stmts_size (actions_of list)) ∷ (list_starts (switch_from pc list) list ++ (places_of (list_labels (switch_from pc list) list) ++ plans_of (switch_from pc list) (actions_of list)))
 switch_plan_is p q list pc =
     ap (λ l. (switch_from pc l + stmts_size (actions_of list)) ∷ (list_starts (switch_from pc l) l ++ (places_of (list_labels (switch_from pc l) l) ++ plans_of (switch_from pc l) (actions_of list)))) (as_actions list)
 
 -- ---- `switch`
 
-pub choice_plan : (p : Pos) (v : expr.Value) (a : stmt.Action) (pc : ℕ) → plan_of pc (stmt.switch_on p v a) ≡ switch_plan (pc + expr_size v) a
-choice_plan p v (stmt.block_of r ss q) pc = refl
-choice_plan p v (stmt.reach p' rs) pc = refl
-choice_plan p v (stmt.evaluate p' u) pc = refl
-choice_plan p v (stmt.test p' c a) pc = refl
-choice_plan p v (stmt.test_else p' c a b) pc = refl
-choice_plan p v (stmt.repeat_while p' c a) pc = refl
-choice_plan p v (stmt.repeat_until p' a c) pc = refl
-choice_plan p v (stmt.repeat_for p' rs u c w a) pc = refl
-choice_plan p v (stmt.switch_on p' u a) pc = refl
-choice_plan p v (stmt.at_case p' n a) pc = refl
-choice_plan p v (stmt.at_default p' a) pc = refl
-choice_plan p v (stmt.at_label p' l a) pc = refl
-choice_plan p v (stmt.jump p' l) pc = refl
-choice_plan p v (stmt.leave p') pc = refl
-choice_plan p v (stmt.next_turn p') pc = refl
-choice_plan p v (stmt.give p' u) pc = refl
+pub choice_plan : (p : Pos) (v : expr.Value) (a : stmt.Action) (pc : ℕ) → plan_of pc (stmt.switch p v a) ≡ switch_plan (pc + expr_size v) a
+choice_plan p v (stmt.block r ss q) pc = refl
+choice_plan p v (stmt.declare p' rs) pc = refl
+choice_plan p v (stmt.do_expr p' u) pc = refl
+choice_plan p v (stmt.if_only p' c a) pc = refl
+choice_plan p v (stmt.if_else p' c a b) pc = refl
+choice_plan p v (stmt.while p' c a) pc = refl
+choice_plan p v (stmt.do_while p' a c) pc = refl
+choice_plan p v (stmt.for p' rs u c w a) pc = refl
+choice_plan p v (stmt.switch p' u a) pc = refl
+choice_plan p v (stmt.case p' n a) pc = refl
+choice_plan p v (stmt.default p' a) pc = refl
+choice_plan p v (stmt.label p' l a) pc = refl
+choice_plan p v (stmt.goto p' l) pc = refl
+choice_plan p v (stmt.break p') pc = refl
+choice_plan p v (stmt.continue p') pc = refl
+choice_plan p v (stmt.return p' u) pc = refl
 
 -- over what is no block
-pub skipped_plan_is : (p : Pos) (v : expr.Value) (a : stmt.Action) (pc : ℕ) → is_block a ≡ false → plan_of pc (stmt.switch_on p v a) ≡ skipped_plan (pc + expr_size v) a
-skipped_plan_is p v (stmt.block_of r ss q) pc h = absurd cc
-skipped_plan_is p v (stmt.reach p' rs) pc h = refl
-skipped_plan_is p v (stmt.evaluate p' u) pc h = refl
-skipped_plan_is p v (stmt.test p' c a) pc h = refl
-skipped_plan_is p v (stmt.test_else p' c a b) pc h = refl
-skipped_plan_is p v (stmt.repeat_while p' c a) pc h = refl
-skipped_plan_is p v (stmt.repeat_until p' a c) pc h = refl
-skipped_plan_is p v (stmt.repeat_for p' rs u c w a) pc h = refl
-skipped_plan_is p v (stmt.switch_on p' u a) pc h = refl
-skipped_plan_is p v (stmt.at_case p' n a) pc h = refl
-skipped_plan_is p v (stmt.at_default p' a) pc h = refl
-skipped_plan_is p v (stmt.at_label p' l a) pc h = refl
-skipped_plan_is p v (stmt.jump p' l) pc h = refl
-skipped_plan_is p v (stmt.leave p') pc h = refl
-skipped_plan_is p v (stmt.next_turn p') pc h = refl
-skipped_plan_is p v (stmt.give p' u) pc h = refl
+pub skipped_plan_is : (p : Pos) (v : expr.Value) (a : stmt.Action) (pc : ℕ) → is_block a ≡ false → plan_of pc (stmt.switch p v a) ≡ skipped_plan (pc + expr_size v) a
+skipped_plan_is p v (stmt.block r ss q) pc h = absurd cc
+skipped_plan_is p v (stmt.declare p' rs) pc h = refl
+skipped_plan_is p v (stmt.do_expr p' u) pc h = refl
+skipped_plan_is p v (stmt.if_only p' c a) pc h = refl
+skipped_plan_is p v (stmt.if_else p' c a b) pc h = refl
+skipped_plan_is p v (stmt.while p' c a) pc h = refl
+skipped_plan_is p v (stmt.do_while p' a c) pc h = refl
+skipped_plan_is p v (stmt.for p' rs u c w a) pc h = refl
+skipped_plan_is p v (stmt.switch p' u a) pc h = refl
+skipped_plan_is p v (stmt.case p' n a) pc h = refl
+skipped_plan_is p v (stmt.default p' a) pc h = refl
+skipped_plan_is p v (stmt.label p' l a) pc h = refl
+skipped_plan_is p v (stmt.goto p' l) pc h = refl
+skipped_plan_is p v (stmt.break p') pc h = refl
+skipped_plan_is p v (stmt.continue p') pc h = refl
+skipped_plan_is p v (stmt.return p' u) pc h = refl
 
 -- ---- a statement that takes no place
 
@@ -126,14 +126,14 @@ nothing_planned (Err e) lines c0 c1 l h = tt
 
 -- ---- a statement inside of another
 
--- behind one place
+-- after one place
 pub part_begins : (a : stmt.Action) (at n x other : ℕ) (l0 l1 : List ℕ) → Begins (x ∷ plan_of at a) l0 → l0 ≡ other ∷ l1 → n ≡ at → Begins (plan_of n a) l1
 part_begins a at n x other l0 l1 b e h = begins_at (λ i. plan_of i a) at n l1 (one_begins (plan_of at a) l0 l1 x other b e) h
 
 pub part_through : (a : stmt.Action) (at n x other : ℕ) (l0 l1 l2 : List ℕ) → Begins (x ∷ plan_of at a) l0 → l0 ≡ other ∷ l1 → n ≡ at → l1 ≡ plan_of n a ++ l2 → l0 ≡ (x ∷ plan_of at a) ++ l2
 part_through a at n x other l0 l1 l2 b e h f = one_through (plan_of at a) l0 l1 l2 x other e (one_place (plan_of at a) l0 l1 x other b e) (f ∙ ap (λ i. plan_of i a ++ l2) h)
 
--- behind two places
+-- after two places
 pub loop_begins : (a : stmt.Action) (at n x y other end : ℕ) (l0 l1 l2 : List ℕ) → Begins (x ∷ y ∷ plan_of at a) l0 → l0 ≡ other ∷ l1 → l1 ≡ end ∷ l2 → n ≡ at → Begins (plan_of n a) l2
 loop_begins a at n x y other end l0 l1 l2 b e f h = begins_at (λ i. plan_of i a) at n l2 (two_begins (plan_of at a) l0 l1 l2 x y other end b e f) h
 
@@ -141,7 +141,7 @@ pub loop_through : (a : stmt.Action) (at n x y other end : ℕ) (l0 l1 l2 l3 : L
 loop_through a at n x y other end l0 l1 l2 l3 b e f h g =
     two_through (plan_of at a) l0 l1 l2 l3 x y other end e f (two_first (plan_of at a) l0 l1 x y other b e) (two_second (plan_of at a) l0 l1 l2 x y other end b e f) (g ∙ ap (λ i. plan_of i a ++ l3) h)
 
--- two statements behind two places
+-- two statements after two places
 pub first_begins : (a b : stmt.Action) (at bt n x y other end : ℕ) (l0 l1 l2 : List ℕ) → Begins (x ∷ y ∷ (plan_of at a ++ plan_of bt b)) l0 → l0 ≡ other ∷ l1 → l1 ≡ end ∷ l2 → n ≡ at → Begins (plan_of n a) l2
 first_begins a b at bt n x y other end l0 l1 l2 h e f k =
     begins_at (λ i. plan_of i a) at n l2 (front_begins (plan_of at a) (plan_of bt b) l2 (two_begins (plan_of at a ++ plan_of bt b) l0 l1 l2 x y other end h e f)) k

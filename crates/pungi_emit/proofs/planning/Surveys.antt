@@ -6,7 +6,7 @@ use Rattle.pungi_resolved.specs.Actions as stmt
 use Rattle.pungi_resolved.specs.ActionView.{actions_of}
 use Rattle.pungi_meaning.specs.Run.{nowhere}
 use Rattle.pungi_meaning.specs.Stmts.{block_cases}
-use Rattle.pungi_meaning.specs.Work.{declared}
+use Rattle.pungi_meaning.specs.Work.{block_locals}
 use Rattle.pungi_meaning.specs.Todo.{listed}
 use Rattle.pungi_code.specs.declared.code.Head.{Head}
 use Rattle.pungi_layout.specs.declared.mark.Mark.{Mark}
@@ -62,81 +62,81 @@ no_labels (Ok n) end ms m0 m1 ps p0 p1 l h = record { next = h.next; marks = h.m
 no_labels (Err e) end ms m0 m1 ps p0 p1 l h = tt
 
 -- a block in a `switch`, and elsewhere
-pub block_size : (p q : Pos) (list : List stmt.Action) (pc own from next : ℕ) → own ≡ length (declared list) → from ≡ pc + own → next ≡ from + stmts_size (actions_of list) → next ≡ pc + stmt_size (stmt.block_of p (actions_of list) q)
+pub block_size : (p q : Pos) (list : List stmt.Action) (pc own from next : ℕ) → own ≡ length (block_locals list) → from ≡ pc + own → next ≡ from + stmts_size (actions_of list) → next ≡ pc + stmt_size (stmt.block p (actions_of list) q)
 block_size p q list pc own from next e f g =
-    let h : length (declared list) ≡ length (declared (listed (actions_of list))) = ap (λ l. length (declared l)) (sym (as_actions list)) in
+    let h : length (block_locals list) ≡ length (block_locals (listed (actions_of list))) = ap (λ l. length (block_locals l)) (sym (as_actions list)) in
     omega (arith, e, f, g, h)
 
-pub block_marks : (p q : Pos) (list : List stmt.Action) (pc own from : ℕ) (m0 m1 : List Mark) → own ≡ length (declared list) → from ≡ pc + own → m1 ≡ m0 ++ stmts_marks from (actions_of list) → m1 ≡ m0 ++ stmt_marks pc (stmt.block_of p (actions_of list) q)
+pub block_marks : (p q : Pos) (list : List stmt.Action) (pc own from : ℕ) (m0 m1 : List Mark) → own ≡ length (block_locals list) → from ≡ pc + own → m1 ≡ m0 ++ stmts_marks from (actions_of list) → m1 ≡ m0 ++ stmt_marks pc (stmt.block p (actions_of list) q)
 block_marks p q list pc own from m0 m1 e f g =
-    let h : from ≡ pc + length (declared (listed (actions_of list))) = f ∙ ap (λ n. pc + n) (e ∙ ap (λ l. length (declared l)) (sym (as_actions list))) in
+    let h : from ≡ pc + length (block_locals (listed (actions_of list))) = f ∙ ap (λ n. pc + n) (e ∙ ap (λ l. length (block_locals l)) (sym (as_actions list))) in
     g ∙ ap (λ n. m0 ++ stmts_marks n (actions_of list)) h
 
-pub choice_size : (p : Pos) (v : expr.Value) (a : stmt.Action) (pc place next : ℕ) → place ≡ pc + expr_size v → next ≡ place + switch_size a → next ≡ pc + stmt_size (stmt.switch_on p v a)
-choice_size p v (stmt.block_of r ss q) pc place next e f = omega (arith, e, f)
-choice_size p v (stmt.reach p' rs) pc place next e f = omega (arith, e, f)
-choice_size p v (stmt.evaluate p' u) pc place next e f = omega (arith, e, f)
-choice_size p v (stmt.test p' c a) pc place next e f = omega (arith, e, f)
-choice_size p v (stmt.test_else p' c a b) pc place next e f = omega (arith, e, f)
-choice_size p v (stmt.repeat_while p' c a) pc place next e f = omega (arith, e, f)
-choice_size p v (stmt.repeat_until p' a c) pc place next e f = omega (arith, e, f)
-choice_size p v (stmt.repeat_for p' rs u c w a) pc place next e f = omega (arith, e, f)
-choice_size p v (stmt.switch_on p' u a) pc place next e f = omega (arith, e, f)
-choice_size p v (stmt.at_case p' n a) pc place next e f = omega (arith, e, f)
-choice_size p v (stmt.at_default p' a) pc place next e f = omega (arith, e, f)
-choice_size p v (stmt.at_label p' l a) pc place next e f = omega (arith, e, f)
-choice_size p v (stmt.jump p' l) pc place next e f = omega (arith, e, f)
-choice_size p v (stmt.leave p') pc place next e f = omega (arith, e, f)
-choice_size p v (stmt.next_turn p') pc place next e f = omega (arith, e, f)
-choice_size p v (stmt.give p' u) pc place next e f = omega (arith, e, f)
+pub choice_size : (p : Pos) (v : expr.Value) (a : stmt.Action) (pc place next : ℕ) → place ≡ pc + expr_size v → next ≡ place + switch_size a → next ≡ pc + stmt_size (stmt.switch p v a)
+choice_size p v (stmt.block r ss q) pc place next e f = omega (arith, e, f)
+choice_size p v (stmt.declare p' rs) pc place next e f = omega (arith, e, f)
+choice_size p v (stmt.do_expr p' u) pc place next e f = omega (arith, e, f)
+choice_size p v (stmt.if_only p' c a) pc place next e f = omega (arith, e, f)
+choice_size p v (stmt.if_else p' c a b) pc place next e f = omega (arith, e, f)
+choice_size p v (stmt.while p' c a) pc place next e f = omega (arith, e, f)
+choice_size p v (stmt.do_while p' a c) pc place next e f = omega (arith, e, f)
+choice_size p v (stmt.for p' rs u c w a) pc place next e f = omega (arith, e, f)
+choice_size p v (stmt.switch p' u a) pc place next e f = omega (arith, e, f)
+choice_size p v (stmt.case p' n a) pc place next e f = omega (arith, e, f)
+choice_size p v (stmt.default p' a) pc place next e f = omega (arith, e, f)
+choice_size p v (stmt.label p' l a) pc place next e f = omega (arith, e, f)
+choice_size p v (stmt.goto p' l) pc place next e f = omega (arith, e, f)
+choice_size p v (stmt.break p') pc place next e f = omega (arith, e, f)
+choice_size p v (stmt.continue p') pc place next e f = omega (arith, e, f)
+choice_size p v (stmt.return p' u) pc place next e f = omega (arith, e, f)
 
-pub choice_marks : (p : Pos) (v : expr.Value) (a : stmt.Action) (pc : ℕ) → stmt_marks pc (stmt.switch_on p v a) ≡ switch_marks (pc + expr_size v) a
-choice_marks p v (stmt.block_of r ss q) pc = refl
-choice_marks p v (stmt.reach p' rs) pc = refl
-choice_marks p v (stmt.evaluate p' u) pc = refl
-choice_marks p v (stmt.test p' c a) pc = refl
-choice_marks p v (stmt.test_else p' c a b) pc = refl
-choice_marks p v (stmt.repeat_while p' c a) pc = refl
-choice_marks p v (stmt.repeat_until p' a c) pc = refl
-choice_marks p v (stmt.repeat_for p' rs u c w a) pc = refl
-choice_marks p v (stmt.switch_on p' u a) pc = refl
-choice_marks p v (stmt.at_case p' n a) pc = refl
-choice_marks p v (stmt.at_default p' a) pc = refl
-choice_marks p v (stmt.at_label p' l a) pc = refl
-choice_marks p v (stmt.jump p' l) pc = refl
-choice_marks p v (stmt.leave p') pc = refl
-choice_marks p v (stmt.next_turn p') pc = refl
-choice_marks p v (stmt.give p' u) pc = refl
+pub choice_marks : (p : Pos) (v : expr.Value) (a : stmt.Action) (pc : ℕ) → stmt_marks pc (stmt.switch p v a) ≡ switch_marks (pc + expr_size v) a
+choice_marks p v (stmt.block r ss q) pc = refl
+choice_marks p v (stmt.declare p' rs) pc = refl
+choice_marks p v (stmt.do_expr p' u) pc = refl
+choice_marks p v (stmt.if_only p' c a) pc = refl
+choice_marks p v (stmt.if_else p' c a b) pc = refl
+choice_marks p v (stmt.while p' c a) pc = refl
+choice_marks p v (stmt.do_while p' a c) pc = refl
+choice_marks p v (stmt.for p' rs u c w a) pc = refl
+choice_marks p v (stmt.switch p' u a) pc = refl
+choice_marks p v (stmt.case p' n a) pc = refl
+choice_marks p v (stmt.default p' a) pc = refl
+choice_marks p v (stmt.label p' l a) pc = refl
+choice_marks p v (stmt.goto p' l) pc = refl
+choice_marks p v (stmt.break p') pc = refl
+choice_marks p v (stmt.continue p') pc = refl
+choice_marks p v (stmt.return p' u) pc = refl
 
 pub else_marks : (p : Pos) (c : expr.Value) (a b : stmt.Action) (pc go last middle : ℕ) (m0 m1 m2 : List Mark) →
     go ≡ pc + expr_size c + 1 → last ≡ go + stmt_size a → middle ≡ last + 1 →
     m1 ≡ m0 ++ stmt_marks go a → m2 ≡ m1 ++ stmt_marks middle b →
-    m2 ≡ m0 ++ stmt_marks pc (stmt.test_else p c a b)
+    m2 ≡ m0 ++ stmt_marks pc (stmt.if_else p c a b)
 else_marks p c a b pc go last middle m0 m1 m2 g h4 h5 e f =
     let k : middle ≡ pc + expr_size c + 1 + stmt_size a + 1 = omega (arith, g, h4, h5) in
     both_marks m0 m1 m2 (stmt_marks (pc + expr_size c + 1) a) (stmt_marks (pc + expr_size c + 1 + stmt_size a + 1) b) (e ∙ ap (λ n. m0 ++ stmt_marks n a) g) (f ∙ ap (λ n. m1 ++ stmt_marks n b) k)
 
 switched_place : (list : List stmt.Action) (place own cases unset compared branched from : ℕ) →
-    own ≡ length (declared list) → cases ≡ length (block_cases list) → unset ≡ place + own → compared ≡ unset + cases → branched ≡ compared + cases → from ≡ branched + 1 →
-    from ≡ place + length (declared (listed (actions_of list))) + 2 * length (block_cases (listed (actions_of list))) + 1
+    own ≡ length (block_locals list) → cases ≡ length (block_cases list) → unset ≡ place + own → compared ≡ unset + cases → branched ≡ compared + cases → from ≡ branched + 1 →
+    from ≡ place + length (block_locals (listed (actions_of list))) + 2 * length (block_cases (listed (actions_of list))) + 1
 switched_place list place own cases unset compared branched from h1 h2 h3 h4 h5 h6 =
     let same = sym (as_actions list) in
-    let d : length (declared list) ≡ length (declared (listed (actions_of list))) = ap (λ l. length (declared l)) same in
+    let d : length (block_locals list) ≡ length (block_locals (listed (actions_of list))) = ap (λ l. length (block_locals l)) same in
     let k : length (block_cases list) ≡ length (block_cases (listed (actions_of list))) = ap (λ l. length (block_cases l)) same in
     omega (arith, h1, h2, h3, h4, h5, h6, d, k)
 
 pub switched_size : (p q : Pos) (list : List stmt.Action) (place own cases unset compared branched from next : ℕ) →
-    own ≡ length (declared list) → cases ≡ length (block_cases list) → unset ≡ place + own → compared ≡ unset + cases → branched ≡ compared + cases → from ≡ branched + 1 →
+    own ≡ length (block_locals list) → cases ≡ length (block_cases list) → unset ≡ place + own → compared ≡ unset + cases → branched ≡ compared + cases → from ≡ branched + 1 →
     next ≡ from + stmts_size (actions_of list) →
-    next ≡ place + switch_size (stmt.block_of p (actions_of list) q)
+    next ≡ place + switch_size (stmt.block p (actions_of list) q)
 switched_size p q list place own cases unset compared branched from next h1 h2 h3 h4 h5 h6 g =
     let f = switched_place list place own cases unset compared branched from h1 h2 h3 h4 h5 h6 in
     omega (arith, f, g)
 
 pub switched_marks : (p q : Pos) (list : List stmt.Action) (place own cases unset compared branched from : ℕ) (m0 m1 : List Mark) →
-    own ≡ length (declared list) → cases ≡ length (block_cases list) → unset ≡ place + own → compared ≡ unset + cases → branched ≡ compared + cases → from ≡ branched + 1 →
+    own ≡ length (block_locals list) → cases ≡ length (block_cases list) → unset ≡ place + own → compared ≡ unset + cases → branched ≡ compared + cases → from ≡ branched + 1 →
     m1 ≡ m0 ++ stmts_marks from (actions_of list) →
-    m1 ≡ m0 ++ switch_marks place (stmt.block_of p (actions_of list) q)
+    m1 ≡ m0 ++ switch_marks place (stmt.block p (actions_of list) q)
 switched_marks p q list place own cases unset compared branched from m0 m1 h1 h2 h3 h4 h5 h6 g =
     g ∙ ap (λ n. m0 ++ stmts_marks n (actions_of list)) (switched_place list place own cases unset compared branched from h1 h2 h3 h4 h5 h6)
 
@@ -157,7 +157,7 @@ next_places a rest pc n l0 l1 e f =
 pub else_labels : (p : Pos) (c : expr.Value) (a b : stmt.Action) (pc go last middle : ℕ) (m0 m1 m2 : List ℕ) →
     go ≡ pc + expr_size c + 1 → last ≡ go + stmt_size a → middle ≡ last + 1 →
     m1 ≡ m0 ++ places_of (stmt_labels go a) → m2 ≡ m1 ++ places_of (stmt_labels middle b) →
-    m2 ≡ m0 ++ places_of (stmt_labels pc (stmt.test_else p c a b))
+    m2 ≡ m0 ++ places_of (stmt_labels pc (stmt.if_else p c a b))
 else_labels p c a b pc go last middle m0 m1 m2 g h4 h5 e f =
     let at = pc + expr_size c + 1 in
     let bt = at + stmt_size a + 1 in
@@ -170,7 +170,7 @@ else_labels p c a b pc go last middle m0 m1 m2 g h4 h5 e f =
 pub else_places : (p : Pos) (c : expr.Value) (a b : stmt.Action) (pc go last middle next i : ℕ) (p0 p1 p2 p3 p4 : List ℕ) →
     go ≡ pc + expr_size c + 1 → last ≡ go + stmt_size a → middle ≡ last + 1 → next ≡ middle + stmt_size b →
     p1 ≡ p0 ++ replicate 2 0 → i ≡ length p0 → p2 ≡ p1 ++ plan_of go a → p3 ≡ p2 ++ plan_of middle b → p4 ≡ take i p3 ++ (middle ∷ next ∷ drop (i + 2) p3) →
-    p4 ≡ p0 ++ plan_of pc (stmt.test_else p c a b)
+    p4 ≡ p0 ++ plan_of pc (stmt.if_else p c a b)
 else_places p c a b pc go last middle next i p0 p1 p2 p3 p4 go' h4 h5 h6 e h f g q =
     let at = pc + expr_size c + 1 in
     let bt = at + stmt_size a + 1 in
@@ -193,7 +193,7 @@ pub switched_places : (list : List stmt.Action) (place from next end : ℕ) (p0 
     from ≡ switch_from place list → next ≡ from + stmts_size (actions_of list) →
     p1 ≡ p0 ++ replicate 1 0 → end ≡ length p0 → p4 ≡ p1 ++ (list_starts from list ++ (places_of (list_labels from list) ++ plans_of from (actions_of list))) →
     p5 ≡ take end p4 ++ (next ∷ drop (end + 1) p4) →
-    p5 ≡ p0 ++ switch_plan place (stmt.block_of nowhere (actions_of list) nowhere)
+    p5 ≡ p0 ++ switch_plan place (stmt.block nowhere (actions_of list) nowhere)
 switched_places list place from next end p0 p1 p4 p5 k m e h f g =
     let part = λ (i : ℕ). list_starts i list ++ (places_of (list_labels i list) ++ plans_of i (actions_of list)) in
     let last : next ≡ switch_from place list + stmts_size (actions_of list) = m ∙ ap (λ i. i + stmts_size (actions_of list)) k in

@@ -11,7 +11,7 @@ use Rattle.pungi_resolved.specs.declared.action.ActionNode.TheVariants.{Block}
 use Rattle.pungi_resolved.specs.declared.action.ActionNode.TheViews.{the_lemmas, sized-Block, size_is-Action}
 use Rattle.pungi_resolved.specs.declared.action.ActionNode.TheFolds.{fold_out-Action, fold_out-ActionNode, fold-roll-ActionNode, fold-roll-Action}
 
-pub block_view : (a : Action) (list : Vec Action Global) (q : Pos) → a.node ≡ Block list q → action_view a ≡ stmt.block_of a.pos (actions_of (map action_view list.items)) q
+pub block_view : (a : Action) (list : Vec Action Global) (q : Pos) → a.node ≡ Block list q → action_view a ≡ stmt.block a.pos (actions_of (map action_view list.items)) q
 block_view a list q h = search (rules, the_lemmas, fold_out-Action, fold_out-ActionNode, fold-roll-ActionNode, fold-roll-Action)
 
 -- the statements of a block are smaller

@@ -1,7 +1,7 @@
 -- The cases of a `switch` whose statements begin at known places.
 --   case_lines p x y pc a n     the comparison of one case
 --   cases_at list starts        the cases of statements, each with the place where its statement begins
---   default_at list starts      the place of the statement behind `default`
+--   default_at list starts      the place of the statement after `default`
 --   is_block a                  a statement is a block
 --   skipped_code nl env pc p v a    a `switch` over what is no block
 use Rattle.std.specs.Prelude.{ℕ, ◌+◌, ℤ, Bool, true, false, List, [], ◌∷◌, ◌++◌, Option, Some, None, if◌then◌else◌}
@@ -32,7 +32,7 @@ default_at (a ∷ rest) [] = None
 default_at (a ∷ rest) (n ∷ starts) = if is_default a then Some n else default_at rest starts
 
 abbrev pub is_block : stmt.Action → Bool
-is_block (stmt.block_of p ss q) = true
+is_block (stmt.block p ss q) = true
 is_block a = false
 
 abbrev pub skipped_code : ℕ → Env → ℕ → Pos → expr.Value → stmt.Action → List Line

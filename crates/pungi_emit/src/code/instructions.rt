@@ -20,7 +20,7 @@ pub fn put(code: &mut Seq<Line>, pos: Pos, instr: Instr) -> Result<(), Memory>
     code.push(Line { pos, instr })
 }
 
-/// The place of the next instruction. The two behind it have numbers of 32 bits, too.
+/// The place of the next instruction. The two after it have numbers of 32 bits, too.
 pub fn next_place(code: &Seq<Line>) -> Result<u32, Memory>
     ensures place { IfOk result (λ n. n ≡ length code.now) }
     ensures room { IfOk result (λ n. n + 2 < 2 ^ 32) }

@@ -14,8 +14,8 @@ pub fn small(n: u64) -> Result<u32, Memory>
     }
 }
 
-/// A number behind another.
-pub fn behind(n: u32, steps: u32) -> Result<u32, Memory>
+/// A number after another.
+pub fn place_after(n: u32, steps: u32) -> Result<u32, Memory>
     ensures { IfOk result (λ m. m ≡ n + steps) }
 {
     small(n as u64 + steps as u64)

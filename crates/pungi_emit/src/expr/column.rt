@@ -1,7 +1,7 @@
-// The variables behind the locals.
+// The variables after the locals.
 ghost use Rattle.std.specs.Prelude.{◌≡◌, ◌<◌};
 ghost use Rattle.pungi_resolved.specs.ValueView.{value_view};
-ghost use Rattle.pungi_layout.specs.code.Temporaries.{column as column_of, joined_column as joined_column_of, answer_column as answer_column_of, form_column as form_column_of, value_column as value_column_of};
+ghost use Rattle.pungi_layout.specs.code.Temporaries.{column as column_of, joined_column, answer_column, form_column, value_column};
 
 use pungi_api::{Answer, Form};
 use pungi_meaning::fits;
@@ -25,7 +25,7 @@ pub fn column(kind: ValueKind) -> u32
 fn joined_column(a: u32, b: u32) -> u32
     requires left { a < 5 }
     requires right { b < 5 }
-    ensures column { result ≡ joined_column_of a b }
+    ensures column { result ≡ joined_column a b }
     ensures low { result < 5 }
 {
     if a <= 2 && b <= 2 {
@@ -38,7 +38,7 @@ fn joined_column(a: u32, b: u32) -> u32
 }
 
 fn answer_column(answer: Answer) -> u32
-    ensures column { result ≡ answer_column_of answer }
+    ensures column { result ≡ answer_column answer }
     ensures low { result < 5 }
 {
     match answer {
@@ -51,7 +51,7 @@ fn answer_column(answer: Answer) -> u32
 }
 
 fn form_column(form: Form, answer: Answer) -> u32
-    ensures column { result ≡ form_column_of form answer }
+    ensures column { result ≡ form_column form answer }
     ensures low { result < 5 }
 {
     match form {
@@ -62,7 +62,7 @@ fn form_column(form: Form, answer: Answer) -> u32
 
 /// Which of five variables the value of an expression has.
 pub fn value_column(node: &Node) -> u32
-    ensures column { result ≡ value_column_of (value_view node.now) }
+    ensures column { result ≡ value_column (value_view node.now) }
     ensures low { result < 5 }
 {
     match &node.node {

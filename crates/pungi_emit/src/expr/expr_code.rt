@@ -3,10 +3,10 @@ ghost use Rattle.std.specs.Prelude.{◌≡◌, ◌+◌, ◌++◌, length, map, O
 ghost use Rattle.pungi_resolved.specs.ValueView.{value_view, values_of, place_view};
 ghost use Rattle.pungi_resolved.specs.Values.{signed, negated, stepped, computed, compared, joined_by, stored, updated, chosen, converted, called_row};
 ghost use Rattle.pungi_layout.specs.code.Sizes.{expr_size};
-ghost use Rattle.pungi_layout.specs.code.ExprCode.{expr_code, base_code, args_code, old_code, sign_code, step_code, base_var as base_variable};
+ghost use Rattle.pungi_layout.specs.code.ExprCode.{expr_code, base_code, args_code, old_code, sign_code, step_code, base_var};
 
 use crate::code::instructions::{Around, next_place, put, replace};
-use crate::code::number::behind;
+use crate::code::number::place_after;
 use crate::expr::column::value_column;
 use crate::expr::parts::{bit, branch_on, is_and, is_minus, step_op};
 use crate::expr::place::{emit_fit, emit_old, emit_store};
@@ -96,7 +96,7 @@ fn emit_held(
     place: &Place,
     old: u32,
 ) -> Result<(), Memory>
-    ensures { OnOk result (code.new ≡ code.old ++ (base_code around.locals depth (length code.old) (place_view place.now) ++ old_code kind (place_view place.now) old (base_variable around.locals (place_view place.now) depth))) }
+    ensures { OnOk result (code.new ≡ code.old ++ (base_code around.locals depth (length code.old) (place_view place.now) ++ old_code kind (place_view place.now) old (base_var around.locals (place_view place.now) depth))) }
 {
     let base = base_var(around.locals, place, depth)?;
     emit_base(code, around, depth, place)?;
@@ -119,7 +119,7 @@ fn emit_stepped(
     ensures { OnOk result (code.new ≡ code.old ++ expr_code around.locals depth target (length code.old) (stepped pos behind_it mark kind (place_view place.now))) }
 {
     if behind_it {
-        let level = behind(depth, 1)?;
+        let level = place_after(depth, 1)?;
         let value = temp(around.locals, level, kind)?;
         let old = temp(around.locals, above(place, level)?, kind)?;
         put(code, pos, Instr::Set(Var(target), bit(false)))?;
@@ -174,7 +174,7 @@ fn emit_updated(
 {
     let locals = around.locals;
     let level = above(place, depth)?;
-    let next_level = behind(level, 1)?;
+    let next_level = place_after(level, 1)?;
     let old = temp(locals, level, kind)?;
     let right = temp_of(locals, next_level, part)?;
     let base = base_var(locals, place, depth)?;
@@ -202,7 +202,7 @@ fn emit_operands(
 ) -> Result<(), Memory>
     ensures { OnOk result (code.new ≡ code.old ++ (expr_code around.locals depth left (length code.old) (value_view a.now) ++ expr_code around.locals (depth + 1) right (length code.old + expr_size (value_view a.now)) (value_view b.now))) }
 {
-    let level = behind(depth, 1)?;
+    let level = place_after(depth, 1)?;
     emit_value(code, around, depth, left, a)?;
     emit_value(code, around, level, right, b)?;
     Ok(())
@@ -224,7 +224,7 @@ fn emit_computed(
     ensures { OnOk result (code.new ≡ code.old ++ expr_code around.locals depth target (length code.old) (computed pos mark kind (value_view a.now) (value_view b.now))) }
 {
     let left = temp_of(around.locals, depth, a)?;
-    let right = temp_of(around.locals, behind(depth, 1)?, b)?;
+    let right = temp_of(around.locals, place_after(depth, 1)?, b)?;
     emit_operands(code, around, depth, left, right, a, b)?;
     let instr = Instr::Arith(Var(target), kind, Op::of(mark), atom(left), atom(right));
     put(code, pos, instr)
@@ -245,7 +245,7 @@ fn emit_compared(
     ensures { OnOk result (code.new ≡ code.old ++ expr_code around.locals depth target (length code.old) (compared pos mark (value_view a.now) (value_view b.now))) }
 {
     let left = operand(around.locals, depth, value_column(b), a)?;
-    let right = operand(around.locals, behind(depth, 1)?, value_column(a), b)?;
+    let right = operand(around.locals, place_after(depth, 1)?, value_column(a), b)?;
     emit_operands(code, around, depth, left, right, a, b)?;
     let instr = Instr::Compare(Var(target), Cmp::of(mark), atom(left), atom(right));
     put(code, pos, instr)
@@ -301,7 +301,7 @@ fn emit_negated(
 ) -> Result<(), Memory>
     ensures { OnOk result (code.new ≡ code.old ++ expr_code around.locals depth target (length code.old) (negated pos (value_view part.now))) }
 {
-    let level = behind(depth, 1)?;
+    let level = place_after(depth, 1)?;
     let value = temp_of(around.locals, level, part)?;
     put(code, pos, Instr::Set(Var(target), bit(true)))?;
     emit_value(code, around, level, value, part)?;
@@ -327,7 +327,7 @@ fn emit_joined(
     ensures { OnOk result (code.new ≡ code.old ++ expr_code around.locals depth target (length code.old) (joined_by pos mark (value_view a.now) (value_view b.now))) }
 {
     let on = is_and(mark);
-    let level = behind(depth, 1)?;
+    let level = place_after(depth, 1)?;
     let left = temp_of(around.locals, level, a)?;
     let right = temp_of(around.locals, level, b)?;
     put(code, pos, Instr::Set(Var(target), bit(!on)))?;
@@ -390,13 +390,13 @@ fn emit_args(
     for arg in args {
         let target = operand(around.locals, level, front_column(left), arg)?;
         emit_value(code, around, level, target, arg)?;
-        level = behind(level, 1)?;
+        level = place_after(level, 1)?;
         left = tail(left);
     }
     Ok(())
 }
 
-/// A call of a row, behind its arguments.
+/// A call of a row, after its arguments.
 #[cycle(emit)]
 fn emit_called(
     code: &mut Seq<Line>,

@@ -1,10 +1,10 @@
-// What the lowering asks of a node.
+// What the lowering requires of a node.
 ghost use Rattle.std.specs.Prelude.{◌≡◌, Some};
-ghost use Rattle.pungi_types.specs.Operators.{is_same_kind as is_one_kind};
-ghost use Rattle.pungi_meaning.specs.Exprs.{is_and as is_and_mark, step_op as op_of_step};
-ghost use Rattle.pungi_meaning.specs.Values.{slot_kind as kind_of_slot};
-ghost use Rattle.pungi_layout.specs.code.ExprCode.{bit as bit_atom, branch_on as branch_when};
-ghost use Rattle.pungi_layout.specs.code.Parts.{is_minus as is_minus_mark, has_value as answer_has_value, has_own_value as special_has_value, gives_form};
+ghost use Rattle.pungi_types.specs.Operators.{is_same_kind};
+ghost use Rattle.pungi_meaning.specs.Exprs.{is_and, step_op};
+ghost use Rattle.pungi_meaning.specs.Values.{slot_kind};
+ghost use Rattle.pungi_layout.specs.code.ExprCode.{bit, branch_on};
+ghost use Rattle.pungi_layout.specs.code.Parts.{is_minus, has_value, has_own_value, gives_form};
 
 use pungi_api::{Answer, Form, Param, Special};
 use pungi_base::{Kind, Punct};
@@ -14,7 +14,7 @@ use pungi_types::ValueKind;
 
 /// A sign is a minus.
 pub fn is_minus(mark: Kind) -> bool
-    ensures { result ≡ is_minus_mark mark }
+    ensures { result ≡ is_minus mark }
 {
     match mark {
         Kind::Punct(Punct::Minus) => true,
@@ -24,7 +24,7 @@ pub fn is_minus(mark: Kind) -> bool
 
 /// Two kinds of integers are one.
 pub fn is_same_kind(a: ValueKind, b: ValueKind) -> bool
-    ensures { result ≡ is_one_kind (Some a) (Some b) }
+    ensures { result ≡ is_same_kind (Some a) (Some b) }
 {
     match (a, b) {
         (ValueKind::Int, ValueKind::Int) => true,
@@ -36,7 +36,7 @@ pub fn is_same_kind(a: ValueKind, b: ValueKind) -> bool
 
 /// What a slot of this kind holds.
 pub fn slot_kind(kind: ValueKind) -> Param
-    ensures { result ≡ kind_of_slot kind }
+    ensures { result ≡ slot_kind kind }
 {
     match kind {
         ValueKind::Int => Param::Int,
@@ -49,7 +49,7 @@ pub fn slot_kind(kind: ValueKind) -> Param
 
 /// An operator is `&&`.
 pub fn is_and(mark: Punct) -> bool
-    ensures { result ≡ is_and_mark mark }
+    ensures { result ≡ is_and mark }
 {
     match mark {
         Punct::AndAnd => true,
@@ -59,7 +59,7 @@ pub fn is_and(mark: Punct) -> bool
 
 /// The operator of `++` or `--`.
 pub fn step_op(mark: Kind) -> Op
-    ensures { result ≡ op_of_step mark }
+    ensures { result ≡ step_op mark }
 {
     match mark {
         Kind::Punct(punct) => Op::of(punct),
@@ -69,14 +69,14 @@ pub fn step_op(mark: Kind) -> Op
 
 /// The integer 0 or 1.
 pub fn bit(holds: bool) -> Atom
-    ensures { result ≡ bit_atom holds }
+    ensures { result ≡ bit holds }
 {
     if holds { Atom::Int(1) } else { Atom::Int(0) }
 }
 
 /// On the wanted truth of a variable to one place, else to another.
 pub fn branch_on(on: bool, var: u32, go: u32, other: u32) -> Instr
-    ensures { result ≡ branch_when on var go other }
+    ensures { result ≡ branch_on on var go other }
 {
     let atom = Atom::Var(Var(var));
     if on {
@@ -87,7 +87,7 @@ pub fn branch_on(on: bool, var: u32, go: u32, other: u32) -> Instr
 }
 
 fn has_value(answer: Answer) -> bool
-    ensures { result ≡ answer_has_value answer }
+    ensures { result ≡ has_value answer }
 {
     match answer {
         Answer::Void => false,
@@ -96,7 +96,7 @@ fn has_value(answer: Answer) -> bool
 }
 
 fn has_own_value(special: Special) -> bool
-    ensures { result ≡ special_has_value special }
+    ensures { result ≡ has_own_value special }
 {
     match special {
         Special::NewRef | Special::XNewRef => true,

@@ -1,7 +1,7 @@
 // Calls of the API.
 ghost use Rattle.std.specs.Prelude.{◌≡◌, ◌++◌, map, IfOk, OnOk};
 ghost use Rattle.pungi_resolved.specs.ValueView.{value_view};
-ghost use Rattle.pungi_meaning.specs.Work.{shape_of as plain_shape};
+ghost use Rattle.pungi_meaning.specs.Work.{shape_of};
 ghost use Rattle.pungi_layout.specs.code.ExprCode.{row_code, var as var_atom};
 ghost use Rattle.pungi_layout.specs.code.Temporaries.{arg_vars};
 
@@ -17,7 +17,7 @@ use std::alloc::Global;
 
 /// A call of a row that writes no variable.
 fn shape_of(alloc: Global, row: &Row) -> Result<Shape, Memory>
-    ensures { IfOk result (λ shape. shape ≡ plain_shape row.now) }
+    ensures { IfOk result (λ shape. shape ≡ shape_of row.now) }
 {
     let row = Row {
         form: row.form,

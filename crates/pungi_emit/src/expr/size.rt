@@ -1,9 +1,9 @@
 // How many instructions an expression takes. Each function returns the place after its part, which begins at `from`.
 ghost use Rattle.std.specs.Prelude.{◌≡◌, ◌+◌, ◌≤◌, map, IfOk};
 ghost use Rattle.pungi_resolved.specs.ValueView.{value_view, values_of, place_view, optional_view};
-ghost use Rattle.pungi_layout.specs.code.Sizes.{fit_size as fit_length, expr_size, option_size, place_size, test_size, values_size};
+ghost use Rattle.pungi_layout.specs.code.Sizes.{fit_size, expr_size, option_size, place_size, test_size, values_size};
 
-use crate::code::number::behind;
+use crate::code::number::place_after;
 use crate::expr::parts::{is_minus, is_same_kind};
 use pungi_base::Memory;
 use pungi_meaning::wide;
@@ -12,7 +12,7 @@ use pungi_types::ValueKind;
 
 /// A conversion, where the kinds differ.
 fn fit_size(to: ValueKind, from: ValueKind) -> u32
-    ensures size { result ≡ fit_length to from }
+    ensures size { result ≡ fit_size to from }
     ensures low { result ≤ 1 }
 {
     if is_same_kind(to, from) { 0 } else { 1 }
@@ -43,39 +43,39 @@ pub fn after_value(from: u32, node: &Node) -> Result<u32, Memory>
         | ValueNode::Null
         | ValueNode::Static(_)
         | ValueNode::Module(_)
-        | ValueNode::Called(_, _) => behind(from, 1),
-        ValueNode::Read(_, place) => after_place(behind(from, 1)?, place),
+        | ValueNode::Called(_, _) => place_after(from, 1),
+        ValueNode::Read(_, place) => after_place(place_after(from, 1)?, place),
         ValueNode::Inner(part) | ValueNode::Cast(part) | ValueNode::Dropped(part) => {
             after_value(from, part)
         }
         ValueNode::Signed(mark, _, part) => {
             let own = if is_minus(*mark) { 1 } else { 0 };
-            after_value(behind(from, own)?, part)
+            after_value(place_after(from, own)?, part)
         }
-        ValueNode::Negated(part) => after_value(behind(from, 3)?, part),
+        ValueNode::Negated(part) => after_value(place_after(from, 3)?, part),
         ValueNode::Stepped(behind_it, _, kind, place) => {
             let keep = if *behind_it { 2 } else { 0 };
             let fit = fit_size(*kind, wide(*kind));
-            after_place(behind(from, keep + 2 + fit + STORE_SIZE)?, place)
+            after_place(place_after(from, keep + 2 + fit + STORE_SIZE)?, place)
         }
         ValueNode::Computed(_, _, a, b) | ValueNode::Compared(_, a, b) => {
-            after_value(after_value(behind(from, 1)?, a)?, b)
+            after_value(after_value(place_after(from, 1)?, a)?, b)
         }
-        ValueNode::Joined(_, a, b) => after_value(after_value(behind(from, 4)?, a)?, b),
+        ValueNode::Joined(_, a, b) => after_value(after_value(place_after(from, 4)?, a)?, b),
         ValueNode::Stored(_, place, part) => {
-            after_value(after_place(behind(from, STORE_SIZE)?, place)?, part)
+            after_value(after_place(place_after(from, STORE_SIZE)?, place)?, part)
         }
         ValueNode::Updated(_, counted, kind, place, part) => {
             let fit = fit_size(*kind, *counted);
-            let own = behind(from, 2 + fit + STORE_SIZE)?;
+            let own = place_after(from, 2 + fit + STORE_SIZE)?;
             after_value(after_place(own, place)?, part)
         }
         ValueNode::Chosen(c, a, b) => {
-            let test = after_value(behind(from, 2)?, c)?;
+            let test = after_value(place_after(from, 2)?, c)?;
             after_value(after_value(test, a)?, b)
         }
-        ValueNode::Converted(_, part) => after_value(behind(from, 1)?, part),
-        ValueNode::CalledRow(_, _, args) => after_values(behind(from, 1)?, args),
+        ValueNode::Converted(_, part) => after_value(place_after(from, 1)?, part),
+        ValueNode::CalledRow(_, _, args) => after_values(place_after(from, 1)?, args),
     }
 }
 
@@ -105,7 +105,7 @@ pub fn after_option(from: u32, node: &Option<Box<Node>>) -> Result<u32, Memory>
 pub fn after_test(from: u32, node: &Node) -> Result<u32, Memory>
     ensures { IfOk result (λ n. n ≡ from + expr_size (value_view node.now) + 1) }
 {
-    behind(after_value(from, node)?, 1)
+    place_after(after_value(from, node)?, 1)
 }
 
 /// The test of a loop, where there is one.

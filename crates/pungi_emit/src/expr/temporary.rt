@@ -1,10 +1,10 @@
 // Where values stand that wait.
 ghost use Rattle.std.specs.Prelude.{◌≡◌, ◌+◌, IfOk};
 ghost use Rattle.pungi_resolved.specs.ValueView.{value_view, place_view};
-ghost use Rattle.pungi_layout.specs.code.Temporaries.{column as column_of, temp as temporary, temp_of as temporary_of, fitting_column as fitting_column_of, operand as operand_of, local_column as local_column_of, param_column as param_column_of, front_column as front_column_of, tail as tail_of};
-ghost use Rattle.pungi_layout.specs.code.ExprCode.{above as level_above, base_var as base_variable, stored_var as stored_variable, counted_var as counted_variable, sign_var as sign_variable, var as var_atom};
+ghost use Rattle.pungi_layout.specs.code.Temporaries.{column as column_of, temp, temp_of, fitting_column, operand, local_column, param_column, front_column, tail};
+ghost use Rattle.pungi_layout.specs.code.ExprCode.{above, base_var, stored_var, counted_var, sign_var, var as var_atom};
 
-use crate::code::number::{behind, small};
+use crate::code::number::{place_after, small};
 use crate::expr::column::{column, value_column};
 use crate::expr::parts::is_same_kind;
 use pungi_api::Param;
@@ -22,42 +22,42 @@ pub fn atom(var: u32) -> Atom
 
 /// The variable of a level and a column.
 pub fn temp_in(locals: u32, depth: u32, column: u32) -> Result<u32, Memory>
-    ensures { IfOk result (λ x. x ≡ temporary locals depth column) }
+    ensures { IfOk result (λ x. x ≡ temp locals depth column) }
 {
     small(locals as u64 + 5 * (depth as u64) + column as u64)
 }
 
 /// The variable of a value of this kind that has so many values below it.
 pub fn temp(locals: u32, depth: u32, kind: ValueKind) -> Result<u32, Memory>
-    ensures { IfOk result (λ x. x ≡ temporary locals depth (column_of kind)) }
+    ensures { IfOk result (λ x. x ≡ temp locals depth (column_of kind)) }
 {
     temp_in(locals, depth, column(kind))
 }
 
 /// The variable of the value of an expression.
 pub fn temp_of(locals: u32, depth: u32, node: &Node) -> Result<u32, Memory>
-    ensures { IfOk result (λ x. x ≡ temporary_of locals depth (value_view node.now)) }
+    ensures { IfOk result (λ x. x ≡ temp_of locals depth (value_view node.now)) }
 {
     temp_in(locals, depth, value_column(node))
 }
 
 /// The column of an operand where one of the column `want` is wanted: `NULL` is a pointer of either kind.
 pub fn fitting_column(want: u32, own: u32) -> u32
-    ensures { result ≡ fitting_column_of want own }
+    ensures { result ≡ fitting_column want own }
 {
     if want == 3 { 3 } else { own }
 }
 
 /// The variable of an operand where one of the column `want` is wanted.
 pub fn operand(locals: u32, depth: u32, want: u32, node: &Node) -> Result<u32, Memory>
-    ensures { IfOk result (λ x. x ≡ operand_of locals depth want (value_view node.now)) }
+    ensures { IfOk result (λ x. x ≡ operand locals depth want (value_view node.now)) }
 {
     temp_in(locals, depth, fitting_column(want, value_column(node)))
 }
 
-/// The column that a local of this kind wants.
+/// The column that a local of this kind needs.
 pub fn local_column(kind: Option<ValueKind>) -> u32
-    ensures { result ≡ local_column_of kind }
+    ensures { result ≡ local_column kind }
 {
     match kind {
         Some(kind) => column(kind),
@@ -65,9 +65,9 @@ pub fn local_column(kind: Option<ValueKind>) -> u32
     }
 }
 
-/// The column that a parameter wants.
+/// The column that a parameter needs.
 pub fn param_column(param: Param) -> u32
-    ensures { result ≡ param_column_of param }
+    ensures { result ≡ param_column param }
 {
     match param {
         Param::Text | Param::TextOrNull => 3,
@@ -75,9 +75,9 @@ pub fn param_column(param: Param) -> u32
     }
 }
 
-/// The column that the first of these parameters wants.
+/// The column that the first of these parameters needs.
 pub fn front_column(params: &[Param]) -> u32
-    ensures { result ≡ front_column_of params.now }
+    ensures { result ≡ front_column params.now }
 {
     match params {
         [] => 4,
@@ -85,9 +85,9 @@ pub fn front_column(params: &[Param]) -> u32
     }
 }
 
-/// The parameters behind the first.
+/// The parameters after the first.
 pub fn tail(params: &[Param]) -> &[Param]
-    ensures { result.now ≡ tail_of params.now }
+    ensures { result.now ≡ tail params.now }
 {
     match params {
         [] => params,
@@ -97,17 +97,17 @@ pub fn tail(params: &[Param]) -> &[Param]
 
 /// How many values wait below one that is stored to a place.
 pub fn above(place: &Place, depth: u32) -> Result<u32, Memory>
-    ensures { IfOk result (λ x. x ≡ level_above (place_view place.now) depth) }
+    ensures { IfOk result (λ x. x ≡ above (place_view place.now) depth) }
 {
     match place {
-        Place::Field(_, _, _, _) => behind(depth, 1),
+        Place::Field(_, _, _, _) => place_after(depth, 1),
         _ => Ok(depth),
     }
 }
 
 /// The variable of the base of a field.
 pub fn base_var(locals: u32, place: &Place, depth: u32) -> Result<u32, Memory>
-    ensures { IfOk result (λ x. x ≡ base_variable locals (place_view place.now) depth) }
+    ensures { IfOk result (λ x. x ≡ base_var locals (place_view place.now) depth) }
 {
     match place {
         Place::Field(_, base, _, _) => temp_of(locals, depth, base),
@@ -117,7 +117,7 @@ pub fn base_var(locals: u32, place: &Place, depth: u32) -> Result<u32, Memory>
 
 /// The variable that a value is stored from.
 pub fn stored_var(locals: u32, place: &Place, depth: u32, kind: ValueKind) -> Result<u32, Memory>
-    ensures { IfOk result (λ x. x ≡ stored_variable locals (place_view place.now) depth kind) }
+    ensures { IfOk result (λ x. x ≡ stored_var locals (place_view place.now) depth kind) }
 {
     temp(locals, above(place, depth)?, kind)
 }
@@ -130,7 +130,7 @@ pub fn counted_var(
     kind: ValueKind,
     counted: ValueKind,
 ) -> Result<u32, Memory>
-    ensures { IfOk result (λ x. x ≡ counted_variable locals (place_view place.now) depth kind counted) }
+    ensures { IfOk result (λ x. x ≡ counted_var locals (place_view place.now) depth kind counted) }
 {
     if is_same_kind(kind, counted) {
         stored_var(locals, place, depth, kind)
@@ -141,7 +141,7 @@ pub fn counted_var(
 
 /// The variable of what a sign stands before.
 pub fn sign_var(minus: bool, to: u32, value: u32) -> u32
-    ensures { result ≡ sign_variable minus to value }
+    ensures { result ≡ sign_var minus to value }
 {
     if minus { value } else { to }
 }

@@ -1,14 +1,14 @@
 // Whether a function calls one of its file: those that do have no code so far.
 ghost use Rattle.std.specs.Prelude.{◌≡◌, map};
-ghost use Rattle.pungi_resolved.specs.ActionView.{reached_view, action_view, actions_of};
+ghost use Rattle.pungi_resolved.specs.ActionView.{declared_view, action_view, actions_of};
 ghost use Rattle.pungi_resolved.specs.ValueView.{value_view, values_of, place_view, optional_view};
-ghost use Rattle.pungi_layout.specs.code.Calls.{calls_none as calls_none_of, is_free_place as is_free_place_of, call_none as call_none_of, is_free_option, are_free_locals, has_no_call as has_no_call_of, have_no_call as have_no_call_of};
+ghost use Rattle.pungi_layout.specs.code.Calls.{calls_none, is_free_place, call_none, is_free_option, are_free_locals, has_no_call, have_no_call};
 
-use pungi_resolved::{Action, ActionNode, Place, Reached, Value as Node, ValueNode};
+use pungi_resolved::{Action, ActionNode, DeclaredLocal, Place, Value as Node, ValueNode};
 
 #[cycle(values)]
 fn is_free_place(place: &Place) -> bool
-    ensures { result ≡ is_free_place_of (place_view place.now) }
+    ensures { result ≡ is_free_place (place_view place.now) }
 {
     match place {
         Place::Field(_, base, _, _) => calls_none(base),
@@ -18,7 +18,7 @@ fn is_free_place(place: &Place) -> bool
 
 #[cycle(values)]
 fn calls_none(node: &Node) -> bool
-    ensures { result ≡ calls_none_of (value_view node.now) }
+    ensures { result ≡ calls_none (value_view node.now) }
 {
     match &node.node {
         ValueNode::Constant(_)
@@ -47,7 +47,7 @@ fn calls_none(node: &Node) -> bool
 
 #[cycle(values)]
 fn call_none(args: &[Node]) -> bool
-    ensures { result ≡ call_none_of (values_of (map value_view args.now)) }
+    ensures { result ≡ call_none (values_of (map value_view args.now)) }
 {
     for arg in args {
         if !calls_none(arg) {
@@ -66,8 +66,8 @@ fn is_free(node: &Option<Box<Node>>) -> bool
     }
 }
 
-fn are_free(list: &[Reached]) -> bool
-    ensures { result ≡ are_free_locals (map reached_view list.now) }
+fn are_free(list: &[DeclaredLocal]) -> bool
+    ensures { result ≡ are_free_locals (map declared_view list.now) }
 {
     for reached in list {
         if !is_free(&reached.value) {
@@ -80,30 +80,30 @@ fn are_free(list: &[Reached]) -> bool
 /// A statement calls no function of the file.
 #[cycle(actions)]
 pub fn has_no_call(action: &Action) -> bool
-    ensures { result ≡ has_no_call_of (action_view action.now) }
+    ensures { result ≡ has_no_call (action_view action.now) }
 {
     match &action.node {
         ActionNode::Block(list, _) => have_no_call(list),
-        ActionNode::Reach(list) => are_free(list),
-        ActionNode::Evaluate(node) | ActionNode::Give(node) => is_free(node),
-        ActionNode::Test(c, a)
-        | ActionNode::RepeatWhile(c, a)
-        | ActionNode::RepeatUntil(a, c)
-        | ActionNode::SwitchOn(c, a) => calls_none(c) && has_no_call(a),
-        ActionNode::TestElse(c, a, b) => calls_none(c) && (has_no_call(a) && has_no_call(b)),
-        ActionNode::RepeatFor(list, u, c, w, a) => {
+        ActionNode::Declare(list) => are_free(list),
+        ActionNode::Do(node) | ActionNode::Return(node) => is_free(node),
+        ActionNode::If(c, a)
+        | ActionNode::While(c, a)
+        | ActionNode::DoWhile(a, c)
+        | ActionNode::Switch(c, a) => calls_none(c) && has_no_call(a),
+        ActionNode::IfElse(c, a, b) => calls_none(c) && (has_no_call(a) && has_no_call(b)),
+        ActionNode::For(list, u, c, w, a) => {
             are_free(list) && (is_free(u) && (is_free(c) && (is_free(w) && has_no_call(a))))
         }
-        ActionNode::AtCase(_, a) | ActionNode::AtDefault(a) | ActionNode::AtLabel(_, a) => {
+        ActionNode::Case(_, a) | ActionNode::Default(a) | ActionNode::Label(_, a) => {
             has_no_call(a)
         }
-        ActionNode::Jump(_) | ActionNode::Leave | ActionNode::NextTurn => true,
+        ActionNode::Goto(_) | ActionNode::Break | ActionNode::Continue => true,
     }
 }
 
 #[cycle(actions)]
 fn have_no_call(list: &[Action]) -> bool
-    ensures { result ≡ have_no_call_of (actions_of (map action_view list.now)) }
+    ensures { result ≡ have_no_call (actions_of (map action_view list.now)) }
 {
     for action in list {
         if !has_no_call(action) {

@@ -27,7 +27,7 @@ fn lower_one(alloc: Global, f: &Option<Function>) -> Result<Option<Code>, Memory
     }
 }
 
-/// The codes of the functions of a file. There is none of a function that is refused, and none of one that calls a
+/// The codes of the functions of a file. A function that is refused has no code, and neither has one that calls a
 /// function of the file.
 pub fn lower_functions(
     alloc: Global,

@@ -1,9 +1,9 @@
 //! The code of a function.
 ghost use Rattle.std.specs.Prelude.{◌≡◌, length, IfOk, OnOk, ◌++◌};
 ghost use Rattle.pungi_resolved.specs.ActionView.{function_view, action_view};
-ghost use Rattle.pungi_meaning.specs.Run.{closing as closing_of};
-ghost use Rattle.pungi_types.specs.Operators.{is_void as is_void_kind};
-ghost use Rattle.pungi_layout.specs.code.Heads.{heads_of as heads_of_function};
+ghost use Rattle.pungi_meaning.specs.Run.{closing_brace};
+ghost use Rattle.pungi_types.specs.Operators.{is_void};
+ghost use Rattle.pungi_layout.specs.code.Heads.{heads_of};
 ghost use Rattle.pungi_emit.specs.planning.Plans.{Begins, plan_of};
 ghost use Rattle.pungi_layout.specs.code.StmtCode.{body_code, end_code};
 ghost use Rattle.pungi_layout.specs.code.Sizes.{stmt_size};
@@ -26,31 +26,31 @@ use std::alloc::Global;
 const NOWHERE: Pos = Pos { line: 0, col: 0 };
 
 /// The closing brace of a body.
-fn closing(body: &Action) -> Pos
-    ensures { result ≡ closing_of (action_view body.now) }
+fn closing_brace(body: &Action) -> Pos
+    ensures { result ≡ closing_brace (action_view body.now) }
 {
     match &body.node {
         ActionNode::Block(_, pos) => *pos,
-        ActionNode::Reach(_)
-        | ActionNode::Evaluate(_)
-        | ActionNode::Test(_, _)
-        | ActionNode::TestElse(_, _, _)
-        | ActionNode::RepeatWhile(_, _)
-        | ActionNode::RepeatUntil(_, _)
-        | ActionNode::RepeatFor(_, _, _, _, _)
-        | ActionNode::SwitchOn(_, _)
-        | ActionNode::AtCase(_, _)
-        | ActionNode::AtDefault(_)
-        | ActionNode::AtLabel(_, _)
-        | ActionNode::Jump(_)
-        | ActionNode::Leave
-        | ActionNode::NextTurn
-        | ActionNode::Give(_) => NOWHERE,
+        ActionNode::Declare(_)
+        | ActionNode::Do(_)
+        | ActionNode::If(_, _)
+        | ActionNode::IfElse(_, _, _)
+        | ActionNode::While(_, _)
+        | ActionNode::DoWhile(_, _)
+        | ActionNode::For(_, _, _, _, _)
+        | ActionNode::Switch(_, _)
+        | ActionNode::Case(_, _)
+        | ActionNode::Default(_)
+        | ActionNode::Label(_, _)
+        | ActionNode::Goto(_)
+        | ActionNode::Break
+        | ActionNode::Continue
+        | ActionNode::Return(_) => NOWHERE,
     }
 }
 
 fn is_void(kind: Option<ValueKind>) -> bool
-    ensures { result ≡ is_void_kind kind }
+    ensures { result ≡ is_void kind }
 {
     match kind {
         Some(ValueKind::Void) => true,
@@ -83,7 +83,7 @@ fn emit_body(around: Around, places: &[u32], size: u32, f: &Function) -> Result<
     let mut plan = Plan { left: places };
     let mut code = Seq::new(Vec::new(around.alloc));
     emit_stmt(&mut code, around, &scope, &mut plan, &f.body)?;
-    emit_end(&mut code, closing(&f.body), is_void(f.result))?;
+    emit_end(&mut code, closing_brace(&f.body), is_void(f.result))?;
     Ok(code)
 }
 
@@ -93,7 +93,7 @@ pub fn lower_function(alloc: Global, f: &Function) -> Result<Code, Memory>
     ensures vars { IfOk result (λ code. code.vars ≡ kinds_of_vars (function_view f.now)) }
     ensures params { IfOk result (λ code. code.params ≡ length f.now.params) }
     ensures locals { IfOk result (λ code. code.locals ≡ f.now.locals) }
-    ensures heads { IfOk result (λ code. code.heads ≡ heads_of_function (function_view f.now)) }
+    ensures heads { IfOk result (λ code. code.heads ≡ heads_of (function_view f.now)) }
 {
     let locals = small(f.locals as u64)?;
     let params = small(f.params.len() as u64)?;

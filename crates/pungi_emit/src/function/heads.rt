@@ -76,7 +76,7 @@ fn label_places(alloc: Global, marks: &[Mark], count: usize) -> Result<Vec<Optio
     Ok(kept)
 }
 
-/// A label leads back, where it is not behind the instruction that names it.
+/// A label leads back, where it is not after the instruction that names it.
 fn note_back(backs: &mut [bool], place: usize, label: Label)
     ensures long { length backs.new ≡ length backs.old }
     ensures back { (n : ℕ) → n < length backs.old → get_or backs.new n false ≡ (get_or backs.old n false || (nat_le n place && label.0 == n)) }

@@ -1,18 +1,18 @@
 // Of how many nodes a statement is made. Each function adds those of its part to a number.
 ghost use Rattle.std.specs.Prelude.{◌≡◌, ◌+◌, map, IfOk};
-ghost use Rattle.pungi_resolved.specs.ActionView.{reached_view, action_view, actions_of};
+ghost use Rattle.pungi_resolved.specs.ActionView.{declared_view, action_view, actions_of};
 ghost use Rattle.pungi_resolved.specs.ValueView.{value_view, values_of, place_view, optional_view};
-ghost use Rattle.pungi_layout.specs.code.Sound.{expr_nodes, place_nodes, values_nodes, option_nodes, reach_nodes, stmt_nodes as stmt_count, stmts_nodes};
+ghost use Rattle.pungi_layout.specs.code.Sound.{expr_nodes, place_nodes, values_nodes, option_nodes, declare_nodes, stmt_nodes, stmts_nodes};
 
-use crate::code::number::behind;
+use crate::code::number::place_after;
 use pungi_base::Memory;
-use pungi_resolved::{Action, ActionNode, Place, Reached, Value as Node, ValueNode};
+use pungi_resolved::{Action, ActionNode, DeclaredLocal, Place, Value as Node, ValueNode};
 
 #[cycle(nodes)]
 fn add_place(before: u32, place: &Place) -> Result<u32, Memory>
     ensures { IfOk result (λ n. n ≡ before + place_nodes (place_view place.now)) }
 {
-    let total = behind(before, 1)?;
+    let total = place_after(before, 1)?;
     match place {
         Place::Field(_, base, _, _) => add_value(total, base),
         _ => Ok(total),
@@ -23,7 +23,7 @@ fn add_place(before: u32, place: &Place) -> Result<u32, Memory>
 fn add_value(before: u32, node: &Node) -> Result<u32, Memory>
     ensures { IfOk result (λ n. n ≡ before + expr_nodes (value_view node.now)) }
 {
-    let total = behind(before, 1)?;
+    let total = place_after(before, 1)?;
     match &node.node {
         ValueNode::Constant(_)
         | ValueNode::Text(_)
@@ -69,41 +69,41 @@ fn add_option(before: u32, node: &Option<Box<Node>>) -> Result<u32, Memory>
     }
 }
 
-fn add_reached(before: u32, list: &[Reached]) -> Result<u32, Memory>
-    ensures { IfOk result (λ n. n ≡ before + reach_nodes (map reached_view list.now)) }
+fn add_declared(before: u32, list: &[DeclaredLocal]) -> Result<u32, Memory>
+    ensures { IfOk result (λ n. n ≡ before + declare_nodes (map declared_view list.now)) }
 {
     let mut total = before;
     for reached in list {
-        total = add_option(behind(total, 1)?, &reached.value)?;
+        total = add_option(place_after(total, 1)?, &reached.value)?;
     }
     Ok(total)
 }
 
 #[cycle(stmt_nodes)]
 fn add_stmt(before: u32, action: &Action) -> Result<u32, Memory>
-    ensures { IfOk result (λ n. n ≡ before + stmt_count (action_view action.now)) }
+    ensures { IfOk result (λ n. n ≡ before + stmt_nodes (action_view action.now)) }
 {
-    let total = behind(before, 1)?;
+    let total = place_after(before, 1)?;
     match &action.node {
         ActionNode::Block(list, _) => add_list(total, list),
-        ActionNode::Reach(list) => add_reached(total, list),
-        ActionNode::Evaluate(node) | ActionNode::Give(node) => add_option(total, node),
-        ActionNode::Test(c, a)
-        | ActionNode::RepeatWhile(c, a)
-        | ActionNode::RepeatUntil(a, c)
-        | ActionNode::SwitchOn(c, a) => add_stmt(add_value(total, c)?, a),
-        ActionNode::TestElse(c, a, b) => add_stmt(add_stmt(add_value(total, c)?, a)?, b),
-        ActionNode::RepeatFor(rs, u, c, w, a) => {
-            let bound = add_reached(total, rs)?;
+        ActionNode::Declare(list) => add_declared(total, list),
+        ActionNode::Do(node) | ActionNode::Return(node) => add_option(total, node),
+        ActionNode::If(c, a)
+        | ActionNode::While(c, a)
+        | ActionNode::DoWhile(a, c)
+        | ActionNode::Switch(c, a) => add_stmt(add_value(total, c)?, a),
+        ActionNode::IfElse(c, a, b) => add_stmt(add_stmt(add_value(total, c)?, a)?, b),
+        ActionNode::For(rs, u, c, w, a) => {
+            let bound = add_declared(total, rs)?;
             let first = add_option(bound, u)?;
             let test = add_option(first, c)?;
             let last = add_option(test, w)?;
             add_stmt(last, a)
         }
-        ActionNode::AtCase(_, a) | ActionNode::AtDefault(a) | ActionNode::AtLabel(_, a) => {
+        ActionNode::Case(_, a) | ActionNode::Default(a) | ActionNode::Label(_, a) => {
             add_stmt(total, a)
         }
-        ActionNode::Jump(_) | ActionNode::Leave | ActionNode::NextTurn => Ok(total),
+        ActionNode::Goto(_) | ActionNode::Break | ActionNode::Continue => Ok(total),
     }
 }
 
@@ -120,7 +120,7 @@ fn add_list(before: u32, list: &[Action]) -> Result<u32, Memory>
 
 /// Of how many nodes a statement is made.
 pub fn stmt_nodes(action: &Action) -> Result<u32, Memory>
-    ensures { IfOk result (λ n. n ≡ stmt_count (action_view action.now)) }
+    ensures { IfOk result (λ n. n ≡ stmt_nodes (action_view action.now)) }
 {
     add_stmt(0, action)
 }

@@ -1,17 +1,17 @@
 // What the variables of a code hold.
 ghost use Rattle.std.specs.Prelude.{◌≡◌, ◌++◌, map, IfOk, OnOk};
-ghost use Rattle.pungi_resolved.specs.ActionView.{reached_view, action_view, actions_of, function_view};
-ghost use Rattle.pungi_layout.specs.code.VarKinds.{held_kind, kind_held, stmt_reached, stmts_reached, temp_kinds, var_kinds as kinds_of_vars};
+ghost use Rattle.pungi_resolved.specs.ActionView.{declared_view, action_view, actions_of, function_view};
+ghost use Rattle.pungi_layout.specs.code.VarKinds.{held_kind, kind_held, stmt_declared, stmts_declared, temp_kinds, var_kinds as kinds_of_vars};
 
 use crate::function::nodes::stmt_nodes;
 use pungi_api::Param;
 use pungi_base::{Memory, Seq};
-use pungi_resolved::{Action, ActionNode, Function, Reached};
+use pungi_resolved::{Action, ActionNode, DeclaredLocal, Function};
 use pungi_types::ValueKind;
 use std::alloc::Global;
 
 /// What a local of this kind holds. No local is of the last kinds.
-fn held(kind: Option<ValueKind>) -> Param
+fn held_kind(kind: Option<ValueKind>) -> Param
     ensures { result ≡ held_kind kind }
 {
     match kind {
@@ -28,16 +28,16 @@ fn add_params(kinds: &mut Seq<Param>, params: &[Option<ValueKind>]) -> Result<()
     ensures { OnOk result (kinds.new ≡ kinds.old ++ map held_kind params.now) }
 {
     for param in params {
-        kinds.push(held(*param))?;
+        kinds.push(held_kind(*param))?;
     }
     Ok(())
 }
 
-fn add_reached(kinds: &mut Seq<Param>, list: &[Reached]) -> Result<(), Memory>
-    ensures { OnOk result (kinds.new ≡ kinds.old ++ map kind_held (map reached_view list.now)) }
+fn add_declared(kinds: &mut Seq<Param>, list: &[DeclaredLocal]) -> Result<(), Memory>
+    ensures { OnOk result (kinds.new ≡ kinds.old ++ map kind_held (map declared_view list.now)) }
 {
     for reached in list {
-        kinds.push(held(reached.kind))?;
+        kinds.push(held_kind(reached.kind))?;
     }
     Ok(())
 }
@@ -46,37 +46,37 @@ fn add_reached(kinds: &mut Seq<Param>, list: &[Reached]) -> Result<(), Memory>
 #[cycle(add)]
 #[tactic(auto, using(crate::proofs::function::VarKinds::both_added))]
 fn add_stmt(kinds: &mut Seq<Param>, action: &Action) -> Result<(), Memory>
-    ensures { OnOk result (kinds.new ≡ kinds.old ++ map kind_held (stmt_reached (action_view action.now))) }
+    ensures { OnOk result (kinds.new ≡ kinds.old ++ map kind_held (stmt_declared (action_view action.now))) }
 {
     match &action.node {
         ActionNode::Block(list, _) => Ok(add_list(kinds, list)?),
-        ActionNode::Reach(list) => Ok(add_reached(kinds, list)?),
-        ActionNode::Test(_, a)
-        | ActionNode::RepeatWhile(_, a)
-        | ActionNode::RepeatUntil(a, _)
-        | ActionNode::SwitchOn(_, a)
-        | ActionNode::AtCase(_, a)
-        | ActionNode::AtDefault(a)
-        | ActionNode::AtLabel(_, a) => Ok(add_stmt(kinds, a)?),
-        ActionNode::TestElse(_, a, b) => {
+        ActionNode::Declare(list) => Ok(add_declared(kinds, list)?),
+        ActionNode::If(_, a)
+        | ActionNode::While(_, a)
+        | ActionNode::DoWhile(a, _)
+        | ActionNode::Switch(_, a)
+        | ActionNode::Case(_, a)
+        | ActionNode::Default(a)
+        | ActionNode::Label(_, a) => Ok(add_stmt(kinds, a)?),
+        ActionNode::IfElse(_, a, b) => {
             add_stmt(kinds, a)?;
             Ok(add_stmt(kinds, b)?)
         }
-        ActionNode::RepeatFor(list, _, _, _, a) => {
-            add_reached(kinds, list)?;
+        ActionNode::For(list, _, _, _, a) => {
+            add_declared(kinds, list)?;
             Ok(add_stmt(kinds, a)?)
         }
-        ActionNode::Evaluate(_)
-        | ActionNode::Jump(_)
-        | ActionNode::Leave
-        | ActionNode::NextTurn
-        | ActionNode::Give(_) => Ok(()),
+        ActionNode::Do(_)
+        | ActionNode::Goto(_)
+        | ActionNode::Break
+        | ActionNode::Continue
+        | ActionNode::Return(_) => Ok(()),
     }
 }
 
 #[cycle(add)]
 fn add_list(kinds: &mut Seq<Param>, list: &[Action]) -> Result<(), Memory>
-    ensures { OnOk result (kinds.new ≡ kinds.old ++ map kind_held (stmts_reached (actions_of (map action_view list.now)))) }
+    ensures { OnOk result (kinds.new ≡ kinds.old ++ map kind_held (stmts_declared (actions_of (map action_view list.now)))) }
 {
     for action in list {
         add_stmt(kinds, action)?;

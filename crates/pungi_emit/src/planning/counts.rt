@@ -2,9 +2,9 @@
 ghost use Rattle.std.specs.Prelude.{◌≡◌, length, map, IfOk};
 ghost use Rattle.pungi_resolved.specs.ActionView.{action_view};
 ghost use Rattle.pungi_meaning.specs.Stmts.{cases_of, block_cases};
-ghost use Rattle.pungi_meaning.specs.Work.{declared};
+ghost use Rattle.pungi_meaning.specs.Work.{block_locals};
 
-use crate::code::number::{behind, small};
+use crate::code::number::{place_after, small};
 use pungi_base::Memory;
 use pungi_resolved::{Action, ActionNode};
 
@@ -17,47 +17,47 @@ pub fn count(n: usize) -> Result<u32, Memory>
 
 /// How many locals the statements of a block declare.
 pub fn declared_count(list: &[Action]) -> Result<u32, Memory>
-    ensures { IfOk result (λ n. n ≡ length (declared (map action_view list.now))) }
+    ensures { IfOk result (λ n. n ≡ length (block_locals (map action_view list.now))) }
 {
     let mut total = 0;
     for action in list {
-        if let ActionNode::Reach(reached) = &action.node {
-            total = behind(total, count(reached.len())?)?;
+        if let ActionNode::Declare(reached) = &action.node {
+            total = place_after(total, count(reached.len())?)?;
         }
     }
     Ok(total)
 }
 
-/// How many cases a statement stands behind.
+/// How many cases a statement stands after.
 fn own_cases(action: &Action) -> Result<u32, Memory>
     ensures { IfOk result (λ n. n ≡ length (cases_of (action_view action.now))) }
 {
     match &action.node {
-        ActionNode::AtCase(_, a) => behind(own_cases(a)?, 1),
-        ActionNode::AtDefault(a) | ActionNode::AtLabel(_, a) => own_cases(a),
+        ActionNode::Case(_, a) => place_after(own_cases(a)?, 1),
+        ActionNode::Default(a) | ActionNode::Label(_, a) => own_cases(a),
         ActionNode::Block(_, _)
-        | ActionNode::Reach(_)
-        | ActionNode::Evaluate(_)
-        | ActionNode::Test(_, _)
-        | ActionNode::TestElse(_, _, _)
-        | ActionNode::RepeatWhile(_, _)
-        | ActionNode::RepeatUntil(_, _)
-        | ActionNode::RepeatFor(_, _, _, _, _)
-        | ActionNode::SwitchOn(_, _)
-        | ActionNode::Jump(_)
-        | ActionNode::Leave
-        | ActionNode::NextTurn
-        | ActionNode::Give(_) => Ok(0),
+        | ActionNode::Declare(_)
+        | ActionNode::Do(_)
+        | ActionNode::If(_, _)
+        | ActionNode::IfElse(_, _, _)
+        | ActionNode::While(_, _)
+        | ActionNode::DoWhile(_, _)
+        | ActionNode::For(_, _, _, _, _)
+        | ActionNode::Switch(_, _)
+        | ActionNode::Goto(_)
+        | ActionNode::Break
+        | ActionNode::Continue
+        | ActionNode::Return(_) => Ok(0),
     }
 }
 
-/// How many cases the statements of a `switch` stand behind.
+/// How many cases the statements of a `switch` stand after.
 pub fn cases_count(list: &[Action]) -> Result<u32, Memory>
     ensures { IfOk result (λ n. n ≡ length (block_cases (map action_view list.now))) }
 {
     let mut total = 0;
     for action in list {
-        total = behind(total, own_cases(action)?)?;
+        total = place_after(total, own_cases(action)?)?;
     }
     Ok(total)
 }

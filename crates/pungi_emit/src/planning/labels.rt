@@ -14,28 +14,28 @@ fn own_names(names: &mut Seq<Name>, action: &Action) -> Result<(), Memory>
     ensures { OnOk result (names.new ≡ names.old ++ stmt_names (action_view action.now)) }
 {
     match &action.node {
-        ActionNode::AtLabel(name, a) => {
+        ActionNode::Label(name, a) => {
             names.push(*name)?;
             own_names(names, a)
         }
-        ActionNode::Test(_, a)
-        | ActionNode::RepeatWhile(_, a)
-        | ActionNode::RepeatUntil(a, _)
-        | ActionNode::RepeatFor(_, _, _, _, a)
-        | ActionNode::SwitchOn(_, a)
-        | ActionNode::AtCase(_, a)
-        | ActionNode::AtDefault(a) => own_names(names, a),
-        ActionNode::TestElse(_, a, b) => {
+        ActionNode::If(_, a)
+        | ActionNode::While(_, a)
+        | ActionNode::DoWhile(a, _)
+        | ActionNode::For(_, _, _, _, a)
+        | ActionNode::Switch(_, a)
+        | ActionNode::Case(_, a)
+        | ActionNode::Default(a) => own_names(names, a),
+        ActionNode::IfElse(_, a, b) => {
             own_names(names, a)?;
             own_names(names, b)
         }
         ActionNode::Block(_, _)
-        | ActionNode::Reach(_)
-        | ActionNode::Evaluate(_)
-        | ActionNode::Jump(_)
-        | ActionNode::Leave
-        | ActionNode::NextTurn
-        | ActionNode::Give(_) => Ok(()),
+        | ActionNode::Declare(_)
+        | ActionNode::Do(_)
+        | ActionNode::Goto(_)
+        | ActionNode::Break
+        | ActionNode::Continue
+        | ActionNode::Return(_) => Ok(()),
     }
 }
 

@@ -1,14 +1,14 @@
 // The places that statements lead to, before their code is there.
 ghost use Rattle.std.specs.Prelude.{◌≡◌, ◌<◌, ◌≤◌, ◌∷◌, ◌++◌, length};
 
-/// The places that are left, in the order in which the emitters ask for them.
+/// The places that are left, in the order in which the emitters need them.
 #[derive(Drop)]
 pub struct Plan<'a> {
     pub left: &'a [u32],
 }
 
 /// The next place.
-pub fn planned(plan: &mut Plan<'_>) -> u32
+pub fn next_planned(plan: &mut Plan<'_>) -> u32
     requires { 0 < length plan.old.left.now }
     ensures { plan.old.left.now ≡ result ∷ plan.new.left.now }
 {

@@ -1,6 +1,6 @@
 // What stands around a statement.
 ghost use Rattle.std.specs.Prelude.{◌≡◌};
-ghost use Rattle.pungi_emit.specs.planning.LabelPlaces.{found as found_in, labels_of};
+ghost use Rattle.pungi_emit.specs.planning.LabelPlaces.{find, labels_of};
 
 use pungi_base::Name;
 
@@ -11,8 +11,8 @@ pub struct Placed {
     pub place: u32,
 }
 
-/// The labels of the blocks around a statement, the innermost first; and where a `goto` leads to a label that is none of
-/// them.
+/// The labels of the blocks around a statement, the innermost first; and where a `goto` leads to a label that isn't one
+/// of them.
 #[derive(Clone, Copy)]
 pub enum Labels<'a> {
     Nowhere(u32),
@@ -28,7 +28,7 @@ pub struct Scope<'a> {
 }
 
 fn find(name: Name, placed: &[Placed]) -> Option<u32>
-    ensures { result ≡ found_in name placed.now }
+    ensures { result ≡ find name placed.now }
 {
     for label in placed {
         if label.name.0 == name.0 {

@@ -1,17 +1,17 @@
 // What is found out of a statement before its code is there: the places that it leads to, and its loops and labels.
 ghost use Rattle.std.specs.Prelude.{◌≡◌, ◌+◌, ◌++◌, [], map, IfOk};
-ghost use Rattle.pungi_resolved.specs.ActionView.{reached_view, action_view, actions_of};
+ghost use Rattle.pungi_resolved.specs.ActionView.{declared_view, action_view, actions_of};
 ghost use Rattle.pungi_resolved.specs.ValueView.{value_view, optional_view};
-ghost use Rattle.pungi_layout.specs.code.Sizes.{option_size, reach_size};
-ghost use Rattle.pungi_layout.specs.code.Scopes.{for_head as head_of_for};
+ghost use Rattle.pungi_layout.specs.code.Sizes.{option_size, declare_size};
+ghost use Rattle.pungi_layout.specs.code.Scopes.{for_head};
 ghost use Rattle.pungi_layout.specs.code.Heads.{head_at};
 ghost use Rattle.pungi_emit.specs.planning.LabelPlaces.{list_labels};
 ghost use Rattle.pungi_emit.specs.planning.Plans.{places_of, plans_of};
 ghost use Rattle.pungi_emit.specs.planning.Surveys.{SurveysStmt, SurveysSkipped, SurveysSwitch, SurveysList};
-ghost use Rattle.pungi_resolved.specs.Actions.{block_of, test, test_else, repeat_while, repeat_until, repeat_for, switch_on, at_label};
+ghost use Rattle.pungi_resolved.specs.Actions.{block, if_only, if_else, while, do_while, for, switch, label};
 ghost use Rattle.pungi_meaning.specs.Run.{nowhere};
 
-use crate::code::number::behind;
+use crate::code::number::place_after;
 use crate::expr::size::{after_option, after_test, after_tested, after_value};
 use crate::planning::counts::{cases_count, count, declared_count};
 use crate::planning::labels::block_names;
@@ -19,7 +19,7 @@ use crate::planning::reserved_places::{fill, hold};
 use pungi_base::{Memory, Name, Pos, Seq};
 use pungi_code::{Head, Label};
 use pungi_layout::Mark;
-use pungi_resolved::{Action, ActionNode, Reached, Value as Node};
+use pungi_resolved::{Action, ActionNode, DeclaredLocal, Value as Node};
 use std::alloc::Global;
 
 /// A head at a place of the code.
@@ -33,12 +33,12 @@ fn head(place: u32, pos: Pos) -> Head
 }
 
 /// The place after what declared locals hold at first.
-fn after_reached(from: u32, list: &[Reached]) -> Result<u32, Memory>
-    ensures { IfOk result (λ n. n ≡ from + reach_size (map reached_view list.now)) }
+fn after_reached(from: u32, list: &[DeclaredLocal]) -> Result<u32, Memory>
+    ensures { IfOk result (λ n. n ≡ from + declare_size (map declared_view list.now)) }
 {
     let mut place = from;
     for reached in list {
-        place = behind(after_option(place, &reached.value)?, 1)?;
+        place = place_after(after_option(place, &reached.value)?, 1)?;
     }
     Ok(place)
 }
@@ -47,14 +47,14 @@ fn after_reached(from: u32, list: &[Reached]) -> Result<u32, Memory>
 fn after_give(from: u32, node: &Option<Box<Node>>) -> Result<u32, Memory>
     ensures { IfOk result (λ n. n ≡ from + (option_size (optional_view node.now) + 1)) }
 {
-    behind(after_option(from, node)?, 1)
+    place_after(after_option(from, node)?, 1)
 }
 
 /// The place of the head of a `for`, after what it declares and does first.
-fn for_head(from: u32, reached: &[Reached], first: &Option<Box<Node>>) -> Result<u32, Memory>
-    ensures { IfOk result (λ n. n ≡ head_of_for from (map reached_view reached.now) (optional_view first.now)) }
+fn for_head(from: u32, reached: &[DeclaredLocal], first: &Option<Box<Node>>) -> Result<u32, Memory>
+    ensures { IfOk result (λ n. n ≡ for_head from (map declared_view reached.now) (optional_view first.now)) }
 {
-    let unset = behind(from, count(reached.len())?)?;
+    let unset = place_after(from, count(reached.len())?)?;
     let bound = after_reached(unset, reached)?;
     after_option(bound, first)
 }
@@ -109,16 +109,16 @@ fn survey_switched(
     list: &[Action],
     place: u32,
 ) -> Result<u32, Memory>
-    ensures { IfOk result (λ next. SurveysSwitch place (block_of nowhere (actions_of (map action_view list.now)) nowhere) next marks.old marks.new places.old places.new [] []) }
+    ensures { IfOk result (λ next. SurveysSwitch place (block nowhere (actions_of (map action_view list.now)) nowhere) next marks.old marks.new places.old places.new [] []) }
 {
     let end = hold(places, 1)?;
     let begun = hold(places, list.len())?;
     let own = declared_count(list)?;
     let cases = cases_count(list)?;
-    let unset = behind(place, own)?;
-    let compared = behind(unset, cases)?;
-    let branched = behind(compared, cases)?;
-    let from = behind(branched, 1)?;
+    let unset = place_after(place, own)?;
+    let compared = place_after(unset, cases)?;
+    let branched = place_after(compared, cases)?;
+    let from = place_after(branched, 1)?;
     let mut starts = Seq::new(Vec::new(alloc));
     let next = survey_inside(alloc, marks, places, &mut starts, list, from)?;
     fill(places, begun, starts.as_slice());
@@ -135,10 +135,10 @@ fn survey_inner(
     list: &[Action],
     pc: u32,
 ) -> Result<u32, Memory>
-    ensures { IfOk result (λ next. SurveysStmt pc (block_of nowhere (actions_of (map action_view list.now)) nowhere) next marks.old marks.new places.old places.new [] []) }
+    ensures { IfOk result (λ next. SurveysStmt pc (block nowhere (actions_of (map action_view list.now)) nowhere) next marks.old marks.new places.old places.new [] []) }
 {
     let own = declared_count(list)?;
-    let from = behind(pc, own)?;
+    let from = place_after(pc, own)?;
     let mut starts = Seq::new(Vec::new(alloc));
     let next = survey_inside(alloc, marks, places, &mut starts, list, from)?;
     Ok(next)
@@ -157,7 +157,7 @@ fn survey_skipped(
     ensures { IfOk result (λ next. SurveysSkipped place (action_view body.now) next marks.old marks.new places.old places.new labels.old labels.new) }
 {
     let end = hold(places, 1)?;
-    let from = behind(place, 1)?;
+    let from = place_after(place, 1)?;
     let next = survey_stmt(alloc, marks, places, labels, body, from)?;
     fill(places, end, &[next]);
     Ok(next)
@@ -178,21 +178,21 @@ fn survey_choice(
 {
     match &body.node {
         ActionNode::Block(list, _) => survey_switched(alloc, marks, places, list, place),
-        ActionNode::Reach(_)
-        | ActionNode::Evaluate(_)
-        | ActionNode::Test(_, _)
-        | ActionNode::TestElse(_, _, _)
-        | ActionNode::RepeatWhile(_, _)
-        | ActionNode::RepeatUntil(_, _)
-        | ActionNode::RepeatFor(_, _, _, _, _)
-        | ActionNode::SwitchOn(_, _)
-        | ActionNode::AtCase(_, _)
-        | ActionNode::AtDefault(_)
-        | ActionNode::AtLabel(_, _)
-        | ActionNode::Jump(_)
-        | ActionNode::Leave
-        | ActionNode::NextTurn
-        | ActionNode::Give(_) => survey_skipped(alloc, marks, places, labels, body, place),
+        ActionNode::Declare(_)
+        | ActionNode::Do(_)
+        | ActionNode::If(_, _)
+        | ActionNode::IfElse(_, _, _)
+        | ActionNode::While(_, _)
+        | ActionNode::DoWhile(_, _)
+        | ActionNode::For(_, _, _, _, _)
+        | ActionNode::Switch(_, _)
+        | ActionNode::Case(_, _)
+        | ActionNode::Default(_)
+        | ActionNode::Label(_, _)
+        | ActionNode::Goto(_)
+        | ActionNode::Break
+        | ActionNode::Continue
+        | ActionNode::Return(_) => survey_skipped(alloc, marks, places, labels, body, place),
     }
 }
 
@@ -206,12 +206,12 @@ fn survey_for(
     body: &Action,
     pc: u32,
     pos: Pos,
-    reached: &[Reached],
+    reached: &[DeclaredLocal],
     first: &Option<Box<Node>>,
     test: &Option<Box<Node>>,
     last: &Option<Box<Node>>,
 ) -> Result<u32, Memory>
-    ensures { IfOk result (λ next. SurveysStmt pc (repeat_for pos (map reached_view reached.now) (optional_view first.now) (optional_view test.now) (optional_view last.now) (action_view body.now)) next marks.old marks.new places.old places.new labels.old labels.new) }
+    ensures { IfOk result (λ next. SurveysStmt pc (for pos (map declared_view reached.now) (optional_view first.now) (optional_view if_only.now) (optional_view last.now) (action_view body.now)) next marks.old marks.new places.old places.new labels.old labels.new) }
 {
     let room = hold(places, 2)?;
     let top = for_head(pc, reached, first)?;
@@ -219,7 +219,7 @@ fn survey_for(
     let go = after_tested(top, test)?;
     let next = survey_stmt(alloc, marks, places, labels, body, go)?;
     let turned = after_option(next, last)?;
-    let behind_it = behind(turned, 1)?;
+    let behind_it = place_after(turned, 1)?;
     fill(places, room, &[next, behind_it]);
     Ok(behind_it)
 }
@@ -237,13 +237,13 @@ fn survey_else(
     pos: Pos,
     c: &Node,
 ) -> Result<u32, Memory>
-    ensures { IfOk result (λ next. SurveysStmt pc (test_else pos (value_view c.now) (action_view a.now) (action_view b.now)) next marks.old marks.new places.old places.new labels.old labels.new) }
+    ensures { IfOk result (λ next. SurveysStmt pc (if_else pos (value_view c.now) (action_view a.now) (action_view b.now)) next marks.old marks.new places.old places.new labels.old labels.new) }
 {
     let _place = pos;
     let room = hold(places, 2)?;
     let go = after_test(pc, c)?;
     let last = survey_stmt(alloc, marks, places, labels, a, go)?;
-    let middle = behind(last, 1)?;
+    let middle = place_after(last, 1)?;
     let next = survey_stmt(alloc, marks, places, labels, b, middle)?;
     fill(places, room, &[middle, next]);
     Ok(next)
@@ -261,7 +261,7 @@ fn survey_if(
     pos: Pos,
     c: &Node,
 ) -> Result<u32, Memory>
-    ensures { IfOk result (λ next. SurveysStmt pc (test pos (value_view c.now) (action_view body.now)) next marks.old marks.new places.old places.new labels.old labels.new) }
+    ensures { IfOk result (λ next. SurveysStmt pc (if_only pos (value_view c.now) (action_view body.now)) next marks.old marks.new places.old places.new labels.old labels.new) }
 {
     let _place = pos;
     let room = hold(places, 1)?;
@@ -283,13 +283,13 @@ fn survey_while(
     pos: Pos,
     c: &Node,
 ) -> Result<u32, Memory>
-    ensures { IfOk result (λ next. SurveysStmt pc (repeat_while pos (value_view c.now) (action_view body.now)) next marks.old marks.new places.old places.new labels.old labels.new) }
+    ensures { IfOk result (λ next. SurveysStmt pc (while pos (value_view c.now) (action_view body.now)) next marks.old marks.new places.old places.new labels.old labels.new) }
 {
     let room = hold(places, 1)?;
     marks.push(Mark::OfLoop(head(pc, pos)))?;
     let go = after_test(pc, c)?;
     let next = survey_stmt(alloc, marks, places, labels, body, go)?;
-    let behind_it = behind(next, 1)?;
+    let behind_it = place_after(next, 1)?;
     fill(places, room, &[next]);
     Ok(behind_it)
 }
@@ -306,14 +306,14 @@ fn survey_until(
     pos: Pos,
     c: &Node,
 ) -> Result<u32, Memory>
-    ensures { IfOk result (λ next. SurveysStmt pc (repeat_until pos (action_view body.now) (value_view c.now)) next marks.old marks.new places.old places.new labels.old labels.new) }
+    ensures { IfOk result (λ next. SurveysStmt pc (do_while pos (action_view body.now) (value_view c.now)) next marks.old marks.new places.old places.new labels.old labels.new) }
 {
     let room = hold(places, 2)?;
-    let top = behind(pc, 1)?;
+    let top = place_after(pc, 1)?;
     marks.push(Mark::OfLoop(head(top, pos)))?;
     let go = after_test(top, c)?;
     let next = survey_stmt(alloc, marks, places, labels, body, go)?;
-    let behind_it = behind(next, 1)?;
+    let behind_it = place_after(next, 1)?;
     fill(places, room, &[go, next]);
     Ok(behind_it)
 }
@@ -330,7 +330,7 @@ fn survey_label(
     pos: Pos,
     name: Name,
 ) -> Result<u32, Memory>
-    ensures { IfOk result (λ next. SurveysStmt pc (at_label pos name (action_view body.now)) next marks.old marks.new places.old places.new labels.old labels.new) }
+    ensures { IfOk result (λ next. SurveysStmt pc (label pos name (action_view body.now)) next marks.old marks.new places.old places.new labels.old labels.new) }
 {
     let _name = name;
     labels.push(pc)?;
@@ -351,7 +351,7 @@ fn survey_switch(
     pos: Pos,
     node: &Node,
 ) -> Result<u32, Memory>
-    ensures { IfOk result (λ next. SurveysStmt pc (switch_on pos (value_view node.now) (action_view body.now)) next marks.old marks.new places.old places.new labels.old labels.new) }
+    ensures { IfOk result (λ next. SurveysStmt pc (switch pos (value_view node.now) (action_view body.now)) next marks.old marks.new places.old places.new labels.old labels.new) }
 {
     let _place = pos;
     let place = after_value(pc, node)?;
@@ -376,31 +376,27 @@ pub fn survey_stmt(
     let pos = action.pos;
     match &action.node {
         ActionNode::Block(list, _) => survey_inner(alloc, marks, places, list, pc),
-        ActionNode::Reach(list) => after_reached(pc, list),
-        ActionNode::Evaluate(node) => after_option(pc, node),
-        ActionNode::Test(c, a) => survey_if(alloc, marks, places, labels, a, pc, pos, c),
-        ActionNode::TestElse(c, a, b) => {
+        ActionNode::Declare(list) => after_reached(pc, list),
+        ActionNode::Do(node) => after_option(pc, node),
+        ActionNode::If(c, a) => survey_if(alloc, marks, places, labels, a, pc, pos, c),
+        ActionNode::IfElse(c, a, b) => {
             survey_else(alloc, marks, places, labels, a, b, pc, pos, c)
         }
-        ActionNode::RepeatWhile(c, a) => {
-            survey_while(alloc, marks, places, labels, a, pc, pos, c)
-        }
-        ActionNode::RepeatUntil(a, c) => {
-            survey_until(alloc, marks, places, labels, a, pc, pos, c)
-        }
-        ActionNode::RepeatFor(rs, u, c, w, a) => {
+        ActionNode::While(c, a) => { survey_while(alloc, marks, places, labels, a, pc, pos, c) }
+        ActionNode::DoWhile(a, c) => { survey_until(alloc, marks, places, labels, a, pc, pos, c) }
+        ActionNode::For(rs, u, c, w, a) => {
             survey_for(alloc, marks, places, labels, a, pc, pos, rs, u, c, w)
         }
-        ActionNode::SwitchOn(node, a) => {
+        ActionNode::Switch(node, a) => {
             survey_switch(alloc, marks, places, labels, a, pc, pos, node)
         }
-        ActionNode::AtCase(_, a) | ActionNode::AtDefault(a) => {
+        ActionNode::Case(_, a) | ActionNode::Default(a) => {
             survey_stmt(alloc, marks, places, labels, a, pc)
         }
-        ActionNode::AtLabel(name, a) => {
+        ActionNode::Label(name, a) => {
             survey_label(alloc, marks, places, labels, a, pc, pos, *name)
         }
-        ActionNode::Jump(_) | ActionNode::Leave | ActionNode::NextTurn => behind(pc, 1),
-        ActionNode::Give(node) => after_give(pc, node),
+        ActionNode::Goto(_) | ActionNode::Break | ActionNode::Continue => place_after(pc, 1),
+        ActionNode::Return(node) => after_give(pc, node),
     }
 }

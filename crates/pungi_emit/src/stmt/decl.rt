@@ -1,11 +1,11 @@
 // The instructions of values that stand alone, and of declared locals.
 ghost use Rattle.std.specs.Prelude.{◌≡◌, ◌+◌, ◌++◌, length, map, IfOk, OnOk};
-ghost use Rattle.pungi_resolved.specs.ActionView.{reached_view, action_view};
+ghost use Rattle.pungi_resolved.specs.ActionView.{declared_view, action_view};
 ghost use Rattle.pungi_resolved.specs.ValueView.{value_view, optional_view};
-ghost use Rattle.pungi_meaning.specs.Work.{declared, declared_by};
+ghost use Rattle.pungi_meaning.specs.Work.{block_locals, action_locals};
 ghost use Rattle.pungi_layout.specs.code.Sizes.{expr_size, test_size};
-ghost use Rattle.pungi_layout.specs.code.Temporaries.{temp_of as temporary_of};
-ghost use Rattle.pungi_layout.specs.code.StmtCode.{unset_code, value_code, option_code, bind_code, reach_code, test_code, tested_code};
+ghost use Rattle.pungi_layout.specs.code.Temporaries.{temp_of};
+ghost use Rattle.pungi_layout.specs.code.StmtCode.{unset_code, value_code, option_code, bind_code, declare_code, test_code, tested_code};
 
 use crate::code::instructions::{Around, next_place, put};
 use crate::code::number::small;
@@ -13,11 +13,11 @@ use crate::expr::expr_code::emit_value;
 use crate::expr::temporary::{atom, local_column, operand, temp_of};
 use pungi_base::{Memory, Pos, Seq};
 use pungi_code::{Instr, Label, Line, Var};
-use pungi_resolved::{Action, ActionNode, Reached, Value as Node};
+use pungi_resolved::{Action, ActionNode, DeclaredLocal, Value as Node};
 
 /// A value that is the only one. The answer is the variable in which it stands.
 pub fn emit_alone(code: &mut Seq<Line>, around: Around, node: &Node) -> Result<u32, Memory>
-    ensures var { IfOk result (λ x. x ≡ temporary_of around.locals 0 (value_view node.now)) }
+    ensures var { IfOk result (λ x. x ≡ temp_of around.locals 0 (value_view node.now)) }
     ensures code { OnOk result (code.new ≡ code.old ++ value_code around.locals (length code.old) (value_view node.now)) }
 {
     let target = temp_of(around.locals, 0, node)?;
@@ -42,7 +42,7 @@ pub fn emit_option(
 }
 
 /// A declared local: it gets its value, or becomes unset.
-fn emit_bind(code: &mut Seq<Line>, around: Around, reached: &Reached) -> Result<(), Memory>
+fn emit_bind(code: &mut Seq<Line>, around: Around, reached: &DeclaredLocal) -> Result<(), Memory>
     ensures { OnOk result (code.new ≡ code.old ++ bind_code around.locals (length code.old) reached.now.at reached.now.number reached.now.kind (optional_view reached.now.value)) }
 {
     let local = small(reached.number as u64)?;
@@ -56,8 +56,12 @@ fn emit_bind(code: &mut Seq<Line>, around: Around, reached: &Reached) -> Result<
 }
 
 /// Declared locals.
-pub fn emit_reached(code: &mut Seq<Line>, around: Around, list: &[Reached]) -> Result<(), Memory>
-    ensures { OnOk result (code.new ≡ code.old ++ reach_code around.locals (length code.old) (map reached_view list.now)) }
+pub fn emit_declared(
+    code: &mut Seq<Line>,
+    around: Around,
+    list: &[DeclaredLocal],
+) -> Result<(), Memory>
+    ensures { OnOk result (code.new ≡ code.old ++ declare_code around.locals (length code.old) (map declared_view list.now)) }
 {
     for reached in list {
         emit_bind(code, around, reached)?;
@@ -66,8 +70,8 @@ pub fn emit_reached(code: &mut Seq<Line>, around: Around, list: &[Reached]) -> R
 }
 
 /// Declared locals hold nothing.
-pub fn emit_unset(code: &mut Seq<Line>, pos: Pos, list: &[Reached]) -> Result<(), Memory>
-    ensures { OnOk result (code.new ≡ code.old ++ unset_code pos (map reached_view list.now)) }
+pub fn emit_unset(code: &mut Seq<Line>, pos: Pos, list: &[DeclaredLocal]) -> Result<(), Memory>
+    ensures { OnOk result (code.new ≡ code.old ++ unset_code pos (map declared_view list.now)) }
 {
     for reached in list {
         let local = small(reached.number as u64)?;
@@ -78,9 +82,9 @@ pub fn emit_unset(code: &mut Seq<Line>, pos: Pos, list: &[Reached]) -> Result<()
 
 /// The locals that a statement of a block declares hold nothing.
 fn emit_own_unset(code: &mut Seq<Line>, pos: Pos, action: &Action) -> Result<(), Memory>
-    ensures { OnOk result (code.new ≡ code.old ++ unset_code pos (declared_by (action_view action.now))) }
+    ensures { OnOk result (code.new ≡ code.old ++ unset_code pos (action_locals (action_view action.now))) }
 {
-    if let ActionNode::Reach(list) = &action.node {
+    if let ActionNode::Declare(list) = &action.node {
         emit_unset(code, pos, list)
     } else {
         Ok(())
@@ -89,7 +93,7 @@ fn emit_own_unset(code: &mut Seq<Line>, pos: Pos, action: &Action) -> Result<(),
 
 /// The locals that a block declares hold nothing.
 pub fn emit_unsets(code: &mut Seq<Line>, pos: Pos, list: &[Action]) -> Result<(), Memory>
-    ensures { OnOk result (code.new ≡ code.old ++ unset_code pos (declared (map action_view list.now))) }
+    ensures { OnOk result (code.new ≡ code.old ++ unset_code pos (block_locals (map action_view list.now))) }
 {
     for action in list {
         emit_own_unset(code, pos, action)?;
@@ -97,7 +101,7 @@ pub fn emit_unsets(code: &mut Seq<Line>, pos: Pos, list: &[Action]) -> Result<()
     Ok(())
 }
 
-/// A test, and the branch behind it.
+/// A test, and the branch after it.
 pub fn emit_test(
     code: &mut Seq<Line>,
     around: Around,

@@ -1,39 +1,39 @@
 // The instructions of statements.
 ghost use Rattle.std.specs.Prelude.{◌≡◌, ◌+◌, ◌++◌, length, map, OnOk};
-ghost use Rattle.pungi_resolved.specs.ActionView.{reached_view, action_view, actions_of};
+ghost use Rattle.pungi_resolved.specs.ActionView.{declared_view, action_view, actions_of};
 ghost use Rattle.pungi_resolved.specs.ValueView.{value_view, optional_view};
-ghost use Rattle.pungi_resolved.specs.Actions.{block_of, test, test_else, repeat_while, repeat_until, repeat_for, switch_on};
+ghost use Rattle.pungi_resolved.specs.Actions.{block, if_only, if_else, while, do_while, for, switch};
 ghost use Rattle.pungi_emit.specs.stmt.Cases.{skipped_code};
 ghost use Rattle.pungi_emit.specs.stmt.Emits.{Emits, EmitsStmt, EmitsList};
 ghost use Rattle.pungi_layout.specs.code.Sizes.{expr_size, stmts_size};
 ghost use Rattle.pungi_emit.specs.planning.LabelPlaces.{list_labels, list_starts, env_of};
 ghost use Rattle.pungi_emit.specs.planning.Plans.{Begins, switch_from, plan_of, plans_of, skipped_plan};
 ghost use Rattle.pungi_layout.specs.code.Scopes.{in_block};
-ghost use Rattle.pungi_layout.specs.code.StmtCode.{stmt_code, give_code};
+ghost use Rattle.pungi_layout.specs.code.StmtCode.{stmt_code, return_code};
 ghost use Rattle.pungi_meaning.specs.Run.{nowhere};
 
 use crate::code::instructions::{Around, next_place, put};
-use crate::code::number::behind;
+use crate::code::number::place_after;
 use crate::expr::temporary::{atom, temp_in};
 use crate::planning::labels::plan_labels;
-use crate::planning::plan::{Plan, planned, planned_all};
+use crate::planning::plan::{Plan, next_planned, planned_all};
 use crate::planning::scope::{Labels, Placed, Scope, goto_place};
 use crate::stmt::decl::{
-    emit_alone, emit_option, emit_reached, emit_test, emit_tested, emit_unset, emit_unsets,
+    emit_alone, emit_declared, emit_option, emit_test, emit_tested, emit_unset, emit_unsets,
 };
 use crate::stmt::switch::{default_or, emit_cases, is_block};
 use pungi_base::{Memory, Pos, Seq};
 use pungi_code::{Instr, Label, Line};
-use pungi_resolved::{Action, ActionNode, Reached, Value as Node};
+use pungi_resolved::{Action, ActionNode, DeclaredLocal, Value as Node};
 
 /// `return`.
-fn emit_give(
+fn emit_return(
     code: &mut Seq<Line>,
     around: Around,
     pos: Pos,
     node: &Option<Box<Node>>,
 ) -> Result<(), Memory>
-    ensures { OnOk result (code.new ≡ code.old ++ give_code around.locals (length code.old) pos (optional_view node.now)) }
+    ensures { OnOk result (code.new ≡ code.old ++ return_code around.locals (length code.old) pos (optional_view node.now)) }
 {
     if let Some(node) = node {
         let value = emit_alone(code, around, node)?;
@@ -54,10 +54,10 @@ fn emit_if(
     c: &Node,
     body: &Action,
 ) -> Result<(), Memory>
-    requires plan { Begins (plan_of (length code.old) (test pos (value_view c.now) (action_view body.now))) plan.old.left.now }
-    ensures { OnOk result (EmitsStmt around.locals (env_of scope.now) (test pos (value_view c.now) (action_view body.now)) code.old code.new plan.old.left.now plan.new.left.now) }
+    requires plan { Begins (plan_of (length code.old) (if_only pos (value_view c.now) (action_view body.now))) plan.old.left.now }
+    ensures { OnOk result (EmitsStmt around.locals (env_of scope.now) (if_only pos (value_view c.now) (action_view body.now)) code.old code.new plan.old.left.now plan.new.left.now) }
 {
-    let other = planned(plan);
+    let other = next_planned(plan);
     emit_test(code, around, pos, c, other)?;
     emit_stmt(code, around, scope, plan, body)?;
     Ok(())
@@ -75,11 +75,11 @@ fn emit_else(
     a: &Action,
     b: &Action,
 ) -> Result<(), Memory>
-    requires plan { Begins (plan_of (length code.old) (test_else pos (value_view c.now) (action_view a.now) (action_view b.now))) plan.old.left.now }
-    ensures { OnOk result (EmitsStmt around.locals (env_of scope.now) (test_else pos (value_view c.now) (action_view a.now) (action_view b.now)) code.old code.new plan.old.left.now plan.new.left.now) }
+    requires plan { Begins (plan_of (length code.old) (if_else pos (value_view c.now) (action_view a.now) (action_view b.now))) plan.old.left.now }
+    ensures { OnOk result (EmitsStmt around.locals (env_of scope.now) (if_else pos (value_view c.now) (action_view a.now) (action_view b.now)) code.old code.new plan.old.left.now plan.new.left.now) }
 {
-    let other = planned(plan);
-    let end = planned(plan);
+    let other = next_planned(plan);
+    let end = next_planned(plan);
     emit_test(code, around, pos, c, other)?;
     emit_stmt(code, around, scope, plan, a)?;
     put(code, pos, Instr::Jump(Label(end)))?;
@@ -98,12 +98,12 @@ fn emit_while(
     c: &Node,
     body: &Action,
 ) -> Result<(), Memory>
-    requires plan { Begins (plan_of (length code.old) (repeat_while pos (value_view c.now) (action_view body.now))) plan.old.left.now }
-    ensures { OnOk result (EmitsStmt around.locals (env_of scope.now) (repeat_while pos (value_view c.now) (action_view body.now)) code.old code.new plan.old.left.now plan.new.left.now) }
+    requires plan { Begins (plan_of (length code.old) (while pos (value_view c.now) (action_view body.now))) plan.old.left.now }
+    ensures { OnOk result (EmitsStmt around.locals (env_of scope.now) (while pos (value_view c.now) (action_view body.now)) code.old code.new plan.old.left.now plan.new.left.now) }
 {
     let head = next_place(code)?;
-    let again = planned(plan);
-    let end = behind(again, 1)?;
+    let again = next_planned(plan);
+    let end = place_after(again, 1)?;
     let inner = Scope {
         breaks: end,
         continues: again,
@@ -126,12 +126,12 @@ fn emit_until(
     body: &Action,
     c: &Node,
 ) -> Result<(), Memory>
-    requires plan { Begins (plan_of (length code.old) (repeat_until pos (action_view body.now) (value_view c.now))) plan.old.left.now }
-    ensures { OnOk result (EmitsStmt around.locals (env_of scope.now) (repeat_until pos (action_view body.now) (value_view c.now)) code.old code.new plan.old.left.now plan.new.left.now) }
+    requires plan { Begins (plan_of (length code.old) (do_while pos (action_view body.now) (value_view c.now))) plan.old.left.now }
+    ensures { OnOk result (EmitsStmt around.locals (env_of scope.now) (do_while pos (action_view body.now) (value_view c.now)) code.old code.new plan.old.left.now plan.new.left.now) }
 {
-    let go = planned(plan);
-    let again = planned(plan);
-    let end = behind(again, 1)?;
+    let go = next_planned(plan);
+    let again = next_planned(plan);
+    let end = place_after(again, 1)?;
     let inner = Scope {
         breaks: end,
         continues: again,
@@ -153,24 +153,24 @@ fn emit_for(
     scope: &Scope<'_>,
     plan: &mut Plan<'_>,
     pos: Pos,
-    reached: &[Reached],
+    reached: &[DeclaredLocal],
     first: &Option<Box<Node>>,
     c: &Option<Box<Node>>,
     last: &Option<Box<Node>>,
     body: &Action,
 ) -> Result<(), Memory>
-    requires plan { Begins (plan_of (length code.old) (repeat_for pos (map reached_view reached.now) (optional_view first.now) (optional_view c.now) (optional_view last.now) (action_view body.now))) plan.old.left.now }
-    ensures { OnOk result (EmitsStmt around.locals (env_of scope.now) (repeat_for pos (map reached_view reached.now) (optional_view first.now) (optional_view c.now) (optional_view last.now) (action_view body.now)) code.old code.new plan.old.left.now plan.new.left.now) }
+    requires plan { Begins (plan_of (length code.old) (for pos (map declared_view reached.now) (optional_view first.now) (optional_view c.now) (optional_view last.now) (action_view body.now))) plan.old.left.now }
+    ensures { OnOk result (EmitsStmt around.locals (env_of scope.now) (for pos (map declared_view reached.now) (optional_view first.now) (optional_view c.now) (optional_view last.now) (action_view body.now)) code.old code.new plan.old.left.now plan.new.left.now) }
 {
-    let again = planned(plan);
-    let end = planned(plan);
+    let again = next_planned(plan);
+    let end = next_planned(plan);
     let inner = Scope {
         breaks: end,
         continues: again,
         labels: scope.labels,
     };
     emit_unset(code, pos, reached)?;
-    emit_reached(code, around, reached)?;
+    emit_declared(code, around, reached)?;
     emit_option(code, around, first)?;
     let head = next_place(code)?;
     emit_tested(code, around, pos, c, end)?;
@@ -232,8 +232,8 @@ fn emit_block(
     plan: &mut Plan<'_>,
     pos: Pos,
 ) -> Result<(), Memory>
-    requires plan { Begins (plan_of (length code.old) (block_of pos (actions_of (map action_view list.now)) nowhere)) plan.old.left.now }
-    ensures { OnOk result (EmitsStmt around.locals (env_of scope.now) (block_of pos (actions_of (map action_view list.now)) nowhere) code.old code.new plan.old.left.now plan.new.left.now) }
+    requires plan { Begins (plan_of (length code.old) (block pos (actions_of (map action_view list.now)) nowhere)) plan.old.left.now }
+    ensures { OnOk result (EmitsStmt around.locals (env_of scope.now) (block pos (actions_of (map action_view list.now)) nowhere) code.old code.new plan.old.left.now plan.new.left.now) }
 {
     let own = plan_labels(around.alloc, plan, list)?;
     emit_unsets(code, pos, list)?;
@@ -260,7 +260,7 @@ fn emit_switched(
     requires starts { starts.now ≡ list_starts (switch_from (length code.old + expr_size (value_view node.now)) (map action_view list.now)) (map action_view list.now) }
     requires own { own.now ≡ list_labels (switch_from (length code.old + expr_size (value_view node.now)) (map action_view list.now)) (map action_view list.now) }
     requires end { end ≡ switch_from (length code.old + expr_size (value_view node.now)) (map action_view list.now) + stmts_size (actions_of (map action_view list.now)) }
-    ensures { OnOk result (Emits (stmt_code around.locals (env_of scope.now) (length code.old) (switch_on pos (value_view node.now) (block_of nowhere (actions_of (map action_view list.now)) nowhere))) (plans_of (switch_from (length code.old + expr_size (value_view node.now)) (map action_view list.now)) (actions_of (map action_view list.now))) code.old code.new plan.old.left.now plan.new.left.now) }
+    ensures { OnOk result (Emits (stmt_code around.locals (env_of scope.now) (length code.old) (switch pos (value_view node.now) (block nowhere (actions_of (map action_view list.now)) nowhere))) (plans_of (switch_from (length code.old + expr_size (value_view node.now)) (map action_view list.now)) (actions_of (map action_view list.now))) code.old code.new plan.old.left.now plan.new.left.now) }
 {
     let inner = Scope {
         breaks: end,
@@ -288,10 +288,10 @@ fn emit_switch(
     pos: Pos,
     node: &Node,
 ) -> Result<(), Memory>
-    requires plan { Begins (plan_of (length code.old) (switch_on pos (value_view node.now) (block_of nowhere (actions_of (map action_view list.now)) nowhere))) plan.old.left.now }
-    ensures { OnOk result (EmitsStmt around.locals (env_of scope.now) (switch_on pos (value_view node.now) (block_of nowhere (actions_of (map action_view list.now)) nowhere)) code.old code.new plan.old.left.now plan.new.left.now) }
+    requires plan { Begins (plan_of (length code.old) (switch pos (value_view node.now) (block nowhere (actions_of (map action_view list.now)) nowhere))) plan.old.left.now }
+    ensures { OnOk result (EmitsStmt around.locals (env_of scope.now) (switch pos (value_view node.now) (block nowhere (actions_of (map action_view list.now)) nowhere)) code.old code.new plan.old.left.now plan.new.left.now) }
 {
-    let end = planned(plan);
+    let end = next_planned(plan);
     let starts = planned_all(plan, list.len());
     let own = plan_labels(around.alloc, plan, list)?;
     let labels = own.as_slice();
@@ -315,7 +315,7 @@ fn emit_skipped(
     requires plan { Begins (skipped_plan (length code.old + expr_size (value_view node.now)) (action_view body.now)) plan.old.left.now }
     ensures { OnOk result (Emits (skipped_code around.locals (env_of scope.now) (length code.old) pos (value_view node.now) (action_view body.now)) (skipped_plan (length code.old + expr_size (value_view node.now)) (action_view body.now)) code.old code.new plan.old.left.now plan.new.left.now) }
 {
-    let end = planned(plan);
+    let end = next_planned(plan);
     let inner = Scope {
         breaks: end,
         continues: scope.continues,
@@ -338,8 +338,8 @@ fn emit_choice(
     node: &Node,
     body: &Action,
 ) -> Result<(), Memory>
-    requires plan { Begins (plan_of (length code.old) (switch_on pos (value_view node.now) (action_view body.now))) plan.old.left.now }
-    ensures { OnOk result (EmitsStmt around.locals (env_of scope.now) (switch_on pos (value_view node.now) (action_view body.now)) code.old code.new plan.old.left.now plan.new.left.now) }
+    requires plan { Begins (plan_of (length code.old) (switch pos (value_view node.now) (action_view body.now))) plan.old.left.now }
+    ensures { OnOk result (EmitsStmt around.locals (env_of scope.now) (switch pos (value_view node.now) (action_view body.now)) code.old code.new plan.old.left.now plan.new.left.now) }
 {
     if is_block(body) {
         emit_body(code, around, body, scope, plan, pos, node)?;
@@ -361,8 +361,8 @@ fn emit_body(
     pos: Pos,
     node: &Node,
 ) -> Result<(), Memory>
-    requires plan { Begins (plan_of (length code.old) (switch_on pos (value_view node.now) (action_view body.now))) plan.old.left.now }
-    ensures { OnOk result (EmitsStmt around.locals (env_of scope.now) (switch_on pos (value_view node.now) (action_view body.now)) code.old code.new plan.old.left.now plan.new.left.now) }
+    requires plan { Begins (plan_of (length code.old) (switch pos (value_view node.now) (action_view body.now))) plan.old.left.now }
+    ensures { OnOk result (EmitsStmt around.locals (env_of scope.now) (switch pos (value_view node.now) (action_view body.now)) code.old code.new plan.old.left.now plan.new.left.now) }
 {
     if let ActionNode::Block(list, _) = &body.node {
         emit_switch(code, around, list, scope, plan, pos, node)?;
@@ -388,25 +388,25 @@ pub fn emit_stmt(
     let pos = action.pos;
     match &action.node {
         ActionNode::Block(list, _) => emit_block(code, around, list, scope, plan, action.pos),
-        ActionNode::Reach(list) => emit_reached(code, around, list),
-        ActionNode::Evaluate(node) => emit_option(code, around, node),
-        ActionNode::Test(c, a) => emit_if(code, around, scope, plan, pos, c, a),
-        ActionNode::TestElse(c, a, b) => emit_else(code, around, scope, plan, pos, c, a, b),
-        ActionNode::RepeatWhile(c, a) => emit_while(code, around, scope, plan, pos, c, a),
-        ActionNode::RepeatUntil(a, c) => emit_until(code, around, scope, plan, pos, a, c),
-        ActionNode::RepeatFor(rs, u, c, w, a) => {
+        ActionNode::Declare(list) => emit_declared(code, around, list),
+        ActionNode::Do(node) => emit_option(code, around, node),
+        ActionNode::If(c, a) => emit_if(code, around, scope, plan, pos, c, a),
+        ActionNode::IfElse(c, a, b) => emit_else(code, around, scope, plan, pos, c, a, b),
+        ActionNode::While(c, a) => emit_while(code, around, scope, plan, pos, c, a),
+        ActionNode::DoWhile(a, c) => emit_until(code, around, scope, plan, pos, a, c),
+        ActionNode::For(rs, u, c, w, a) => {
             emit_for(code, around, scope, plan, pos, rs, u, c, w, a)
         }
-        ActionNode::SwitchOn(node, a) => emit_choice(code, around, scope, plan, pos, node, a),
-        ActionNode::AtCase(_, a) | ActionNode::AtDefault(a) | ActionNode::AtLabel(_, a) => {
+        ActionNode::Switch(node, a) => emit_choice(code, around, scope, plan, pos, node, a),
+        ActionNode::Case(_, a) | ActionNode::Default(a) | ActionNode::Label(_, a) => {
             emit_stmt(code, around, scope, plan, a)
         }
-        ActionNode::Jump(name) => {
+        ActionNode::Goto(name) => {
             let place = goto_place(*name, scope.labels);
             put(code, pos, Instr::Jump(Label(place)))
         }
-        ActionNode::Leave => put(code, pos, Instr::Jump(Label(scope.breaks))),
-        ActionNode::NextTurn => put(code, pos, Instr::Jump(Label(scope.continues))),
-        ActionNode::Give(node) => emit_give(code, around, pos, node),
+        ActionNode::Break => put(code, pos, Instr::Jump(Label(scope.breaks))),
+        ActionNode::Continue => put(code, pos, Instr::Jump(Label(scope.continues))),
+        ActionNode::Return(node) => emit_return(code, around, pos, node),
     }
 }

@@ -1,8 +1,8 @@
 // The comparisons of a `switch`.
 ghost use Rattle.std.specs.Prelude.{◌≡◌, ◌++◌, length, map, OnOk};
 ghost use Rattle.pungi_resolved.specs.ActionView.{action_view};
-ghost use Rattle.pungi_meaning.specs.Stmts.{cases_of, is_default as is_default_of};
-ghost use Rattle.pungi_emit.specs.stmt.Cases.{case_lines, cases_at, default_at, is_block as is_block_of};
+ghost use Rattle.pungi_meaning.specs.Stmts.{cases_of, is_default};
+ghost use Rattle.pungi_emit.specs.stmt.Cases.{case_lines, cases_at, default_at, is_block};
 ghost use Rattle.pungi_layout.specs.code.Scopes.{placed_cases, label_or};
 ghost use Rattle.pungi_layout.specs.code.StmtCode.{case_code};
 
@@ -36,7 +36,7 @@ fn emit_case(
     Ok(())
 }
 
-/// The comparisons with the cases that a statement stands behind.
+/// The comparisons with the cases that a statement stands after.
 #[tactic(auto, using(crate::proofs::stmt::Cases::one_case))]
 fn emit_own_cases(
     code: &mut Seq<Line>,
@@ -49,28 +49,28 @@ fn emit_own_cases(
     ensures { OnOk result (code.new ≡ code.old ++ case_code pos value outcome (length code.old) (placed_cases place (cases_of (action_view action.now)))) }
 {
     match &action.node {
-        ActionNode::AtCase(number, a) => {
+        ActionNode::Case(number, a) => {
             emit_case(code, pos, value, outcome, Atom::Int(*number), place)?;
             emit_own_cases(code, pos, value, outcome, place, a)?;
             Ok(())
         }
-        ActionNode::AtDefault(a) | ActionNode::AtLabel(_, a) => {
+        ActionNode::Default(a) | ActionNode::Label(_, a) => {
             emit_own_cases(code, pos, value, outcome, place, a)?;
             Ok(())
         }
         ActionNode::Block(_, _)
-        | ActionNode::Reach(_)
-        | ActionNode::Evaluate(_)
-        | ActionNode::Test(_, _)
-        | ActionNode::TestElse(_, _, _)
-        | ActionNode::RepeatWhile(_, _)
-        | ActionNode::RepeatUntil(_, _)
-        | ActionNode::RepeatFor(_, _, _, _, _)
-        | ActionNode::SwitchOn(_, _)
-        | ActionNode::Jump(_)
-        | ActionNode::Leave
-        | ActionNode::NextTurn
-        | ActionNode::Give(_) => Ok(()),
+        | ActionNode::Declare(_)
+        | ActionNode::Do(_)
+        | ActionNode::If(_, _)
+        | ActionNode::IfElse(_, _, _)
+        | ActionNode::While(_, _)
+        | ActionNode::DoWhile(_, _)
+        | ActionNode::For(_, _, _, _, _)
+        | ActionNode::Switch(_, _)
+        | ActionNode::Goto(_)
+        | ActionNode::Break
+        | ActionNode::Continue
+        | ActionNode::Return(_) => Ok(()),
     }
 }
 
@@ -92,54 +92,54 @@ pub fn emit_cases(
     Ok(())
 }
 
-/// A statement stands behind `default`.
+/// A statement stands after `default`.
 fn is_default(action: &Action) -> bool
-    ensures { result ≡ is_default_of (action_view action.now) }
+    ensures { result ≡ is_default (action_view action.now) }
 {
     match &action.node {
-        ActionNode::AtDefault(_) => true,
-        ActionNode::AtCase(_, a) | ActionNode::AtLabel(_, a) => is_default(a),
+        ActionNode::Default(_) => true,
+        ActionNode::Case(_, a) | ActionNode::Label(_, a) => is_default(a),
         ActionNode::Block(_, _)
-        | ActionNode::Reach(_)
-        | ActionNode::Evaluate(_)
-        | ActionNode::Test(_, _)
-        | ActionNode::TestElse(_, _, _)
-        | ActionNode::RepeatWhile(_, _)
-        | ActionNode::RepeatUntil(_, _)
-        | ActionNode::RepeatFor(_, _, _, _, _)
-        | ActionNode::SwitchOn(_, _)
-        | ActionNode::Jump(_)
-        | ActionNode::Leave
-        | ActionNode::NextTurn
-        | ActionNode::Give(_) => false,
+        | ActionNode::Declare(_)
+        | ActionNode::Do(_)
+        | ActionNode::If(_, _)
+        | ActionNode::IfElse(_, _, _)
+        | ActionNode::While(_, _)
+        | ActionNode::DoWhile(_, _)
+        | ActionNode::For(_, _, _, _, _)
+        | ActionNode::Switch(_, _)
+        | ActionNode::Goto(_)
+        | ActionNode::Break
+        | ActionNode::Continue
+        | ActionNode::Return(_) => false,
     }
 }
 
 /// A statement is a block.
 pub fn is_block(action: &Action) -> bool
-    ensures { result ≡ is_block_of (action_view action.now) }
+    ensures { result ≡ is_block (action_view action.now) }
 {
     match &action.node {
         ActionNode::Block(_, _) => true,
-        ActionNode::Reach(_)
-        | ActionNode::Evaluate(_)
-        | ActionNode::Test(_, _)
-        | ActionNode::TestElse(_, _, _)
-        | ActionNode::RepeatWhile(_, _)
-        | ActionNode::RepeatUntil(_, _)
-        | ActionNode::RepeatFor(_, _, _, _, _)
-        | ActionNode::SwitchOn(_, _)
-        | ActionNode::AtCase(_, _)
-        | ActionNode::AtDefault(_)
-        | ActionNode::AtLabel(_, _)
-        | ActionNode::Jump(_)
-        | ActionNode::Leave
-        | ActionNode::NextTurn
-        | ActionNode::Give(_) => false,
+        ActionNode::Declare(_)
+        | ActionNode::Do(_)
+        | ActionNode::If(_, _)
+        | ActionNode::IfElse(_, _, _)
+        | ActionNode::While(_, _)
+        | ActionNode::DoWhile(_, _)
+        | ActionNode::For(_, _, _, _, _)
+        | ActionNode::Switch(_, _)
+        | ActionNode::Case(_, _)
+        | ActionNode::Default(_)
+        | ActionNode::Label(_, _)
+        | ActionNode::Goto(_)
+        | ActionNode::Break
+        | ActionNode::Continue
+        | ActionNode::Return(_) => false,
     }
 }
 
-/// The place of the statement behind `default`, where the statements begin at these places; else the end.
+/// The place of the statement after `default`, where the statements begin at these places; else the end.
 pub fn default_or(list: &[Action], starts: &[u32], end: u32) -> u32
     requires { length list.now ≡ length starts.now }
     ensures { result ≡ label_or (default_at (map action_view list.now) starts.now) end }

@@ -6,10 +6,10 @@ use Rattle.pungi_base.specs.declared.pos.Pos.{Pos}
 use Rattle.pungi_types.specs.Operators.{is_void}
 use Rattle.pungi_resolved.specs.Actions as stmt
 use Rattle.pungi_resolved.specs.Functions.{ResolvedFunction}
-use Rattle.pungi_meaning.specs.Run.{closing}
+use Rattle.pungi_meaning.specs.Run.{closing_brace}
 use Rattle.pungi_meaning.specs.Stmts.{block_cases}
 use Rattle.pungi_meaning.specs.Todo.{listed}
-use Rattle.pungi_meaning.specs.Work.{declared}
+use Rattle.pungi_meaning.specs.Work.{block_locals}
 use Rattle.pungi_code.specs.declared.code.Head.{Head}
 use Rattle.pungi_code.specs.declared.code.Line.{Line}
 use Rattle.pungi_code.specs.declared.instr.Instr.{Instr}
@@ -17,15 +17,15 @@ use Rattle.pungi_code.specs.declared.instr.Instr.TheVariants.{Jump, Branch}
 use Rattle.pungi_code.specs.WellFormed.{targets}
 use Rattle.pungi_layout.specs.declared.mark.Mark.{Mark}
 use Rattle.pungi_layout.specs.declared.mark.Mark.TheVariants.{OfLoop, OfLabel}
-use Rattle.pungi_layout.specs.code.Sizes.{expr_size, option_size, reach_size, test_size, stmt_size, stmts_size}
+use Rattle.pungi_layout.specs.code.Sizes.{expr_size, option_size, declare_size, test_size, stmt_size, stmts_size}
 use Rattle.pungi_layout.specs.code.ExprCode.{line, at_label}
 use Rattle.pungi_layout.specs.code.Scopes.{Env, everywhere, for_head, list_cases, in_block, in_loop, in_switch}
-use Rattle.pungi_layout.specs.code.StmtCode.{unset_code, value_code, option_code, reach_code, test_code, tested_code, case_code, stmt_code, stmts_code, end_code, body_code}
+use Rattle.pungi_layout.specs.code.StmtCode.{unset_code, value_code, option_code, declare_code, test_code, tested_code, case_code, stmt_code, stmts_code, end_code, body_code}
 use Rattle.pungi_layout.specs.code.Sound.{IsStmtSound, AreStmtsSound}
 use Rattle.pungi_layout.specs.code.Heads.{stmt_marks, stmts_marks, loop_pos, label_pos, names, leads_back, back_pos, head_pos, found_head, heads_below, heads_of}
 use Rattle.pungi_layout.specs.liveness.Liveness.{Among, following, AreDead}
 use Rattle.pungi_layout.specs.liveness.Boundaries.{own, parts, IsAmong, IsPart, IsHead, KeepsNothing}
-use Rattle.pungi_layout.proofs.code.StmtLengths.{unset_long, value_long, option_long, reach_long, test_long, tested_long, case_long, cases_long, stmt_long}
+use Rattle.pungi_layout.proofs.code.StmtLengths.{unset_long, value_long, option_long, declare_long, test_long, tested_long, case_long, cases_long, stmt_long}
 use Rattle.pungi_layout.proofs.relation.Relation.{switch_first}
 use Rattle.pungi_layout.proofs.relation.PlacedExprs.{HasAt, has_cut, has_all}
 use Rattle.pungi_layout.proofs.liveness.Paths.{by_line}
@@ -53,8 +53,8 @@ module _ (code : List Line) (nl : ℕ) where
 
   mutual
     marks_dead : (a : stmt.Action) (env : Env) (pc : ℕ) → IsStmtSound nl a → HasAt code pc (stmt_code nl env pc a) → EnvAll code nl [] env → AreDead code nl (pc + stmt_size a) → MarksDead (stmt_marks pc a)
-    marks_dead (stmt.block_of p ss r) env pc s h below next =
-        let vars = declared (listed ss) in
+    marks_dead (stmt.block p ss r) env pc s h below next =
+        let vars = block_locals (listed ss) in
         let from = pc + length vars in
         let list = listed ss in
         let inner = in_block env from list in
@@ -62,16 +62,16 @@ module _ (code : List Line) (nl : ℕ) where
         let e : pc + (length vars + stmts_size ss) ≡ from + stmts_size ss = omega arith in
         let end = dead_at _ _ e next in
         list_marks_dead ss inner from s g.1 (λ n. inner_below code nl env from (from + stmts_size ss) list (λ m bm nm l q eq. list_label_dead code nl ss inner from m s g.1 bm nm l q eq) n (below n) (end n)) end
-    marks_dead (stmt.reach p rs) env pc s h below next = tt
-    marks_dead (stmt.evaluate p v) env pc s h below next = tt
-    marks_dead (stmt.test p c a) env pc s h below next =
+    marks_dead (stmt.declare p rs) env pc s h below next = tt
+    marks_dead (stmt.do_expr p v) env pc s h below next = tt
+    marks_dead (stmt.if_only p c a) env pc s h below next =
         let pa = pc + expr_size c + 1 in
         let end = pa + stmt_size a in
         let e : pc + (expr_size c + 1) ≡ pa = omega arith in
         let f : pc + (expr_size c + 1 + stmt_size a) ≡ end = omega arith in
         let g = has_cut code pc (expr_size c + 1) (test_code p nl pc c pa end) (stmt_code nl env pa a) (test_long c p nl pc pa end) h in
         marks_dead a env pa s.1 (subst (λ x. HasAt code x (stmt_code nl env pa a)) e g.1) below (dead_at _ _ f next)
-    marks_dead (stmt.test_else p c a b) env pc s h below next =
+    marks_dead (stmt.if_else p c a b) env pc s h below next =
         let pa = pc + expr_size c + 1 in
         let pj = pa + stmt_size a in
         let pb = pj + 1 in
@@ -84,7 +84,7 @@ module _ (code : List Line) (nl : ℕ) where
         let f = has_cut code pa (stmt_size a) ca (line p (Jump (at_label end)) ∷ stmt_code nl env pb b) (stmt_long a nl env pa) (subst (λ x. HasAt code x rest) e g.1) in
         let next' = dead_at _ _ d next in
         marks_both (stmt_marks pa a) (stmt_marks pb b) (marks_dead a env pa s.1 f.0 below (λ n. jump_dead code nl n pj end p f.1.0 (next' n))) (marks_dead b env pb s.2 f.1.1 below next')
-    marks_dead (stmt.repeat_while p c a) env pc s h below next =
+    marks_dead (stmt.while p c a) env pc s h below next =
         let go = pc + (expr_size c + 1) in
         let again = go + stmt_size a in
         let end = again + 0 + 1 in
@@ -98,7 +98,7 @@ module _ (code : List Line) (nl : ℕ) where
         let body : (m : ℕ) → EnvBelow code nl m inner → Dead code nl m again → Dead code nl m go = λ m bm nm. stmt_dead code nl a inner go m s.1 f.0 bm nm in
         let i = λ (n : ℕ). inside_dead code nl p (Some c) None env pc (stmt_size a) s.0 tt g.0 tt j body n (below n) (next' n) in
         (λ n. loop_dead code nl p (Some c) None env pc (stmt_size a) s.0 tt g.0 tt j body n (below n) (next' n), marks_dead a inner go s.1 f.0 (λ n. (i n).0) (λ n. (i n).1))
-    marks_dead (stmt.repeat_until p a c) env pc s h below next =
+    marks_dead (stmt.do_while p a c) env pc s h below next =
         let head = pc + 1 in
         let go = head + (expr_size c + 1) in
         let again = go + stmt_size a in
@@ -113,17 +113,17 @@ module _ (code : List Line) (nl : ℕ) where
         let body : (m : ℕ) → EnvBelow code nl m inner → Dead code nl m again → Dead code nl m go = λ m bm nm. stmt_dead code nl a inner go m s.1 f.0 bm nm in
         let i = λ (n : ℕ). inside_dead code nl p (Some c) None env head (stmt_size a) s.0 tt g.0 tt j body n (below n) (next' n) in
         (λ n. loop_dead code nl p (Some c) None env head (stmt_size a) s.0 tt g.0 tt j body n (below n) (next' n), marks_dead a inner go s.1 f.0 (λ n. (i n).0) (λ n. (i n).1))
-    marks_dead (stmt.repeat_for p rs u c w a) env pc s h below next =
+    marks_dead (stmt.for p rs u c w a) env pc s h below next =
         let n1 = pc + length rs in
-        let n2 = n1 + reach_size rs in
+        let n2 = n1 + declare_size rs in
         let head = for_head pc rs u in
         let go = head + test_size c in
         let again = go + stmt_size a in
         let end = again + option_size w + 1 in
         let inner = in_loop env again end in
-        let d : pc + (length rs + reach_size rs + option_size u + test_size c + stmt_size a + option_size w + 1) ≡ end = omega arith in
+        let d : pc + (length rs + declare_size rs + option_size u + test_size c + stmt_size a + option_size w + 1) ≡ end = omega arith in
         let g1 = has_cut code pc (length rs) (unset_code p rs) _ (unset_long rs p) h in
-        let g2 = has_cut code n1 (reach_size rs) (reach_code nl n1 rs) _ (reach_long rs nl n1) g1.1 in
+        let g2 = has_cut code n1 (declare_size rs) (declare_code nl n1 rs) _ (declare_long rs nl n1) g1.1 in
         let g3 = has_cut code n2 (option_size u) (option_code nl n2 u) _ (option_long u nl n2) g2.1 in
         let g4 = has_cut code head (test_size c) (tested_code p nl head c go end) _ (tested_long c p nl head go end) g3.1 in
         let g5 = has_cut code go (stmt_size a) (stmt_code nl inner go a) _ (stmt_long a nl inner go) g4.1 in
@@ -132,8 +132,8 @@ module _ (code : List Line) (nl : ℕ) where
         let body : (m : ℕ) → EnvBelow code nl m inner → Dead code nl m again → Dead code nl m go = λ m bm nm. stmt_dead code nl a inner go m s.4 g5.0 bm nm in
         let i = λ (n : ℕ). inside_dead code nl p c w env head (stmt_size a) s.2 s.3 g4.0 g6.0 g6.1.0 body n (below n) (next' n) in
         (λ n. loop_dead code nl p c w env head (stmt_size a) s.2 s.3 g4.0 g6.0 g6.1.0 body n (below n) (next' n), marks_dead a inner go s.4 g5.0 (λ n. (i n).0) (λ n. (i n).1))
-    marks_dead (stmt.switch_on p v (stmt.block_of t ss r)) env pc s h below next =
-        let vars = declared (listed ss) in
+    marks_dead (stmt.switch p v (stmt.block t ss r)) env pc s h below next =
+        let vars = block_locals (listed ss) in
         let list = listed ss in
         let count = length vars in
         let q = pc + expr_size v in
@@ -150,20 +150,20 @@ module _ (code : List Line) (nl : ℕ) where
         let next' = dead_at _ _ d next in
         let below' : EnvAll code nl [] env' = λ n. switch_below code nl n env end (below n) (next' n) in
         list_marks_dead ss inner from s.1 g3.1.1 (λ n. inner_below code nl env' from end list (λ m bm nm l z eq. list_label_dead code nl ss inner from m s.1 g3.1.1 bm nm l z eq) n (below' n) (next' n)) next'
-    marks_dead (stmt.switch_on p v a) env pc s h below next =
+    marks_dead (stmt.switch p v a) env pc s h below next =
         let q = pc + expr_size v in
         let end = q + 1 + stmt_size a in
         let d : pc + (expr_size v + (1 + stmt_size a)) ≡ end = omega arith in
         let g = has_cut code pc (expr_size v) (value_code nl pc v) _ (value_long v nl pc) h in
         let next' = dead_at _ _ d next in
         marks_dead a (in_switch env end) (q + 1) s.1 g.1.1 (λ n. switch_below code nl n env end (below n) (next' n)) next'
-    marks_dead (stmt.at_case p m a) env pc s h below next = marks_dead a env pc s h below next
-    marks_dead (stmt.at_default p a) env pc s h below next = marks_dead a env pc s h below next
-    marks_dead (stmt.at_label p l a) env pc s h below next = marks_dead a env pc s h below next
-    marks_dead (stmt.jump p l) env pc s h below next = tt
-    marks_dead (stmt.leave p) env pc s h below next = tt
-    marks_dead (stmt.next_turn p) env pc s h below next = tt
-    marks_dead (stmt.give p v) env pc s h below next = tt
+    marks_dead (stmt.case p m a) env pc s h below next = marks_dead a env pc s h below next
+    marks_dead (stmt.default p a) env pc s h below next = marks_dead a env pc s h below next
+    marks_dead (stmt.label p l a) env pc s h below next = marks_dead a env pc s h below next
+    marks_dead (stmt.goto p l) env pc s h below next = tt
+    marks_dead (stmt.break p) env pc s h below next = tt
+    marks_dead (stmt.continue p) env pc s h below next = tt
+    marks_dead (stmt.return p v) env pc s h below next = tt
 
     list_marks_dead : (ss : stmt.Actions) (env : Env) (pc : ℕ) → AreStmtsSound nl ss → HasAt code pc (stmts_code nl env pc ss) → EnvAll code nl [] env → AreDead code nl (pc + stmts_size ss) → MarksDead (stmts_marks pc ss)
     list_marks_dead stmt.no_actions env pc s h below next = tt
@@ -292,14 +292,14 @@ keeps_nothing f s =
     let env = everywhere size in
     let all = parts f.body in
     let body = stmt_code nl env 0 f.body in
-    let last = end_code (closing f.body) (is_void f.result) in
+    let last = end_code (closing_brace f.body) (is_void f.result) in
     let g = has_cut code 0 size body last (stmt_long f.body nl env 0) (has_all code []) in
     let z : 0 + size ≡ size = omega arith in
-    let end : AreDead code nl (0 + size) = λ n. end_dead (is_void f.result) code nl (0 + size) n (closing f.body) g.1 in
+    let end : AreDead code nl (0 + size) = λ n. end_dead (is_void f.result) code nl (0 + size) n (closing_brace f.body) g.1 in
     let end' : AreDead code nl size = subst (AreDead code nl) z end in
     let below : EnvAll code nl all env = λ n. everywhere_dead code nl size n end' in
     let fine = stmt_fine code nl all f.body env 0 s (λ b m. m) g.0 below end in
-    let whole : AllFine code nl all 0 code = all_append code nl all 0 size body last (stmt_long f.body nl env 0) fine (end_fine (is_void f.result) code nl (0 + size) all (closing f.body)) in
+    let whole : AllFine code nl all 0 code = all_append code nl all 0 size body last (stmt_long f.body nl env 0) fine (end_fine (is_void f.result) code nl (0 + size) all (closing_brace f.body)) in
     let marks = marks_dead code nl f.body env 0 s g.0 below end in
     record {
       between = λ from to l next here m there no'.

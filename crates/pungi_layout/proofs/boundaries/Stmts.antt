@@ -7,22 +7,22 @@ use Rattle.pungi_resolved.specs.Values as expr
 use Rattle.pungi_resolved.specs.Actions as stmt
 use Rattle.pungi_meaning.specs.Stmts.{block_cases}
 use Rattle.pungi_meaning.specs.Todo.{listed}
-use Rattle.pungi_meaning.specs.Work.{declared}
+use Rattle.pungi_meaning.specs.Work.{block_locals}
 use Rattle.pungi_code.specs.declared.code.Line.{Line}
 use Rattle.pungi_code.specs.declared.instr.Instr.TheVariants.{Set, Jump}
-use Rattle.pungi_layout.specs.code.Sizes.{expr_size, option_size, reach_size, test_size, stmt_size, stmts_size}
+use Rattle.pungi_layout.specs.code.Sizes.{expr_size, option_size, declare_size, test_size, stmt_size, stmts_size}
 use Rattle.pungi_layout.specs.code.Temporaries.{temp, temp_of, operand, local_column}
 use Rattle.pungi_layout.specs.code.ExprCode.{line, to_var, var, at_label, expr_code}
 use Rattle.pungi_layout.specs.code.Scopes.{Env, label_or, for_head, list_cases, list_default, in_block, in_loop, in_switch}
-use Rattle.pungi_layout.specs.code.StmtCode.{unset_code, value_code, option_code, bind_code, reach_code, test_code, tested_code, case_code, stmt_code, stmts_code}
-use Rattle.pungi_layout.specs.code.Sound.{IsWanted, IsOptionSound, IsOptionWanted, AreReached, IsStmtSound, AreStmtsSound}
+use Rattle.pungi_layout.specs.code.StmtCode.{unset_code, value_code, option_code, bind_code, declare_code, test_code, tested_code, case_code, stmt_code, stmts_code}
+use Rattle.pungi_layout.specs.code.Sound.{IsWanted, IsOptionSound, IsOptionWanted, AreDeclared, IsStmtSound, AreStmtsSound}
 use Rattle.pungi_layout.specs.liveness.Liveness.{AreDead}
-use Rattle.pungi_layout.specs.liveness.Boundaries.{expr_positions, option_positions, reach_positions, own, parts, parts_of, IsAmong, IsPart}
+use Rattle.pungi_layout.specs.liveness.Boundaries.{expr_positions, option_positions, declare_positions, own, parts, parts_of, IsAmong, IsPart}
 use Rattle.pungi_layout.proofs.code.ExprLengths.{expr_long}
-use Rattle.pungi_layout.proofs.code.StmtLengths.{unset_long, value_long, option_long, bind_long, reach_long, test_long, tested_long, case_long, cases_long, stmt_long}
+use Rattle.pungi_layout.proofs.code.StmtLengths.{unset_long, value_long, option_long, bind_long, declare_long, test_long, tested_long, case_long, cases_long, stmt_long}
 use Rattle.pungi_layout.proofs.relation.Relation.{switch_first}
 use Rattle.pungi_layout.proofs.relation.PlacedExprs.{HasAt, has_cut}
-use Rattle.pungi_layout.proofs.liveness.Stmts.{Dead, EnvBelow, switch_below, option_dead, jump_dead, reach_dead, loop_dead, inside_dead, CasesDead, cases_dead, default_dead, inner_below, front, starts_dead, stmt_dead, list_label_dead}
+use Rattle.pungi_layout.proofs.liveness.Stmts.{Dead, EnvBelow, switch_below, option_dead, jump_dead, declare_dead, loop_dead, inside_dead, CasesDead, cases_dead, default_dead, inner_below, front, starts_dead, stmt_dead, list_label_dead}
 use Rattle.pungi_layout.proofs.boundaries.Exprs.{Covers, covers_front, covers_back, AllFine, all_append, fine_at, Exit, exit_at, leap, step, here, one_fine, expr_fine}
 
 part_front : (a : stmt.Action) (xs ys : List stmt.Action) → IsPart a xs → IsPart a (xs ++ ys)
@@ -47,11 +47,11 @@ module _ (code : List Line) (nl : ℕ) (all : List stmt.Action) where
   -- ---- the own instructions of a statement
 
   module _ (a : stmt.Action) (part : IsPart a all) where
-    unset_enters : (rs : List stmt.Reached) (p : Pos) (pc : ℕ) → IsAmong p (own a) → HasAt code pc (unset_code p rs) → Exit code nl all a part (pc + length rs) → Exit code nl all a part pc
+    unset_enters : (rs : List stmt.DeclaredLocal) (p : Pos) (pc : ℕ) → IsAmong p (own a) → HasAt code pc (unset_code p rs) → Exit code nl all a part (pc + length rs) → Exit code nl all a part pc
     unset_enters [] p pc m h next = let e : pc + 0 ≡ pc = omega arith in exit_at code nl all a part _ _ e next
     unset_enters (r ∷ rs) p pc m h next = here code nl all a part pc p _ h.0 m
 
-    unset_fine : (rs : List stmt.Reached) (p : Pos) (pc : ℕ) → IsAmong p (own a) → HasAt code pc (unset_code p rs) → Exit code nl all a part (pc + length rs) → Each pc (unset_code p rs)
+    unset_fine : (rs : List stmt.DeclaredLocal) (p : Pos) (pc : ℕ) → IsAmong p (own a) → HasAt code pc (unset_code p rs) → Exit code nl all a part (pc + length rs) → Each pc (unset_code p rs)
     unset_fine [] p pc m h next = tt
     unset_fine (r ∷ rs) p pc m h next =
         let e : pc + suc (length rs) ≡ pc + 1 + length rs = omega arith in
@@ -73,23 +73,23 @@ module _ (code : List Line) (nl : ℕ) (all : List stmt.Action) where
         (expr_fine code nl all a part v 0 y pc s.1 c g.0 (here code nl all a part q p _ g.1.0 m))
         (one_fine code nl all a part q p (Set (to_var x) (var y)) refl m (exit_at code nl all a part _ _ e next))
 
-    reach_fine : (rs : List stmt.Reached) (pc : ℕ) → AreReached nl rs → Covers (reach_positions rs) (own a) → HasAt code pc (reach_code nl pc rs) → AreDead code nl (pc + reach_size rs) → Each pc (reach_code nl pc rs)
-    reach_fine [] pc s c h next = tt
-    reach_fine (r ∷ rs) pc s c h next =
+    declare_fine : (rs : List stmt.DeclaredLocal) (pc : ℕ) → AreDeclared nl rs → Covers (declare_positions rs) (own a) → HasAt code pc (declare_code nl pc rs) → AreDead code nl (pc + declare_size rs) → Each pc (declare_code nl pc rs)
+    declare_fine [] pc s c h next = tt
+    declare_fine (r ∷ rs) pc s c h next =
         let size = option_size r.value + 1 in
         let q = pc + option_size r.value + 1 in
         let f : pc + size ≡ q = omega arith in
-        let e : pc + (size + reach_size rs) ≡ q + reach_size rs = omega arith in
-        let inner : Covers (option_positions r.value ++ reach_positions rs) (own a) = λ x k. c x (inr k) in
-        let cv = covers_front (option_positions r.value) (reach_positions rs) (own a) inner in
-        let cr = covers_back (option_positions r.value) (reach_positions rs) (own a) inner in
+        let e : pc + (size + declare_size rs) ≡ q + declare_size rs = omega arith in
+        let inner : Covers (option_positions r.value ++ declare_positions rs) (own a) = λ x k. c x (inr k) in
+        let cv = covers_front (option_positions r.value) (declare_positions rs) (own a) inner in
+        let cr = covers_back (option_positions r.value) (declare_positions rs) (own a) inner in
         let g = has_cut code pc size (bind_code nl pc r.at r.number r.kind r.value) _ (bind_long r.value nl pc r.number r.at r.kind) h in
-        let h' = subst (λ x. HasAt code x (reach_code nl q rs)) f g.1 in
+        let h' = subst (λ x. HasAt code x (declare_code nl q rs)) f g.1 in
         let next' = dead_at _ _ e next in
-        let start : AreDead code nl q = λ n. reach_dead code nl rs q n s.2 h' (next' n) in
-        all_append code nl all pc size (bind_code nl pc r.at r.number r.kind r.value) (reach_code nl q rs) (bind_long r.value nl pc r.number r.at r.kind)
+        let start : AreDead code nl q = λ n. declare_dead code nl rs q n s.2 h' (next' n) in
+        all_append code nl all pc size (bind_code nl pc r.at r.number r.kind r.value) (declare_code nl q rs) (bind_long r.value nl pc r.number r.at r.kind)
         (bind_fine r.value pc r.number r.at r.kind s.1 (c r.at (inl refl)) cv g.0 (inl (dead_at _ _ (sym f) start)))
-        (fine_at code nl all _ _ (reach_code nl q rs) (sym f) (reach_fine rs q s.2 cr h' next'))
+        (fine_at code nl all _ _ (declare_code nl q rs) (sym f) (declare_fine rs q s.2 cr h' next'))
 
     test_fine : (c : expr.Value) (p : Pos) (pc go other : ℕ) → IsWanted nl c → IsAmong p (own a) → Covers (expr_positions c) (own a) → HasAt code pc (test_code p nl pc c go other) → AreDead code nl go → AreDead code nl other → Each pc (test_code p nl pc c go other)
     test_fine c p pc go other s m cs h this that =
@@ -127,9 +127,9 @@ module _ (code : List Line) (nl : ℕ) (all : List stmt.Action) where
 
   mutual
     pub stmt_fine : (a : stmt.Action) (env : Env) (pc : ℕ) → IsStmtSound nl a → ((b : stmt.Action) → IsPart b (parts a) → IsPart b all) → HasAt code pc (stmt_code nl env pc a) → EnvAll env → AreDead code nl (pc + stmt_size a) → Each pc (stmt_code nl env pc a)
-    stmt_fine (stmt.block_of p ss r) env pc s sub h below next =
-        let a = stmt.block_of p ss r in
-        let vars = declared (listed ss) in
+    stmt_fine (stmt.block p ss r) env pc s sub h below next =
+        let a = stmt.block p ss r in
+        let vars = block_locals (listed ss) in
         let from = pc + length vars in
         let list = listed ss in
         let inner = in_block env from list in
@@ -141,12 +141,12 @@ module _ (code : List Line) (nl : ℕ) (all : List stmt.Action) where
         all_append code nl all pc (length vars) (unset_code p vars) (stmts_code nl inner from ss) (unset_long vars p)
         (unset_fine a (sub a (inl refl)) vars p pc (inl refl) g.0 (inl start))
         (stmts_fine ss inner from s (λ x m. sub x (inr m)) g.1 b end)
-    stmt_fine (stmt.reach p rs) env pc s sub h below next =
-        let a = stmt.reach p rs in reach_fine a (sub a (inl refl)) rs pc s (λ x k. inr k) h next
-    stmt_fine (stmt.evaluate p v) env pc s sub h below next =
-        let a = stmt.evaluate p v in option_fine a (sub a (inl refl)) v pc s (λ x k. inr k) h (inl next)
-    stmt_fine (stmt.test p c a) env pc s sub h below next =
-        let me = stmt.test p c a in
+    stmt_fine (stmt.declare p rs) env pc s sub h below next =
+        let a = stmt.declare p rs in declare_fine a (sub a (inl refl)) rs pc s (λ x k. inr k) h next
+    stmt_fine (stmt.do_expr p v) env pc s sub h below next =
+        let a = stmt.do_expr p v in option_fine a (sub a (inl refl)) v pc s (λ x k. inr k) h (inl next)
+    stmt_fine (stmt.if_only p c a) env pc s sub h below next =
+        let me = stmt.if_only p c a in
         let pa = pc + expr_size c + 1 in
         let end = pa + stmt_size a in
         let e : pc + (expr_size c + 1) ≡ pa = omega arith in
@@ -158,8 +158,8 @@ module _ (code : List Line) (nl : ℕ) (all : List stmt.Action) where
         all_append code nl all pc (expr_size c + 1) (test_code p nl pc c pa end) (stmt_code nl env pa a) (test_long c p nl pc pa end)
         (test_fine me (sub me (inl refl)) c p pc pa end s.0 (inl refl) (λ x k. inr k) g.0 this next')
         (fine_at code nl all _ _ (stmt_code nl env pa a) (sym e) (stmt_fine a env pa s.1 (λ x m. sub x (inr m)) h' below next'))
-    stmt_fine (stmt.test_else p c a b) env pc s sub h below next =
-        let me = stmt.test_else p c a b in
+    stmt_fine (stmt.if_else p c a b) env pc s sub h below next =
+        let me = stmt.if_else p c a b in
         let pa = pc + expr_size c + 1 in
         let pj = pa + stmt_size a in
         let pb = pj + 1 in
@@ -180,8 +180,8 @@ module _ (code : List Line) (nl : ℕ) (all : List stmt.Action) where
         (all_append code nl all pa (stmt_size a) ca _ (stmt_long a nl env pa)
         (stmt_fine a env pa s.1 (λ x m. sub x (inr (part_front x (parts a) (parts b) m))) f.0 below jump)
         ((inl next', tt), stmt_fine b env pb s.2 (λ x m. sub x (inr (part_back x (parts a) (parts b) m))) f.1.1 below next')))
-    stmt_fine (stmt.repeat_while p c a) env pc s sub h below next =
-        let me = stmt.repeat_while p c a in
+    stmt_fine (stmt.while p c a) env pc s sub h below next =
+        let me = stmt.while p c a in
         let go = pc + (expr_size c + 1) in
         let again = go + stmt_size a in
         let end = again + 0 + 1 in
@@ -199,8 +199,8 @@ module _ (code : List Line) (nl : ℕ) (all : List stmt.Action) where
         (test_fine me (sub me (inl refl)) c p pc go end s.0 (inl refl) (λ x k. inr k) g.0 (λ n. body n (i n).0 (i n).1) next')
         (all_append code nl all go (stmt_size a) (stmt_code nl inner go a) _ (stmt_long a nl inner go)
         (stmt_fine a inner go s.1 (λ x m. sub x (inr m)) f.0 (λ n. (i n).0) (λ n. (i n).1)) ((inl head, tt), tt))
-    stmt_fine (stmt.repeat_until p a c) env pc s sub h below next =
-        let me = stmt.repeat_until p a c in
+    stmt_fine (stmt.do_while p a c) env pc s sub h below next =
+        let me = stmt.do_while p a c in
         let head = pc + 1 in
         let go = head + (expr_size c + 1) in
         let again = go + stmt_size a in
@@ -222,20 +222,20 @@ module _ (code : List Line) (nl : ℕ) (all : List stmt.Action) where
               (all_append code nl all go (stmt_size a) (stmt_code nl inner go a) _ (stmt_long a nl inner go)
               (stmt_fine a inner go s.1 (λ x m. sub x (inr m)) f.0 (λ n. (i n).0) (λ n. (i n).1)) ((inl at_head, tt), tt)),
         )
-    stmt_fine (stmt.repeat_for p rs u c w a) env pc s sub h below next =
-        let me = stmt.repeat_for p rs u c w a in
+    stmt_fine (stmt.for p rs u c w a) env pc s sub h below next =
+        let me = stmt.for p rs u c w a in
         let it = sub me (inl refl) in
         let n1 = pc + length rs in
-        let n2 = n1 + reach_size rs in
+        let n2 = n1 + declare_size rs in
         let head = for_head pc rs u in
         let go = head + test_size c in
         let again = go + stmt_size a in
         let back = again + option_size w in
         let end = back + 1 in
         let inner = in_loop env again end in
-        let d : pc + (length rs + reach_size rs + option_size u + test_size c + stmt_size a + option_size w + 1) ≡ end = omega arith in
+        let d : pc + (length rs + declare_size rs + option_size u + test_size c + stmt_size a + option_size w + 1) ≡ end = omega arith in
         let g1 = has_cut code pc (length rs) (unset_code p rs) _ (unset_long rs p) h in
-        let g2 = has_cut code n1 (reach_size rs) (reach_code nl n1 rs) _ (reach_long rs nl n1) g1.1 in
+        let g2 = has_cut code n1 (declare_size rs) (declare_code nl n1 rs) _ (declare_long rs nl n1) g1.1 in
         let g3 = has_cut code n2 (option_size u) (option_code nl n2 u) _ (option_long u nl n2) g2.1 in
         let g4 = has_cut code head (test_size c) (tested_code p nl head c go end) _ (tested_long c p nl head go end) g3.1 in
         let g5 = has_cut code go (stmt_size a) (stmt_code nl inner go a) _ (stmt_long a nl inner go) g4.1 in
@@ -245,19 +245,19 @@ module _ (code : List Line) (nl : ℕ) (all : List stmt.Action) where
         let at_head : AreDead code nl head = λ n. loop_dead code nl p c w env head (stmt_size a) s.2 s.3 g4.0 g6.0 g6.1.0 body n (below n) (next' n) in
         let i = λ (n : ℕ). inside_dead code nl p c w env head (stmt_size a) s.2 s.3 g4.0 g6.0 g6.1.0 body n (below n) (next' n) in
         let at_first : AreDead code nl n2 = λ n. option_dead code nl u n2 n s.1 g3.0 (at_head n) in
-        let at_reach : AreDead code nl n1 = λ n. reach_dead code nl rs n1 n s.0 g2.0 (at_first n) in
+        let at_reach : AreDead code nl n1 = λ n. declare_dead code nl rs n1 n s.0 g2.0 (at_first n) in
         let tail = option_positions u ++ (option_positions c ++ option_positions w) in
-        let o1 : Covers (reach_positions rs ++ tail) (own me) = λ x k. inr k in
-        let cr : Covers (reach_positions rs) (own me) = covers_front (reach_positions rs) tail (own me) o1 in
-        let ct : Covers tail (own me) = covers_back (reach_positions rs) tail (own me) o1 in
+        let o1 : Covers (declare_positions rs ++ tail) (own me) = λ x k. inr k in
+        let cr : Covers (declare_positions rs) (own me) = covers_front (declare_positions rs) tail (own me) o1 in
+        let ct : Covers tail (own me) = covers_back (declare_positions rs) tail (own me) o1 in
         let cu = covers_front (option_positions u) (option_positions c ++ option_positions w) (own me) ct in
         let cc' = covers_back (option_positions u) (option_positions c ++ option_positions w) (own me) ct in
         let ctest = covers_front (option_positions c) (option_positions w) (own me) cc' in
         let cw = covers_back (option_positions c) (option_positions w) (own me) cc' in
         all_append code nl all pc (length rs) (unset_code p rs) _ (unset_long rs p)
         (unset_fine me it rs p pc (inl refl) g1.0 (inl at_reach))
-        (all_append code nl all n1 (reach_size rs) (reach_code nl n1 rs) _ (reach_long rs nl n1)
-        (reach_fine me it rs n1 s.0 cr g2.0 at_first)
+        (all_append code nl all n1 (declare_size rs) (declare_code nl n1 rs) _ (declare_long rs nl n1)
+        (declare_fine me it rs n1 s.0 cr g2.0 at_first)
         (all_append code nl all n2 (option_size u) (option_code nl n2 u) _ (option_long u nl n2)
         (option_fine me it u n2 s.1 cu g3.0 (inl at_head))
         (all_append code nl all head (test_size c) (tested_code p nl head c go end) _ (tested_long c p nl head go end)
@@ -266,10 +266,10 @@ module _ (code : List Line) (nl : ℕ) (all : List stmt.Action) where
         (stmt_fine a inner go s.4 (λ x m. sub x (inr m)) g5.0 (λ n. (i n).0) (λ n. (i n).1))
         (all_append code nl all again (option_size w) (option_code nl again w) _ (option_long w nl again)
         (option_fine me it w again s.3 cw g6.0 (here code nl all me it back p _ g6.1.0 (inl refl))) ((inl at_head, tt), tt))))))
-    stmt_fine (stmt.switch_on p v (stmt.block_of t ss r)) env pc s sub h below next =
-        let me = stmt.switch_on p v (stmt.block_of t ss r) in
+    stmt_fine (stmt.switch p v (stmt.block t ss r)) env pc s sub h below next =
+        let me = stmt.switch p v (stmt.block t ss r) in
         let it = sub me (inl refl) in
-        let vars = declared (listed ss) in
+        let vars = block_locals (listed ss) in
         let list = listed ss in
         let count = length vars in
         let q = pc + expr_size v in
@@ -302,8 +302,8 @@ module _ (code : List Line) (nl : ℕ) (all : List stmt.Action) where
         (unset_fine me it vars p q (inl refl) g2.0 enters)
         (chain_fine me it cs p x y at other rest (inl refl) (λ n. cases_dead code nl n from ss (starts n)) (λ n. default_dead code nl n from end ss (starts n) (next' n)) g2.1
         (fine_at code nl all _ _ rest e (stmts_fine ss inner from s.1 (λ z m. sub z (inr (inr m))) g3.1.1 b next'))))
-    stmt_fine (stmt.switch_on p v a) env pc s sub h below next =
-        let me = stmt.switch_on p v a in
+    stmt_fine (stmt.switch p v a) env pc s sub h below next =
+        let me = stmt.switch p v a in
         let it = sub me (inl refl) in
         let q = pc + expr_size v in
         let end = q + 1 + stmt_size a in
@@ -314,15 +314,15 @@ module _ (code : List Line) (nl : ℕ) (all : List stmt.Action) where
         all_append code nl all pc (expr_size v) (value_code nl pc v) _ (value_long v nl pc)
         (expr_fine code nl all me it v 0 x pc s.0.1 (λ z m. inr m) g.0 (here code nl all me it q p _ g.1.0 (inl refl)))
         ((inl next', tt), stmt_fine a (in_switch env end) (q + 1) s.1 (λ z m. sub z (inr m)) g.1.1 (λ n. switch_below code nl n env end (below n) (next' n)) next')
-    stmt_fine (stmt.at_case p m a) env pc s sub h below next = stmt_fine a env pc s (λ x k. sub x (inr k)) h below next
-    stmt_fine (stmt.at_default p a) env pc s sub h below next = stmt_fine a env pc s (λ x k. sub x (inr k)) h below next
-    stmt_fine (stmt.at_label p l a) env pc s sub h below next = stmt_fine a env pc s (λ x k. sub x (inr k)) h below next
-    stmt_fine (stmt.jump p l) env pc s sub h below next = ((inl (λ n. (below (suc n)).2 l), tt), tt)
-    stmt_fine (stmt.leave p) env pc s sub h below next = ((inl (λ n. (below (suc n)).0), tt), tt)
-    stmt_fine (stmt.next_turn p) env pc s sub h below next = ((inl (λ n. (below (suc n)).1), tt), tt)
-    stmt_fine (stmt.give p None) env pc s sub h below next = (tt, tt)
-    stmt_fine (stmt.give p (Some v)) env pc s sub h below next =
-        let me = stmt.give p (Some v) in
+    stmt_fine (stmt.case p m a) env pc s sub h below next = stmt_fine a env pc s (λ x k. sub x (inr k)) h below next
+    stmt_fine (stmt.default p a) env pc s sub h below next = stmt_fine a env pc s (λ x k. sub x (inr k)) h below next
+    stmt_fine (stmt.label p l a) env pc s sub h below next = stmt_fine a env pc s (λ x k. sub x (inr k)) h below next
+    stmt_fine (stmt.goto p l) env pc s sub h below next = ((inl (λ n. (below (suc n)).2 l), tt), tt)
+    stmt_fine (stmt.break p) env pc s sub h below next = ((inl (λ n. (below (suc n)).0), tt), tt)
+    stmt_fine (stmt.continue p) env pc s sub h below next = ((inl (λ n. (below (suc n)).1), tt), tt)
+    stmt_fine (stmt.return p None) env pc s sub h below next = (tt, tt)
+    stmt_fine (stmt.return p (Some v)) env pc s sub h below next =
+        let me = stmt.return p (Some v) in
         let it = sub me (inl refl) in
         let q = pc + expr_size v in
         let g = has_cut code pc (expr_size v) (value_code nl pc v) _ (value_long v nl pc) h in

@@ -107,7 +107,7 @@ module _ (code : List Line) (nl : ℕ) where
   pub one_more : (n pc : ℕ) (ws : List ℕ) (a : ℕ) → WritesFirst code nl n pc ws → WritesFirst code nl n pc (a ∷ ws)
   one_more n pc ws a h = more code nl n pc ws (a ∷ ws) (within_more ws ws a (within_all ws)) h
 
-  -- behind another that was written
+  -- after another that was written
   under : (n pc : ℕ) (ws : List ℕ) (t a : ℕ) → WritesFirst code nl n pc (t ∷ ws) → WritesFirst code nl n pc (t ∷ a ∷ ws)
   under n pc ws t a h = more code nl n pc (t ∷ ws) (t ∷ a ∷ ws) (within_both ws (a ∷ ws) t (within_more ws ws a (within_all ws))) h
 

@@ -62,6 +62,6 @@ module _ (code : List Line) (nl : ℕ) where
       subst (λ o. LineKeeps (WritesFirst code nl n) nl ws pc o) (sym here)
       (known, each_map (WritesFirst code nl (suc n)) (WritesFirst code nl n) (writes l.instr ++ ws) (writes l.instr ++ ws) (λ q. shorter n q (writes l.instr ++ ws)) (following pc l.instr) each)
 
-  -- a path that begins with an instruction is one longer than what is behind it
+  -- a path that begins with an instruction is one longer than what is after it
   pub by_last : (n pc : ℕ) (ws : List ℕ) (l : Line) → slice_get code pc ≡ Some l → AreKnown nl ws (reads l.instr) → Each (WritesFirst code nl n) (writes l.instr ++ ws) (following pc l.instr) → WritesFirst code nl (suc n) pc ws
   by_last n pc ws l here known each = subst (λ o. LineKeeps (WritesFirst code nl n) nl ws pc o) (sym here) (known, each)

@@ -8,20 +8,20 @@ use Rattle.pungi_resolved.specs.Values as expr
 use Rattle.pungi_resolved.specs.Actions as stmt
 use Rattle.pungi_meaning.specs.Stmts.{cases_of, block_cases, is_default}
 use Rattle.pungi_meaning.specs.Todo.{listed}
-use Rattle.pungi_meaning.specs.Work.{declared}
+use Rattle.pungi_meaning.specs.Work.{block_locals}
 use Rattle.pungi_code.specs.declared.code.Line.{Line}
 use Rattle.pungi_code.specs.declared.instr.Instr.TheVariants.{Jump}
 use Rattle.pungi_layout.specs.code.Parts.{gives}
-use Rattle.pungi_layout.specs.code.Sizes.{expr_size, option_size, reach_size, test_size, stmt_size, stmts_size}
+use Rattle.pungi_layout.specs.code.Sizes.{expr_size, option_size, declare_size, test_size, stmt_size, stmts_size}
 use Rattle.pungi_layout.specs.code.Temporaries.{temp, temp_of, operand, local_column}
 use Rattle.pungi_layout.specs.code.ExprCode.{line, at_label, expr_code}
 use Rattle.pungi_layout.specs.code.Scopes.{Env, label_or, for_head, stmt_label, list_label, placed_cases, list_cases, list_default, in_block, in_loop, in_switch}
-use Rattle.pungi_layout.specs.code.StmtCode.{unset_code, value_code, option_code, bind_code, reach_code, test_code, tested_code, case_code, stmt_code, stmts_code}
-use Rattle.pungi_layout.specs.code.Sound.{IsWanted, IsOptionSound, IsOptionWanted, AreReached, IsStmtSound, AreStmtsSound}
+use Rattle.pungi_layout.specs.code.StmtCode.{unset_code, value_code, option_code, bind_code, declare_code, test_code, tested_code, case_code, stmt_code, stmts_code}
+use Rattle.pungi_layout.specs.code.Sound.{IsWanted, IsOptionSound, IsOptionWanted, AreDeclared, IsStmtSound, AreStmtsSound}
 use Rattle.pungi_layout.specs.liveness.Liveness.{Among, WritesFirst}
 use Rattle.pungi_layout.proofs.liveness.FoundPlaces.{or_found, if_found}
 use Rattle.pungi_layout.proofs.code.ExprLengths.{expr_long}
-use Rattle.pungi_layout.proofs.code.StmtLengths.{unset_long, value_long, option_long, bind_long, reach_long, test_long, tested_long, case_long, cases_long, stmt_long}
+use Rattle.pungi_layout.proofs.code.StmtLengths.{unset_long, value_long, option_long, bind_long, declare_long, test_long, tested_long, case_long, cases_long, stmt_long}
 use Rattle.pungi_layout.proofs.relation.Relation.{switch_first}
 use Rattle.pungi_layout.proofs.relation.PlacedExprs.{HasAt, has_cut}
 use Rattle.pungi_layout.proofs.liveness.Paths.{more, shorter, by_line, by_last}
@@ -34,7 +34,7 @@ module _ (code : List Line) (nl : ℕ) where
   abbrev pub EnvDead : ℕ → Env → Type 0
   EnvDead n env = Dead n env.breaks × Dead n env.continues × ((l : Name) → Dead n (env.labels l))
 
-  -- a jump is an instruction, so that what is behind it is shorter
+  -- a jump is an instruction, so that what is after it is shorter
   abbrev pub EnvBelow : ℕ → Env → Type 0
   EnvBelow zero env = Unit {0}
   EnvBelow (suc n) env = EnvDead n env
@@ -70,7 +70,7 @@ module _ (code : List Line) (nl : ℕ) where
   wanted_first : (v : expr.Value) (x pc n : ℕ) → IsWanted nl v → HasAt code pc (expr_code nl 0 x pc v) → WritesFirst code nl n (pc + expr_size v) (x ∷ []) → Dead n pc
   wanted_first v x pc n s h next = expr_first code nl v 0 x pc n [] s.1 h (given code nl (gives v) n (pc + expr_size v) x [] s.0 next)
 
-  pub unset_first : (rs : List stmt.Reached) (p : Pos) (pc n : ℕ) (ws : List ℕ) → HasAt code pc (unset_code p rs) → WritesFirst code nl n (pc + length rs) ws → WritesFirst code nl n pc ws
+  pub unset_first : (rs : List stmt.DeclaredLocal) (p : Pos) (pc n : ℕ) (ws : List ℕ) → HasAt code pc (unset_code p rs) → WritesFirst code nl n (pc + length rs) ws → WritesFirst code nl n pc ws
   unset_first [] p pc n ws h next = let e : pc + 0 ≡ pc = omega arith in moved code nl n _ _ ws e next
   unset_first (r ∷ rs) p pc n ws h next =
       let e : pc + suc (length rs) ≡ pc + 1 + length rs = omega arith in
@@ -85,14 +85,14 @@ module _ (code : List Line) (nl : ℕ) where
       wanted_first v y pc n s g.0
       (by_line code nl n (pc + expr_size v) (y ∷ []) _ g.1.0 (inr (inl refl), tt) (one_more code nl n _ (y ∷ []) x (one_more code nl n _ [] y (dead_at n _ _ e next)), tt))
 
-  pub reach_dead : (rs : List stmt.Reached) (pc n : ℕ) → AreReached nl rs → HasAt code pc (reach_code nl pc rs) → Dead n (pc + reach_size rs) → Dead n pc
-  reach_dead [] pc n s h next = let e : pc + 0 ≡ pc = omega arith in dead_at n _ _ e next
-  reach_dead (r ∷ rs) pc n s h next =
+  pub declare_dead : (rs : List stmt.DeclaredLocal) (pc n : ℕ) → AreDeclared nl rs → HasAt code pc (declare_code nl pc rs) → Dead n (pc + declare_size rs) → Dead n pc
+  declare_dead [] pc n s h next = let e : pc + 0 ≡ pc = omega arith in dead_at n _ _ e next
+  declare_dead (r ∷ rs) pc n s h next =
       let q = pc + option_size r.value + 1 in
       let f : pc + (option_size r.value + 1) ≡ q = omega arith in
-      let e : pc + (option_size r.value + 1 + reach_size rs) ≡ q + reach_size rs = omega arith in
+      let e : pc + (option_size r.value + 1 + declare_size rs) ≡ q + declare_size rs = omega arith in
       let g = has_cut code pc (option_size r.value + 1) (bind_code nl pc r.at r.number r.kind r.value) _ (bind_long r.value nl pc r.number r.at r.kind) h in
-      let rest = reach_dead rs q n s.2 (subst (λ x. HasAt code x (reach_code nl q rs)) f g.1) (dead_at n _ _ e next) in
+      let rest = declare_dead rs q n s.2 (subst (λ x. HasAt code x (declare_code nl q rs)) f g.1) (dead_at n _ _ e next) in
       bind_dead r.value pc n r.number r.at r.kind s.1 g.0 (dead_at n _ _ (sym f) rest)
 
   test_dead : (c : expr.Value) (p : Pos) (pc go other n : ℕ) → IsWanted nl c → HasAt code pc (test_code p nl pc c go other) → Dead n go → Dead n other → Dead n pc
@@ -110,7 +110,7 @@ module _ (code : List Line) (nl : ℕ) where
   pub jump_dead : (n pc to : ℕ) (p : Pos) → slice_get code pc ≡ Some (line p (Jump (at_label to))) → Dead n to → Dead n pc
   jump_dead n pc to p here next = by_line code nl n pc [] _ here tt (next, tt)
 
-  -- what is behind a jump is shorter
+  -- what is after a jump is shorter
   far_jump_dead : (n pc to : ℕ) (p : Pos) → slice_get code pc ≡ Some (line p (Jump (at_label to))) → ((m : ℕ) → n ≡ suc m → Dead m to) → Dead n pc
   far_jump_dead zero pc to p here next = tt
   far_jump_dead (suc n) pc to p here next = by_last code nl n pc [] _ here tt (next n refl, tt)
@@ -163,7 +163,7 @@ module _ (code : List Line) (nl : ℕ) where
   any_dead : (n pc : ℕ) (ws : List ℕ) → Dead n pc → WritesFirst code nl n pc ws
   any_dead n pc ws h = more code nl n pc [] ws (λ x m. absurd m) h
 
-  -- each statement of a list begins so, and so does what is behind it
+  -- each statement of a list begins so, and so does what is after it
   abbrev pub StartsDead : ℕ → ℕ → stmt.Actions → Type 0
   StartsDead n pc stmt.no_actions = Dead n pc
   StartsDead n pc (stmt.action_and a ss) = Dead n pc × StartsDead n (pc + stmt_size a) ss
@@ -198,7 +198,7 @@ module _ (code : List Line) (nl : ℕ) where
   default_dead n pc end (stmt.action_and a ss) h next =
       default_by (is_default a) n pc end (list_default (pc + stmt_size a) (listed ss)) h.0 (default_dead n (pc + stmt_size a) end ss h.1 next)
 
-  -- the comparisons of a `switch`, and the jump behind them
+  -- the comparisons of a `switch`, and the jump after them
   chain_first : (cs : List (ℤ × ℕ)) (p : Pos) (x y pc other n : ℕ) (ws : List ℕ) (rest : List Line) → Among x ws → CasesDead n cs → Dead n other → HasAt code pc (case_code p x y pc cs ++ line p (Jump (at_label other)) ∷ rest) → WritesFirst code nl n pc ws
   chain_first [] p x y pc other n ws rest m cases next h = by_line code nl n pc ws _ h.0 tt (any_dead n other ws next, tt)
   chain_first (c ∷ cs) p x y pc other n ws rest m cases next h =
@@ -231,8 +231,8 @@ module _ (code : List Line) (nl : ℕ) where
 
   mutual
     pub stmt_dead : (a : stmt.Action) (env : Env) (pc n : ℕ) → IsStmtSound nl a → HasAt code pc (stmt_code nl env pc a) → EnvBelow n env → Dead n (pc + stmt_size a) → Dead n pc
-    stmt_dead (stmt.block_of p ss r) env pc n s h below next =
-        let own = declared (listed ss) in
+    stmt_dead (stmt.block p ss r) env pc n s h below next =
+        let own = block_locals (listed ss) in
         let from = pc + length own in
         let list = listed ss in
         let inner = in_block env from list in
@@ -241,9 +241,9 @@ module _ (code : List Line) (nl : ℕ) where
         let end = dead_at n _ _ e next in
         let b = inner_below env from (from + stmts_size ss) list (λ m bm nm l q eq. list_label_dead ss inner from m s g.1 bm nm l q eq) n below end in
         unset_first own p pc n [] g.0 (front n from ss (starts_dead ss inner from n s g.1 b end))
-    stmt_dead (stmt.reach p rs) env pc n s h below next = reach_dead rs pc n s h next
-    stmt_dead (stmt.evaluate p v) env pc n s h below next = option_dead v pc n s h next
-    stmt_dead (stmt.test p c a) env pc n s h below next =
+    stmt_dead (stmt.declare p rs) env pc n s h below next = declare_dead rs pc n s h next
+    stmt_dead (stmt.do_expr p v) env pc n s h below next = option_dead v pc n s h next
+    stmt_dead (stmt.if_only p c a) env pc n s h below next =
         let pa = pc + expr_size c + 1 in
         let end = pa + stmt_size a in
         let e : pc + (expr_size c + 1) ≡ pa = omega arith in
@@ -251,7 +251,7 @@ module _ (code : List Line) (nl : ℕ) where
         let g = has_cut code pc (expr_size c + 1) (test_code p nl pc c pa end) (stmt_code nl env pa a) (test_long c p nl pc pa end) h in
         let next' = dead_at n _ _ f next in
         test_dead c p pc pa end n s.0 g.0 (stmt_dead a env pa n s.1 (subst (λ x. HasAt code x (stmt_code nl env pa a)) e g.1) below next') next'
-    stmt_dead (stmt.test_else p c a b) env pc n s h below next =
+    stmt_dead (stmt.if_else p c a b) env pc n s h below next =
         let pa = pc + expr_size c + 1 in
         let pb = pa + stmt_size a + 1 in
         let end = pb + stmt_size b in
@@ -262,7 +262,7 @@ module _ (code : List Line) (nl : ℕ) where
         let f = has_cut code pa (stmt_size a) (stmt_code nl env pa a) (line p (Jump (at_label end)) ∷ stmt_code nl env pb b) (stmt_long a nl env pa) (subst (λ x. HasAt code x rest) e g.1) in
         let next' = dead_at n _ _ d next in
         test_dead c p pc pa pb n s.0 g.0 (stmt_dead a env pa n s.1 f.0 below (jump_dead n (pa + stmt_size a) end p f.1.0 next')) (stmt_dead b env pb n s.2 f.1.1 below next')
-    stmt_dead (stmt.repeat_while p c a) env pc n s h below next =
+    stmt_dead (stmt.while p c a) env pc n s h below next =
         let go = pc + (expr_size c + 1) in
         let again = go + stmt_size a in
         let end = again + 0 + 1 in
@@ -273,7 +273,7 @@ module _ (code : List Line) (nl : ℕ) where
         let f = has_cut code go (stmt_size a) (stmt_code nl inner go a) _ (stmt_long a nl inner go) g.1 in
         let j = subst (λ x. slice_get code x ≡ Some (line p (Jump (at_label pc)))) z f.1.0 in
         loop_dead p (Some c) None env pc (stmt_size a) s.0 tt g.0 tt j (λ m bm nm. stmt_dead a inner go m s.1 f.0 bm nm) n below (dead_at n _ _ d next)
-    stmt_dead (stmt.repeat_until p a c) env pc n s h below next =
+    stmt_dead (stmt.do_while p a c) env pc n s h below next =
         let head = pc + 1 in
         let go = head + (expr_size c + 1) in
         let again = go + stmt_size a in
@@ -286,23 +286,23 @@ module _ (code : List Line) (nl : ℕ) where
         let j = subst (λ x. slice_get code x ≡ Some (line p (Jump (at_label head)))) z f.1.0 in
         let i = inside_dead p (Some c) None env head (stmt_size a) s.0 tt g.0 tt j (λ m bm nm. stmt_dead a inner go m s.1 f.0 bm nm) n below (dead_at n _ _ d next) in
         jump_dead n pc go p h.0 (stmt_dead a inner go n s.1 f.0 i.0 i.1)
-    stmt_dead (stmt.repeat_for p rs u c w a) env pc n s h below next =
+    stmt_dead (stmt.for p rs u c w a) env pc n s h below next =
         let head = for_head pc rs u in
         let go = head + test_size c in
         let again = go + stmt_size a in
         let end = again + option_size w + 1 in
         let inner = in_loop env again end in
-        let d : pc + (length rs + reach_size rs + option_size u + test_size c + stmt_size a + option_size w + 1) ≡ end = omega arith in
+        let d : pc + (length rs + declare_size rs + option_size u + test_size c + stmt_size a + option_size w + 1) ≡ end = omega arith in
         let g1 = has_cut code pc (length rs) (unset_code p rs) _ (unset_long rs p) h in
-        let g2 = has_cut code (pc + length rs) (reach_size rs) (reach_code nl (pc + length rs) rs) _ (reach_long rs nl (pc + length rs)) g1.1 in
-        let g3 = has_cut code (pc + length rs + reach_size rs) (option_size u) (option_code nl (pc + length rs + reach_size rs) u) _ (option_long u nl (pc + length rs + reach_size rs)) g2.1 in
+        let g2 = has_cut code (pc + length rs) (declare_size rs) (declare_code nl (pc + length rs) rs) _ (declare_long rs nl (pc + length rs)) g1.1 in
+        let g3 = has_cut code (pc + length rs + declare_size rs) (option_size u) (option_code nl (pc + length rs + declare_size rs) u) _ (option_long u nl (pc + length rs + declare_size rs)) g2.1 in
         let g4 = has_cut code head (test_size c) (tested_code p nl head c go end) _ (tested_long c p nl head go end) g3.1 in
         let g5 = has_cut code go (stmt_size a) (stmt_code nl inner go a) _ (stmt_long a nl inner go) g4.1 in
         let g6 = has_cut code again (option_size w) (option_code nl again w) _ (option_long w nl again) g5.1 in
         let at_head = loop_dead p c w env head (stmt_size a) s.2 s.3 g4.0 g6.0 g6.1.0 (λ m bm nm. stmt_dead a inner go m s.4 g5.0 bm nm) n below (dead_at n _ _ d next) in
-        unset_first rs p pc n [] g1.0 (reach_dead rs (pc + length rs) n s.0 g2.0 (option_dead u (pc + length rs + reach_size rs) n s.1 g3.0 at_head))
-    stmt_dead (stmt.switch_on p v (stmt.block_of t ss r)) env pc n s h below next =
-        let own = declared (listed ss) in
+        unset_first rs p pc n [] g1.0 (declare_dead rs (pc + length rs) n s.0 g2.0 (option_dead u (pc + length rs + declare_size rs) n s.1 g3.0 at_head))
+    stmt_dead (stmt.switch p v (stmt.block t ss r)) env pc n s h below next =
+        let own = block_locals (listed ss) in
         let list = listed ss in
         let count = length own in
         let from = switch_first (pc + expr_size v) count ss in
@@ -327,23 +327,23 @@ module _ (code : List Line) (nl : ℕ) where
         wanted_first v x pc n s.0 g1.0
         (unset_first own p (pc + expr_size v) n (x ∷ []) g2.0
         (chain_first cs p x y at other n (x ∷ []) (stmts_code nl inner from ss) (inl refl) (cases_dead n from ss starts) (default_dead n from end ss starts next') g2.1))
-    stmt_dead (stmt.switch_on p v a) env pc n s h below next =
+    stmt_dead (stmt.switch p v a) env pc n s h below next =
         let end = pc + expr_size v + 1 + stmt_size a in
         let x = temp_of nl 0 v in
         let d : pc + (expr_size v + (1 + stmt_size a)) ≡ end = omega arith in
         let g = has_cut code pc (expr_size v) (value_code nl pc v) _ (value_long v nl pc) h in
         wanted_first v x pc n s.0 g.0 (one_more code nl n (pc + expr_size v) [] x (jump_dead n (pc + expr_size v) end p g.1.0 (dead_at n _ _ d next)))
-    stmt_dead (stmt.at_case p m a) env pc n s h below next = stmt_dead a env pc n s h below next
-    stmt_dead (stmt.at_default p a) env pc n s h below next = stmt_dead a env pc n s h below next
-    stmt_dead (stmt.at_label p l a) env pc n s h below next = stmt_dead a env pc n s h below next
-    stmt_dead (stmt.jump p l) env pc zero s h below next = tt
-    stmt_dead (stmt.jump p l) env pc (suc n) s h below next = by_last code nl n pc [] _ h.0 tt (below.2 l, tt)
-    stmt_dead (stmt.leave p) env pc zero s h below next = tt
-    stmt_dead (stmt.leave p) env pc (suc n) s h below next = by_last code nl n pc [] _ h.0 tt (below.0, tt)
-    stmt_dead (stmt.next_turn p) env pc zero s h below next = tt
-    stmt_dead (stmt.next_turn p) env pc (suc n) s h below next = by_last code nl n pc [] _ h.0 tt (below.1, tt)
-    stmt_dead (stmt.give p None) env pc n s h below next = by_line code nl n pc [] _ h.0 tt tt
-    stmt_dead (stmt.give p (Some v)) env pc n s h below next =
+    stmt_dead (stmt.case p m a) env pc n s h below next = stmt_dead a env pc n s h below next
+    stmt_dead (stmt.default p a) env pc n s h below next = stmt_dead a env pc n s h below next
+    stmt_dead (stmt.label p l a) env pc n s h below next = stmt_dead a env pc n s h below next
+    stmt_dead (stmt.goto p l) env pc zero s h below next = tt
+    stmt_dead (stmt.goto p l) env pc (suc n) s h below next = by_last code nl n pc [] _ h.0 tt (below.2 l, tt)
+    stmt_dead (stmt.break p) env pc zero s h below next = tt
+    stmt_dead (stmt.break p) env pc (suc n) s h below next = by_last code nl n pc [] _ h.0 tt (below.0, tt)
+    stmt_dead (stmt.continue p) env pc zero s h below next = tt
+    stmt_dead (stmt.continue p) env pc (suc n) s h below next = by_last code nl n pc [] _ h.0 tt (below.1, tt)
+    stmt_dead (stmt.return p None) env pc n s h below next = by_line code nl n pc [] _ h.0 tt tt
+    stmt_dead (stmt.return p (Some v)) env pc n s h below next =
         let x = temp_of nl 0 v in
         let g = has_cut code pc (expr_size v) (value_code nl pc v) _ (value_long v nl pc) h in
         wanted_first v x pc n s g.0 (by_line code nl n (pc + expr_size v) (x ∷ []) _ g.1.0 (inr (inl refl), tt) tt)
@@ -359,20 +359,20 @@ module _ (code : List Line) (nl : ℕ) where
 
     -- .. the labels in a statement
     label_dead : (a : stmt.Action) (env : Env) (pc n : ℕ) → IsStmtSound nl a → HasAt code pc (stmt_code nl env pc a) → EnvBelow n env → Dead n (pc + stmt_size a) → (l : Name) (q : ℕ) → stmt_label l pc a ≡ Some q → Dead n q
-    label_dead (stmt.at_label p k a) env pc n s h below next l q e = elim (if_found (k.0 == l.0) pc q (stmt_label l pc a) e) [
+    label_dead (stmt.label p k a) env pc n s h below next l q e = elim (if_found (k.0 == l.0) pc q (stmt_label l pc a) e) [
       | inl same ↦ dead_at n _ _ same (stmt_dead a env pc n s h below next)
       | inr more' ↦ label_dead a env pc n s h below next l q more'
     ]
-    label_dead (stmt.at_case p m a) env pc n s h below next l q e = label_dead a env pc n s h below next l q e
-    label_dead (stmt.at_default p a) env pc n s h below next l q e = label_dead a env pc n s h below next l q e
-    label_dead (stmt.test p c a) env pc n s h below next l q e =
+    label_dead (stmt.case p m a) env pc n s h below next l q e = label_dead a env pc n s h below next l q e
+    label_dead (stmt.default p a) env pc n s h below next l q e = label_dead a env pc n s h below next l q e
+    label_dead (stmt.if_only p c a) env pc n s h below next l q e =
         let pa = pc + expr_size c + 1 in
         let end = pa + stmt_size a in
         let d : pc + (expr_size c + 1) ≡ pa = omega arith in
         let f : pc + (expr_size c + 1 + stmt_size a) ≡ end = omega arith in
         let g = has_cut code pc (expr_size c + 1) (test_code p nl pc c pa end) (stmt_code nl env pa a) (test_long c p nl pc pa end) h in
         label_dead a env pa n s.1 (subst (λ x. HasAt code x (stmt_code nl env pa a)) d g.1) below (dead_at n _ _ f next) l q e
-    label_dead (stmt.test_else p c a b) env pc n s h below next l q e =
+    label_dead (stmt.if_else p c a b) env pc n s h below next l q e =
         let pa = pc + expr_size c + 1 in
         let pb = pa + stmt_size a + 1 in
         let end = pb + stmt_size b in
@@ -386,7 +386,7 @@ module _ (code : List Line) (nl : ℕ) where
           | inl this ↦ label_dead a env pa n s.1 f.0 below (jump_dead n (pa + stmt_size a) end p f.1.0 next') l q this
           | inr that ↦ label_dead b env pb n s.2 f.1.1 below next' l q that
         ]
-    label_dead (stmt.repeat_while p c a) env pc n s h below next l q e =
+    label_dead (stmt.while p c a) env pc n s h below next l q e =
         let go = pc + (expr_size c + 1) in
         let again = go + stmt_size a in
         let end = again + 0 + 1 in
@@ -398,7 +398,7 @@ module _ (code : List Line) (nl : ℕ) where
         let j = subst (λ x. slice_get code x ≡ Some (line p (Jump (at_label pc)))) z f.1.0 in
         let i = inside_dead p (Some c) None env pc (stmt_size a) s.0 tt g.0 tt j (λ m bm nm. stmt_dead a inner go m s.1 f.0 bm nm) n below (dead_at n _ _ d next) in
         label_dead a inner go n s.1 f.0 i.0 i.1 l q e
-    label_dead (stmt.repeat_until p a c) env pc n s h below next l q e =
+    label_dead (stmt.do_while p a c) env pc n s h below next l q e =
         let head = pc + 1 in
         let go = head + (expr_size c + 1) in
         let again = go + stmt_size a in
@@ -411,23 +411,23 @@ module _ (code : List Line) (nl : ℕ) where
         let j = subst (λ x. slice_get code x ≡ Some (line p (Jump (at_label head)))) z f.1.0 in
         let i = inside_dead p (Some c) None env head (stmt_size a) s.0 tt g.0 tt j (λ m bm nm. stmt_dead a inner go m s.1 f.0 bm nm) n below (dead_at n _ _ d next) in
         label_dead a inner go n s.1 f.0 i.0 i.1 l q e
-    label_dead (stmt.repeat_for p rs u c w a) env pc n s h below next l q e =
+    label_dead (stmt.for p rs u c w a) env pc n s h below next l q e =
         let head = for_head pc rs u in
         let go = head + test_size c in
         let again = go + stmt_size a in
         let end = again + option_size w + 1 in
         let inner = in_loop env again end in
-        let d : pc + (length rs + reach_size rs + option_size u + test_size c + stmt_size a + option_size w + 1) ≡ end = omega arith in
+        let d : pc + (length rs + declare_size rs + option_size u + test_size c + stmt_size a + option_size w + 1) ≡ end = omega arith in
         let g1 = has_cut code pc (length rs) (unset_code p rs) _ (unset_long rs p) h in
-        let g2 = has_cut code (pc + length rs) (reach_size rs) (reach_code nl (pc + length rs) rs) _ (reach_long rs nl (pc + length rs)) g1.1 in
-        let g3 = has_cut code (pc + length rs + reach_size rs) (option_size u) (option_code nl (pc + length rs + reach_size rs) u) _ (option_long u nl (pc + length rs + reach_size rs)) g2.1 in
+        let g2 = has_cut code (pc + length rs) (declare_size rs) (declare_code nl (pc + length rs) rs) _ (declare_long rs nl (pc + length rs)) g1.1 in
+        let g3 = has_cut code (pc + length rs + declare_size rs) (option_size u) (option_code nl (pc + length rs + declare_size rs) u) _ (option_long u nl (pc + length rs + declare_size rs)) g2.1 in
         let g4 = has_cut code head (test_size c) (tested_code p nl head c go end) _ (tested_long c p nl head go end) g3.1 in
         let g5 = has_cut code go (stmt_size a) (stmt_code nl inner go a) _ (stmt_long a nl inner go) g4.1 in
         let g6 = has_cut code again (option_size w) (option_code nl again w) _ (option_long w nl again) g5.1 in
         let i = inside_dead p c w env head (stmt_size a) s.2 s.3 g4.0 g6.0 g6.1.0 (λ m bm nm. stmt_dead a inner go m s.4 g5.0 bm nm) n below (dead_at n _ _ d next) in
         label_dead a inner go n s.4 g5.0 i.0 i.1 l q e
-    label_dead (stmt.switch_on p v (stmt.block_of t ss r)) env pc n s h below next l q e = absurd (cc)
-    label_dead (stmt.switch_on p v a) env pc n s h below next l q e =
+    label_dead (stmt.switch p v (stmt.block t ss r)) env pc n s h below next l q e = absurd (cc)
+    label_dead (stmt.switch p v a) env pc n s h below next l q e =
         let end = pc + expr_size v + 1 + stmt_size a in
         let d : pc + (expr_size v + (1 + stmt_size a)) ≡ end = omega arith in
         let g = has_cut code pc (expr_size v) (value_code nl pc v) _ (value_long v nl pc) h in

@@ -3,11 +3,11 @@ use Rattle.std.proofs.Common.{◌≡◌, ℕ, zero, suc, ◌+◌, ◌==◌, List
 use Rattle.pungi_base.specs.declared.names.Name.{Name}
 use Rattle.pungi_base.specs.declared.pos.Pos.{Pos}
 use Rattle.pungi_resolved.specs.Actions as stmt
-use Rattle.pungi_meaning.specs.Todo.{Loop, Todo, ToEval, ToLoad, ToOld, ToKeep, ToStep, ToMinus, ToCompute, ToFit, ToCompare, ToNot, ToRight, ToTruth, ToPick, ToStore, ToPop, ToArgs, ToExec, ToForget, ToReach, ToBind, ToChoose, ToJoin, ToRest, ToTest, ToTurn, ToAgain, ToBack, ToSwitch, ToSwitchEnd, ToReturn, ToEnd}
-use Rattle.pungi_meaning.specs.Jumps.{a_loop, entered, entered_among, found_or, from_label, after_break, after_continue}
+use Rattle.pungi_meaning.specs.Todo.{Loop, Todo, ToEval, ToLoad, ToOld, ToKeep, ToStep, ToMinus, ToCompute, ToFit, ToCompare, ToNot, ToRight, ToTruth, ToPick, ToStore, ToPop, ToArgs, ToExec, ToForget, ToDeclare, ToBind, ToChoose, ToJoin, ToRest, ToTest, ToTurn, ToAgain, ToBack, ToSwitch, ToSwitchEnd, ToReturn, ToEnd}
+use Rattle.pungi_meaning.specs.Jumps.{a_loop, enter, enter_among, found_or, from_label, after_break, after_continue}
 use Rattle.pungi_meaning.specs.Work.{or_else}
 use Rattle.pungi_code.specs.declared.code.Line.{Line}
-use Rattle.pungi_layout.specs.code.Sizes.{expr_size, option_size, reach_size, test_size, stmt_size}
+use Rattle.pungi_layout.specs.code.Sizes.{expr_size, option_size, declare_size, test_size, stmt_size}
 use Rattle.pungi_layout.specs.code.Scopes.{Env, label_or, stmt_label, list_label, in_loop, in_switch}
 use Rattle.pungi_layout.proofs.relation.Relation.{Waiting, StmtAt, LoopAt, loop_body, loop_again, end_of_loop, ListAt, Inside, IsAt}
 
@@ -54,7 +54,7 @@ module _ (code : List Line) (nl room : ℕ) where
   break_leads (ToArgs p row args i ∷ k) env pc ks h = break_leads k env _ _ h.7
   break_leads (ToExec a ∷ k) env pc ks h = break_leads k env _ _ h.2
   break_leads (ToForget ∷ k) env pc ks h = break_leads k env pc [] h
-  break_leads (ToReach rs ∷ k) env pc ks h = break_leads k env _ _ h.2
+  break_leads (ToDeclare rs ∷ k) env pc ks h = break_leads k env _ _ h.2
   break_leads (ToBind x ∷ k) env pc ks h = break_leads k env _ _ h.4
   break_leads (ToChoose a b ∷ k) env pc ks h = break_leads k env _ _ h.7
   break_leads (ToJoin ∷ k) env pc ks h = break_leads k env _ _ h.2
@@ -93,7 +93,7 @@ module _ (code : List Line) (nl room : ℕ) where
   continue_leads (ToArgs p row args i ∷ k) env pc ks h = continue_leads k env _ _ h.7
   continue_leads (ToExec a ∷ k) env pc ks h = continue_leads k env _ _ h.2
   continue_leads (ToForget ∷ k) env pc ks h = continue_leads k env pc [] h
-  continue_leads (ToReach rs ∷ k) env pc ks h = continue_leads k env _ _ h.2
+  continue_leads (ToDeclare rs ∷ k) env pc ks h = continue_leads k env _ _ h.2
   continue_leads (ToBind x ∷ k) env pc ks h = continue_leads k env _ _ h.4
   continue_leads (ToChoose a b ∷ k) env pc ks h = continue_leads k env _ _ h.7
   continue_leads (ToJoin ∷ k) env pc ks h = continue_leads k env _ _ h.2
@@ -122,54 +122,54 @@ module _ (code : List Line) (nl room : ℕ) where
   reaches_if false k a n m h g = g
 
   -- a loop's label stands in its body
-  loop_reaches : (loop : Loop) (l : Name) (env : Env) (head : ℕ) (k : List Todo) → LoopAt code nl room env head loop → IsAt code nl room env k (end_of_loop head loop) [] → ((inner : Env) (k' : List Todo) (pc : ℕ) → StmtAt code nl room inner pc loop.body → IsAt code nl room inner k' (pc + stmt_size loop.body) [] → Reaches (entered l loop.body k') (stmt_label l pc loop.body)) → Reaches (entered l loop.body (ToAgain loop ∷ k)) (stmt_label l (loop_body head loop.test) loop.body)
+  loop_reaches : (loop : Loop) (l : Name) (env : Env) (head : ℕ) (k : List Todo) → LoopAt code nl room env head loop → IsAt code nl room env k (end_of_loop head loop) [] → ((inner : Env) (k' : List Todo) (pc : ℕ) → StmtAt code nl room inner pc loop.body → IsAt code nl room inner k' (pc + stmt_size loop.body) [] → Reaches (enter l loop.body k') (stmt_label l pc loop.body)) → Reaches (enter l loop.body (ToAgain loop ∷ k)) (stmt_label l (loop_body head loop.test) loop.body)
   loop_reaches loop l env head k h is next =
       next (in_loop env (loop_again head loop.test loop.body) (end_of_loop head loop)) (ToAgain loop ∷ k) (loop_body head loop.test) h.1
       (env, head, refl, h, refl, refl, refl, λ l'. refl, is)
 
-  pub enter_leads : (a : stmt.Action) (l : Name) (env : Env) (k : List Todo) (pc : ℕ) → StmtAt code nl room env pc a → IsAt code nl room env k (pc + stmt_size a) [] → Reaches (entered l a k) (stmt_label l pc a)
-  enter_leads (stmt.at_label p n a) l env k pc h is =
-      reaches_if (n.0 == l.0) (ToExec a ∷ k) (entered l a k) pc (stmt_label l pc a) (env, (refl, h, is)) (enter_leads a l env k pc h is)
-  enter_leads (stmt.at_case p n a) l env k pc h is = enter_leads a l env k pc h is
-  enter_leads (stmt.at_default p a) l env k pc h is = enter_leads a l env k pc h is
-  enter_leads (stmt.test p c a) l env k pc h is =
+  pub enter_leads : (a : stmt.Action) (l : Name) (env : Env) (k : List Todo) (pc : ℕ) → StmtAt code nl room env pc a → IsAt code nl room env k (pc + stmt_size a) [] → Reaches (enter l a k) (stmt_label l pc a)
+  enter_leads (stmt.label p n a) l env k pc h is =
+      reaches_if (n.0 == l.0) (ToExec a ∷ k) (enter l a k) pc (stmt_label l pc a) (env, (refl, h, is)) (enter_leads a l env k pc h is)
+  enter_leads (stmt.case p n a) l env k pc h is = enter_leads a l env k pc h is
+  enter_leads (stmt.default p a) l env k pc h is = enter_leads a l env k pc h is
+  enter_leads (stmt.if_only p c a) l env k pc h is =
       let e : pc + expr_size c + 1 + stmt_size a ≡ pc + (expr_size c + 1 + stmt_size a) = omega arith in
       enter_leads a l env (ToJoin ∷ k) (pc + expr_size c + 1) h.1 (pc + (expr_size c + 1 + stmt_size a), inl e, is)
-  enter_leads (stmt.test_else p c a b) l env k pc h is =
+  enter_leads (stmt.if_else p c a b) l env k pc h is =
       let end = pc + expr_size c + 1 + stmt_size a + 1 + stmt_size b in
       let e : pc + (expr_size c + 1 + stmt_size a + 1 + stmt_size b) ≡ end = omega arith in
       let is' = shift env k _ end e is in
-      reaches_or (entered l a (ToJoin ∷ k)) (entered l b (ToJoin ∷ k)) (stmt_label l (pc + expr_size c + 1) a) (stmt_label l (pc + expr_size c + 1 + stmt_size a + 1) b)
+      reaches_or (enter l a (ToJoin ∷ k)) (enter l b (ToJoin ∷ k)) (stmt_label l (pc + expr_size c + 1) a) (stmt_label l (pc + expr_size c + 1 + stmt_size a + 1) b)
       (enter_leads a l env (ToJoin ∷ k) (pc + expr_size c + 1) h.1 (end, inr h.2, is'))
       (enter_leads b l env (ToJoin ∷ k) (pc + expr_size c + 1 + stmt_size a + 1) h.3 (end, inl refl, is'))
-  enter_leads (stmt.repeat_while p c a) l env k pc h is =
+  enter_leads (stmt.while p c a) l env k pc h is =
       let e : pc + (expr_size c + 1 + stmt_size a + 1) ≡ pc + (expr_size c + 1) + stmt_size a + 0 + 1 = omega arith in
       loop_reaches (a_loop (Some c) None a) l env pc k (h.0, h.1, tt, h.2) (shift env k _ _ e is) (λ inner k' at g j. enter_leads a l inner k' at g j)
-  enter_leads (stmt.repeat_until p a c) l env k pc h is =
+  enter_leads (stmt.do_while p a c) l env k pc h is =
       let e : pc + (1 + expr_size c + 1 + stmt_size a + 1) ≡ pc + 1 + (expr_size c + 1) + stmt_size a + 0 + 1 = omega arith in
       loop_reaches (a_loop (Some c) None a) l env (pc + 1) k (h.1, h.2, tt, h.3) (shift env k _ _ e is) (λ inner k' at g j. enter_leads a l inner k' at g j)
-  enter_leads (stmt.repeat_for p rs u c w a) l env k pc h is =
-      let e : pc + (length rs + reach_size rs + option_size u + test_size c + stmt_size a + option_size w + 1) ≡ pc + length rs + reach_size rs + option_size u + test_size c + stmt_size a + option_size w + 1 = omega arith in
-      loop_reaches (a_loop c w a) l env (pc + length rs + reach_size rs + option_size u) k (h.3, h.4, h.5, h.6) (shift env k _ _ e is) (λ inner k' at g j. enter_leads a l inner k' at g j)
-  enter_leads (stmt.switch_on p v (stmt.block_of q ss r)) l env k pc h is = tt
-  enter_leads (stmt.switch_on p v a) l env k pc h is =
+  enter_leads (stmt.for p rs u c w a) l env k pc h is =
+      let e : pc + (length rs + declare_size rs + option_size u + test_size c + stmt_size a + option_size w + 1) ≡ pc + length rs + declare_size rs + option_size u + test_size c + stmt_size a + option_size w + 1 = omega arith in
+      loop_reaches (a_loop c w a) l env (pc + length rs + declare_size rs + option_size u) k (h.3, h.4, h.5, h.6) (shift env k _ _ e is) (λ inner k' at g j. enter_leads a l inner k' at g j)
+  enter_leads (stmt.switch p v (stmt.block q ss r)) l env k pc h is = tt
+  enter_leads (stmt.switch p v a) l env k pc h is =
       let e : pc + (expr_size v + (1 + stmt_size a)) ≡ pc + expr_size v + 1 + stmt_size a = omega arith in
       enter_leads a l (in_switch env (pc + expr_size v + 1 + stmt_size a)) (ToSwitchEnd ∷ k) (pc + expr_size v + 1) h.5 (env, refl, refl, refl, λ l'. refl, shift env k _ _ e is)
-  enter_leads (stmt.block_of p ss q) l env k pc h is = tt
-  enter_leads (stmt.reach p rs) l env k pc h is = tt
-  enter_leads (stmt.evaluate p v) l env k pc h is = tt
-  enter_leads (stmt.jump p n) l env k pc h is = tt
-  enter_leads (stmt.leave p) l env k pc h is = tt
-  enter_leads (stmt.next_turn p) l env k pc h is = tt
-  enter_leads (stmt.give p v) l env k pc h is = tt
+  enter_leads (stmt.block p ss q) l env k pc h is = tt
+  enter_leads (stmt.declare p rs) l env k pc h is = tt
+  enter_leads (stmt.do_expr p v) l env k pc h is = tt
+  enter_leads (stmt.goto p n) l env k pc h is = tt
+  enter_leads (stmt.break p) l env k pc h is = tt
+  enter_leads (stmt.continue p) l env k pc h is = tt
+  enter_leads (stmt.return p v) l env k pc h is = tt
 
-  among_leads : (list block : List stmt.Action) (i : ℕ) (l : Name) (env outer : Env) (k : List Todo) (pc end : ℕ) → drop i block ≡ list → ListAt code nl room env pc list end → Inside code nl room env outer block end → IsAt code nl room outer k end [] → Reaches (entered_among l block i list k) (list_label l pc list)
+  among_leads : (list block : List stmt.Action) (i : ℕ) (l : Name) (env outer : Env) (k : List Todo) (pc end : ℕ) → drop i block ≡ list → ListAt code nl room env pc list end → Inside code nl room env outer block end → IsAt code nl room outer k end [] → Reaches (enter_among l block i list k) (list_label l pc list)
   among_leads [] block i l env outer k pc end e h inside is = tt
   among_leads (a ∷ list) block i l env outer k pc end e h inside is =
       let s : suc i ≡ i + 1 = omega arith in
       let d = subst (λ n. drop n block ≡ list) s (drop_next block i a list e) in
       let here = subst (λ xs. ListAt code nl room env (pc + stmt_size a) xs end) (sym d) h.1 in
-      reaches_or (entered l a (ToRest block (i + 1) ∷ k)) (entered_among l block (i + 1) list k) (stmt_label l pc a) (list_label l (pc + stmt_size a) list)
+      reaches_or (enter l a (ToRest block (i + 1) ∷ k)) (enter_among l block (i + 1) list k) (stmt_label l pc a) (list_label l (pc + stmt_size a) list)
       (enter_leads a l env (ToRest block (i + 1) ∷ k) pc h.0 (outer, end, refl, here, inside, is))
       (among_leads list block (i + 1) l env outer k (pc + stmt_size a) end d h.1 inside is)
 
@@ -188,9 +188,9 @@ module _ (code : List Line) (nl room : ℕ) where
       let r = goto_leads l k h.0 _ _ h.5 in (r.0, shift r.0 (from_label l k) _ _ (sym (h.4 l)) r.1)
   goto_leads l (ToRest block i ∷ k) env pc ks h =
       let inside = h.4 in
-      let r = goto_by (entered_among l block 0 block k) (list_label l inside.first block) (from_label l k) (h.0.labels l)
+      let r = goto_by (enter_among l block 0 block k) (list_label l inside.first block) (from_label l k) (h.0.labels l)
       (among_leads block block 0 l env h.0 k inside.first h.1 refl inside.list inside h.5) (goto_leads l k h.0 _ _ h.5) in
-      (r.0, shift r.0 (found_or (entered_among l block 0 block k) (from_label l k)) _ _ (sym (inside.labels l)) r.1)
+      (r.0, shift r.0 (found_or (enter_among l block 0 block k) (from_label l k)) _ _ (sym (inside.labels l)) r.1)
   goto_leads l (ToSwitch p a ∷ k) env pc ks h = goto_leads l k env _ _ h.3
   goto_leads l (ToEval v ∷ k) env pc ks h = goto_leads l k env _ _ h.3
   goto_leads l (ToLoad p kind tag field ∷ k) env pc ks h = goto_leads l k env _ _ h.4
@@ -210,7 +210,7 @@ module _ (code : List Line) (nl room : ℕ) where
   goto_leads l (ToArgs p row args i ∷ k) env pc ks h = goto_leads l k env _ _ h.7
   goto_leads l (ToExec a ∷ k) env pc ks h = goto_leads l k env _ _ h.2
   goto_leads l (ToForget ∷ k) env pc ks h = goto_leads l k env pc [] h
-  goto_leads l (ToReach rs ∷ k) env pc ks h = goto_leads l k env _ _ h.2
+  goto_leads l (ToDeclare rs ∷ k) env pc ks h = goto_leads l k env _ _ h.2
   goto_leads l (ToBind x ∷ k) env pc ks h = goto_leads l k env _ _ h.4
   goto_leads l (ToChoose a b ∷ k) env pc ks h = goto_leads l k env _ _ h.7
   goto_leads l (ToJoin ∷ k) env pc ks h = goto_leads l k env _ _ h.2

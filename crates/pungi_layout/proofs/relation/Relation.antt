@@ -14,8 +14,8 @@ use Rattle.pungi_meaning.specs.Values.{op_of, cmp_of, wide, slot_kind}
 use Rattle.pungi_meaning.specs.declared.cmp.Cmp.TheVariants as cmps
 use Rattle.pungi_meaning.specs.Stmts.{block_cases}
 use Rattle.pungi_meaning.specs.Exprs.{step_op, is_and}
-use Rattle.pungi_meaning.specs.Work.{declared, shape_of}
-use Rattle.pungi_meaning.specs.Todo.{Loop, Todo, ToEval, ToLoad, ToOld, ToKeep, ToStep, ToMinus, ToCompute, ToFit, ToCompare, ToNot, ToRight, ToTruth, ToPick, ToStore, ToPop, ToArgs, ToExec, ToForget, ToReach, ToBind, ToChoose, ToJoin, ToRest, ToTest, ToTurn, ToAgain, ToBack, ToSwitch, ToSwitchEnd, ToReturn, ToEnd, listed}
+use Rattle.pungi_meaning.specs.Work.{block_locals, shape_of}
+use Rattle.pungi_meaning.specs.Todo.{Loop, Todo, ToEval, ToLoad, ToOld, ToKeep, ToStep, ToMinus, ToCompute, ToFit, ToCompare, ToNot, ToRight, ToTruth, ToPick, ToStore, ToPop, ToArgs, ToExec, ToForget, ToDeclare, ToBind, ToChoose, ToJoin, ToRest, ToTest, ToTurn, ToAgain, ToBack, ToSwitch, ToSwitchEnd, ToReturn, ToEnd, listed}
 use Rattle.pungi_code.specs.declared.atom.Atom.TheVariants as atom
 use Rattle.pungi_code.specs.declared.atom.Var.{Var}
 use Rattle.pungi_code.specs.declared.code.Line.{Line}
@@ -23,7 +23,7 @@ use Rattle.pungi_code.specs.declared.instr.Instr.{Instr}
 use Rattle.pungi_code.specs.declared.instr.Instr.TheVariants.{Set, Arith, Fit, Compare, Load, Store, Api, Call, Unset, Jump, Branch, Return, Fall}
 use Rattle.pungi_code.specs.declared.place.Place.TheVariants.{Global, Field}
 use Rattle.pungi_layout.specs.code.Parts.{is_minus, gives, gives_answer}
-use Rattle.pungi_layout.specs.code.Sizes.{expr_size, place_size, values_size, args_size, fit_size, store_size, option_size, reach_size, test_size, switch_size, stmt_size, stmts_size}
+use Rattle.pungi_layout.specs.code.Sizes.{expr_size, place_size, values_size, args_size, fit_size, store_size, option_size, declare_size, test_size, switch_size, stmt_size, stmts_size}
 use Rattle.pungi_layout.specs.code.ExprCode.{line, to_var, var, at_label, bit, branch_on}
 use Rattle.pungi_layout.specs.code.Scopes.{Env, label_or, for_head, list_label, list_cases, list_default, in_block, in_loop, in_switch}
 
@@ -103,7 +103,7 @@ loop_again head test a = head + test_size test + stmt_size a
 abbrev pub loop_end : ℕ → Option expr.Value → stmt.Action → Option expr.Value → ℕ
 loop_end head test a behind = head + test_size test + stmt_size a + option_size behind + 1
 
--- where the statements of a `switch` begin, behind its comparisons
+-- where the statements of a `switch` begin, after its comparisons
 abbrev pub switch_first : ℕ → ℕ → stmt.Actions → ℕ
 switch_first pc count ss = pc + count + 2 * length (block_cases (listed ss)) + 1
 
@@ -224,7 +224,7 @@ module _ (code : List Line) (nl room : ℕ) where
 
   -- ---- statements
 
-  abbrev pub UnsetAt : List stmt.Reached → ℕ → Type 0
+  abbrev pub UnsetAt : List stmt.DeclaredLocal → ℕ → Type 0
   UnsetAt [] pc = Unit {0}
   UnsetAt (r ∷ rs) pc = (r.number < nl) × Does pc (Unset (to_var r.number)) × UnsetAt rs (pc + 1)
 
@@ -234,11 +234,11 @@ module _ (code : List Line) (nl room : ℕ) where
   BindAt x pc (Some v) =
       (t : ℕ) × (gives v ≡ true) × IsTemp 0 t × ExprAt 0 t pc v × (x < nl) × Does (pc + expr_size v) (Set (to_var x) (var t))
 
-  abbrev pub ReachAt : ℕ → List stmt.Reached → Type 0
+  abbrev pub ReachAt : ℕ → List stmt.DeclaredLocal → Type 0
   ReachAt pc [] = Unit {0}
   ReachAt pc (r ∷ rs) = BindAt r.number pc r.value × ReachAt (pc + option_size r.value + 1) rs
 
-  -- a test, and the branch behind it
+  -- a test, and the branch after it
   abbrev pub TestAt : ℕ → Option expr.Value → ℕ → ℕ → Type 0
   TestAt pc None go other = Unit {0}
   TestAt pc (Some c) go other =
@@ -248,7 +248,7 @@ module _ (code : List Line) (nl room : ℕ) where
   GiveAt p pc None = Stands pc p (Return None)
   GiveAt p pc (Some v) = (t : ℕ) × (gives v ≡ true) × IsTemp 0 t × ExprAt 0 t pc v × Stands (pc + expr_size v) p (Return (Some (var t)))
 
-  -- the comparisons of a value with the cases, and the jump behind them
+  -- the comparisons of a value with the cases, and the jump after them
   abbrev pub ComparedAt : Pos → ℕ → ℕ → ℕ → List (ℤ × ℕ) → ℕ → Type 0
   ComparedAt p x y pc [] other = Does pc (Jump (at_label other))
   ComparedAt p x y pc (c ∷ cs) other =
@@ -259,40 +259,40 @@ module _ (code : List Line) (nl room : ℕ) where
 
   abbrev mutual
     pub StmtAt : Env → ℕ → stmt.Action → Type 0
-    StmtAt env pc (stmt.block_of p ss q) =
-        UnsetAt (declared (listed ss)) pc × StmtsAt (in_block env (pc + length (declared (listed ss))) (listed ss)) (pc + length (declared (listed ss))) ss
-    StmtAt env pc (stmt.reach p rs) = ReachAt pc rs
-    StmtAt env pc (stmt.evaluate p v) = OptionAt pc v
-    StmtAt env pc (stmt.test p c a) =
+    StmtAt env pc (stmt.block p ss q) =
+        UnsetAt (block_locals (listed ss)) pc × StmtsAt (in_block env (pc + length (block_locals (listed ss))) (listed ss)) (pc + length (block_locals (listed ss))) ss
+    StmtAt env pc (stmt.declare p rs) = ReachAt pc rs
+    StmtAt env pc (stmt.do_expr p v) = OptionAt pc v
+    StmtAt env pc (stmt.if_only p c a) =
         TestAt pc (Some c) (pc + expr_size c + 1) (pc + expr_size c + 1 + stmt_size a) × StmtAt env (pc + expr_size c + 1) a
-    StmtAt env pc (stmt.test_else p c a b) =
+    StmtAt env pc (stmt.if_else p c a b) =
         TestAt pc (Some c) (pc + expr_size c + 1) (pc + expr_size c + 1 + stmt_size a + 1) × StmtAt env (pc + expr_size c + 1) a × Does (pc + expr_size c + 1 + stmt_size a) (Jump (at_label (pc + expr_size c + 1 + stmt_size a + 1 + stmt_size b))) × StmtAt env (pc + expr_size c + 1 + stmt_size a + 1) b
-    StmtAt env pc (stmt.repeat_while p c a) =
+    StmtAt env pc (stmt.while p c a) =
         TestAt pc (Some c) (loop_body pc (Some c)) (loop_end pc (Some c) a None) × StmtAt (in_loop env (loop_again pc (Some c) a) (loop_end pc (Some c) a None)) (loop_body pc (Some c)) a × Does (loop_again pc (Some c) a + option_size None) (Jump (at_label pc))
-    StmtAt env pc (stmt.repeat_until p a c) =
+    StmtAt env pc (stmt.do_while p a c) =
         Does pc (Jump (at_label (loop_body (pc + 1) (Some c)))) × TestAt (pc + 1) (Some c) (loop_body (pc + 1) (Some c)) (loop_end (pc + 1) (Some c) a None) × StmtAt (in_loop env (loop_again (pc + 1) (Some c) a) (loop_end (pc + 1) (Some c) a None)) (loop_body (pc + 1) (Some c)) a × Does (loop_again (pc + 1) (Some c) a + option_size None) (Jump (at_label (pc + 1)))
-    StmtAt env pc (stmt.repeat_for p rs u c w' a) =
-        UnsetAt rs pc × ReachAt (pc + length rs) rs × OptionAt (pc + length rs + reach_size rs) u × TestAt (for_head pc rs u) c (loop_body (for_head pc rs u) c) (loop_end (for_head pc rs u) c a w') × StmtAt (in_loop env (loop_again (for_head pc rs u) c a) (loop_end (for_head pc rs u) c a w')) (loop_body (for_head pc rs u) c) a × OptionAt (loop_again (for_head pc rs u) c a) w' × Does (loop_again (for_head pc rs u) c a + option_size w') (Jump (at_label (for_head pc rs u)))
-    StmtAt env pc (stmt.switch_on p v (stmt.block_of q ss r)) =
-        (x : ℕ) × (gives v ≡ true) × IsTemp 0 x × ExprAt 0 x pc v × UnsetAt (declared (listed ss)) (pc + expr_size v) × CasesAt p x (pc + expr_size v + length (declared (listed ss))) (list_cases (switch_first (pc + expr_size v) (length (declared (listed ss))) ss) (listed ss)) (label_or (list_default (switch_first (pc + expr_size v) (length (declared (listed ss))) ss) (listed ss)) (switch_first (pc + expr_size v) (length (declared (listed ss))) ss + stmts_size ss)) × StmtsAt (in_block (in_switch env (switch_first (pc + expr_size v) (length (declared (listed ss))) ss + stmts_size ss)) (switch_first (pc + expr_size v) (length (declared (listed ss))) ss) (listed ss)) (switch_first (pc + expr_size v) (length (declared (listed ss))) ss) ss
-    StmtAt env pc (stmt.switch_on p v a) =
+    StmtAt env pc (stmt.for p rs u c w' a) =
+        UnsetAt rs pc × ReachAt (pc + length rs) rs × OptionAt (pc + length rs + declare_size rs) u × TestAt (for_head pc rs u) c (loop_body (for_head pc rs u) c) (loop_end (for_head pc rs u) c a w') × StmtAt (in_loop env (loop_again (for_head pc rs u) c a) (loop_end (for_head pc rs u) c a w')) (loop_body (for_head pc rs u) c) a × OptionAt (loop_again (for_head pc rs u) c a) w' × Does (loop_again (for_head pc rs u) c a + option_size w') (Jump (at_label (for_head pc rs u)))
+    StmtAt env pc (stmt.switch p v (stmt.block q ss r)) =
+        (x : ℕ) × (gives v ≡ true) × IsTemp 0 x × ExprAt 0 x pc v × UnsetAt (block_locals (listed ss)) (pc + expr_size v) × CasesAt p x (pc + expr_size v + length (block_locals (listed ss))) (list_cases (switch_first (pc + expr_size v) (length (block_locals (listed ss))) ss) (listed ss)) (label_or (list_default (switch_first (pc + expr_size v) (length (block_locals (listed ss))) ss) (listed ss)) (switch_first (pc + expr_size v) (length (block_locals (listed ss))) ss + stmts_size ss)) × StmtsAt (in_block (in_switch env (switch_first (pc + expr_size v) (length (block_locals (listed ss))) ss + stmts_size ss)) (switch_first (pc + expr_size v) (length (block_locals (listed ss))) ss) (listed ss)) (switch_first (pc + expr_size v) (length (block_locals (listed ss))) ss) ss
+    StmtAt env pc (stmt.switch p v a) =
         (x : ℕ) × (gives v ≡ true) × IsTemp 0 x × ExprAt 0 x pc v × Does (pc + expr_size v) (Jump (at_label (pc + expr_size v + 1 + stmt_size a))) × StmtAt (in_switch env (pc + expr_size v + 1 + stmt_size a)) (pc + expr_size v + 1) a
-    StmtAt env pc (stmt.at_case p n a) = StmtAt env pc a
-    StmtAt env pc (stmt.at_default p a) = StmtAt env pc a
-    StmtAt env pc (stmt.at_label p l a) = StmtAt env pc a
-    StmtAt env pc (stmt.jump p l) = Does pc (Jump (at_label (env.labels l)))
-    StmtAt env pc (stmt.leave p) = Does pc (Jump (at_label env.breaks))
-    StmtAt env pc (stmt.next_turn p) = Does pc (Jump (at_label env.continues))
-    StmtAt env pc (stmt.give p v) = GiveAt p pc v
+    StmtAt env pc (stmt.case p n a) = StmtAt env pc a
+    StmtAt env pc (stmt.default p a) = StmtAt env pc a
+    StmtAt env pc (stmt.label p l a) = StmtAt env pc a
+    StmtAt env pc (stmt.goto p l) = Does pc (Jump (at_label (env.labels l)))
+    StmtAt env pc (stmt.break p) = Does pc (Jump (at_label env.breaks))
+    StmtAt env pc (stmt.continue p) = Does pc (Jump (at_label env.continues))
+    StmtAt env pc (stmt.return p v) = GiveAt p pc v
 
     pub StmtsAt : Env → ℕ → stmt.Actions → Type 0
     StmtsAt env pc stmt.no_actions = Unit {0}
     StmtsAt env pc (stmt.action_and a ss) = StmtAt env pc a × StmtsAt env (pc + stmt_size a) ss
 
-  -- a `switch` behind its value
+  -- a `switch` after its value
   abbrev pub SwitchAt : Env → ℕ → Pos → ℕ → stmt.Action → Type 0
-  SwitchAt env pc p x (stmt.block_of q ss r) =
-      UnsetAt (declared (listed ss)) pc × CasesAt p x (pc + length (declared (listed ss))) (list_cases (switch_first pc (length (declared (listed ss))) ss) (listed ss)) (label_or (list_default (switch_first pc (length (declared (listed ss))) ss) (listed ss)) (switch_first pc (length (declared (listed ss))) ss + stmts_size ss)) × StmtsAt (in_block (in_switch env (switch_first pc (length (declared (listed ss))) ss + stmts_size ss)) (switch_first pc (length (declared (listed ss))) ss) (listed ss)) (switch_first pc (length (declared (listed ss))) ss) ss
+  SwitchAt env pc p x (stmt.block q ss r) =
+      UnsetAt (block_locals (listed ss)) pc × CasesAt p x (pc + length (block_locals (listed ss))) (list_cases (switch_first pc (length (block_locals (listed ss))) ss) (listed ss)) (label_or (list_default (switch_first pc (length (block_locals (listed ss))) ss) (listed ss)) (switch_first pc (length (block_locals (listed ss))) ss + stmts_size ss)) × StmtsAt (in_block (in_switch env (switch_first pc (length (block_locals (listed ss))) ss + stmts_size ss)) (switch_first pc (length (block_locals (listed ss))) ss) (listed ss)) (switch_first pc (length (block_locals (listed ss))) ss) ss
   SwitchAt env pc p x a =
       Does pc (Jump (at_label (pc + 1 + stmt_size a))) × StmtAt (in_switch env (pc + 1 + stmt_size a)) (pc + 1) a
 
@@ -322,12 +322,12 @@ module _ (code : List Line) (nl room : ℕ) where
   OtherAt env None pc end = pc ≡ end
   OtherAt env (Some b) pc end = StmtAt env pc b × (pc + stmt_size b ≡ end)
 
-  -- behind the part of an `if` stands a jump over the other part, where there is one
+  -- after the part of an `if` stands a jump over the other part, where there is one
   abbrev pub JoinAt : Option stmt.Action → ℕ → ℕ → Type 0
   JoinAt None pc end = Unit {0}
   JoinAt (Some b) pc end = Does pc (Jump (at_label end))
 
-  -- `++` behind its operand keeps the old content below it and below the base of a field
+  -- `++` after its operand keeps the old content below it and below the base of a field
   abbrev pub KeepAt : expr.Place → List Waiting → ℕ → Type 0
   KeepAt (expr.field_place p base tag field) ks pc =
       HasThree ks × Does pc (Set (to_var (top_var (rest (rest ks)))) (var (top_var ks))) × (top_known (rest (rest ks)) ≡ None)
@@ -368,7 +368,7 @@ module _ (code : List Line) (nl room : ℕ) where
       (ts : List ℕ) × (t : ℕ) × (i ≤ length args) × (i ≤ length ks) × ListArgsAt (length ks) ts pc (drop i args) × IsTemp (length (drop i ks)) t × Stands (pc + args_size (drop i args)) p (Api (answer_var (gives_answer row) t) (shape_of row) (map var (reverse_aux (vars_of (take i ks)) ts)) []) × IsAt env k (pc + args_size (drop i args) + 1) (pushed_if (gives_answer row) t (drop i ks))
   IsAt env (ToForget ∷ k) pc ks = IsAt env k pc []
   IsAt env (ToExec a ∷ k) pc ks = (ks ≡ []) × StmtAt env pc a × IsAt env k (pc + stmt_size a) []
-  IsAt env (ToReach rs ∷ k) pc ks = (ks ≡ []) × ReachAt pc rs × IsAt env k (pc + reach_size rs) []
+  IsAt env (ToDeclare rs ∷ k) pc ks = (ks ≡ []) × ReachAt pc rs × IsAt env k (pc + declare_size rs) []
   IsAt env (ToBind x ∷ k) pc ks = HasOne ks × (rest ks ≡ []) × (x < nl) × Does pc (Set (to_var x) (var (top_var ks))) × IsAt env k (pc + 1) []
   IsAt env (ToChoose a b ∷ k) pc ks =
       (end : ℕ) × HasOne ks × (rest ks ≡ []) × Does pc (Branch (var (top_var ks)) (at_label (pc + 1)) (at_label (pc + 1 + stmt_size a + join_size b))) × StmtAt env (pc + 1) a × JoinAt b (pc + 1 + stmt_size a) end × OtherAt env b (pc + 1 + stmt_size a + join_size b) end × IsAt env k end []

@@ -16,14 +16,14 @@ use Rattle.pungi_meaning.specs.declared.cmp.Cmp.{Cmp}
 use Rattle.pungi_meaning.specs.Values.{fits, is_true, truth, arithmetic, holds, number_of}
 use Rattle.pungi_meaning.specs.Todo.{Operation, Computed, Fitted, Compared, Todo, State, Step, Goes, Stops}
 use Rattle.pungi_meaning.specs.Exprs.{is_wanted}
-use Rattle.pungi_meaning.specs.Run.{Run, over, noted, Stopped}
+use Rattle.pungi_meaning.specs.Run.{Run, end_at_once, with_operations, Stopped}
 use Rattle.pungi_meaning.specs.Work as work
 use Rattle.pungi_code.specs.declared.atom.Atom.{Atom}
 use Rattle.pungi_code.specs.declared.code.Line.{Line}
 use Rattle.pungi_code.specs.declared.instr.Instr.{Instr}
 use Rattle.pungi_code.specs.declared.instr.Instr.TheVariants.{Set, Arith, Fit, Compare, Branch, Jump}
-use Rattle.pungi_code.specs.Registers.{Regs, put, content_of, with_value, reacting}
-use Rattle.pungi_code.specs.Perform.{computing, perform}
+use Rattle.pungi_code.specs.Registers.{Regs, put, content_of, with_value, after_effect}
+use Rattle.pungi_code.specs.Perform.{with_number, perform}
 use Rattle.pungi_code.specs.Run.{fetch, exec}
 use Rattle.pungi_code.proofs.Simulation.{GoesOn, Leads}
 use Rattle.pungi_layout.specs.code.ExprCode.{to_var, var, at_label, branch_on}
@@ -80,22 +80,22 @@ module _ (choices : List Choice) (code : List Line) (nl room : ℕ) where
   wanted_step false pc x this other m v d e j =
       branch_step pc x other this m v d e j ∙ ap (λ n. exec choices code j n m) (if_not (is_true v) other this)
 
-  pub arith_step : (pc : ℕ) (p : Pos) (t : ℕ) (kind : ValueKind) (o : Op) (a b : Atom) (m : Regs) (x y : Value) → Stands code nl room pc p (Arith (to_var t) kind o a b) → content_of a m.vars ≡ Holds x → content_of b m.vars ≡ Holds y → (j : ℕ) → exec choices code (suc j) pc m ≡ computing p (arithmetic o kind (number_of x) (number_of y)) (λ n. noted (Computed p o kind (number_of x) (number_of y) ∷ []) (exec choices code j (pc + 1) (put (to_var t) (Holds (value.Int n)) m)))
+  pub arith_step : (pc : ℕ) (p : Pos) (t : ℕ) (kind : ValueKind) (o : Op) (a b : Atom) (m : Regs) (x y : Value) → Stands code nl room pc p (Arith (to_var t) kind o a b) → content_of a m.vars ≡ Holds x → content_of b m.vars ≡ Holds y → (j : ℕ) → exec choices code (suc j) pc m ≡ with_number p (arithmetic o kind (number_of x) (number_of y)) (λ n. with_operations (Computed p o kind (number_of x) (number_of y) ∷ []) (exec choices code j (pc + 1) (put (to_var t) (Holds (value.Int n)) m)))
   arith_step pc p t kind o a b m x y h ea eb j =
       first pc p (Arith (to_var t) kind o a b) m h j
-      ∙ with_it (content_of a m.vars) x p (λ v. with_value (content_of b m.vars) p (λ z. computing p (arithmetic o kind (number_of v) (number_of z)) (λ n. noted (Computed p o kind (number_of v) (number_of z) ∷ []) (exec choices code j (pc + 1) (put (to_var t) (Holds (value.Int n)) m))))) ea
-      ∙ with_it (content_of b m.vars) y p (λ z. computing p (arithmetic o kind (number_of x) (number_of z)) (λ n. noted (Computed p o kind (number_of x) (number_of z) ∷ []) (exec choices code j (pc + 1) (put (to_var t) (Holds (value.Int n)) m)))) eb
+      ∙ with_it (content_of a m.vars) x p (λ v. with_value (content_of b m.vars) p (λ z. with_number p (arithmetic o kind (number_of v) (number_of z)) (λ n. with_operations (Computed p o kind (number_of v) (number_of z) ∷ []) (exec choices code j (pc + 1) (put (to_var t) (Holds (value.Int n)) m))))) ea
+      ∙ with_it (content_of b m.vars) y p (λ z. with_number p (arithmetic o kind (number_of x) (number_of z)) (λ n. with_operations (Computed p o kind (number_of x) (number_of z) ∷ []) (exec choices code j (pc + 1) (put (to_var t) (Holds (value.Int n)) m)))) eb
 
-  pub compare_step : (pc : ℕ) (p : Pos) (t : ℕ) (c : Cmp) (a b : Atom) (m : Regs) (x y : Value) → Stands code nl room pc p (Compare (to_var t) c a b) → content_of a m.vars ≡ Holds x → content_of b m.vars ≡ Holds y → (j : ℕ) → exec choices code (suc j) pc m ≡ noted (Compared p c x y ∷ []) (exec choices code j (pc + 1) (put (to_var t) (Holds (truth (holds c x y))) m))
+  pub compare_step : (pc : ℕ) (p : Pos) (t : ℕ) (c : Cmp) (a b : Atom) (m : Regs) (x y : Value) → Stands code nl room pc p (Compare (to_var t) c a b) → content_of a m.vars ≡ Holds x → content_of b m.vars ≡ Holds y → (j : ℕ) → exec choices code (suc j) pc m ≡ with_operations (Compared p c x y ∷ []) (exec choices code j (pc + 1) (put (to_var t) (Holds (truth (holds c x y))) m))
   compare_step pc p t c a b m x y h ea eb j =
       first pc p (Compare (to_var t) c a b) m h j
-      ∙ with_it (content_of a m.vars) x p (λ v. with_value (content_of b m.vars) p (λ z. noted (Compared p c v z ∷ []) (exec choices code j (pc + 1) (put (to_var t) (Holds (truth (holds c v z))) m)))) ea
-      ∙ with_it (content_of b m.vars) y p (λ z. noted (Compared p c x z ∷ []) (exec choices code j (pc + 1) (put (to_var t) (Holds (truth (holds c x z))) m))) eb
+      ∙ with_it (content_of a m.vars) x p (λ v. with_value (content_of b m.vars) p (λ z. with_operations (Compared p c v z ∷ []) (exec choices code j (pc + 1) (put (to_var t) (Holds (truth (holds c v z))) m)))) ea
+      ∙ with_it (content_of b m.vars) y p (λ z. with_operations (Compared p c x z ∷ []) (exec choices code j (pc + 1) (put (to_var t) (Holds (truth (holds c x z))) m))) eb
 
-  pub fit_step : (pc : ℕ) (p : Pos) (t : ℕ) (kind : ValueKind) (a : Atom) (m : Regs) (x : Value) → Stands code nl room pc p (Fit (to_var t) kind a) → content_of a m.vars ≡ Holds x → (j : ℕ) → exec choices code (suc j) pc m ≡ (if fits kind (number_of x) then noted (Fitted p kind (number_of x) ∷ []) (exec choices code j (pc + 1) (put (to_var t) (Holds (value.Int (number_of x))) m)) else over (Stopped p))
+  pub fit_step : (pc : ℕ) (p : Pos) (t : ℕ) (kind : ValueKind) (a : Atom) (m : Regs) (x : Value) → Stands code nl room pc p (Fit (to_var t) kind a) → content_of a m.vars ≡ Holds x → (j : ℕ) → exec choices code (suc j) pc m ≡ (if fits kind (number_of x) then with_operations (Fitted p kind (number_of x) ∷ []) (exec choices code j (pc + 1) (put (to_var t) (Holds (value.Int (number_of x))) m)) else end_at_once (Stopped p))
   fit_step pc p t kind a m x h e j =
       first pc p (Fit (to_var t) kind a) m h j
-      ∙ with_it (content_of a m.vars) x p (λ v. if fits kind (number_of v) then noted (Fitted p kind (number_of v) ∷ []) (exec choices code j (pc + 1) (put (to_var t) (Holds (value.Int (number_of v))) m)) else over (Stopped p)) e
+      ∙ with_it (content_of a m.vars) x p (λ v. if fits kind (number_of v) then with_operations (Fitted p kind (number_of v) ∷ []) (exec choices code j (pc + 1) (put (to_var t) (Holds (value.Int (number_of v))) m)) else end_at_once (Stopped p)) e
 
   -- ---- steps of a function
 
@@ -103,25 +103,25 @@ module _ (choices : List Choice) (code : List Line) (nl room : ℕ) where
   pub still : (k : List Todo) (s : State) (pc : ℕ) (m : Regs) (env : Env) (ks : List Waiting) → IsAt code nl room env k pc ks → Match code nl room ks s m → Continues [] k s 0 pc m
   still k s pc m env ks h ma = record { count = 0; least = omega arith; place = pc; regs = m; by = λ j. refl; stands = (env, ks, h, ma) }
 
-  pub one : (ops : List Operation) (k : List Todo) (s : State) (b pc : ℕ) (m : Regs) (to : ℕ) (n : Regs) (env : Env) (ks : List Waiting) → b ≤ 1 → ((j : ℕ) → exec choices code (suc j) pc m ≡ noted ops (exec choices code j to n)) → IsAt code nl room env k to ks → Match code nl room ks s n → Continues ops k s b pc m
+  pub one : (ops : List Operation) (k : List Todo) (s : State) (b pc : ℕ) (m : Regs) (to : ℕ) (n : Regs) (env : Env) (ks : List Waiting) → b ≤ 1 → ((j : ℕ) → exec choices code (suc j) pc m ≡ with_operations ops (exec choices code j to n)) → IsAt code nl room env k to ks → Match code nl room ks s n → Continues ops k s b pc m
   one ops k s b pc m to n env ks le e h ma = record { count = 1; least = le; place = to; regs = n; by = e; stands = (env, ks, h, ma) }
 
-  pub two : (ops : List Operation) (k : List Todo) (s : State) (pc : ℕ) (m : Regs) (to : ℕ) (n : Regs) (env : Env) (ks : List Waiting) → ((j : ℕ) → exec choices code (suc (suc j)) pc m ≡ noted ops (exec choices code j to n)) → IsAt code nl room env k to ks → Match code nl room ks s n → Continues ops k s 0 pc m
+  pub two : (ops : List Operation) (k : List Todo) (s : State) (pc : ℕ) (m : Regs) (to : ℕ) (n : Regs) (env : Env) (ks : List Waiting) → ((j : ℕ) → exec choices code (suc (suc j)) pc m ≡ with_operations ops (exec choices code j to n)) → IsAt code nl room env k to ks → Match code nl room ks s n → Continues ops k s 0 pc m
   two ops k s pc m to n env ks e h ma = record { count = 2; least = omega arith; place = to; regs = n; by = e; stands = (env, ks, h, ma) }
 
   -- at another name for a place
   pub moved : (env : Env) (k : List Todo) (a b : ℕ) (ks : List Waiting) → a ≡ b → IsAt code nl room env k a ks → IsAt code nl room env k b ks
   moved env k a b ks e h = subst (λ x. IsAt code nl room env k x ks) e h
 
-  -- what the world answers
-  pub react_by : (r : Result (Effect × World) Halt) (p : Pos) (s : State) (m : Regs) (pc : ℕ) (go : Effect → State → Step) (then' : ℕ → Effect → Regs → Run) → ((j : ℕ) → exec choices code (suc j) pc m ≡ reacting p r m (then' j)) → ((e : Effect × World) → r ≡ Ok e → ((j : ℕ) → exec choices code (suc j) pc m ≡ then' j e.0 (record m { world = e.1; used = m.used ++ replicate e.0.used p })) → IsDone (go e.0 (record s { world = e.1; used = s.used ++ replicate e.0.used p })) 0 pc m) → IsDone (work.reacting p r go s) 0 pc m
+  -- what the world returns
+  pub react_by : (r : Result (Effect × World) Halt) (p : Pos) (s : State) (m : Regs) (pc : ℕ) (go : Effect → State → Step) (then' : ℕ → Effect → Regs → Run) → ((j : ℕ) → exec choices code (suc j) pc m ≡ after_effect p r m (then' j)) → ((e : Effect × World) → r ≡ Ok e → ((j : ℕ) → exec choices code (suc j) pc m ≡ then' j e.0 (record m { world = e.1; used = m.used ++ replicate e.0.used p })) → IsDone (go e.0 (record s { world = e.1; used = s.used ++ replicate e.0.used p })) 0 pc m) → IsDone (work.after_effect p r go s) 0 pc m
   react_by (Ok e) p s m pc go then' h ok = ok e refl h
   react_by (Err halt.Stopped) p s m pc go then' h ok = (1, h 0)
   react_by (Err halt.NeedsChoice) p s m pc go then' h ok = (1, h 0)
   react_by (Err halt.Memory) p s m pc go then' h ok = (1, h 0)
 
   -- a result, where there is one
-  pub computed_by : (r : Option ℤ) (op : Operation) (p : Pos) (t : ℕ) (k : List Todo) (s : State) (m : Regs) (pc : ℕ) (env : Env) (ks : List Waiting) → ((j : ℕ) → exec choices code (suc j) pc m ≡ computing p r (λ n. noted (op ∷ []) (exec choices code j (pc + 1) (put (to_var t) (Holds (value.Int n)) m)))) → IsAt code nl room env k (pc + 1) ks → ((n : ℤ) → Match code nl room ks (record s { values = value.Int n ∷ s.values }) (put (to_var t) (Holds (value.Int n)) m)) → IsDone (result_step r op p k s) 0 pc m
+  pub computed_by : (r : Option ℤ) (op : Operation) (p : Pos) (t : ℕ) (k : List Todo) (s : State) (m : Regs) (pc : ℕ) (env : Env) (ks : List Waiting) → ((j : ℕ) → exec choices code (suc j) pc m ≡ with_number p r (λ n. with_operations (op ∷ []) (exec choices code j (pc + 1) (put (to_var t) (Holds (value.Int n)) m)))) → IsAt code nl room env k (pc + 1) ks → ((n : ℤ) → Match code nl room ks (record s { values = value.Int n ∷ s.values }) (put (to_var t) (Holds (value.Int n)) m)) → IsDone (result_step r op p k s) 0 pc m
   computed_by None op p t k s m pc env ks e h ma = (1, e 0)
   computed_by (Some n) op p t k s m pc env ks e h ma =
       one (op ∷ []) k (record s { values = value.Int n ∷ s.values }) 0 pc m (pc + 1) (put (to_var t) (Holds (value.Int n)) m) env ks (omega arith) e h (ma n)

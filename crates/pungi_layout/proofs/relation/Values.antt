@@ -146,7 +146,7 @@ module _ (code : List Line) (nl room : ℕ) where
         enough = h.enough;
       }
 
-  -- what the world answered
+  -- what the world returned
   pub reacted : (ks : List Waiting) (s : State) (m : Regs) (x : World) (n : ℕ) (p : Pos) → Match ks s m → Match ks (record s { world = x; used = s.used ++ replicate n p }) (record m { world = x; used = m.used ++ replicate n p })
   reacted ks s m x n p h = record {
     world = refl;

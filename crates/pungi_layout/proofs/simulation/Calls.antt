@@ -12,12 +12,12 @@ use Rattle.pungi_world.specs.declared.content.Content.TheVariants.{Holds}
 use Rattle.pungi_world.specs.declared.effect.Effect.{Effect}
 use Rattle.pungi_world.specs.Calls.{call_effect}
 use Rattle.pungi_meaning.specs.Todo.{Operation, Called, Todo, ToEval, ToArgs, State}
-use Rattle.pungi_meaning.specs.Exprs.{called, call, next_arg}
-use Rattle.pungi_meaning.specs.Run.{noted, act}
-use Rattle.pungi_meaning.specs.Work.{newest, unused, with_answer, shape_of}
+use Rattle.pungi_meaning.specs.Exprs.{after_call, call, next_arg}
+use Rattle.pungi_meaning.specs.Run.{with_operations, act}
+use Rattle.pungi_meaning.specs.Work.{newest, unused, with_result, shape_of}
 use Rattle.pungi_code.specs.declared.code.Line.{Line}
 use Rattle.pungi_code.specs.declared.instr.Instr.TheVariants.{Api}
-use Rattle.pungi_code.specs.Registers.{Regs, put, both, all_values, with_values, reacting, left, answered}
+use Rattle.pungi_code.specs.Registers.{Regs, put, both_values, all_values, with_values, after_effect, choices_left, put_answer}
 use Rattle.pungi_code.specs.Perform as does
 use Rattle.pungi_code.specs.Run.{exec}
 use Rattle.pungi_layout.specs.code.Parts.{gives_answer}
@@ -58,7 +58,7 @@ module _ (choices : List Choice) (code : List Line) (nl room : ℕ) where
   values_before (suc n) vars [] (x ∷ ks) others known le sk e = absurd sk
   values_before (suc n) vars (v ∷ vs) (x ∷ ks) others known le sk e =
       values_before n vars vs ks (x.var ∷ others) (v ∷ known) (omega (arith, le)) sk.3
-      (ap (λ c. both c (all_values (map var others) vars)) sk.0 ∙ ap (λ o. both (Holds v) o) e)
+      (ap (λ c. both_values c (all_values (map var others) vars)) sk.0 ∙ ap (λ o. both_values (Holds v) o) e)
 
   pub newest_values : (n : ℕ) (vars : List Content) (vs : List Value) (ks : List Waiting) → n ≤ length ks → Stack code nl room vars vs ks → all_values (map var (reverse_aux (vars_of (take n ks)) [])) vars ≡ Some (newest n vs)
   newest_values n vars vs ks le sk = values_before n vars vs ks [] [] le sk refl
@@ -71,7 +71,7 @@ module _ (choices : List Choice) (code : List Line) (nl room : ℕ) where
   stack_drop (suc n) vars (v ∷ vs) [] sk = absurd sk
   stack_drop (suc n) vars (v ∷ vs) (x ∷ ks) sk = stack_drop n vars vs ks sk.3
 
-  answered_by : (g : Bool) (o : Option Value) → IsAnswer g o → (op : Operation) (t : ℕ) (k : List Todo) (s : State) (env : Env) (pc : ℕ) (ks ls : List Waiting) (vs : List Value) (m q : Regs) → ((j : ℕ) → exec choices code (suc j) pc m ≡ noted (op ∷ []) (exec choices code j (pc + 1) (answered (answer_var g t) o q))) → IsTemp code nl room (length ks) t → IsAt code nl room env k (pc + 1) (pushed_if g t ks) → Match code nl room ls s q → Stack code nl room q.vars vs ks → Continues choices code nl room (op ∷ []) k (record s { values = with_answer o vs }) 0 pc m
+  answered_by : (g : Bool) (o : Option Value) → IsAnswer g o → (op : Operation) (t : ℕ) (k : List Todo) (s : State) (env : Env) (pc : ℕ) (ks ls : List Waiting) (vs : List Value) (m q : Regs) → ((j : ℕ) → exec choices code (suc j) pc m ≡ with_operations (op ∷ []) (exec choices code j (pc + 1) (put_answer (answer_var g t) o q))) → IsTemp code nl room (length ks) t → IsAt code nl room env k (pc + 1) (pushed_if g t ks) → Match code nl room ls s q → Stack code nl room q.vars vs ks → Continues choices code nl room (op ∷ []) k (record s { values = with_result o vs }) 0 pc m
   answered_by true None has op t k s env pc ks ls vs m q e at is ma sk = absurd (let h : None ≡ Some has.0 = has.1 in cc)
   answered_by true (Some v) has op t k s env pc ks ls vs m q e at is ma sk =
       one choices code nl room (op ∷ []) k (record s { values = v ∷ vs }) 0 pc m (pc + 1) (put (to_var t) (Holds v) q) env (w t ∷ ks) (omega arith) e is (pushed code nl room ls s q vs ks t v at ma sk)
@@ -84,12 +84,12 @@ module _ (choices : List Choice) (code : List Line) (nl room : ℕ) where
   call_sim p row n t k s env pc ks m le h at is ma =
       let g = gives_answer row in
       let vals = newest n s.values in
-      let go = λ (j : ℕ) (x : Effect) (q : Regs). noted (Called p (shape_of row) vals x ∷ []) (exec choices code j (pc + 1) (answered (answer_var g t) x.value q)) in
-      react_by choices code nl room (call_effect s.world (shape_of row) vals (unused choices s)) p s m pc (called p row vals (drop n s.values) k) go
+      let go = λ (j : ℕ) (x : Effect) (q : Regs). with_operations (Called p (shape_of row) vals x ∷ []) (exec choices code j (pc + 1) (put_answer (answer_var g t) x.value q)) in
+      react_by choices code nl room (call_effect s.world (shape_of row) vals (unused choices s)) p s m pc (after_call p row vals (drop n s.values) k) go
       (λ j. first choices code nl room pc p (Api (answer_var g t) (shape_of row) (map var (reverse_aux (vars_of (take n ks)) [])) []) m h j
       ∙ ap (λ o. with_values o p (does.call choices (answer_var g t) (shape_of row) [] p (exec choices code j) pc m)) (newest_values n m.vars s.values ks le ma.stack)
-      ∙ ap (λ x. reacting p (call_effect x (shape_of row) vals (left choices m)) m (go j)) ma.world
-      ∙ ap (λ us. reacting p (call_effect s.world (shape_of row) vals (drop (length us) choices)) m (go j)) ma.used)
+      ∙ ap (λ x. after_effect p (call_effect x (shape_of row) vals (choices_left choices m)) m (go j)) ma.world
+      ∙ ap (λ us. after_effect p (call_effect s.world (shape_of row) vals (drop (length us) choices)) m (go j)) ma.used)
       (λ x is' step. answered_by g x.0.value (call_answer s.world (shape_of row) vals (unused choices s) x is') (Called p (shape_of row) vals x.0) t k (record s { world = x.1; used = s.used ++ replicate x.0.used p }) env pc (drop n ks) ks (drop n s.values) m (record m { world = x.1; used = m.used ++ replicate x.0.used p }) step at is (reacted code nl room ks s m x.1 x.0.used p ma) (stack_drop n m.vars s.values ks ma.stack))
 
   -- the next argument stands in its variable

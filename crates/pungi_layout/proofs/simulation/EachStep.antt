@@ -1,7 +1,7 @@
 -- The code does each step of a function.
 use Rattle.std.proofs.Common.{ℕ, List, [], ◌∷◌}
 use Rattle.pungi_base.specs.declared.choice.Choice.{Choice}
-use Rattle.pungi_meaning.specs.Todo.{Todo, ToEval, ToLoad, ToOld, ToKeep, ToStep, ToMinus, ToCompute, ToFit, ToCompare, ToNot, ToRight, ToTruth, ToPick, ToStore, ToPop, ToArgs, ToExec, ToForget, ToReach, ToBind, ToChoose, ToJoin, ToRest, ToTest, ToTurn, ToAgain, ToBack, ToSwitch, ToSwitchEnd, ToReturn, ToEnd, State}
+use Rattle.pungi_meaning.specs.Todo.{Todo, ToEval, ToLoad, ToOld, ToKeep, ToStep, ToMinus, ToCompute, ToFit, ToCompare, ToNot, ToRight, ToTruth, ToPick, ToStore, ToPop, ToArgs, ToExec, ToForget, ToDeclare, ToBind, ToChoose, ToJoin, ToRest, ToTest, ToTurn, ToAgain, ToBack, ToSwitch, ToSwitchEnd, ToReturn, ToEnd, State}
 use Rattle.pungi_meaning.specs.Run.{act}
 use Rattle.pungi_code.specs.declared.code.Line.{Line}
 use Rattle.pungi_code.specs.Registers.{Regs}
@@ -14,7 +14,7 @@ use Rattle.pungi_layout.proofs.simulation.Places.{to_load_sim, old_sim, keep_sim
 use Rattle.pungi_layout.proofs.simulation.Calls.{args_sim}
 use Rattle.pungi_layout.proofs.simulation.Exprs.{evaluate_sim}
 use Rattle.pungi_layout.proofs.simulation.Switch.{switch_sim}
-use Rattle.pungi_layout.proofs.simulation.Stmts.{jumps, forget_sim, reach_sim, bind_sim, choose_sim, rest_sim, test_sim, turn_sim, again_sim, back_sim, switch_end_sim, return_sim, end_sim, execute_sim}
+use Rattle.pungi_layout.proofs.simulation.Stmts.{jumps, forget_sim, declare_sim, bind_sim, choose_sim, rest_sim, test_sim, turn_sim, again_sim, back_sim, switch_end_sim, return_sim, end_sim, execute_sim}
 
 module _ (choices : List Choice) (code : List Line) (nl room : ℕ) where
   sim_at : (k : List Todo) (s : State) (env : Env) (pc : ℕ) (ks : List Waiting) (m : Regs) → IsAt code nl room env k pc ks → Match code nl room ks s m → IsDone choices code nl room (act choices k s) (jumps k) pc m
@@ -37,7 +37,7 @@ module _ (choices : List Choice) (code : List Line) (nl room : ℕ) where
   sim_at (ToArgs p row args i ∷ k) s env pc ks m h ma = args_sim choices code nl room p row args i k s env pc ks m h ma
   sim_at (ToExec a ∷ k) s env pc ks m h ma = execute_sim choices code nl room a k s env pc ks m h ma
   sim_at (ToForget ∷ k) s env pc ks m h ma = forget_sim choices code nl room k s env pc ks m h ma
-  sim_at (ToReach rs ∷ k) s env pc ks m h ma = reach_sim choices code nl room rs k s env pc ks m h ma
+  sim_at (ToDeclare rs ∷ k) s env pc ks m h ma = declare_sim choices code nl room rs k s env pc ks m h ma
   sim_at (ToBind x ∷ k) s env pc ks m h ma = bind_sim choices code nl room x k s.world s.used s.locals s.values env pc ks m h ma
   sim_at (ToChoose a b ∷ k) s env pc ks m h ma = choose_sim choices code nl room a b k s.world s.used s.locals s.values env pc ks m h ma
   sim_at (ToJoin ∷ k) s env pc ks m h ma = join_sim choices code nl room k s env pc ks m h ma

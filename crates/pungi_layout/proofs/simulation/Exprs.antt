@@ -14,7 +14,7 @@ use Rattle.pungi_world.specs.declared.slot.Slot.TheVariants as slot
 use Rattle.pungi_meaning.specs.declared.op.Op.TheVariants as ops
 use Rattle.pungi_meaning.specs.Values.{op_of, cmp_of, wide, slot_kind, truth}
 use Rattle.pungi_meaning.specs.Todo.{Todo, ToEval, ToLoad, ToOld, ToKeep, ToMinus, ToCompute, ToFit, ToCompare, ToNot, ToRight, ToPick, ToStore, ToPop, ToArgs, State, listed_values}
-use Rattle.pungi_meaning.specs.Exprs.{evaluate, before, converting, signing, stepping, is_and}
+use Rattle.pungi_meaning.specs.Exprs.{evaluate, base_first, convert, sign, step, is_and}
 use Rattle.pungi_meaning.specs.Work.{content_at, shape_of}
 use Rattle.pungi_code.specs.declared.atom.Atom.{Atom}
 use Rattle.pungi_code.specs.declared.atom.Atom.TheVariants as atom
@@ -32,7 +32,7 @@ use Rattle.pungi_layout.proofs.relation.Steps.{Continues, IsDone, first, set_ste
 use Rattle.pungi_layout.proofs.simulation.Operators.{bit_is}
 use Rattle.pungi_layout.proofs.simulation.Places.{read_sim, load_sim}
 
-signing_is : (p : Pos) (m : Kind) (kind : ValueKind) (k : List Todo) → signing p m kind k ≡ (if is_minus m then ToMinus p kind ∷ k else k)
+signing_is : (p : Pos) (m : Kind) (kind : ValueKind) (k : List Todo) → sign p m kind k ≡ (if is_minus m then ToMinus p kind ∷ k else k)
 signing_is p (tokens.Punct puncts.Minus) kind k = refl
 signing_is p m kind k = refl
 
@@ -46,7 +46,7 @@ module _ (choices : List Choice) (code : List Line) (nl room : ℕ) where
   pub eval_at : (v : expr.Value) (k : List Todo) (env : Env) (pc t : ℕ) (ks : List Waiting) → gives v ≡ true → IsTemp code nl room (length ks) t → ExprAt code nl room (length ks) t pc v → IsAt code nl room env k (pc + expr_size v) (w t ∷ ks) → IsAt code nl room env (ToEval v ∷ k) pc ks
   eval_at v k env pc t ks g at e h = (t, at, e, subst (λ b. IsAt code nl room env k (pc + expr_size v) (pushed_if b t ks)) (sym g) h)
 
-  base_at : (place : expr.Place) (k : List Todo) (env : Env) (pc b : ℕ) (ks : List Waiting) → BaseAt code nl room (length ks) b pc place → IsAt code nl room env k (pc + place_size place) (based place b ks) → IsAt code nl room env (before place k) pc ks
+  base_at : (place : expr.Place) (k : List Todo) (env : Env) (pc b : ℕ) (ks : List Waiting) → BaseAt code nl room (length ks) b pc place → IsAt code nl room env k (pc + place_size place) (based place b ks) → IsAt code nl room env (base_first place k) pc ks
   base_at (expr.local_place p n) k env pc b ks h is = let e : pc + 0 ≡ pc = omega arith in moved choices code nl room env k (pc + 0) pc ks e is
   base_at (expr.global_place p n) k env pc b ks h is = let e : pc + 0 ≡ pc = omega arith in moved choices code nl room env k (pc + 0) pc ks e is
   base_at (expr.field_place p base tag field) k env pc b ks h is = eval_at base k env pc b ks h.0 h.1 h.2 is
@@ -92,12 +92,12 @@ module _ (choices : List Choice) (code : List Line) (nl room : ℕ) where
   fit_at false p kind place k env pc b c s t ks at ats f h is =
       (s, tt, subst (λ d. IsTemp code nl room d s) (based_long place b ks) ats, f, store_at kind place k env (pc + 1) b s t ks at h is)
 
-  put_at : (p : Pos) (kind counted : ValueKind) (place : expr.Place) (k : List Todo) (env : Env) (pc b c t : ℕ) (ks : List Waiting) → IsTemp code nl room (length ks) t → PutAt code nl room p kind counted place (length ks) t b c pc → IsAt code nl room env k (pc + fit_size kind counted + store_size) (w t ∷ ks) → IsAt code nl room env (converting p kind counted (ToStore kind place ∷ k)) pc (w c ∷ based place b ks)
+  put_at : (p : Pos) (kind counted : ValueKind) (place : expr.Place) (k : List Todo) (env : Env) (pc b c t : ℕ) (ks : List Waiting) → IsTemp code nl room (length ks) t → PutAt code nl room p kind counted place (length ks) t b c pc → IsAt code nl room env k (pc + fit_size kind counted + store_size) (w t ∷ ks) → IsAt code nl room env (convert p kind counted (ToStore kind place ∷ k)) pc (w c ∷ based place b ks)
   put_at p kind counted place k env pc b c t ks at h is =
       fit_at (is_same kind counted) p kind place k env pc b c h.0 t ks at h.2 h.3 h.4 is
 
   -- `++` and `--` of what o holds
-  step_at : (p : Pos) (m : Kind) (kind : ValueKind) (place : expr.Place) (k : List Todo) (env : Env) (pc b o t : ℕ) (ks : List Waiting) → IsTemp code nl room (length ks) t → StepAt code nl room p m kind place (length ks) t b o pc → IsAt code nl room env k (pc + 1 + fit_size kind (wide kind) + store_size) (w t ∷ ks) → IsAt code nl room env (stepping p m kind place k) pc (w o ∷ based place b ks)
+  step_at : (p : Pos) (m : Kind) (kind : ValueKind) (place : expr.Place) (k : List Todo) (env : Env) (pc b o t : ℕ) (ks : List Waiting) → IsTemp code nl room (length ks) t → StepAt code nl room p m kind place (length ks) t b o pc → IsAt code nl room env k (pc + 1 + fit_size kind (wide kind) + store_size) (w t ∷ ks) → IsAt code nl room env (step p m kind place k) pc (w o ∷ based place b ks)
   step_at p m kind place k env pc b o t ks at h is =
       (h.0, tt, subst (λ d. IsTemp code nl room d h.0) (based_long place b ks) h.3.1, h.2, put_at p kind (wide kind) place k env (pc + 1) b h.0 t ks at h.3 is)
 
@@ -164,7 +164,7 @@ module _ (choices : List Choice) (code : List Line) (nl room : ℕ) where
   evaluate_sim (expr.read p kind expr.no_place) k s env pc ks m h ma = absurd h.2
   evaluate_sim (expr.inner p v) k s env pc ks m h ma = still choices code nl room (ToEval v ∷ k) s pc m env ks h ma
   evaluate_sim (expr.signed p mk kind v) k s env pc ks m h ma =
-      still choices code nl room (ToEval v ∷ signing p mk kind k) s pc m env ks
+      still choices code nl room (ToEval v ∷ sign p mk kind k) s pc m env ks
       (subst (λ l. IsAt code nl room env (ToEval v ∷ l) pc ks) (sym (signing_is p mk kind k)) (signed_at (is_minus mk) p kind v k env pc h.0 ks h.2.0 h.1 h.2.1 h.3)) ma
   evaluate_sim (expr.negated p v) k s env pc ks m h ma =
       let e : pc + (1 + expr_size v + 2) ≡ pc + 1 + expr_size v + 2 = omega arith in
@@ -173,22 +173,22 @@ module _ (choices : List Choice) (code : List Line) (nl room : ℕ) where
       (tt, refl, h.2.5, h.2.6, moved choices code nl room env k (pc + (1 + expr_size v + 2)) (pc + 1 + expr_size v + 2) (w h.0 ∷ ks) e h.3)) ma
   evaluate_sim (expr.stepped p false mk kind place) k s env pc ks m h ma =
       let at = pc + place_size place in
-      still choices code nl room (before place (ToOld kind place ∷ stepping p mk kind place k)) s pc m env ks
-      (base_at place (ToOld kind place ∷ stepping p mk kind place k) env pc h.2.0 ks h.2.2
-      (old_at kind place (stepping p mk kind place k) env at h.2.0 h.2.1 ks h.2.4.1 h.2.3
+      still choices code nl room (base_first place (ToOld kind place ∷ step p mk kind place k)) s pc m env ks
+      (base_at place (ToOld kind place ∷ step p mk kind place k) env pc h.2.0 ks h.2.2
+      (old_at kind place (step p mk kind place k) env at h.2.0 h.2.1 ks h.2.4.1 h.2.3
       (step_at p mk kind place k env (at + 1) h.2.0 h.2.1 h.0 ks h.1 h.2.4
       (moved choices code nl room env k _ _ (w h.0 ∷ ks) (step_sum pc (place_size place) (fit_size kind (wide kind)) (store_size)) h.3)))) ma
   evaluate_sim (expr.stepped p true mk kind place) k s env pc ks m h ma =
       let at = pc + 1 + place_size place in
       let ls = w h.0 ∷ ks in
-      let later = ToOld kind place ∷ ToKeep place ∷ stepping p mk kind place (ToPop ∷ k) in
+      let later = ToOld kind place ∷ ToKeep place ∷ step p mk kind place (ToPop ∷ k) in
       let e : at + 1 + 1 ≡ at + 2 = omega arith in
-      one choices code nl room [] (before place later) (record s { values = value.Int (pos 0) ∷ s.values }) 0 pc m (pc + 1) (put (to_var h.0) (Holds (value.Int (pos 0))) m) env ls (omega arith)
+      one choices code nl room [] (base_first place later) (record s { values = value.Int (pos 0) ∷ s.values }) 0 pc m (pc + 1) (put (to_var h.0) (Holds (value.Int (pos 0))) m) env ls (omega arith)
       (set_step choices code nl room pc h.0 (bit false) m (value.Int (pos 0)) h.2.3 refl)
       (base_at place later env (pc + 1) h.2.0 ls h.2.4
-      (old_at kind place (ToKeep place ∷ stepping p mk kind place (ToPop ∷ k)) env at h.2.0 h.2.1 ls h.2.8.1 h.2.5
-      (keep_at place (stepping p mk kind place (ToPop ∷ k)) env (at + 1) h.2.0 h.2.1 h.0 ks h.2.6
-      (moved choices code nl room env (stepping p mk kind place (ToPop ∷ k)) (at + 2) (at + 1 + 1) (w h.2.1 ∷ based place h.2.0 ls) (sym e)
+      (old_at kind place (ToKeep place ∷ step p mk kind place (ToPop ∷ k)) env at h.2.0 h.2.1 ls h.2.8.1 h.2.5
+      (keep_at place (step p mk kind place (ToPop ∷ k)) env (at + 1) h.2.0 h.2.1 h.0 ks h.2.6
+      (moved choices code nl room env (step p mk kind place (ToPop ∷ k)) (at + 2) (at + 1 + 1) (w h.2.1 ∷ based place h.2.0 ls) (sym e)
       (step_at p mk kind place (ToPop ∷ k) env (at + 2) h.2.0 h.2.1 h.2.2 ls h.2.7 h.2.8
       (tt, moved choices code nl room env k _ _ ls (behind_sum pc (place_size place) (fit_size kind (wide kind)) (store_size)) h.3))))))
       (pushed code nl room ks s m s.values ks h.0 (value.Int (pos 0)) h.1 ma ma.stack)
@@ -211,15 +211,15 @@ module _ (choices : List Choice) (code : List Line) (nl room : ℕ) where
       (h.2.1, pc + 1 + expr_size a + 1 + expr_size b + 2, tt, refl, h.2.6, h.2.7, h.2.8, h.2.9, h.2.10, refl, moved choices code nl room env k _ _ (w h.0 ∷ ks) e h.3)) ma
   evaluate_sim (expr.stored p kind place v) k s env pc ks m h ma =
       let e : pc + (place_size place + expr_size v + store_size) ≡ pc + place_size place + expr_size v + store_size = omega arith in
-      still choices code nl room (before place (ToEval v ∷ ToStore kind place ∷ k)) s pc m env ks
+      still choices code nl room (base_first place (ToEval v ∷ ToStore kind place ∷ k)) s pc m env ks
       (base_at place (ToEval v ∷ ToStore kind place ∷ k) env pc h.2.0 ks h.2.2
       (over_base place v (ToStore kind place ∷ k) env (pc + place_size place) h.2.0 h.2.1 ks h.2.3 h.2.4 h.2.5
       (store_at kind place k env (pc + place_size place + expr_size v) h.2.0 h.2.1 h.0 ks h.1 h.2.6 (moved choices code nl room env k _ _ (w h.0 ∷ ks) e h.3)))) ma
   evaluate_sim (expr.updated p mk counted kind place v) k s env pc ks m h ma =
       let at = pc + place_size place in
-      let last = converting p kind counted (ToStore kind place ∷ k) in
+      let last = convert p kind counted (ToStore kind place ∷ k) in
       let compute = ToCompute p (op_of mk) counted ∷ last in
-      still choices code nl room (before place (ToOld kind place ∷ ToEval v ∷ compute)) s pc m env ks
+      still choices code nl room (base_first place (ToOld kind place ∷ ToEval v ∷ compute)) s pc m env ks
       (base_at place (ToOld kind place ∷ ToEval v ∷ compute) env pc h.2.0 ks h.2.4
       (old_at kind place (ToEval v ∷ compute) env at h.2.0 h.2.1 ks h.2.5 h.2.6
       (over_old place v compute env (at + 1) h.2.0 h.2.1 h.2.2 ks h.2.7 h.2.8 h.2.9 (

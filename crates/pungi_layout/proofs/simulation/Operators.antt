@@ -14,9 +14,9 @@ use Rattle.pungi_meaning.specs.declared.op.Op.TheVariants as ops
 use Rattle.pungi_meaning.specs.declared.cmp.Cmp.{Cmp}
 use Rattle.pungi_meaning.specs.Values.{fits, is_true, truth, arithmetic, holds, number_of}
 use Rattle.pungi_meaning.specs.Todo.{Computed, Fitted, Compared, Todo, ToEval, ToStep, ToMinus, ToCompute, ToFit, ToCompare, ToNot, ToRight, ToTruth, ToPick, ToPop, ToJoin, State, Stops}
-use Rattle.pungi_meaning.specs.Exprs.{computed, is_wanted}
-use Rattle.pungi_meaning.specs.Run.{over, noted, Stopped, act}
-use Rattle.pungi_meaning.specs.Work.{for_two, instead, taken, below}
+use Rattle.pungi_meaning.specs.Exprs.{after_arithmetic, is_wanted}
+use Rattle.pungi_meaning.specs.Run.{end_at_once, with_operations, Stopped, act}
+use Rattle.pungi_meaning.specs.Work.{replace_two, replace_value, pop_value, below}
 use Rattle.pungi_code.specs.declared.atom.Atom.TheVariants as atom
 use Rattle.pungi_code.specs.declared.code.Line.{Line}
 use Rattle.pungi_code.specs.declared.instr.Instr.TheVariants.{Set, Jump}
@@ -31,13 +31,13 @@ use Rattle.pungi_layout.proofs.relation.Values.{Match, IsKnown, pushed, popped, 
 use Rattle.pungi_layout.proofs.relation.Steps.{st, result_step, Continues, IsDone, set_step, jump_step, branch_step, wanted_step, arith_step, compare_step, fit_step, still, one, two, moved, computed_by}
 
 -- what a step makes of a result, for one value or for two
-for_two_is : (r : Option ℤ) (p : Pos) (o : Op) (kind : ValueKind) (a b : ℤ) (k : List Todo) (s : State) → result_step r (Computed p o kind a b) p k (record s { values = below (below s.values) }) ≡ computed p o kind a b r for_two k s
+for_two_is : (r : Option ℤ) (p : Pos) (o : Op) (kind : ValueKind) (a b : ℤ) (k : List Todo) (s : State) → result_step r (Computed p o kind a b) p k (record s { values = below (below s.values) }) ≡ after_arithmetic p o kind a b r replace_two k s
 for_two_is None p o kind a b k s = refl
 for_two_is (Some n) p o kind a b k s = refl
 
-instead_is : (r : Option ℤ) (p : Pos) (o : Op) (kind : ValueKind) (a b : ℤ) (k : List Todo) (s : State) → result_step r (Computed p o kind a b) p k (record s { values = below s.values }) ≡ computed p o kind a b r instead k s
-instead_is None p o kind a b k s = refl
-instead_is (Some n) p o kind a b k s = refl
+replace_is : (r : Option ℤ) (p : Pos) (o : Op) (kind : ValueKind) (a b : ℤ) (k : List Todo) (s : State) → result_step r (Computed p o kind a b) p k (record s { values = below s.values }) ≡ after_arithmetic p o kind a b r replace_value k s
+replace_is None p o kind a b k s = refl
+replace_is (Some n) p o kind a b k s = refl
 
 pub bit_is : (on : Bool) (vars : List Content) → content_of (bit on) vars ≡ Holds (truth on)
 bit_is true vars = refl
@@ -62,7 +62,7 @@ module _ (choices : List Choice) (code : List Line) (nl room : ℕ) where
   step_sim p o kind k x u l [] env pc (a ∷ ks) m h ma = absurd ma.stack
   step_sim p o kind k x u l (y ∷ vs) env pc (a ∷ ks) m h ma =
       let r = arithmetic o kind (number_of y) (pos 1) in
-      subst (λ g. IsDone choices code nl room g 0 pc m) (instead_is r p o kind (number_of y) (pos 1) k (st x u l (y ∷ vs)))
+      subst (λ g. IsDone choices code nl room g 0 pc m) (replace_is r p o kind (number_of y) (pos 1) k (st x u l (y ∷ vs)))
       (computed_by choices code nl room r (Computed p o kind (number_of y) (pos 1)) p h.0 k (st x u l vs) m pc env (w h.0 ∷ ks)
       (arith_step choices code nl room pc p h.0 kind o (var a.var) (atom.Int (pos 1)) m y (value.Int (pos 1)) h.3 ma.stack.0 refl)
       h.4
@@ -73,13 +73,13 @@ module _ (choices : List Choice) (code : List Line) (nl room : ℕ) where
   minus_sim p kind k x u l [] env pc (a ∷ ks) m h ma = absurd ma.stack
   minus_sim p kind k x u l (y ∷ vs) env pc (a ∷ ks) m h ma =
       let r = arithmetic ops.Sub kind (pos 0) (number_of y) in
-      subst (λ g. IsDone choices code nl room g 0 pc m) (instead_is r p ops.Sub kind (pos 0) (number_of y) k (st x u l (y ∷ vs)))
+      subst (λ g. IsDone choices code nl room g 0 pc m) (replace_is r p ops.Sub kind (pos 0) (number_of y) k (st x u l (y ∷ vs)))
       (computed_by choices code nl room r (Computed p ops.Sub kind (pos 0) (number_of y)) p h.0 k (st x u l vs) m pc env (w h.0 ∷ ks)
       (arith_step choices code nl room pc p h.0 kind ops.Sub (atom.Int (pos 0)) (var a.var) m (value.Int (pos 0)) y h.3 refl ma.stack.0)
       h.4
       (λ n. pushed code nl room (a ∷ ks) (st x u l (y ∷ vs)) m vs ks h.0 (value.Int n) h.2 ma ma.stack.3))
 
-  fit_by : (b : Bool) (p : Pos) (kind : ValueKind) (n : ℤ) (t : ℕ) (k : List Todo) (s : State) (vs : List Value) (m : Regs) (pc : ℕ) (env : Env) (ks : List Waiting) → vs ≡ below s.values → ((j : ℕ) → exec choices code (suc j) pc m ≡ (if b then noted (Fitted p kind n ∷ []) (exec choices code j (pc + 1) (put (to_var t) (Holds (value.Int n)) m)) else over (Stopped p))) → IsAt code nl room env k (pc + 1) ks → Match code nl room ks (record s { values = value.Int n ∷ below s.values }) (put (to_var t) (Holds (value.Int n)) m) → IsDone choices code nl room (if b then instead (Fitted p kind n ∷ []) (value.Int n) k s else Stops p) 0 pc m
+  fit_by : (b : Bool) (p : Pos) (kind : ValueKind) (n : ℤ) (t : ℕ) (k : List Todo) (s : State) (vs : List Value) (m : Regs) (pc : ℕ) (env : Env) (ks : List Waiting) → vs ≡ below s.values → ((j : ℕ) → exec choices code (suc j) pc m ≡ (if b then with_operations (Fitted p kind n ∷ []) (exec choices code j (pc + 1) (put (to_var t) (Holds (value.Int n)) m)) else end_at_once (Stopped p))) → IsAt code nl room env k (pc + 1) ks → Match code nl room ks (record s { values = value.Int n ∷ below s.values }) (put (to_var t) (Holds (value.Int n)) m) → IsDone choices code nl room (if b then replace_value (Fitted p kind n ∷ []) (value.Int n) k s else Stops p) 0 pc m
   fit_by true p kind n t k s vs m pc env ks q e h ma =
       one choices code nl room (Fitted p kind n ∷ []) k (record s { values = value.Int n ∷ below s.values }) 0 pc m (pc + 1) (put (to_var t) (Holds (value.Int n)) m) env ks (omega arith) e h ma
   fit_by false p kind n t k s vs m pc env ks q e h ma = (1, e 0)
@@ -169,7 +169,7 @@ module _ (choices : List Choice) (code : List Line) (nl room : ℕ) where
   eval_at : (v : expr.Value) (k : List Todo) (env : Env) (pc t : ℕ) (ks : List Waiting) → gives v ≡ true → IsTemp code nl room (length ks) t → ExprAt code nl room (length ks) t pc v → IsAt code nl room env k (pc + expr_size v) (w t ∷ ks) → IsAt code nl room env (ToEval v ∷ k) pc ks
   eval_at v k env pc t ks g at e h = (t, at, e, subst (λ b. IsAt code nl room env k (pc + expr_size v) (pushed_if b t ks)) (sym g) h)
 
-  right_by : (c on : Bool) (v : expr.Value) (k : List Todo) (x : World) (u : List Pos) (l : List Content) (y z : Value) (vs : List Value) (env : Env) (pc : ℕ) (a b : Waiting) (ks : List Waiting) (m : Regs) → IsAt code nl room env (ToRight on v ∷ k) pc (a ∷ b ∷ ks) → ((end : ℕ) → Does code nl room pc (branch_on on a.var (pc + 1) end) → (j : ℕ) → exec choices code (suc j) pc m ≡ exec choices code j (if c then pc + 1 else end) m) → Match code nl room (a ∷ b ∷ ks) (st x u l (y ∷ z ∷ vs)) m → IsDone choices code nl room (taken (if c then ToEval v ∷ ToTruth ∷ k else k) (st x u l (y ∷ z ∷ vs))) 0 pc m
+  right_by : (c on : Bool) (v : expr.Value) (k : List Todo) (x : World) (u : List Pos) (l : List Content) (y z : Value) (vs : List Value) (env : Env) (pc : ℕ) (a b : Waiting) (ks : List Waiting) (m : Regs) → IsAt code nl room env (ToRight on v ∷ k) pc (a ∷ b ∷ ks) → ((end : ℕ) → Does code nl room pc (branch_on on a.var (pc + 1) end) → (j : ℕ) → exec choices code (suc j) pc m ≡ exec choices code j (if c then pc + 1 else end) m) → Match code nl room (a ∷ b ∷ ks) (st x u l (y ∷ z ∷ vs)) m → IsDone choices code nl room (pop_value (if c then ToEval v ∷ ToTruth ∷ k else k) (st x u l (y ∷ z ∷ vs))) 0 pc m
   right_by true on v k x u l y z vs env pc a b ks m h e ma =
       one choices code nl room [] (ToEval v ∷ ToTruth ∷ k) (st x u l (z ∷ vs)) 0 pc m (pc + 1) m env (b ∷ ks) (omega arith) (e h.1 h.4)
       (eval_at v (ToTruth ∷ k) env (pc + 1) h.0 (b ∷ ks) h.5 h.6 h.7

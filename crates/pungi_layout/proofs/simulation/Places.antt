@@ -18,13 +18,13 @@ use Rattle.pungi_world.specs.declared.world.World.{World}
 use Rattle.pungi_world.specs.Slots.{load_effect, store_effect}
 use Rattle.pungi_meaning.specs.Values.{slot_kind}
 use Rattle.pungi_meaning.specs.Todo.{Loaded, Stored, Todo, ToLoad, ToOld, ToKeep, ToStore, State}
-use Rattle.pungi_meaning.specs.Exprs.{read_local, load_slot, load_field, loaded, stored, store_slot, store_field}
-use Rattle.pungi_meaning.specs.Run.{Run, noted, act}
-use Rattle.pungi_meaning.specs.Work.{content_at, unused, with_answer}
+use Rattle.pungi_meaning.specs.Exprs.{read_local, load_slot, load_field, after_load, after_store, store_slot, store_field}
+use Rattle.pungi_meaning.specs.Run.{Run, with_operations, act}
+use Rattle.pungi_meaning.specs.Work.{content_at, unused, with_result}
 use Rattle.pungi_code.specs.declared.code.Line.{Line}
 use Rattle.pungi_code.specs.declared.instr.Instr.TheVariants.{Set, Load, Store}
 use Rattle.pungi_code.specs.declared.place.Place.TheVariants.{Global, Field}
-use Rattle.pungi_code.specs.Registers.{Regs, put, content_of, reacting, left, answered, with_value}
+use Rattle.pungi_code.specs.Registers.{Regs, put, content_of, after_effect, choices_left, put_answer, with_value}
 use Rattle.pungi_code.specs.Perform as does
 use Rattle.pungi_code.specs.Run.{exec}
 use Rattle.pungi_layout.specs.code.ExprCode.{to_var, var}
@@ -45,7 +45,7 @@ module _ (choices : List Choice) (code : List Line) (nl room : ℕ) where
       one choices code nl room [] k (record s { values = v ∷ s.values }) 0 pc m (pc + 1) (put (to_var t) (Holds v) m) env (w t ∷ ks) (omega arith)
       (set_step choices code nl room pc t (var n) m v (p, h) e) is (pushed code nl room ks s m s.values ks t v at ma ma.stack)
 
-  loaded_by : (o : Option Value) → HasValue o → (p : Pos) (s' : Slot) (t : ℕ) (k : List Todo) (s : State) (env : Env) (pc : ℕ) (ks ls : List Waiting) (vs : List Value) (m q : Regs) → ((j : ℕ) → exec choices code (suc j) pc m ≡ noted (Loaded p s' o ∷ []) (exec choices code j (pc + 1) (answered (Some (to_var t)) o q))) → IsTemp code nl room (length ks) t → IsAt code nl room env k (pc + 1) (w t ∷ ks) → Match code nl room ls s q → Stack code nl room q.vars vs ks → Continues choices code nl room (Loaded p s' o ∷ []) k (record s { values = with_answer o vs }) 0 pc m
+  loaded_by : (o : Option Value) → HasValue o → (p : Pos) (s' : Slot) (t : ℕ) (k : List Todo) (s : State) (env : Env) (pc : ℕ) (ks ls : List Waiting) (vs : List Value) (m q : Regs) → ((j : ℕ) → exec choices code (suc j) pc m ≡ with_operations (Loaded p s' o ∷ []) (exec choices code j (pc + 1) (put_answer (Some (to_var t)) o q))) → IsTemp code nl room (length ks) t → IsAt code nl room env k (pc + 1) (w t ∷ ks) → Match code nl room ls s q → Stack code nl room q.vars vs ks → Continues choices code nl room (Loaded p s' o ∷ []) k (record s { values = with_result o vs }) 0 pc m
   loaded_by None has p s' t k s env pc ks ls vs m q e at is ma sk = absurd (let h : None ≡ Some has.0 = has.1 in cc)
   loaded_by (Some v) has p s' t k s env pc ks ls vs m q e at is ma sk =
       one choices code nl room (Loaded p s' (Some v) ∷ []) k (record s { values = v ∷ vs }) 0 pc m (pc + 1) (put (to_var t) (Holds v) q) env (w t ∷ ks) (omega arith) e is (pushed code nl room ls s q vs ks t v at ma sk)
@@ -53,11 +53,11 @@ module _ (choices : List Choice) (code : List Line) (nl room : ℕ) where
   -- a slot is loaded, in a state whose values stand in ks
   pub load_sim : (p : Pos) (kind : ValueKind) (s' : Slot) (t : ℕ) (k : List Todo) (s : State) (env : Env) (pc : ℕ) (ks ls : List Waiting) (m : Regs) → ((j : ℕ) → exec choices code (suc j) pc m ≡ does.load choices (to_var t) p (exec choices code j) pc m s' (slot_kind kind)) → IsTemp code nl room (length ks) t → IsAt code nl room env k (pc + 1) (w t ∷ ks) → Match code nl room ls s m → Stack code nl room m.vars s.values ks → IsDone choices code nl room (load_slot choices p kind s' k s) 0 pc m
   load_sim p kind s' t k s env pc ks ls m e at is ma sk =
-      let go = λ (j : ℕ) (x : Effect) (q : Regs). noted (Loaded p s' x.value ∷ []) (exec choices code j (pc + 1) (answered (Some (to_var t)) x.value q)) in
-      react_by choices code nl room (load_effect s.world s' (slot_kind kind) (unused choices s)) p s m pc (loaded p s' k) go
+      let go = λ (j : ℕ) (x : Effect) (q : Regs). with_operations (Loaded p s' x.value ∷ []) (exec choices code j (pc + 1) (put_answer (Some (to_var t)) x.value q)) in
+      react_by choices code nl room (load_effect s.world s' (slot_kind kind) (unused choices s)) p s m pc (after_load p s' k) go
       (λ j. e j
-      ∙ ap (λ x. reacting p (load_effect x s' (slot_kind kind) (left choices m)) m (go j)) ma.world
-      ∙ ap (λ us. reacting p (load_effect s.world s' (slot_kind kind) (drop (length us) choices)) m (go j)) ma.used)
+      ∙ ap (λ x. after_effect p (load_effect x s' (slot_kind kind) (choices_left choices m)) m (go j)) ma.world
+      ∙ ap (λ us. after_effect p (load_effect s.world s' (slot_kind kind) (drop (length us) choices)) m (go j)) ma.used)
       (λ x is' step. loaded_by x.0.value (load_value s.world s' (slot_kind kind) (unused choices s) x is') p s' t k (record s { world = x.1; used = s.used ++ replicate x.0.used p }) env pc ks ls s.values m (record m { world = x.1; used = m.used ++ replicate x.0.used p }) step at is (reacted code nl room ls s m x.1 x.0.used p ma) sk)
 
   -- the slot of a field, by what its base holds
@@ -136,13 +136,13 @@ module _ (choices : List Choice) (code : List Line) (nl room : ℕ) where
   -- ---- stores
 
   -- a slot is stored to, and the value goes on: in no instruction more, or in one
-  pub store_sim_by : (p : Pos) (kind : ValueKind) (s' : Slot) (y : Value) (others : List Value) (k : List Todo) (s : State) (pc : ℕ) (m : Regs) → ((j : ℕ) → exec choices code (suc j) pc m ≡ does.store choices p (exec choices code j) pc m y s' (slot_kind kind)) → m.world ≡ s.world → m.used ≡ s.used → ((e : Effect × World) → ((j : ℕ) → exec choices code (suc j) pc m ≡ noted (Stored p s' y ∷ []) (exec choices code j (pc + 1) (record m { world = e.1; used = m.used ++ replicate e.0.used p }))) → Continues choices code nl room (Stored p s' y ∷ []) k (record s { world = e.1; used = s.used ++ replicate e.0.used p; values = y ∷ others }) 0 pc m) → IsDone choices code nl room (store_slot choices p kind s' y others k s) 0 pc m
+  pub store_sim_by : (p : Pos) (kind : ValueKind) (s' : Slot) (y : Value) (others : List Value) (k : List Todo) (s : State) (pc : ℕ) (m : Regs) → ((j : ℕ) → exec choices code (suc j) pc m ≡ does.store choices p (exec choices code j) pc m y s' (slot_kind kind)) → m.world ≡ s.world → m.used ≡ s.used → ((e : Effect × World) → ((j : ℕ) → exec choices code (suc j) pc m ≡ with_operations (Stored p s' y ∷ []) (exec choices code j (pc + 1) (record m { world = e.1; used = m.used ++ replicate e.0.used p }))) → Continues choices code nl room (Stored p s' y ∷ []) k (record s { world = e.1; used = s.used ++ replicate e.0.used p; values = y ∷ others }) 0 pc m) → IsDone choices code nl room (store_slot choices p kind s' y others k s) 0 pc m
   store_sim_by p kind s' y others k s pc m e ew eu next =
-      let go = λ (j : ℕ) (x : Effect) (q : Regs). noted (Stored p s' y ∷ []) (exec choices code j (pc + 1) q) in
-      react_by choices code nl room (store_effect s.world s' (slot_kind kind) y (unused choices s)) p s m pc (stored p s' y others k) go
+      let go = λ (j : ℕ) (x : Effect) (q : Regs). with_operations (Stored p s' y ∷ []) (exec choices code j (pc + 1) q) in
+      react_by choices code nl room (store_effect s.world s' (slot_kind kind) y (unused choices s)) p s m pc (after_store p s' y others k) go
       (λ j. e j
-      ∙ ap (λ x. reacting p (store_effect x s' (slot_kind kind) y (left choices m)) m (go j)) ew
-      ∙ ap (λ us. reacting p (store_effect s.world s' (slot_kind kind) y (drop (length us) choices)) m (go j)) eu)
+      ∙ ap (λ x. after_effect p (store_effect x s' (slot_kind kind) y (choices_left choices m)) m (go j)) ew
+      ∙ ap (λ us. after_effect p (store_effect s.world s' (slot_kind kind) y (drop (length us) choices)) m (go j)) eu)
       (λ x is step. next x step)
 
   stored_field : (v : Value) (p : Pos) (kind : ValueKind) (tag field : Name) (b t : ℕ) (y : Value) (others : List Value) (k : List Todo) (s : State) (env : Env) (pc : ℕ) (a : Waiting) (ks ls : List Waiting) (m : Regs) → content_at m.vars b ≡ Holds v → content_at m.vars a.var ≡ Holds y → Stands code nl room pc p (Store (Field (var b) tag field (slot_kind kind)) (var a.var)) → Does code nl room (pc + 1) (Set (to_var t) (var a.var)) → IsTemp code nl room (length ks) t → IsAt code nl room env k (pc + 2) (w t ∷ ks) → Match code nl room ls s m → Stack code nl room m.vars others ks → IsDone choices code nl room (store_field choices p kind v tag field y others k s) 0 pc m
@@ -156,7 +156,7 @@ module _ (choices : List Choice) (code : List Line) (nl room : ℕ) where
       (λ x step.
       let q = record m { world = x.1; used = m.used ++ replicate x.0.used p } in
       two choices code nl room (Stored p (slot.Field o tag field) y ∷ []) k (record s { world = x.1; used = s.used ++ replicate x.0.used p; values = y ∷ others }) pc m (pc + 1 + 1) (put (to_var t) (Holds y) q) env (w t ∷ ks)
-      (λ j. step (suc j) ∙ ap (noted (Stored p (slot.Field o tag field) y ∷ [])) (set_step choices code nl room (pc + 1) t (var a.var) q y d ey j))
+      (λ j. step (suc j) ∙ ap (with_operations (Stored p (slot.Field o tag field) y ∷ [])) (set_step choices code nl room (pc + 1) t (var a.var) q y d ey j))
       (moved choices code nl room env k (pc + 2) (pc + 1 + 1) (w t ∷ ks) (sym q2) is)
       (pushed code nl room ls (record s { world = x.1; used = s.used ++ replicate x.0.used p }) q others ks t y at (reacted code nl room ls s m x.1 x.0.used p ma) sk))
   stored_field (value.Int n) p kind tag field b t y others k s env pc a ks ls m e ey h d at is ma sk = (
@@ -201,7 +201,7 @@ module _ (choices : List Choice) (code : List Line) (nl room : ℕ) where
       let s' = st e.1 (u ++ replicate e.0.used p) l (y ∷ vs) in
       let mq = reacted code nl room (a ∷ ks) (st x u l (y ∷ vs)) m e.1 e.0.used p ma in
       two choices code nl room (Stored p (slot.Global n) y ∷ []) k s' pc m (pc + 1 + 1) (put (to_var h.0) (Holds y) q) env (w h.0 ∷ ks)
-      (λ j. step (suc j) ∙ ap (noted (Stored p (slot.Global n) y ∷ [])) (set_step choices code nl room (pc + 1) h.0 (var a.var) q y h.4.1 ma.stack.0 j))
+      (λ j. step (suc j) ∙ ap (with_operations (Stored p (slot.Global n) y ∷ [])) (set_step choices code nl room (pc + 1) h.0 (var a.var) q y h.4.1 ma.stack.0 j))
       (moved choices code nl room env k (pc + 2) (pc + 1 + 1) (w h.0 ∷ ks) (sym q2) h.5)
       (pushed code nl room (a ∷ ks) s' q vs ks h.0 y h.3 mq ma.stack.3))
   to_store_sim kind (expr.field_place p base tag field) k x u l (y ∷ vs) env pc (a ∷ []) m h ma = absurd h.2

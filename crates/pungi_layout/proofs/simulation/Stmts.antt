@@ -10,17 +10,17 @@ use Rattle.pungi_world.specs.declared.content.Content.{Content}
 use Rattle.pungi_world.specs.declared.content.Content.TheVariants.{Unset, Holds}
 use Rattle.pungi_world.specs.declared.world.World.{World}
 use Rattle.pungi_meaning.specs.Values.{is_true}
-use Rattle.pungi_meaning.specs.Todo.{Loop, Todo, ToEval, ToExec, ToForget, ToReach, ToBind, ToChoose, ToJoin, ToRest, ToTest, ToTurn, ToAgain, ToBack, ToSwitch, ToSwitchEnd, ToReturn, ToEnd, State, listed}
+use Rattle.pungi_meaning.specs.Todo.{Loop, Todo, ToEval, ToExec, ToForget, ToDeclare, ToBind, ToChoose, ToJoin, ToRest, ToTest, ToTurn, ToAgain, ToBack, ToSwitch, ToSwitchEnd, ToReturn, ToEnd, State, listed}
 use Rattle.pungi_meaning.specs.Jumps.{a_loop, from_label, after_break, after_continue}
-use Rattle.pungi_meaning.specs.Stmts.{block_cases, reach_value, others, tested_by, tested, turn, started, returning, next_stmt, execute}
-use Rattle.pungi_meaning.specs.Run.{over, Returned, act}
-use Rattle.pungi_meaning.specs.Work.{declared, unset_reached}
+use Rattle.pungi_meaning.specs.Stmts.{block_cases, declare_value, else_part, test_loop_by, test_loop, turn, evaluate_first, return_value, next_stmt, execute}
+use Rattle.pungi_meaning.specs.Run.{end_at_once, Returned, act}
+use Rattle.pungi_meaning.specs.Work.{block_locals, unset_locals}
 use Rattle.pungi_code.specs.declared.code.Line.{Line}
 use Rattle.pungi_code.specs.declared.instr.Instr.TheVariants as instr
 use Rattle.pungi_code.specs.Registers.{Regs, put, content_of}
 use Rattle.pungi_code.specs.Run.{exec}
 use Rattle.pungi_code.proofs.Simulation.{ahead}
-use Rattle.pungi_layout.specs.code.Sizes.{expr_size, option_size, reach_size, test_size, stmt_size, stmts_size}
+use Rattle.pungi_layout.specs.code.Sizes.{expr_size, option_size, declare_size, test_size, stmt_size, stmts_size}
 use Rattle.pungi_layout.specs.code.ExprCode.{to_var, var, at_label}
 use Rattle.pungi_layout.specs.code.Scopes.{Env, in_block, in_loop}
 use Rattle.pungi_layout.proofs.relation.Relation.{Waiting, Does, OptionAt, UnsetAt, BindAt, GiveAt, StmtAt, StmtsAt, LoopAt, loop_body, loop_again, loop_end, end_of_loop, ListAt, Inside, OtherAt, JoinAt, join_size, IsAt}
@@ -32,7 +32,7 @@ use Rattle.pungi_layout.proofs.relation.Jumps.{break_leads, continue_leads, goto
 
 -- a `goto` and the turns of a loop go back
 abbrev pub jumps : List Todo → ℕ
-jumps (ToExec (stmt.jump p l) ∷ k) = 1
+jumps (ToExec (stmt.goto p l) ∷ k) = 1
 jumps (ToBack loop ∷ k) = 1
 jumps k = 0
 
@@ -50,7 +50,7 @@ module _ (choices : List Choice) (code : List Line) (nl room : ℕ) where
 
   -- ---- locals that hold nothing any more
 
-  pub unset_sim : (rs : List stmt.Reached) (pc : ℕ) (ks : List Waiting) (s : State) (m : Regs) → UnsetAt code nl room rs pc → Match code nl room ks s m → (r : Regs) × ((j : ℕ) → exec choices code (ahead (length rs) j) pc m ≡ exec choices code j (pc + length rs) r) × Match code nl room ks (record s { locals = unset_reached rs s.locals }) r
+  pub unset_sim : (rs : List stmt.DeclaredLocal) (pc : ℕ) (ks : List Waiting) (s : State) (m : Regs) → UnsetAt code nl room rs pc → Match code nl room ks s m → (r : Regs) × ((j : ℕ) → exec choices code (ahead (length rs) j) pc m ≡ exec choices code j (pc + length rs) r) × Match code nl room ks (record s { locals = unset_locals rs s.locals }) r
   unset_sim [] pc ks s m h ma =
       let e : pc ≡ pc + 0 = omega arith in
       (m, λ j. ap (λ x. exec choices code j x m) e, ma)
@@ -61,12 +61,12 @@ module _ (choices : List Choice) (code : List Line) (nl room : ℕ) where
 
   -- ---- parts
 
-  started_at : (o : Option expr.Value) (k : List Todo) (env : Env) (pc : ℕ) → OptionAt code nl room pc o → IsAt code nl room env k (pc + option_size o) [] → IsAt code nl room env (started o k) pc []
+  started_at : (o : Option expr.Value) (k : List Todo) (env : Env) (pc : ℕ) → OptionAt code nl room pc o → IsAt code nl room env k (pc + option_size o) [] → IsAt code nl room env (evaluate_first o k) pc []
   started_at None k env pc h is = let e : pc + 0 ≡ pc = omega arith in moved choices code nl room env k _ _ [] e is
   started_at (Some v) k env pc h is = (h.0, h.1, h.2, is)
 
   -- a loop begins, or goes on, at its head
-  tested_at : (test behind : Option expr.Value) (body : stmt.Action) (k : List Todo) (env : Env) (head : ℕ) → LoopAt code nl room env head (a_loop test behind body) → IsAt code nl room env k (loop_end head test body behind) [] → (e : Env) × IsAt code nl room e (tested_by test (a_loop test behind body) k) head []
+  tested_at : (test behind : Option expr.Value) (body : stmt.Action) (k : List Todo) (env : Env) (head : ℕ) → LoopAt code nl room env head (a_loop test behind body) → IsAt code nl room env k (loop_end head test body behind) [] → (e : Env) × IsAt code nl room e (test_loop_by test (a_loop test behind body) k) head []
   tested_at None behind body k env head h is =
       let e : head + 0 ≡ head = omega arith in
       let inner = in_loop env (loop_again head None body) (loop_end head None body behind) in (
@@ -82,22 +82,22 @@ module _ (choices : List Choice) (code : List Line) (nl room : ℕ) where
   pub forget_sim : (k : List Todo) (s : State) (env : Env) (pc : ℕ) (ks : List Waiting) (m : Regs) → IsAt code nl room env (ToForget ∷ k) pc ks → Match code nl room ks s m → IsDone choices code nl room (act choices (ToForget ∷ k) s) 0 pc m
   forget_sim k s env pc ks m h ma = still choices code nl room k (record s { values = [] }) pc m env [] h (popped code nl room ks s m [] [] ma tt)
 
-  reach_by : (o : Option expr.Value) (r : stmt.Reached) (rs : List stmt.Reached) (k : List Todo) (s : State) (env : Env) (pc : ℕ) (m : Regs) → BindAt code nl room r.number pc o → IsAt code nl room env (ToReach rs ∷ k) (pc + option_size o + 1) [] → Match code nl room [] s m → IsDone choices code nl room (reach_value r o rs k s) 0 pc m
-  reach_by None r rs k s env pc m h is ma =
+  declare_by : (o : Option expr.Value) (r : stmt.DeclaredLocal) (rs : List stmt.DeclaredLocal) (k : List Todo) (s : State) (env : Env) (pc : ℕ) (m : Regs) → BindAt code nl room r.number pc o → IsAt code nl room env (ToDeclare rs ∷ k) (pc + option_size o + 1) [] → Match code nl room [] s m → IsDone choices code nl room (declare_value r o rs k s) 0 pc m
+  declare_by None r rs k s env pc m h is ma =
       let e : pc + 0 + 1 ≡ pc + 1 = omega arith in
-      step_to (ToReach rs ∷ k) (record s { locals = slice_set s.locals r.number Unset }) 0 pc m (pc + 1) (put (to_var r.number) Unset m) env (omega arith) (unset_step pc r.number m h.1)
-      (moved choices code nl room env (ToReach rs ∷ k) _ _ [] e is) (assigned code nl room [] s m r.number Unset h.0 ma)
-  reach_by (Some v) r rs k s env pc m h is ma =
-      still choices code nl room (ToEval v ∷ ToBind r.number ∷ ToReach rs ∷ k) s pc m env []
-      (eval_at choices code nl room v (ToBind r.number ∷ ToReach rs ∷ k) env pc h.0 [] h.1 h.2 h.3 (tt, refl, h.4, h.5, is)) ma
+      step_to (ToDeclare rs ∷ k) (record s { locals = slice_set s.locals r.number Unset }) 0 pc m (pc + 1) (put (to_var r.number) Unset m) env (omega arith) (unset_step pc r.number m h.1)
+      (moved choices code nl room env (ToDeclare rs ∷ k) _ _ [] e is) (assigned code nl room [] s m r.number Unset h.0 ma)
+  declare_by (Some v) r rs k s env pc m h is ma =
+      still choices code nl room (ToEval v ∷ ToBind r.number ∷ ToDeclare rs ∷ k) s pc m env []
+      (eval_at choices code nl room v (ToBind r.number ∷ ToDeclare rs ∷ k) env pc h.0 [] h.1 h.2 h.3 (tt, refl, h.4, h.5, is)) ma
 
-  pub reach_sim : (rs : List stmt.Reached) (k : List Todo) (s : State) (env : Env) (pc : ℕ) (ks : List Waiting) (m : Regs) → IsAt code nl room env (ToReach rs ∷ k) pc ks → Match code nl room ks s m → IsDone choices code nl room (act choices (ToReach rs ∷ k) s) 0 pc m
-  reach_sim [] k s env pc ks m h ma =
+  pub declare_sim : (rs : List stmt.DeclaredLocal) (k : List Todo) (s : State) (env : Env) (pc : ℕ) (ks : List Waiting) (m : Regs) → IsAt code nl room env (ToDeclare rs ∷ k) pc ks → Match code nl room ks s m → IsDone choices code nl room (act choices (ToDeclare rs ∷ k) s) 0 pc m
+  declare_sim [] k s env pc ks m h ma =
       let e : pc + 0 ≡ pc = omega arith in
       still choices code nl room k s pc m env [] (moved choices code nl room env k _ _ [] e h.2) (none_waits ks s m h.0 ma)
-  reach_sim (r ∷ rs) k s env pc ks m h ma =
-      let e : pc + (option_size r.value + 1 + reach_size rs) ≡ pc + option_size r.value + 1 + reach_size rs = omega arith in
-      reach_by r.value r rs k s env pc m h.1.0 (refl, h.1.1, moved choices code nl room env k _ _ [] e h.2) (none_waits ks s m h.0 ma)
+  declare_sim (r ∷ rs) k s env pc ks m h ma =
+      let e : pc + (option_size r.value + 1 + declare_size rs) ≡ pc + option_size r.value + 1 + declare_size rs = omega arith in
+      declare_by r.value r rs k s env pc m h.1.0 (refl, h.1.1, moved choices code nl room env k _ _ [] e h.2) (none_waits ks s m h.0 ma)
 
   pub bind_sim : (n : ℕ) (k : List Todo) (x : World) (u : List Pos) (l : List Content) (vs : List Value) (env : Env) (pc : ℕ) (ks : List Waiting) (m : Regs) → IsAt code nl room env (ToBind n ∷ k) pc ks → Match code nl room ks (st x u l vs) m → IsDone choices code nl room (act choices (ToBind n ∷ k) (st x u l vs)) 0 pc m
   bind_sim n k x u l vs env pc [] m h ma = absurd h.0
@@ -114,15 +114,15 @@ module _ (choices : List Choice) (code : List Line) (nl room : ℕ) where
   joined_at None env pc end h o = let e : pc ≡ pc + 0 = omega arith in inl (e ∙ o)
   joined_at (Some b) env pc end h o = inr h
 
-  other_at : (b : Option stmt.Action) (k : List Todo) (env : Env) (pc end : ℕ) → OtherAt code nl room env b pc end → IsAt code nl room env k end [] → IsAt code nl room env (others b (ToJoin ∷ k)) pc []
+  other_at : (b : Option stmt.Action) (k : List Todo) (env : Env) (pc end : ℕ) → OtherAt code nl room env b pc end → IsAt code nl room env k end [] → IsAt code nl room env (else_part b (ToJoin ∷ k)) pc []
   other_at None k env pc end o is = (end, inl o, is)
   other_at (Some b) k env pc end o is = (refl, o.0, (end, inl o.1, is))
 
-  choose_by : (c : Bool) (a : stmt.Action) (b : Option stmt.Action) (k : List Todo) (s : State) (env : Env) (pc end : ℕ) (m : Regs) → ((j : ℕ) → exec choices code (suc j) pc m ≡ exec choices code j (if c then pc + 1 else pc + 1 + stmt_size a + join_size b) m) → StmtAt code nl room env (pc + 1) a → JoinAt code nl room b (pc + 1 + stmt_size a) end → OtherAt code nl room env b (pc + 1 + stmt_size a + join_size b) end → IsAt code nl room env k end [] → Match code nl room [] s m → Continues choices code nl room [] (if c then ToExec a ∷ ToJoin ∷ k else others b (ToJoin ∷ k)) s 0 pc m
+  choose_by : (c : Bool) (a : stmt.Action) (b : Option stmt.Action) (k : List Todo) (s : State) (env : Env) (pc end : ℕ) (m : Regs) → ((j : ℕ) → exec choices code (suc j) pc m ≡ exec choices code j (if c then pc + 1 else pc + 1 + stmt_size a + join_size b) m) → StmtAt code nl room env (pc + 1) a → JoinAt code nl room b (pc + 1 + stmt_size a) end → OtherAt code nl room env b (pc + 1 + stmt_size a + join_size b) end → IsAt code nl room env k end [] → Match code nl room [] s m → Continues choices code nl room [] (if c then ToExec a ∷ ToJoin ∷ k else else_part b (ToJoin ∷ k)) s 0 pc m
   choose_by true a b k s env pc end m e ha j o is ma =
       step_to (ToExec a ∷ ToJoin ∷ k) s 0 pc m (pc + 1) m env (omega arith) e (refl, ha, (end, joined_at b env (pc + 1 + stmt_size a) end j o, is)) ma
   choose_by false a b k s env pc end m e ha j o is ma =
-      step_to (others b (ToJoin ∷ k)) s 0 pc m (pc + 1 + stmt_size a + join_size b) m env (omega arith) e (other_at b k env (pc + 1 + stmt_size a + join_size b) end o is) ma
+      step_to (else_part b (ToJoin ∷ k)) s 0 pc m (pc + 1 + stmt_size a + join_size b) m env (omega arith) e (other_at b k env (pc + 1 + stmt_size a + join_size b) end o is) ma
 
   pub choose_sim : (a : stmt.Action) (b : Option stmt.Action) (k : List Todo) (x : World) (u : List Pos) (l : List Content) (vs : List Value) (env : Env) (pc : ℕ) (ks : List Waiting) (m : Regs) → IsAt code nl room env (ToChoose a b ∷ k) pc ks → Match code nl room ks (st x u l vs) m → IsDone choices code nl room (act choices (ToChoose a b ∷ k) (st x u l vs)) 0 pc m
   choose_sim a b k x u l vs env pc [] m h ma = absurd h.1
@@ -159,7 +159,7 @@ module _ (choices : List Choice) (code : List Line) (nl room : ℕ) where
   pub test_sim : (loop : Loop) (k : List Todo) (s : State) (env : Env) (pc : ℕ) (ks : List Waiting) (m : Regs) → IsAt code nl room env (ToTest loop ∷ k) pc ks → Match code nl room ks s m → IsDone choices code nl room (act choices (ToTest loop ∷ k) s) 0 pc m
   test_sim loop k s env pc ks m h ma =
       let r = tested_at loop.test loop.behind loop.body k env pc h.1 h.2 in
-      still choices code nl room (tested loop k) s pc m r.0 [] r.1 (none_waits ks s m h.0 ma)
+      still choices code nl room (test_loop loop k) s pc m r.0 [] r.1 (none_waits ks s m h.0 ma)
 
   turn_by : (c : Bool) (loop : Loop) (k : List Todo) (s : State) (env : Env) (pc head : ℕ) (m : Regs) → ((j : ℕ) → exec choices code (suc j) pc m ≡ exec choices code j (if c then loop_body head loop.test else end_of_loop head loop) m) → LoopAt code nl room env head loop → IsAt code nl room env k (end_of_loop head loop) [] → Match code nl room [] s m → Continues choices code nl room [] (turn c loop k) s 0 pc m
   turn_by true loop k s env pc head m e h is ma =
@@ -177,22 +177,22 @@ module _ (choices : List Choice) (code : List Line) (nl room : ℕ) where
 
   pub again_sim : (loop : Loop) (k : List Todo) (s : State) (env : Env) (pc : ℕ) (ks : List Waiting) (m : Regs) → IsAt code nl room env (ToAgain loop ∷ k) pc ks → Match code nl room ks s m → IsDone choices code nl room (act choices (ToAgain loop ∷ k) s) 0 pc m
   again_sim loop k s env pc ks m h ma =
-      still choices code nl room (started loop.behind (ToBack loop ∷ k)) s pc m h.0 []
-      (moved choices code nl room h.0 (started loop.behind (ToBack loop ∷ k)) (loop_again h.1 loop.test loop.body) pc [] (sym h.4)
+      still choices code nl room (evaluate_first loop.behind (ToBack loop ∷ k)) s pc m h.0 []
+      (moved choices code nl room h.0 (evaluate_first loop.behind (ToBack loop ∷ k)) (loop_again h.1 loop.test loop.body) pc [] (sym h.4)
       (started_at loop.behind (ToBack loop ∷ k) h.0 (loop_again h.1 loop.test loop.body) h.3.2 (h.1, refl, h.3.3, h.3, h.8))) (none_waits ks s m h.2 ma)
 
   pub back_sim : (loop : Loop) (k : List Todo) (s : State) (env : Env) (pc : ℕ) (ks : List Waiting) (m : Regs) → IsAt code nl room env (ToBack loop ∷ k) pc ks → Match code nl room ks s m → IsDone choices code nl room (act choices (ToBack loop ∷ k) s) 1 pc m
   back_sim loop k s env pc ks m h ma =
       let r = tested_at loop.test loop.behind loop.body k env h.0 h.3 h.4 in
-      step_to (tested loop k) s 1 pc m h.0 m r.0 (omega arith) (jump_step choices code nl room pc h.0 m h.2) r.1 (none_waits ks s m h.1 ma)
+      step_to (test_loop loop k) s 1 pc m h.0 m r.0 (omega arith) (jump_step choices code nl room pc h.0 m h.2) r.1 (none_waits ks s m h.1 ma)
 
   pub switch_end_sim : (k : List Todo) (s : State) (env : Env) (pc : ℕ) (ks : List Waiting) (m : Regs) → IsAt code nl room env (ToSwitchEnd ∷ k) pc ks → Match code nl room ks s m → IsDone choices code nl room (act choices (ToSwitchEnd ∷ k) s) 0 pc m
   switch_end_sim k s env pc ks m h ma = still choices code nl room k s pc m h.0 [] h.5 (none_waits ks s m h.1 ma)
 
   -- ---- returns
 
-  returns_so : (x : World) (u : List Pos) (v : Option Value) (p : Pos) (m : Regs) → m.world ≡ x → m.used ≡ u → over (Returned m.world v p m.used) ≡ over (Returned x v p u)
-  returns_so x u v p m ew eu = ap (λ y. over (Returned y v p m.used)) ew ∙ ap (λ us. over (Returned x v p us)) eu
+  returns_so : (x : World) (u : List Pos) (v : Option Value) (p : Pos) (m : Regs) → m.world ≡ x → m.used ≡ u → end_at_once (Returned m.world v p m.used) ≡ end_at_once (Returned x v p u)
+  returns_so x u v p m ew eu = ap (λ y. end_at_once (Returned y v p m.used)) ew ∙ ap (λ us. end_at_once (Returned x v p us)) eu
 
   pub return_sim : (p : Pos) (k : List Todo) (x : World) (u : List Pos) (l : List Content) (vs : List Value) (env : Env) (pc : ℕ) (ks : List Waiting) (m : Regs) → IsAt code nl room env (ToReturn p ∷ k) pc ks → Match code nl room ks (st x u l vs) m → IsDone choices code nl room (act choices (ToReturn p ∷ k) (st x u l vs)) 0 pc m
   return_sim p k x u l vs env pc [] m h ma = absurd h.0
@@ -200,7 +200,7 @@ module _ (choices : List Choice) (code : List Line) (nl room : ℕ) where
   return_sim p k x u l (v ∷ vs) env pc (q ∷ ks) m h ma = (
     1,
     first choices code nl room pc p (instr.Return (Some (var q.var))) m h.1 0
-        ∙ with_it choices code nl room (content_of (var q.var) m.vars) v p (λ y. over (Returned m.world (Some y) p m.used)) ma.stack.0
+        ∙ with_it choices code nl room (content_of (var q.var) m.vars) v p (λ y. end_at_once (Returned m.world (Some y) p m.used)) ma.stack.0
         ∙ returns_so x u (Some v) p m ma.world ma.used,
   )
 
@@ -208,9 +208,9 @@ module _ (choices : List Choice) (code : List Line) (nl room : ℕ) where
   end_sim p true k s env pc ks m h ma = (1, first choices code nl room pc p (instr.Return None) m h.4 0 ∙ returns_so s.world s.used None p m ma.world ma.used)
   end_sim p false k s env pc ks m h ma = (1, first choices code nl room pc p instr.Fall m h.4 0)
 
-  give_sim : (o : Option expr.Value) (p : Pos) (k : List Todo) (s : State) (env : Env) (pc : ℕ) (m : Regs) → GiveAt code nl room p pc o → IsAt code nl room env k (pc + (option_size o + 1)) [] → Match code nl room [] s m → IsDone choices code nl room (returning p o k s) 0 pc m
-  give_sim None p k s env pc m h is ma = (1, first choices code nl room pc p (instr.Return None) m h 0 ∙ returns_so s.world s.used None p m ma.world ma.used)
-  give_sim (Some v) p k s env pc m h is ma =
+  return_stmt_sim : (o : Option expr.Value) (p : Pos) (k : List Todo) (s : State) (env : Env) (pc : ℕ) (m : Regs) → GiveAt code nl room p pc o → IsAt code nl room env k (pc + (option_size o + 1)) [] → Match code nl room [] s m → IsDone choices code nl room (return_value p o k s) 0 pc m
+  return_stmt_sim None p k s env pc m h is ma = (1, first choices code nl room pc p (instr.Return None) m h 0 ∙ returns_so s.world s.used None p m ma.world ma.used)
+  return_stmt_sim (Some v) p k s env pc m h is ma =
       let e : pc + (expr_size v + 1) ≡ pc + expr_size v + 1 = omega arith in
       still choices code nl room (ToEval v ∷ ToReturn p ∷ k) s pc m env []
       (eval_at choices code nl room v (ToReturn p ∷ k) env pc h.0 [] h.1 h.2 h.3 (tt, h.4, moved choices code nl room env k _ _ [] e is)) ma
@@ -218,8 +218,8 @@ module _ (choices : List Choice) (code : List Line) (nl room : ℕ) where
   -- ---- statements
 
   pub execute_sim : (a : stmt.Action) (k : List Todo) (s : State) (env : Env) (pc : ℕ) (ks : List Waiting) (m : Regs) → IsAt code nl room env (ToExec a ∷ k) pc ks → Match code nl room ks s m → IsDone choices code nl room (execute a k s) (jumps (ToExec a ∷ k)) pc m
-  execute_sim (stmt.block_of p ss q) k s env pc ks m h ma =
-      let own = declared (listed ss) in
+  execute_sim (stmt.block p ss q) k s env pc ks m h ma =
+      let own = block_locals (listed ss) in
       let n = length own in
       let r = unset_sim own pc [] s m h.1.0 (none_waits ks s m h.0 ma) in
       let e : pc + (n + stmts_size ss) ≡ pc + n + stmts_size ss = omega arith in
@@ -233,37 +233,37 @@ module _ (choices : List Choice) (code : List Line) (nl room : ℕ) where
         by = r.1;
         stands = (inner, [], (env, pc + n + stmts_size ss, refl, list, record { first = pc + n; list = list; breaks = refl; continues = refl; labels = λ l. refl }, moved choices code nl room env k _ _ [] e h.2), r.2);
       }
-  execute_sim (stmt.reach p rs) k s env pc ks m h ma =
-      still choices code nl room (ToReach rs ∷ k) s pc m env [] (refl, h.1, h.2) (none_waits ks s m h.0 ma)
-  execute_sim (stmt.evaluate p v) k s env pc ks m h ma =
-      still choices code nl room (started v k) s pc m env [] (started_at v k env pc h.1 h.2) (none_waits ks s m h.0 ma)
-  execute_sim (stmt.test p c a) k s env pc ks m h ma =
+  execute_sim (stmt.declare p rs) k s env pc ks m h ma =
+      still choices code nl room (ToDeclare rs ∷ k) s pc m env [] (refl, h.1, h.2) (none_waits ks s m h.0 ma)
+  execute_sim (stmt.do_expr p v) k s env pc ks m h ma =
+      still choices code nl room (evaluate_first v k) s pc m env [] (started_at v k env pc h.1 h.2) (none_waits ks s m h.0 ma)
+  execute_sim (stmt.if_only p c a) k s env pc ks m h ma =
       let end = pc + expr_size c + 1 + stmt_size a in
       let e : pc + (expr_size c + 1 + stmt_size a) ≡ end = omega arith in
       let z : end ≡ end + 0 = omega arith in
       let b = subst (λ x. Does code nl room (pc + expr_size c) (instr.Branch (var h.1.0.0) (at_label (pc + expr_size c + 1)) (at_label x))) z h.1.0.4 in
       still choices code nl room (ToEval c ∷ ToChoose a None ∷ k) s pc m env []
       (eval_at choices code nl room c (ToChoose a None ∷ k) env pc h.1.0.0 [] h.1.0.1 h.1.0.2 h.1.0.3 (end, tt, refl, b, h.1.1, tt, sym z, moved choices code nl room env k _ _ [] e h.2)) (none_waits ks s m h.0 ma)
-  execute_sim (stmt.test_else p c a b) k s env pc ks m h ma =
+  execute_sim (stmt.if_else p c a b) k s env pc ks m h ma =
       let end = pc + expr_size c + 1 + stmt_size a + 1 + stmt_size b in
       let e : pc + (expr_size c + 1 + stmt_size a + 1 + stmt_size b) ≡ end = omega arith in
       still choices code nl room (ToEval c ∷ ToChoose a (Some b) ∷ k) s pc m env []
       (eval_at choices code nl room c (ToChoose a (Some b) ∷ k) env pc h.1.0.0 [] h.1.0.1 h.1.0.2 h.1.0.3 (end, tt, refl, h.1.0.4, h.1.1, h.1.2, (h.1.3, refl), moved choices code nl room env k _ _ [] e h.2)) (none_waits ks s m h.0 ma)
-  execute_sim (stmt.repeat_while p c a) k s env pc ks m h ma =
+  execute_sim (stmt.while p c a) k s env pc ks m h ma =
       let e : pc + (expr_size c + 1 + stmt_size a + 1) ≡ pc + (expr_size c + 1) + stmt_size a + 0 + 1 = omega arith in
       let loop : LoopAt code nl room env pc (a_loop (Some c) None a) = (h.1.0, h.1.1, tt, h.1.2) in
       still choices code nl room (ToEval c ∷ ToTurn (a_loop (Some c) None a) ∷ k) s pc m env []
       (eval_at choices code nl room c (ToTurn (a_loop (Some c) None a) ∷ k) env pc h.1.0.0 [] h.1.0.1 h.1.0.2 h.1.0.3 (pc, tt, refl, h.1.0.4, loop, moved choices code nl room env k _ _ [] e h.2)) (none_waits ks s m h.0 ma)
-  execute_sim (stmt.repeat_until p a c) k s env pc ks m h ma =
+  execute_sim (stmt.do_while p a c) k s env pc ks m h ma =
       let e : pc + (1 + expr_size c + 1 + stmt_size a + 1) ≡ pc + 1 + (expr_size c + 1) + stmt_size a + 0 + 1 = omega arith in
       let loop : LoopAt code nl room env (pc + 1) (a_loop (Some c) None a) = (h.1.1, h.1.2, tt, h.1.3) in
       step_to (ToExec a ∷ ToAgain (a_loop (Some c) None a) ∷ k) s 0 pc m (loop_body (pc + 1) (Some c)) m (in_loop env (loop_again (pc + 1) (Some c) a) (loop_end (pc + 1) (Some c) a None)) (omega arith)
       (jump_step choices code nl room pc (loop_body (pc + 1) (Some c)) m h.1.0)
       (refl, h.1.2, (env, pc + 1, refl, loop, refl, refl, refl, λ l. refl, moved choices code nl room env k _ _ [] e h.2)) (none_waits ks s m h.0 ma)
-  execute_sim (stmt.repeat_for p rs u c b a) k s env pc ks m h ma =
+  execute_sim (stmt.for p rs u c b a) k s env pc ks m h ma =
       let r = unset_sim rs pc [] s m h.1.0 (none_waits ks s m h.0 ma) in
-      let head = pc + length rs + reach_size rs + option_size u in
-      let e : pc + (length rs + reach_size rs + option_size u + test_size c + stmt_size a + option_size b + 1) ≡ head + test_size c + stmt_size a + option_size b + 1 = omega arith in
+      let head = pc + length rs + declare_size rs + option_size u in
+      let e : pc + (length rs + declare_size rs + option_size u + test_size c + stmt_size a + option_size b + 1) ≡ head + test_size c + stmt_size a + option_size b + 1 = omega arith in
       let loop : LoopAt code nl room env head (a_loop c b a) = (h.1.3, h.1.4, h.1.5, h.1.6) in
       record {
         count = length rs;
@@ -271,27 +271,27 @@ module _ (choices : List Choice) (code : List Line) (nl room : ℕ) where
         place = pc + length rs;
         regs = r.0;
         by = r.1;
-        stands = (env, [], (refl, h.1.1, started_at u (ToTest (a_loop c b a) ∷ k) env (pc + length rs + reach_size rs) h.1.2 (refl, loop, moved choices code nl room env k _ _ [] e h.2)), r.2);
+        stands = (env, [], (refl, h.1.1, started_at u (ToTest (a_loop c b a) ∷ k) env (pc + length rs + declare_size rs) h.1.2 (refl, loop, moved choices code nl room env k _ _ [] e h.2)), r.2);
       }
-  execute_sim (stmt.switch_on p v (stmt.block_of q ss r)) k s env pc ks m h ma =
-      let size = length (declared (listed ss)) + 2 * length (block_cases (listed ss)) + 1 + stmts_size ss in
+  execute_sim (stmt.switch p v (stmt.block q ss r)) k s env pc ks m h ma =
+      let size = length (block_locals (listed ss)) + 2 * length (block_cases (listed ss)) + 1 + stmts_size ss in
       let e : pc + (expr_size v + size) ≡ pc + expr_size v + size = omega arith in
-      still choices code nl room (ToEval v ∷ ToSwitch p (stmt.block_of q ss r) ∷ k) s pc m env []
-      (eval_at choices code nl room v (ToSwitch p (stmt.block_of q ss r) ∷ k) env pc h.1.0 [] h.1.1 h.1.2 h.1.3 (tt, refl, (h.1.4, h.1.5, h.1.6), moved choices code nl room env k _ _ [] e h.2)) (none_waits ks s m h.0 ma)
-  execute_sim (stmt.switch_on p v a) k s env pc ks m h ma =
+      still choices code nl room (ToEval v ∷ ToSwitch p (stmt.block q ss r) ∷ k) s pc m env []
+      (eval_at choices code nl room v (ToSwitch p (stmt.block q ss r) ∷ k) env pc h.1.0 [] h.1.1 h.1.2 h.1.3 (tt, refl, (h.1.4, h.1.5, h.1.6), moved choices code nl room env k _ _ [] e h.2)) (none_waits ks s m h.0 ma)
+  execute_sim (stmt.switch p v a) k s env pc ks m h ma =
       let e : pc + (expr_size v + (1 + stmt_size a)) ≡ pc + expr_size v + (1 + stmt_size a) = omega arith in
       still choices code nl room (ToEval v ∷ ToSwitch p a ∷ k) s pc m env []
       (eval_at choices code nl room v (ToSwitch p a ∷ k) env pc h.1.0 [] h.1.1 h.1.2 h.1.3 (tt, refl, (h.1.4, h.1.5), moved choices code nl room env k _ _ [] e h.2)) (none_waits ks s m h.0 ma)
-  execute_sim (stmt.at_case p n a) k s env pc ks m h ma = still choices code nl room (ToExec a ∷ k) s pc m env [] (refl, h.1, h.2) (none_waits ks s m h.0 ma)
-  execute_sim (stmt.at_default p a) k s env pc ks m h ma = still choices code nl room (ToExec a ∷ k) s pc m env [] (refl, h.1, h.2) (none_waits ks s m h.0 ma)
-  execute_sim (stmt.at_label p l a) k s env pc ks m h ma = still choices code nl room (ToExec a ∷ k) s pc m env [] (refl, h.1, h.2) (none_waits ks s m h.0 ma)
-  execute_sim (stmt.jump p l) k s env pc ks m h ma =
+  execute_sim (stmt.case p n a) k s env pc ks m h ma = still choices code nl room (ToExec a ∷ k) s pc m env [] (refl, h.1, h.2) (none_waits ks s m h.0 ma)
+  execute_sim (stmt.default p a) k s env pc ks m h ma = still choices code nl room (ToExec a ∷ k) s pc m env [] (refl, h.1, h.2) (none_waits ks s m h.0 ma)
+  execute_sim (stmt.label p l a) k s env pc ks m h ma = still choices code nl room (ToExec a ∷ k) s pc m env [] (refl, h.1, h.2) (none_waits ks s m h.0 ma)
+  execute_sim (stmt.goto p l) k s env pc ks m h ma =
       let r = goto_leads code nl room l k env _ _ h.2 in
       step_to (from_label l k) s 1 pc m (env.labels l) m r.0 (omega arith) (jump_step choices code nl room pc (env.labels l) m h.1) r.1 (none_waits ks s m h.0 ma)
-  execute_sim (stmt.leave p) k s env pc ks m h ma =
+  execute_sim (stmt.break p) k s env pc ks m h ma =
       let r = break_leads code nl room k env _ _ h.2 in
       step_to (after_break k) s 0 pc m env.breaks m r.0 (omega arith) (jump_step choices code nl room pc env.breaks m h.1) r.1 (none_waits ks s m h.0 ma)
-  execute_sim (stmt.next_turn p) k s env pc ks m h ma =
+  execute_sim (stmt.continue p) k s env pc ks m h ma =
       let r = continue_leads code nl room k env _ _ h.2 in
       step_to (after_continue k) s 0 pc m env.continues m r.0 (omega arith) (jump_step choices code nl room pc env.continues m h.1) r.1 (none_waits ks s m h.0 ma)
-  execute_sim (stmt.give p v) k s env pc ks m h ma = give_sim v p k s env pc m h.1 h.2 (none_waits ks s m h.0 ma)
+  execute_sim (stmt.return p v) k s env pc ks m h ma = return_stmt_sim v p k s env pc m h.1 h.2 (none_waits ks s m h.0 ma)

@@ -11,9 +11,9 @@ use Rattle.pungi_world.specs.declared.world.World.{World}
 use Rattle.pungi_meaning.specs.declared.cmp.Cmp.TheVariants as cmps
 use Rattle.pungi_meaning.specs.Values.{is_equal, is_true, truth}
 use Rattle.pungi_meaning.specs.Todo.{Compared, Todo, ToSwitch, State, listed}
-use Rattle.pungi_meaning.specs.Stmts.{bears_case, is_default, cases_of, block_cases, looked_at, first_from, target, enter_at}
-use Rattle.pungi_meaning.specs.Run.{noted, act}
-use Rattle.pungi_meaning.specs.Work.{content_at, or_else, declared, unset_reached}
+use Rattle.pungi_meaning.specs.Stmts.{bears_case, is_default, cases_of, block_cases, case_comparisons, first_from, target, enter_at}
+use Rattle.pungi_meaning.specs.Run.{with_operations, act}
+use Rattle.pungi_meaning.specs.Work.{content_at, or_else, block_locals, unset_locals}
 use Rattle.pungi_code.specs.declared.atom.Atom.TheVariants as atom
 use Rattle.pungi_code.specs.declared.code.Line.{Line}
 use Rattle.pungi_code.specs.Registers.{Regs, put}
@@ -58,11 +58,11 @@ case_by true c pc n = refl
 case_by false c pc n = refl
 
 pub bears_first : (a : stmt.Action) (v : Value) (pc : ℕ) (others : List (ℤ × ℕ)) (other : ℕ) → first_place v (placed_cases pc (cases_of a) ++ others) other ≡ (if bears_case v a then pc else first_place v others other)
-bears_first (stmt.at_case p n a) v pc others other =
+bears_first (stmt.case p n a) v pc others other =
     ap (λ x. if is_equal v (value.Int n) then pc else x) (bears_first a v pc others other)
     ∙ case_by (is_equal v (value.Int n)) (bears_case v a) pc (first_place v others other)
-bears_first (stmt.at_default p a) v pc others other = bears_first a v pc others other
-bears_first (stmt.at_label p l a) v pc others other = bears_first a v pc others other
+bears_first (stmt.default p a) v pc others other = bears_first a v pc others other
+bears_first (stmt.label p l a) v pc others other = bears_first a v pc others other
 bears_first a v pc others other = refl
 
 module _ (choices : List Choice) (code : List Line) (nl room : ℕ) where
@@ -105,13 +105,13 @@ module _ (choices : List Choice) (code : List Line) (nl room : ℕ) where
   pub record Compares (p : Pos) (v : Value) (cs : List (ℤ × ℕ)) (to pc : ℕ) (ks : List Waiting) (s : State) (m : Regs) : Type 0 where
     pub count : ℕ
     pub regs : Regs
-    pub by : (j : ℕ) → exec choices code (ahead count j) pc m ≡ noted (looked_at p v (numbers cs)) (exec choices code j to regs)
+    pub by : (j : ℕ) → exec choices code (ahead count j) pc m ≡ with_operations (case_comparisons p v (numbers cs)) (exec choices code j to regs)
     pub matches : Match code nl room ks s regs
 
-  compared_by : (b : Bool) (p : Pos) (v : Value) (c : ℤ × ℕ) (cs : List (ℤ × ℕ)) (other pc : ℕ) (ks : List Waiting) (s : State) (m q : Regs) → ((j : ℕ) → exec choices code (suc (suc j)) pc m ≡ noted (Compared p cmps.Equal v (value.Int c.0) ∷ []) (exec choices code j (if b then c.1 else pc + 2) q)) → Match code nl room ks s q → Compares p v cs (first_place v cs other) (pc + 2) ks s q → (r : ℕ × Regs) × ((j : ℕ) → exec choices code (ahead r.0 j) pc m ≡ noted (Compared p cmps.Equal v (value.Int c.0) ∷ (if b then [] else looked_at p v (numbers cs))) (exec choices code j (if b then c.1 else first_place v cs other) r.1)) × Match code nl room ks s r.1
+  compared_by : (b : Bool) (p : Pos) (v : Value) (c : ℤ × ℕ) (cs : List (ℤ × ℕ)) (other pc : ℕ) (ks : List Waiting) (s : State) (m q : Regs) → ((j : ℕ) → exec choices code (suc (suc j)) pc m ≡ with_operations (Compared p cmps.Equal v (value.Int c.0) ∷ []) (exec choices code j (if b then c.1 else pc + 2) q)) → Match code nl room ks s q → Compares p v cs (first_place v cs other) (pc + 2) ks s q → (r : ℕ × Regs) × ((j : ℕ) → exec choices code (ahead r.0 j) pc m ≡ with_operations (Compared p cmps.Equal v (value.Int c.0) ∷ (if b then [] else case_comparisons p v (numbers cs))) (exec choices code j (if b then c.1 else first_place v cs other) r.1)) × Match code nl room ks s r.1
   compared_by true p v c cs other pc ks s m q e ma g = ((2, q), e, ma)
   compared_by false p v c cs other pc ks s m q e ma g =
-      ((suc (suc g.count), g.regs), λ j. e (ahead g.count j) ∙ ap (noted (Compared p cmps.Equal v (value.Int c.0) ∷ [])) (g.by j), g.matches)
+      ((suc (suc g.count), g.regs), λ j. e (ahead g.count j) ∙ ap (with_operations (Compared p cmps.Equal v (value.Int c.0) ∷ [])) (g.by j), g.matches)
 
   true_of : (b : Bool) → is_true (truth b) ≡ b
   true_of true = refl
@@ -129,7 +129,7 @@ module _ (choices : List Choice) (code : List Line) (nl room : ℕ) where
       let g = compares cs p a y other (pc + 2) v s q h.2 at vs ma' (still_holds s q v vs ma') in
       let r = compared_by b p v c cs other pc (a ∷ []) s m q
       (λ j. compare_step choices code nl room pc p y cmps.Equal (var a.var) (atom.Int c.0) m v (value.Int c.0) h.0 e refl (suc j)
-      ∙ ap (noted (Compared p cmps.Equal v (value.Int c.0) ∷ [])) (branch_step choices code nl room (pc + 1) y c.1 (pc + 2) q (truth b) h.1 here j ∙ ap (λ x. exec choices code j (if x then c.1 else pc + 2) q) (true_of b))) ma' g in
+      ∙ ap (with_operations (Compared p cmps.Equal v (value.Int c.0) ∷ [])) (branch_step choices code nl room (pc + 1) y c.1 (pc + 2) q (truth b) h.1 here j ∙ ap (λ x. exec choices code j (if x then c.1 else pc + 2) q) (true_of b))) ma' g in
       record { count = r.0.0; regs = r.0.1; by = r.1; matches = r.2 }
     where
       still_holds : (s : State) (q : Regs) (v : Value) → s.values ≡ v ∷ [] → Match code nl room (a ∷ []) s q → content_at q.vars a.var ≡ Holds v
@@ -154,9 +154,9 @@ module _ (choices : List Choice) (code : List Line) (nl room : ℕ) where
   switch_sim p a k x u l [] env pc (q ∷ ks) m h ma = absurd ma.stack
   switch_sim p a k x u l (v ∷ vs) env pc (q ∷ q2 ∷ ks) m h ma = absurd (let z : q2 ∷ ks ≡ [] = h.1 in cc)
   switch_sim p a k x u l (v ∷ w2 ∷ vs) env pc (q ∷ []) m h ma = absurd ma.stack.3
-  switch_sim p (stmt.block_of t ss r) k x u l (v ∷ []) env pc (q ∷ []) m h ma =
+  switch_sim p (stmt.block t ss r) k x u l (v ∷ []) env pc (q ∷ []) m h ma =
       let list = listed ss in
-      let own = declared list in
+      let own = block_locals list in
       let n = length own in
       let first = switch_first pc n ss in
       let end = first + stmts_size ss in
@@ -164,7 +164,7 @@ module _ (choices : List Choice) (code : List Line) (nl room : ℕ) where
       let other = label_or (list_default first list) end in
       let cs = list_cases first list in
       let z = unset_sim choices code nl room own pc (q ∷ []) (st x u l (v ∷ [])) m h.2.0 ma in
-      let s' = st x u (unset_reached own l) (v ∷ []) in
+      let s' = st x u (unset_locals own l) (v ∷ []) in
       let g = compares cs p q h.2.1.0 other (pc + n) v s' z.0 h.2.1.2 h.2.1.1 refl z.2 z.2.stack.0 in
       let here = list_at choices code nl room ss inner first h.2.2 in
       let f = found_or (first_from (bears_case v) 0 list) (first_from is_default 0 list) inner list end (first_place v cs other) other (find_case v list list 0 first end other inner refl here) (find_default list list 0 first end inner refl here) in
@@ -179,7 +179,7 @@ module _ (choices : List Choice) (code : List Line) (nl room : ℕ) where
             ap (λ i. exec choices code i pc m) (ahead_sum n g.count j)
             ∙ z.1 (ahead g.count j)
             ∙ g.by j
-            ∙ ap (λ os. noted (looked_at p v os) (exec choices code j (first_place v cs other) g.regs)) (list_numbers list first);
+            ∙ ap (λ os. with_operations (case_comparisons p v os) (exec choices code j (first_place v cs other) g.regs)) (list_numbers list first);
         stands = (at.0, [], at.1, popped code nl room (q ∷ []) s' g.regs [] [] g.matches tt);
       }
   switch_sim p a k x u l (v ∷ []) env pc (q ∷ []) m h ma =

@@ -10,7 +10,7 @@ use Rattle.pungi_api.specs.declared.param.Param.{Param}
 use Rattle.pungi_api.specs.declared.param.Param.TheVariants as param
 use Rattle.pungi_types.specs.Operators.{is_void}
 use Rattle.pungi_resolved.specs.Functions.{ResolvedFunction}
-use Rattle.pungi_meaning.specs.Run.{closing}
+use Rattle.pungi_meaning.specs.Run.{closing_brace}
 use Rattle.pungi_code.specs.declared.code.Code.{Code}
 use Rattle.pungi_code.specs.declared.code.Head.{Head}
 use Rattle.pungi_code.specs.declared.code.Line.{Line}
@@ -29,7 +29,7 @@ use Rattle.pungi_layout.specs.code.Sound.{stmt_nodes}
 use Rattle.pungi_layout.specs.kinds.Typed.{IsHeld, IsStmtTyped}
 use Rattle.pungi_layout.specs.code.Calls.{has_no_call}
 use Rattle.pungi_layout.specs.code.FunctionCode.{code_of, HasLocals}
-use Rattle.pungi_layout.specs.code.VarKinds.{held_kind, kind_held, stmt_reached, temp_kinds, var_kinds}
+use Rattle.pungi_layout.specs.code.VarKinds.{held_kind, kind_held, stmt_declared, temp_kinds, var_kinds}
 use Rattle.pungi_layout.proofs.well_formed.Instructions.{column_kind, AreFine, fine_append, le_true, or_true_left, or_true_right}
 use Rattle.pungi_layout.proofs.well_formed.Both.{and_true}
 use Rattle.pungi_layout.proofs.well_formed.Stmts.{stmt_fine}
@@ -44,7 +44,7 @@ temps_long : (n : ℕ) → length (temp_kinds n) ≡ 5 * n
 temps_long zero = refl
 temps_long (suc n) = let h = temps_long n in omega (arith, h)
 
--- the variables of a level stand behind those of the levels below it
+-- the variables of a level stand after those of the levels below it
 temp_in : (n d c : ℕ) → d < n → c ≤ 4 → get_or (temp_kinds n) (5 * d + c) param.ModuleDef ≡ column_kind c
 temp_in zero d c h k = absurd (omega (arith, h))
 temp_in (suc n) zero zero h k = refl
@@ -59,19 +59,19 @@ temp_in (suc n) (suc d) c h k =
 
 -- what stands in front of the temporaries
 front : ResolvedFunction → List Param
-front f = map held_kind f.params ++ map kind_held (stmt_reached f.body)
+front f = map held_kind f.params ++ map kind_held (stmt_declared f.body)
 
 front_long : (f : ResolvedFunction) → HasLocals f → length (front f) ≡ f.locals
 unfolding front
 front_long f h =
-    let a = length-append (map held_kind f.params) (map kind_held (stmt_reached f.body)) in
+    let a = length-append (map held_kind f.params) (map kind_held (stmt_declared f.body)) in
     let b = map_long held_kind f.params in
-    let c = map_long kind_held (stmt_reached f.body) in
+    let c = map_long kind_held (stmt_declared f.body) in
     omega (arith, a, b, c, h)
 
 vars_are : (f : ResolvedFunction) → var_kinds f ≡ front f ++ temp_kinds (stmt_nodes f.body)
 unfolding front
-vars_are f = sym (append_assoc (map held_kind f.params) (map kind_held (stmt_reached f.body)) (temp_kinds (stmt_nodes f.body)))
+vars_are f = sym (append_assoc (map held_kind f.params) (map kind_held (stmt_declared f.body)) (temp_kinds (stmt_nodes f.body)))
 
 pub vars_long : (f : ResolvedFunction) → HasLocals f → length (var_kinds f) ≡ f.locals + 5 * stmt_nodes f.body
 vars_long f h =
@@ -101,7 +101,7 @@ end_fine : (code : Code) (p : Pos) (v : Bool) → AreFine code (end_code p v)
 end_fine code p true = (refl, tt)
 end_fine code p false = (refl, tt)
 
--- only the last instruction has none behind it
+-- only the last instruction has none after it
 line_in : (ls : List Line) (i : ℕ) (l : Line) → slice_get ls i ≡ Some l → i < length ls
 line_in [] i l e = absurd (cc)
 line_in (x ∷ ls) zero l e = omega arith
@@ -224,10 +224,10 @@ body_fine : (file : List Item) (f : ResolvedFunction) → HasLocals f → IsStmt
 body_fine file f h t c n =
     let size = stmt_size f.body in
     let l = body-long f in
-    fine_append (code_of f) (stmt_code f.locals (everywhere size) 0 f.body) (end_code (closing f.body) (is_void f.result))
+    fine_append (code_of f) (stmt_code f.locals (everywhere size) 0 f.body) (end_code (closing_brace f.body) (is_void f.result))
     (stmt_fine file (code_of f) f.locals (stmt_nodes f.body) (temp_held f h) (omega (arith, n)) f.body (everywhere size) 0 (omega arith) (omega (arith, l))
     (record { breaks = omega (arith, l); continues = omega (arith, l); labels = λ x. omega (arith, l) }) t c)
-    (end_fine (code_of f) (closing f.body) (is_void f.result))
+    (end_fine (code_of f) (closing_brace f.body) (is_void f.result))
 
 -- a function whose parts are of the kinds that they need, that calls none of the file, and that is within the limits, has well-formed code
 pub well-formed : (file : List Item) (f : ResolvedFunction) → HasLocals f → IsStmtTyped file (var_kinds f) f.body → has_no_call f.body ≡ true → f.locals ≤ 32 → stmt_nodes f.body ≤ 12288 → stmt_size f.body + 1 ≤ 16384
@@ -243,6 +243,6 @@ well-formed file f h t c locals n size =
       vars = omega (arith, v, locals, n);
       few = omega (arith, l, size);
       sound = λ i x e. at_fine (code_of f) (body_code f) fine i x e;
-      last = λ i x e k. last_ends (stmt_code f.locals (everywhere (stmt_size f.body)) 0 f.body) (closing f.body) (is_void f.result) i x e k;
+      last = λ i x e k. last_ends (stmt_code f.locals (everywhere (stmt_size f.body)) 0 f.body) (closing_brace f.body) (is_void f.result) i x e k;
       back = λ i x e. back_fine f i x e;
     }

@@ -18,16 +18,16 @@ use Rattle.pungi_layout.specs.code.Sound.{stmt_nodes}
 use Rattle.pungi_layout.specs.kinds.Typed.{IsStmtTyped, AreStmtsTyped}
 
 -- .. sizes
-pub switch_is : (p : Pos) (v : expr.Value) (a : stmt.Action) → stmt_size (stmt.switch_on p v a) ≡ expr_size v + switch_size a
-switch_is p v (stmt.block_of q ss r) = refl
+pub switch_is : (p : Pos) (v : expr.Value) (a : stmt.Action) → stmt_size (stmt.switch p v a) ≡ expr_size v + switch_size a
+switch_is p v (stmt.block q ss r) = refl
 switch_is p v a = refl
 
 pub switch_more : (a : stmt.Action) → 1 + stmt_size a ≤ switch_size a
-switch_more (stmt.block_of q ss r) = omega arith
+switch_more (stmt.block q ss r) = omega arith
 switch_more a = omega arith
 
 pub some_stmt : (a : stmt.Action) → 1 ≤ stmt_nodes a
-some_stmt (stmt.block_of p ss q) = omega arith
+some_stmt (stmt.block p ss q) = omega arith
 some_stmt _ = omega arith
 
 -- .. places
@@ -45,31 +45,31 @@ label_in end None m h k = k
 label_in end (Some x) m h k = h
 
 stmt_label_in : (end : ℕ) (l : Name) (pc : ℕ) (a : stmt.Action) → pc + stmt_size a < end → IsIn end (stmt_label l pc a)
-stmt_label_in end l pc (stmt.at_label p w a) h =
+stmt_label_in end l pc (stmt.label p w a) h =
     elim (w.0 == l.0) as (λ b. IsIn end (if b then Some pc else stmt_label l pc a)) [
       | true ↦ omega (arith, h)
       | false ↦ stmt_label_in end l pc a h
     ]
-stmt_label_in end l pc (stmt.at_case p i a) h = stmt_label_in end l pc a h
-stmt_label_in end l pc (stmt.at_default p a) h = stmt_label_in end l pc a h
-stmt_label_in end l pc (stmt.test p c a) h = stmt_label_in end l (pc + expr_size c + 1) a (omega (arith, h))
-stmt_label_in end l pc (stmt.test_else p c a b) h =
+stmt_label_in end l pc (stmt.case p i a) h = stmt_label_in end l pc a h
+stmt_label_in end l pc (stmt.default p a) h = stmt_label_in end l pc a h
+stmt_label_in end l pc (stmt.if_only p c a) h = stmt_label_in end l (pc + expr_size c + 1) a (omega (arith, h))
+stmt_label_in end l pc (stmt.if_else p c a b) h =
     either_in end (stmt_label l (pc + expr_size c + 1) a) _ (stmt_label_in end l (pc + expr_size c + 1) a (omega (arith, h)))
     (stmt_label_in end l (pc + expr_size c + 1 + stmt_size a + 1) b (omega (arith, h)))
-stmt_label_in end l pc (stmt.repeat_while p c a) h = stmt_label_in end l (pc + test_size (Some c)) a (omega (arith, h))
-stmt_label_in end l pc (stmt.repeat_until p a c) h = stmt_label_in end l (pc + 1 + test_size (Some c)) a (omega (arith, h))
-stmt_label_in end l pc (stmt.repeat_for p rs u c w a) h = stmt_label_in end l (for_head pc rs u + test_size c) a (omega (arith, h))
-stmt_label_in end l pc (stmt.switch_on p v a) h =
+stmt_label_in end l pc (stmt.while p c a) h = stmt_label_in end l (pc + test_size (Some c)) a (omega (arith, h))
+stmt_label_in end l pc (stmt.do_while p a c) h = stmt_label_in end l (pc + 1 + test_size (Some c)) a (omega (arith, h))
+stmt_label_in end l pc (stmt.for p rs u c w a) h = stmt_label_in end l (for_head pc rs u + test_size c) a (omega (arith, h))
+stmt_label_in end l pc (stmt.switch p v a) h =
     let e = switch_is p v a in
     let m = switch_more a in
     stmt_label_in end l (pc + expr_size v + 1) a (omega (arith, h, e, m))
-stmt_label_in end l pc (stmt.block_of p ss q) h = tt
-stmt_label_in end l pc (stmt.reach p rs) h = tt
-stmt_label_in end l pc (stmt.evaluate p v) h = tt
-stmt_label_in end l pc (stmt.jump p w) h = tt
-stmt_label_in end l pc (stmt.leave p) h = tt
-stmt_label_in end l pc (stmt.next_turn p) h = tt
-stmt_label_in end l pc (stmt.give p v) h = tt
+stmt_label_in end l pc (stmt.block p ss q) h = tt
+stmt_label_in end l pc (stmt.declare p rs) h = tt
+stmt_label_in end l pc (stmt.do_expr p v) h = tt
+stmt_label_in end l pc (stmt.goto p w) h = tt
+stmt_label_in end l pc (stmt.break p) h = tt
+stmt_label_in end l pc (stmt.continue p) h = tt
+stmt_label_in end l pc (stmt.return p v) h = tt
 
 list_label_in : (end : ℕ) (l : Name) (pc : ℕ) (ss : stmt.Actions) → pc + stmts_size ss < end → IsIn end (list_label l pc (listed ss))
 list_label_in end l pc stmt.no_actions h = tt
@@ -106,9 +106,9 @@ cases_append end (c ∷ as') bs h k = (h.0, h.1, cases_append end as' bs h.2 k)
 
 module _ (file : List Item) (vars : List Param) where
   own_cases : (end pc : ℕ) (a : stmt.Action) → pc < end → IsStmtTyped file vars a → CasesIn end (placed_cases pc (cases_of a))
-  own_cases end pc (stmt.at_case p i a) h k = (k.0, h, own_cases end pc a h k.1)
-  own_cases end pc (stmt.at_default p a) h k = own_cases end pc a h k
-  own_cases end pc (stmt.at_label p l a) h k = own_cases end pc a h k
+  own_cases end pc (stmt.case p i a) h k = (k.0, h, own_cases end pc a h k.1)
+  own_cases end pc (stmt.default p a) h k = own_cases end pc a h k
+  own_cases end pc (stmt.label p l a) h k = own_cases end pc a h k
   own_cases end pc _ h k = tt
 
   pub list_cases_in : (end pc : ℕ) (ss : stmt.Actions) → pc + stmts_size ss < end → AreStmtsTyped file vars ss → CasesIn end (list_cases pc (listed ss))

@@ -15,9 +15,9 @@ use Rattle.pungi_resolved.specs.Actions as stmt
 use Rattle.pungi_resolved.specs.Functions.{ResolvedFunction}
 use Rattle.pungi_meaning.specs.Values.{wide, slot_kind}
 use Rattle.pungi_meaning.specs.Exprs.{is_and}
-use Rattle.pungi_meaning.specs.Run.{closing}
+use Rattle.pungi_meaning.specs.Run.{closing_brace}
 use Rattle.pungi_meaning.specs.Stmts.{block_cases}
-use Rattle.pungi_meaning.specs.Work.{declared}
+use Rattle.pungi_meaning.specs.Work.{block_locals}
 use Rattle.pungi_meaning.specs.Todo.{listed}
 use Rattle.pungi_code.specs.declared.code.Line.{Line}
 use Rattle.pungi_code.specs.declared.instr.Instr.TheVariants.{Fit}
@@ -26,12 +26,12 @@ use Rattle.pungi_code.specs.declared.place.Place.TheVariants.{Global, Field}
 use Rattle.pungi_code.specs.WellFormed.{wanted_params, place_kind, place_of, is_same_slot, HaveOneKind, AgreeOnKinds}
 use Rattle.pungi_layout.proofs.well_formed.Both.{and_left, and_right}
 use Rattle.pungi_layout.specs.code.Parts.{is_minus}
-use Rattle.pungi_layout.specs.code.Sizes.{expr_size, place_size, option_size, reach_size, test_size, stmt_size, stmts_size}
+use Rattle.pungi_layout.specs.code.Sizes.{expr_size, place_size, option_size, declare_size, test_size, stmt_size, stmts_size}
 use Rattle.pungi_layout.specs.code.Temporaries.{column, temp, temp_of, value_column, operand, local_column, tail, arg_var}
 use Rattle.pungi_layout.specs.code.ExprCode.{line, to_var, var, branch_on, fit_code, old_code, store_code, above, stored_var, counted_var, base_var, sign_code, sign_var, step_code, expr_code, base_code, args_code}
 use Rattle.pungi_layout.specs.code.Scopes.{Env, everywhere, for_head, list_cases, in_block, in_loop, in_switch}
-use Rattle.pungi_layout.specs.code.StmtCode.{unset_code, value_code, option_code, bind_code, reach_code, test_code, tested_code, case_code, stmt_code, stmts_code, end_code, body_code}
-use Rattle.pungi_layout.specs.kinds.Typed.{IsTyped, IsPlaceTyped, AreTyped, IsOptionTyped, IsReachedTyped, AreReachedTyped, IsStmtTyped, AreStmtsTyped}
+use Rattle.pungi_layout.specs.code.StmtCode.{unset_code, value_code, option_code, bind_code, declare_code, test_code, tested_code, case_code, stmt_code, stmts_code, end_code, body_code}
+use Rattle.pungi_layout.specs.kinds.Typed.{IsTyped, IsPlaceTyped, AreTyped, IsOptionTyped, IsDeclaredTyped, AreDeclaredTyped, IsStmtTyped, AreStmtsTyped}
 use Rattle.pungi_layout.specs.code.FunctionCode.{code_of}
 
 -- .. slots of a file
@@ -180,7 +180,7 @@ module _ (file : List Item) (vars : List Param) (nl : ℕ) where
         joins (expr_code nl d (arg_var nl d qs v) pc v) _ (expr_slots v d (arg_var nl d qs v) pc h.1) (args_slots vs (d + 1) (pc + expr_size v) (tail qs) ps h.2)
 
   -- .. statements
-  unset_slots : (p : Pos) (rs : List stmt.Reached) → AreOf file (unset_code p rs)
+  unset_slots : (p : Pos) (rs : List stmt.DeclaredLocal) → AreOf file (unset_code p rs)
   unset_slots p [] = tt
   unset_slots p (r ∷ rs) = (tt, unset_slots p rs)
 
@@ -191,15 +191,15 @@ module _ (file : List Item) (vars : List Param) (nl : ℕ) where
   option_slots None pc h = tt
   option_slots (Some v) pc h = value_slots v pc h
 
-  bind_slots : (pc : ℕ) (p : Pos) (x : ℕ) (kind : Option ValueKind) (v : Option expr.Value) → IsReachedTyped file vars x kind v → AreOf file (bind_code nl pc p x kind v)
+  bind_slots : (pc : ℕ) (p : Pos) (x : ℕ) (kind : Option ValueKind) (v : Option expr.Value) → IsDeclaredTyped file vars x kind v → AreOf file (bind_code nl pc p x kind v)
   bind_slots pc p x None v h = absurd h
   bind_slots pc p x (Some kind) None h = (tt, tt)
   bind_slots pc p x (Some kind) (Some v) h =
       joins (expr_code nl 0 (operand nl 0 (local_column (Some kind)) v) pc v) _ (expr_slots v 0 (operand nl 0 (local_column (Some kind)) v) pc h.2.1) (tt, tt)
 
-  reach_slots : (rs : List stmt.Reached) (pc : ℕ) → AreReachedTyped file vars rs → AreOf file (reach_code nl pc rs)
-  reach_slots [] pc h = tt
-  reach_slots (r ∷ rs) pc h = joins (bind_code nl pc r.at r.number r.kind r.value) _ (bind_slots pc r.at r.number r.kind r.value h.0) (reach_slots rs (pc + option_size r.value + 1) h.1)
+  declare_slots : (rs : List stmt.DeclaredLocal) (pc : ℕ) → AreDeclaredTyped file vars rs → AreOf file (declare_code nl pc rs)
+  declare_slots [] pc h = tt
+  declare_slots (r ∷ rs) pc h = joins (bind_code nl pc r.at r.number r.kind r.value) _ (bind_slots pc r.at r.number r.kind r.value h.0) (declare_slots rs (pc + option_size r.value + 1) h.1)
 
   test_slots : (p : Pos) (c : expr.Value) (pc go other : ℕ) → IsTyped file vars c → AreOf file (test_code p nl pc c go other)
   test_slots p c pc go other h = joins (value_code nl pc c) _ (value_slots c pc h) (tt, tt)
@@ -214,56 +214,56 @@ module _ (file : List Item) (vars : List Param) (nl : ℕ) where
 
   mutual
     pub stmt_slots : (a : stmt.Action) (env : Env) (pc : ℕ) → IsStmtTyped file vars a → AreOf file (stmt_code nl env pc a)
-    stmt_slots (stmt.block_of p ss q) env pc h =
-        joins (unset_code p (declared (listed ss))) _ (unset_slots p (declared (listed ss))) (stmts_slots ss (in_block env (pc + length (declared (listed ss))) (listed ss)) (pc + length (declared (listed ss))) h)
-    stmt_slots (stmt.reach p rs) env pc h = reach_slots rs pc h
-    stmt_slots (stmt.evaluate p v) env pc h = option_slots v pc h
-    stmt_slots (stmt.test p c a) env pc h =
+    stmt_slots (stmt.block p ss q) env pc h =
+        joins (unset_code p (block_locals (listed ss))) _ (unset_slots p (block_locals (listed ss))) (stmts_slots ss (in_block env (pc + length (block_locals (listed ss))) (listed ss)) (pc + length (block_locals (listed ss))) h)
+    stmt_slots (stmt.declare p rs) env pc h = declare_slots rs pc h
+    stmt_slots (stmt.do_expr p v) env pc h = option_slots v pc h
+    stmt_slots (stmt.if_only p c a) env pc h =
         joins (test_code p nl pc c (pc + expr_size c + 1) (pc + expr_size c + 1 + stmt_size a)) _ (test_slots p c pc (pc + expr_size c + 1) (pc + expr_size c + 1 + stmt_size a) h.0) (stmt_slots a env (pc + expr_size c + 1) h.1)
-    stmt_slots (stmt.test_else p c a b) env pc h =
+    stmt_slots (stmt.if_else p c a b) env pc h =
         joins (test_code p nl pc c (pc + expr_size c + 1) (pc + expr_size c + 1 + stmt_size a + 1)) _ (test_slots p c pc (pc + expr_size c + 1) (pc + expr_size c + 1 + stmt_size a + 1) h.0)
         (joins (stmt_code nl env (pc + expr_size c + 1) a) _ (stmt_slots a env (pc + expr_size c + 1) h.1) (tt, stmt_slots b env (pc + expr_size c + 1 + stmt_size a + 1) h.2))
-    stmt_slots (stmt.repeat_while p c a) env pc h =
+    stmt_slots (stmt.while p c a) env pc h =
         let from = pc + (expr_size c + 1) in
         let end = from + stmt_size a + 0 + 1 in
         joins (test_code p nl pc c from end) _ (test_slots p c pc from end h.0)
         (joins (stmt_code nl (in_loop env (from + stmt_size a) end) from a) _ (stmt_slots a (in_loop env (from + stmt_size a) end) from h.1) (tt, tt))
-    stmt_slots (stmt.repeat_until p a c) env pc h =
+    stmt_slots (stmt.do_while p a c) env pc h =
         let from = pc + 1 + (expr_size c + 1) in
         let end = from + stmt_size a + 0 + 1 in (
           tt,
           joins (test_code p nl (pc + 1) c from end) _ (test_slots p c (pc + 1) from end h.0)
               (joins (stmt_code nl (in_loop env (from + stmt_size a) end) from a) _ (stmt_slots a (in_loop env (from + stmt_size a) end) from h.1) (tt, tt)),
         )
-    stmt_slots (stmt.repeat_for p rs u c w a) env pc h =
+    stmt_slots (stmt.for p rs u c w a) env pc h =
         let head = for_head pc rs u in
         let go = head + test_size c in
         let again = head + test_size c + stmt_size a in
         let end = head + test_size c + stmt_size a + option_size w + 1 in
         joins (unset_code p rs) _ (unset_slots p rs)
-        (joins (reach_code nl (pc + length rs) rs) _ (reach_slots rs (pc + length rs) h.0)
-        (joins (option_code nl (pc + length rs + reach_size rs) u) _ (option_slots u (pc + length rs + reach_size rs) h.1)
+        (joins (declare_code nl (pc + length rs) rs) _ (declare_slots rs (pc + length rs) h.0)
+        (joins (option_code nl (pc + length rs + declare_size rs) u) _ (option_slots u (pc + length rs + declare_size rs) h.1)
         (joins (tested_code p nl head c go end) _ (tested_slots p c head go end h.2)
         (joins (stmt_code nl (in_loop env again end) go a) _ (stmt_slots a (in_loop env again end) go h.4)
         (joins (option_code nl again w) _ (option_slots w again h.3) (tt, tt))))))
-    stmt_slots (stmt.switch_on p v (stmt.block_of q ss r)) env pc h =
-        let count = length (declared (listed ss)) in
+    stmt_slots (stmt.switch p v (stmt.block q ss r)) env pc h =
+        let count = length (block_locals (listed ss)) in
         let first = pc + expr_size v + count + 2 * length (block_cases (listed ss)) + 1 in
         let inner = in_switch env (first + stmts_size ss) in
         joins (value_code nl pc v) _ (value_slots v pc h.1)
-        (joins (unset_code p (declared (listed ss))) _ (unset_slots p (declared (listed ss)))
+        (joins (unset_code p (block_locals (listed ss))) _ (unset_slots p (block_locals (listed ss)))
         (joins (case_code p (temp_of nl 0 v) (temp nl 1 0) (pc + expr_size v + count) (list_cases first (listed ss))) _ (case_slots p (temp_of nl 0 v) (temp nl 1 0) (list_cases first (listed ss)) (pc + expr_size v + count))
         (tt, stmts_slots ss (in_block inner first (listed ss)) first h.2)))
-    stmt_slots (stmt.switch_on p v a) env pc h =
+    stmt_slots (stmt.switch p v a) env pc h =
         joins (value_code nl pc v) _ (value_slots v pc h.1) (tt, stmt_slots a (in_switch env (pc + expr_size v + 1 + stmt_size a)) (pc + expr_size v + 1) h.2)
-    stmt_slots (stmt.at_case p i a) env pc h = stmt_slots a env pc h.1
-    stmt_slots (stmt.at_default p a) env pc h = stmt_slots a env pc h
-    stmt_slots (stmt.at_label p l a) env pc h = stmt_slots a env pc h
-    stmt_slots (stmt.jump p l) env pc h = (tt, tt)
-    stmt_slots (stmt.leave p) env pc h = (tt, tt)
-    stmt_slots (stmt.next_turn p) env pc h = (tt, tt)
-    stmt_slots (stmt.give p None) env pc h = (tt, tt)
-    stmt_slots (stmt.give p (Some v)) env pc h = joins (value_code nl pc v) _ (value_slots v pc h) (tt, tt)
+    stmt_slots (stmt.case p i a) env pc h = stmt_slots a env pc h.1
+    stmt_slots (stmt.default p a) env pc h = stmt_slots a env pc h
+    stmt_slots (stmt.label p l a) env pc h = stmt_slots a env pc h
+    stmt_slots (stmt.goto p l) env pc h = (tt, tt)
+    stmt_slots (stmt.break p) env pc h = (tt, tt)
+    stmt_slots (stmt.continue p) env pc h = (tt, tt)
+    stmt_slots (stmt.return p None) env pc h = (tt, tt)
+    stmt_slots (stmt.return p (Some v)) env pc h = joins (value_code nl pc v) _ (value_slots v pc h) (tt, tt)
 
     stmts_slots : (ss : stmt.Actions) (env : Env) (pc : ℕ) → AreStmtsTyped file vars ss → AreOf file (stmts_code nl env pc ss)
     stmts_slots stmt.no_actions env pc h = tt
@@ -281,7 +281,7 @@ module _ (file : List Item) (vars : List Param) (nl : ℕ) where
 -- the instructions of a function of the file
 pub body_slots : (file : List Item) (vars : List Param) (f : ResolvedFunction) → IsStmtTyped file vars f.body → AreOf file (body_code f)
 body_slots file vars f h =
-    joins file vars f.locals (stmt_code f.locals (everywhere (stmt_size f.body)) 0 f.body) _ (stmt_slots file vars f.locals f.body (everywhere (stmt_size f.body)) 0 h) (end_slots file vars f.locals (closing f.body) (is_void f.result))
+    joins file vars f.locals (stmt_code f.locals (everywhere (stmt_size f.body)) 0 f.body) _ (stmt_slots file vars f.locals f.body (everywhere (stmt_size f.body)) 0 h) (end_slots file vars f.locals (closing_brace f.body) (is_void f.result))
 
 -- two functions of a file name each slot with one kind
 pub codes-agree : (file : List Item) (us vs : List Param) (f g : ResolvedFunction) → IsStmtTyped file us f.body → IsStmtTyped file vs g.body → AgreeOnKinds (code_of f) (code_of g)

@@ -12,20 +12,20 @@ use Rattle.pungi_resolved.specs.Actions as stmt
 use Rattle.pungi_meaning.specs.declared.cmp.Cmp.TheVariants as cmps
 use Rattle.pungi_meaning.specs.Values.{slot_kind}
 use Rattle.pungi_meaning.specs.Stmts.{block_cases}
-use Rattle.pungi_meaning.specs.Work.{declared, declared_by}
+use Rattle.pungi_meaning.specs.Work.{block_locals, action_locals}
 use Rattle.pungi_meaning.specs.Todo.{listed}
 use Rattle.pungi_code.specs.declared.atom.Atom.TheVariants as atom
 use Rattle.pungi_code.specs.declared.code.Code.{Code}
 use Rattle.pungi_code.specs.declared.code.Line.{Line}
 use Rattle.pungi_code.specs.WellFormed.{is_integer, is_wide}
 use Rattle.pungi_layout.proofs.well_formed.Both.{and_left, and_right}
-use Rattle.pungi_layout.specs.code.Sizes.{expr_size, option_size, reach_size, test_size, stmt_size, stmts_size}
+use Rattle.pungi_layout.specs.code.Sizes.{expr_size, option_size, declare_size, test_size, stmt_size, stmts_size}
 use Rattle.pungi_layout.specs.code.Temporaries.{temp, value_column, temp_of, operand, local_column}
 use Rattle.pungi_layout.specs.code.ExprCode.{var, expr_code}
 use Rattle.pungi_layout.specs.code.Scopes.{Env, label_or, for_head, list_cases, list_default, in_block, in_loop, in_switch}
-use Rattle.pungi_layout.specs.code.StmtCode.{unset_code, value_code, option_code, bind_code, reach_code, test_code, tested_code, case_code, stmt_code, stmts_code}
-use Rattle.pungi_layout.specs.code.Sound.{expr_nodes, option_nodes, reach_nodes, stmt_nodes, stmts_nodes}
-use Rattle.pungi_layout.specs.kinds.Typed.{is_kept, GoesIn, IsHeld, IsTyped, IsOptionTyped, IsReachedTyped, AreReachedTyped, IsStmtTyped, AreStmtsTyped}
+use Rattle.pungi_layout.specs.code.StmtCode.{unset_code, value_code, option_code, bind_code, declare_code, test_code, tested_code, case_code, stmt_code, stmts_code}
+use Rattle.pungi_layout.specs.code.Sound.{expr_nodes, option_nodes, declare_nodes, stmt_nodes, stmts_nodes}
+use Rattle.pungi_layout.specs.kinds.Typed.{is_kept, GoesIn, IsHeld, IsTyped, IsOptionTyped, IsDeclaredTyped, AreDeclaredTyped, IsStmtTyped, AreStmtsTyped}
 use Rattle.pungi_layout.specs.code.Calls.{calls_none, is_free_option, are_free_locals, has_no_call, have_no_call}
 use Rattle.pungi_layout.proofs.well_formed.Instructions.{column_kind, number_kind, integer_wide, lt_true, var_atom, number_atom, set_fine, compare_fine, label_fine, condition_fine, branch_fine, tested_fine, numbers_compared, AreFine, fine_append}
 use Rattle.pungi_layout.proofs.well_formed.Columns.{number_wide, value_low, some_nodes}
@@ -41,31 +41,31 @@ module _ (file : List Item) (code : Code) (nl n : ℕ) (temps : (d c : ℕ) → 
   joins a b f g = fine_append code a b f g
 
   -- .. locals
-  abbrev AreThere : List stmt.Reached → Type 0
+  abbrev AreThere : List stmt.DeclaredLocal → Type 0
   AreThere [] = Unit {0}
   AreThere (r ∷ rs) = (r.number < length code.vars) × AreThere rs
 
-  one_there : (x : ℕ) (k : Option ValueKind) (v : Option expr.Value) → IsReachedTyped file code.vars x k v → x < length code.vars
+  one_there : (x : ℕ) (k : Option ValueKind) (v : Option expr.Value) → IsDeclaredTyped file code.vars x k v → x < length code.vars
   one_there x None v h = absurd h
   one_there x (Some k) v h = h.1.0
 
-  all_there : (rs : List stmt.Reached) → AreReachedTyped file code.vars rs → AreThere rs
+  all_there : (rs : List stmt.DeclaredLocal) → AreDeclaredTyped file code.vars rs → AreThere rs
   all_there [] h = tt
   all_there (r ∷ rs) h = (one_there r.number r.kind r.value h.0, all_there rs h.1)
 
-  there_append : (rs qs : List stmt.Reached) → AreThere rs → AreThere qs → AreThere (rs ++ qs)
+  there_append : (rs qs : List stmt.DeclaredLocal) → AreThere rs → AreThere qs → AreThere (rs ++ qs)
   there_append [] qs h k = k
   there_append (r ∷ rs) qs h k = (h.0, there_append rs qs h.1 k)
 
-  own_there : (a : stmt.Action) → IsStmtTyped file code.vars a → AreThere (declared_by a)
-  own_there (stmt.reach p rs) h = all_there rs h
+  own_there : (a : stmt.Action) → IsStmtTyped file code.vars a → AreThere (action_locals a)
+  own_there (stmt.declare p rs) h = all_there rs h
   own_there _ h = tt
 
-  declared_there : (ss : stmt.Actions) → AreStmtsTyped file code.vars ss → AreThere (declared (listed ss))
+  declared_there : (ss : stmt.Actions) → AreStmtsTyped file code.vars ss → AreThere (block_locals (listed ss))
   declared_there stmt.no_actions h = tt
-  declared_there (stmt.action_and a ss) h = there_append (declared_by a) (declared (listed ss)) (own_there a h.0) (declared_there ss h.1)
+  declared_there (stmt.action_and a ss) h = there_append (action_locals a) (block_locals (listed ss)) (own_there a h.0) (declared_there ss h.1)
 
-  unset_fine : (p : Pos) (rs : List stmt.Reached) → AreThere rs → IsFine (unset_code p rs)
+  unset_fine : (p : Pos) (rs : List stmt.DeclaredLocal) → AreThere rs → IsFine (unset_code p rs)
   unset_fine p [] h = tt
   unset_fine p (r ∷ rs) h = (lt_true r.number (length code.vars) h.0, unset_fine p rs h.1)
 
@@ -87,7 +87,7 @@ module _ (file : List Item) (code : Code) (nl n : ℕ) (temps : (d c : ℕ) → 
   bound kinds.Null v lt k g = absurd (cc)
   bound kinds.Void v lt k g = absurd (cc)
 
-  bind_fine : (pc : ℕ) (p : Pos) (x : ℕ) (kind : Option ValueKind) (v : Option expr.Value) → 0 < n → option_nodes v ≤ n → pc + option_size v + 1 < length code.instrs → IsReachedTyped file code.vars x kind v → is_free_option v ≡ true
+  bind_fine : (pc : ℕ) (p : Pos) (x : ℕ) (kind : Option ValueKind) (v : Option expr.Value) → 0 < n → option_nodes v ≤ n → pc + option_size v + 1 < length code.instrs → IsDeclaredTyped file code.vars x kind v → is_free_option v ≡ true
       → IsFine (bind_code nl pc p x kind v)
   bind_fine pc p x None v lt le at h f = absurd h
   bind_fine pc p x (Some kind) None lt le at h f = (lt_true x (length code.vars) h.1.0, tt)
@@ -97,11 +97,11 @@ module _ (file : List Item) (code : Code) (nl n : ℕ) (temps : (d c : ℕ) → 
       joins (expr_code nl 0 t pc v) _ (expr_fine file code nl n temps few v 0 t pc b.held_kind (omega (arith, le)) (omega (arith, at)) b.held b.goes h.2.1 f)
       (set_fine code x (slot_kind kind) (var t) h.1 (var_atom code t b.held_kind (slot_kind kind) b.held b.wide), tt)
 
-  reach_fine : (rs : List stmt.Reached) (pc : ℕ) → 0 < n → reach_nodes rs ≤ n → pc + reach_size rs < length code.instrs → AreReachedTyped file code.vars rs → are_free_locals rs ≡ true → IsFine (reach_code nl pc rs)
-  reach_fine [] pc lt le at h f = tt
-  reach_fine (r ∷ rs) pc lt le at h f =
+  declare_fine : (rs : List stmt.DeclaredLocal) (pc : ℕ) → 0 < n → declare_nodes rs ≤ n → pc + declare_size rs < length code.instrs → AreDeclaredTyped file code.vars rs → are_free_locals rs ≡ true → IsFine (declare_code nl pc rs)
+  declare_fine [] pc lt le at h f = tt
+  declare_fine (r ∷ rs) pc lt le at h f =
       joins (bind_code nl pc r.at r.number r.kind r.value) _ (bind_fine pc r.at r.number r.kind r.value lt (omega (arith, le)) (omega (arith, at)) h.0 (and_left (is_free_option r.value) (are_free_locals rs) f))
-      (reach_fine rs (pc + option_size r.value + 1) lt (omega (arith, le)) (omega (arith, at)) h.1 (and_right (is_free_option r.value) (are_free_locals rs) f))
+      (declare_fine rs (pc + option_size r.value + 1) lt (omega (arith, le)) (omega (arith, at)) h.1 (and_right (is_free_option r.value) (are_free_locals rs) f))
 
   -- .. values
   value_fine : (v : expr.Value) (pc : ℕ) → expr_nodes v ≤ n → pc + expr_size v < length code.instrs → IsTyped file code.vars v → calls_none v ≡ true → IsFine (value_code nl pc v)
@@ -151,17 +151,17 @@ module _ (file : List Item) (code : Code) (nl n : ℕ) (temps : (d c : ℕ) → 
   mutual
     pub stmt_fine : (a : stmt.Action) (env : Env) (pc : ℕ) → stmt_nodes a ≤ n → pc + stmt_size a < length code.instrs → EnvIn (length code.instrs) env → IsStmtTyped file code.vars a → has_no_call a ≡ true
         → IsFine (stmt_code nl env pc a)
-    stmt_fine (stmt.block_of p ss q) env pc le at e h f =
-        let from = pc + length (declared (listed ss)) in
-        joins (unset_code p (declared (listed ss))) _ (unset_fine p (declared (listed ss)) (declared_there ss h))
+    stmt_fine (stmt.block p ss q) env pc le at e h f =
+        let from = pc + length (block_locals (listed ss)) in
+        joins (unset_code p (block_locals (listed ss))) _ (unset_fine p (block_locals (listed ss)) (declared_there ss h))
         (stmts_fine ss (in_block env from (listed ss)) from (omega (arith, le)) (omega (arith, at)) (block_in (length code.instrs) env from ss (omega (arith, at)) e) h f)
-    stmt_fine (stmt.reach p rs) env pc le at e h f = reach_fine rs pc (omega (arith, le)) (omega (arith, le)) at h f
-    stmt_fine (stmt.evaluate p v) env pc le at e h f = option_fine v pc (omega (arith, le)) at h f
-    stmt_fine (stmt.test p c a) env pc le at e h f =
+    stmt_fine (stmt.declare p rs) env pc le at e h f = declare_fine rs pc (omega (arith, le)) (omega (arith, le)) at h f
+    stmt_fine (stmt.do_expr p v) env pc le at e h f = option_fine v pc (omega (arith, le)) at h f
+    stmt_fine (stmt.if_only p c a) env pc le at e h f =
         joins (test_code p nl pc c (pc + expr_size c + 1) (pc + expr_size c + 1 + stmt_size a)) _
         (test_fine p c pc (pc + expr_size c + 1) (pc + expr_size c + 1 + stmt_size a) (omega (arith, le)) (omega (arith, at)) (omega (arith, at)) (omega (arith, at)) h.0 (and_left (calls_none c) (has_no_call a) f))
         (stmt_fine a env (pc + expr_size c + 1) (omega (arith, le)) (omega (arith, at)) e h.1 (and_right (calls_none c) (has_no_call a) f))
-    stmt_fine (stmt.test_else p c a b) env pc le at e h f =
+    stmt_fine (stmt.if_else p c a b) env pc le at e h f =
         let g = and_right (calls_none c) (has_no_call a && has_no_call b) f in
         joins (test_code p nl pc c (pc + expr_size c + 1) (pc + expr_size c + 1 + stmt_size a + 1)) _
         (test_fine p c pc (pc + expr_size c + 1) (pc + expr_size c + 1 + stmt_size a + 1) (omega (arith, le)) (omega (arith, at)) (omega (arith, at)) (omega (arith, at)) h.0 (and_left (calls_none c) (has_no_call a && has_no_call b) f))
@@ -169,7 +169,7 @@ module _ (file : List Item) (code : Code) (nl n : ℕ) (temps : (d c : ℕ) → 
           label_fine code (pc + expr_size c + 1 + stmt_size a + 1 + stmt_size b) (omega (arith, at)),
           stmt_fine b env (pc + expr_size c + 1 + stmt_size a + 1) (omega (arith, le)) (omega (arith, at)) e h.2 (and_right (has_no_call a) (has_no_call b) g),
         ))
-    stmt_fine (stmt.repeat_while p c a) env pc le at e h f =
+    stmt_fine (stmt.while p c a) env pc le at e h f =
         let from = pc + (expr_size c + 1) in
         let again = from + stmt_size a in
         let end = from + stmt_size a + 0 + 1 in
@@ -178,7 +178,7 @@ module _ (file : List Item) (code : Code) (nl n : ℕ) (temps : (d c : ℕ) → 
         (joins (stmt_code nl (in_loop env again end) from a) _
         (stmt_fine a (in_loop env again end) from (omega (arith, le)) (omega (arith, at)) (loop_in env again end (omega (arith, at)) (omega (arith, at)) e) h.1 (and_right (calls_none c) (has_no_call a) f))
         (label_fine code pc (omega (arith, at)), tt))
-    stmt_fine (stmt.repeat_until p a c) env pc le at e h f =
+    stmt_fine (stmt.do_while p a c) env pc le at e h f =
         let from = pc + 1 + (expr_size c + 1) in
         let again = from + stmt_size a in
         let end = from + stmt_size a + 0 + 1 in (
@@ -189,7 +189,7 @@ module _ (file : List Item) (code : Code) (nl n : ℕ) (temps : (d c : ℕ) → 
               (stmt_fine a (in_loop env again end) from (omega (arith, le)) (omega (arith, at)) (loop_in env again end (omega (arith, at)) (omega (arith, at)) e) h.1 (and_right (calls_none c) (has_no_call a) f))
               (label_fine code (pc + 1) (omega (arith, at)), tt)),
         )
-    stmt_fine (stmt.repeat_for p rs u c w a) env pc le at e h f =
+    stmt_fine (stmt.for p rs u c w a) env pc le at e h f =
         let head = for_head pc rs u in
         let go = head + test_size c in
         let again = head + test_size c + stmt_size a in
@@ -199,15 +199,15 @@ module _ (file : List Item) (code : Code) (nl n : ℕ) (temps : (d c : ℕ) → 
         let f2 = and_right (is_free_option u) _ f1 in
         let f3 = and_right (is_free_option c) _ f2 in
         joins (unset_code p rs) _ (unset_fine p rs (all_there rs h.0))
-        (joins (reach_code nl (pc + length rs) rs) _ (reach_fine rs (pc + length rs) (omega (arith, le)) (omega (arith, le)) (omega (arith, at)) h.0 (and_left (are_free_locals rs) (is_free_option u && (is_free_option c && (is_free_option w && has_no_call a))) f))
-        (joins (option_code nl (pc + length rs + reach_size rs) u) _ (option_fine u (pc + length rs + reach_size rs) (omega (arith, le)) (omega (arith, at)) h.1 (and_left (is_free_option u) (is_free_option c && (is_free_option w && has_no_call a)) f1))
+        (joins (declare_code nl (pc + length rs) rs) _ (declare_fine rs (pc + length rs) (omega (arith, le)) (omega (arith, le)) (omega (arith, at)) h.0 (and_left (are_free_locals rs) (is_free_option u && (is_free_option c && (is_free_option w && has_no_call a))) f))
+        (joins (option_code nl (pc + length rs + declare_size rs) u) _ (option_fine u (pc + length rs + declare_size rs) (omega (arith, le)) (omega (arith, at)) h.1 (and_left (is_free_option u) (is_free_option c && (is_free_option w && has_no_call a)) f1))
         (joins (tested_code p nl head c go end) _ (tested_option p c head go end (omega (arith, le)) (omega (arith, at, tested)) (omega (arith, at)) (omega (arith, at)) h.2 (and_left (is_free_option c) (is_free_option w && has_no_call a) f2))
         (joins (stmt_code nl (in_loop env again end) go a) _
         (stmt_fine a (in_loop env again end) go (omega (arith, le)) (omega (arith, at)) (loop_in env again end (omega (arith, at)) (omega (arith, at)) e) h.4 (and_right (is_free_option w) (has_no_call a) f3))
         (joins (option_code nl again w) _ (option_fine w again (omega (arith, le)) (omega (arith, at)) h.3 (and_left (is_free_option w) (has_no_call a) f3))
         (label_fine code head (omega (arith, at)), tt))))))
-    stmt_fine (stmt.switch_on p v (stmt.block_of q ss r)) env pc le at e h f =
-        let count = length (declared (listed ss)) in
+    stmt_fine (stmt.switch p v (stmt.block q ss r)) env pc le at e h f =
+        let count = length (block_locals (listed ss)) in
         let first = pc + expr_size v + count + 2 * length (block_cases (listed ss)) + 1 in
         let end = first + stmts_size ss in
         let o = some_nodes v in
@@ -215,27 +215,27 @@ module _ (file : List Item) (code : Code) (nl n : ℕ) (temps : (d c : ℕ) → 
         let place = label_or (list_default first (listed ss)) end in
         let long = cases_long (listed ss) first in
         joins (value_code nl pc v) _ (value_fine v pc (omega (arith, le)) (omega (arith, at)) h.1 (and_left (calls_none v) (have_no_call ss) f))
-        (joins (unset_code p (declared (listed ss))) _ (unset_fine p (declared (listed ss)) (declared_there ss h.2))
+        (joins (unset_code p (block_locals (listed ss))) _ (unset_fine p (block_locals (listed ss)) (declared_there ss h.2))
         (joins (case_code p (temp_of nl 0 v) (temp nl 1 0) (pc + expr_size v + count) (list_cases first (listed ss))) _
         (case_fine p (temp_of nl 0 v) (temp nl 1 0) (column_kind (value_column v)) (list_cases first (listed ss)) (pc + expr_size v + count) (temps 1 0 (omega (arith, le, o)) (omega arith)) (own_held file code nl n temps few 0 v (omega (arith, le, o))) (number_kind (value_column v) h.0)
         (omega (arith, at, long)) (list_cases_in file code.vars (length code.instrs) first ss (omega (arith, at)) h.2)) (
           label_fine code place (label_in (length code.instrs) (list_default first (listed ss)) end (default_in (length code.instrs) first ss (omega (arith, at))) (omega (arith, at))),
           stmts_fine ss (in_block inner first (listed ss)) first (omega (arith, le)) (omega (arith, at)) (block_in (length code.instrs) inner first ss (omega (arith, at)) (switch_in env end (omega (arith, at)) e)) h.2 (and_right (calls_none v) (have_no_call ss) f),
         )))
-    stmt_fine (stmt.switch_on p v a) env pc le at e h f =
+    stmt_fine (stmt.switch p v a) env pc le at e h f =
         let end = pc + expr_size v + 1 + stmt_size a in
         joins (value_code nl pc v) _ (value_fine v pc (omega (arith, le)) (omega (arith, at)) h.1 (and_left (calls_none v) (has_no_call a) f)) (
           label_fine code end (omega (arith, at)),
           stmt_fine a (in_switch env end) (pc + expr_size v + 1) (omega (arith, le)) (omega (arith, at)) (switch_in env end (omega (arith, at)) e) h.2 (and_right (calls_none v) (has_no_call a) f),
         )
-    stmt_fine (stmt.at_case p i a) env pc le at e h f = stmt_fine a env pc (omega (arith, le)) at e h.1 f
-    stmt_fine (stmt.at_default p a) env pc le at e h f = stmt_fine a env pc (omega (arith, le)) at e h f
-    stmt_fine (stmt.at_label p l a) env pc le at e h f = stmt_fine a env pc (omega (arith, le)) at e h f
-    stmt_fine (stmt.jump p l) env pc le at e h f = (label_fine code (env.labels l) (e.labels l), tt)
-    stmt_fine (stmt.leave p) env pc le at e h f = (label_fine code env.breaks e.breaks, tt)
-    stmt_fine (stmt.next_turn p) env pc le at e h f = (label_fine code env.continues e.continues, tt)
-    stmt_fine (stmt.give p None) env pc le at e h f = (refl, tt)
-    stmt_fine (stmt.give p (Some v)) env pc le at e h f =
+    stmt_fine (stmt.case p i a) env pc le at e h f = stmt_fine a env pc (omega (arith, le)) at e h.1 f
+    stmt_fine (stmt.default p a) env pc le at e h f = stmt_fine a env pc (omega (arith, le)) at e h f
+    stmt_fine (stmt.label p l a) env pc le at e h f = stmt_fine a env pc (omega (arith, le)) at e h f
+    stmt_fine (stmt.goto p l) env pc le at e h f = (label_fine code (env.labels l) (e.labels l), tt)
+    stmt_fine (stmt.break p) env pc le at e h f = (label_fine code env.breaks e.breaks, tt)
+    stmt_fine (stmt.continue p) env pc le at e h f = (label_fine code env.continues e.continues, tt)
+    stmt_fine (stmt.return p None) env pc le at e h f = (refl, tt)
+    stmt_fine (stmt.return p (Some v)) env pc le at e h f =
         let o = some_nodes v in
         joins (value_code nl pc v) _ (value_fine v pc (omega (arith, le)) (omega (arith, at)) h f)
         (condition_fine code (temp_of nl 0 v) (column_kind (value_column v)) (own_held file code nl n temps few 0 v (omega (arith, le, o))) (tested_fine code (value_column v) (value_low v)), tt)

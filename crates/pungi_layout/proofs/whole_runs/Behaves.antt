@@ -8,7 +8,7 @@ use Rattle.pungi_types.specs.Operators.{is_void}
 use Rattle.pungi_resolved.specs.Functions.{ResolvedFunction}
 use Rattle.pungi_world.specs.declared.content.Content.{Content}
 use Rattle.pungi_world.specs.declared.content.Content.TheVariants.{Unset, Holds}
-use Rattle.pungi_meaning.specs.Run.{closing, start, body_of}
+use Rattle.pungi_meaning.specs.Run.{closing_brace, start, body_of}
 use Rattle.pungi_meaning.specs.Work.{content_at}
 use Rattle.pungi_code.specs.declared.code.Line.{Line}
 use Rattle.pungi_layout.specs.code.Sizes.{stmt_size}
@@ -37,7 +37,7 @@ unset_long : (n : ℕ) → length (replicate n Unset) ≡ n
 unset_long zero = refl
 unset_long (suc n) = ap suc (unset_long n)
 
--- unset variables behind the same ones
+-- unset variables after the same ones
 same_unset : (m n x : ℕ) → content_at (replicate m Unset) x ≡ content_at (replicate n Unset) x
 same_unset m n x = is_unset m x ∙ sym (is_unset n x)
   where
@@ -68,7 +68,7 @@ module _ (f : ResolvedFunction) (most : ℕ) (s : IsStmtSound (f.locals) f.body)
       let size = stmt_size f.body in
       let body = stmt_code nl (everywhere size) 0 f.body in
       let h = has_all code [] in
-      let g = has_cut code 0 size body (end_code (closing f.body) (is_void f.result)) (stmt_long f.body nl (everywhere size) 0) h in
+      let g = has_cut code 0 size body (end_code (closing_brace f.body) (is_void f.result)) (stmt_long f.body nl (everywhere size) 0) h in
       let z : 0 + size ≡ size = omega arith in
       let e : size ≡ 0 + size = omega arith in (
         everywhere size,
@@ -76,7 +76,7 @@ module _ (f : ResolvedFunction) (most : ℕ) (s : IsStmtSound (f.locals) f.body)
         (
           refl,
           stmt_placed code nl room f.body (everywhere size) 0 (omega arith) s g.0,
-          (refl, e, e, λ l. e, end_placed (is_void f.result) code nl room (0 + size) (closing f.body) g.1),
+          (refl, e, e, λ l. e, end_placed (is_void f.result) code nl room (0 + size) (closing_brace f.body) g.1),
         ),
         record {
           world = refl;

@@ -27,13 +27,13 @@ use Rattle.pungi_world.specs.Calls.{call_effect}
 use Rattle.pungi_meaning.specs.declared.op.Op.{Op}
 use Rattle.pungi_meaning.specs.declared.op.Op.TheVariants as ops
 use Rattle.pungi_meaning.specs.Values.{op_of, fits, is_true, arithmetic, number_of, slot_kind, wide}
-use Rattle.pungi_meaning.specs.Todo.{Loop, Operation, Fitted, Todo, ToEval, ToLoad, ToOld, ToKeep, ToStep, ToMinus, ToCompute, ToFit, ToCompare, ToNot, ToRight, ToTruth, ToPick, ToStore, ToPop, ToArgs, ToExec, ToForget, ToReach, ToBind, ToChoose, ToJoin, ToRest, ToTest, ToTurn, ToAgain, ToBack, ToSwitch, ToSwitchEnd, ToReturn, ToEnd, State, Step, Goes, Returns, Stops, Wants, listed, listed_values}
-use Rattle.pungi_meaning.specs.Exprs.{before, read_local, load_slot, load_field, loaded, old, store_slot, store_field, store, stored, converting, signing, stepping, computed, is_wanted, called, call, next_arg, evaluate}
-use Rattle.pungi_meaning.specs.Jumps.{a_loop, entered, entered_among, found_or, from_label, after_break, after_continue}
-use Rattle.pungi_meaning.specs.Stmts.{reach_value, others, tested_by, turn, started, target, enter_at, switch, returning, next_stmt, execute}
+use Rattle.pungi_meaning.specs.Todo.{Loop, Operation, Fitted, Todo, ToEval, ToLoad, ToOld, ToKeep, ToStep, ToMinus, ToCompute, ToFit, ToCompare, ToNot, ToRight, ToTruth, ToPick, ToStore, ToPop, ToArgs, ToExec, ToForget, ToDeclare, ToBind, ToChoose, ToJoin, ToRest, ToTest, ToTurn, ToAgain, ToBack, ToSwitch, ToSwitchEnd, ToReturn, ToEnd, State, Step, Goes, Returns, Stops, Wants, listed, listed_values}
+use Rattle.pungi_meaning.specs.Exprs.{base_first, read_local, load_slot, load_field, after_load, load_old, store_slot, store_field, store, after_store, convert, sign, step, after_arithmetic, is_wanted, after_call, call, next_arg, evaluate}
+use Rattle.pungi_meaning.specs.Jumps.{a_loop, enter, enter_among, found_or, from_label, after_break, after_continue}
+use Rattle.pungi_meaning.specs.Stmts.{declare_value, else_part, test_loop_by, turn, evaluate_first, target, enter_at, switch, return_value, next_stmt, execute}
 use Rattle.pungi_meaning.specs.Run.{at_end, act}
-use Rattle.pungi_meaning.specs.Work.{instead, for_two, top, below, newest, unused, content_at, reacting, or_else, shape_of, taken}
-use Rattle.pungi_layout.specs.alike.Weights.{expr_weight, place_weight, values_weight, args_weight, option_weight, bind_weight, reach_weight, again_weight, turn_weight, tested_weight, stmt_weight, stmts_weight, list_weight, loop_weight, switch_weight, other_weight, weight}
+use Rattle.pungi_meaning.specs.Work.{replace_value, replace_two, top, below, newest, unused, content_at, after_effect, or_else, shape_of, pop_value}
+use Rattle.pungi_layout.specs.alike.Weights.{expr_weight, place_weight, values_weight, args_weight, option_weight, bind_weight, declare_weight, again_weight, turn_weight, tested_weight, stmt_weight, stmts_weight, list_weight, loop_weight, switch_weight, other_weight, weight}
 use Rattle.pungi_layout.proofs.simulation.Calls.{IsNext, is_next}
 use Rattle.pungi_layout.proofs.relation.Jumps.{drop_next}
 use Rattle.pungi_layout.proofs.simulation.Stmts.{jumps}
@@ -74,14 +74,14 @@ module _ (most : ℕ) where
   read_light Unset p n k s le h = tt
   read_light (Holds v) p n k s le h = (le, h)
 
-  react_light : (r : Result (Effect × World) Halt) (p : Pos) (n : ℕ) (go : Effect → State → Step) (s : State) → ((e : Effect) (s' : State) → Leaves n (go e s')) → Leaves n (reacting p r go s)
+  react_light : (r : Result (Effect × World) Halt) (p : Pos) (n : ℕ) (go : Effect → State → Step) (s : State) → ((e : Effect) (s' : State) → Leaves n (go e s')) → Leaves n (after_effect p r go s)
   react_light (Ok r) p n go s next = next r.0 _
   react_light (Err halt.Stopped) p n go s next = tt
   react_light (Err halt.NeedsChoice) p n go s next = tt
   react_light (Err halt.Memory) p n go s next = tt
 
   load_light : (choices : List Choice) (p : Pos) (kind : ValueKind) (s' : Slot) (n : ℕ) (k : List Todo) (s : State) → weight k + 1 ≤ n → AreLight k → Leaves n (load_slot choices p kind s' k s)
-  load_light choices p kind s' n k s le h = react_light (load_effect s.world s' (slot_kind kind) (unused choices s)) p n (loaded p s' k) s (λ e q. (le, h))
+  load_light choices p kind s' n k s le h = react_light (load_effect s.world s' (slot_kind kind) (unused choices s)) p n (after_load p s' k) s (λ e q. (le, h))
 
   field_light : (v : Value) (choices : List Choice) (p : Pos) (kind : ValueKind) (tag field : Name) (n : ℕ) (k : List Todo) (s : State) → weight k + 1 ≤ n → AreLight k → Leaves n (load_field choices p kind v tag field k s)
   field_light (value.Object o) choices p kind tag field n k s le h = load_light choices p kind (slot.Field o tag field) n k s le h
@@ -89,14 +89,14 @@ module _ (most : ℕ) where
   field_light value.Null choices p kind tag field n k s le h = tt
   field_light value.Text choices p kind tag field n k s le h = tt
 
-  old_light : (place : expr.Place) (choices : List Choice) (kind : ValueKind) (n : ℕ) (k : List Todo) (s : State) → weight k + 1 ≤ n → AreLight k → Leaves n (old choices kind place k s)
+  old_light : (place : expr.Place) (choices : List Choice) (kind : ValueKind) (n : ℕ) (k : List Todo) (s : State) → weight k + 1 ≤ n → AreLight k → Leaves n (load_old choices kind place k s)
   old_light (expr.local_place p x) choices kind n k s le h = read_light (content_at s.locals x) p n k s le h
   old_light (expr.global_place p x) choices kind n k s le h = load_light choices p kind (slot.Global x) n k s le h
   old_light (expr.field_place p base tag field) choices kind n k s le h = field_light (top s.values) choices p kind tag field n k s le h
   old_light expr.no_place choices kind n k s le h = (le, h)
 
   store_slot_light : (choices : List Choice) (p : Pos) (kind : ValueKind) (s' : Slot) (v : Value) (vs : List Value) (n : ℕ) (k : List Todo) (s : State) → weight k + 1 ≤ n → AreLight k → Leaves n (store_slot choices p kind s' v vs k s)
-  store_slot_light choices p kind s' v vs n k s le h = react_light (store_effect s.world s' (slot_kind kind) v (unused choices s)) p n (stored p s' v vs k) s (λ e q. (le, h))
+  store_slot_light choices p kind s' v vs n k s le h = react_light (store_effect s.world s' (slot_kind kind) v (unused choices s)) p n (after_store p s' v vs k) s (λ e q. (le, h))
 
   store_field_light : (b : Value) (choices : List Choice) (p : Pos) (kind : ValueKind) (tag field : Name) (v : Value) (vs : List Value) (n : ℕ) (k : List Todo) (s : State) → weight k + 1 ≤ n → AreLight k → Leaves n (store_field choices p kind b tag field v vs k s)
   store_field_light (value.Object o) choices p kind tag field v vs n k s le h = store_slot_light choices p kind (slot.Field o tag field) v vs n k s le h
@@ -112,7 +112,7 @@ module _ (most : ℕ) where
 
   -- ---- operators
 
-  computed_light : (r : Option ℤ) (p : Pos) (o : Op) (kind : ValueKind) (a b : ℤ) (go : List Operation → Value → List Todo → State → Step) (n : ℕ) (k : List Todo) (s : State) → ((os : List Operation) (v : Value) → Leaves n (go os v k s)) → Leaves n (computed p o kind a b r go k s)
+  computed_light : (r : Option ℤ) (p : Pos) (o : Op) (kind : ValueKind) (a b : ℤ) (go : List Operation → Value → List Todo → State → Step) (n : ℕ) (k : List Todo) (s : State) → ((os : List Operation) (v : Value) → Leaves n (go os v k s)) → Leaves n (after_arithmetic p o kind a b r go k s)
   computed_light None p o kind a b go n k s next = tt
   computed_light (Some i) p o kind a b go n k s next = next _ _
 
@@ -120,11 +120,11 @@ module _ (most : ℕ) where
   fit_light true p kind i n k s le h = (le, h)
   fit_light false p kind i n k s le h = tt
 
-  right_light : (c : Bool) (b : expr.Value) (n : ℕ) (k : List Todo) (s : State) → expr_weight b + 2 + weight k ≤ n → AreLight k → Leaves n (taken (if c then ToEval b ∷ ToTruth ∷ k else k) s)
+  right_light : (c : Bool) (b : expr.Value) (n : ℕ) (k : List Todo) (s : State) → expr_weight b + 2 + weight k ≤ n → AreLight k → Leaves n (pop_value (if c then ToEval b ∷ ToTruth ∷ k else k) s)
   right_light true b n k s le h = (omega (arith, le), (tt, (tt, h)))
   right_light false b n k s le h = (omega (arith, le), h)
 
-  pick_light : (c : Bool) (a b : expr.Value) (n : ℕ) (k : List Todo) (s : State) → expr_weight a + expr_weight b + 2 + weight k ≤ n → AreLight k → Leaves n (taken (ToEval (if c then a else b) ∷ ToJoin ∷ k) s)
+  pick_light : (c : Bool) (a b : expr.Value) (n : ℕ) (k : List Todo) (s : State) → expr_weight a + expr_weight b + 2 + weight k ≤ n → AreLight k → Leaves n (pop_value (ToEval (if c then a else b) ∷ ToJoin ∷ k) s)
   pick_light true a b n k s le h = (omega (arith, le), (tt, (tt, h)))
   pick_light false a b n k s le h = (omega (arith, le), (tt, (tt, h)))
 
@@ -133,17 +133,17 @@ module _ (most : ℕ) where
   convert_light true p to k h = (omega arith, h)
   convert_light false p to k h = (omega arith, (tt, h))
 
-  signing_light : (p : Pos) (m : Kind) (kind : ValueKind) (k : List Todo) → AreLight k → (weight (signing p m kind k) ≤ weight k + 1) × AreLight (signing p m kind k)
+  signing_light : (p : Pos) (m : Kind) (kind : ValueKind) (k : List Todo) → AreLight k → (weight (sign p m kind k) ≤ weight k + 1) × AreLight (sign p m kind k)
   signing_light p (tokens.Punct puncts.Minus) kind k h = (omega arith, (tt, h))
   signing_light p m kind k h = (omega arith, h)
 
-  before_light : (place : expr.Place) (k : List Todo) → AreLight k → (weight (before place k) ≤ place_weight place + weight k) × AreLight (before place k)
+  before_light : (place : expr.Place) (k : List Todo) → AreLight k → (weight (base_first place k) ≤ place_weight place + weight k) × AreLight (base_first place k)
   before_light (expr.local_place p x) k h = (omega arith, h)
   before_light (expr.global_place p x) k h = (omega arith, h)
   before_light (expr.field_place p base tag field) k h = (omega arith, (tt, h))
   before_light expr.no_place k h = (omega arith, h)
 
-  stepping_light : (p : Pos) (m : Kind) (kind : ValueKind) (place : expr.Place) (k : List Todo) → AreLight k → (weight (stepping p m kind place k) ≤ weight k + 3) × AreLight (stepping p m kind place k)
+  stepping_light : (p : Pos) (m : Kind) (kind : ValueKind) (place : expr.Place) (k : List Todo) → AreLight k → (weight (step p m kind place k) ≤ weight k + 3) × AreLight (step p m kind place k)
   stepping_light p m kind place k h =
       let r = convert_light (is_same_kind (Some kind) (Some (wide kind))) p kind (ToStore kind place ∷ k) (tt, h) in (omega (arith, r.0), (tt, r.1))
 
@@ -166,10 +166,10 @@ module _ (most : ℕ) where
   evaluate_light (expr.negated p v) choices k s h = (omega arith, (tt, (tt, h)))
   evaluate_light (expr.stepped p false m kind place) choices k s h =
       let r = stepping_light p m kind place k h in
-      let q = before_light place (ToOld kind place ∷ stepping p m kind place k) (tt, r.1) in (omega (arith, r.0, q.0), q.1)
+      let q = before_light place (ToOld kind place ∷ step p m kind place k) (tt, r.1) in (omega (arith, r.0, q.0), q.1)
   evaluate_light (expr.stepped p true m kind place) choices k s h =
       let r = stepping_light p m kind place (ToPop ∷ k) (tt, h) in
-      let q = before_light place (ToOld kind place ∷ ToKeep place ∷ stepping p m kind place (ToPop ∷ k)) (tt, (tt, r.1)) in (omega (arith, r.0, q.0), q.1)
+      let q = before_light place (ToOld kind place ∷ ToKeep place ∷ step p m kind place (ToPop ∷ k)) (tt, (tt, r.1)) in (omega (arith, r.0, q.0), q.1)
   evaluate_light (expr.computed p m kind a b) choices k s h = (omega arith, (tt, (tt, (tt, h))))
   evaluate_light (expr.compared p m a b) choices k s h = (omega arith, (tt, (tt, (tt, h))))
   evaluate_light (expr.joined_by p m a b) choices k s h = (omega arith, (tt, (tt, h)))
@@ -177,7 +177,7 @@ module _ (most : ℕ) where
       let q = before_light place (ToEval v ∷ ToStore kind place ∷ k) (tt, (tt, h)) in (omega (arith, q.0), q.1)
   evaluate_light (expr.updated p m counted kind place v) choices k s h =
       let r = convert_light (is_same_kind (Some kind) (Some counted)) p kind (ToStore kind place ∷ k) (tt, h) in
-      let q = before_light place (ToOld kind place ∷ ToEval v ∷ ToCompute p (op_of m) counted ∷ converting p kind counted (ToStore kind place ∷ k)) (tt, (tt, (tt, r.1))) in (omega (arith, r.0, q.0), q.1)
+      let q = before_light place (ToOld kind place ∷ ToEval v ∷ ToCompute p (op_of m) counted ∷ convert p kind counted (ToStore kind place ∷ k)) (tt, (tt, (tt, r.1))) in (omega (arith, r.0, q.0), q.1)
   evaluate_light (expr.chosen p c a b) choices k s h = (omega arith, (tt, (tt, h)))
   evaluate_light (expr.converted p kind v) choices k s h = (omega arith, (tt, (tt, h)))
   evaluate_light (expr.cast_of p v) choices k s h = (omega arith, (tt, h))
@@ -188,7 +188,7 @@ module _ (most : ℕ) where
 
   call_light : (choices : List Choice) (p : Pos) (row : Row) (i n : ℕ) (k : List Todo) (s : State) → weight k + 1 ≤ n → AreLight k → Leaves n (call choices p row i k s)
   call_light choices p row i n k s le h =
-      react_light (call_effect s.world (shape_of row) (newest i s.values) (unused choices s)) p n (called p row (newest i s.values) (drop i s.values) k) s (λ e q. (le, h))
+      react_light (call_effect s.world (shape_of row) (newest i s.values) (unused choices s)) p n (after_call p row (newest i s.values) (drop i s.values) k) s (λ e q. (le, h))
 
   arg_light : (o : Option expr.Value) (choices : List Choice) (p : Pos) (row : Row) (args : List expr.Value) (i : ℕ) (k : List Todo) (s : State) → IsNext args i o (drop i args) → AreLight k → Leaves (args_weight (drop i args) + weight k) (next_arg choices p row args i o k s)
   arg_light None choices p row args i k s e h =
@@ -209,11 +209,11 @@ module _ (most : ℕ) where
   drop_light (suc i) [] = omega arith
   drop_light (suc i) (a ∷ block) = omega (arith, drop_light i block)
 
-  reach_light : (o : Option expr.Value) (r : stmt.Reached) (rs : List stmt.Reached) (k : List Todo) (s : State) → AreLight k → Leaves (bind_weight o + reach_weight rs + weight k) (reach_value r o rs k s)
-  reach_light None r rs k s h = (omega arith, (tt, h))
-  reach_light (Some v) r rs k s h = (omega arith, (tt, (tt, (tt, h))))
+  declare_light : (o : Option expr.Value) (r : stmt.DeclaredLocal) (rs : List stmt.DeclaredLocal) (k : List Todo) (s : State) → AreLight k → Leaves (bind_weight o + declare_weight rs + weight k) (declare_value r o rs k s)
+  declare_light None r rs k s h = (omega arith, (tt, h))
+  declare_light (Some v) r rs k s h = (omega arith, (tt, (tt, (tt, h))))
 
-  started_light : (o : Option expr.Value) (k : List Todo) → AreLight k → (weight (started o k) ≤ option_weight o + weight k) × AreLight (started o k)
+  started_light : (o : Option expr.Value) (k : List Todo) → AreLight k → (weight (evaluate_first o k) ≤ option_weight o + weight k) × AreLight (evaluate_first o k)
   started_light None k h = (omega arith, h)
   started_light (Some v) k h = (omega arith, (tt, (tt, h)))
 
@@ -221,15 +221,15 @@ module _ (most : ℕ) where
   body_light None behind body n h = omega (arith, h)
   body_light (Some c) behind body n h = omega (arith, h)
 
-  tested_light : (test behind : Option expr.Value) (body : stmt.Action) (k : List Todo) → loop_weight (a_loop test behind body) ≤ most → AreLight k → (weight (tested_by test (a_loop test behind body) k) ≤ loop_weight (a_loop test behind body) + weight k) × AreLight (tested_by test (a_loop test behind body) k)
+  tested_light : (test behind : Option expr.Value) (body : stmt.Action) (k : List Todo) → loop_weight (a_loop test behind body) ≤ most → AreLight k → (weight (test_loop_by test (a_loop test behind body) k) ≤ loop_weight (a_loop test behind body) + weight k) × AreLight (test_loop_by test (a_loop test behind body) k)
   tested_light None behind body k le h = (omega arith, (body_light None behind (stmt_weight body) most le, (le, h)))
   tested_light (Some c) behind body k le h = (omega arith, (tt, (le, h)))
 
-  turn_light : (c : Bool) (loop : Loop) (n : ℕ) (k : List Todo) (s : State) → turn_weight loop.behind (stmt_weight loop.body) + weight k ≤ n → loop_weight loop ≤ most → AreLight k → Leaves n (taken (turn c loop k) s)
+  turn_light : (c : Bool) (loop : Loop) (n : ℕ) (k : List Todo) (s : State) → turn_weight loop.behind (stmt_weight loop.body) + weight k ≤ n → loop_weight loop ≤ most → AreLight k → Leaves n (pop_value (turn c loop k) s)
   turn_light true loop n k s le hl h = (omega (arith, le), (body_light loop.test loop.behind (stmt_weight loop.body) most hl, (hl, h)))
   turn_light false loop n k s le hl h = (omega (arith, le), h)
 
-  choose_light : (c : Bool) (a : stmt.Action) (b : Option stmt.Action) (n : ℕ) (k : List Todo) (s : State) → stmt_weight a + other_weight b + 2 + weight k ≤ n → stmt_weight a ≤ most → other_weight b ≤ most → AreLight k → Leaves n (taken (if c then ToExec a ∷ ToJoin ∷ k else others b (ToJoin ∷ k)) s)
+  choose_light : (c : Bool) (a : stmt.Action) (b : Option stmt.Action) (n : ℕ) (k : List Todo) (s : State) → stmt_weight a + other_weight b + 2 + weight k ≤ n → stmt_weight a ≤ most → other_weight b ≤ most → AreLight k → Leaves n (pop_value (if c then ToExec a ∷ ToJoin ∷ k else else_part b (ToJoin ∷ k)) s)
   choose_light true a b n k s le ha hb h = (omega (arith, le), (ha, (tt, h)))
   choose_light false a None n k s le ha hb h = (omega (arith, le), (tt, h))
   choose_light false a (Some b) n k s le ha hb h = (omega (arith, le), (hb, (tt, h)))
@@ -247,7 +247,7 @@ module _ (most : ℕ) where
   enter_light (Some j) list k le h = (omega (arith, drop_light j list), (le, (tt, h)))
 
   switch_light : (a : stmt.Action) (p : Pos) (v : Value) (k : List Todo) (s : State) → switch_weight a ≤ most → AreLight k → Leaves (switch_weight a + weight k) (switch p v a k s)
-  switch_light (stmt.block_of q ss r) p v k s le h =
+  switch_light (stmt.block q ss r) p v k s le h =
       let e = list_is ss in
       let g = enter_light (target v (listed ss)) (listed ss) k (omega (arith, e, le)) h in (omega (arith, e, g.0), g.1)
   switch_light a p v k s le h = (omega arith, h)
@@ -288,44 +288,44 @@ module _ (most : ℕ) where
   again_less None behind body = omega arith
   again_less (Some c) behind body = omega arith
 
-  entered_light : (a : stmt.Action) (l : Name) (k : List Todo) → stmt_weight a ≤ most → AreLight k → FoundLight (stmt_weight a + weight k) (entered l a k)
-  entered_light (stmt.at_label p n a) l k le h =
-      found_if (n.0 == l.0) _ (ToExec a ∷ k) (entered l a k) (omega arith, (omega (arith, le), h)) (found_more (stmt_weight a + weight k) _ (entered l a k) (omega arith) (entered_light a l k (omega (arith, le)) h))
-  entered_light (stmt.at_case p n a) l k le h = found_more (stmt_weight a + weight k) _ (entered l a k) (omega arith) (entered_light a l k (omega (arith, le)) h)
-  entered_light (stmt.at_default p a) l k le h = found_more (stmt_weight a + weight k) _ (entered l a k) (omega arith) (entered_light a l k (omega (arith, le)) h)
-  entered_light (stmt.test p c a) l k le h =
-      found_more (stmt_weight a + (1 + weight k)) _ (entered l a (ToJoin ∷ k)) (omega arith) (entered_light a l (ToJoin ∷ k) (omega (arith, le)) (tt, h))
-  entered_light (stmt.test_else p c a b) l k le h =
-      found_or_light _ (entered l a (ToJoin ∷ k)) (entered l b (ToJoin ∷ k))
-      (found_more (stmt_weight a + (1 + weight k)) _ (entered l a (ToJoin ∷ k)) (omega arith) (entered_light a l (ToJoin ∷ k) (omega (arith, le)) (tt, h)))
-      (found_more (stmt_weight b + (1 + weight k)) _ (entered l b (ToJoin ∷ k)) (omega arith) (entered_light b l (ToJoin ∷ k) (omega (arith, le)) (tt, h)))
-  entered_light (stmt.repeat_while p c a) l k le h =
-      found_more (stmt_weight a + (2 + weight k)) _ (entered l a (ToAgain (a_loop (Some c) None a) ∷ k)) (omega arith) (entered_light a l (ToAgain (a_loop (Some c) None a) ∷ k) (omega (arith, le)) (omega (arith, le), h))
-  entered_light (stmt.repeat_until p a c) l k le h =
-      found_more (stmt_weight a + (2 + weight k)) _ (entered l a (ToAgain (a_loop (Some c) None a) ∷ k)) (omega arith) (entered_light a l (ToAgain (a_loop (Some c) None a) ∷ k) (omega (arith, le)) (omega (arith, le), h))
-  entered_light (stmt.repeat_for p rs u c w a) l k le h =
+  entered_light : (a : stmt.Action) (l : Name) (k : List Todo) → stmt_weight a ≤ most → AreLight k → FoundLight (stmt_weight a + weight k) (enter l a k)
+  entered_light (stmt.label p n a) l k le h =
+      found_if (n.0 == l.0) _ (ToExec a ∷ k) (enter l a k) (omega arith, (omega (arith, le), h)) (found_more (stmt_weight a + weight k) _ (enter l a k) (omega arith) (entered_light a l k (omega (arith, le)) h))
+  entered_light (stmt.case p n a) l k le h = found_more (stmt_weight a + weight k) _ (enter l a k) (omega arith) (entered_light a l k (omega (arith, le)) h)
+  entered_light (stmt.default p a) l k le h = found_more (stmt_weight a + weight k) _ (enter l a k) (omega arith) (entered_light a l k (omega (arith, le)) h)
+  entered_light (stmt.if_only p c a) l k le h =
+      found_more (stmt_weight a + (1 + weight k)) _ (enter l a (ToJoin ∷ k)) (omega arith) (entered_light a l (ToJoin ∷ k) (omega (arith, le)) (tt, h))
+  entered_light (stmt.if_else p c a b) l k le h =
+      found_or_light _ (enter l a (ToJoin ∷ k)) (enter l b (ToJoin ∷ k))
+      (found_more (stmt_weight a + (1 + weight k)) _ (enter l a (ToJoin ∷ k)) (omega arith) (entered_light a l (ToJoin ∷ k) (omega (arith, le)) (tt, h)))
+      (found_more (stmt_weight b + (1 + weight k)) _ (enter l b (ToJoin ∷ k)) (omega arith) (entered_light b l (ToJoin ∷ k) (omega (arith, le)) (tt, h)))
+  entered_light (stmt.while p c a) l k le h =
+      found_more (stmt_weight a + (2 + weight k)) _ (enter l a (ToAgain (a_loop (Some c) None a) ∷ k)) (omega arith) (entered_light a l (ToAgain (a_loop (Some c) None a) ∷ k) (omega (arith, le)) (omega (arith, le), h))
+  entered_light (stmt.do_while p a c) l k le h =
+      found_more (stmt_weight a + (2 + weight k)) _ (enter l a (ToAgain (a_loop (Some c) None a) ∷ k)) (omega arith) (entered_light a l (ToAgain (a_loop (Some c) None a) ∷ k) (omega (arith, le)) (omega (arith, le), h))
+  entered_light (stmt.for p rs u c w a) l k le h =
       let g = again_less c w (stmt_weight a) in
-      found_more (stmt_weight a + (again_weight w + weight k)) _ (entered l a (ToAgain (a_loop c w a) ∷ k)) (omega (arith, g)) (entered_light a l (ToAgain (a_loop c w a) ∷ k) (body_light c w (stmt_weight a) most (omega (arith, le))) (omega (arith, le), h))
-  entered_light (stmt.switch_on p v (stmt.block_of q ss r)) l k le h = tt
-  entered_light (stmt.switch_on p v a) l k le h =
-      found_more (stmt_weight a + (1 + weight k)) (expr_weight v + (stmt_weight a + 2) + 1 + weight k) (entered l a (ToSwitchEnd ∷ k)) (omega arith) (entered_light a l (ToSwitchEnd ∷ k) (omega (arith, le)) (tt, h))
-  entered_light (stmt.block_of p ss q) l k le h = tt
-  entered_light (stmt.reach p rs) l k le h = tt
-  entered_light (stmt.evaluate p v) l k le h = tt
-  entered_light (stmt.jump p n) l k le h = tt
-  entered_light (stmt.leave p) l k le h = tt
-  entered_light (stmt.next_turn p) l k le h = tt
-  entered_light (stmt.give p v) l k le h = tt
+      found_more (stmt_weight a + (again_weight w + weight k)) _ (enter l a (ToAgain (a_loop c w a) ∷ k)) (omega (arith, g)) (entered_light a l (ToAgain (a_loop c w a) ∷ k) (body_light c w (stmt_weight a) most (omega (arith, le))) (omega (arith, le), h))
+  entered_light (stmt.switch p v (stmt.block q ss r)) l k le h = tt
+  entered_light (stmt.switch p v a) l k le h =
+      found_more (stmt_weight a + (1 + weight k)) (expr_weight v + (stmt_weight a + 2) + 1 + weight k) (enter l a (ToSwitchEnd ∷ k)) (omega arith) (entered_light a l (ToSwitchEnd ∷ k) (omega (arith, le)) (tt, h))
+  entered_light (stmt.block p ss q) l k le h = tt
+  entered_light (stmt.declare p rs) l k le h = tt
+  entered_light (stmt.do_expr p v) l k le h = tt
+  entered_light (stmt.goto p n) l k le h = tt
+  entered_light (stmt.break p) l k le h = tt
+  entered_light (stmt.continue p) l k le h = tt
+  entered_light (stmt.return p v) l k le h = tt
 
-  among_light : (list block : List stmt.Action) (i : ℕ) (l : Name) (k : List Todo) → drop i block ≡ list → list_weight block ≤ most → AreLight k → FoundLight (list_weight block + weight k) (entered_among l block i list k)
+  among_light : (list block : List stmt.Action) (i : ℕ) (l : Name) (k : List Todo) → drop i block ≡ list → list_weight block ≤ most → AreLight k → FoundLight (list_weight block + weight k) (enter_among l block i list k)
   among_light [] block i l k e le h = tt
   among_light (a ∷ list) block i l k e le h =
       let n : suc i ≡ i + 1 = omega arith in
       let d = subst (λ j. drop j block ≡ list) n (drop_next block i a list e) in
       let w1 : list_weight (drop i block) ≡ stmt_weight a + 1 + list_weight list = ap list_weight e in
       let w2 : list_weight (drop (i + 1) block) ≡ list_weight list = ap list_weight d in
-      found_or_light (list_weight block + weight k) (entered l a (ToRest block (i + 1) ∷ k)) (entered_among l block (i + 1) list k)
-      (found_more (stmt_weight a + (list_weight (drop (i + 1) block) + weight k)) _ (entered l a (ToRest block (i + 1) ∷ k)) (omega (arith, w1, w2, drop_light i block)) (entered_light a l (ToRest block (i + 1) ∷ k) (omega (arith, w1, le, drop_light i block)) (le, h)))
+      found_or_light (list_weight block + weight k) (enter l a (ToRest block (i + 1) ∷ k)) (enter_among l block (i + 1) list k)
+      (found_more (stmt_weight a + (list_weight (drop (i + 1) block) + weight k)) _ (enter l a (ToRest block (i + 1) ∷ k)) (omega (arith, w1, w2, drop_light i block)) (entered_light a l (ToRest block (i + 1) ∷ k) (omega (arith, w1, le, drop_light i block)) (le, h)))
       (among_light list block (i + 1) l k d le h)
 
   goto_by : (o : Option (List Todo)) (n : ℕ) (other : List Todo) → FoundLight n o → (weight other ≤ n) × AreLight other → (weight (found_or o other) ≤ n) × AreLight (found_or o other)
@@ -338,33 +338,33 @@ module _ (most : ℕ) where
   goto_light l (ToRest block i ∷ k) h =
       let r = goto_light l k h.1 in
       let f = among_light block block 0 l k refl h.0 h.1 in
-      let g = goto_by (entered_among l block 0 block k) (weight k + most) (from_label l k) (found_more (list_weight block + weight k) _ (entered_among l block 0 block k) (omega (arith, h.0)) f) r in
+      let g = goto_by (enter_among l block 0 block k) (weight k + most) (from_label l k) (found_more (list_weight block + weight k) _ (enter_among l block 0 block k) (omega (arith, h.0)) f) r in
       (omega (arith, g.0), g.1)
   goto_light l (t ∷ k) h = let r = goto_light l k h.1 in (omega (arith, r.0), r.1)
 
-  returning_light : (o : Option expr.Value) (p : Pos) (k : List Todo) (s : State) → AreLight k → Leaves (option_weight o + 1 + weight k) (returning p o k s)
+  returning_light : (o : Option expr.Value) (p : Pos) (k : List Todo) (s : State) → AreLight k → Leaves (option_weight o + 1 + weight k) (return_value p o k s)
   returning_light None p k s h = tt
   returning_light (Some v) p k s h = (omega arith, (tt, (tt, h)))
 
   execute_light : (a : stmt.Action) (k : List Todo) (s : State) → stmt_weight a ≤ most → AreLight k → Leaves (stmt_weight a + weight k + most * jumps (ToExec a ∷ k)) (execute a k s)
-  execute_light (stmt.block_of p ss q) k s le h = let e = list_is ss in (omega (arith, e), (omega (arith, e, le), h))
-  execute_light (stmt.reach p rs) k s le h = (omega arith, (tt, h))
-  execute_light (stmt.evaluate p v) k s le h = let r = started_light v k h in (omega (arith, r.0), r.1)
-  execute_light (stmt.test p c a) k s le h = (omega arith, (tt, ((omega (arith, le), omega arith), h)))
-  execute_light (stmt.test_else p c a b) k s le h = (omega arith, (tt, ((omega (arith, le), omega (arith, le)), h)))
-  execute_light (stmt.repeat_while p c a) k s le h = (omega arith, (tt, (omega (arith, le), h)))
-  execute_light (stmt.repeat_until p a c) k s le h = (omega arith, (omega (arith, le), (omega (arith, le), h)))
-  execute_light (stmt.repeat_for p rs u c w a) k s le h =
+  execute_light (stmt.block p ss q) k s le h = let e = list_is ss in (omega (arith, e), (omega (arith, e, le), h))
+  execute_light (stmt.declare p rs) k s le h = (omega arith, (tt, h))
+  execute_light (stmt.do_expr p v) k s le h = let r = started_light v k h in (omega (arith, r.0), r.1)
+  execute_light (stmt.if_only p c a) k s le h = (omega arith, (tt, ((omega (arith, le), omega arith), h)))
+  execute_light (stmt.if_else p c a b) k s le h = (omega arith, (tt, ((omega (arith, le), omega (arith, le)), h)))
+  execute_light (stmt.while p c a) k s le h = (omega arith, (tt, (omega (arith, le), h)))
+  execute_light (stmt.do_while p a c) k s le h = (omega arith, (omega (arith, le), (omega (arith, le), h)))
+  execute_light (stmt.for p rs u c w a) k s le h =
       let r = started_light u (ToTest (a_loop c w a) ∷ k) (omega (arith, le), h) in (omega (arith, r.0), (tt, r.1))
-  execute_light (stmt.switch_on p v (stmt.block_of q ss r)) k s le h = (omega arith, (tt, (omega (arith, le), h)))
-  execute_light (stmt.switch_on p v a) k s le h = (omega arith, (tt, (omega (arith, le), h)))
-  execute_light (stmt.at_case p n a) k s le h = (omega arith, (omega (arith, le), h))
-  execute_light (stmt.at_default p a) k s le h = (omega arith, (omega (arith, le), h))
-  execute_light (stmt.at_label p l a) k s le h = (omega arith, (omega (arith, le), h))
-  execute_light (stmt.jump p l) k s le h = let r = goto_light l k h in (omega (arith, r.0), r.1)
-  execute_light (stmt.leave p) k s le h = let r = break_light k h in (omega (arith, r.0), r.1)
-  execute_light (stmt.next_turn p) k s le h = let r = continue_light k h in (omega (arith, r.0), r.1)
-  execute_light (stmt.give p v) k s le h = at_most (returning p v k s) (omega arith) (returning_light v p k s h)
+  execute_light (stmt.switch p v (stmt.block q ss r)) k s le h = (omega arith, (tt, (omega (arith, le), h)))
+  execute_light (stmt.switch p v a) k s le h = (omega arith, (tt, (omega (arith, le), h)))
+  execute_light (stmt.case p n a) k s le h = (omega arith, (omega (arith, le), h))
+  execute_light (stmt.default p a) k s le h = (omega arith, (omega (arith, le), h))
+  execute_light (stmt.label p l a) k s le h = (omega arith, (omega (arith, le), h))
+  execute_light (stmt.goto p l) k s le h = let r = goto_light l k h in (omega (arith, r.0), r.1)
+  execute_light (stmt.break p) k s le h = let r = break_light k h in (omega (arith, r.0), r.1)
+  execute_light (stmt.continue p) k s le h = let r = continue_light k h in (omega (arith, r.0), r.1)
+  execute_light (stmt.return p v) k s le h = at_most (return_value p v k s) (omega arith) (returning_light v p k s h)
 
   end_light : (p : Pos) (v : Bool) (n : ℕ) (s : State) → Leaves n (at_end p v s)
   end_light p true n s = tt
@@ -377,11 +377,11 @@ module _ (most : ℕ) where
   step_light choices (ToOld kind place ∷ k) s h = old_light place choices kind _ k s (omega arith) h.1
   step_light choices (ToKeep place ∷ k) s h = (omega arith, h.1)
   step_light choices (ToStep p o kind ∷ k) s h =
-      computed_light (arithmetic o kind (number_of (top s.values)) (pos 1)) p o kind (number_of (top s.values)) (pos 1) instead (weight (ToStep p o kind ∷ k) + most * 0) k s (λ os v. (omega arith, h.1))
+      computed_light (arithmetic o kind (number_of (top s.values)) (pos 1)) p o kind (number_of (top s.values)) (pos 1) replace_value (weight (ToStep p o kind ∷ k) + most * 0) k s (λ os v. (omega arith, h.1))
   step_light choices (ToMinus p kind ∷ k) s h =
-      computed_light (arithmetic ops.Sub kind (pos 0) (number_of (top s.values))) p ops.Sub kind (pos 0) (number_of (top s.values)) instead (weight (ToMinus p kind ∷ k) + most * 0) k s (λ os v. (omega arith, h.1))
+      computed_light (arithmetic ops.Sub kind (pos 0) (number_of (top s.values))) p ops.Sub kind (pos 0) (number_of (top s.values)) replace_value (weight (ToMinus p kind ∷ k) + most * 0) k s (λ os v. (omega arith, h.1))
   step_light choices (ToCompute p o kind ∷ k) s h =
-      computed_light (arithmetic o kind (number_of (top (below s.values))) (number_of (top s.values))) p o kind (number_of (top (below s.values))) (number_of (top s.values)) for_two (weight (ToCompute p o kind ∷ k) + most * 0) k s (λ os v. (omega arith, h.1))
+      computed_light (arithmetic o kind (number_of (top (below s.values))) (number_of (top s.values))) p o kind (number_of (top (below s.values))) (number_of (top s.values)) replace_two (weight (ToCompute p o kind ∷ k) + most * 0) k s (λ os v. (omega arith, h.1))
   step_light choices (ToFit p kind ∷ k) s h = fit_light (fits kind (number_of (top s.values))) p kind (number_of (top s.values)) _ k s (omega arith) h.1
   step_light choices (ToCompare p c ∷ k) s h = (omega arith, h.1)
   step_light choices (ToNot ∷ k) s h = (omega arith, h.1)
@@ -393,8 +393,8 @@ module _ (most : ℕ) where
   step_light choices (ToArgs p row args i ∷ k) s h = at_most (next_arg choices p row args i (slice_get args i) k s) (omega arith) (arg_light (slice_get args i) choices p row args i k s (is_next args i) h.1)
   step_light choices (ToExec a ∷ k) s h = execute_light a k s h.0 h.1
   step_light choices (ToForget ∷ k) s h = (omega arith, h.1)
-  step_light choices (ToReach [] ∷ k) s h = (omega arith, h.1)
-  step_light choices (ToReach (r ∷ rs) ∷ k) s h = at_most (reach_value r r.value rs k s) (omega arith) (reach_light r.value r rs k s h.1)
+  step_light choices (ToDeclare [] ∷ k) s h = (omega arith, h.1)
+  step_light choices (ToDeclare (r ∷ rs) ∷ k) s h = at_most (declare_value r r.value rs k s) (omega arith) (declare_light r.value r rs k s h.1)
   step_light choices (ToBind x ∷ k) s h = (omega arith, h.1)
   step_light choices (ToChoose a b ∷ k) s h = choose_light (is_true (top s.values)) a b _ k s (omega arith) h.0.0 h.0.1 h.1
   step_light choices (ToJoin ∷ k) s h = (omega arith, h.1)

@@ -1,16 +1,16 @@
 -- How many steps of the meaning may pass without an instruction: a bound, each loop taken once.
 --   expr_weight v, place_weight place, values_weight vs, args_weight vs    an expression, a base, arguments
 --   option_weight o           what is done and forgotten, where it is there
---   bind_weight o, reach_weight rs    declared locals
---   again_weight w            a loop behind its body
+--   bind_weight o, declare_weight rs  declared locals
+--   again_weight w            a loop after its body
 --   stmt_weight a, stmts_weight ss, list_weight list, other_weight o    statements, and one that may be missing
---   turn_weight, tested_weight, loop_weight    a loop behind its test, and at its head
---   switch_weight a           a `switch` behind its value
+--   turn_weight, tested_weight, loop_weight    a loop after its test, and at its head
+--   switch_weight a           a `switch` after its value
 --   item_weight t, weight k   what remains
 use Rattle.std.specs.Prelude.{ℕ, ◌+◌, List, [], ◌∷◌, drop, Option, Some, None}
 use Rattle.pungi_resolved.specs.Values as expr
 use Rattle.pungi_resolved.specs.Actions as stmt
-use Rattle.pungi_meaning.specs.Todo.{Loop, Todo, ToEval, ToRight, ToPick, ToArgs, ToExec, ToReach, ToChoose, ToRest, ToTest, ToTurn, ToAgain, ToSwitch}
+use Rattle.pungi_meaning.specs.Todo.{Loop, Todo, ToEval, ToRight, ToPick, ToArgs, ToExec, ToDeclare, ToChoose, ToRest, ToTest, ToTurn, ToAgain, ToSwitch}
 
 abbrev mutual
   pub expr_weight : expr.Value → ℕ
@@ -18,7 +18,7 @@ abbrev mutual
   expr_weight (expr.inner p v) = expr_weight v + 1
   expr_weight (expr.signed p m kind v) = expr_weight v + 2
   expr_weight (expr.negated p v) = expr_weight v + 2
-  expr_weight (expr.stepped p behind m kind place) = place_weight place + 7
+  expr_weight (expr.stepped p is_postfix m kind place) = place_weight place + 7
   expr_weight (expr.computed p m kind a b) = expr_weight a + expr_weight b + 2
   expr_weight (expr.compared p m a b) = expr_weight a + expr_weight b + 2
   expr_weight (expr.joined_by p m a b) = expr_weight a + expr_weight b + 3
@@ -51,11 +51,11 @@ abbrev pub bind_weight : Option expr.Value → ℕ
 bind_weight None = 1
 bind_weight (Some v) = expr_weight v + 2
 
-abbrev pub reach_weight : List stmt.Reached → ℕ
-reach_weight [] = 1
-reach_weight (r ∷ rs) = bind_weight r.value + reach_weight rs
+abbrev pub declare_weight : List stmt.DeclaredLocal → ℕ
+declare_weight [] = 1
+declare_weight (r ∷ rs) = bind_weight r.value + declare_weight rs
 
--- with a body of this weight: behind the body, behind the test, and at the test
+-- with a body of this weight: after the body, after the test, and at the test
 abbrev pub again_weight : Option expr.Value → ℕ
 again_weight behind = option_weight behind + 2
 
@@ -68,20 +68,20 @@ tested_weight (Some c) behind body = expr_weight c + turn_weight behind body
 
 abbrev mutual
   pub stmt_weight : stmt.Action → ℕ
-  stmt_weight (stmt.block_of p ss q) = stmts_weight ss + 1
-  stmt_weight (stmt.reach p rs) = reach_weight rs + 1
-  stmt_weight (stmt.evaluate p v) = option_weight v + 1
-  stmt_weight (stmt.test p c a) = expr_weight c + stmt_weight a + 3
-  stmt_weight (stmt.test_else p c a b) = expr_weight c + stmt_weight a + stmt_weight b + 3
-  stmt_weight (stmt.repeat_while p c a) = tested_weight (Some c) None (stmt_weight a) + 1
-  stmt_weight (stmt.repeat_until p a c) = tested_weight (Some c) None (stmt_weight a) + 1
-  stmt_weight (stmt.repeat_for p rs u c w a) = reach_weight rs + option_weight u + tested_weight c w (stmt_weight a) + 2
-  stmt_weight (stmt.switch_on p v (stmt.block_of q ss r)) = expr_weight v + (stmts_weight ss + 2) + 1
-  stmt_weight (stmt.switch_on p v a) = expr_weight v + (stmt_weight a + 2) + 1
-  stmt_weight (stmt.at_case p n a) = stmt_weight a + 1
-  stmt_weight (stmt.at_default p a) = stmt_weight a + 1
-  stmt_weight (stmt.at_label p l a) = stmt_weight a + 1
-  stmt_weight (stmt.give p v) = option_weight v + 1
+  stmt_weight (stmt.block p ss q) = stmts_weight ss + 1
+  stmt_weight (stmt.declare p rs) = declare_weight rs + 1
+  stmt_weight (stmt.do_expr p v) = option_weight v + 1
+  stmt_weight (stmt.if_only p c a) = expr_weight c + stmt_weight a + 3
+  stmt_weight (stmt.if_else p c a b) = expr_weight c + stmt_weight a + stmt_weight b + 3
+  stmt_weight (stmt.while p c a) = tested_weight (Some c) None (stmt_weight a) + 1
+  stmt_weight (stmt.do_while p a c) = tested_weight (Some c) None (stmt_weight a) + 1
+  stmt_weight (stmt.for p rs u c w a) = declare_weight rs + option_weight u + tested_weight c w (stmt_weight a) + 2
+  stmt_weight (stmt.switch p v (stmt.block q ss r)) = expr_weight v + (stmts_weight ss + 2) + 1
+  stmt_weight (stmt.switch p v a) = expr_weight v + (stmt_weight a + 2) + 1
+  stmt_weight (stmt.case p n a) = stmt_weight a + 1
+  stmt_weight (stmt.default p a) = stmt_weight a + 1
+  stmt_weight (stmt.label p l a) = stmt_weight a + 1
+  stmt_weight (stmt.return p v) = option_weight v + 1
   stmt_weight a = 1
 
   pub stmts_weight : stmt.Actions → ℕ
@@ -96,7 +96,7 @@ abbrev pub loop_weight : Loop → ℕ
 loop_weight loop = tested_weight loop.test loop.behind (stmt_weight loop.body)
 
 abbrev pub switch_weight : stmt.Action → ℕ
-switch_weight (stmt.block_of q ss r) = stmts_weight ss + 2
+switch_weight (stmt.block q ss r) = stmts_weight ss + 2
 switch_weight a = stmt_weight a + 2
 
 abbrev pub other_weight : Option stmt.Action → ℕ
@@ -111,7 +111,7 @@ item_weight (ToRight on b) = expr_weight b + 2
 item_weight (ToPick a b) = expr_weight a + expr_weight b + 2
 item_weight (ToArgs p row args i) = args_weight (drop i args)
 item_weight (ToExec a) = stmt_weight a
-item_weight (ToReach rs) = reach_weight rs
+item_weight (ToDeclare rs) = declare_weight rs
 item_weight (ToChoose a b) = stmt_weight a + other_weight b + 2
 item_weight (ToRest block i) = list_weight (drop i block)
 item_weight (ToTest loop) = loop_weight loop + 1

@@ -12,7 +12,7 @@ abbrev mutual
   calls_none (expr.inner p v) = calls_none v
   calls_none (expr.signed p m kind v) = calls_none v
   calls_none (expr.negated p v) = calls_none v
-  calls_none (expr.stepped p behind m kind place) = is_free_place place
+  calls_none (expr.stepped p is_postfix m kind place) = is_free_place place
   calls_none (expr.computed p m kind a b) = calls_none a && calls_none b
   calls_none (expr.compared p m a b) = calls_none a && calls_none b
   calls_none (expr.joined_by p m a b) = calls_none a && calls_none b
@@ -38,25 +38,25 @@ abbrev pub is_free_option : Option expr.Value → Bool
 is_free_option None = true
 is_free_option (Some v) = calls_none v
 
-abbrev pub are_free_locals : List stmt.Reached → Bool
+abbrev pub are_free_locals : List stmt.DeclaredLocal → Bool
 are_free_locals [] = true
 are_free_locals (r ∷ rs) = is_free_option r.value && are_free_locals rs
 
 abbrev mutual
   pub has_no_call : stmt.Action → Bool
-  has_no_call (stmt.block_of p ss q) = have_no_call ss
-  has_no_call (stmt.reach p rs) = are_free_locals rs
-  has_no_call (stmt.evaluate p v) = is_free_option v
-  has_no_call (stmt.test p c a) = calls_none c && has_no_call a
-  has_no_call (stmt.test_else p c a b) = calls_none c && (has_no_call a && has_no_call b)
-  has_no_call (stmt.repeat_while p c a) = calls_none c && has_no_call a
-  has_no_call (stmt.repeat_until p a c) = calls_none c && has_no_call a
-  has_no_call (stmt.repeat_for p rs u c w a) = are_free_locals rs && (is_free_option u && (is_free_option c && (is_free_option w && has_no_call a)))
-  has_no_call (stmt.switch_on p v a) = calls_none v && has_no_call a
-  has_no_call (stmt.at_case p n a) = has_no_call a
-  has_no_call (stmt.at_default p a) = has_no_call a
-  has_no_call (stmt.at_label p l a) = has_no_call a
-  has_no_call (stmt.give p v) = is_free_option v
+  has_no_call (stmt.block p ss q) = have_no_call ss
+  has_no_call (stmt.declare p rs) = are_free_locals rs
+  has_no_call (stmt.do_expr p v) = is_free_option v
+  has_no_call (stmt.if_only p c a) = calls_none c && has_no_call a
+  has_no_call (stmt.if_else p c a b) = calls_none c && (has_no_call a && has_no_call b)
+  has_no_call (stmt.while p c a) = calls_none c && has_no_call a
+  has_no_call (stmt.do_while p a c) = calls_none c && has_no_call a
+  has_no_call (stmt.for p rs u c w a) = are_free_locals rs && (is_free_option u && (is_free_option c && (is_free_option w && has_no_call a)))
+  has_no_call (stmt.switch p v a) = calls_none v && has_no_call a
+  has_no_call (stmt.case p n a) = has_no_call a
+  has_no_call (stmt.default p a) = has_no_call a
+  has_no_call (stmt.label p l a) = has_no_call a
+  has_no_call (stmt.return p v) = is_free_option v
   has_no_call a = true
 
   pub have_no_call : stmt.Actions → Bool

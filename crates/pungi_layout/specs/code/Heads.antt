@@ -2,13 +2,13 @@
 --   stmt_marks pc a, stmts_marks pc ss    the loops and labels of a statement that begins at this place, those of the statements in it
 --                                too, in the order of the text: each with the place of its code and its place in the text
 --   head_at n p                  a head
---   switch_marks pc a            those of a `switch`, behind its value
+--   switch_marks pc a            those of a `switch`, after its value
 --   first_pos p q               the first of two places that is there
 --   loop_pos n ms, label_pos n ms    where the first loop stands whose head is at this place of the code; the first label
 --   names n ls, leads_back n i code    a label of a list is this place; of instructions whose first has the number i, one that is not in
 --                                front of the place n leads to it
 --   pos_or o p                   a place of the text that was found, or else this
---   back_pos, head_pos ms code n    where the head at this place of the code stands in the text; none where there is none
+--   back_pos, head_pos ms code n    where the head at this place of the code stands in the text, if there is one
 --   found_head n o               it, where it is there
 --   heads_below ms code n        the heads at the places below n, in order
 --   heads_of f                   the heads of a function
@@ -19,7 +19,7 @@ use Rattle.pungi_resolved.specs.Functions.{ResolvedFunction}
 use Rattle.pungi_meaning.specs.Run.{nowhere}
 use Rattle.pungi_meaning.specs.Stmts.{block_cases}
 use Rattle.pungi_meaning.specs.Todo.{listed}
-use Rattle.pungi_meaning.specs.Work.{declared}
+use Rattle.pungi_meaning.specs.Work.{block_locals}
 use Rattle.pungi_code.specs.declared.code.Head.{Head}
 use Rattle.pungi_code.specs.declared.code.Line.{Line}
 use Rattle.pungi_code.specs.declared.instr.Label.{Label}
@@ -36,28 +36,28 @@ head_at n p = record { label = at_label n; pos = p }
 
 abbrev mutual
   pub stmt_marks : ℕ → stmt.Action → List Mark
-  stmt_marks pc (stmt.block_of p ss q) = stmts_marks (pc + length (declared (listed ss))) ss
-  stmt_marks pc (stmt.test p c a) = stmt_marks (pc + expr_size c + 1) a
-  stmt_marks pc (stmt.test_else p c a b) =
+  stmt_marks pc (stmt.block p ss q) = stmts_marks (pc + length (block_locals (listed ss))) ss
+  stmt_marks pc (stmt.if_only p c a) = stmt_marks (pc + expr_size c + 1) a
+  stmt_marks pc (stmt.if_else p c a b) =
       stmt_marks (pc + expr_size c + 1) a ++ stmt_marks (pc + expr_size c + 1 + stmt_size a + 1) b
-  stmt_marks pc (stmt.repeat_while p c a) = OfLoop (head_at pc p) ∷ stmt_marks (pc + (expr_size c + 1)) a
-  stmt_marks pc (stmt.repeat_until p a c) = OfLoop (head_at (pc + 1) p) ∷ stmt_marks (pc + 1 + (expr_size c + 1)) a
-  stmt_marks pc (stmt.repeat_for p rs u c w a) = OfLoop (head_at (for_head pc rs u) p) ∷ stmt_marks (for_head pc rs u + test_size c) a
-  stmt_marks pc (stmt.switch_on p v (stmt.block_of q ss r)) =
-      stmts_marks (pc + expr_size v + length (declared (listed ss)) + 2 * length (block_cases (listed ss)) + 1) ss
-  stmt_marks pc (stmt.switch_on p v a) = stmt_marks (pc + expr_size v + 1) a
-  stmt_marks pc (stmt.at_case p n a) = stmt_marks pc a
-  stmt_marks pc (stmt.at_default p a) = stmt_marks pc a
-  stmt_marks pc (stmt.at_label p l a) = OfLabel (head_at pc p) ∷ stmt_marks pc a
+  stmt_marks pc (stmt.while p c a) = OfLoop (head_at pc p) ∷ stmt_marks (pc + (expr_size c + 1)) a
+  stmt_marks pc (stmt.do_while p a c) = OfLoop (head_at (pc + 1) p) ∷ stmt_marks (pc + 1 + (expr_size c + 1)) a
+  stmt_marks pc (stmt.for p rs u c w a) = OfLoop (head_at (for_head pc rs u) p) ∷ stmt_marks (for_head pc rs u + test_size c) a
+  stmt_marks pc (stmt.switch p v (stmt.block q ss r)) =
+      stmts_marks (pc + expr_size v + length (block_locals (listed ss)) + 2 * length (block_cases (listed ss)) + 1) ss
+  stmt_marks pc (stmt.switch p v a) = stmt_marks (pc + expr_size v + 1) a
+  stmt_marks pc (stmt.case p n a) = stmt_marks pc a
+  stmt_marks pc (stmt.default p a) = stmt_marks pc a
+  stmt_marks pc (stmt.label p l a) = OfLabel (head_at pc p) ∷ stmt_marks pc a
   stmt_marks pc a = []
 
   pub stmts_marks : ℕ → stmt.Actions → List Mark
   stmts_marks pc stmt.no_actions = []
   stmts_marks pc (stmt.action_and a ss) = stmt_marks pc a ++ stmts_marks (pc + stmt_size a) ss
 
--- those of a `switch`, behind its value
+-- those of a `switch`, after its value
 abbrev pub switch_marks : ℕ → stmt.Action → List Mark
-switch_marks pc (stmt.block_of q ss r) = stmts_marks (pc + length (declared (listed ss)) + 2 * length (block_cases (listed ss)) + 1) ss
+switch_marks pc (stmt.block q ss r) = stmts_marks (pc + length (block_locals (listed ss)) + 2 * length (block_cases (listed ss)) + 1) ss
 switch_marks pc a = stmt_marks (pc + 1) a
 
 -- ---- which places are heads

@@ -1,8 +1,8 @@
--- What the lowering asks of a node.
+-- What the lowering requires of a node.
 --   is_minus m             a sign is a minus
---   has_value a, has_own_value s, gives_form form a    an answer, that of a row of its own, and that of a form is a value
+--   has_value a, has_own_value s, gives_form form a    an answer, that of a special row, and that of a form is a value
 --   gives_answer row       a call of a row leaves a value
---   gives v                an expression leaves a value; a call of a row that answers nothing doesn't
+--   gives v                an expression leaves a value; a call of a row that returns nothing doesn't
 --   is_converted kind      what is counted in the wide kind is converted to this kind
 --   base_of place          the base of a field
 use Rattle.std.specs.Prelude.{Bool, true, false}

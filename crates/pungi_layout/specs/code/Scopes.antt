@@ -2,19 +2,19 @@
 --   Env                         where `break`, `continue` and each `goto` lead
 --   everywhere n                to one place, the end of the function
 --   label_or o n                a place that was found, or else this
---   for_head pc rs u            the head of a `for`, behind what it declares and does first
+--   for_head pc rs u            the head of a `for`, after what it declares and does first
 --   stmt_label l pc a           the place of a label of a statement that begins at this place; none in an inner block
 --   list_label l pc list        the same of the statements of a block
 --   in_block, in_loop, in_switch    the inside of a block, a loop and a `switch`
 --   placed_cases, list_cases    the cases of statements, each with the place where its statement begins
---   list_default                the place of the statement behind `default`
+--   list_default                the place of the statement after `default`
 use Rattle.std.specs.Prelude.{ℕ, ◌+◌, ◌==◌, ℤ, List, [], ◌∷◌, ◌++◌, length, Option, Some, None, if◌then◌else◌}
 use Rattle.pungi_base.specs.declared.names.Name.{Name}
 use Rattle.pungi_resolved.specs.Values as expr
 use Rattle.pungi_resolved.specs.Actions as stmt
 use Rattle.pungi_meaning.specs.Work.{or_else}
 use Rattle.pungi_meaning.specs.Stmts.{cases_of, is_default}
-use Rattle.pungi_layout.specs.code.Sizes.{expr_size, option_size, reach_size, test_size, stmt_size}
+use Rattle.pungi_layout.specs.code.Sizes.{expr_size, option_size, declare_size, test_size, stmt_size}
 
 pub record Env : Type 0 where
   pub breaks : ℕ
@@ -28,20 +28,20 @@ abbrev pub label_or : Option ℕ → ℕ → ℕ
 label_or None n = n
 label_or (Some m) n = m
 
-abbrev pub for_head : ℕ → List stmt.Reached → Option expr.Value → ℕ
-for_head pc rs u = pc + length rs + reach_size rs + option_size u
+abbrev pub for_head : ℕ → List stmt.DeclaredLocal → Option expr.Value → ℕ
+for_head pc rs u = pc + length rs + declare_size rs + option_size u
 
 abbrev pub stmt_label : Name → ℕ → stmt.Action → Option ℕ
-stmt_label l pc (stmt.at_label p n a) = if n.0 == l.0 then Some pc else stmt_label l pc a
-stmt_label l pc (stmt.at_case p n a) = stmt_label l pc a
-stmt_label l pc (stmt.at_default p a) = stmt_label l pc a
-stmt_label l pc (stmt.test p c a) = stmt_label l (pc + expr_size c + 1) a
-stmt_label l pc (stmt.test_else p c a b) =
+stmt_label l pc (stmt.label p n a) = if n.0 == l.0 then Some pc else stmt_label l pc a
+stmt_label l pc (stmt.case p n a) = stmt_label l pc a
+stmt_label l pc (stmt.default p a) = stmt_label l pc a
+stmt_label l pc (stmt.if_only p c a) = stmt_label l (pc + expr_size c + 1) a
+stmt_label l pc (stmt.if_else p c a b) =
     or_else (stmt_label l (pc + expr_size c + 1) a) (stmt_label l (pc + expr_size c + 1 + stmt_size a + 1) b)
-stmt_label l pc (stmt.repeat_while p c a) = stmt_label l (pc + test_size (Some c)) a
-stmt_label l pc (stmt.repeat_until p a c) = stmt_label l (pc + 1 + test_size (Some c)) a
-stmt_label l pc (stmt.repeat_for p rs u c w a) = stmt_label l (for_head pc rs u + test_size c) a
-stmt_label l pc (stmt.switch_on p v a) = stmt_label l (pc + expr_size v + 1) a
+stmt_label l pc (stmt.while p c a) = stmt_label l (pc + test_size (Some c)) a
+stmt_label l pc (stmt.do_while p a c) = stmt_label l (pc + 1 + test_size (Some c)) a
+stmt_label l pc (stmt.for p rs u c w a) = stmt_label l (for_head pc rs u + test_size c) a
+stmt_label l pc (stmt.switch p v a) = stmt_label l (pc + expr_size v + 1) a
 stmt_label l pc a = None
 
 abbrev pub list_label : Name → ℕ → List stmt.Action → Option ℕ

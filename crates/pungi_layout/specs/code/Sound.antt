@@ -1,11 +1,11 @@
--- What the lowering asks of a checked function: its locals are there, each operand has a value, and each place is one. Of how many
--- values an expression is made.
+-- What the lowering requires of a checked function: its locals are there, each operand has a value, and each place is
+-- one. Of how many values an expression is made.
 --   IsSound nl v, IsPlaceSound, AreSound    an expression, a place, arguments
 --   IsWanted nl v                           an operand: it leaves a value
 --   IsOptionSound, IsOptionWanted           one that may be missing
---   AreReached nl rs                        declared locals
+--   AreDeclared nl rs                       declared locals
 --   IsStmtSound nl a, AreStmtsSound         a statement, statements
---   expr_nodes v, place_nodes, values_nodes, option_nodes, reach_nodes, stmt_nodes a, stmts_nodes    how many nodes
+--   expr_nodes v, place_nodes, values_nodes, option_nodes, declare_nodes, stmt_nodes a, stmts_nodes  how many nodes
 use Rattle.std.specs.Prelude.{◌≡◌, ℕ, ◌+◌, ◌<◌, true, List, [], ◌∷◌, Option, Some, None}
 use Rattle.pungi_resolved.specs.Values as expr
 use Rattle.pungi_resolved.specs.Actions as stmt
@@ -17,7 +17,7 @@ abbrev mutual
   IsSound nl (expr.inner p v) = IsSound nl v
   IsSound nl (expr.signed p m kind v) = (gives v ≡ true) × IsSound nl v
   IsSound nl (expr.negated p v) = (gives v ≡ true) × IsSound nl v
-  IsSound nl (expr.stepped p behind m kind place) = IsPlaceSound nl place
+  IsSound nl (expr.stepped p is_postfix m kind place) = IsPlaceSound nl place
   IsSound nl (expr.computed p m kind a b) = (gives a ≡ true) × IsSound nl a × (gives b ≡ true) × IsSound nl b
   IsSound nl (expr.compared p m a b) = (gives a ≡ true) × IsSound nl a × (gives b ≡ true) × IsSound nl b
   IsSound nl (expr.joined_by p m a b) = (gives a ≡ true) × IsSound nl a × (gives b ≡ true) × IsSound nl b
@@ -51,25 +51,25 @@ abbrev pub IsOptionWanted : ℕ → Option expr.Value → Type 0
 IsOptionWanted nl None = Unit {0}
 IsOptionWanted nl (Some v) = IsWanted nl v
 
-abbrev pub AreReached : ℕ → List stmt.Reached → Type 0
-AreReached nl [] = Unit {0}
-AreReached nl (r ∷ rs) = (r.number < nl) × IsOptionWanted nl r.value × AreReached nl rs
+abbrev pub AreDeclared : ℕ → List stmt.DeclaredLocal → Type 0
+AreDeclared nl [] = Unit {0}
+AreDeclared nl (r ∷ rs) = (r.number < nl) × IsOptionWanted nl r.value × AreDeclared nl rs
 
 abbrev mutual
   pub IsStmtSound : ℕ → stmt.Action → Type 0
-  IsStmtSound nl (stmt.block_of p ss q) = AreStmtsSound nl ss
-  IsStmtSound nl (stmt.reach p rs) = AreReached nl rs
-  IsStmtSound nl (stmt.evaluate p v) = IsOptionSound nl v
-  IsStmtSound nl (stmt.test p c a) = IsWanted nl c × IsStmtSound nl a
-  IsStmtSound nl (stmt.test_else p c a b) = IsWanted nl c × IsStmtSound nl a × IsStmtSound nl b
-  IsStmtSound nl (stmt.repeat_while p c a) = IsWanted nl c × IsStmtSound nl a
-  IsStmtSound nl (stmt.repeat_until p a c) = IsWanted nl c × IsStmtSound nl a
-  IsStmtSound nl (stmt.repeat_for p rs u c w a) = AreReached nl rs × IsOptionSound nl u × IsOptionWanted nl c × IsOptionSound nl w × IsStmtSound nl a
-  IsStmtSound nl (stmt.switch_on p v a) = IsWanted nl v × IsStmtSound nl a
-  IsStmtSound nl (stmt.at_case p n a) = IsStmtSound nl a
-  IsStmtSound nl (stmt.at_default p a) = IsStmtSound nl a
-  IsStmtSound nl (stmt.at_label p l a) = IsStmtSound nl a
-  IsStmtSound nl (stmt.give p v) = IsOptionWanted nl v
+  IsStmtSound nl (stmt.block p ss q) = AreStmtsSound nl ss
+  IsStmtSound nl (stmt.declare p rs) = AreDeclared nl rs
+  IsStmtSound nl (stmt.do_expr p v) = IsOptionSound nl v
+  IsStmtSound nl (stmt.if_only p c a) = IsWanted nl c × IsStmtSound nl a
+  IsStmtSound nl (stmt.if_else p c a b) = IsWanted nl c × IsStmtSound nl a × IsStmtSound nl b
+  IsStmtSound nl (stmt.while p c a) = IsWanted nl c × IsStmtSound nl a
+  IsStmtSound nl (stmt.do_while p a c) = IsWanted nl c × IsStmtSound nl a
+  IsStmtSound nl (stmt.for p rs u c w a) = AreDeclared nl rs × IsOptionSound nl u × IsOptionWanted nl c × IsOptionSound nl w × IsStmtSound nl a
+  IsStmtSound nl (stmt.switch p v a) = IsWanted nl v × IsStmtSound nl a
+  IsStmtSound nl (stmt.case p n a) = IsStmtSound nl a
+  IsStmtSound nl (stmt.default p a) = IsStmtSound nl a
+  IsStmtSound nl (stmt.label p l a) = IsStmtSound nl a
+  IsStmtSound nl (stmt.return p v) = IsOptionWanted nl v
   IsStmtSound nl a = Unit {0}
 
   pub AreStmtsSound : ℕ → stmt.Actions → Type 0
@@ -84,7 +84,7 @@ abbrev mutual
   expr_nodes (expr.inner p v) = expr_nodes v + 1
   expr_nodes (expr.signed p m kind v) = expr_nodes v + 1
   expr_nodes (expr.negated p v) = expr_nodes v + 1
-  expr_nodes (expr.stepped p behind m kind place) = place_nodes place + 1
+  expr_nodes (expr.stepped p is_postfix m kind place) = place_nodes place + 1
   expr_nodes (expr.computed p m kind a b) = expr_nodes a + expr_nodes b + 1
   expr_nodes (expr.compared p m a b) = expr_nodes a + expr_nodes b + 1
   expr_nodes (expr.joined_by p m a b) = expr_nodes a + expr_nodes b + 1
@@ -109,25 +109,25 @@ abbrev pub option_nodes : Option expr.Value → ℕ
 option_nodes None = 0
 option_nodes (Some v) = expr_nodes v
 
-abbrev pub reach_nodes : List stmt.Reached → ℕ
-reach_nodes [] = 0
-reach_nodes (r ∷ rs) = option_nodes r.value + 1 + reach_nodes rs
+abbrev pub declare_nodes : List stmt.DeclaredLocal → ℕ
+declare_nodes [] = 0
+declare_nodes (r ∷ rs) = option_nodes r.value + 1 + declare_nodes rs
 
 abbrev mutual
   pub stmt_nodes : stmt.Action → ℕ
-  stmt_nodes (stmt.block_of p ss q) = stmts_nodes ss + 1
-  stmt_nodes (stmt.reach p rs) = reach_nodes rs + 1
-  stmt_nodes (stmt.evaluate p v) = option_nodes v + 1
-  stmt_nodes (stmt.test p c a) = expr_nodes c + stmt_nodes a + 1
-  stmt_nodes (stmt.test_else p c a b) = expr_nodes c + stmt_nodes a + stmt_nodes b + 1
-  stmt_nodes (stmt.repeat_while p c a) = expr_nodes c + stmt_nodes a + 1
-  stmt_nodes (stmt.repeat_until p a c) = expr_nodes c + stmt_nodes a + 1
-  stmt_nodes (stmt.repeat_for p rs u c w a) = reach_nodes rs + option_nodes u + option_nodes c + option_nodes w + stmt_nodes a + 1
-  stmt_nodes (stmt.switch_on p v a) = expr_nodes v + stmt_nodes a + 1
-  stmt_nodes (stmt.at_case p n a) = stmt_nodes a + 1
-  stmt_nodes (stmt.at_default p a) = stmt_nodes a + 1
-  stmt_nodes (stmt.at_label p l a) = stmt_nodes a + 1
-  stmt_nodes (stmt.give p v) = option_nodes v + 1
+  stmt_nodes (stmt.block p ss q) = stmts_nodes ss + 1
+  stmt_nodes (stmt.declare p rs) = declare_nodes rs + 1
+  stmt_nodes (stmt.do_expr p v) = option_nodes v + 1
+  stmt_nodes (stmt.if_only p c a) = expr_nodes c + stmt_nodes a + 1
+  stmt_nodes (stmt.if_else p c a b) = expr_nodes c + stmt_nodes a + stmt_nodes b + 1
+  stmt_nodes (stmt.while p c a) = expr_nodes c + stmt_nodes a + 1
+  stmt_nodes (stmt.do_while p a c) = expr_nodes c + stmt_nodes a + 1
+  stmt_nodes (stmt.for p rs u c w a) = declare_nodes rs + option_nodes u + option_nodes c + option_nodes w + stmt_nodes a + 1
+  stmt_nodes (stmt.switch p v a) = expr_nodes v + stmt_nodes a + 1
+  stmt_nodes (stmt.case p n a) = stmt_nodes a + 1
+  stmt_nodes (stmt.default p a) = stmt_nodes a + 1
+  stmt_nodes (stmt.label p l a) = stmt_nodes a + 1
+  stmt_nodes (stmt.return p v) = option_nodes v + 1
   stmt_nodes a = 1
 
   pub stmts_nodes : stmt.Actions → ℕ

@@ -1,4 +1,4 @@
--- The variables behind the locals: one for each kind that a value has and each number of values that wait below it. So a
+-- The variables after the locals: one for each kind that a value has and each number of values that wait below it. So a
 -- variable has one kind, and an expression uses none that a value waits in.
 --   column kind             which of five a value of this kind has
 --   temp nl d c             the variable of a value that has d values below it
@@ -8,8 +8,8 @@
 --   temp_of nl d v          the variable of its value
 --   fitting_column want own    the column of an operand beside one of the column `want`: `NULL` beside a text is one
 --   operand nl d want v     the variable of such an operand
---   local_column k, param_column p    the column that a local of a kind wants, and a parameter
---   front_column ps, tail ps    the column of the first of the parameters that are left, if any, and those behind it
+--   local_column k, param_column p    the column that a local of a kind needs, and a parameter
+--   front_column ps, tail ps    the column of the first of the parameters that are left, if any, and those after it
 --   arg_var nl d ps v, arg_vars nl d ps vs    the variable of an argument of a call where these parameters are left, and those of all, in order
 use Rattle.std.specs.Prelude.{ℕ, ◌+◌, ◌*◌, ◌==◌, nat_le, ◌&&◌, List, [], ◌∷◌, Option, Some, None, if◌then◌else◌}
 use Rattle.pungi_api.specs.declared.answer.Answer.{Answer}
@@ -60,7 +60,7 @@ value_column (expr.read p kind place) = column kind
 value_column (expr.inner p v) = value_column v
 value_column (expr.signed p m kind v) = column kind
 value_column (expr.negated p v) = 0
-value_column (expr.stepped p behind m kind place) = column kind
+value_column (expr.stepped p is_postfix m kind place) = column kind
 value_column (expr.computed p m kind a b) = column kind
 value_column (expr.compared p m a b) = 0
 value_column (expr.joined_by p m a b) = 0

@@ -4,11 +4,12 @@
 --   IsNumber, IsText, IsObject v    what a value is; NULL is a text, too
 --   Goes k c n, GoesIn k v          a value may stand in a variable of this kind: by its column, and whether it is NULL
 --   Alike a b                       two values that `==` may compare, and `?:` join: are_numbers, are_objects, are_texts
---   AreComparable order a b         so, and numbers where the order is asked
+--   AreComparable order a b         so, and numbers where the order is compared
 --   IsHeld vars x k                 a variable is there and holds this
 --   IsArgument p v                  a value may be passed for a parameter
 --   IsTyped file vars v, IsPlaceTyped, AreTyped    an expression, a place for a kind, arguments
---   IsOptionTyped, IsInitial, IsReachedTyped, AreReachedTyped    one that may be missing, a first value, declared locals
+--   IsOptionTyped, IsInitial, IsDeclaredTyped, AreDeclaredTyped  one that may be missing, a first value, declared
+--                                                                locals
 --   IsStmtTyped file vars a, AreStmtsTyped         statements
 use Rattle.std.specs.Prelude.{◌≡◌, ℕ, ◌<◌, ◌≤◌, ◌⊎◌, Bool, true, false, ◌&&◌, List, [], ◌∷◌, length, Option, Some, None}
 use Rattle.pungi_tree.specs.Syntax.{Item}
@@ -94,7 +95,7 @@ abbrev mutual
   IsTyped file vars (expr.inner p v) = IsTyped file vars v
   IsTyped file vars (expr.signed p m kind v) = (is_counted kind ≡ true) × GoesIn (slot_kind kind) v × IsTyped file vars v
   IsTyped file vars (expr.negated p v) = IsTyped file vars v
-  IsTyped file vars (expr.stepped p behind m kind place) = (is_counted kind ≡ true) × IsPlaceTyped file vars kind place
+  IsTyped file vars (expr.stepped p is_postfix m kind place) = (is_counted kind ≡ true) × IsPlaceTyped file vars kind place
   IsTyped file vars (expr.computed p m kind a b) = (is_counted kind ≡ true) × IsNumber a × IsTyped file vars a × IsNumber b × IsTyped file vars b
   IsTyped file vars (expr.compared p m a b) = AreComparable (is_order (cmp_of m)) a b × IsTyped file vars a × IsTyped file vars b
   IsTyped file vars (expr.joined_by p m a b) = IsTyped file vars a × IsTyped file vars b
@@ -132,30 +133,30 @@ abbrev pub IsInitial : List Item → List Param → ValueKind → Option expr.Va
 IsInitial file vars kind None = Unit {0}
 IsInitial file vars kind (Some v) = GoesIn (slot_kind kind) v × IsTyped file vars v
 
-abbrev pub IsReachedTyped : List Item → List Param → ℕ → Option ValueKind → Option expr.Value → Type 0
-IsReachedTyped file vars x None v = ⊥
-IsReachedTyped file vars x (Some kind) v = (is_kept kind ≡ true) × IsHeld vars x (slot_kind kind) × IsInitial file vars kind v
+abbrev pub IsDeclaredTyped : List Item → List Param → ℕ → Option ValueKind → Option expr.Value → Type 0
+IsDeclaredTyped file vars x None v = ⊥
+IsDeclaredTyped file vars x (Some kind) v = (is_kept kind ≡ true) × IsHeld vars x (slot_kind kind) × IsInitial file vars kind v
 
-abbrev pub AreReachedTyped : List Item → List Param → List stmt.Reached → Type 0
-AreReachedTyped file vars [] = Unit {0}
-AreReachedTyped file vars (r ∷ rs) = IsReachedTyped file vars r.number r.kind r.value × AreReachedTyped file vars rs
+abbrev pub AreDeclaredTyped : List Item → List Param → List stmt.DeclaredLocal → Type 0
+AreDeclaredTyped file vars [] = Unit {0}
+AreDeclaredTyped file vars (r ∷ rs) = IsDeclaredTyped file vars r.number r.kind r.value × AreDeclaredTyped file vars rs
 
 abbrev mutual
   pub IsStmtTyped : List Item → List Param → stmt.Action → Type 0
-  IsStmtTyped file vars (stmt.block_of p ss q) = AreStmtsTyped file vars ss
-  IsStmtTyped file vars (stmt.reach p rs) = AreReachedTyped file vars rs
-  IsStmtTyped file vars (stmt.evaluate p v) = IsOptionTyped file vars v
-  IsStmtTyped file vars (stmt.test p c a) = IsTyped file vars c × IsStmtTyped file vars a
-  IsStmtTyped file vars (stmt.test_else p c a b) = IsTyped file vars c × IsStmtTyped file vars a × IsStmtTyped file vars b
-  IsStmtTyped file vars (stmt.repeat_while p c a) = IsTyped file vars c × IsStmtTyped file vars a
-  IsStmtTyped file vars (stmt.repeat_until p a c) = IsTyped file vars c × IsStmtTyped file vars a
-  IsStmtTyped file vars (stmt.repeat_for p rs u c w a) =
-      AreReachedTyped file vars rs × IsOptionTyped file vars u × IsOptionTyped file vars c × IsOptionTyped file vars w × IsStmtTyped file vars a
-  IsStmtTyped file vars (stmt.switch_on p v a) = IsNumber v × IsTyped file vars v × IsStmtTyped file vars a
-  IsStmtTyped file vars (stmt.at_case p n a) = (fits kinds.Long n ≡ true) × IsStmtTyped file vars a
-  IsStmtTyped file vars (stmt.at_default p a) = IsStmtTyped file vars a
-  IsStmtTyped file vars (stmt.at_label p l a) = IsStmtTyped file vars a
-  IsStmtTyped file vars (stmt.give p v) = IsOptionTyped file vars v
+  IsStmtTyped file vars (stmt.block p ss q) = AreStmtsTyped file vars ss
+  IsStmtTyped file vars (stmt.declare p rs) = AreDeclaredTyped file vars rs
+  IsStmtTyped file vars (stmt.do_expr p v) = IsOptionTyped file vars v
+  IsStmtTyped file vars (stmt.if_only p c a) = IsTyped file vars c × IsStmtTyped file vars a
+  IsStmtTyped file vars (stmt.if_else p c a b) = IsTyped file vars c × IsStmtTyped file vars a × IsStmtTyped file vars b
+  IsStmtTyped file vars (stmt.while p c a) = IsTyped file vars c × IsStmtTyped file vars a
+  IsStmtTyped file vars (stmt.do_while p a c) = IsTyped file vars c × IsStmtTyped file vars a
+  IsStmtTyped file vars (stmt.for p rs u c w a) =
+      AreDeclaredTyped file vars rs × IsOptionTyped file vars u × IsOptionTyped file vars c × IsOptionTyped file vars w × IsStmtTyped file vars a
+  IsStmtTyped file vars (stmt.switch p v a) = IsNumber v × IsTyped file vars v × IsStmtTyped file vars a
+  IsStmtTyped file vars (stmt.case p n a) = (fits kinds.Long n ≡ true) × IsStmtTyped file vars a
+  IsStmtTyped file vars (stmt.default p a) = IsStmtTyped file vars a
+  IsStmtTyped file vars (stmt.label p l a) = IsStmtTyped file vars a
+  IsStmtTyped file vars (stmt.return p v) = IsOptionTyped file vars v
   IsStmtTyped file vars a = Unit {0}
 
   pub AreStmtsTyped : List Item → List Param → stmt.Actions → Type 0

@@ -1,6 +1,7 @@
 -- Where one statement's instructions end and another's begin, no temporary is kept.
 --   expr_positions v, place_positions place, values_positions vs    the places in the text of the nodes of an expression
---   option_positions o, reach_positions rs    those of one that may be missing, and of declared locals with their first values
+--   option_positions o, declare_positions rs  those of one that may be missing, and of declared locals with their first
+--                                             values
 --   own a                       those of a statement's own nodes: without those of the statements in it
 --   parts a, parts_of ss        a statement and those in it
 --   IsAmong p ps, IsPart a as   members
@@ -28,7 +29,7 @@ abbrev mutual
   expr_positions (expr.inner p v) = p ∷ expr_positions v
   expr_positions (expr.signed p m kind v) = p ∷ expr_positions v
   expr_positions (expr.negated p v) = p ∷ expr_positions v
-  expr_positions (expr.stepped p behind m kind place) = p ∷ place_positions place
+  expr_positions (expr.stepped p is_postfix m kind place) = p ∷ place_positions place
   expr_positions (expr.computed p m kind a b) = p ∷ (expr_positions a ++ expr_positions b)
   expr_positions (expr.compared p m a b) = p ∷ (expr_positions a ++ expr_positions b)
   expr_positions (expr.joined_by p m a b) = p ∷ (expr_positions a ++ expr_positions b)
@@ -56,48 +57,48 @@ abbrev pub option_positions : Option expr.Value → List Pos
 option_positions None = []
 option_positions (Some v) = expr_positions v
 
-abbrev pub reach_positions : List stmt.Reached → List Pos
-reach_positions [] = []
-reach_positions (r ∷ rs) = r.at ∷ (option_positions r.value ++ reach_positions rs)
+abbrev pub declare_positions : List stmt.DeclaredLocal → List Pos
+declare_positions [] = []
+declare_positions (r ∷ rs) = r.at ∷ (option_positions r.value ++ declare_positions rs)
 
 -- ---- statements
 
 abbrev pub own : stmt.Action → List Pos
-own (stmt.block_of p ss q) = p ∷ []
-own (stmt.reach p rs) = p ∷ reach_positions rs
-own (stmt.evaluate p v) = p ∷ option_positions v
-own (stmt.test p c a) = p ∷ expr_positions c
-own (stmt.test_else p c a b) = p ∷ expr_positions c
-own (stmt.repeat_while p c a) = p ∷ expr_positions c
-own (stmt.repeat_until p a c) = p ∷ expr_positions c
-own (stmt.repeat_for p rs u c w a) = p ∷ (reach_positions rs ++ (option_positions u ++ (option_positions c ++ option_positions w)))
-own (stmt.switch_on p v a) = p ∷ expr_positions v
-own (stmt.at_case p n a) = p ∷ []
-own (stmt.at_default p a) = p ∷ []
-own (stmt.at_label p l a) = p ∷ []
-own (stmt.jump p l) = p ∷ []
-own (stmt.leave p) = p ∷ []
-own (stmt.next_turn p) = p ∷ []
-own (stmt.give p v) = p ∷ option_positions v
+own (stmt.block p ss q) = p ∷ []
+own (stmt.declare p rs) = p ∷ declare_positions rs
+own (stmt.do_expr p v) = p ∷ option_positions v
+own (stmt.if_only p c a) = p ∷ expr_positions c
+own (stmt.if_else p c a b) = p ∷ expr_positions c
+own (stmt.while p c a) = p ∷ expr_positions c
+own (stmt.do_while p a c) = p ∷ expr_positions c
+own (stmt.for p rs u c w a) = p ∷ (declare_positions rs ++ (option_positions u ++ (option_positions c ++ option_positions w)))
+own (stmt.switch p v a) = p ∷ expr_positions v
+own (stmt.case p n a) = p ∷ []
+own (stmt.default p a) = p ∷ []
+own (stmt.label p l a) = p ∷ []
+own (stmt.goto p l) = p ∷ []
+own (stmt.break p) = p ∷ []
+own (stmt.continue p) = p ∷ []
+own (stmt.return p v) = p ∷ option_positions v
 
 abbrev mutual
   pub parts : stmt.Action → List stmt.Action
-  parts (stmt.block_of p ss q) = stmt.block_of p ss q ∷ parts_of ss
-  parts (stmt.test p c a) = stmt.test p c a ∷ parts a
-  parts (stmt.test_else p c a b) = stmt.test_else p c a b ∷ (parts a ++ parts b)
-  parts (stmt.repeat_while p c a) = stmt.repeat_while p c a ∷ parts a
-  parts (stmt.repeat_until p a c) = stmt.repeat_until p a c ∷ parts a
-  parts (stmt.repeat_for p rs u c w a) = stmt.repeat_for p rs u c w a ∷ parts a
-  parts (stmt.switch_on p v a) = stmt.switch_on p v a ∷ parts a
-  parts (stmt.at_case p n a) = stmt.at_case p n a ∷ parts a
-  parts (stmt.at_default p a) = stmt.at_default p a ∷ parts a
-  parts (stmt.at_label p l a) = stmt.at_label p l a ∷ parts a
-  parts (stmt.reach p rs) = stmt.reach p rs ∷ []
-  parts (stmt.evaluate p v) = stmt.evaluate p v ∷ []
-  parts (stmt.jump p l) = stmt.jump p l ∷ []
-  parts (stmt.leave p) = stmt.leave p ∷ []
-  parts (stmt.next_turn p) = stmt.next_turn p ∷ []
-  parts (stmt.give p v) = stmt.give p v ∷ []
+  parts (stmt.block p ss q) = stmt.block p ss q ∷ parts_of ss
+  parts (stmt.if_only p c a) = stmt.if_only p c a ∷ parts a
+  parts (stmt.if_else p c a b) = stmt.if_else p c a b ∷ (parts a ++ parts b)
+  parts (stmt.while p c a) = stmt.while p c a ∷ parts a
+  parts (stmt.do_while p a c) = stmt.do_while p a c ∷ parts a
+  parts (stmt.for p rs u c w a) = stmt.for p rs u c w a ∷ parts a
+  parts (stmt.switch p v a) = stmt.switch p v a ∷ parts a
+  parts (stmt.case p n a) = stmt.case p n a ∷ parts a
+  parts (stmt.default p a) = stmt.default p a ∷ parts a
+  parts (stmt.label p l a) = stmt.label p l a ∷ parts a
+  parts (stmt.declare p rs) = stmt.declare p rs ∷ []
+  parts (stmt.do_expr p v) = stmt.do_expr p v ∷ []
+  parts (stmt.goto p l) = stmt.goto p l ∷ []
+  parts (stmt.break p) = stmt.break p ∷ []
+  parts (stmt.continue p) = stmt.continue p ∷ []
+  parts (stmt.return p v) = stmt.return p v ∷ []
 
   pub parts_of : stmt.Actions → List stmt.Action
   parts_of stmt.no_actions = []

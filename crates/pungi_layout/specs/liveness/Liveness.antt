@@ -1,11 +1,11 @@
 -- Which variables an instruction reads and writes, and where it leads. What is written before it is read.
 --   atom_vars a, atoms_vars as, place_vars place, var_of o, vars_of os    the variables of atoms, of a place, of results
 --   reads i, writes i           the variables that an instruction reads, and those that it writes
---   following pc i              the places that may come behind an instruction at this place
+--   following pc i              the places that may come after an instruction at this place
 --   Among x xs                  a member
 --   IsKnown nl ws x, AreKnown nl ws xs    a local, or one of those that were written
 --   Each next ws qs             from each of these places on
---   LineKeeps next nl ws pc o   an instruction reads only what is known, and so do those behind it
+--   LineKeeps next nl ws pc o   an instruction reads only what is known, and so do those after it
 --   WritesFirst code nl n pc ws    on no path of n instructions from this place is a variable read that is no local, not one of
 --                               these, and was not written before on the path
 --   AreDead code nl pc          no path from this place reads a temporary before it writes it

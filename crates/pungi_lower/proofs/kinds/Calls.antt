@@ -22,7 +22,7 @@ use Rattle.pungi_types.specs.Files.{SourceFile, Definition, definitions, definit
 use Rattle.pungi_types.specs.Names.{Env, local_in, global_kind, is_own_static}
 use Rattle.pungi_types.specs.Operators.{prefix_of, is_integer, is_void, fits, is_same_kind}
 use Rattle.pungi_types.specs.Exprs.{kind_of, cast_kind, names_type_object, names_module, is_address, is_module_address, Callee, a_value, a_row, no_function, callee, local_called_or, defined_or, row_or, param_want, row_wants, row_kind, wants_module, first_met}
-use Rattle.pungi_resolve.specs.Exprs.{convert, convert_some, cast_value, static_behind, module_behind, resolve, want_kind, expr_pos}
+use Rattle.pungi_resolve.specs.Exprs.{convert, convert_some, cast_value, static_address, module_address, resolve, want_kind, expr_pos}
 use Rattle.pungi_resolved.specs.Values.{Value, Values, called_row, converted, cast_of, dropped}
 use Rattle.pungi_code.specs.WellFormed.{form_params, wanted_params}
 use Rattle.pungi_resolve.proofs.Clean.{and_right}
@@ -67,16 +67,16 @@ module _ (file : List Item) (vars : List Param) where
 
   -- .. addresses
   pub static_typed : (env : Env) (p : Pos) (e : Expr) → is_some (if names_type_object env e then Some (kinds.Object None) else None) ≡ true
-      → Typed file vars (if names_type_object env e then Some (kinds.Object None) else None) (static_behind env p e)
-  static_typed env p (word q w) h = record { typed = λ n. tt; kin = λ n. kin_if (names_type_object env (word q w)) (Some (kinds.Object None)) (static_behind env p (word q w)) refl }
+      → Typed file vars (if names_type_object env e then Some (kinds.Object None) else None) (static_address env p e)
+  static_typed env p (word q w) h = record { typed = λ n. tt; kin = λ n. kin_if (names_type_object env (word q w)) (Some (kinds.Object None)) (static_address env p (word q w)) refl }
   static_typed env p _ h = absurd (cc)
 
   -- the address of a module table is one
-  under_module : (env : Env) (p : Pos) (k : Kind) (e : Expr) → names_module env e ≡ true → (value_column (module_behind (unary p k e)) ≡ 3) × IsTyped file vars (module_behind (unary p k e))
+  under_module : (env : Env) (p : Pos) (k : Kind) (e : Expr) → names_module env e ≡ true → (value_column (module_address (unary p k e)) ≡ 3) × IsTyped file vars (module_address (unary p k e))
   under_module env p k (word q w) h = (refl, tt)
   under_module env p k _ h = absurd (cc)
 
-  module_typed : (env : Env) (e : Expr) → is_module_address env e ≡ true → (value_column (module_behind e) ≡ 3) × IsTyped file vars (module_behind e)
+  module_typed : (env : Env) (e : Expr) → is_module_address env e ≡ true → (value_column (module_address e) ≡ 3) × IsTyped file vars (module_address e)
   module_typed env (unary p k e) h = under_module env p k e (and_right (is_address (prefix_of k)) (names_module env e) h)
   module_typed env _ h = absurd (cc)
 
@@ -114,7 +114,7 @@ module _ (file : List Item) (vars : List Param) where
 
   pub arg_typed : (env : Env) (p : Param) (ws : List Want) (e : Expr) → first_met (param_want p ∷ ws) (is_module_address env e) (kind_of env e) ≡ true
       → ((wants_module (param_want p ∷ ws) && is_module_address env e) ≡ false → is_some (kind_of env e) ≡ true) → ((wants_module (param_want p ∷ ws) && is_module_address env e) ≡ false → Typed file vars (kind_of env e) (resolve env e))
-      → ArgTyped p (if wants_module (param_want p ∷ ws) && is_module_address env e then module_behind e else convert (expr_pos e) (want_kind (param_want p ∷ ws)) (kind_of env e) (resolve env e))
+      → ArgTyped p (if wants_module (param_want p ∷ ws) && is_module_address env e then module_address e else convert (expr_pos e) (want_kind (param_want p ∷ ws)) (kind_of env e) (resolve env e))
   arg_typed env param.Int ws e h s t =
       let g = convert_going file vars (expr_pos e) (Some kinds.Int) (kind_of env e) (resolve env e) (known_fits kinds.Int (kind_of env e) (s refl) h) (t refl) in
       record { typed = g.typed; fits = λ n. (g.goes n).1 }
@@ -139,7 +139,7 @@ module _ (file : List Item) (vars : List Param) where
   arg_typed env param.ModuleDef ws e h s t =
       let m = table_address (is_module_address env e) (kind_of env e) s h in
       let g = module_typed env e m in
-      subst (λ (b : Bool). ArgTyped param.ModuleDef (if b then module_behind e else convert (expr_pos e) None (kind_of env e) (resolve env e))) (sym m) (record { typed = λ n. g.1; fits = λ n. g.0 })
+      subst (λ (b : Bool). ArgTyped param.ModuleDef (if b then module_address e else convert (expr_pos e) None (kind_of env e) (resolve env e))) (sym m) (record { typed = λ n. g.1; fits = λ n. g.0 })
 
   -- what the rules want is what a row takes
   pub same_wants : (f : Form) (ps : List Param) → row_wants f ps ≡ map param_want (form_params f ps)

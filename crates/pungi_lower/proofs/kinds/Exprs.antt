@@ -16,8 +16,8 @@ use Rattle.pungi_types.specs.Names.{Env, local_in}
 use Rattle.pungi_types.specs.Kinds.{type_name_kind}
 use Rattle.pungi_types.specs.Findings.{Findings, nothing_found, ◌and◌}
 use Rattle.pungi_types.specs.Operators.{prefix_of, is_integer, is_bits_assign, is_arithmetic_assign}
-use Rattle.pungi_types.specs.Exprs.{Callee, no_word, a_value, defined, a_row, no_function, kind_of, is_place, is_address, names_type_object, is_module_address, callee, param_want, wants, wants_module, first_met, are_met, is_word, operand, result_kind, unary_kind, assign_kind, used, expr_findings, args_findings}
-use Rattle.pungi_resolve.specs.Exprs.{post_kind, resolve, place_of, resolve_all, call_value, callee_name, unary_value, convert, want_kind, expr_pos, module_behind}
+use Rattle.pungi_types.specs.Exprs.{Callee, no_word, a_value, defined, a_row, no_function, kind_of, is_place, is_address, names_type_object, is_module_address, callee, param_want, wants, wants_module, first_met, are_met, is_word, operand, result_kind, unary_kind, assign_kind, void_use, expr_findings, args_findings}
+use Rattle.pungi_resolve.specs.Exprs.{post_kind, resolve, place_of, resolve_all, call_value, callee_name, unary_value, convert, want_kind, expr_pos, module_address}
 use Rattle.pungi_resolved.specs.Values.{Value, Values, inner}
 use Rattle.pungi_code.specs.WellFormed.{wanted_params}
 use Rattle.pungi_resolve.proofs.Clean.{Clean, left, right, not_when, not_false, and_left, and_right}
@@ -178,12 +178,12 @@ mutual
   args_kinds vars env h b r (q ∷ ps) (expr_and e es) c m n =
       let ws : List Want = param_want q ∷ map param_want ps in
       let skipped = wants_module ws && is_module_address env e in
-      let first : Findings = (if skipped then nothing_found else expr_findings env e and used env e) in
+      let first : Findings = (if skipped then nothing_found else expr_findings env e and void_use env e) in
       let one = left first _ c in
       let x = arg_typed env.file.items vars env q (map param_want ps) e (argument-met env ws e one (and_left (first_met ws (is_module_address env e) (operand (kind_of env e) e)) _ m))
       (λ s. (expr-good env h e (left (expr_findings env e) _ (unless skipped _ one s))).known)
       (λ s. (expr_kinds vars env h b r e (left (expr_findings env e) _ (unless skipped _ one s))).value) in
-      let v : Value = (if skipped then module_behind e else convert (expr_pos e) (want_kind ws) (kind_of env e) (resolve env e)) in
+      let v : Value = (if skipped then module_address e else convert (expr_pos e) (want_kind ws) (kind_of env e) (resolve env e)) in
       let more = resolve_all env (map param_want ps) es in
       let n1 = and_left (calls_none v) (call_none more) n in
       (x.fits n1, x.typed n1, args_kinds vars env h b r ps es (right first _ c) (and_right (first_met ws (is_module_address env e) (operand (kind_of env e) e)) _ m) (and_right (calls_none v) (call_none more) n))

@@ -1,4 +1,4 @@
--- A function of which no rule is told is of the kinds that it needs, and its code is well-formed.
+-- A function in which no rule holds is of the kinds that it needs, and its code is well-formed.
 use Rattle.std.proofs.Common.{◌≡◌, ◌∙◌, ℕ, suc, ◌+◌, ◌<◌, arith, true, false, List, [], ◌∷◌, ◌++◌, length, map, Some, refl, sym, ap, subst}
 use Rattle.std.specs.Prelude.{◌==◌, is_none, is_some, if◌then◌else◌}
 use Rattle.pungi_base.specs.declared.key.Key.{Key}
@@ -15,7 +15,7 @@ use Rattle.pungi_types.specs.Functions.{first_frame, after_param, after_params, 
 use Rattle.pungi_types.specs.Labels.{label_findings, param_count}
 use Rattle.pungi_resolve.specs.Functions.{params_kinds, param_kinds, first_site, resolved_in}
 use Rattle.pungi_resolve.specs.Stmts.{Site, with_params, params_site, body_action}
-use Rattle.pungi_resolved.specs.Actions.{Reached}
+use Rattle.pungi_resolved.specs.Actions.{DeclaredLocal}
 use Rattle.pungi_types.specs.Stmts.{Frame, spec_pos, has_file_storage, declared_n1, in_block}
 use Rattle.pungi_code.specs.WellFormed.{IsWellFormed}
 use Rattle.pungi_resolve.specs.Passed.{IsPassed}
@@ -27,7 +27,7 @@ use Rattle.pungi_layout.specs.code.Sound.{stmt_nodes}
 use Rattle.pungi_layout.specs.kinds.Typed.{IsHeld, IsStmtTyped}
 use Rattle.pungi_layout.specs.code.Calls.{has_no_call}
 use Rattle.pungi_layout.specs.code.FunctionCode.{code_of, HasLocals}
-use Rattle.pungi_layout.specs.code.VarKinds.{held_kind, kind_held, stmt_reached, temp_kinds, var_kinds}
+use Rattle.pungi_layout.specs.code.VarKinds.{held_kind, kind_held, stmt_declared, temp_kinds, var_kinds}
 use Rattle.pungi_layout.proofs.well_formed.FunctionCode.{well-formed}
 use Rattle.pungi_lower.proofs.kinds.Words.{may_be_kept, plain_kept, declared_kept, IsLocalHeld, HasVars}
 use Rattle.pungi_lower.proofs.kinds.Locals.{stmts_count, AreHeld, kind_of_held, Knows, one_more_held}
@@ -55,9 +55,9 @@ seg_of : (pre ks post : List Param) → Seg (pre ++ (ks ++ post)) (length pre) k
 seg_of [] ks post = seg_front ks post
 seg_of (x ∷ pre) ks post = seg_behind x (pre ++ (ks ++ post)) (length pre) ks (seg_of pre ks post)
 
-seg_reached : (vars : List Param) (n : ℕ) (rs : List Reached) → Seg vars n (map kind_held rs) → AreHeld vars n rs
-seg_reached vars n [] h = tt
-seg_reached vars n (r ∷ rs) h = (h.0, seg_reached vars (n + 1) rs h.1)
+seg_declared : (vars : List Param) (n : ℕ) (rs : List DeclaredLocal) → Seg vars n (map kind_held rs) → AreHeld vars n rs
+seg_declared vars n [] h = tt
+seg_declared vars n (r ∷ rs) h = (h.0, seg_declared vars (n + 1) rs h.1)
 
 -- .. parameters
 param_kept : (file : List Item) (s : Spec) (d : ParamDeclr) → may_be_kept (param_kind file s d) ≡ true
@@ -102,20 +102,20 @@ params_behind vars f (param_and (param_decl qs s d) ds) h b c =
     record { names = rest.names; file = rest.file ∙ one.file; next = omega (arith, rest.next, one.next); result = rest.result ∙ one.result }
 
 -- .. the body
-body_kinds : (vars : List Param) (p : Pos) (f : Frame) (s : Stmt) → Knows vars f.env → is_some f.result ≡ true → AreHeld vars f.next (stmt_reached (body_action p (site f) s)) → Clean (body_findings f s) → has_no_call (body_action p (site f) s) ≡ true
+body_kinds : (vars : List Param) (p : Pos) (f : Frame) (s : Stmt) → Knows vars f.env → is_some f.result ≡ true → AreHeld vars f.next (stmt_declared (body_action p (site f) s)) → Clean (body_findings f s) → has_no_call (body_action p (site f) s) ≡ true
     → IsStmtTyped f.env.file.items vars (body_action p (site f) s)
 body_kinds vars p f (block q ss t) h r b c n = stmts_kinds vars (record (in_block f ss) { block = f.block }) ss h r b c n
 body_kinds vars p f _ h r b c n = tt
 
 of_params : (vars : List Param) (f : Frame) (p : Pos) (s : Stmt) (ps : Params) → Knows vars f.env → is_some f.result ≡ true → Seg vars f.next (map held_kind (params_kinds f.env.file.items ps))
-    → AreHeld vars (f.next + params_count ps) (stmt_reached (body_action p (params_site (site f) ps) s)) → Clean (params_findings f ps) → Clean (body_findings (params_frame f ps) s)
+    → AreHeld vars (f.next + params_count ps) (stmt_declared (body_action p (params_site (site f) ps) s)) → Clean (params_findings f ps) → Clean (body_findings (params_frame f ps) s)
     → has_no_call (body_action p (params_site (site f) ps) s) ≡ true → IsStmtTyped f.env.file.items vars (body_action p (params_site (site f) ps) s)
 of_params vars f p s (params ds v dots) h r b held c d n =
     let g = after_params f ds in
     let k = params_behind vars f ds h b (right (dots_findings dots) _ c) in
     let e = params-site f ds in
-    let Held : Site → Type 0 = λ x. AreHeld vars g.next (stmt_reached (body_action p x s)) in
-    let there : Held (site g) = subst Held (sym e) (subst (λ (m : ℕ). AreHeld vars m (stmt_reached (body_action p (with_params (site f) ds) s))) (sym k.next) held) in
+    let Held : Site → Type 0 = λ x. AreHeld vars g.next (stmt_declared (body_action p x s)) in
+    let there : Held (site g) = subst Held (sym e) (subst (λ (m : ℕ). AreHeld vars m (stmt_declared (body_action p (with_params (site f) ds) s))) (sym k.next) held) in
     let Free : Site → Type 0 = λ x. has_no_call (body_action p x s) ≡ true in
     let typed = body_kinds vars p g s k.names (ap is_some k.result ∙ r) there d (subst Free (sym e) n) in
     subst (λ (fl : List Item). IsStmtTyped fl vars (body_action p (with_params (site f) ds) s)) k.file (subst (λ (x : Site). IsStmtTyped g.env.file.items vars (body_action p x s)) e typed)
@@ -135,7 +135,7 @@ map_long : {A B : Type 0} (g : A → B) (xs : List A) → length (map g xs) ≡ 
 map_long g [] = refl
 map_long g (x ∷ xs) = ap suc (map_long g xs)
 
-body_count : (p : Pos) (f : Site) (s : Stmt) → length (stmt_reached (body_action p f s)) ≡ body_locals s
+body_count : (p : Pos) (f : Site) (s : Stmt) → length (stmt_declared (body_action p f s)) ≡ body_locals s
 body_count p f (block q ss r) = stmts_count f ss
 body_count p f _ = refl
 
@@ -146,19 +146,19 @@ function-locals env d =
     let b = body_count d.pos (params_site (first_site env d) d.params) d.body in
     omega (arith, a, b)
 
--- a function of which no rule is told, and which calls none of the file
+-- a function in which no rule holds, and which calls none of the file
 pub function-kinds : (env : Env) (d : Definition) → IsPassed env d → are_rows env.file.rows ≡ true → has_no_call (resolved_in env d).body ≡ true → IsStmtTyped env.file.items (var_kinds (resolved_in env d)) (resolved_in env d).body
 function-kinds env d h rows n =
     let f = resolved_in env d in
     let frame = first_frame env d in
     let c = right (result_findings env d) _ (text-clean env d h.passed) in
     let pre = map held_kind f.params in
-    let own = map kind_held (stmt_reached f.body) in
+    let own = map kind_held (stmt_declared f.body) in
     let temps = temp_kinds (stmt_nodes f.body) in
     let e : length pre ≡ 0 + params_count d.params = let l = map_long held_kind f.params in let k = params-long env d in omega (arith, l, k) in
-    let held = seg_reached (var_kinds f) (length pre) (stmt_reached f.body) (seg_of pre own temps) in
+    let held = seg_declared (var_kinds f) (length pre) (stmt_declared f.body) (seg_of pre own temps) in
     of_params (var_kinds f) frame d.pos d.body d.params (record { kinds = names-passed env d h; held = none_held (var_kinds f) env h.outside; rows = λ w r k. rows-are env.file.rows w r rows k })
-    (result-known env d h.passed) (seg_front pre (own ++ temps)) (subst (λ (m : ℕ). AreHeld (var_kinds f) m (stmt_reached f.body)) e held)
+    (result-known env d h.passed) (seg_front pre (own ++ temps)) (subst (λ (m : ℕ). AreHeld (var_kinds f) m (stmt_declared f.body)) e held)
     (left (params_findings frame d.params) _ c) (right (label_findings [] d.body) _ (right (params_findings frame d.params) _ c)) n
 
 -- its code is well-formed

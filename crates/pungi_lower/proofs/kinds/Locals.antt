@@ -15,18 +15,18 @@ use Rattle.pungi_types.specs.Exprs.{kind_of, expr_findings}
 use Rattle.pungi_types.specs.Labels.{stmt_locals, stmts_locals, start_locals}
 use Rattle.pungi_resolve.specs.Exprs.{resolve, convert}
 use Rattle.pungi_resolved.specs.Values.{Value}
-use Rattle.pungi_resolve.specs.Stmts.{Site, with_var, with_start, past, after, initial, reached, start_reached, action, actions}
-use Rattle.pungi_resolved.specs.Actions.{Reached}
-use Rattle.pungi_types.specs.Stmts.{Frame, with_local, spec_pos, has_file_storage, declared_n1, declared_n8, is_wrong_initial, initial_findings, after_var, after_vars, var_findings, vars_findings}
+use Rattle.pungi_resolve.specs.Stmts.{Site, with_var, with_start, site_past, site_after, initial_value, declared_locals, start_declared, action, actions}
+use Rattle.pungi_resolved.specs.Actions.{DeclaredLocal}
+use Rattle.pungi_types.specs.Stmts.{Frame, with_local, spec_pos, has_file_storage, declared_n1, declared_n8, is_wrong_initial, first_value_findings, after_var, after_vars, var_findings, vars_findings}
 use Rattle.pungi_meaning.specs.Values.{slot_kind}
 use Rattle.pungi_resolve.proofs.Clean.{Clean, left, right, not_when, is_there, or_left, and_left, and_right}
 use Rattle.pungi_resolve.proofs.Known.{HasKinds, one_more, declared-not_void}
 use Rattle.pungi_resolve.proofs.UsedValues.{one-asked}
 use Rattle.pungi_resolve.proofs.SoundExprs.{expr-good}
 use Rattle.pungi_resolve.proofs.SoundStmts.{site, value_kind}
-use Rattle.pungi_layout.specs.kinds.Typed.{is_kept, IsHeld, IsInitial, IsReachedTyped, AreReachedTyped}
+use Rattle.pungi_layout.specs.kinds.Typed.{is_kept, IsHeld, IsInitial, IsDeclaredTyped, AreDeclaredTyped}
 use Rattle.pungi_layout.specs.code.Calls.{calls_none, is_free_option, are_free_locals}
-use Rattle.pungi_layout.specs.code.VarKinds.{held_kind, kind_held, stmt_reached, stmts_reached}
+use Rattle.pungi_layout.specs.code.VarKinds.{held_kind, kind_held, stmt_declared, stmts_declared}
 use Rattle.pungi_lower.proofs.kinds.Parts.{Going, convert_going}
 use Rattle.pungi_lower.proofs.kinds.Words.{may_be_kept, declared_kept, IsKindHeld, IsLocalHeld, HasVars}
 use Rattle.pungi_lower.proofs.kinds.Calls.{HasRows}
@@ -34,29 +34,29 @@ use Rattle.pungi_lower.proofs.kinds.Exprs.{expr_kinds}
 use Rattle.pungi_lower.proofs.sound.Stmts.{known-fit}
 
 -- .. how many there are
-reached_count : (f : Site) (s : Spec) (vs : List VarDecl) → length (reached f s vs) ≡ length vs
-reached_count f s [] = refl
-reached_count f s (var_decl d i ∷ vs) = ap suc (reached_count (with_var f s (var_decl d i)) s vs)
+declared_count : (f : Site) (s : Spec) (vs : List VarDecl) → length (declared_locals f s vs) ≡ length vs
+declared_count f s [] = refl
+declared_count f s (var_decl d i ∷ vs) = ap suc (declared_count (with_var f s (var_decl d i)) s vs)
 
-pub start_count : (f : Site) (a : ForStart) → length (start_reached f a) ≡ start_locals a
-start_count f (start_decl (decl qs s vs)) = reached_count f s vs
+pub start_count : (f : Site) (a : ForStart) → length (start_declared f a) ≡ start_locals a
+start_count f (start_decl (decl qs s vs)) = declared_count f s vs
 start_count f (start_expr e) = refl
 
 mutual
-  pub stmt_count : (f : Site) (s : Stmt) → length (stmt_reached (action f s)) ≡ stmt_locals s
+  pub stmt_count : (f : Site) (s : Stmt) → length (stmt_declared (action f s)) ≡ stmt_locals s
   stmt_count f (block p ss q) = stmts_count f ss
-  stmt_count f (declare p (decl qs s vs)) = reached_count f s vs
+  stmt_count f (declare p (decl qs s vs)) = declared_count f s vs
   stmt_count f (do_expr p e) = refl
   stmt_count f (if_only p e s) = stmt_count f s
   stmt_count f (if_else p e s t) =
-      let a = length-append (stmt_reached (action f s)) (stmt_reached (action (past f s) t)) in
+      let a = length-append (stmt_declared (action f s)) (stmt_declared (action (site_past f s) t)) in
       let b = stmt_count f s in
-      let c = stmt_count (past f s) t in
+      let c = stmt_count (site_past f s) t in
       omega (arith, a, b, c)
   stmt_count f (while p e s) = stmt_count f s
   stmt_count f (do_while p s e) = stmt_count f s
   stmt_count f (for p a b c s) =
-      let d = length-append (start_reached f a) (stmt_reached (action (with_start f a) s)) in
+      let d = length-append (start_declared f a) (stmt_declared (action (with_start f a) s)) in
       let e = start_count f a in
       let g = stmt_count (with_start f a) s in
       omega (arith, d, e, g)
@@ -69,25 +69,25 @@ mutual
   stmt_count f (continue p) = refl
   stmt_count f (return p e) = refl
 
-  pub stmts_count : (f : Site) (ss : Stmts) → length (stmts_reached (actions f ss)) ≡ stmts_locals ss
+  pub stmts_count : (f : Site) (ss : Stmts) → length (stmts_declared (actions f ss)) ≡ stmts_locals ss
   stmts_count f no_stmts = refl
   stmts_count f (stmt_and s ss) =
-      let a = length-append (stmt_reached (action f s)) (stmts_reached (actions (after f s) ss)) in
+      let a = length-append (stmt_declared (action f s)) (stmts_declared (actions (site_after f s) ss)) in
       let b = stmt_count f s in
-      let c = stmts_count (after f s) ss in
+      let c = stmts_count (site_after f s) ss in
       omega (arith, a, b, c)
 
 -- .. their variables
 -- from this one on the variables hold what these locals hold
-abbrev pub AreHeld : List Param → ℕ → List Reached → Type 0
+abbrev pub AreHeld : List Param → ℕ → List DeclaredLocal → Type 0
 AreHeld vars n [] = Unit {0}
 AreHeld vars n (r ∷ rs) = IsHeld vars n (kind_held r) × AreHeld vars (n + 1) rs
 
-pub held_front : (vars : List Param) (n : ℕ) (rs qs : List Reached) → AreHeld vars n (rs ++ qs) → AreHeld vars n rs
+pub held_front : (vars : List Param) (n : ℕ) (rs qs : List DeclaredLocal) → AreHeld vars n (rs ++ qs) → AreHeld vars n rs
 held_front vars n [] qs h = tt
 held_front vars n (r ∷ rs) qs h = (h.0, held_front vars (n + 1) rs qs h.1)
 
-pub held_behind : (vars : List Param) (n m : ℕ) (rs qs : List Reached) → AreHeld vars n (rs ++ qs) → n + length rs ≡ m → AreHeld vars m qs
+pub held_behind : (vars : List Param) (n m : ℕ) (rs qs : List DeclaredLocal) → AreHeld vars n (rs ++ qs) → n + length rs ≡ m → AreHeld vars m qs
 held_behind vars n m [] qs h e = let k : n ≡ m = omega (arith, e) in subst (λ (x : ℕ). AreHeld vars x qs) k h
 held_behind vars n m (r ∷ rs) qs h e = held_behind vars (n + 1) m rs qs h.1 (omega (arith, e))
 
@@ -132,8 +132,8 @@ first_none file vars None = tt
 first_none file vars (Some k) = tt
 
 initial_typed : (vars : List Param) (f : Frame) (s : Spec) (d : Declr) (i : Option Init) → Knows vars (after_var f s (var_decl d i)).env → is_some (declared_kind f.env.file.items s d) ≡ true
-    → Clean (initial_findings (after_var f s (var_decl d i)).env (declared_kind f.env.file.items s d) (declr_pos d) i) → is_free_option (initial (site f) s (var_decl d i)) ≡ true
-    → IsFirst f.env.file.items vars (declared_kind f.env.file.items s d) (initial (site f) s (var_decl d i))
+    → Clean (first_value_findings (after_var f s (var_decl d i)).env (declared_kind f.env.file.items s d) (declr_pos d) i) → is_free_option (initial_value (site f) s (var_decl d i)) ≡ true
+    → IsFirst f.env.file.items vars (declared_kind f.env.file.items s d) (initial_value (site f) s (var_decl d i))
 initial_typed vars f s d None h t c n = first_none f.env.file.items vars (declared_kind f.env.file.items s d)
 initial_typed vars f s d (Some (table ts)) h t c n = first_none f.env.file.items vars (declared_kind f.env.file.items s d)
 initial_typed vars f s d (Some (value e)) h t c n =
@@ -146,20 +146,20 @@ initial_typed vars f s d (Some (value e)) h t c n =
     let g = convert_going f.env.file.items vars (declr_pos d) k (kind_of env e) (resolve env e) fit x.value in
     first_going f.env.file.items vars k (convert (declr_pos d) k (kind_of env e) (resolve env e)) g n
 
-reached_typed : (file : List Item) (vars : List Param) (x : ℕ) (k : Option ValueKind) (v : Option Value) → is_some k ≡ true → IsKindHeld vars x k → IsFirst file vars k v → IsReachedTyped file vars x k v
-reached_typed file vars x None v s h i = absurd (cc)
-reached_typed file vars x (Some k) v s h i = (h.0, h.1, i)
+declared_typed : (file : List Item) (vars : List Param) (x : ℕ) (k : Option ValueKind) (v : Option Value) → is_some k ≡ true → IsKindHeld vars x k → IsFirst file vars k v → IsDeclaredTyped file vars x k v
+declared_typed file vars x None v s h i = absurd (cc)
+declared_typed file vars x (Some k) v s h i = (h.0, h.1, i)
 
 -- .. declarations
--- variables, and the names behind them
+-- variables, and the names after them
 pub record Declared (vars : List Param) (f : Frame) (s : Spec) (vs : List VarDecl) : Type 0 where
   pub names : Knows vars (after_vars f s vs).env
   pub file : (after_vars f s vs).env.file.items ≡ f.env.file.items
   pub next : (after_vars f s vs).next ≡ f.next + length vs
   pub result : (after_vars f s vs).result ≡ f.result
-  pub typed : are_free_locals (reached (site f) s vs) ≡ true → AreReachedTyped f.env.file.items vars (reached (site f) s vs)
+  pub typed : are_free_locals (declared_locals (site f) s vs) ≡ true → AreDeclaredTyped f.env.file.items vars (declared_locals (site f) s vs)
 
-pub vars_kinds : (vars : List Param) (f : Frame) (qs : List Key) (s : Spec) (vs : List VarDecl) → Knows vars f.env → AreHeld vars f.next (reached (site f) s vs) → Clean (vars_findings f qs s vs) → Declared vars f s vs
+pub vars_kinds : (vars : List Param) (f : Frame) (qs : List Key) (s : Spec) (vs : List VarDecl) → Knows vars f.env → AreHeld vars f.next (declared_locals (site f) s vs) → Clean (vars_findings f qs s vs) → Declared vars f s vs
 vars_kinds vars f qs s [] h b c = record { names = h; file = refl; next = omega arith; result = refl; typed = λ n. tt }
 vars_kinds vars f qs s (var_decl d i ∷ vs) h b c =
     let k = declared_kind f.env.file.items s d in
@@ -180,8 +180,8 @@ vars_kinds vars f qs s (var_decl d i ∷ vs) h b c =
       next = omega (arith, rest.next);
       result = rest.result;
       typed = λ n. (
-        reached_typed f.env.file.items vars f.next k (initial (site f) s (var_decl d i)) (is_there k n1) held
-            (initial_typed vars f s d i g (is_there k n1) two (and_left (is_free_option (initial (site f) s (var_decl d i))) _ n)),
-        rest.typed (and_right (is_free_option (initial (site f) s (var_decl d i))) _ n),
+        declared_typed f.env.file.items vars f.next k (initial_value (site f) s (var_decl d i)) (is_there k n1) held
+            (initial_typed vars f s d i g (is_there k n1) two (and_left (is_free_option (initial_value (site f) s (var_decl d i))) _ n)),
+        rest.typed (and_right (is_free_option (initial_value (site f) s (var_decl d i))) _ n),
       );
     }

@@ -9,7 +9,7 @@ use Rattle.pungi_tree.specs.Syntax.{Item}
 use Rattle.pungi_api.specs.declared.param.Param.{Param}
 use Rattle.pungi_types.specs.declared.kind.ValueKind.{ValueKind}
 use Rattle.pungi_types.specs.declared.kind.ValueKind.TheVariants as kinds
-use Rattle.pungi_types.specs.Operators.{is_int, is_integer, is_pointer, is_void, is_bits, is_arithmetic, is_order, is_equality, is_bits_assign, is_arithmetic_assign, wider, fits, comparable, joinable, joined, both_known, has_same, is_same_kind}
+use Rattle.pungi_types.specs.Operators.{is_int, is_integer, is_pointer, is_void, is_bits, is_arithmetic, is_order, is_equality, is_bits_assign, is_arithmetic_assign, wider, fits, comparable, joinable, joined_kind, both_known, has_same, is_same_kind}
 use Rattle.pungi_types.specs.Exprs.{binary_kind, assign_kind, cond_kind, step_kind}
 use Rattle.pungi_resolve.specs.Exprs.{convert, binary_value, assign_value, or_int}
 use Rattle.pungi_resolved.specs.Values.{Value, Place, computed, compared, joined_by, stored, updated, chosen, cast_of, signed, stepped, negated}
@@ -91,7 +91,7 @@ texts_joined p c a b (inr x) (inr y) = inr (and_true _ _ x y)
 objects_joined : (p : Pos) (c a b : Value) → IsObject a → IsObject b → IsObject (chosen p c a b)
 objects_joined p c a b x y = joined_is _ _ 4 4 x y
 
-kin_joined : (ka kb : Option ValueKind) (p : Pos) (c a b : Value) → joinable ka kb ≡ true → Kin ka a → Kin kb b → Kin (joined ka kb) (chosen p c a b)
+kin_joined : (ka kb : Option ValueKind) (p : Pos) (c a b : Value) → joinable ka kb ≡ true → Kin ka a → Kin kb b → Kin (joined_kind ka kb) (chosen p c a b)
 kin_joined (Some kinds.Text) (Some kinds.Text) p c a b h x y = texts_joined p c a b x y
 kin_joined (Some kinds.Text) (Some kinds.Null) p c a b h x y = texts_joined p c a b x (inr y)
 kin_joined (Some kinds.Null) (Some kinds.Text) p c a b h x y = texts_joined p c a b (inr x) y
@@ -295,7 +295,7 @@ module _ (file : List Item) (vars : List Param) where
   -- .. `?:`
   pub cond_typed : (p : Pos) (kc ka kb : Option ValueKind) (c a b : Value) → is_some (cond_kind kc ka kb) ≡ true → Typed file vars kc c → Typed file vars ka a → Typed file vars kb b → Typed file vars (cond_kind kc ka kb) (chosen p c a b)
   cond_typed p kc ka kb c a b h x y z =
-      let j = and_right (both_known ka kb) (joinable ka kb) (and_right (is_some kc && not (is_void kc)) (both_known ka kb && joinable ka kb) (found ((is_some kc && not (is_void kc)) && (both_known ka kb && joinable ka kb)) (joined ka kb) h)) in
+      let j = and_right (both_known ka kb) (joinable ka kb) (and_right (is_some kc && not (is_void kc)) (both_known ka kb && joinable ka kb) (found ((is_some kc && not (is_void kc)) && (both_known ka kb && joinable ka kb)) (joined_kind ka kb) h)) in
       record {
         typed = λ n.
             let r = and_right (calls_none c) (calls_none a && calls_none b) n in
@@ -304,6 +304,6 @@ module _ (file : List Item) (vars : List Param) where
             (x.typed (and_left (calls_none c) (calls_none a && calls_none b) n), alike_if ka kb a b j (y.kin na) (z.kin nb), y.typed na, z.typed nb);
         kin = λ n.
             let r = and_right (calls_none c) (calls_none a && calls_none b) n in
-            kin_if ((is_some kc && not (is_void kc)) && (both_known ka kb && joinable ka kb)) (joined ka kb) (chosen p c a b)
+            kin_if ((is_some kc && not (is_void kc)) && (both_known ka kb && joinable ka kb)) (joined_kind ka kb) (chosen p c a b)
             (kin_joined ka kb p c a b j (y.kin (and_left (calls_none a) (calls_none b) r)) (z.kin (and_right (calls_none a) (calls_none b) r)));
       }

@@ -16,7 +16,7 @@ use Rattle.pungi_types.specs.Names.{Env, Meaning, a_local, a_global, a_function,
 use Rattle.pungi_types.specs.Nodes as written
 use Rattle.pungi_types.specs.Operators.{prefix_of, is_integer, is_void, is_order, is_equality, is_arithmetic, is_arithmetic_assign, struct_part, wider, is_same_kind}
 use Rattle.pungi_types.specs.Exprs.{Callee, no_word, a_value, defined, a_row, no_function, callee, int_kind, kind_of, is_module_address, wants, wants_module, other_wants}
-use Rattle.pungi_resolve.specs.Exprs.{resolve, place_of, resolve_all, convert, convert_some, cast_value, read_as, field_of, word_place, word_value, int_value, or_int, binary_value, assign_value, call_value, callee_name, static_behind, module_behind, unary_value, want_kind, expr_pos}
+use Rattle.pungi_resolve.specs.Exprs.{resolve, place_of, resolve_all, convert, convert_some, cast_value, read_as, field_of, word_place, word_value, int_value, or_int, binary_value, assign_value, call_value, callee_name, static_address, module_address, unary_value, want_kind, expr_pos}
 use Rattle.pungi_resolved.specs.Values.{Value, Values, Place, computed, compared, joined_by, updated, stored, dropped, cast_of}
 use Rattle.pungi_meaning.specs.Values.{wide}
 use Rattle.pungi_layout.specs.code.Parts.{is_minus}
@@ -138,15 +138,15 @@ int-few : (p : Pos) (k : Option ValueKind) (v : ℤ) → Few (int_value p k v) 1
 int-few p None v = record { nodes = omega arith; size = omega arith }
 int-few p (Some k) v = record { nodes = omega arith; size = omega arith }
 
-static-few : (env : Env) (p : Pos) (e : Expr) (n : ℕ) → Few (static_behind env p e) (n + 1)
+static-few : (env : Env) (p : Pos) (e : Expr) (n : ℕ) → Few (static_address env p e) (n + 1)
 static-few env p (word q w) n = record { nodes = omega arith; size = omega arith }
 static-few env p _ n = record { nodes = omega arith; size = omega arith }
 
-under-few : (p : Pos) (k : Kind) (e : Expr) (n : ℕ) → 1 ≤ n → Bare (module_behind (unary p k e)) n
+under-few : (p : Pos) (k : Kind) (e : Expr) (n : ℕ) → 1 ≤ n → Bare (module_address (unary p k e)) n
 under-few p k (word q w) n h = record { nodes = omega (arith, h); size = omega (arith, h) }
 under-few p k _ n h = record { nodes = omega (arith, h); size = omega (arith, h) }
 
-module-few : (e : Expr) (n : ℕ) → 1 ≤ n → Bare (module_behind e) n
+module-few : (e : Expr) (n : ℕ) → 1 ≤ n → Bare (module_address e) n
 module-few (unary p k e) n h = under-few p k e n h
 module-few _ n h = record { nodes = omega (arith, h); size = omega (arith, h) }
 
@@ -165,7 +165,7 @@ unary-few env p k prefixes.Negation e v s n h f = record { nodes = omega (arith,
 unary-few env p k prefixes.LeftOut e v s n h f = record { nodes = omega arith; size = omega arith }
 
 arg-few : (env : Env) (ws : List Want) (e : Expr) (b : Bool) (n : ℕ) → Few (resolve env e) n
-    → Bare (if b then module_behind e else convert (expr_pos e) (want_kind ws) (kind_of env e) (resolve env e)) n
+    → Bare (if b then module_address e else convert (expr_pos e) (want_kind ws) (kind_of env e) (resolve env e)) n
 arg-few env ws e false n h = convert-few (expr_pos e) (want_kind ws) (kind_of env e) (resolve env e) n h
 arg-few env ws e true n h = module-few e n (omega (arith, h.size))
 

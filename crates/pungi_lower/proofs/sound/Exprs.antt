@@ -10,7 +10,7 @@ use Rattle.pungi_types.specs.Kinds.{type_name_kind, field_kind}
 use Rattle.pungi_types.specs.Findings.{Findings, nothing_found, ◌and◌}
 use Rattle.pungi_types.specs.Operators.{prefix_of, is_bits, is_bits_assign, is_arithmetic_assign, is_void, struct_part}
 use Rattle.pungi_types.specs.declared.operator.Prefix.TheVariants as prefixes
-use Rattle.pungi_types.specs.Exprs.{kind_of, is_place, is_address, names_type_object, is_module_address, callee, wants, wants_module, other_wants, first_met, are_met, is_word, operand, int_kind, unary_wrong, binary_wrong, assign_wrong, cond_wrong, result_kind, used, expr_findings, args_findings}
+use Rattle.pungi_types.specs.Exprs.{kind_of, is_place, is_address, names_type_object, is_module_address, callee, wants, wants_module, other_wants, first_met, are_met, is_word, operand, int_kind, unary_wrong, binary_wrong, assign_wrong, cond_wrong, result_kind, void_use, expr_findings, args_findings}
 use Rattle.pungi_resolve.specs.Exprs.{resolve, place_of, resolve_all, int_value, callee_name}
 use Rattle.pungi_layout.specs.code.Sound.{AreSound}
 use Rattle.pungi_resolve.proofs.Clean.{Clean, left, right, not_when, not_false, is_there, or_left, or_right, and_left, and_right}
@@ -124,7 +124,7 @@ mutual
   args-work n env h b ws no_exprs c m = tt
   args-work n env h b ws (expr_and e es) c m =
       let skipped = wants_module ws && is_module_address env e in
-      let first : Findings = (if skipped then nothing_found else expr_findings env e and used env e) in
+      let first : Findings = (if skipped then nothing_found else expr_findings env e and void_use env e) in
       let one = left first _ c in
       let g = arg-works n env ws e skipped refl (argument-met env ws e one (and_left (first_met ws (is_module_address env e) (operand (kind_of env e) e)) _ m))
       (λ x. expr-good env h e (left (expr_findings env e) _ (unless skipped _ one x)))

@@ -1,4 +1,4 @@
--- A function of which no rule is told is sound for the layout, and its tree and its code are within the limits.
+-- A function in which no rule holds is sound for the layout, and its tree and its code are within the limits.
 use Rattle.std.proofs.Common.{◌≡◌, ◌∙◌, ℕ, ◌+◌, ◌*◌, ◌<◌, ◌≤◌, arith, true, false, List, [], length, Some, None, refl, sym, ap, subst}
 use Rattle.std.specs.Prelude.{nat_lt, is_some}
 use Rattle.std.proofs.lemmas.Bool.Decides.{nat_tests}
@@ -51,7 +51,7 @@ within-limits env d h =
     }
 
 -- .. parameters
--- the names behind a parameter, and how many locals there are
+-- the names after a parameter, and how many locals there are
 record Counted (n : ℕ) (f g : Frame) (m : ℕ) : Type 0 where
   names : HasNumbers n g.env
   next : g.next ≡ f.next + m
@@ -89,7 +89,7 @@ of_params n f p s (params ds v dots) h b r le c d =
 none-below : (n : ℕ) (env : Env) → env.locals ≡ [] → HasNumbers n env
 none-below n env e = record { locals = λ w. subst (λ (ls : List Local). IsBelow n (local_in ls w)) (sym e) tt }
 
--- a function of which no rule is told is sound for the layout
+-- a function in which no rule holds is sound for the layout
 pub function-works : (env : Env) (d : Definition) → IsPassed env d → IsStmtSound (resolved_in env d).locals (resolved_in env d).body
 function-works env d h =
     let c = right (result_findings env d) _ (text-clean env d h.passed) in

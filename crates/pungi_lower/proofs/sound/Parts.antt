@@ -22,7 +22,7 @@ use Rattle.pungi_types.specs.Names.{Env, Meaning, a_local, a_global, a_function,
 use Rattle.pungi_types.specs.Kinds.{field_kind}
 use Rattle.pungi_types.specs.Operators.{is_arithmetic, is_order, is_equality, is_arithmetic_assign, is_integer, is_pointer, is_void, is_object, is_text, fits, wider, is_same_kind}
 use Rattle.pungi_types.specs.Exprs.{kind_of, is_place, is_slot, is_address, is_step_or_sign, names_type_object, is_module_address, Callee, no_word, a_value, defined, a_row, no_function, wants_module, first_met, unary_wrong, cast_wrong, cast_kind, row_kind, result_kind, meaning_kind}
-use Rattle.pungi_resolve.specs.Exprs.{resolve, place_of, convert, convert_some, cast_value, read_as, field_of, word_place, word_value, or_int, binary_value, assign_value, call_value, static_behind, module_behind, unary_value, want_kind, expr_pos}
+use Rattle.pungi_resolve.specs.Exprs.{resolve, place_of, convert, convert_some, cast_value, read_as, field_of, word_place, word_value, or_int, binary_value, assign_value, call_value, static_address, module_address, unary_value, want_kind, expr_pos}
 use Rattle.pungi_resolved.specs.Values.{Value, Values, Place, computed, compared, joined_by, updated, stored, dropped, cast_of}
 use Rattle.pungi_resolve.proofs.Clean.{or_left, or_right}
 use Rattle.pungi_resolve.proofs.OperatorKinds.{step-kept}
@@ -113,20 +113,20 @@ word-works n p w (a_global k) void h = record { sound = h refl; gives = λ x. re
 word-works n p w a_function void h = record { sound = tt; gives = λ x. refl }
 word-works n p w unknown void h = record { sound = tt; gives = λ x. refl }
 
-pub static-works : (n : ℕ) (env : Env) (p : Pos) (e : Expr) (void : Bool) → Given n (static_behind env p e) void
+pub static-works : (n : ℕ) (env : Env) (p : Pos) (e : Expr) (void : Bool) → Given n (static_address env p e) void
 static-works n env p (word q w) void = record { sound = tt; gives = λ x. refl }
 static-works n env p _ void = record { sound = tt; gives = λ x. refl }
 
-under-works : (n : ℕ) (p : Pos) (k : Kind) (e : Expr) → Given n (module_behind (unary p k e)) false
+under-works : (n : ℕ) (p : Pos) (k : Kind) (e : Expr) → Given n (module_address (unary p k e)) false
 under-works n p k (word q w) = record { sound = tt; gives = λ x. refl }
 under-works n p k _ = record { sound = tt; gives = λ x. refl }
 
-module-works : (n : ℕ) (e : Expr) → Given n (module_behind e) false
+module-works : (n : ℕ) (e : Expr) → Given n (module_address e) false
 module-works n (unary p k e) = under-works n p k e
 module-works n _ = record { sound = tt; gives = λ x. refl }
 
 -- .. operators
--- what the operator before an operand asks of it
+-- what the operator before an operand requires of it
 pub record Before (n : ℕ) (env : Env) (pr : Prefix) (e : Expr) : Type 0 where
   pub ten : unary_wrong pr (is_place env e) (kind_of env e) ≡ false
   pub thirteen : (is_step_or_sign pr && is_pointer (kind_of env e)) ≡ false
@@ -231,7 +231,7 @@ arg-not_void (wanted.OfKind w ∷ ws) m k h e s = kind-met w k h
 arg-not_void (wanted.ModuleTable ∷ ws) m k h e s = table-met m k h e s
 
 pub arg-works : (n : ℕ) (env : Env) (ws : List Want) (e : Expr) (b : Bool) → (wants_module ws && is_module_address env e) ≡ b → first_met ws (is_module_address env e) (kind_of env e) ≡ true
-    → (b ≡ false → Good env e) → (b ≡ false → Works n env e) → Given n (if b then module_behind e else convert (expr_pos e) (want_kind ws) (kind_of env e) (resolve env e)) false
+    → (b ≡ false → Good env e) → (b ≡ false → Works n env e) → Given n (if b then module_address e else convert (expr_pos e) (want_kind ws) (kind_of env e) (resolve env e)) false
 arg-works n env ws e true t m g w = module-works n e
 arg-works n env ws e false t m g w =
     let k = arg-not_void ws (is_module_address env e) (kind_of env e) m t (g refl).known in

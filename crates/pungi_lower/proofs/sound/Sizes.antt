@@ -1,4 +1,4 @@
--- How many instructions the code of a function of which no rule is told has.
+-- How many instructions the code of a function has in which no rule holds.
 use Rattle.std.proofs.Common.{◌*◌, ◌≤◌, arith, length}
 use Rattle.pungi_types.specs.Files.{Definition}
 use Rattle.pungi_types.specs.Names.{Env}

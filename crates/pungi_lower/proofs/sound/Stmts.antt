@@ -14,14 +14,14 @@ use Rattle.pungi_types.specs.Operators.{is_void, is_integer, fits}
 use Rattle.pungi_types.specs.Exprs.{kind_of, expr_findings}
 use Rattle.pungi_types.specs.Labels.{switch_findings, stmt_locals, stmts_locals, start_locals}
 use Rattle.pungi_resolve.specs.Exprs.{resolve}
-use Rattle.pungi_resolve.specs.Stmts.{Site, with_start, initial, reached, start_reached, start_value, option_value, returned, action, actions}
-use Rattle.pungi_types.specs.Stmts.{Frame, with_local, spec_pos, has_file_storage, declared_n1, declared_n8, is_wrong_initial, initial_findings, after_var, after_vars, var_findings, vars_findings, condition_findings, option_findings, option_condition, is_wrong_return, return_findings, is_no_integer, switched_findings, inside, in_loop, in_switch, in_block, labelled, start_frame, behind, after_stmt, start_findings, stmt_findings, stmts_findings}
+use Rattle.pungi_resolve.specs.Stmts.{Site, with_start, initial_value, declared_locals, start_declared, start_value, option_value, return_value, action, actions}
+use Rattle.pungi_types.specs.Stmts.{Frame, with_local, spec_pos, has_file_storage, declared_n1, declared_n8, is_wrong_initial, first_value_findings, after_var, after_vars, var_findings, vars_findings, condition_findings, option_findings, option_condition, is_wrong_return, return_findings, is_no_integer, switched_findings, in_part, in_loop, in_switch, in_block, in_label, start_frame, after_part, after_stmt, start_findings, stmt_findings, stmts_findings}
 use Rattle.pungi_resolve.proofs.Clean.{Clean, left, right, not_when, or_left}
 use Rattle.pungi_resolve.proofs.Known.{HasKinds, one_more, declared-not_void}
 use Rattle.pungi_resolve.proofs.UsedValues.{one-asked}
 use Rattle.pungi_resolve.proofs.SoundExprs.{expr-good}
 use Rattle.pungi_resolve.proofs.SoundStmts.{site, value_kind, vars-sound, start-site, stmt-site, names-behind}
-use Rattle.pungi_layout.specs.code.Sound.{IsWanted, IsOptionSound, IsOptionWanted, AreReached, IsStmtSound, AreStmtsSound}
+use Rattle.pungi_layout.specs.code.Sound.{IsWanted, IsOptionSound, IsOptionWanted, AreDeclared, IsStmtSound, AreStmtsSound}
 use Rattle.pungi_lower.proofs.sound.Parts.{IsBelow, HasNumbers, Works, convert-works, fits-not_void}
 use Rattle.pungi_lower.proofs.sound.Exprs.{expr-works}
 
@@ -63,7 +63,7 @@ switched-works n env h b p e c =
     (integer-not_void (kind_of env e) (expr-good env h e d).known (one-asked env is_no_integer p e (right (expr_findings env e) _ c)))
 
 return-works : (n : ℕ) (f : Frame) → HasKinds f.env → HasNumbers n f.env → is_some f.result ≡ true → (p : Pos) (e : Option Expr) → Clean (return_findings f.env f.result p e)
-    → IsOptionWanted n (returned (site f) p e)
+    → IsOptionWanted n (return_value (site f) p e)
 return-works n f h b r p None c = tt
 return-works n f h b r p (Some e) c =
     let d = left (expr_findings f.env e) _ c in
@@ -75,7 +75,7 @@ return-works n f h b r p (Some e) c =
 
 -- .. declarations
 initial-works : (n : ℕ) (f : Frame) (s : Spec) (d : Declr) (i : Option Init) → HasKinds (after_var f s (var_decl d i)).env → HasNumbers n (after_var f s (var_decl d i)).env
-    → Clean (initial_findings (after_var f s (var_decl d i)).env (declared_kind f.env.file.items s d) (declr_pos d) i) → IsOptionWanted n (initial (site f) s (var_decl d i))
+    → Clean (first_value_findings (after_var f s (var_decl d i)).env (declared_kind f.env.file.items s d) (declr_pos d) i) → IsOptionWanted n (initial_value (site f) s (var_decl d i))
 initial-works n f s d None h b c = tt
 initial-works n f s d (Some (table ts)) h b c = tt
 initial-works n f s d (Some (value e)) h b c =
@@ -85,11 +85,11 @@ initial-works n f s d (Some (value e)) h b c =
     let g = convert-works n (declr_pos d) (declared_kind f.env.file.items s d) (kind_of env e) (resolve env e) (w.gives v) w.sound in
     (g.gives refl, g.sound)
 
--- variables, and the numbers behind them
+-- variables, and the numbers after them
 pub record Numbered (n : ℕ) (f : Frame) (s : Spec) (vs : List VarDecl) : Type 0 where
   pub names : HasNumbers n (after_vars f s vs).env
   pub next : (after_vars f s vs).next ≡ f.next + length vs
-  pub sound : AreReached n (reached (site f) s vs)
+  pub sound : AreDeclared n (declared_locals (site f) s vs)
 
 pub vars-work : (n : ℕ) (f : Frame) (qs : List Key) (s : Spec) (vs : List VarDecl) → HasKinds f.env → HasNumbers n f.env → f.next + length vs ≤ n → Clean (vars_findings f qs s vs) → Numbered n f s vs
 vars-work n f qs s [] h b le c = record { names = b; next = omega arith; sound = tt }
@@ -105,13 +105,13 @@ vars-work n f qs s (var_decl d i ∷ vs) h b le c =
     let two = right (declared_n8 f.env f.block (declr_name d) (declr_pos d)) _ (right (declared_n1 qs s (declared_kind f.env.file.items s d)) _ one) in
     record { names = rest.names; next = omega (arith, rest.next); sound = (lt, initial-works n f s d i g u two, rest.sound) }
 
--- what begins a `for`, and the names behind it
+-- what begins a `for`, and the names after it
 record Started (n : ℕ) (f : Frame) (a : ForStart) : Type 0 where
   kinds : HasKinds (start_frame f a).env
   names : HasNumbers n (start_frame f a).env
   next : (start_frame f a).next ≡ f.next + start_locals a
   result : (start_frame f a).result ≡ f.result
-  locals : AreReached n (start_reached (site f) a)
+  locals : AreDeclared n (start_declared (site f) a)
   first : IsOptionSound n (start_value f.env a)
 
 same-result : (f : Frame) (s : Spec) (vs : List VarDecl) → (after_vars f s vs).result ≡ f.result
@@ -126,7 +126,7 @@ start-works n f h b (start_decl (decl qs s vs)) le c =
 start-works n f h b (start_expr e) le c = record { kinds = h; names = b; next = omega arith; result = refl; locals = tt; first = option-works n f.env h b e c }
 
 -- .. statements
--- where the statement behind one stands
+-- where the statement after one stands
 record Behind (n : ℕ) (f : Frame) (s : Stmt) : Type 0 where
   names : HasNumbers n (after_stmt f s).env
   next : (after_stmt f s).next ≡ f.next + stmt_locals s
@@ -144,12 +144,12 @@ mutual
   stmt-works n f h b r (declare p (decl qs s vs)) le c = (vars-work n f qs s vs h b le c).sound
   stmt-works n f h b r (do_expr p e) le c = option-works n f.env h b e c
   stmt-works n f h b r (if_only p e s) le c =
-      (condition-works n f.env h b p e (left (condition_findings f.env p e) _ c), stmt-works n (inside f) h b r s le (right (condition_findings f.env p e) _ c))
+      (condition-works n f.env h b p e (left (condition_findings f.env p e) _ c), stmt-works n (in_part f) h b r s le (right (condition_findings f.env p e) _ c))
   stmt-works n f h b r (if_else p e s t) le c =
       let rest = right (condition_findings f.env p e) _ c in (
         condition-works n f.env h b p e (left (condition_findings f.env p e) _ c),
-        stmt-works n (inside f) h b r s (omega (arith, le)) (left (stmt_findings (inside f) s) _ rest),
-        stmt-works n (behind (inside f) s) h b r t (omega (arith, le)) (right (stmt_findings (inside f) s) _ rest),
+        stmt-works n (in_part f) h b r s (omega (arith, le)) (left (stmt_findings (in_part f) s) _ rest),
+        stmt-works n (after_part (in_part f) s) h b r t (omega (arith, le)) (right (stmt_findings (in_part f) s) _ rest),
       )
   stmt-works n f h b r (while p e s) le c =
       (condition-works n f.env h b p e (left (condition_findings f.env p e) _ c), stmt-works n (in_loop f) h b r s le (right (condition_findings f.env p e) _ c))
@@ -169,9 +169,9 @@ mutual
       (i.locals, i.first, parts.0, parts.1, parts.2)
   stmt-works n f h b r (switch p e s) le c =
       (switched-works n f.env h b p e (left (switched_findings f.env p e) _ c), stmt-works n (in_switch f) h b r s le (right (switch_findings s) _ (right (switched_findings f.env p e) _ c)))
-  stmt-works n f h b r (case p e s) le c = stmt-works n (labelled f) h b r s le (right (expr_findings f.env e) _ (right _ _ c))
-  stmt-works n f h b r (default p s) le c = stmt-works n (labelled f) h b r s le (right _ _ c)
-  stmt-works n f h b r (label p w s) le c = stmt-works n (labelled f) h b r s le c
+  stmt-works n f h b r (case p e s) le c = stmt-works n (in_label f) h b r s le (right (expr_findings f.env e) _ (right _ _ c))
+  stmt-works n f h b r (default p s) le c = stmt-works n (in_label f) h b r s le (right _ _ c)
+  stmt-works n f h b r (label p w s) le c = stmt-works n (in_label f) h b r s le c
   stmt-works n f h b r (goto p w q) le c = tt
   stmt-works n f h b r (break p) le c = tt
   stmt-works n f h b r (continue p) le c = tt

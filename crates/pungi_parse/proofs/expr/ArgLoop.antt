@@ -1,5 +1,5 @@
 -- The loop over arguments (C11 6.5.2.2).
---   close_args front y    the closing parenthesis behind all arguments
+--   close_args front y    the closing parenthesis after all arguments
 --   ArgsTo types low start front ts    these arguments are read, and further ones are read from here
 --   args_begin, args_turn, args_fail, args_open, args_end    the first, one more, a failure, no parenthesis, and the end
 --   args_depth            how deep they are with one more

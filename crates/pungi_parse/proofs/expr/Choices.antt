@@ -145,7 +145,7 @@ module _ (types : List Name) where
   postfix_no_prefix l (dot p e n) ts rest h ok s = let o = (and_true _ _ (and_true _ _ ok).1).0 in postfix_no_prefix 15 e ts _ (at_level types 15 e o) o s.1
   postfix_no_prefix l (arrow p e n) ts rest h ok s = let o = (and_true _ _ (and_true _ _ ok).1).0 in postfix_no_prefix 15 e ts _ (at_level types 15 e o) o s.1
 
-  -- no `:` stands behind the word at the front, if there is one
+  -- no `:` stands after the word at the front, if there is one
   abbrev NoLabel : List Placed → Type 0
   NoLabel ts = (w : Name × Pos × List Placed) → plain_word types ts ≡ Some w → eat puncts.Colon w.2 ≡ None
 

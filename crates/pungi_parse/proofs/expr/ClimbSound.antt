@@ -1,6 +1,6 @@
 -- What is read as an expression stands at the front of the tokens: binary operators, `? :`, assignments and commas, and the readers over each other.
 --   .._gets           what the reader of the same name reads
---   Climbs            an expression was read so far, and no binary operator that binds tighter stands behind it
+--   Climbs            an expression was read so far, and no binary operator that binds tighter stands after it
 --   readers_sound     the readers give what stands at the front
 use Rattle.std.proofs.Common.{◌≡◌, ℕ, zero, suc, ◌+◌, ◌<◌, ◌≤◌, Bool, true, false, cond, inl, inr, List, ◌∷◌, Some, None, refl, sym, ◌∙◌, subst, add-one, arith}
 use Rattle.std.specs.Prelude.{nat_le, nat_lt}

@@ -176,7 +176,7 @@ module _ (types : List Name) (d : ℕ) (low : Lower) (sound : LowSound types d l
       let v = plain_word_sound types ts w.0 w.1 in
       subst (GetsExpr types (suc d) 15 start) (some_same _ _ w.2) (record { spells = (w.0.1, subst (λ z. Spells f start (mark_at puncts.Arrow p ∷ z)) v.0 s); allowed = and_join _ _ ok v.1; shallow = omega (arith, deep); no_operator = none_so_tight 15 w.0.2 (omega arith) })
 
-  -- one more token or list behind what was read
+  -- one more token or list after what was read
   turn_gets : (p : Pos) (f : Expr) (start ts : List Placed) (r : Read Expr) (x : Expr × List Placed) → first_place start ≡ Some p → Spells f start ts → expr_at types 15 f ≡ true → expr_depth f ≤ d → postfix_turn types low p f ts ≡ Some r → r ≡ Some x → GetsExpr types (suc d) 15 start x
   unfolding postfix_turn
   turn_gets p f start ts r x place s ok deep h e = elim (on_some_cases _ _ _ _ h) [

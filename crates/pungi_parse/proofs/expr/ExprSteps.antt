@@ -101,7 +101,7 @@ module _ (types : List Name) where
   unfolding postfixes on_some chain when
   postfixes_more low most k p e x r ts rest deep t h = rw (t, lt_true _ _ deep, h) refl
 
-  -- the loop over what stands behind a postfix expression takes one more turn
+  -- the loop over what stands after a postfix expression takes one more turn
   pub postfix_next : (n d k : ℕ) (p : Pos) (e x : Expr) (r : Read Expr) (ts at rest : List Placed) → expr_depth e ≤ d → expr_depth e < expr_depth x → postfix_turn types (readers types n d) p e at ≡ Some r → r ≡ Some (x, rest) → suc d ≤ k + expr_depth e → postfix types (readers types n d) (suc d) ts ≡ postfixes types (readers types n d) (suc d) k p e at → PostfixComes n d p x ts rest
   postfix_next n d zero p e x r ts at rest deep more t h fuel c = absurd (omega (arith, deep, fuel))
   postfix_next n d (suc k) p e x r ts at rest deep more t h fuel c = (k, omega (arith, deep, more, fuel), c ∙ postfixes_more (readers types n d) (suc d) k p e x r at rest (omega (arith, deep)) t h)

@@ -1,5 +1,5 @@
 -- Reading types and expressions is right: what is read stands at the front of the tokens, is allowed, and is no deeper than it may be; and each such
--- tree is read, where the tokens behind it do not go on with it.
+-- tree is read, where the tokens after it do not go on with it.
 --   .._sound         what is read stands there
 --   .._complete      what stands there is read
 --   .._shorter, .._no_longer    fewer tokens, or no more, are left than there were

@@ -1,5 +1,5 @@
 -- An item that stands at the front of the tokens is read, whatever follows it.
---   HeadBegins ts     the tokens behind a type, where a declarator begins
+--   HeadBegins ts     the tokens after a type, where a declarator begins
 --   item_complete     the item is what is read
 --   item_shorter      fewer tokens are left than there were
 use Rattle.std.proofs.Common.{◌≡◌, ℕ, ◌<◌, ◌≤◌, max, true, false, List, [], ◌∷◌, length, Option, Some, None, refl, sym, ◌∙◌, ap, subst, arith}
@@ -55,7 +55,7 @@ declr_no_end (declr (k ∷ ks) n p t) ts rest s = rw s.1.3 refl
 declr_no_end (declr [] n p (sizes ss)) ts rest s = rw (s.1, s.2.1) refl
 declr_no_end (declr [] n p (function ps)) ts rest s = rw (s.1, s.2.6) refl
 
--- behind the name of a variable comes no parenthesis
+-- after the name of a variable comes no parenthesis
 init_no_call : (i : Option Init) (ts rest : List Placed) → SpellsInit i ts rest → VarEnds rest → eat puncts.LeftParen ts ≡ None
 init_no_call None ts rest s e = rw s e.ends.no_postfix.no_call
 init_no_call (Some (value e)) ts rest s _ = rw s.2 refl

@@ -107,7 +107,7 @@ module _ (types : List Name) where
         let s : SpellsItem (typedef b.0.0 st.0 w.0.0 w.0.1) ts c.0.1 = (inner, b.0.1, p, c.0.0, front, r.spells, subst (λ z. SpellsStars st.0 b.0.1 z) at (stars_sound b.0.1)) in
         subst (ReadsItem types ts) (some_same (typedef b.0.0 st.0 w.0.0 w.0.1, c.0.1) x c.2) (record { spells = s; ok = r.allowed; shallow = r.shallow })
 
-    -- behind qualifiers and a type
+    -- after qualifiers and a type
     record Typed (qs : List Key) (b : Spec) (ts pointers : List Placed) : Type 0 where
       pub after : List Placed
       pub keyed : SpellsKeys qs ts after

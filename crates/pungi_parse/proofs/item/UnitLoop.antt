@@ -1,6 +1,7 @@
 -- What the loop over items keeps: those read so far stand at the front, and any others go on from there. So what it leaves is where the tokens stop to
 -- be a file, and a file is what is read.
---   UnitTo types start front ts    these items stand at the start and leave these tokens, and any others at the start are some of them, or go on behind them
+--   UnitTo types start front ts    these items stand at the start and leave these tokens, and any others at the start
+--                                  are some of them, or go on after them
 --   unit_begins, unit_turns    the loop begins so, and stays so at each item that is read
 --   unit_stops, unit_ends      where it ends: the tokens stop there, or they are a file
 --   one_unit                   a file has one list of items at most
@@ -30,7 +31,7 @@ pub record UnitTo (types : List Name) (start : List Placed) (front : List Item) 
   pub others : (items : List Item) (rest : List Placed) → StandsAt types items start rest → (length ts ≤ length rest) ⊎ ((more : List Item) × (items ≡ front ++ more) × StandsAt types more ts rest)
 
 module _ (types : List Name) where
-  -- the first item, and those behind it
+  -- the first item, and those after it
   record OneStands (i : Item) (items : List Item) (ts rest : List Placed) : Type 0 where
     pub after : List Placed
     pub spells : SpellsItem i ts after

@@ -1,7 +1,7 @@
 -- How a statement is read at a depth, and the loop over the statements of a block.
 --   join list ss      statements in front of others
 --   finish_block      statements read before, with those that are read and the closing brace
---   BlockTo           the loop is behind these statements and goes on with the rest as the reader does
+--   BlockTo           the loop is after these statements and goes on with the rest as the reader does
 use Rattle.std.proofs.Common.{◌≡◌, ℕ, zero, suc, ◌-◌, ◌<◌, Bool, true, false, List, [], ◌∷◌, ◌++◌, length, Option, Some, None, refl, sym, ap, ◌∙◌, arith}
 use Rattle.pungi_base.specs.declared.names.Name.{Name}
 use Rattle.pungi_base.specs.declared.pos.Pos.{Pos}

@@ -2,7 +2,7 @@
 --   VarEnds rest     nothing goes on with a variable
 --   more_vars_end    where further variables or the semicolon come, a variable ends
 --   var_begins       a variable begins where a type ends
---   no_size_before   no bracket comes behind a declared name and its sizes
+--   no_size_before   no bracket comes after a declared name and its sizes
 --   .._shorter, .._no_longer    fewer tokens, or no more, are left than there were
 use Rattle.std.proofs.Common.{◌≡◌, ◌<◌, ◌≤◌, true, List, [], ◌∷◌, length, Option, Some, None, refl, sym, subst, arith}
 use Rattle.std.specs.Prelude.{◌&&◌}

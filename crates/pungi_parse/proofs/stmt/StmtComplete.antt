@@ -1,6 +1,7 @@
 -- A statement that stands at the front of the tokens is read, and so is what stands in a block.
 --   StmtFact, ElementFact, StmtsFact    a statement, what stands in a block, and all of a block are read wherever they stand
---   stmt_complete, element_complete     the reader of the same name gives what stands there, where no `else` stands behind an open `if`
+--   stmt_complete, element_complete     the reader of the same name gives what stands there, where no `else` stands
+--                                       after an open `if`
 use Rattle.std.proofs.Common.{◌≡◌, ℕ, zero, suc, ◌<◌, ◌≤◌, Bool, true, false, List, ◌∷◌, length, Option, Some, None, refl, sym, ◌∙◌, ap, arith}
 use Rattle.std.specs.Prelude.{◌&&◌, not}
 use Rattle.pungi_base.specs.declared.key.Key.{Key}

@@ -1,5 +1,6 @@
 -- What is read as a statement, or as what stands in a block, stands at the front of the tokens, is allowed, and is no deeper than it may be.
---   ReadsStmt, ReadsElement, ReadsStmts    what a statement, what stands in a block, and all of a block are to be; no `else` stands behind an open `if`
+--   ReadsStmt, ReadsElement, ReadsStmts    what a statement, what stands in a block, and all of a block are to be; no
+--                                          `else` stands after an open `if`
 --   stmt_sound, element_sound    what is read is that
 use Rattle.std.proofs.Common.{◌≡◌, ℕ, zero, suc, ◌≤◌, Bool, true, false, inl, inr, List, ◌∷◌, length, Option, Some, None, refl, sym, ◌∙◌, ap, subst, arith}
 use Rattle.std.specs.Prelude.{not}
@@ -40,7 +41,7 @@ ReadsStmts types d ts x = Reads (SpellsStmts x.0 ts x.1) (stmts_ok types x.0) (s
 no_if : (o : Option (Pos × List Placed)) → false ≡ true → o ≡ None
 no_if o h = absurd (cc)
 
--- where an `else` stands behind a statement, it is no open `if`
+-- where an `else` stands after a statement, it is no open `if`
 is_closed : (b : Bool) (o : Option (Pos × List Placed)) (x : Pos × List Placed) → (b ≡ true → o ≡ None) → o ≡ Some x → not b ≡ true
 is_closed true o x f h = let g = f refl in absurd (cc)
 is_closed false o x f h = refl

@@ -1,6 +1,6 @@
 -- The loop over the variables of a declaration.
 --   finish_vars vs read       variables read before, with those that are read and the semicolon
---   VarsTo                    the loop is behind these variables and goes on with the rest as the reader does
+--   VarsTo                    the loop is after these variables and goes on with the rest as the reader does
 use Rattle.std.proofs.Common.{◌≡◌, ℕ, zero, suc, ◌<◌, List, [], ◌∷◌, ◌++◌, length, map, Option, Some, None, refl, sym, ap, ◌∙◌, append_assoc, arith}
 use Rattle.std.proofs.lemmas.List.{append-nil}
 use Rattle.pungi_base.specs.declared.names.Name.{Name}

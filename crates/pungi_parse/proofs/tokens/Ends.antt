@@ -1,4 +1,5 @@
--- Where reading stops: the tokens behind a tree do not go on with it. Each field is one test of the readers that finds nothing.
+-- Where reading stops: the tokens after a tree do not go on with it. Each field is one test of the readers that finds
+-- nothing.
 --   at_least l        the lowest level of a binary operator that goes on with an expression that is read at level `l`
 --   PostfixEnds rest  nothing goes on with a primary or postfix expression
 --   ExprEnds l rest   nothing goes on with an expression that is read at level `l`

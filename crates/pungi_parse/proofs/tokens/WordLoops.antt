@@ -1,6 +1,6 @@
 -- Words at the front of a list one by one: a turn takes the first, and the last leaves what follows.
 --   keywords_turn, keywords_end, consts_turn, consts_end, stars_turn, stars_end, texts_turn, texts_end    what is read by what stands in front
---   consts_shorter    the tokens behind are no more
+--   consts_shorter    the tokens after are no more
 --   ReadTo read whole last front ts    what is read so far, before what stands in the tokens left, is all, and so are the tokens left then
 --   read_turn, read_end    one more, and no more
 --   CountTo, count_turn, count_end    the same of a count

@@ -1,4 +1,4 @@
--- What is to be shown of each tree: where it stands, and the tokens behind it do not go on with it, its reader reads it.
+-- What is to be shown of each tree: where it stands, and the tokens after it do not go on with it, its reader reads it.
 --   ParamEnds rest    nothing goes on with a parameter
 --   ExprReads types e, SpecReads types c, ParamsReads types ps    the readers over each other read it
 --   TypeNameReads .. ParamDeclReads    the reader of the same name reads it, by the readers of parts

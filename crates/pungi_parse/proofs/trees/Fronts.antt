@@ -1,7 +1,7 @@
 -- How the tokens of a tree begin.
---   other_mark, other_key    a token that passes a test is none that does not
+--   other_mark, other_key    a token that passes a test isn't one that does not
 --   expr_begins       the tokens of an expression
---   spec_begins, decl_begins    the tokens of a type, and of a type behind qualifiers
+--   spec_begins, decl_begins    the tokens of a type, and of a type after qualifiers
 use Rattle.std.proofs.Common.{◌≡◌, ℕ, ◌≤◌, Bool, true, false, cond, ◌||◌, List, [], ◌∷◌, Option, Some, None, refl, sym, ap, subst, arith}
 use Rattle.std.specs.Prelude.{◌==◌}
 use Rattle.pungi_base.specs.declared.key.Key.{Key}
@@ -28,7 +28,7 @@ use Rattle.pungi_tree.specs.Syntax.{Expr, word, int, float, char, text, null, pa
 use Rattle.pungi_tree.specs.Tokens.{named_word}
 use Rattle.pungi_tree.specs.TypeWords.{is_type, is_word}
 
--- a punctuator that passes a test is none that does not
+-- a punctuator that passes a test isn't one that does not
 pub other_mark : (test : Punct → Bool) (q m : Punct) (p : Pos) (ts : List Placed) → test q ≡ false → test m ≡ true → eat q (mark_at m p ∷ ts) ≡ None
 other_mark test q m p ts h k = by (punct_number q == punct_number m) refl
   where

@@ -1,6 +1,6 @@
 -- What readers of parts are to give, so that readers over them are right.
 --   Gets stands ok deep most    what stands there is allowed and no deeper than it may be
---   GetsExpr types d l ts x     an expression of a level, behind which no operator binds as tightly
+--   GetsExpr types d l ts x     an expression of a level, after which no operator binds as tightly
 --   GetsTypeName .. GetsParams  the type of the same name
 --   LowSound types d low        what the readers `low` read stands there, and has at most `d` nodes of expressions on a path
 use Rattle.std.proofs.Common.{◌≡◌, ℕ, ◌≤◌, Bool, true, List, ◌∷◌, Option, Some, None}

@@ -1,5 +1,5 @@
 -- A pointer to a function by its front (C11 6.7.6.3).
---   function_none, function_fails, function_ends    no front, a failure behind it, and the end
+--   function_none, function_fails, function_ends    no front, a failure after it, and the end
 use Rattle.std.proofs.Common.{◌≡◌, ℕ, List, Option, Some, None, refl, sym, ◌∙◌}
 use Rattle.pungi_base.specs.declared.names.Name.{Name}
 use Rattle.pungi_base.specs.declared.pos.Pos.{Pos}

@@ -48,7 +48,7 @@ more_end : (ds : ParamDecls) (dots : Option Pos) (q : Pos) (ts after rest : List
 more_end no_params dots q ts after rest s e = subst ParamEnds (sym s) (dots_end dots q after rest e)
 more_end (param_and d ds) dots q ts after rest s e = subst ParamEnds (sym s.3) (ends_at_comma s.2 s.0)
 
--- what a parameter has behind its type stops the type
+-- what a parameter has after its type stops the type
 param_declr_begins : (d : ParamDeclr) (ts rest : List Placed) → SpellsParamDeclr d ts rest → ParamEnds rest → SpecEnds ts
 param_declr_begins (named c) ts rest s e = declr_begins c ts rest s
 param_declr_begins (bare ss) ts rest s e = stars_begin ss ts rest s e.spec

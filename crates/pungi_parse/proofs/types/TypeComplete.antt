@@ -24,12 +24,12 @@ use Rattle.pungi_tree.specs.Placed.{Placed, mark_at, word_at}
 use Rattle.pungi_tree.specs.Syntax.{Expr, type_name, Spec, spec, Base, words, alias, tagged, tagged_fields, Field, empty, members, Fields, no_fields, field_and, Declr, declr, Declrs, no_declrs, declr_and, Tail, sizes, function, Sizes, no_sizes, open_and, size_and, Params}
 use Rattle.pungi_tree.specs.TypeWords.{is_type, is_word}
 
--- what a declared name and what is behind it begin with stops a type and pointers
+-- what a declared name and what is after it begin with stops a type and pointers
 pub tail_begins : (w : Name) (p : Pos) (t : Tail) (ts rest : List Placed) → SpellsTail w p t ts rest → TypeEnds ts
 tail_begins w p (sizes ss) ts rest s = subst TypeEnds (sym s.1) (record { spec = record { no_const = refl; no_base_word = refl; no_brace = refl }; stars = record { no_star = refl; no_const = refl } })
 tail_begins w p (function ps) ts rest s = subst TypeEnds (sym s.6) (record { spec = record { no_const = refl; no_base_word = refl; no_brace = refl }; stars = record { no_star = refl; no_const = refl } })
 
--- pointers, or what is behind them, stop a type
+-- pointers, or what is after them, stop a type
 pub stars_begin : (ss : List ℕ) (ts rest : List Placed) → SpellsStars ss ts rest → SpecEnds rest → SpecEnds ts
 stars_begin [] ts rest s e = subst SpecEnds (sym s) e
 stars_begin (n ∷ ss) ts rest s e = subst SpecEnds (sym s.3) (record { no_const = refl; no_base_word = refl; no_brace = refl })
@@ -42,7 +42,7 @@ aggregate_no_base keys.Struct h = refl
 aggregate_no_base keys.Union h = refl
 aggregate_no_base _ h = absurd (cc)
 
--- `const`, or what is behind it, stops the words of a type
+-- `const`, or what is after it, stops the words of a type
 consts_begin : (n : ℕ) (ts rest : List Placed) → SpellsConsts n ts rest → SpecEnds rest → (eat_listed is_base_word ts ≡ None) × (eat puncts.LeftBrace ts ≡ None)
 consts_begin zero ts rest s e = (rw s e.no_base_word, rw s e.no_brace)
 consts_begin (suc n) ts rest s e = (rw s.2 refl, rw s.2 refl)

@@ -148,7 +148,7 @@ module _ (types : List Name) (d : ℕ) (low : Lower) (sound : LowSound types d l
         subst (GetsFields types d ts) (some_same _ _ m.2) (record { spells = (f.0.1, r.spells, g.spells); allowed = and_join _ _ r.allowed g.allowed; shallow = omega (arith, r.shallow, g.shallow) })
   ]
 
-  -- the fields behind the brace of an aggregate whose keyword and tag stand before it
+  -- the fields after the brace of an aggregate whose keyword and tag stand before it
   fields_at_get : (of : Key) (tag : Option (Name × Pos)) (q r : Pos) (start after ts : List Placed) (x : Base × List Placed) → is_aggregate of ≡ true → tag_ok types tag ≡ true → start ≡ key_at of q ∷ after → SpellsTag tag after (mark_at puncts.LeftBrace r ∷ ts) → fields_at types low of tag ts ≡ Some x → GetsBase types d start x
   unfolding fields_at
   fields_at_get of tag q r start after ts x ok fine e t h =

@@ -1,14 +1,14 @@
 -- Reading expressions (C11 6.5), all binary levels by one reader. `low` has the readers of what stands inside, whose expressions have at most `most`
 -- nodes on a path. A loop to the left adds a node at each turn, and tests the depth before it reads on.
 --   more_args, args_at    further arguments, and arguments with their closing parenthesis
---   new_front, new_at     `PyObject_New (` before a type, and what stands behind
+--   new_front, new_at     `PyObject_New (` before a type, and what stands after
 --   word_at, primary      a word that is no type word, a primary expression
---   postfix_turn          what stands behind a primary or postfix expression
+--   postfix_turn          what stands after a primary or postfix expression
 --   postfixes, postfix    the loop over it, and a postfix expression
---   sizeof_at, unary      what stands behind `sizeof`, and a unary expression
+--   sizeof_at, unary      what stands after `sizeof`, and a unary expression
 --   cast_front, casted    the parenthesis before a type, and a cast
 --   operations, climb     the loop over binary operators of level `l` and tighter ones, and what they stand between
---   conditional_rest, assign_rest, commas    what stands behind a binary expression at the levels 2, 1 and 0
+--   conditional_rest, assign_rest, commas    what stands after a binary expression at the levels 2, 1 and 0
 --   read_at               an expression of a level
 --   expr_at               the same, where it has at most `d` nodes on a path
 use Rattle.std.specs.Prelude.{ℕ, zero, suc, ◌+◌, Bool, true, false, ◌&&◌, ◌==◌, nat_le, nat_lt, List, [], ◌∷◌, length, Option, Some, None, if◌then◌else◌}
@@ -76,7 +76,7 @@ module _ (types : List Name) (low : Lower) where
   unfoldable pub call_at : Pos → Expr → List Placed → Read Expr
   call_at start e ts = args_at ts >>= λ es. Some (call start e es.0, es.1)
 
-  -- what stands behind `e`, where something that goes on with it does; the test for more depth comes first
+  -- what stands after `e`, where something that goes on with it does; the test for more depth comes first
   unfoldable pub postfix_turn : Pos → Expr → List Placed → Option (Read Expr)
   postfix_turn start e ts =
       on_some (eat puncts.LeftParen ts) (λ o. Some (call_at start e o.1))

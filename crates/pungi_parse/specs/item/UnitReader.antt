@@ -1,10 +1,10 @@
 -- Reading what a file consists of (C11 6.9). Its expressions and statements have at most `deepest` nodes on a path.
 --   deepest           the greatest number of nodes of expressions and statements on a path of a tree
---   doc_front, doc_at `PyDoc_STRVAR`, where it is no type word, and what stands behind it
---   typedef_at        a type definition behind its keyword
---   head_front        the stars, the name and the parenthesis of a function behind its type
---   function_rest     what stands behind a function's parenthesis
---   declared_at       what stands behind the type of a declaration
+--   doc_front, doc_at `PyDoc_STRVAR`, where it is no type word, and what stands after it
+--   typedef_at        a type definition after its keyword
+--   head_front        the stars, the name and the parenthesis of a function after its type
+--   function_rest     what stands after a function's parenthesis
+--   declared_at       what stands after the type of a declaration
 --   item_at           an item
 --   items_in          as many items as stand there, at most `k`, and the tokens after them
 use Rattle.std.specs.Prelude.{ℕ, zero, suc, ◌==◌, Bool, true, false, List, [], ◌∷◌, length, Option, Some, None}

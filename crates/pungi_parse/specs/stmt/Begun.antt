@@ -2,12 +2,12 @@
 --   Head, Begun       a statement in front of its one body; a whole statement, a block, an `if`, or a statement with one body, each as far as it is read
 --   for_head_view, head_view, begun_view    those that the parser's stand for
 --   for_head_at       what stands between the parentheses of a `for`, with the closing one
---   branch_front, while_front, for_front, switch_front, case_front, default_front    what stands behind the keyword
+--   branch_front, while_front, for_front, switch_front, case_front, default_front    what stands after the keyword
 --   label_or_whole    a statement with a label in front, as far as it is read, or a whole one that holds no other one
 --   begin_at          a statement, up to the first one in it
---   do_end            what stands behind the body of a `do`
---   finish_at         what stands behind the body
---   branch_rest       what stands behind the condition of an `if`
+--   do_end            what stands after the body of a `do`
+--   finish_at         what stands after the body
+--   branch_rest       what stands after the condition of an `if`
 --   go_on             the rest of a statement
 use Rattle.std.specs.Prelude.{List, Option, Some}
 use Rattle.pungi_base.specs.declared.key.Key.TheVariants as keys

@@ -2,10 +2,10 @@
 --   table_in awaited ts    tokens up to the brace that closes the table, where these brackets are awaited in it
 --   init_at, var_at, more_vars, vars_at    a first value with its `=`, a variable, further ones, and all up to the semicolon, which is read
 --   decl_at            a declaration
---   optional m ts      an expression, where it is there, and the punctuator `m` behind it
+--   optional m ts      an expression, where it is there, and the punctuator `m` after it
 --   condition          an expression in parentheses
---   stmts_in, block_at statements up to the brace, which stays, and a block behind its brace
---   if_at, while_at, do_at, start_at, for_at, switch_at, case_at, default_at, goto_at, label_front, label_at    statements behind their keyword
+--   stmts_in, block_at statements up to the brace, which stays, and a block after its brace
+--   if_at, while_at, do_at, start_at, for_at, switch_at, case_at, default_at, goto_at, label_front, label_at    statements after their keyword
 --   stmt_at            a statement, which is no declaration
 --   read_stmt          the same, where it has at most `d` nodes on a path
 --   read_element       a statement or a declaration
@@ -128,7 +128,7 @@ module _ (types : List Name) (low : Lower) where
     unfoldable pub label_at : Pos → Name → List Placed → Read Stmt
     label_at p n ts = stmt ts >>= λ s. Some (label p n s.0, s.1)
 
-    -- the statements that hold no other one, behind their keyword
+    -- the statements that hold no other one, after their keyword
     unfoldable pub jump_or_expression : List Placed → Read Stmt
     jump_or_expression ts =
         on_some (eat_key keys.Goto ts) (λ k. goto_at k.0 k.1)

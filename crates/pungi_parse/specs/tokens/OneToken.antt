@@ -1,7 +1,8 @@
--- What one token at the front of a list is: each answers its place and the tokens after it, or nothing where another token stands there.
+-- What one token at the front of a list is: each returns its place and the tokens after it, or nothing where another
+-- token stands there.
 --   punct_number m, key_number k    the place of a punctuator, or of a keyword, among all
 --   mark_here, key_here, word_here, text_here, listed_here, null_here, literal_here, prefix_here, operator_here, marked_here
---                               what a kind is, as each of the following asks, with its place and the tokens after it
+--                               what a kind is, as each of the following tests, with its place and the tokens after it
 --   eat m ts, eat_key k ts      this punctuator, this keyword
 --   eat_word ts, eat_text ts    a word, a text: its name first
 --   eat_listed test ts          a keyword that passes the test, first

@@ -1,19 +1,21 @@
 -- Reading types, declarators and parameters (C11 6.7.2 to 6.7.7). `low` has the readers of what stands inside.
 --   Lower             the readers of what stands deeper: expressions of a level, types, and parameters up to their parenthesis
 --   keywords test ts  as many keywords that pass the test as stand there
---   consts ts, stars ts    how many `const` stand there, and each `*` with how many `const` behind it
+--   consts ts, stars ts    how many `const` stand there, and each `*` with how many `const` after it
 --   texts ts          as many texts as stand there
 --   begins_type, begins_decl    a type, or a declaration, begins here
---   type_word ts, plain_word ts    a type word, a word that is none
+--   type_word ts, plain_word ts    a type word, a word that is no type word
 --   unused_front ts   `Py_UNUSED (`
 --   begins_name, dots_front, void_front    a declared name or its parenthesis, `, ...`, and the lone `void` with its parenthesis
---   declr_rest, declrs, more_declrs    what stands behind the stars of a declarator; declarators with a comma between; further ones
+--   declr_rest, declrs, more_declrs    what stands after the stars of a declarator; declarators with a comma between;
+--                                      further ones
 --   sizes_at, function_rest    the brackets of an array, and a pointer to a function
 --   field, fields     lines of a struct, up to the brace, which stays
---   aggregate         a struct or a union behind its keyword
+--   aggregate         a struct or a union after its keyword
 --   spec_at           a type without its pointers
 --   type_name_at      a type with its pointers
---   param_rest, param, params_at    a parameter behind its stars, a parameter, and parameters with their closing parenthesis
+--   param_rest, param, params_at    a parameter after its stars, a parameter, and parameters with their closing
+--                                   parenthesis
 use Rattle.std.specs.Prelude.{ℕ, zero, suc, ◌+◌, Bool, true, false, not, ◌&&◌, ◌||◌, ◌==◌, if◌then◌else◌, List, [], ◌∷◌, length, Option, Some, None, is_some}
 use Rattle.pungi_base.specs.declared.key.Key.{Key}
 use Rattle.pungi_base.specs.declared.key.Key.TheVariants as keys

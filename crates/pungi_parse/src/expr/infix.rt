@@ -1,5 +1,5 @@
 ghost use Rattle.std.specs.Prelude.{◌<◌, ◌-◌, ◌^◌, suc, length};
-ghost use Rattle.pungi_parse.specs.expr.ExprReader.{read_at as read_at_of, comma_at, assign_at, assign_rest as assign_rest_of, conditional_at, conditional_rest as conditional_rest_of, climb as climb_of, casted as casted_of};
+ghost use Rattle.pungi_parse.specs.expr.ExprReader.{read_at, comma_at, assign_at, assign_rest, conditional_at, conditional_rest, climb, casted};
 ghost use Rattle.pungi_parse.specs.Readers.{readers};
 ghost use Rattle.pungi_parse.specs.Reads.{Reads};
 ghost use Rattle.pungi_tree.specs.ExprDepth.{expr_depth};
@@ -42,7 +42,7 @@ impl Parser<'_> {
     fn read_at<'t>(&self, level: u32, tokens: &'t [Token]) -> Read<'t, Box<Expr>>
         requires { self.now.most < 2 ^ 32 - 1 }
         ensures { Reads (λ t. expr_view t.value) expr_depth (suc self.now.most) (length tokens.now) result
-            (read_at_of self.now.types.now (readers self.now.types.now self.now.nest self.now.most)
+            (read_at self.now.types.now (readers self.now.types.now self.now.nest self.now.most)
             (suc self.now.most) level (placed tokens.now)) }
     {
         if level == 0 {
@@ -134,7 +134,7 @@ impl Parser<'_> {
     fn climb<'t>(&self, level: u32, tokens: &'t [Token]) -> Read<'t, Box<Expr>>
         requires { self.now.most < 2 ^ 32 - 1 }
         ensures { Reads (λ t. expr_view t.value) expr_depth (suc self.now.most) (length tokens.now) result
-            (climb_of self.now.types.now (readers self.now.types.now self.now.nest self.now.most)
+            (climb self.now.types.now (readers self.now.types.now self.now.nest self.now.most)
             (suc self.now.most) level (placed tokens.now)) }
     {
         let (mut left, mut left_depth, mut rest) = self.casted(tokens)?;
@@ -156,7 +156,7 @@ impl Parser<'_> {
     fn casted<'t>(&self, tokens: &'t [Token]) -> Read<'t, Box<Expr>>
         requires { self.now.most < 2 ^ 32 - 1 }
         ensures { Reads (λ t. expr_view t.value) expr_depth (suc self.now.most) (length tokens.now) result
-            (casted_of self.now.types.now (readers self.now.types.now self.now.nest self.now.most)
+            (casted self.now.types.now (readers self.now.types.now self.now.nest self.now.most)
             (suc self.now.most) (placed tokens.now)) }
     {
         let Some((pos, inner)) = cast_front(self.types, tokens) else {

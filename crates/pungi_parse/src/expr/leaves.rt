@@ -1,9 +1,9 @@
 ghost use Rattle.std.specs.Prelude.{◌≡◌, ◌<◌, suc, false, length, map, option_map, IfOk, IfSome};
-ghost use Rattle.pungi_parse.specs.tokens.OneToken.{eat_literal as eat_literal_of};
+ghost use Rattle.pungi_parse.specs.tokens.OneToken.{eat_literal};
 ghost use Rattle.pungi_parse.specs.expr.ExprReader.{text_at};
 ghost use Rattle.pungi_parse.specs.Readers.{readers};
 ghost use Rattle.pungi_parse.specs.Reads.{Reads};
-ghost use Rattle.pungi_parse.specs.ReaderParts.{close_params as close_params_of, joined, member_or_step as member_or_step_of};
+ghost use Rattle.pungi_parse.specs.ReaderParts.{close_params, joined, member_or_step};
 ghost use Rattle.pungi_tree.specs.ExprDepth.{expr_depth};
 ghost use Rattle.pungi_tree.specs.ExprView.{expr_view, params_view, param_decl_view, param_decls_of};
 ghost use Rattle.pungi_tree.specs.Syntax as plain;
@@ -28,7 +28,7 @@ pub(crate) fn close_params<'t>(
     tokens: &'t [Token],
 ) -> Read<'t, Params>
     ensures reads { Reads params_view (λ _. depth) depth (length tokens.now) result
-        (close_params_of (param_decls_of (map param_decl_view list.items)) dots (placed tokens.now)) }
+        (close_params (param_decls_of (map param_decl_view list.items)) dots (placed tokens.now)) }
     ensures same { IfOk result (λ x. params_view x.0
         ≡ plain.params (param_decls_of (map param_decl_view list.items)) false dots) }
 {
@@ -44,7 +44,7 @@ impl Parser<'_> {
         &self,
         tokens: &'t [Token],
     ) -> Result<Option<(Box<Expr>, &'t [Token])>, Memory>
-        ensures token { IfOk result (λ o. option_map (λ x. (expr_view x.0.value, placed x.1.now)) o ≡ eat_literal_of (placed tokens.now)) }
+        ensures token { IfOk result (λ o. option_map (λ x. (expr_view x.0.value, placed x.1.now)) o ≡ eat_literal (placed tokens.now)) }
         ensures shorter { IfOk result (λ o. IfSome o (λ x. length x.1.now < length tokens.now)) }
     {
         let Some((tree, rest)) = eat_literal(tokens) else {
@@ -70,7 +70,7 @@ impl Parser<'_> {
         Ok((boxed(self.alloc, Expr { pos, node })?, 1, rest))
     }
 
-    /// A member of an expression, or a step, by what stands behind it.
+    /// A member of an expression, or a step, by what stands after it.
     #[tactic(auto, unfolding(crate::specs::ReaderParts::member_or_step, crate::specs::Reading::chain, crate::specs::Reading::on_some))]
     pub(crate) fn member_or_step<'t>(
         &self,
@@ -78,7 +78,7 @@ impl Parser<'_> {
         tokens: &'t [Token],
     ) -> Option<(Expr, &'t [Token])>
         ensures tree { option_map (λ x. (expr_view x.0, placed x.1.now)) result
-            ≡ joined (member_or_step_of self.now.types.now (expr_view tree.value) (placed tokens.now)) }
+            ≡ joined (member_or_step self.now.types.now (expr_view tree.value) (placed tokens.now)) }
         ensures deep { IfSome result (λ x. expr_depth (expr_view x.0) ≡ suc (expr_depth (expr_view tree.value))) }
         ensures shorter { IfSome result (λ x. length x.1.now < length tokens.now) }
     {

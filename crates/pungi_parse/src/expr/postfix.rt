@@ -1,5 +1,5 @@
 ghost use Rattle.std.specs.Prelude.{◌≡◌, ◌≤◌, ◌<◌, ◌-◌, ◌^◌, suc, length, map, IfOk};
-ghost use Rattle.pungi_parse.specs.expr.ExprReader.{unary as unary_of, sizeof_at as sizeof_of, postfix as postfix_of, postfix_turn as postfix_turn_of, call_at, index_at, args_at, primary as primary_of, paren_at, new_at};
+ghost use Rattle.pungi_parse.specs.expr.ExprReader.{unary, sizeof_at, postfix as postfix_of, postfix_turn, call_at, index_at, args_at, primary, paren_at, new_at};
 ghost use Rattle.pungi_parse.specs.Readers.{readers};
 ghost use Rattle.pungi_parse.specs.Reads.{Reads};
 ghost use Rattle.pungi_parse.specs.ReaderParts.{joined};
@@ -23,7 +23,7 @@ impl Parser<'_> {
     pub(crate) fn unary<'t>(&self, tokens: &'t [Token]) -> Read<'t, Box<Expr>>
         requires { self.now.most < 2 ^ 32 - 1 }
         ensures { Reads (λ t. expr_view t.value) expr_depth (suc self.now.most) (length tokens.now) result
-            (unary_of self.now.types.now (readers self.now.types.now self.now.nest self.now.most)
+            (unary self.now.types.now (readers self.now.types.now self.now.nest self.now.most)
             (suc self.now.most) (placed tokens.now)) }
     {
         if let Some((operator, pos, after)) = eat_prefix(tokens) {
@@ -38,13 +38,13 @@ impl Parser<'_> {
         self.postfix(tokens)
     }
 
-    /// What stands behind `sizeof` (C11 6.5.3.4).
+    /// What stands after `sizeof` (C11 6.5.3.4).
     #[tactic(auto, unfolding(crate::specs::expr::ExprReader::sizeof_at, crate::specs::ReaderParts::sizeof_front, crate::specs::Reading::chain, crate::specs::Reading::on_some))]
     #[cycle(parts)]
     fn sizeof_at<'t>(&self, pos: Pos, tokens: &'t [Token]) -> Read<'t, Box<Expr>>
         requires { self.now.most < 2 ^ 32 - 1 }
         ensures { Reads (λ t. expr_view t.value) expr_depth (suc self.now.most) (length tokens.now) result
-            (sizeof_of self.now.types.now (readers self.now.types.now self.now.nest self.now.most)
+            (sizeof_at self.now.types.now (readers self.now.types.now self.now.nest self.now.most)
             (suc self.now.most) pos (placed tokens.now)) }
     {
         let Some(inner) = sizeof_front(self.types, tokens) else {
@@ -102,7 +102,7 @@ impl Parser<'_> {
         requires deep { depth ≡ expr_depth (expr_view tree.value) }
         requires bound { depth ≤ self.now.most }
         ensures reads { Reads (λ t. expr_view t.value) expr_depth (suc self.now.most) (length tokens.now) result
-            (joined (postfix_turn_of self.now.types.now (readers self.now.types.now self.now.nest self.now.most)
+            (joined (postfix_turn self.now.types.now (readers self.now.types.now self.now.nest self.now.most)
             start (expr_view tree.value) (placed tokens.now))) }
         ensures deeper { IfOk result (λ x. depth < x.1) }
     {
@@ -118,7 +118,7 @@ impl Parser<'_> {
         Ok((boxed(self.alloc, longer)?, depth + 1, rest))
     }
 
-    /// A call, behind its parenthesis (C11 6.5.2.2).
+    /// A call, after its parenthesis (C11 6.5.2.2).
     #[tactic(auto, unfolding(crate::specs::expr::ExprReader::call_at, crate::specs::Reading::chain))]
     #[cycle(parts)]
     fn call<'t>(
@@ -145,7 +145,7 @@ impl Parser<'_> {
         Ok((tree, depth.max(args_depth) + 1, rest))
     }
 
-    /// An element of an array, behind the bracket (C11 6.5.2.1).
+    /// An element of an array, after the bracket (C11 6.5.2.1).
     #[tactic(auto, unfolding(crate::specs::expr::ExprReader::index_at, crate::specs::Reading::chain))]
     #[cycle(parts)]
     fn index<'t>(
@@ -206,7 +206,7 @@ impl Parser<'_> {
     fn primary<'t>(&self, tokens: &'t [Token]) -> Read<'t, Box<Expr>>
         requires { self.now.most < 2 ^ 32 - 1 }
         ensures { Reads (λ t. expr_view t.value) expr_depth (suc self.now.most) (length tokens.now) result
-            (primary_of self.now.types.now (readers self.now.types.now self.now.nest self.now.most)
+            (primary self.now.types.now (readers self.now.types.now self.now.nest self.now.most)
             (placed tokens.now)) }
     {
         if let Some((tree, rest)) = self.literal(tokens)? {
@@ -225,7 +225,7 @@ impl Parser<'_> {
         self.text(tokens)
     }
 
-    /// An expression in parentheses, behind the first (C11 6.5.1).
+    /// An expression in parentheses, after the first (C11 6.5.1).
     #[tactic(auto, unfolding(crate::specs::expr::ExprReader::paren_at, crate::specs::Reading::chain))]
     #[cycle(parts)]
     fn paren<'t>(&self, pos: Pos, tokens: &'t [Token]) -> Read<'t, Box<Expr>>
@@ -243,7 +243,7 @@ impl Parser<'_> {
         Ok((tree, depth + 1, rest))
     }
 
-    /// What stands behind `PyObject_New (` (Python/C API Reference Manual 3.11, "Allocating Objects on the Heap").
+    /// What stands after `PyObject_New (` (Python/C API Reference Manual 3.11, "Allocating Objects on the Heap").
     #[tactic(auto, unfolding(crate::specs::expr::ExprReader::new_at, crate::specs::Reading::chain))]
     #[cycle(parts)]
     fn new_object<'t>(&self, pos: Pos, tokens: &'t [Token]) -> Read<'t, Box<Expr>>

@@ -16,9 +16,9 @@ struct TypedefScan {
     words: Vec<Name>,
     braces: usize,
     last: Option<Name>,
-    /// How many definitions wait that a word came behind.
+    /// How many definitions wait that a word came after.
     older: usize,
-    /// How many wait that no word came behind, all of them after the others.
+    /// How many wait that no word came after, all of them after the others.
     newer: usize,
 }
 
@@ -63,8 +63,8 @@ fn add_copies(words: &mut Vec<Name>, count: usize, word: Option<Name>) -> Result
     Ok(())
 }
 
-/// The place of the first token behind which too many brackets are open, and the words that the type definitions of a file
-/// declare, both by one pass. Where there is such a token the words are left out, as they are for want of memory.
+/// The place of the first token after which too many brackets are open, and the words that the type definitions of a
+/// file declare, both by one pass. Where there is such a token the words are left out, as they are for want of memory.
 pub(crate) fn scan(alloc: Global, tokens: &[Token]) -> (Option<Pos>, Result<Vec<Name>, Memory>)
     ensures deep { result.0 ≡ too_deep 0 (placed tokens.now) }
     ensures words { IfOk result.1 (λ words. words.items ≡ type_words (kinds (placed tokens.now))) }

@@ -1,7 +1,7 @@
 ghost use Rattle.std.specs.Prelude.{suc, length, map};
 ghost use Rattle.pungi_parse.specs.Readers.{readers};
 ghost use Rattle.pungi_parse.specs.Reads.{ReadsFront};
-ghost use Rattle.pungi_parse.specs.stmt.StmtReader.{first_value as first_value_of, init_at, var_at, vars_at, decl_at};
+ghost use Rattle.pungi_parse.specs.stmt.StmtReader.{first_value, init_at, var_at, vars_at, decl_at};
 ghost use Rattle.pungi_tree.specs.Placed.{placed};
 ghost use Rattle.pungi_tree.specs.StmtView.{init_view, init_option_view, var_decl_view, decl_view};
 
@@ -17,11 +17,11 @@ use pungi_tree::{Decl, Init, VarDecl};
 pub(crate) type Front<'t, T> = Result<(T, &'t [Token]), Stop>;
 
 impl Parser<'_> {
-    /// The first value of a variable behind its `=`.
+    /// The first value of a variable after its `=`.
     #[tactic(auto, unfolding(crate::specs::stmt::StmtReader::first_value, crate::specs::Reading::chain, crate::specs::Reading::on_some))]
     fn first_value<'t>(&self, tokens: &'t [Token]) -> Front<'t, Init>
         ensures { ReadsFront init_view (length tokens.now) result
-            (first_value_of self.now.types.now (readers self.now.types.now self.now.nest self.now.most) (placed tokens.now)) }
+            (first_value self.now.types.now (readers self.now.types.now self.now.nest self.now.most) (placed tokens.now)) }
     {
         if let Some((_, inner)) = eat(Punct::LeftBrace, tokens) {
             let (found, rest) = table(self.alloc, inner)?;

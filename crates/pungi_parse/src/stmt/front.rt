@@ -1,5 +1,5 @@
 ghost use Rattle.std.specs.Prelude.{length};
-ghost use Rattle.pungi_parse.specs.stmt.Begun.{for_head_view, begun_view, branch_front as branch_front_of, while_front as while_front_of, for_head_at, for_front as for_front_of, switch_front as switch_front_of, case_front as case_front_of, default_front as default_front_of, whole_at, label_or_whole as label_or_whole_of, begin_at, do_end as do_end_of};
+ghost use Rattle.pungi_parse.specs.stmt.Begun.{for_head_view, begun_view, branch_front, while_front, for_head_at, for_front, switch_front, case_front, default_front, whole_at, label_or_whole, begin_at, do_end};
 ghost use Rattle.pungi_parse.specs.Readers.{readers};
 ghost use Rattle.pungi_parse.specs.Reads.{ReadsFront};
 ghost use Rattle.pungi_parse.specs.stmt.StmtReader.{read_stmt, read_element};
@@ -16,31 +16,31 @@ use pungi_base::{Key, Pos, Punct, Token};
 use pungi_tree::{Stmt, StmtNode};
 
 impl Parser<'_> {
-    /// What stands behind `if`, up to its first branch.
+    /// What stands after `if`, up to its first branch.
     #[tactic(auto, unfolding(crate::specs::stmt::Begun::branch_front, crate::specs::Reading::chain))]
     fn branch_front<'t>(&self, pos: Pos, tokens: &'t [Token]) -> Front<'t, Begun>
         ensures { ReadsFront begun_view (length tokens.now) result
-            (branch_front_of self.now.types.now (readers self.now.types.now self.now.nest self.now.most) pos (placed tokens.now)) }
+            (branch_front self.now.types.now (readers self.now.types.now self.now.nest self.now.most) pos (placed tokens.now)) }
     {
         let (test, rest) = self.condition(tokens)?;
         Ok((Begun::If(pos, test), rest))
     }
 
-    /// What stands behind `while`, up to the body.
+    /// What stands after `while`, up to the body.
     #[tactic(auto, unfolding(crate::specs::stmt::Begun::while_front, crate::specs::Reading::chain))]
     fn while_front<'t>(&self, pos: Pos, tokens: &'t [Token]) -> Front<'t, Begun>
         ensures { ReadsFront begun_view (length tokens.now) result
-            (while_front_of self.now.types.now (readers self.now.types.now self.now.nest self.now.most) pos (placed tokens.now)) }
+            (while_front self.now.types.now (readers self.now.types.now self.now.nest self.now.most) pos (placed tokens.now)) }
     {
         let (test, rest) = self.condition(tokens)?;
         Ok((Begun::Before(pos, StmtHead::While(test)), rest))
     }
 
-    /// What stands behind `switch`, up to the body.
+    /// What stands after `switch`, up to the body.
     #[tactic(auto, unfolding(crate::specs::stmt::Begun::switch_front, crate::specs::Reading::chain))]
     fn switch_front<'t>(&self, pos: Pos, tokens: &'t [Token]) -> Front<'t, Begun>
         ensures { ReadsFront begun_view (length tokens.now) result
-            (switch_front_of self.now.types.now (readers self.now.types.now self.now.nest self.now.most) pos (placed tokens.now)) }
+            (switch_front self.now.types.now (readers self.now.types.now self.now.nest self.now.most) pos (placed tokens.now)) }
     {
         let (test, rest) = self.condition(tokens)?;
         Ok((Begun::Before(pos, StmtHead::Switch(test)), rest))
@@ -58,11 +58,11 @@ impl Parser<'_> {
         Ok((ForHead { start, test, step }, rest))
     }
 
-    /// What stands behind `for`, up to the body.
+    /// What stands after `for`, up to the body.
     #[tactic(auto, unfolding(crate::specs::stmt::Begun::for_front, crate::specs::Reading::chain))]
     fn for_front<'t>(&self, pos: Pos, tokens: &'t [Token]) -> Front<'t, Begun>
         ensures { ReadsFront begun_view (length tokens.now) result
-            (for_front_of self.now.types.now (readers self.now.types.now self.now.nest self.now.most) pos (placed tokens.now)) }
+            (for_front self.now.types.now (readers self.now.types.now self.now.nest self.now.most) pos (placed tokens.now)) }
     {
         let Some((_, inner)) = eat(Punct::LeftParen, tokens) else {
             return Err(Stop::NothingRead);
@@ -72,11 +72,11 @@ impl Parser<'_> {
         Ok((Begun::Before(pos, StmtHead::For(head)), rest))
     }
 
-    /// What stands behind `case`, up to the statement.
+    /// What stands after `case`, up to the statement.
     #[tactic(auto, unfolding(crate::specs::stmt::Begun::case_front, crate::specs::Reading::chain))]
     fn case_front<'t>(&self, pos: Pos, tokens: &'t [Token]) -> Front<'t, Begun>
         ensures { ReadsFront begun_view (length tokens.now) result
-            (case_front_of self.now.types.now (readers self.now.types.now self.now.nest self.now.most) pos (placed tokens.now)) }
+            (case_front self.now.types.now (readers self.now.types.now self.now.nest self.now.most) pos (placed tokens.now)) }
     {
         let (value, _, after) = self.expr(2, tokens)?;
         let Some((_, rest)) = eat(Punct::Colon, after) else {
@@ -85,11 +85,11 @@ impl Parser<'_> {
         Ok((Begun::Before(pos, StmtHead::Case(value)), rest))
     }
 
-    /// What stands behind `default`, up to the statement.
+    /// What stands after `default`, up to the statement.
     #[tactic(auto, unfolding(crate::specs::stmt::Begun::default_front, crate::specs::Reading::chain))]
     fn default_front<'t>(&self, pos: Pos, tokens: &'t [Token]) -> Front<'t, Begun>
         ensures { ReadsFront begun_view (length tokens.now) result
-            (default_front_of self.now.types.now (readers self.now.types.now self.now.nest self.now.most) pos (placed tokens.now)) }
+            (default_front self.now.types.now (readers self.now.types.now self.now.nest self.now.most) pos (placed tokens.now)) }
     {
         let Some((_, rest)) = eat(Punct::Colon, tokens) else {
             return Err(Stop::NothingRead);
@@ -111,7 +111,7 @@ impl Parser<'_> {
     #[tactic(auto, unfolding(crate::specs::stmt::Begun::label_or_whole, crate::specs::Reading::on_some))]
     fn label_or_whole<'t>(&self, tokens: &'t [Token]) -> Front<'t, Begun>
         ensures { ReadsFront begun_view (length tokens.now) result
-            (label_or_whole_of self.now.types.now (readers self.now.types.now self.now.nest self.now.most) (read_stmt self.now.types.now self.now.nest self.now.most) (read_element self.now.types.now self.now.nest self.now.most) (placed tokens.now)) }
+            (label_or_whole self.now.types.now (readers self.now.types.now self.now.nest self.now.most) (read_stmt self.now.types.now self.now.nest self.now.most) (read_element self.now.types.now self.now.nest self.now.most) (placed tokens.now)) }
     {
         if let Some((pos, rest)) = eat_key(Key::Case, tokens) {
             return self.case_front(pos, rest);
@@ -152,7 +152,7 @@ impl Parser<'_> {
         self.label_or_whole(tokens)
     }
 
-    /// What stands behind the body of a `do`.
+    /// What stands after the body of a `do`.
     #[tactic(auto, unfolding(crate::specs::stmt::Begun::do_end, crate::specs::Reading::chain))]
     pub(crate) fn do_end<'t>(
         &self,
@@ -161,7 +161,7 @@ impl Parser<'_> {
         tokens: &'t [Token],
     ) -> Front<'t, Box<Stmt>>
         ensures { ReadsFront (λ t. stmt_view t.value) (length tokens.now) result
-            (do_end_of self.now.types.now (readers self.now.types.now self.now.nest self.now.most) pos (stmt_view body.value) (placed tokens.now)) }
+            (do_end self.now.types.now (readers self.now.types.now self.now.nest self.now.most) pos (stmt_view body.value) (placed tokens.now)) }
     {
         let Some((_, after)) = eat_key(Key::While, tokens) else {
             return Err(Stop::NothingRead);

@@ -1,5 +1,5 @@
 ghost use Rattle.std.specs.Prelude.{suc, length};
-ghost use Rattle.pungi_parse.specs.stmt.Begun.{begun_view, branch_rest as branch_rest_of, go_on as go_on_of};
+ghost use Rattle.pungi_parse.specs.stmt.Begun.{begun_view, branch_rest, go_on};
 ghost use Rattle.pungi_parse.specs.Readers.{readers};
 ghost use Rattle.pungi_parse.specs.Reads.{ReadsFront};
 ghost use Rattle.pungi_parse.specs.stmt.StmtReader.{block_at, read_stmt, read_element};
@@ -42,7 +42,7 @@ impl Parser<'_> {
     #[cycle(statements)]
     fn go_on<'t>(&self, begun: Begun, tokens: &'t [Token]) -> Front<'t, Box<Stmt>>
         ensures { ReadsFront (λ t. stmt_view t.value) (suc (length tokens.now)) result
-            (go_on_of self.now.types.now (readers self.now.types.now self.now.nest self.now.most) (read_stmt self.now.types.now self.now.nest self.now.most) (read_element self.now.types.now self.now.nest self.now.most) (begun_view begun) (placed tokens.now)) }
+            (go_on self.now.types.now (readers self.now.types.now self.now.nest self.now.most) (read_stmt self.now.types.now self.now.nest self.now.most) (read_element self.now.types.now self.now.nest self.now.most) (begun_view begun) (placed tokens.now)) }
     {
         match begun {
             Begun::Whole(stmt) => Ok((stmt, tokens)),
@@ -59,12 +59,12 @@ impl Parser<'_> {
         }
     }
 
-    /// What stands behind the condition of an `if`. An `else` belongs to the nearest one (C11 6.8.4.1).
+    /// What stands after the condition of an `if`. An `else` belongs to the nearest one (C11 6.8.4.1).
     #[tactic(auto, unfolding(crate::specs::stmt::Begun::branch_rest, crate::specs::Reading::chain, crate::specs::Reading::on_some))]
     #[cycle(statements)]
     fn branch<'t>(&self, pos: Pos, test: Box<Expr>, tokens: &'t [Token]) -> Front<'t, Box<Stmt>>
         ensures { ReadsFront (λ t. stmt_view t.value) (length tokens.now) result
-            (branch_rest_of self.now.types.now (readers self.now.types.now self.now.nest self.now.most) (read_stmt self.now.types.now self.now.nest self.now.most) (read_element self.now.types.now self.now.nest self.now.most) pos (expr_view test.value) (placed tokens.now)) }
+            (branch_rest self.now.types.now (readers self.now.types.now self.now.nest self.now.most) (read_stmt self.now.types.now self.now.nest self.now.most) (read_element self.now.types.now self.now.nest self.now.most) pos (expr_view test.value) (placed tokens.now)) }
     {
         let (yes, rest) = self.stmt(tokens)?;
         match eat_key(Key::Else, rest) {
@@ -80,7 +80,7 @@ impl Parser<'_> {
         }
     }
 
-    /// What stands behind the brace of a block.
+    /// What stands after the brace of a block.
     #[cycle(statements)]
     fn block<'t>(&self, pos: Pos, tokens: &'t [Token]) -> Front<'t, Box<Stmt>>
         ensures { ReadsFront (λ t. stmt_view t.value) (length tokens.now) result

@@ -1,7 +1,7 @@
 ghost use Rattle.std.specs.Prelude.{◌≡◌, ◌<◌, length, option_map, IfSome};
 ghost use Rattle.pungi_parse.specs.Readers.{readers};
 ghost use Rattle.pungi_parse.specs.Reads.{ReadsFront};
-ghost use Rattle.pungi_parse.specs.stmt.StmtReader.{optional as optional_of, condition as condition_of, declare_at, start_at, expression_at, label_front as label_front_of, goto_at, return_at, jump_or_expression as jump_or_expression_of, read_stmt, read_element};
+ghost use Rattle.pungi_parse.specs.stmt.StmtReader.{optional, condition, declare_at, start_at, expression_at, label_front, goto_at, return_at, jump_or_expression, read_stmt, read_element};
 ghost use Rattle.pungi_tree.specs.ExprView.{expr_view, optional_view};
 ghost use Rattle.pungi_tree.specs.Placed.{placed};
 ghost use Rattle.pungi_tree.specs.StmtView.{for_start_view, stmt_view};
@@ -16,11 +16,11 @@ use pungi_base::{Key, Name, Pos, Punct, Token};
 use pungi_tree::{Expr, ForStart, Stmt, StmtNode};
 
 impl Parser<'_> {
-    /// An expression, where one stands there, and the punctuator behind it.
+    /// An expression, where one stands there, and the punctuator after it.
     #[tactic(auto, unfolding(crate::specs::stmt::StmtReader::optional, crate::specs::Reading::chain, crate::specs::Reading::on_some))]
     pub(crate) fn optional<'t>(&self, mark: Punct, tokens: &'t [Token]) -> Front<'t, Option<Expr>>
         ensures { ReadsFront optional_view (length tokens.now) result
-            (optional_of self.now.types.now (readers self.now.types.now self.now.nest self.now.most) mark (placed tokens.now)) }
+            (optional self.now.types.now (readers self.now.types.now self.now.nest self.now.most) mark (placed tokens.now)) }
     {
         if let Some((_, rest)) = eat(mark, tokens) {
             return Ok((None, rest));
@@ -36,7 +36,7 @@ impl Parser<'_> {
     #[tactic(auto, unfolding(crate::specs::stmt::StmtReader::condition, crate::specs::Reading::chain))]
     pub(crate) fn condition<'t>(&self, tokens: &'t [Token]) -> Front<'t, Box<Expr>>
         ensures { ReadsFront (λ t. expr_view t.value) (length tokens.now) result
-            (condition_of self.now.types.now (readers self.now.types.now self.now.nest self.now.most) (placed tokens.now)) }
+            (condition self.now.types.now (readers self.now.types.now self.now.nest self.now.most) (placed tokens.now)) }
     {
         let Some((_, inner)) = eat(Punct::LeftParen, tokens) else {
             return Err(Stop::NothingRead);
@@ -94,7 +94,7 @@ impl Parser<'_> {
     #[tactic(auto, unfolding(crate::specs::stmt::StmtReader::label_front, crate::specs::Reading::chain))]
     pub(crate) fn label_front<'t>(&self, tokens: &'t [Token]) -> Option<(Name, Pos, &'t [Token])>
         ensures token { option_map (λ x. (x.0, x.1, placed x.2.now)) result
-            ≡ label_front_of self.now.types.now (readers self.now.types.now self.now.nest self.now.most) (placed tokens.now) }
+            ≡ label_front self.now.types.now (readers self.now.types.now self.now.nest self.now.most) (placed tokens.now) }
         ensures shorter { IfSome result (λ x. length x.2.now < length tokens.now) }
     {
         let (name, pos, after) = plain_word(self.types, tokens)?;
@@ -102,7 +102,7 @@ impl Parser<'_> {
         Some((name, pos, rest))
     }
 
-    /// What stands behind `goto`.
+    /// What stands after `goto`.
     #[tactic(auto, unfolding(crate::specs::stmt::StmtReader::goto_at, crate::specs::Reading::chain))]
     fn goto<'t>(&self, pos: Pos, tokens: &'t [Token]) -> Front<'t, Box<Stmt>>
         ensures { ReadsFront (λ t. stmt_view t.value) (length tokens.now) result
@@ -118,7 +118,7 @@ impl Parser<'_> {
         Ok((boxed(self.alloc, Stmt { pos, node })?, rest))
     }
 
-    /// What stands behind `return`.
+    /// What stands after `return`.
     #[tactic(auto, unfolding(crate::specs::stmt::StmtReader::return_at, crate::specs::Reading::chain))]
     fn give_back<'t>(&self, pos: Pos, tokens: &'t [Token]) -> Front<'t, Box<Stmt>>
         ensures { ReadsFront (λ t. stmt_view t.value) (length tokens.now) result
@@ -133,7 +133,7 @@ impl Parser<'_> {
     #[tactic(auto, unfolding(crate::specs::stmt::StmtReader::jump_or_expression, crate::specs::Reading::chain, crate::specs::Reading::on_some))]
     pub(crate) fn jump_or_expression<'t>(&self, tokens: &'t [Token]) -> Front<'t, Box<Stmt>>
         ensures { ReadsFront (λ t. stmt_view t.value) (length tokens.now) result
-            (jump_or_expression_of self.now.types.now (readers self.now.types.now self.now.nest self.now.most) (read_stmt self.now.types.now self.now.nest self.now.most) (read_element self.now.types.now self.now.nest self.now.most) (placed tokens.now)) }
+            (jump_or_expression self.now.types.now (readers self.now.types.now self.now.nest self.now.most) (read_stmt self.now.types.now self.now.nest self.now.most) (read_element self.now.types.now self.now.nest self.now.most) (placed tokens.now)) }
     {
         if let Some((pos, after)) = eat_key(Key::Goto, tokens) {
             return self.goto(pos, after);

@@ -1,7 +1,7 @@
 ghost use Rattle.std.specs.Prelude.{◌≡◌, ◌<◌, [], length, option_map, IfSome};
 ghost use Rattle.pungi_parse.specs.Reads.{ReadsFront};
 ghost use Rattle.pungi_parse.specs.stmt.StmtReader.{table_in};
-ghost use Rattle.pungi_parse.specs.stmt.Table.{closing_here as closing_here_of};
+ghost use Rattle.pungi_parse.specs.stmt.Table.{closing_here};
 ghost use Rattle.pungi_tree.specs.Placed.{placed};
 
 use crate::stop::Stop;
@@ -12,7 +12,7 @@ use std::alloc::Global;
 
 /// The brace that closes a table, at the front of the tokens, and the tokens after it.
 fn closing_here<'a>(awaited: &Awaited, tokens: &'a [Token]) -> Option<(Pos, &'a [Token])>
-    ensures token { option_map (λ x. (x.0, placed x.1.now)) result ≡ closing_here_of awaited.now (placed tokens.now) }
+    ensures token { option_map (λ x. (x.0, placed x.1.now)) result ≡ closing_here awaited.now (placed tokens.now) }
     ensures shorter { IfSome result (λ x. length x.1.now < length tokens.now) }
 {
     if awaited.is_empty() {
@@ -22,7 +22,7 @@ fn closing_here<'a>(awaited: &Awaited, tokens: &'a [Token]) -> Option<(Pos, &'a 
     }
 }
 
-/// The tokens of a table behind its brace (C11 6.7.9), up to the brace that closes it, and the tokens after that.
+/// The tokens of a table after its brace (C11 6.7.9), up to the brace that closes it, and the tokens after that.
 pub(crate) fn table<'a>(
     alloc: Global,
     tokens: &'a [Token],

@@ -1,6 +1,6 @@
 ghost use Rattle.std.specs.Prelude.{◌≡◌, option_map};
 ghost use Rattle.pungi_parse.specs.tokens.AwaitedBrackets.{closer_mark};
-ghost use Rattle.pungi_tree.specs.Balanced.{awaited_by, closing, is_same as is_same_of};
+ghost use Rattle.pungi_tree.specs.Balanced.{awaited_by, closing, is_same};
 
 use pungi_base::{Kind, Punct};
 
@@ -39,7 +39,7 @@ impl Closer {
     }
 
     pub(crate) fn is_same(self, other: Self) -> bool
-        ensures { result ≡ is_same_of (closer_mark self) (closer_mark other) }
+        ensures { result ≡ is_same (closer_mark self) (closer_mark other) }
     {
         matches!(
             (self, other),

@@ -1,8 +1,8 @@
 ghost use Rattle.std.specs.Prelude.{◌≡◌, ◌<◌, length, IfSome, option_map};
-ghost use Rattle.pungi_parse.specs.tokens.OneToken.{eat as eat_of, eat_key as eat_key_of, eat_word as eat_word_of, eat_text as eat_text_of, eat_listed, eat_literal as eat_literal_of, eat_prefix as eat_prefix_of, eat_operator as eat_operator_of, eat_assign as eat_assign_of, eat_step as eat_step_of};
+ghost use Rattle.pungi_parse.specs.tokens.OneToken.{eat, eat_key, eat_word, eat_text, eat_listed, eat_literal, eat_prefix, eat_operator, eat_assign, eat_step};
 ghost use Rattle.pungi_tree.specs.ExprView.{expr_view};
 ghost use Rattle.pungi_tree.specs.Operators as operators;
-ghost use Rattle.pungi_tree.specs.Placed.{placed, first_place as first_place_of};
+ghost use Rattle.pungi_tree.specs.Placed.{placed, first_place};
 
 use crate::tokens::operators;
 use crate::tokens::same_token::{is_same_key, is_same_punct};
@@ -11,7 +11,7 @@ use pungi_tree::{Expr, ExprNode};
 
 /// The place of the first token.
 pub(crate) fn first_place(tokens: &[Token]) -> Option<Pos>
-    ensures { result ≡ first_place_of (placed tokens.now) }
+    ensures { result ≡ first_place (placed tokens.now) }
 {
     let (first, _) = tokens.split_first()?;
     Some(first.pos)
@@ -19,7 +19,7 @@ pub(crate) fn first_place(tokens: &[Token]) -> Option<Pos>
 
 /// A punctuator at the front: its place, and the tokens after it.
 pub(crate) fn eat<'a>(mark: Punct, tokens: &'a [Token]) -> Option<(Pos, &'a [Token])>
-    ensures token { option_map (λ x. (x.0, placed x.1.now)) result ≡ eat_of mark (placed tokens.now) }
+    ensures token { option_map (λ x. (x.0, placed x.1.now)) result ≡ eat mark (placed tokens.now) }
     ensures shorter { IfSome result (λ x. length x.1.now < length tokens.now) }
 {
     let (first, rest) = tokens.split_first()?;
@@ -31,7 +31,7 @@ pub(crate) fn eat<'a>(mark: Punct, tokens: &'a [Token]) -> Option<(Pos, &'a [Tok
 
 /// A keyword at the front: its place, and the tokens after it.
 pub(crate) fn eat_key<'a>(key: Key, tokens: &'a [Token]) -> Option<(Pos, &'a [Token])>
-    ensures token { option_map (λ x. (x.0, placed x.1.now)) result ≡ eat_key_of key (placed tokens.now) }
+    ensures token { option_map (λ x. (x.0, placed x.1.now)) result ≡ eat_key key (placed tokens.now) }
     ensures shorter { IfSome result (λ x. length x.1.now < length tokens.now) }
 {
     let (first, rest) = tokens.split_first()?;
@@ -43,7 +43,7 @@ pub(crate) fn eat_key<'a>(key: Key, tokens: &'a [Token]) -> Option<(Pos, &'a [To
 
 /// A word at the front: its name, its place, and the tokens after it.
 pub(crate) fn eat_word(tokens: &[Token]) -> Option<(Name, Pos, &[Token])>
-    ensures token { option_map (λ x. (x.0, x.1, placed x.2.now)) result ≡ eat_word_of (placed tokens.now) }
+    ensures token { option_map (λ x. (x.0, x.1, placed x.2.now)) result ≡ eat_word (placed tokens.now) }
     ensures shorter { IfSome result (λ x. length x.2.now < length tokens.now) }
 {
     let (first, rest) = tokens.split_first()?;
@@ -55,7 +55,7 @@ pub(crate) fn eat_word(tokens: &[Token]) -> Option<(Name, Pos, &[Token])>
 
 /// A text at the front: its name, its place, and the tokens after it.
 pub(crate) fn eat_text(tokens: &[Token]) -> Option<(Name, Pos, &[Token])>
-    ensures token { option_map (λ x. (x.0, x.1, placed x.2.now)) result ≡ eat_text_of (placed tokens.now) }
+    ensures token { option_map (λ x. (x.0, x.1, placed x.2.now)) result ≡ eat_text (placed tokens.now) }
     ensures shorter { IfSome result (λ x. length x.2.now < length tokens.now) }
 {
     let (first, rest) = tokens.split_first()?;
@@ -106,7 +106,7 @@ pub(crate) fn eat_aggregate(tokens: &[Token]) -> Option<(Key, Pos, &[Token])>
 
 /// A constant or `NULL` at the front, as the expression that it is, and the tokens after it.
 pub(crate) fn eat_literal(tokens: &[Token]) -> Option<(Expr, &[Token])>
-    ensures token { option_map (λ x. (expr_view x.0, placed x.1.now)) result ≡ eat_literal_of (placed tokens.now) }
+    ensures token { option_map (λ x. (expr_view x.0, placed x.1.now)) result ≡ eat_literal (placed tokens.now) }
     ensures shorter { IfSome result (λ x. length x.1.now < length tokens.now) }
 {
     let (first, rest) = tokens.split_first()?;
@@ -136,7 +136,7 @@ pub(crate) fn eat_literal(tokens: &[Token]) -> Option<(Expr, &[Token])>
 
 /// A prefix operator but `sizeof` at the front, its place, and the tokens after it.
 pub(crate) fn eat_prefix(tokens: &[Token]) -> Option<(Punct, Pos, &[Token])>
-    ensures token { option_map (λ x. (x.0, x.1, placed x.2.now)) result ≡ eat_prefix_of (placed tokens.now) }
+    ensures token { option_map (λ x. (x.0, x.1, placed x.2.now)) result ≡ eat_prefix (placed tokens.now) }
     ensures shorter { IfSome result (λ x. length x.2.now < length tokens.now) }
 {
     let (first, rest) = tokens.split_first()?;
@@ -155,7 +155,7 @@ pub(crate) fn eat_prefix(tokens: &[Token]) -> Option<(Punct, Pos, &[Token])>
 /// A binary operator of at least a level at the front, its place, and the tokens after it.
 pub(crate) fn eat_operator(level: u32, tokens: &[Token]) -> Option<(Punct, Pos, &[Token])>
     ensures token { option_map (λ x. (x.0, x.1, placed x.2.now)) result
-        ≡ eat_operator_of level (placed tokens.now) }
+        ≡ eat_operator level (placed tokens.now) }
     ensures shorter { IfSome result (λ x. length x.2.now < length tokens.now) }
 {
     let (first, rest) = tokens.split_first()?;
@@ -174,7 +174,7 @@ pub(crate) fn eat_operator(level: u32, tokens: &[Token]) -> Option<(Punct, Pos, 
 
 /// An operator of assignment at the front, its place, and the tokens after it.
 pub(crate) fn eat_assign(tokens: &[Token]) -> Option<(Punct, Pos, &[Token])>
-    ensures token { option_map (λ x. (x.0, x.1, placed x.2.now)) result ≡ eat_assign_of (placed tokens.now) }
+    ensures token { option_map (λ x. (x.0, x.1, placed x.2.now)) result ≡ eat_assign (placed tokens.now) }
     ensures shorter { IfSome result (λ x. length x.2.now < length tokens.now) }
 {
     let (first, rest) = tokens.split_first()?;
@@ -186,7 +186,7 @@ pub(crate) fn eat_assign(tokens: &[Token]) -> Option<(Punct, Pos, &[Token])>
 
 /// `++` or `--` at the front, its place, and the tokens after it.
 pub(crate) fn eat_step(tokens: &[Token]) -> Option<(Punct, Pos, &[Token])>
-    ensures token { option_map (λ x. (x.0, x.1, placed x.2.now)) result ≡ eat_step_of (placed tokens.now) }
+    ensures token { option_map (λ x. (x.0, x.1, placed x.2.now)) result ≡ eat_step (placed tokens.now) }
     ensures shorter { IfSome result (λ x. length x.2.now < length tokens.now) }
 {
     let (first, rest) = tokens.split_first()?;

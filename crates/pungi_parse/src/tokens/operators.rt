@@ -1,5 +1,5 @@
 ghost use Rattle.std.specs.Prelude.{◌≡◌};
-ghost use Rattle.pungi_tree.specs.Operators.{binary_level as binary_level_of, is_assign as is_assign_of, prefix_mark_need as prefix_need_of, is_step as is_step_of, is_base_word as is_base_word_of, is_qualifier as is_qualifier_of, is_aggregate as is_aggregate_of, level as level_of};
+ghost use Rattle.pungi_tree.specs.Operators.{binary_level, is_assign, prefix_mark_need, is_step, is_base_word, is_qualifier, is_aggregate, level as level_of};
 ghost use Rattle.pungi_tree.specs.ExprView.{expr_view};
 
 use pungi_base::{Key, Punct};
@@ -10,7 +10,7 @@ const NOWHERE: u32 = 100;
 
 /// The level of a binary operator.
 pub(crate) fn binary_level(mark: Punct) -> u32
-    ensures { result ≡ binary_level_of mark }
+    ensures { result ≡ binary_level mark }
 {
     match mark {
         Punct::OrOr => 3,
@@ -28,7 +28,7 @@ pub(crate) fn binary_level(mark: Punct) -> u32
 }
 
 pub(crate) fn is_assign(mark: Punct) -> bool
-    ensures { result ≡ is_assign_of mark }
+    ensures { result ≡ is_assign mark }
 {
     matches!(
         mark,
@@ -48,7 +48,7 @@ pub(crate) fn is_assign(mark: Punct) -> bool
 
 /// The level that the operand of a prefix operator needs.
 pub(crate) fn prefix_need(mark: Punct) -> u32
-    ensures { result ≡ prefix_need_of mark }
+    ensures { result ≡ prefix_mark_need mark }
 {
     match mark {
         Punct::PlusPlus | Punct::MinusMinus => 14,
@@ -58,19 +58,19 @@ pub(crate) fn prefix_need(mark: Punct) -> u32
 }
 
 pub(crate) fn is_step(mark: Punct) -> bool
-    ensures { result ≡ is_step_of mark }
+    ensures { result ≡ is_step mark }
 {
     matches!(mark, Punct::PlusPlus | Punct::MinusMinus)
 }
 
 pub(crate) fn is_aggregate(key: Key) -> bool
-    ensures { result ≡ is_aggregate_of key }
+    ensures { result ≡ is_aggregate key }
 {
     matches!(key, Key::Struct | Key::Union)
 }
 
 pub(crate) fn is_base_word(key: Key) -> bool
-    ensures { result ≡ is_base_word_of key }
+    ensures { result ≡ is_base_word key }
 {
     matches!(
         key,
@@ -88,7 +88,7 @@ pub(crate) fn is_base_word(key: Key) -> bool
 }
 
 pub(crate) fn is_qualifier(key: Key) -> bool
-    ensures { result ≡ is_qualifier_of key }
+    ensures { result ≡ is_qualifier key }
 {
     matches!(
         key,

@@ -1,5 +1,5 @@
 ghost use Rattle.std.specs.Prelude.{◌≡◌, ◌+◌, ◌≤◌, vec_len, ◌∷◌, length, IfOk};
-ghost use Rattle.pungi_parse.specs.types.TypeReader.{keywords, consts as consts_of, stars as stars_of, texts as texts_of};
+ghost use Rattle.pungi_parse.specs.types.TypeReader.{keywords, consts, stars as stars_of, texts};
 ghost use Rattle.pungi_tree.specs.Operators.{is_base_word, is_qualifier};
 ghost use Rattle.pungi_tree.specs.Placed.{placed};
 
@@ -47,8 +47,8 @@ pub(crate) fn base_words<'a>(
 
 /// How many `const` stand at the front, and the tokens after them. A count beyond 32 bits counts as want of memory.
 pub(crate) fn consts(tokens: &[Token]) -> Result<(u32, &[Token]), Memory>
-    ensures count { IfOk result (λ x. x.0 ≡ (consts_of (placed tokens.now)).0) }
-    ensures rest { IfOk result (λ x. placed x.1.now ≡ (consts_of (placed tokens.now)).1) }
+    ensures count { IfOk result (λ x. x.0 ≡ (consts (placed tokens.now)).0) }
+    ensures rest { IfOk result (λ x. placed x.1.now ≡ (consts (placed tokens.now)).1) }
     ensures shorter { IfOk result (λ x. length x.1.now ≤ length tokens.now) }
 {
     let mut count = 0;
@@ -63,7 +63,7 @@ pub(crate) fn consts(tokens: &[Token]) -> Result<(u32, &[Token]), Memory>
     Ok((count, rest))
 }
 
-/// Each `*` at the front by the number of `const` behind it, and the tokens after them.
+/// Each `*` at the front by the number of `const` after it, and the tokens after them.
 pub(crate) fn stars<'a>(
     alloc: Global,
     tokens: &'a [Token],
@@ -87,8 +87,8 @@ pub(crate) fn texts<'a>(
     alloc: Global,
     tokens: &'a [Token],
 ) -> Result<(Vec<Name>, &'a [Token]), Memory>
-    ensures names { IfOk result (λ x. x.0.items ≡ (texts_of (placed tokens.now)).0) }
-    ensures rest { IfOk result (λ x. placed x.1.now ≡ (texts_of (placed tokens.now)).1) }
+    ensures names { IfOk result (λ x. x.0.items ≡ (texts (placed tokens.now)).0) }
+    ensures rest { IfOk result (λ x. placed x.1.now ≡ (texts (placed tokens.now)).1) }
     ensures shorter { IfOk result (λ x. vec_len x.0 + length x.1.now ≤ length tokens.now) }
 {
     let mut names = Vec::new(alloc);

@@ -2,7 +2,7 @@ ghost use Rattle.std.specs.Prelude.{suc, length, map};
 ghost use Rattle.pungi_parse.specs.Readers.{readers};
 ghost use Rattle.pungi_parse.specs.Reads.{Reads};
 ghost use Rattle.pungi_parse.specs.ReaderParts.{size_at, size_depth};
-ghost use Rattle.pungi_parse.specs.types.TypeReader.{declrs as declrs_of_tokens, declr_at, declr_rest as declr_rest_of, function_rest as function_rest_of, sizes_at};
+ghost use Rattle.pungi_parse.specs.types.TypeReader.{declrs as declrs_of_tokens, declr_at, declr_rest, function_rest, sizes_at};
 ghost use Rattle.pungi_tree.specs.ExprDepth.{declr_depth, declrs_depth, sizes_depth};
 ghost use Rattle.pungi_tree.specs.ExprView.{declr_view, declrs_of, sizes_of, optional_view};
 ghost use Rattle.pungi_tree.specs.Placed.{placed};
@@ -51,12 +51,12 @@ impl Parser<'_> {
         self.declr_rest(stars, rest)
     }
 
-    /// What stands behind the stars of a declarator (C11 6.7.6).
+    /// What stands after the stars of a declarator (C11 6.7.6).
     #[tactic(auto, unfolding(crate::specs::types::TypeReader::declr_rest, crate::specs::Reading::chain, crate::specs::Reading::on_some))]
     #[cycle(parts)]
     pub(crate) fn declr_rest<'t>(&self, stars: Vec<u32>, tokens: &'t [Token]) -> Read<'t, Declr>
         ensures { Reads declr_view declr_depth self.now.most (length tokens.now) result
-            (declr_rest_of self.now.types.now (readers self.now.types.now self.now.nest self.now.most)
+            (declr_rest self.now.types.now (readers self.now.types.now self.now.nest self.now.most)
             stars.items (placed tokens.now)) }
     {
         let Some((name, pos, rest)) = plain_word(self.types, tokens) else {
@@ -66,11 +66,11 @@ impl Parser<'_> {
         Ok((nodes::array(stars, name, pos, sizes), depth, rest))
     }
 
-    /// A pointer to a function, behind its stars (C11 6.7.6.3).
+    /// A pointer to a function, after its stars (C11 6.7.6.3).
     #[cycle(parts)]
     fn function_rest<'t>(&self, stars: Vec<u32>, tokens: &'t [Token]) -> Read<'t, Declr>
         ensures { Reads declr_view declr_depth self.now.most (length tokens.now) result
-            (function_rest_of self.now.types.now (readers self.now.types.now self.now.nest self.now.most)
+            (function_rest self.now.types.now (readers self.now.types.now self.now.nest self.now.most)
             stars.items (placed tokens.now)) }
     {
         let Some((name, pos, inner)) = function_front(self.types, tokens) else {

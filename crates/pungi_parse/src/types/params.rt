@@ -1,7 +1,7 @@
 ghost use Rattle.std.specs.Prelude.{suc, length};
 ghost use Rattle.pungi_parse.specs.Readers.{readers};
 ghost use Rattle.pungi_parse.specs.Reads.{Reads};
-ghost use Rattle.pungi_parse.specs.types.TypeReader.{params_at as params_at_of, some_params as some_params_of, param as param_of, param_declr_at, param_rest as param_rest_of};
+ghost use Rattle.pungi_parse.specs.types.TypeReader.{params_at, some_params, param as param_of, param_declr_at, param_rest};
 ghost use Rattle.pungi_tree.specs.ExprDepth.{params_depth, param_decl_depth, param_declr_depth};
 ghost use Rattle.pungi_tree.specs.ExprView.{params_view, param_decl_view, param_declr_view};
 ghost use Rattle.pungi_tree.specs.Placed.{placed};
@@ -40,7 +40,7 @@ impl Parser<'_> {
     #[cycle(parts)]
     fn params_at<'t>(&self, tokens: &'t [Token]) -> Read<'t, Params>
         ensures { Reads params_view params_depth self.now.most (length tokens.now) result
-            (params_at_of self.now.types.now (readers self.now.types.now self.now.nest self.now.most)
+            (params_at self.now.types.now (readers self.now.types.now self.now.nest self.now.most)
             (placed tokens.now)) }
     {
         if let Some((_, rest)) = eat(Punct::RightParen, tokens) {
@@ -57,7 +57,7 @@ impl Parser<'_> {
     #[cycle(parts)]
     fn some_params<'t>(&self, tokens: &'t [Token]) -> Read<'t, Params>
         ensures { Reads params_view params_depth self.now.most (length tokens.now) result
-            (some_params_of self.now.types.now (readers self.now.types.now self.now.nest self.now.most)
+            (some_params self.now.types.now (readers self.now.types.now self.now.nest self.now.most)
             (placed tokens.now)) }
     {
         let mut list = Vec::new(self.alloc);
@@ -94,7 +94,7 @@ impl Parser<'_> {
         Ok((param, depth.max(declr_depth), rest))
     }
 
-    /// What stands behind the type of a parameter (C11 6.7.6.3).
+    /// What stands after the type of a parameter (C11 6.7.6.3).
     #[tactic(auto, unfolding(crate::specs::types::TypeReader::param_declr_at, crate::specs::Reading::on_some, crate::specs::Reading::when))]
     #[cycle(parts)]
     fn param_declr<'t>(&self, tokens: &'t [Token]) -> Read<'t, ParamDeclr>
@@ -110,12 +110,12 @@ impl Parser<'_> {
         }
     }
 
-    /// A named or an unused parameter, behind its stars (C11 6.7.6.3).
+    /// A named or an unused parameter, after its stars (C11 6.7.6.3).
     #[tactic(auto, unfolding(crate::specs::types::TypeReader::param_rest, crate::specs::Reading::chain, crate::specs::Reading::on_some))]
     #[cycle(parts)]
     fn param_rest<'t>(&self, stars: Vec<u32>, tokens: &'t [Token]) -> Read<'t, ParamDeclr>
         ensures { Reads param_declr_view param_declr_depth self.now.most (length tokens.now) result
-            (param_rest_of self.now.types.now (readers self.now.types.now self.now.nest self.now.most)
+            (param_rest self.now.types.now (readers self.now.types.now self.now.nest self.now.most)
             stars.items (placed tokens.now)) }
     {
         let Some((_, _, inner)) = unused_front(self.types, tokens) else {

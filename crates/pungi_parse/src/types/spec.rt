@@ -1,7 +1,7 @@
 ghost use Rattle.std.specs.Prelude.{suc, length, map};
 ghost use Rattle.pungi_parse.specs.Readers.{readers};
 ghost use Rattle.pungi_parse.specs.Reads.{Reads};
-ghost use Rattle.pungi_parse.specs.types.TypeReader.{type_name_at, spec_at as spec_at_of, base_at, aggregate as aggregate_of, fields_at as fields_at_of, fields as fields_of_tokens, field as field_of, declrs as declrs_of_tokens};
+ghost use Rattle.pungi_parse.specs.types.TypeReader.{type_name_at, spec_at, base_at, aggregate, fields_at, fields as fields_of_tokens, field as field_of, declrs as declrs_of_tokens};
 ghost use Rattle.pungi_tree.specs.ExprDepth.{type_name_depth, spec_depth, base_depth, field_depth, fields_depth, declrs_depth};
 ghost use Rattle.pungi_tree.specs.ExprView.{type_name_view, spec_view, base_view, field_view, fields_of, declr_view, declrs_of};
 ghost use Rattle.pungi_tree.specs.Placed.{placed};
@@ -51,7 +51,7 @@ impl Parser<'_> {
     #[cycle(parts)]
     fn spec_at<'t>(&self, tokens: &'t [Token]) -> Read<'t, Spec>
         ensures { Reads spec_view spec_depth self.now.most (length tokens.now) result
-            (spec_at_of self.now.types.now (readers self.now.types.now self.now.nest self.now.most)
+            (spec_at self.now.types.now (readers self.now.types.now self.now.nest self.now.most)
             (placed tokens.now)) }
     {
         let Some(pos) = first_place(tokens) else {
@@ -83,12 +83,12 @@ impl Parser<'_> {
         Ok((Base::Alias(name), 0, rest))
     }
 
-    /// A struct or a union, behind its keyword (C11 6.7.2.1).
+    /// A struct or a union, after its keyword (C11 6.7.2.1).
     #[tactic(auto, unfolding(crate::specs::types::TypeReader::aggregate, crate::specs::Reading::chain, crate::specs::Reading::on_some))]
     #[cycle(parts)]
     fn aggregate<'t>(&self, of: Key, tokens: &'t [Token]) -> Read<'t, Base>
         ensures { Reads base_view base_depth self.now.most (length tokens.now) result
-            (aggregate_of self.now.types.now (readers self.now.types.now self.now.nest self.now.most)
+            (aggregate self.now.types.now (readers self.now.types.now self.now.nest self.now.most)
             of (placed tokens.now)) }
     {
         if let Some((name, pos, rest)) = type_word(self.types, tokens) {
@@ -106,7 +106,7 @@ impl Parser<'_> {
         self.fields_at(of, None, inner)
     }
 
-    /// The fields of a struct or a union, behind the brace (C11 6.7.2.1).
+    /// The fields of a struct or a union, after the brace (C11 6.7.2.1).
     #[tactic(auto, unfolding(crate::specs::types::TypeReader::fields_at, crate::specs::Reading::chain))]
     #[cycle(parts)]
     fn fields_at<'t>(
@@ -116,7 +116,7 @@ impl Parser<'_> {
         tokens: &'t [Token],
     ) -> Read<'t, Base>
         ensures { Reads base_view base_depth self.now.most (length tokens.now) result
-            (fields_at_of self.now.types.now (readers self.now.types.now self.now.nest self.now.most)
+            (fields_at self.now.types.now (readers self.now.types.now self.now.nest self.now.most)
             of tag (placed tokens.now)) }
     {
         let (fields, depth, rest) = self.fields(tokens)?;

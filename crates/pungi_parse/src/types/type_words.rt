@@ -1,6 +1,6 @@
 ghost use Rattle.std.specs.Prelude.{◌≡◌, ◌==◌, true, if◌then◌else◌, ℕ, List, OnOk, IfOk, false, slice_index_or};
 ghost use Rattle.pungi_base.specs.declared.names.Name.{Name as TheName};
-ghost use Rattle.pungi_tree.specs.TypeWords.{is_among, is_type as is_type_of};
+ghost use Rattle.pungi_tree.specs.TypeWords.{is_among, is_type};
 
 use pungi_base::words::{KEYWORDS, MACROS, TYPE_WORDS};
 use pungi_base::{Memory, Name};
@@ -33,7 +33,7 @@ impl TypeWords {
 
     /// Whether a word is a type word, by one look at its mark.
     pub(crate) fn is_type(&self, name: Name) -> bool
-        ensures { result ≡ is_type_of self.now name }
+        ensures { result ≡ is_type self.now name }
     {
         if KEYWORDS + MACROS <= name.0 && name.0 < KEYWORDS + MACROS + TYPE_WORDS {
             return true;

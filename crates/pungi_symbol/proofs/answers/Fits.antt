@@ -11,7 +11,7 @@ use Rattle.pungi_symbol.specs.declared.states.mark.Mark.{Mark}
 use Rattle.pungi_symbol.specs.declared.states.mark.Mark.TheVariants.{IsNull}
 use Rattle.pungi_symbol.specs.declared.states.state.Pair.{Pair}
 use Rattle.pungi_symbol.specs.states.Terms.{Table, at, is_mark}
-use Rattle.pungi_symbol.specs.answers.SymbolicState.{class, redirect}
+use Rattle.pungi_symbol.specs.answers.SymbolicState.{class_of, redirect}
 use Rattle.pungi_symbol.specs.runs.Fits.{Fits}
 
 pub one_all : {X : Type 0} (P : X → Type 0) (x : X) → P x → All P (x ∷ [])
@@ -74,7 +74,7 @@ module _ (table : Table) (first : ℕ) (ms : List Mark) (cs : List ℕ) (ps : Li
               subst (λ k. is_mark k (at table u) ≡ true) (sym (get_or-append ms (m ∷ []) IsNull u below)) (f.marks u below)
         ];
         classes = λ u h. elim (cases_eq u (length ms)) [
-          | inl e ↦ subst (λ w. at table (class (cs ++ length ms ∷ []) w) ≡ at table w) (sym (e ∙ sym long))
+          | inl e ↦ subst (λ w. at table (class_of (cs ++ length ms ∷ []) w) ≡ at table w) (sym (e ∙ sym long))
               (ap (at table) (get_or-append_seam cs (length ms) [] 0 ∙ sym long))
           | inr ne ↦ let below : u < length ms = omega (arith, len, h, ne) in
               let there : u < length cs = omega (arith, below, long) in
@@ -108,20 +108,20 @@ module _ (table : Table) (first : ℕ) (ms : List Mark) (cs : List ℕ) (ps : Li
     statics = f.statics;
     marks = f.marks;
     classes = λ w h. let there : w < length cs = omega (arith, h, long) in
-        ap (at table) (get_or-map (redirect c d) cs w 0 0 there) ∙ at_redirect c d (class cs w) one ∙ f.classes w h;
+        ap (at table) (get_or-map (redirect c d) cs w 0 0 there) ∙ at_redirect c d (class_of cs w) one ∙ f.classes w h;
     others = f.others;
   }
 
   redirect_from : (c d e : ℕ) → e ≡ d → redirect c d e ≡ c
   redirect_from c d e same = ap (λ b. cond b c e) (eq-eqb e d same)
 
-  pub merges_back : (c d : ℕ) → length cs ≡ length ms → d < length ms → class cs d ≡ d → Fits table first ms (map (redirect c d) cs) ps → Fits table first ms cs ps × (at table c ≡ at table d)
+  pub merges_back : (c d : ℕ) → length cs ≡ length ms → d < length ms → class_of cs d ≡ d → Fits table first ms (map (redirect c d) cs) ps → Fits table first ms cs ps × (at table c ≡ at table d)
   merges_back c d long lt stands f =
-      let moved : (w : ℕ) → w < length ms → at table (redirect c d (class cs w)) ≡ at table w =
+      let moved : (w : ℕ) → w < length ms → at table (redirect c d (class_of cs w)) ≡ at table w =
       λ w h. let there : w < length cs = omega (arith, h, long) in
       sym (ap (at table) (get_or-map (redirect c d) cs w 0 0 there)) ∙ f.classes w h in
-      let cd : at table c ≡ at table d = ap (at table) (sym (redirect_from c d (class cs d) stands)) ∙ moved d lt in
-      (record { statics = f.statics; marks = f.marks; classes = λ w h. sym (at_redirect c d (class cs w) cd) ∙ moved w h; others = f.others }, cd)
+      let cd : at table c ≡ at table d = ap (at table) (sym (redirect_from c d (class_of cs d) stands)) ∙ moved d lt in
+      (record { statics = f.statics; marks = f.marks; classes = λ w h. sym (at_redirect c d (class_of cs w) cd) ∙ moved w h; others = f.others }, cd)
 
   -- two tokens are different objects
   pub parts_fit : (t u : ℕ) → (at table t ≡ at table u → ⊥) → Fits table first ms cs ps → Fits table first ms cs (ps ++ (record { a = t; b = u }) ∷ [])

@@ -13,8 +13,8 @@ use Rattle.pungi_symbol.specs.declared.states.mark.Mark.TheVariants.{IsObject}
 use Rattle.pungi_symbol.specs.declared.states.state.Pair.{Pair}
 use Rattle.pungi_symbol.specs.declared.states.state.State.{State}
 use Rattle.pungi_symbol.specs.states.Terms.{Table, at, is_mark}
-use Rattle.pungi_symbol.specs.states.Known.{count, mark}
-use Rattle.pungi_symbol.specs.answers.SymbolicState.{class, are_one, are_other, can_be, can_same, parts, merge, merge_older, apply_same}
+use Rattle.pungi_symbol.specs.states.Known.{count, mark_of}
+use Rattle.pungi_symbol.specs.answers.SymbolicState.{class_of, are_one, are_other, can_be, can_same, is_part, merge_classes, merge_two, apply_same}
 use Rattle.pungi_symbol.specs.runs.Fits.{Fits, FitsState, AreNotesSound, IsSound, named}
 use Rattle.pungi_symbol.proofs.answers.Fits.{merges, merges_back, parts_fit, parts_back}
 use Rattle.pungi_symbol.proofs.questions.Firsts.{below_or}
@@ -73,11 +73,11 @@ or_swap true false = refl
 or_swap false true = refl
 or_swap false false = refl
 
-parts_swap : (cs : List ℕ) (c d : ℕ) (ps : List Pair) → list_any (parts cs c d) ps ≡ list_any (parts cs d c) ps
+parts_swap : (cs : List ℕ) (c d : ℕ) (ps : List Pair) → list_any (is_part cs c d) ps ≡ list_any (is_part cs d c) ps
 parts_swap cs c d [] = refl
 parts_swap cs c d (p ∷ ps) =
-    ap (λ b. b || list_any (parts cs c d) ps) (or_swap ((class cs p.a == c) && (class cs p.b == d)) ((class cs p.a == d) && (class cs p.b == c)))
-    ∙ ap (λ b. parts cs d c p || b) (parts_swap cs c d ps)
+    ap (λ b. b || list_any (is_part cs c d) ps) (or_swap ((class_of cs p.a == c) && (class_of cs p.b == d)) ((class_of cs p.a == d) && (class_of cs p.b == c)))
+    ∙ ap (λ b. is_part cs d c p || b) (parts_swap cs c d ps)
 
 lt_is : (a b : ℕ) → a < b → nat_lt a b ≡ true
 lt_is a b h = grind (arith, nat_tests)
@@ -91,29 +91,29 @@ both_true a b e f = ap (λ z. z && b) e ∙ f
 -- ---- what an answer makes of a state
 
 pub data Way (s : State) (t u : ℕ) (b : Bool) (s' : State) : Type 0 where
-  kept : class s.classes t ≡ class s.classes u → b ≡ true → s' ≡ s → Way s t u b s'
-  merged : (c d : ℕ) → ((c ≡ class s.classes t) × (d ≡ class s.classes u)) ⊎ ((c ≡ class s.classes u) × (d ≡ class s.classes t)) → c < d → (d < s.statics → ⊥) → list_any (parts s.classes c d) s.others ≡ false → b ≡ true
-      → s' ≡ merge c d s → Way s t u b s'
-  parted : (class s.classes t ≡ class s.classes u → ⊥) → b ≡ false → s' ≡ record s { others = s.others ++ (record { a = t; b = u }) ∷ [] } → Way s t u b s'
+  kept : class_of s.classes t ≡ class_of s.classes u → b ≡ true → s' ≡ s → Way s t u b s'
+  merged : (c d : ℕ) → ((c ≡ class_of s.classes t) × (d ≡ class_of s.classes u)) ⊎ ((c ≡ class_of s.classes u) × (d ≡ class_of s.classes t)) → c < d → (d < s.statics → ⊥) → list_any (is_part s.classes c d) s.others ≡ false → b ≡ true
+      → s' ≡ merge_classes c d s → Way s t u b s'
+  parted : (class_of s.classes t ≡ class_of s.classes u → ⊥) → b ≡ false → s' ≡ record s { others = s.others ++ (record { a = t; b = u }) ∷ [] } → Way s t u b s'
 
 module _ (s : State) (t u : ℕ) where
   abbrev C : ℕ
-  C = class s.classes t
+  C = class_of s.classes t
 
   abbrev D : ℕ
-  D = class s.classes u
+  D = class_of s.classes u
 
   not_one : are_one s.classes t u ≡ false → C ≡ D → ⊥
   not_one e h = let bad : true ≡ false = sym (eq-eqb C D h) ∙ e in cc
 
-  merge_way : are_one s.classes t u ≡ false → are_other s.statics s.classes s.others t u ≡ false → Way s t u true (merge_older C D s)
+  merge_way : are_one s.classes t u ≡ false → are_other s.statics s.classes s.others t u ≡ false → Way s t u true (merge_two C D s)
   merge_way one other =
-      let statics = or_left (nat_lt C s.statics && nat_lt D s.statics) (list_any (parts s.classes C D) s.others) other in
-      let pairs = or_right (nat_lt C s.statics && nat_lt D s.statics) (list_any (parts s.classes C D) s.others) other in
+      let statics = or_left (nat_lt C s.statics && nat_lt D s.statics) (list_any (is_part s.classes C D) s.others) other in
+      let pairs = or_right (nat_lt C s.statics && nat_lt D s.statics) (list_any (is_part s.classes C D) s.others) other in
       let no_two : C < s.statics → D < s.statics → ⊥ = λ h g. let bad : true ≡ false = sym (both_true _ _ (lt_is C s.statics h) (lt_is D s.statics g)) ∙ statics in cc in
       by (nat_lt D C) refl no_two pairs
     where
-      by : (r : Bool) → nat_lt D C ≡ r → (C < s.statics → D < s.statics → ⊥) → list_any (parts s.classes C D) s.others ≡ false → Way s t u true (cond r (merge D C s) (merge C D s))
+      by : (r : Bool) → nat_lt D C ≡ r → (C < s.statics → D < s.statics → ⊥) → list_any (is_part s.classes C D) s.others ≡ false → Way s t u true (cond r (merge_classes D C s) (merge_classes C D s))
       by true e never pairs =
           let lt = lt_says D C e in
           merged D C (inr (refl, refl)) lt (λ h. never h (omega (arith, lt, h))) (sym (parts_swap s.classes C D s.others) ∙ pairs) refl refl
@@ -139,7 +139,7 @@ module _ (s : State) (t u : ℕ) where
 
   -- ---- it stays sound
 
-  pub way_sound : (b : Bool) (s' : State) → IsSound s → mark s.known t ≡ IsObject → mark s.known u ≡ IsObject → t < count s.known → u < count s.known → Way s t u b s'
+  pub way_sound : (b : Bool) (s' : State) → IsSound s → mark_of s.known t ≡ IsObject → mark_of s.known u ≡ IsObject → t < count s.known → u < count s.known → Way s t u b s'
       → AreNotesSound s.statics s.known.marks s'.classes s'.balances s'.others
   way_sound b s' w mt mu lt lu (kept same e z) = subst (λ r. AreNotesSound s.statics s.known.marks r.classes r.balances r.others) (sym z) w.notes
   way_sound b s' w mt mu lt lu (merged c d which older no_static no_pair e z) =
@@ -147,45 +147,45 @@ module _ (s : State) (t u : ℕ) where
       let od = w.notes.class_older u lu in
       subst (λ r. AreNotesSound s.statics s.known.marks r.classes r.balances r.others) (sym z) (elim which [
         | inl h ↦ merge_sound s.statics s.known.marks s.classes s.balances s.others w.notes c d older (let hd = h.1 in omega (arith, hd, od, lu))
-            (ap (class s.classes) h.0 ∙ w.notes.class_stands t lt ∙ sym h.0) (ap (class s.classes) h.1 ∙ w.notes.class_stands u lu ∙ sym h.1)
-            (ap (mark s.known) h.0 ∙ w.notes.class_mark t lt ∙ mt) (ap (mark s.known) h.1 ∙ w.notes.class_mark u lu ∙ mu) no_static no_pair
+            (ap (class_of s.classes) h.0 ∙ w.notes.class_stands t lt ∙ sym h.0) (ap (class_of s.classes) h.1 ∙ w.notes.class_stands u lu ∙ sym h.1)
+            (ap (mark_of s.known) h.0 ∙ w.notes.class_mark t lt ∙ mt) (ap (mark_of s.known) h.1 ∙ w.notes.class_mark u lu ∙ mu) no_static no_pair
         | inr h ↦ merge_sound s.statics s.known.marks s.classes s.balances s.others w.notes c d older (let hd = h.1 in omega (arith, hd, oc, lt))
-            (ap (class s.classes) h.0 ∙ w.notes.class_stands u lu ∙ sym h.0) (ap (class s.classes) h.1 ∙ w.notes.class_stands t lt ∙ sym h.1)
-            (ap (mark s.known) h.0 ∙ w.notes.class_mark u lu ∙ mu) (ap (mark s.known) h.1 ∙ w.notes.class_mark t lt ∙ mt) no_static no_pair
+            (ap (class_of s.classes) h.0 ∙ w.notes.class_stands u lu ∙ sym h.0) (ap (class_of s.classes) h.1 ∙ w.notes.class_stands t lt ∙ sym h.1)
+            (ap (mark_of s.known) h.0 ∙ w.notes.class_mark u lu ∙ mu) (ap (mark_of s.known) h.1 ∙ w.notes.class_mark t lt ∙ mt) no_static no_pair
       ])
   way_sound b s' w mt mu lt lu (parted ne e z) = subst (λ r. AreNotesSound s.statics s.known.marks r.classes r.balances r.others) (sym z)
       (part_sound s.statics s.known.marks s.classes s.balances s.others w.notes t u (lt, mt) (lu, mu) ne)
 
   -- ---- with values of the tokens
 
-  module _ (table : Table) (w : IsSound s) (mt : mark s.known t ≡ IsObject) (mu : mark s.known u ≡ IsObject) (lt : t < count s.known) (lu : u < count s.known) where
-    class_value : FitsState table s → (x : ℕ) → x < count s.known → at table (class s.classes x) ≡ at table x
+  module _ (table : Table) (w : IsSound s) (mt : mark_of s.known t ≡ IsObject) (mu : mark_of s.known u ≡ IsObject) (lt : t < count s.known) (lu : u < count s.known) where
+    class_value : FitsState table s → (x : ℕ) → x < count s.known → at table (class_of s.classes x) ≡ at table x
     class_value f x h = f.classes x h
 
     is_object_t : FitsState table s → is_mark IsObject (at table t) ≡ true
     is_object_t f = subst (λ k. is_mark k (at table t) ≡ true) mt (f.marks t lt)
 
-    static_class : FitsState table s → (x : ℕ) → x < count s.known → class s.classes x < s.statics → at table x ≡ value.Object (class s.classes x)
-    static_class f x h lt = sym (f.classes x h) ∙ f.statics (class s.classes x) lt
+    static_class : FitsState table s → (x : ℕ) → x < count s.known → class_of s.classes x < s.statics → at table x ≡ value.Object (class_of s.classes x)
+    static_class f x h lt = sym (f.classes x h) ∙ f.statics (class_of s.classes x) lt
 
     objects_one : (a b : ℕ) → value.Object a ≡ value.Object b → a ≡ b
     objects_one a b e = cc
 
     -- different static objects, or a pair
     other_class : FitsState table s → are_one s.classes t u ≡ false → are_other s.statics s.classes s.others t u ≡ true → at table t ≡ at table u → ⊥
-    other_class f one e same = elim (or_case (nat_lt C s.statics && nat_lt D s.statics) (list_any (parts s.classes C D) s.others) e) [
+    other_class f one e same = elim (or_case (nat_lt C s.statics && nat_lt D s.statics) (list_any (is_part s.classes C D) s.others) e) [
       | inl h ↦
           let ct = static_class f t lt (lt_says C s.statics (and_left (nat_lt C s.statics) (nat_lt D s.statics) h)) in
           let cu = static_class f u lu (lt_says D s.statics (and_right (nat_lt C s.statics) (nat_lt D s.statics) h)) in
           not_one one (objects_one C D (sym ct ∙ same ∙ cu))
       | inr h ↦
-          let hit = Any-from_list_any (parts s.classes C D) s.others h in
+          let hit = Any-from_list_any (is_part s.classes C D) s.others h in
           let k = hit.0 in
           let p = hit.1 in
           let b : (p.a < count s.known) × (p.b < count s.known) = subst (λ q. (q.a < count s.known) × (q.b < count s.known)) hit.3 (w.notes.others_below k p hit.2) in
           let o : at table p.a ≡ at table p.b → ⊥ = subst (λ q. at table q.a ≡ at table q.b → ⊥) hit.3 (f.others k p hit.2) in
-          let one_class : (x y : ℕ) → x < count s.known → y < count s.known → class s.classes x ≡ class s.classes y → at table x ≡ at table y = λ x y hx hy z. sym (f.classes x hx) ∙ ap (at table) z ∙ f.classes y hy in
-          elim (parts_says (class s.classes p.a) (class s.classes p.b) C D hit.4) [
+          let one_class : (x y : ℕ) → x < count s.known → y < count s.known → class_of s.classes x ≡ class_of s.classes y → at table x ≡ at table y = λ x y hx hy z. sym (f.classes x hx) ∙ ap (at table) z ∙ f.classes y hy in
+          elim (parts_says (class_of s.classes p.a) (class_of s.classes p.b) C D hit.4) [
             | inl g ↦ o (one_class p.a t b.0 lt g.0 ∙ same ∙ sym (one_class p.b u b.1 lu g.1))
             | inr g ↦ o (one_class p.a u b.0 lu g.0 ∙ sym same ∙ sym (one_class p.b t b.1 lt g.1))
           ]
@@ -211,9 +211,9 @@ module _ (s : State) (t u : ℕ) where
     within c d (inl h) = let oc = w.notes.class_older t lt in let od = w.notes.class_older u lu in let a = h.0 in let b = h.1 in (omega (arith, oc, a, lt), omega (arith, od, b, lu))
     within c d (inr h) = let oc = w.notes.class_older t lt in let od = w.notes.class_older u lu in let a = h.0 in let b = h.1 in (omega (arith, od, a, lu), omega (arith, oc, b, lt))
 
-    stands : (c d : ℕ) → ((c ≡ C) × (d ≡ D)) ⊎ ((c ≡ D) × (d ≡ C)) → class s.classes d ≡ d
-    stands c d (inl h) = ap (class s.classes) h.1 ∙ w.notes.class_stands u lu ∙ sym h.1
-    stands c d (inr h) = ap (class s.classes) h.1 ∙ w.notes.class_stands t lt ∙ sym h.1
+    stands : (c d : ℕ) → ((c ≡ C) × (d ≡ D)) ⊎ ((c ≡ D) × (d ≡ C)) → class_of s.classes d ≡ d
+    stands c d (inl h) = ap (class_of s.classes) h.1 ∙ w.notes.class_stands u lu ∙ sym h.1
+    stands c d (inr h) = ap (class_of s.classes) h.1 ∙ w.notes.class_stands t lt ∙ sym h.1
 
     -- the values fit, and the balances of each object are as they were
     pub way_fits : (b : Bool) (s' : State) → FitsState table s → is_equal (at table t) (at table u) ≡ b → Way s t u b s' → Fits table s.statics s.known.marks s'.classes s'.others

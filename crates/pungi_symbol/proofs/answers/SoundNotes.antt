@@ -12,7 +12,7 @@ use Rattle.std.proofs.lemmas.List.Folds.{list_any_at}
 use Rattle.pungi_symbol.specs.declared.states.mark.Mark.{Mark}
 use Rattle.pungi_symbol.specs.declared.states.mark.Mark.TheVariants.{IsNull, IsObject}
 use Rattle.pungi_symbol.specs.declared.states.state.Pair.{Pair}
-use Rattle.pungi_symbol.specs.answers.SymbolicState.{class, balance, redirect, gather, parts, add_to}
+use Rattle.pungi_symbol.specs.answers.SymbolicState.{class_of, balance_at, redirect, gather_at, is_part, add_to}
 use Rattle.pungi_symbol.specs.runs.Fits.{AreNotesSound}
 use Rattle.pungi_symbol.proofs.answers.Fits.{one_all}
 use Rattle.pungi_symbol.proofs.states.Contents.{is_open}
@@ -60,14 +60,14 @@ module _ (first : ℕ) (ms : List Mark) (cs : List ℕ) (bs : List ℤ) (ps : Li
   Mk : ℕ → Mark
   Mk t = get_or ms t IsNull
 
-  class_below : (t : ℕ) → t < length ms → class cs t < length ms
+  class_below : (t : ℕ) → t < length ms → class_of cs t < length ms
   class_below t lt = let o = w.class_older t lt in omega (arith, o, lt)
 
   pub added_sound : (r : Option ℕ) (d : ℤ) → IsObjectIn ms r → AreNotesSound first ms cs (add_to cs r d bs) ps
   added_sound None d h = w
   added_sound (Some t) d h =
-      let c = class cs t in
-      let x = balance bs c +ℤ d in
+      let c = class_of cs t in
+      let x = balance_at bs c +ℤ d in
       record {
         statics = w.statics;
         static_objects = w.static_objects;
@@ -82,7 +82,7 @@ module _ (first : ℕ) (ms : List Mark) (cs : List ℕ) (bs : List ℤ) (ps : Li
             let ne : u ≢ c = λ e. no (ap (λ z. get_or ms z IsNull) e ∙ w.class_mark t h.0 ∙ h.1) in
             get_or-set_other bs c u x (pos 0) ne ∙ w.no_object u lt no;
         merged = λ u lt no.
-            let ne : u ≢ c = λ e. no (ap (class cs) e ∙ w.class_stands t h.0 ∙ sym e) in
+            let ne : u ≢ c = λ e. no (ap (class_of cs) e ∙ w.class_stands t h.0 ∙ sym e) in
             get_or-set_other bs c u x (pos 0) ne ∙ w.merged u lt no;
         others_below = w.others_below;
         others_objects = w.others_objects;
@@ -95,7 +95,7 @@ module _ (first : ℕ) (ms : List Mark) (cs : List ℕ) (bs : List ℤ) (ps : Li
       let new = slice_set ms t m in
       let len : length new ≡ length ms = length-set ms t m in
       let not : get_or ms t IsNull ≡ IsObject → ⊥ = λ e. let bad : true ≡ false = sym opened ∙ ap is_open e in cc in
-      let here : class cs t ≡ t = w.alone t lt not in
+      let here : class_of cs t ≡ t = w.alone t lt not in
       let elsewhere : (u : ℕ) → u ≢ t → get_or new u IsNull ≡ get_or ms u IsNull = λ u ne. get_or-set_other ms t u m IsNull ne in
       let object_elsewhere : (u : ℕ) → get_or ms u IsNull ≡ IsObject → get_or new u IsNull ≡ IsObject = λ u e.
       elsewhere u (λ same. not (ap (λ z. get_or ms z IsNull) (sym same) ∙ e)) ∙ e in
@@ -109,20 +109,20 @@ module _ (first : ℕ) (ms : List Mark) (cs : List ℕ) (bs : List ℤ) (ps : Li
         class_static = w.class_static;
         class_stands = λ u h. w.class_stands u (down u h);
         class_mark = λ u h. elim (cases_eq u t) [
-          | inl e ↦ ap (λ v. get_or new v IsNull) (ap (class cs) e ∙ here ∙ sym e)
+          | inl e ↦ ap (λ v. get_or new v IsNull) (ap (class_of cs) e ∙ here ∙ sym e)
           | inr ne ↦
-              let apart : class cs u ≢ t = λ e.
+              let apart : class_of cs u ≢ t = λ e.
               let mu : get_or ms u IsNull ≡ get_or ms t IsNull = sym (w.class_mark u (down u h)) ∙ ap (λ z. get_or ms z IsNull) e in
               let un : get_or ms u IsNull ≡ IsObject → ⊥ = λ o. not (sym mu ∙ o) in
               ne (sym (w.alone u (down u h) un) ∙ e) in
-              elsewhere (class cs u) apart ∙ w.class_mark u (down u h) ∙ sym (elsewhere u ne)
+              elsewhere (class_of cs u) apart ∙ w.class_mark u (down u h) ∙ sym (elsewhere u ne)
         ];
         alone = λ u h no. elim (cases_eq u t) [
-          | inl e ↦ ap (class cs) e ∙ here ∙ sym e
+          | inl e ↦ ap (class_of cs) e ∙ here ∙ sym e
           | inr ne ↦ w.alone u (down u h) (λ o. no (elsewhere u ne ∙ o))
         ];
         no_object = λ u h no. elim (cases_eq u t) [
-          | inl e ↦ ap (balance bs) e ∙ w.no_object t lt not
+          | inl e ↦ ap (balance_at bs) e ∙ w.no_object t lt not
           | inr ne ↦ w.no_object u (down u h) (λ o. no (elsewhere u ne ∙ o))
         ];
         merged = λ u h no. w.merged u (down u h) no;
@@ -144,13 +144,13 @@ module _ (first : ℕ) (ms : List Mark) (cs : List ℕ) (bs : List ℤ) (ps : Li
       let cl = w.classes_long in
       let bl = w.balances_long in
       let same_mark : (u : ℕ) → u < n → get_or new u IsNull ≡ get_or ms u IsNull = λ u h. get_or-append ms (m ∷ []) IsNull u h in
-      let same_class : (u : ℕ) → u < n → class cs' u ≡ class cs u = λ u h. let lt : u < length cs = omega (arith, cl, h) in get_or-append cs (n ∷ []) 0 u lt in
-      let same_balance : (u : ℕ) → u < n → balance bs' u ≡ balance bs u = λ u h. let lt : u < length bs = omega (arith, bl, h) in get_or-append bs (d ∷ []) (pos 0) u lt in
-      let last_class : class cs' n ≡ n = ap (class cs') (sym cl) ∙ get_or-append_seam cs n [] 0 in
-      let last_balance : balance bs' n ≡ d = ap (balance bs') (sym bl) ∙ get_or-append_seam bs d [] (pos 0) in
+      let same_class : (u : ℕ) → u < n → class_of cs' u ≡ class_of cs u = λ u h. let lt : u < length cs = omega (arith, cl, h) in get_or-append cs (n ∷ []) 0 u lt in
+      let same_balance : (u : ℕ) → u < n → balance_at bs' u ≡ balance_at bs u = λ u h. let lt : u < length bs = omega (arith, bl, h) in get_or-append bs (d ∷ []) (pos 0) u lt in
+      let last_class : class_of cs' n ≡ n = ap (class_of cs') (sym cl) ∙ get_or-append_seam cs n [] 0 in
+      let last_balance : balance_at bs' n ≡ d = ap (balance_at bs') (sym bl) ∙ get_or-append_seam bs d [] (pos 0) in
       let last_mark : get_or new n IsNull ≡ m = get_or-append_seam ms m [] IsNull in
       let down : (u : ℕ) → u < length new → u ≢ n → u < n = λ u h ne. omega (arith, len, h, ne) in
-      let last : (u : ℕ) → u ≡ n → class cs' u ≡ u = λ u e. ap (class cs') e ∙ last_class ∙ sym e in
+      let last : (u : ℕ) → u ≡ n → class_of cs' u ≡ u = λ u e. ap (class_of cs') e ∙ last_class ∙ sym e in
       let few = w.statics in
       let early : (u : ℕ) → u < first → u < n = λ u h. omega (arith, few, h) in
       record {
@@ -164,21 +164,21 @@ module _ (first : ℕ) (ms : List Mark) (cs : List ℕ) (bs : List ℤ) (ps : Li
         ];
         class_static = λ u h. same_class u (early u h) ∙ w.class_static u h;
         class_stands = λ u h. elim (cases_eq u n) [
-          | inl e ↦ ap (class cs') (last u e)
+          | inl e ↦ ap (class_of cs') (last u e)
           | inr ne ↦ let lt = down u h ne in
-              ap (class cs') (same_class u lt) ∙ same_class (class cs u) (class_below u lt) ∙ w.class_stands u lt ∙ sym (same_class u lt)
+              ap (class_of cs') (same_class u lt) ∙ same_class (class_of cs u) (class_below u lt) ∙ w.class_stands u lt ∙ sym (same_class u lt)
         ];
         class_mark = λ u h. elim (cases_eq u n) [
           | inl e ↦ ap (λ v. get_or new v IsNull) (last u e)
           | inr ne ↦ let lt = down u h ne in
-              ap (λ v. get_or new v IsNull) (same_class u lt) ∙ same_mark (class cs u) (class_below u lt) ∙ w.class_mark u lt ∙ sym (same_mark u lt)
+              ap (λ v. get_or new v IsNull) (same_class u lt) ∙ same_mark (class_of cs u) (class_below u lt) ∙ w.class_mark u lt ∙ sym (same_mark u lt)
         ];
         alone = λ u h no. elim (cases_eq u n) [
           | inl e ↦ last u e
           | inr ne ↦ let lt = down u h ne in same_class u lt ∙ w.alone u lt (λ o. no (same_mark u lt ∙ o))
         ];
         no_object = λ u h no. elim (cases_eq u n) [
-          | inl e ↦ ap (balance bs') e ∙ last_balance ∙ zero_if (λ o. no (ap (λ v. get_or new v IsNull) e ∙ last_mark ∙ o))
+          | inl e ↦ ap (balance_at bs') e ∙ last_balance ∙ zero_if (λ o. no (ap (λ v. get_or new v IsNull) e ∙ last_mark ∙ o))
           | inr ne ↦ let lt = down u h ne in same_balance u lt ∙ w.no_object u lt (λ o. no (same_mark u lt ∙ o))
         ];
         merged = λ u h no. elim (cases_eq u n) [
@@ -191,7 +191,7 @@ module _ (first : ℕ) (ms : List Mark) (cs : List ℕ) (bs : List ℤ) (ps : Li
       }
 
   -- two tokens are different objects
-  pub part_sound : (t u : ℕ) → (t < length ms) × (get_or ms t IsNull ≡ IsObject) → (u < length ms) × (get_or ms u IsNull ≡ IsObject) → (class cs t ≡ class cs u → ⊥)
+  pub part_sound : (t u : ℕ) → (t < length ms) × (get_or ms t IsNull ≡ IsObject) → (u < length ms) × (get_or ms u IsNull ≡ IsObject) → (class_of cs t ≡ class_of cs u → ⊥)
       → AreNotesSound first ms cs bs (ps ++ (record { a = t; b = u }) ∷ [])
   part_sound t u ht hu ne =
       let new : Pair = record { a = t; b = u } in
@@ -209,12 +209,12 @@ module _ (first : ℕ) (ms : List Mark) (cs : List ℕ) (bs : List ℤ) (ps : Li
         merged = w.merged;
         others_below = All-append (λ p. (p.a < length ms) × (p.b < length ms)) ps (new ∷ []) w.others_below (one_all (λ p. (p.a < length ms) × (p.b < length ms)) new (ht.0, hu.0));
         others_objects = All-append (λ p. (get_or ms p.a IsNull ≡ IsObject) × (get_or ms p.b IsNull ≡ IsObject)) ps (new ∷ []) w.others_objects (one_all (λ p. (get_or ms p.a IsNull ≡ IsObject) × (get_or ms p.b IsNull ≡ IsObject)) new (ht.1, hu.1));
-        others_part = All-append (λ p. class cs p.a ≡ class cs p.b → ⊥) ps (new ∷ []) w.others_part (one_all (λ p. class cs p.a ≡ class cs p.b → ⊥) new ne);
+        others_part = All-append (λ p. class_of cs p.a ≡ class_of cs p.b → ⊥) ps (new ∷ []) w.others_part (one_all (λ p. class_of cs p.a ≡ class_of cs p.b → ⊥) new ne);
       }
 
   -- two classes are merged, into the older
-  pub merge_sound : (c d : ℕ) → c < d → d < length ms → class cs c ≡ c → class cs d ≡ d → get_or ms c IsNull ≡ IsObject → get_or ms d IsNull ≡ IsObject
-      → (d < first → ⊥) → list_any (parts cs c d) ps ≡ false → AreNotesSound first ms (map (redirect c d) cs) (gather c d bs) ps
+  pub merge_sound : (c d : ℕ) → c < d → d < length ms → class_of cs c ≡ c → class_of cs d ≡ d → get_or ms c IsNull ≡ IsObject → get_or ms d IsNull ≡ IsObject
+      → (d < first → ⊥) → list_any (is_part cs c d) ps ≡ false → AreNotesSound first ms (map (redirect c d) cs) (gather_at c d bs) ps
   merge_sound c d older ld stands_c stands_d mark_c mark_d no_static no_pair =
       let n = length ms in
       let lc : c < n = omega (arith, older, ld) in
@@ -222,23 +222,23 @@ module _ (first : ℕ) (ms : List Mark) (cs : List ℕ) (bs : List ℤ) (ps : Li
       let cs' = map (redirect c d) cs in
       let cl = w.classes_long in
       let bl = w.balances_long in
-      let new : (x : ℕ) → x < n → class cs' x ≡ redirect c d (class cs x) = λ x h. let lt : x < length cs = omega (arith, h, cl) in get_or-map (redirect c d) cs x 0 0 lt in
+      let new : (x : ℕ) → x < n → class_of cs' x ≡ redirect c d (class_of cs x) = λ x h. let lt : x < length cs = omega (arith, h, cl) in get_or-map (redirect c d) cs x 0 0 lt in
       let stays : (e : ℕ) → e ≢ d → redirect c d e ≡ e = λ e other. elim (redirect_is c d e) [ inl h ↦ absurd (other h.0) | inr h ↦ h.1 ] in
-      let at_c : class cs' c ≡ c = new c lc ∙ ap (redirect c d) stands_c ∙ stays c ne in
-      let one = slice_set bs c (balance bs c +ℤ balance bs d) in
-      let len1 : length one ≡ length bs = length-set bs c (balance bs c +ℤ balance bs d) in
+      let at_c : class_of cs' c ≡ c = new c lc ∙ ap (redirect c d) stands_c ∙ stays c ne in
+      let one = slice_set bs c (balance_at bs c +ℤ balance_at bs d) in
+      let len1 : length one ≡ length bs = length-set bs c (balance_at bs c +ℤ balance_at bs d) in
       let len2 : length (slice_set one d (pos 0)) ≡ length one = length-set one d (pos 0) in
-      let keeps : (x : ℕ) → x ≢ c → x ≢ d → balance (gather c d bs) x ≡ balance bs x = λ x nc nd.
-      get_or-set_other one d x (pos 0) (pos 0) nd ∙ get_or-set_other bs c x (balance bs c +ℤ balance bs d) (pos 0) nc in
+      let keeps : (x : ℕ) → x ≢ c → x ≢ d → balance_at (gather_at c d bs) x ≡ balance_at bs x = λ x nc nd.
+      get_or-set_other one d x (pos 0) (pos 0) nd ∙ get_or-set_other bs c x (balance_at bs c +ℤ balance_at bs d) (pos 0) nc in
       let d_lt : d < length one = omega (arith, ld, len1, bl) in
-      let emptied : balance (gather c d bs) d ≡ pos 0 = get_or-set_same one d (pos 0) (pos 0) d_lt in
+      let emptied : balance_at (gather_at c d bs) d ≡ pos 0 = get_or-set_same one d (pos 0) (pos 0) d_lt in
       let few = w.statics in
       record {
         statics = w.statics;
         static_objects = w.static_objects;
         classes_long = length-map cs (redirect c d) ∙ cl;
         balances_long = len2 ∙ len1 ∙ bl;
-        class_older = λ x h. let o = w.class_older x h in elim (redirect_is c d (class cs x)) [
+        class_older = λ x h. let o = w.class_older x h in elim (redirect_is c d (class_of cs x)) [
           | inl e ↦ let z = new x h ∙ e.1 in let y = e.0 in omega (arith, z, y, o, older)
           | inr e ↦ let z = new x h ∙ e.1 in omega (arith, z, o)
         ];
@@ -246,11 +246,11 @@ module _ (first : ℕ) (ms : List Mark) (cs : List ℕ) (bs : List ℤ) (ps : Li
             let lt : x < n = omega (arith, h, few) in
             let same = w.class_static x h in
             new x lt ∙ ap (redirect c d) same ∙ stays x (λ e. no_static (omega (arith, e, h)));
-        class_stands = λ x h. elim (redirect_is c d (class cs x)) [
-          | inl e ↦ ap (class cs') (new x h ∙ e.1) ∙ at_c ∙ sym (new x h ∙ e.1)
-          | inr e ↦ ap (class cs') (new x h ∙ e.1) ∙ new (class cs x) (class_below x h) ∙ ap (redirect c d) (w.class_stands x h) ∙ sym (new x h)
+        class_stands = λ x h. elim (redirect_is c d (class_of cs x)) [
+          | inl e ↦ ap (class_of cs') (new x h ∙ e.1) ∙ at_c ∙ sym (new x h ∙ e.1)
+          | inr e ↦ ap (class_of cs') (new x h ∙ e.1) ∙ new (class_of cs x) (class_below x h) ∙ ap (redirect c d) (w.class_stands x h) ∙ sym (new x h)
         ];
-        class_mark = λ x h. elim (redirect_is c d (class cs x)) [
+        class_mark = λ x h. elim (redirect_is c d (class_of cs x)) [
           | inl e ↦ ap (λ z. get_or ms z IsNull) (new x h ∙ e.1) ∙ mark_c ∙ sym (sym (w.class_mark x h) ∙ ap (λ z. get_or ms z IsNull) e.0 ∙ mark_d)
           | inr e ↦ ap (λ z. get_or ms z IsNull) (new x h ∙ e.1) ∙ w.class_mark x h
         ];
@@ -260,9 +260,9 @@ module _ (first : ℕ) (ms : List Mark) (cs : List ℕ) (bs : List ℤ) (ps : Li
             new x h ∙ ap (redirect c d) here ∙ stays x nd;
         no_object = λ x h no. keeps x (λ e. no (ap (λ z. get_or ms z IsNull) e ∙ mark_c)) (λ e. no (ap (λ z. get_or ms z IsNull) e ∙ mark_d)) ∙ w.no_object x h no;
         merged = λ x h no. elim (cases_eq x d) [
-          | inl e ↦ ap (balance (gather c d bs)) e ∙ emptied
+          | inl e ↦ ap (balance_at (gather_at c d bs)) e ∙ emptied
           | inr nd ↦
-              let nc : x ≢ c = λ e. no (ap (class cs') e ∙ at_c ∙ sym e) in
+              let nc : x ≢ c = λ e. no (ap (class_of cs') e ∙ at_c ∙ sym e) in
               keeps x nc nd ∙ w.merged x h (λ e. no (new x h ∙ ap (redirect c d) e ∙ stays x nd))
         ];
         others_below = w.others_below;
@@ -270,15 +270,15 @@ module _ (first : ℕ) (ms : List Mark) (cs : List ℕ) (bs : List ℤ) (ps : Li
         others_part = λ k p h e.
             let b = w.others_below k p h in
             let q = get_or ps k p in
-            let r : redirect c d (class cs q.a) ≡ redirect c d (class cs q.b) = sym (new q.a b.0) ∙ e ∙ new q.b b.1 in
-            let hit : parts cs c d q ≡ true → ⊥ = λ yes. let bad : true ≡ false = sym (list_any_at (parts cs c d) ps k p h yes) ∙ no_pair in cc in
-            elim (redirect_is c d (class cs q.a)) [
-              | inl ea ↦ elim (redirect_is c d (class cs q.b)) [
+            let r : redirect c d (class_of cs q.a) ≡ redirect c d (class_of cs q.b) = sym (new q.a b.0) ∙ e ∙ new q.b b.1 in
+            let hit : is_part cs c d q ≡ true → ⊥ = λ yes. let bad : true ≡ false = sym (list_any_at (is_part cs c d) ps k p h yes) ∙ no_pair in cc in
+            elim (redirect_is c d (class_of cs q.a)) [
+              | inl ea ↦ elim (redirect_is c d (class_of cs q.b)) [
                 | inl eb ↦ w.others_part k p h (ea.0 ∙ sym eb.0)
-                | inr eb ↦ hit (second_way (class cs q.a) (class cs q.b) c d ea.0 (sym eb.1 ∙ sym r ∙ ea.1))
+                | inr eb ↦ hit (second_way (class_of cs q.a) (class_of cs q.b) c d ea.0 (sym eb.1 ∙ sym r ∙ ea.1))
               ]
-              | inr ea ↦ elim (redirect_is c d (class cs q.b)) [
-                | inl eb ↦ hit (first_way (class cs q.a) (class cs q.b) c d (sym ea.1 ∙ r ∙ eb.1) eb.0)
+              | inr ea ↦ elim (redirect_is c d (class_of cs q.b)) [
+                | inl eb ↦ hit (first_way (class_of cs q.a) (class_of cs q.b) c d (sym ea.1 ∙ r ∙ eb.1) eb.0)
                 | inr eb ↦ w.others_part k p h (sym ea.1 ∙ r ∙ eb.1)
               ]
             ];

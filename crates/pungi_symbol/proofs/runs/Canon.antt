@@ -12,7 +12,7 @@ use Rattle.pungi_symbol.specs.declared.states.mark.Mark.{Mark}
 use Rattle.pungi_symbol.specs.declared.states.mark.Mark.TheVariants.{Pointer, TextPointer, IsNull, IsObject, IsText, IsNumber}
 use Rattle.pungi_symbol.specs.declared.states.state.State.{State}
 use Rattle.pungi_symbol.specs.states.Terms.{Table, at}
-use Rattle.pungi_symbol.specs.answers.SymbolicState.{class}
+use Rattle.pungi_symbol.specs.answers.SymbolicState.{class_of}
 use Rattle.pungi_symbol.specs.runs.Fits.{IsSound}
 use Rattle.pungi_symbol.specs.runs.Paths.{own_value, own_values, canon, choice_of, table_of, AreApart}
 use Rattle.pungi_symbol.proofs.questions.Arguments.{drop_here, none_left}
@@ -68,7 +68,7 @@ module _ (s : State) (sound : IsSound s) where
   own_statics = statics_first s.known.marks s.classes 0 s.statics sound.notes.statics
       (let e = sound.notes.classes_long in let h = sound.notes.statics in omega (arith, e, h))
       sound.notes.static_objects
-      (λ t l. let e : class s.classes t ≡ t = sound.notes.class_static t l in omega (arith, e))
+      (λ t l. let e : class_of s.classes t ≡ t = sound.notes.class_static t l in omega (arith, e))
 
   -- the run that is made of these values has them
   pub own_table : (entry : Entry) (choices : List Choice) (n : ℕ) → entry.args ≡ take n (drop s.statics (canon s)) → choices ≡ map choice_of (drop n (drop s.statics (canon s)))
@@ -92,7 +92,7 @@ own_class IsObject c o e = let same : value.Object c ≡ value.Object o = e in c
 own_class IsText c o e = absurd (let bad : value.Text ≡ value.Object o = e in cc)
 own_class (IsNumber n) c o e = absurd (let bad : value.Int n ≡ value.Object o = e in cc)
 
-own_at : (ms : List Mark) (cs : List ℕ) (t o : ℕ) → at (own_values ms cs) t ≡ value.Object o → o ≡ class cs t
+own_at : (ms : List Mark) (cs : List ℕ) (t o : ℕ) → at (own_values ms cs) t ≡ value.Object o → o ≡ class_of cs t
 own_at [] cs t o e = absurd (past t e)
   where
     past : (t : ℕ) → at [] t ≡ value.Object o → ⊥

@@ -24,12 +24,12 @@ use Rattle.pungi_code.specs.declared.code.Code.{Code}
 use Rattle.pungi_code.specs.Run.{exec, start}
 use Rattle.pungi_code.specs.Machine.{Reaches}
 use Rattle.pungi_symbol.specs.declared.states.known.Status.{Status}
-use Rattle.pungi_symbol.specs.questions.NextQuestion.{ask, ask_line, ask_while}
+use Rattle.pungi_symbol.specs.questions.NextQuestion.{ask, asks_line, ask_while}
 use Rattle.pungi_symbol.specs.answers.KnownAfter.{go, instr_of}
-use Rattle.pungi_symbol.specs.answers.SymbolicState.{can, apply, apply_same, are_one, merge, class}
-use Rattle.pungi_symbol.specs.runs.ObjectForm.{is_told_here, atoms_of}
-use Rattle.pungi_symbol.specs.runs.Paths.{table_of, arguments, known_at, start_state, Asked, asked_here, asked_on, Path, path_here, path_on, run_for, IsAt, Meets, returned_value}
-use Rattle.pungi_symbol.specs.runs.OneInstruction.{led_at}
+use Rattle.pungi_symbol.specs.answers.SymbolicState.{can, apply, apply_same, are_one, merge_classes, class_of}
+use Rattle.pungi_symbol.specs.runs.ObjectForm.{is_known_here, atoms_of}
+use Rattle.pungi_symbol.specs.runs.Paths.{table_of, argument_count, known_at, start_state, Asked, asked_here, asked_on, Path, path_here, path_on, run_for, IsAt, Meets, returned_value}
+use Rattle.pungi_symbol.specs.runs.OneInstruction.{leads_at}
 use Rattle.pungi_symbol.proofs.steps.OneInstruction.{exec_step}
 use Rattle.pungi_symbol.proofs.steps.RunInState.{stays, goes_on, leaves, halts, effort, Linked}
 use Rattle.pungi_symbol.proofs.steps.StepForward.{AreObjectLines, going_ask, moves, two_true}
@@ -43,15 +43,15 @@ going_by s q d (status.Returned p x) c = absurd (let bad : false ≡ true = c in
 going_by s q d (status.Stopped p) c = absurd (let bad : false ≡ true = c in cc)
 
 pub can_going : (code : List Line) (s : State) (d : Decision) → can s (ask code s.known) d ≡ true → s.known.status ≡ status.Going
-can_going code s d c = going_by s (ask_line s.known (slice_get code s.known.pc)) d s.known.status c
+can_going code s d c = going_by s (asks_line s.known (slice_get code s.known.pc)) d s.known.status c
 
-merged_statics : (b : Bool) (c d : ℕ) (s : State) → (cond b (merge d c s) (merge c d s)).statics ≡ s.statics
+merged_statics : (b : Bool) (c d : ℕ) (s : State) → (cond b (merge_classes d c s) (merge_classes c d s)).statics ≡ s.statics
 merged_statics true c d s = refl
 merged_statics false c d s = refl
 
 same_statics : (one b : Bool) (t u : ℕ) (s : State) → (apply_same one b t u s).statics ≡ s.statics
 same_statics true true t u s = refl
-same_statics false true t u s = merged_statics (nat_lt (class s.classes u) (class s.classes t)) (class s.classes t) (class s.classes u) s
+same_statics false true t u s = merged_statics (nat_lt (class_of s.classes u) (class_of s.classes t)) (class_of s.classes t) (class_of s.classes u) s
 same_statics true false t u s = refl
 same_statics false false t u s = refl
 
@@ -69,7 +69,7 @@ apply_statics o Over d s = refl
 
 module _ (code : List Line) (n : ℕ) (form : AreObjectLines n code) where
   line_form : (pc : ℕ) (line : Line) → slice_get code pc ≡ Some line → list_all (is_there n) (atoms_of line.instr) ≡ true
-  line_form pc line e = (two_true (is_told_here line.instr) (list_all (is_there n) (atoms_of line.instr)) (form pc line e)).1
+  line_form pc line e = (two_true (is_known_here line.instr) (list_all (is_there n) (atoms_of line.instr)) (form pc line e)).1
 
   instr_form : (o : Option Line) → ((line : Line) → o ≡ Some line → list_all (is_there n) (atoms_of line.instr) ≡ true) → list_all (is_there n) (atoms_of (instr_of o)) ≡ true
   instr_form None h = refl
@@ -114,13 +114,13 @@ pub data Arrived (code : Code) (statics f : ℕ) (entry : Entry) (choices : List
   meets_one : (ds : List Decision) (s : State) → Meets statics f code entry choices n ds s → Arrived code statics f entry choices n
 
 module _ (code : Code) (statics f : ℕ) (form : AreObjectLines statics code.instrs) (entry : Entry) (choices : List Choice) (sound : IsSound (start_state statics f code))
-    (linked : Linked (table_of statics entry choices) (statics + arguments code) choices)
-    (started : Lies code.instrs (table_of statics entry choices) (statics + arguments code) (start code entry) (start_state statics f code)) where
+    (linked : Linked (table_of statics entry choices) (statics + argument_count code) choices)
+    (started : Lies code.instrs (table_of statics entry choices) (statics + argument_count code) (start code entry) (start_state statics f code)) where
   abbrev pub T : Table
   T = table_of statics entry choices
 
   abbrev pub B : ℕ
-  B = statics + arguments code
+  B = statics + argument_count code
 
   abbrev pub At : ℕ → Regs → ℕ → Status → Type 0
   At n m pc z = IsAt code entry choices n T m pc z
@@ -132,19 +132,19 @@ module _ (code : Code) (statics f : ℕ) (form : AreObjectLines statics code.ins
   more : (n fuel : ℕ) → run_for code entry choices ((n + 1) + fuel) ≡ run_for code entry choices (n + suc fuel)
   more n fuel = ap (run_for code entry choices) (omega arith)
 
-  on : (n : ℕ) (m : Regs) (pc fuel : ℕ) → Going n m pc → run_for code entry choices ((n + 1) + fuel) ≡ (Reaches (exec choices code.instrs fuel) (led_at choices code.instrs pc m).0 (led_at choices code.instrs pc m).1).end
+  on : (n : ℕ) (m : Regs) (pc fuel : ℕ) → Going n m pc → run_for code entry choices ((n + 1) + fuel) ≡ (Reaches (exec choices code.instrs fuel) (leads_at choices code.instrs pc m).0 (leads_at choices code.instrs pc m).1).end
   on n m pc fuel g = more n fuel ∙ g (suc fuel) ∙ exec_step choices code.instrs fuel pc m
 
-  pub goes_at : (n : ℕ) (m m' : Regs) (pc pc' : ℕ) → Going n m pc → led_at choices code.instrs pc m ≡ (after.Goes pc', m') → Going (n + 1) m' pc'
+  pub goes_at : (n : ℕ) (m m' : Regs) (pc pc' : ℕ) → Going n m pc → leads_at choices code.instrs pc m ≡ (after.Goes pc', m') → Going (n + 1) m' pc'
   goes_at n m m' pc pc' g e fuel = on n m pc fuel g ∙ ap (λ r. (Reaches (exec choices code.instrs fuel) r.0 r.1).end) e
 
-  wants_at : (n : ℕ) (m m' : Regs) (pc : ℕ) → Going n m pc → led_at choices code.instrs pc m ≡ (after.Wants, m') → (fuel : ℕ) → run_for code entry choices ((n + 1) + fuel) ≡ run.NeedsChoice
+  wants_at : (n : ℕ) (m m' : Regs) (pc : ℕ) → Going n m pc → leads_at choices code.instrs pc m ≡ (after.Wants, m') → (fuel : ℕ) → run_for code entry choices ((n + 1) + fuel) ≡ run.NeedsChoice
   wants_at n m m' pc g e fuel = on n m pc fuel g ∙ ap (λ r. (Reaches (exec choices code.instrs fuel) r.0 r.1).end) e
 
-  pub leaves_at : (n : ℕ) (m m' : Regs) (pc : ℕ) (p : Pos) (v : Option Value) → Going n m pc → led_at choices code.instrs pc m ≡ (after.Leaves p v, m') → (fuel : ℕ) → run_for code entry choices ((n + 1) + fuel) ≡ run.Returned m'.world v p m'.used
+  pub leaves_at : (n : ℕ) (m m' : Regs) (pc : ℕ) (p : Pos) (v : Option Value) → Going n m pc → leads_at choices code.instrs pc m ≡ (after.Leaves p v, m') → (fuel : ℕ) → run_for code entry choices ((n + 1) + fuel) ≡ run.Returned m'.world v p m'.used
   leaves_at n m m' pc p v g e fuel = on n m pc fuel g ∙ ap (λ r. (Reaches (exec choices code.instrs fuel) r.0 r.1).end) e
 
-  pub halts_at : (n : ℕ) (m m' : Regs) (pc : ℕ) (p : Pos) → Going n m pc → led_at choices code.instrs pc m ≡ (after.Stops p, m') → (fuel : ℕ) → run_for code entry choices ((n + 1) + fuel) ≡ run.Stopped p
+  pub halts_at : (n : ℕ) (m m' : Regs) (pc : ℕ) (p : Pos) → Going n m pc → leads_at choices code.instrs pc m ≡ (after.Stops p, m') → (fuel : ℕ) → run_for code entry choices ((n + 1) + fuel) ≡ run.Stopped p
   halts_at n m m' pc p g e fuel = on n m pc fuel g ∙ ap (λ r. (Reaches (exec choices code.instrs fuel) r.0 r.1).end) e
 
   pub at_status : (n : ℕ) (m : Regs) (pc : ℕ) (z z' : Status) → z ≡ z' → At n m pc z' → At n m pc z

@@ -17,8 +17,8 @@ use Rattle.std.proofs.lemmas.Bool.{cases_eq, eqb-true, eq-eqb}
 use Rattle.std.proofs.lemmas.Bool.Decides.{eqb_tells, Decides-int_eq}
 use Rattle.std.specs.Ordering.{int_eq}
 use Rattle.pungi_world.specs.Escapes.{is_returned, IsLevel, IsBalanced}
-use Rattle.pungi_symbol.specs.states.Known.{count, mark, object_of, object_mark}
-use Rattle.pungi_symbol.specs.answers.SymbolicState.{class, balance}
+use Rattle.pungi_symbol.specs.states.Known.{count, mark_of, object_of, object_mark}
+use Rattle.pungi_symbol.specs.answers.SymbolicState.{class_of, balance_at}
 use Rattle.pungi_symbol.specs.runs.Fits.{is_the, named}
 use Rattle.pungi_symbol.specs.runs.RunInState.{IsOf}
 use Rattle.pungi_symbol.specs.runs.Paths.{value_in, returned_value, own_value, own_values, canon, returned_object, is_class, wanted, IsLevelState}
@@ -35,7 +35,7 @@ off : (b : Bool) (x : ℤ) → (b ≡ true → x ≡ pos 0) → part b x ≡ pos
 off true x h = h refl
 off false x h = refl
 
-named_none : (o : ℕ) (table : Table) (bs : List ℤ) → ((t : ℕ) → t < length bs → is_the o (at table t) ≡ true → balance bs t ≡ pos 0) → named o table bs ≡ pos 0
+named_none : (o : ℕ) (table : Table) (bs : List ℤ) → ((t : ℕ) → t < length bs → is_the o (at table t) ≡ true → balance_at bs t ≡ pos 0) → named o table bs ≡ pos 0
 named_none o table [] h = refl
 named_none o [] (b ∷ bs) h = refl
 named_none o (v ∷ table) (b ∷ bs) h =
@@ -45,7 +45,7 @@ named_none o (v ∷ table) (b ∷ bs) h =
 
 -- the balances of tokens that name the object are 0, but for one
 named_alone : (o : ℕ) (table : Table) (bs : List ℤ) (c : ℕ) → c < length bs → is_the o (at table c) ≡ true
-    → ((t : ℕ) → t < length bs → t ≢ c → is_the o (at table t) ≡ true → balance bs t ≡ pos 0) → named o table bs ≡ balance bs c
+    → ((t : ℕ) → t < length bs → t ≢ c → is_the o (at table t) ≡ true → balance_at bs t ≡ pos 0) → named o table bs ≡ balance_at bs c
 named_alone o table [] c lt is h = absurd (omega (arith, lt))
 named_alone o [] (b ∷ bs) zero lt is h = absurd (let bad : false ≡ true = is in cc)
 named_alone o [] (b ∷ bs) (suc c) lt is h = absurd (let bad : false ≡ true = is in cc)
@@ -59,7 +59,7 @@ named_alone o (v ∷ table) (b ∷ bs) (suc c) lt is h =
     omega (arith, ints, here, rest)
 
 -- a balance of 1 at one token, and 0 at all others
-named_one : (o : ℕ) (table : Table) (bs : List ℤ) (c : ℕ) (b : Bool) → is_the o (at table c) ≡ b → c < length bs → balance bs c ≡ pos 1 → ((t : ℕ) → t < length bs → t ≢ c → balance bs t ≡ pos 0) → named o table bs ≡ part b (pos 1)
+named_one : (o : ℕ) (table : Table) (bs : List ℤ) (c : ℕ) (b : Bool) → is_the o (at table c) ≡ b → c < length bs → balance_at bs c ≡ pos 1 → ((t : ℕ) → t < length bs → t ≢ c → balance_at bs t ≡ pos 0) → named o table bs ≡ part b (pos 1)
 named_one o table bs c true e lt one zeros = named_alone o table bs c lt e (λ t l ne is. zeros t l ne) ∙ one
 named_one o table bs c false e lt one zeros = named_none o table bs (λ t l is. elim (cases_eq t c) [
   | inl z ↦ absurd (let bad : true ≡ false = sym is ∙ ap (λ k. is_the o (at table k)) z ∙ e in cc)
@@ -79,7 +79,7 @@ module _ (code : List Line) (table : Table) (base : ℕ) (m : Regs) (s : State) 
   value_is : (y : Term) (o : ℕ) → IsKnown s.known y → Returned table (Some y) o ≡ is_the o (term_value table y)
   value_is y o k = ap (λ c. is_returned (value_in c) o) (holds_term table y (known_set s.known y k))
 
-  token_not : (t o : ℕ) (r : Mark) → mark s.known t ≡ r → is_open r ≡ false → (r ≡ IsObject → ⊥) → t < count s.known → is_the o (at table t) ≡ false
+  token_not : (t o : ℕ) (r : Mark) → mark_of s.known t ≡ r → is_open r ≡ false → (r ≡ IsObject → ⊥) → t < count s.known → is_the o (at table t) ≡ false
   token_not t o r e c ne lt = not_the o r (at table t) (subst (λ z. is_mark z (at table t) ≡ true) e (l.fits.marks t lt)) c ne
 
   not_returned : (y : Term) (o : ℕ) → IsKnown s.known y → IsBelow (count s.known) y → object_of s.known y ≡ None → is_the o (term_value table y) ≡ false
@@ -87,14 +87,14 @@ module _ (code : List Line) (table : Table) (base : ℕ) (m : Regs) (s : State) 
   not_returned Null o k b e = refl
   not_returned Text o k b e = refl
   not_returned (Number n) o k b e = refl
-  not_returned (Token t) o k b e = token_not t o (mark s.known t) refl k (λ z. let bad : Some t ≡ None = sym (ap (λ r. object_mark r t) z) ∙ e in cc) b
+  not_returned (Token t) o k b e = token_not t o (mark_of s.known t) refl k (λ z. let bad : Some t ≡ None = sym (ap (λ r. object_mark r t) z) ∙ e in cc) b
 
-  returned_some : (x : Option Term) (u : ℕ) → IsGiven s.known x → returned_object s.known x ≡ Some u → (mark s.known u ≡ IsObject) × ((o : ℕ) → Returned table x o ≡ is_the o (at table u))
+  returned_some : (x : Option Term) (u : ℕ) → IsGiven s.known x → returned_object s.known x ≡ Some u → (mark_of s.known u ≡ IsObject) × ((o : ℕ) → Returned table x o ≡ is_the o (at table u))
   returned_some None u g e = absurd (cc)
   returned_some (Some y) u g e = elim (objected s.known y) [
     | an_object t is mt ot ↦
         let same : t ≡ u = let z : Some t ≡ Some u = sym ot ∙ e in cc in
-        (ap (mark s.known) (sym same) ∙ mt, λ o. value_is y o g.0 ∙ ap (λ z. is_the o (term_value table z)) is ∙ ap (λ z. is_the o (at table z)) same)
+        (ap (mark_of s.known) (sym same) ∙ mt, λ o. value_is y o g.0 ∙ ap (λ z. is_the o (term_value table z)) is ∙ ap (λ z. is_the o (at table z)) same)
     | no_object ot h ↦ absurd (let bad : None ≡ Some u = sym ot ∙ e in cc)
   ]
 
@@ -108,13 +108,13 @@ module _ (code : List Line) (table : Table) (base : ℕ) (m : Regs) (s : State) 
   down : (t : ℕ) → t < length s.balances → t < count s.known
   down t h = let e = w.notes.balances_long in omega (arith, e, h)
 
-  level_by : (x : Option Term) (r : Option ℕ) → returned_object s.known x ≡ r → IsGiven s.known x → ((t : ℕ) → t < count s.known → balance s.balances t ≡ part (is_class s.classes r t) (pos 1)) → (o : ℕ) → named o table s.balances ≡ part (Returned table x o) (pos 1)
+  level_by : (x : Option Term) (r : Option ℕ) → returned_object s.known x ≡ r → IsGiven s.known x → ((t : ℕ) → t < count s.known → balance_at s.balances t ≡ part (is_class s.classes r t) (pos 1)) → (o : ℕ) → named o table s.balances ≡ part (Returned table x o) (pos 1)
   level_by x None e g level o =
       named_none o table s.balances (λ t lt is. level t (down t lt)) ∙ sym (ap (λ b. part b (pos 1)) (returned_none x g e o))
   level_by x (Some u) e g level o =
       let r = returned_some x u g e in
       let lu = object_is_below s.known.marks u r.0 in
-      let d = class s.classes u in
+      let d = class_of s.classes u in
       let od = w.notes.class_older u lu in
       let bl = w.notes.balances_long in
       let ld : d < length s.balances = omega (arith, od, lu, bl) in
@@ -166,38 +166,38 @@ objects_apart : (a b : ℕ) → (a ≡ b → ⊥) → value.Object a ≡ value.O
 objects_apart a b ne e = ne (cc)
 
 module _ (s : State) (w : IsSound s) where
-  pub at_canon : (t : ℕ) → t < count s.known → at (canon s) t ≡ own_value (mark s.known t) (class s.classes t)
+  pub at_canon : (t : ℕ) → t < count s.known → at (canon s) t ≡ own_value (mark_of s.known t) (class_of s.classes t)
   at_canon t h = at_own_of s.known.marks s.classes t h w.notes.classes_long
 
-  pub at_object : (t : ℕ) → mark s.known t ≡ IsObject → at (canon s) t ≡ value.Object (class s.classes t)
-  at_object t e = at_canon t (object_is_below s.known.marks t e) ∙ ap (λ r. own_value r (class s.classes t)) e
+  pub at_object : (t : ℕ) → mark_of s.known t ≡ IsObject → at (canon s) t ≡ value.Object (class_of s.classes t)
+  at_object t e = at_canon t (object_is_below s.known.marks t e) ∙ ap (λ r. own_value r (class_of s.classes t)) e
 
   pub canon_fits : FitsState (canon s) s
   canon_fits = record {
     statics = λ t h. at_object t (w.notes.static_objects t h) ∙ ap value.Object (w.notes.class_static t h);
-    marks = λ t h. ap (is_mark (mark s.known t)) (at_canon t h) ∙ own_is (mark s.known t) (class s.classes t);
+    marks = λ t h. ap (is_mark (mark_of s.known t)) (at_canon t h) ∙ own_is (mark_of s.known t) (class_of s.classes t);
     classes = λ t h.
         let o = w.notes.class_older t h in
-        at_canon (class s.classes t) (omega (arith, o, h))
-        ∙ ap (λ r. own_value r (class s.classes (class s.classes t))) (w.notes.class_mark t h)
-        ∙ ap (own_value (mark s.known t)) (w.notes.class_stands t h) ∙ sym (at_canon t h);
+        at_canon (class_of s.classes t) (omega (arith, o, h))
+        ∙ ap (λ r. own_value r (class_of s.classes (class_of s.classes t))) (w.notes.class_mark t h)
+        ∙ ap (own_value (mark_of s.known t)) (w.notes.class_stands t h) ∙ sym (at_canon t h);
     others = λ k d h e.
         let o = w.notes.others_objects k d h in
         let p = get_or s.others k d in
-        objects_apart (class s.classes p.a) (class s.classes p.b) (w.notes.others_part k d h) (sym (at_object p.a o.0) ∙ e ∙ at_object p.b o.1);
+        objects_apart (class_of s.classes p.a) (class_of s.classes p.b) (w.notes.others_part k d h) (sym (at_object p.a o.0) ∙ e ∙ at_object p.b o.1);
   }
 
   pub canon_below : (n : ℕ) → count s.known ≤ n → (t : ℕ) → t < count s.known → IsOf n (at (canon s) t)
   canon_below n le t h =
       let o = w.notes.class_older t h in
-      subst (IsOf n) (sym (at_canon t h)) (own_below n (mark s.known t) (class s.classes t) (omega (arith, o, h, le)))
+      subst (IsOf n) (sym (at_canon t h)) (own_below n (mark_of s.known t) (class_of s.classes t) (omega (arith, o, h, le)))
 
   -- a balance that isn't level
   module _ (code : List Line) (base : ℕ) (m : Regs) (l : Lies code (canon s) base m s) where
-    is_object_mark : (t : ℕ) → t < count s.known → (balance s.balances t ≡ pos 0 → ⊥) → mark s.known t ≡ IsObject
-    is_object_mark t h ne = by (mark s.known t) refl
+    is_object_mark : (t : ℕ) → t < count s.known → (balance_at s.balances t ≡ pos 0 → ⊥) → mark_of s.known t ≡ IsObject
+    is_object_mark t h ne = by (mark_of s.known t) refl
       where
-        by : (r : Mark) → mark s.known t ≡ r → mark s.known t ≡ IsObject
+        by : (r : Mark) → mark_of s.known t ≡ r → mark_of s.known t ≡ IsObject
         by Pointer e = absurd (ne (w.notes.no_object t h (λ z. let bad : Pointer ≡ IsObject = sym e ∙ z in cc)))
         by TextPointer e = absurd (ne (w.notes.no_object t h (λ z. let bad : TextPointer ≡ IsObject = sym e ∙ z in cc)))
         by IsNull e = absurd (ne (w.notes.no_object t h (λ z. let bad : IsNull ≡ IsObject = sym e ∙ z in cc)))
@@ -205,17 +205,17 @@ module _ (s : State) (w : IsSound s) where
         by IsText e = absurd (ne (w.notes.no_object t h (λ z. let bad : IsText ≡ IsObject = sym e ∙ z in cc)))
         by (IsNumber n) e = absurd (ne (w.notes.no_object t h (λ z. let bad : IsNumber n ≡ IsObject = sym e ∙ z in cc)))
 
-    stands_alone : (t : ℕ) → t < count s.known → (balance s.balances t ≡ pos 0 → ⊥) → class s.classes t ≡ t
-    stands_alone t h ne = elim (cases_eq (class s.classes t) t) [ inl e ↦ e | inr other ↦ absurd (ne (w.notes.merged t h other)) ]
+    stands_alone : (t : ℕ) → t < count s.known → (balance_at s.balances t ≡ pos 0 → ⊥) → class_of s.classes t ≡ t
+    stands_alone t h ne = elim (cases_eq (class_of s.classes t) t) [ inl e ↦ e | inr other ↦ absurd (ne (w.notes.merged t h other)) ]
 
-    the_class : (o t : ℕ) → t < count s.known → is_the o (at (canon s) t) ≡ true → class s.classes t ≡ o
-    the_class o t h e = by (mark s.known t) (sym (ap (is_the o) (at_canon t h)) ∙ e)
+    the_class : (o t : ℕ) → t < count s.known → is_the o (at (canon s) t) ≡ true → class_of s.classes t ≡ o
+    the_class o t h e = by (mark_of s.known t) (sym (ap (is_the o) (at_canon t h)) ∙ e)
       where
-        by : (r : Mark) → is_the o (own_value r (class s.classes t)) ≡ true → class s.classes t ≡ o
-        by Pointer z = eqb-true (class s.classes t) o z
+        by : (r : Mark) → is_the o (own_value r (class_of s.classes t)) ≡ true → class_of s.classes t ≡ o
+        by Pointer z = eqb-true (class_of s.classes t) o z
         by TextPointer z = absurd (let bad : false ≡ true = z in cc)
         by IsNull z = absurd (let bad : false ≡ true = z in cc)
-        by IsObject z = eqb-true (class s.classes t) o z
+        by IsObject z = eqb-true (class_of s.classes t) o z
         by IsText z = absurd (let bad : false ≡ true = z in cc)
         by (IsNumber n) z = absurd (let bad : false ≡ true = z in cc)
 
@@ -223,13 +223,13 @@ module _ (s : State) (w : IsSound s) where
     one_or true x ne = inr refl
     one_or false x ne = inl ne
 
-    wanted_object : (x : Option Term) (t : ℕ) (r : Option ℕ) → returned_object s.known x ≡ r → IsGiven s.known x → is_class s.classes r t ≡ true → (mark s.known t ≡ IsObject) × (class s.classes t ≡ t)
+    wanted_object : (x : Option Term) (t : ℕ) (r : Option ℕ) → returned_object s.known x ≡ r → IsGiven s.known x → is_class s.classes r t ≡ true → (mark_of s.known t ≡ IsObject) × (class_of s.classes t ≡ t)
     wanted_object x t None e g z = absurd (let bad : false ≡ true = z in cc)
     wanted_object x t (Some u) e g z =
         let r = returned_some code (canon s) base m s w l x u g e in
         let lu = object_is_below s.known.marks u r.0 in
-        let same : class s.classes u ≡ t = eqb-true (class s.classes u) t z in
-        (ap (mark s.known) (sym same) ∙ w.notes.class_mark u lu ∙ r.0, ap (class s.classes) (sym same) ∙ w.notes.class_stands u lu ∙ same)
+        let same : class_of s.classes u ≡ t = eqb-true (class_of s.classes u) t z in
+        (ap (mark_of s.known) (sym same) ∙ w.notes.class_mark u lu ∙ r.0, ap (class_of s.classes) (sym same) ∙ w.notes.class_stands u lu ∙ same)
 
     names_wanted : (x : Option Term) (t : ℕ) (r : Option ℕ) → returned_object s.known x ≡ r → IsGiven s.known x → is_returned (returned_value (canon s) x) t ≡ is_class s.classes r t
     names_wanted x t None e g = returned_none code (canon s) base m s w l x g e t
@@ -237,10 +237,10 @@ module _ (s : State) (w : IsSound s) where
         let r = returned_some code (canon s) base m s w l x u g e in
         r.1 t ∙ ap (is_the t) (at_object u r.0)
 
-    pub uneven : (x : Option Term) (t : ℕ) → IsGiven s.known x → t < count s.known → (balance s.balances t ≡ wanted s x t → ⊥) → (t < length m.world.accounts) × (IsLevel m.world (returned_value (canon s) x) t → ⊥)
+    pub uneven : (x : Option Term) (t : ℕ) → IsGiven s.known x → t < count s.known → (balance_at s.balances t ≡ wanted s x t → ⊥) → (t < length m.world.accounts) × (IsLevel m.world (returned_value (canon s) x) t → ⊥)
     uneven x t g lt ne =
         let c = returned_object s.known x in
-        let own : (mark s.known t ≡ IsObject) × (class s.classes t ≡ t) = elim (one_or (is_class s.classes c t) (balance s.balances t) ne) [
+        let own : (mark_of s.known t ≡ IsObject) × (class_of s.classes t ≡ t) = elim (one_or (is_class s.classes c t) (balance_at s.balances t) ne) [
           | inl z ↦ (is_object_mark t lt z, stands_alone t lt z)
           | inr z ↦ wanted_object x t c refl g z
         ] in

@@ -20,16 +20,16 @@ use Rattle.pungi_symbol.specs.states.Known.{count}
 use Rattle.pungi_symbol.specs.questions.NextQuestion.{ask}
 use Rattle.pungi_symbol.specs.answers.KnownAfter.{instr_of}
 use Rattle.pungi_symbol.specs.answers.SymbolicState.{apply}
-use Rattle.pungi_symbol.specs.runs.Paths.{table_of, arguments, start_state, Path, path_here, path_on, run_for, IsAt, returned_value, choice_of}
+use Rattle.pungi_symbol.specs.runs.Paths.{table_of, argument_count, start_state, Path, path_here, path_on, run_for, IsAt, returned_value, choice_of}
 use Rattle.pungi_symbol.specs.runs.RunInState.{IsOf}
 use Rattle.pungi_symbol.proofs.steps.ChoicesForAnswers.{comes, not_lacking}
 use Rattle.pungi_symbol.proofs.runs.Paths.{can_going, asked_at, step_back, path_sound, goes_at, leaves_at, halts_at, at_status}
 use Rattle.std.proofs.Common.{length-append}
 use Rattle.std.proofs.Math.ListN.{length-set}
 use Rattle.std.proofs.lemmas.List.{length-replicate}
-use Rattle.pungi_world.specs.World.{untouched}
+use Rattle.pungi_world.specs.World.{fresh_account}
 use Rattle.pungi_symbol.specs.states.Terms.{outcomes_of_mark, outcomes_of_answer, mark_at}
-use Rattle.pungi_symbol.specs.answers.KnownAfter.{arrive, api_var, term_with, outcome}
+use Rattle.pungi_symbol.specs.answers.KnownAfter.{arrive, call_var, term_with, number_of_outcome}
 use Rattle.pungi_symbol.proofs.steps.SoundAfter.{answered_marks}
 use Rattle.pungi_symbol.proofs.steps.RunInState.{Moved, stays, goes_on, leaves, halts, effort, Linked}
 use Rattle.pungi_symbol.proofs.steps.StepForward.{AreObjectLines, moves}
@@ -39,13 +39,13 @@ pub count_by : (o : Option Line) (q : Question) (d : Decision) (s : State) → c
 count_by o (Does d') d s = ap length (line_marks s.known o) ∙ (omega arith)
 count_by o (Touches r) d s = ap length (load_marks (instr_of o) r s.known) ∙ length-append s.known.marks (r ∷ [])
 count_by o (Overwrites r) d s =
-    let r' = mark_at (outcomes_of_mark r) (outcome d) in
+    let r' = mark_at (outcomes_of_mark r) (number_of_outcome d) in
     ap length (store_marks (instr_of o) r' s.known) ∙ length-append s.known.marks (r' ∷ [])
 count_by o (AsksNull t) d s = length-set s.known.marks t _ ∙ (omega arith)
 count_by o (Base t u j) d s = omega arith
 count_by o (Answers a) d s =
-    let r = mark_at (outcomes_of_answer a) (outcome d) in
-    ap length (answered_marks (arrive r s.known) (api_var (instr_of o)) (Some (term_with r (count s.known)))) ∙ length-append s.known.marks (r ∷ [])
+    let r = mark_at (outcomes_of_answer a) (number_of_outcome d) in
+    ap length (answered_marks (arrive r s.known) (call_var (instr_of o)) (Some (term_with r (count s.known)))) ∙ length-append s.known.marks (r ∷ [])
 count_by o (Same t u) d s = omega arith
 count_by o (Returns x) d s = omega arith
 count_by o (Stops d') d s = omega arith
@@ -57,14 +57,14 @@ pub record Supplies (table : Table) (base : ℕ) (choices : List Choice) (top : 
   pub small : (accounts : ℕ) → top ≤ accounts → (t : ℕ) → t < top → IsOf accounts (at table t)
 
 module _ (code : Code) (statics f : ℕ) (form : AreObjectLines statics code.instrs) (entry : Entry) (choices : List Choice) (sound : IsSound (start_state statics f code))
-    (linked : Linked (table_of statics entry choices) (statics + arguments code) choices)
-    (started : Lies code.instrs (table_of statics entry choices) (statics + arguments code) (start code entry) (start_state statics f code)) where
-  module _ (top : ℕ) (supplies : Supplies (table_of statics entry choices) (statics + arguments code) choices top) (enough : top ≤ entry.objects) where
+    (linked : Linked (table_of statics entry choices) (statics + argument_count code) choices)
+    (started : Lies code.instrs (table_of statics entry choices) (statics + argument_count code) (start code entry) (start_state statics f code)) where
+  module _ (top : ℕ) (supplies : Supplies (table_of statics entry choices) (statics + argument_count code) choices top) (enough : top ≤ entry.objects) where
     abbrev T' : Table
     T' = table_of statics entry choices
 
     abbrev B' : ℕ
-    B' = statics + arguments code
+    B' = statics + argument_count code
 
     pub record Stands (n : ℕ) (s : State) : Type 0 where
       pub m : Regs
@@ -73,7 +73,7 @@ module _ (code : Code) (statics f : ℕ) (form : AreObjectLines statics code.ins
       pub many : top ≤ length m.world.accounts
 
     many_at_start : top ≤ length (start code entry).world.accounts
-    many_at_start = let e = length-replicate entry.objects untouched in omega (arith, e, enough)
+    many_at_start = let e = length-replicate entry.objects fresh_account in omega (arith, e, enough)
 
     after_move : (n : ℕ) (s s' : State) (m : Regs) → ((fuel : ℕ) → run_for code entry choices (n + fuel) ≡ (exec choices code.instrs fuel s.known.pc m).end) → top ≤ length m.world.accounts
         → Moved choices code.instrs T' B' s.known.pc (effort s.known) m s' → (k : ℕ) × Stands k s'

@@ -24,18 +24,18 @@ use Rattle.pungi_base.specs.declared.entry.Entry.{Entry}
 use Rattle.pungi_api.specs.declared.param.Param.{Param}
 use Rattle.pungi_api.specs.declared.param.Param.TheVariants as param
 use Rattle.pungi_world.specs.Choices.{value_of}
-use Rattle.pungi_world.specs.World.{untouched}
+use Rattle.pungi_world.specs.World.{fresh_account}
 use Rattle.pungi_code.specs.declared.code.Code.{Code}
 use Rattle.pungi_code.specs.Entries.{holds_value, hold_values, code_fits}
 use Rattle.pungi_code.specs.Run.{start}
-use Rattle.pungi_symbol.specs.questions.NextQuestion.{contents}
-use Rattle.pungi_symbol.specs.answers.SymbolicState.{class, balance}
+use Rattle.pungi_symbol.specs.questions.NextQuestion.{content_mark}
+use Rattle.pungi_symbol.specs.answers.SymbolicState.{class_of, balance_at}
 use Rattle.pungi_symbol.specs.runs.ObjectForm.{is_pointer_param, is_object_instr, has_object_form}
 use Rattle.pungi_symbol.specs.runs.Fits.{named, is_the}
 use Rattle.pungi_symbol.proofs.states.NamedObjects.{part}
 use Rattle.pungi_base.specs.declared.choice.Choice.TheVariants as choice
 use Rattle.pungi_symbol.specs.runs.RunInState.{IsOf}
-use Rattle.pungi_symbol.specs.runs.Paths.{table_of, arguments, start_state}
+use Rattle.pungi_symbol.specs.runs.Paths.{table_of, argument_count, start_state}
 use Rattle.pungi_symbol.proofs.questions.Firsts.{below_or}
 use Rattle.pungi_symbol.proofs.steps.RunInState.{Linked, walked_anew}
 use Rattle.pungi_symbol.proofs.steps.StepForward.{AreObjectLines, two_true}
@@ -73,28 +73,28 @@ module _ (statics f : ℕ) (code : Code) where
   Ks = take code.params code.vars
 
   abbrev pub N : ℕ
-  N = arguments code
+  N = argument_count code
 
   abbrev Ms : List Mark
-  Ms = replicate statics IsObject ++ map contents Ks
+  Ms = replicate statics IsObject ++ map content_mark Ks
 
   pub marks_long : length Ms ≡ statics + N
-  marks_long = let a = length-append (replicate statics IsObject) (map contents Ks) in let b = length-replicate statics IsObject in let c = length-map Ks contents in omega (arith, a, b, c)
+  marks_long = let a = length-append (replicate statics IsObject) (map content_mark Ks) in let b = length-replicate statics IsObject in let c = length-map Ks content_mark in omega (arith, a, b, c)
 
   pub static_mark : (t : ℕ) → t < statics → get_or Ms t IsNull ≡ IsObject
   static_mark t lt =
       let b = length-replicate statics IsObject in
-      get_or-append (replicate statics IsObject) (map contents Ks) IsNull t (omega (arith, b, lt)) ∙ get_or-replicate statics t IsObject IsNull lt
+      get_or-append (replicate statics IsObject) (map content_mark Ks) IsNull t (omega (arith, b, lt)) ∙ get_or-replicate statics t IsObject IsNull lt
 
-  pub argument_mark : (j : ℕ) → get_or Ms (statics + j) IsNull ≡ get_or (map contents Ks) j IsNull
+  pub argument_mark : (j : ℕ) → get_or Ms (statics + j) IsNull ≡ get_or (map content_mark Ks) j IsNull
   argument_mark j =
       let b = length-replicate statics IsObject in
-      ap (λ z. get_or Ms (z + j) IsNull) (sym b) ∙ get_or-append-add (replicate statics IsObject) (map contents Ks) j IsNull
+      ap (λ z. get_or Ms (z + j) IsNull) (sym b) ∙ get_or-append-add (replicate statics IsObject) (map content_mark Ks) j IsNull
 
-  class_is : (t : ℕ) → t < length Ms → class (range_with_len 0 (statics + N)) t ≡ t
+  class_is : (t : ℕ) → t < length Ms → class_of (range_with_len 0 (statics + N)) t ≡ t
   class_is t lt = let e = marks_long in get_or-range_with_len 0 (statics + N) t 0 (omega (arith, e, lt)) ∙ (omega arith)
 
-  balance_is : (t : ℕ) → balance (replicate (statics + N) (pos 0)) t ≡ pos 0
+  balance_is : (t : ℕ) → balance_at (replicate (statics + N) (pos 0)) t ≡ pos 0
   balance_is t = each_same (λ b. b ≡ pos 0) (statics + N) (pos 0) refl t
 
   pub start_sound : IsSound (start_state statics f code)
@@ -115,7 +115,7 @@ module _ (statics f : ℕ) (code : Code) where
       balances_long = length-replicate (statics + N) (pos 0) ∙ sym marks_long;
       class_older = λ t lt. let e = class_is t lt in omega (arith, e);
       class_static = λ t lt. let e = marks_long in class_is t (omega (arith, e, lt));
-      class_stands = λ t lt. ap (class (range_with_len 0 (statics + N))) (class_is t lt);
+      class_stands = λ t lt. ap (class_of (range_with_len 0 (statics + N))) (class_is t lt);
       class_mark = λ t lt. ap (λ z. get_or Ms z IsNull) (class_is t lt);
       alone = λ t lt h. class_is t lt;
       no_object = λ t lt h. balance_is t;
@@ -128,7 +128,7 @@ module _ (statics f : ℕ) (code : Code) where
 
   -- ---- entries
 
-  held_mark : (n : ℕ) (k : Param) (v : Value) → is_pointer_param k ≡ true → holds_value n k v ≡ true → (is_mark (contents k) v ≡ true) × IsOf n v
+  held_mark : (n : ℕ) (k : Param) (v : Value) → is_pointer_param k ≡ true → holds_value n k v ≡ true → (is_mark (content_mark k) v ≡ true) × IsOf n v
   held_mark n param.ObjectOrNull value.Null p h = (refl, tt)
   held_mark n param.ObjectOrNull (value.Object o) p h = (refl, lt_says o n h)
     where
@@ -153,7 +153,7 @@ module _ (statics f : ℕ) (code : Code) where
   held_long n (k ∷ ks) [] h = absurd (let bad : false ≡ true = h in cc)
   held_long n (k ∷ ks) (v ∷ vs) h = ap suc (held_long n ks vs (two_true (holds_value n k v) (hold_values n ks vs) h).1)
 
-  held_at : (n : ℕ) (ks : List Param) (vs : List Value) (j : ℕ) → list_all is_pointer_param ks ≡ true → hold_values n ks vs ≡ true → j < length ks → (is_mark (get_or (map contents ks) j IsNull) (get_or vs j value.Null) ≡ true) × IsOf n (get_or vs j value.Null)
+  held_at : (n : ℕ) (ks : List Param) (vs : List Value) (j : ℕ) → list_all is_pointer_param ks ≡ true → hold_values n ks vs ≡ true → j < length ks → (is_mark (get_or (map content_mark ks) j IsNull) (get_or vs j value.Null) ≡ true) × IsOf n (get_or vs j value.Null)
   held_at n [] vs j p h lt = absurd (omega (arith, lt))
   held_at n (k ∷ ks) [] j p h lt = absurd (let bad : false ≡ true = h in cc)
   held_at n (k ∷ ks) (v ∷ vs) zero p h lt = held_mark n k v (two_true (is_pointer_param k) (list_all is_pointer_param ks) p).0 (two_true (holds_value n k v) (hold_values n ks vs) h).0
@@ -192,7 +192,7 @@ module _ (statics f : ℕ) (code : Code) where
             let back : statics + j ≡ t = omega (arith, ge) in
             let lj : j < N = omega (arith, e, lt, ge) in
             let r = held_at entry.objects Ks entry.args j kinds held lj in
-            ap (λ z. is_mark (get_or Ms z IsNull) (at Tab z)) (sym back) ∙ ap (λ z. is_mark z (at Tab (statics + j))) (argument_mark j) ∙ ap (is_mark (get_or (map contents Ks) j IsNull)) (at_argument j lj) ∙ r.0
+            ap (λ z. is_mark (get_or Ms z IsNull) (at Tab z)) (sym back) ∙ ap (λ z. is_mark z (at Tab (statics + j))) (argument_mark j) ∙ ap (is_mark (get_or (map content_mark Ks) j IsNull)) (at_argument j lj) ∙ r.0
       ]
 
       fit_below : (t : ℕ) → t < length Ms → IsOf entry.objects (at Tab t)
@@ -232,7 +232,7 @@ module _ (statics f : ℕ) (code : Code) where
           let li : i < k = omega (arith, lt, la) in
           get_or-replicate k i content.Unset content.Unset li ∙ sym (get_or-map (content_of Tab) (replicate k Unset) i Unset ∙ ap (content_of Tab) (get_or-replicate k i Unset Unset li)))
 
-      named_none : (o : ℕ) (table : Table) (bs : List ℤ) → ((t : ℕ) → balance bs t ≡ pos 0) → named o table bs ≡ pos 0
+      named_none : (o : ℕ) (table : Table) (bs : List ℤ) → ((t : ℕ) → balance_at bs t ≡ pos 0) → named o table bs ≡ pos 0
       named_none o table [] h = refl
       named_none o [] (b ∷ bs) h = refl
       named_none o (v ∷ table) (b ∷ bs) h =
@@ -245,8 +245,8 @@ module _ (statics f : ℕ) (code : Code) where
           off true b e = e
           off false b e = refl
 
-      accounts_at : (o : ℕ) → get_or (replicate entry.objects untouched) o untouched ≡ untouched
-      accounts_at o = each_same (λ a. a ≡ untouched) entry.objects untouched refl o
+      accounts_at : (o : ℕ) → get_or (replicate entry.objects fresh_account) o fresh_account ≡ fresh_account
+      accounts_at o = each_same (λ a. a ≡ fresh_account) entry.objects fresh_account refl o
 
       pub start_lies : Lies code.instrs Tab (statics + N) (start code entry) (start_state statics f code)
       start_lies = record {
@@ -268,7 +268,7 @@ module _ (statics f : ℕ) (code : Code) where
             let c = ap (λ z. z.change) a in
             let d = ap (λ z. z.handed) a in
             omega (arith, ints, b, c, d);
-        below = λ t lt. subst (λ n. IsOf n (at Tab t)) (sym (length-replicate entry.objects untouched)) (fit_below t lt);
+        below = λ t lt. subst (λ n. IsOf n (at Tab t)) (sym (length-replicate entry.objects fresh_account)) (fit_below t lt);
         unmade = λ o. ap (λ z. z.made) (accounts_at o);
         walked = walked_anew [] _;
       }

@@ -1,4 +1,4 @@
--- What a question about NULL tells of a term, and what a term's value is then.
+-- What a question about NULL says of a term, and what a term's value is then.
 use Rattle.std.proofs.Common.{◌≡◌, ℕ, ◌<◌, List, Bool, true, false, refl, sym, ap, ◌∙◌, arith, get_or, map}
 use Rattle.std.proofs.Math.ListN.{get_or-map}
 use Rattle.pungi_base.specs.declared.value.Value.{Value}
@@ -18,8 +18,8 @@ use Rattle.pungi_symbol.specs.declared.questions.question.Question.TheVariants.{
 use Rattle.pungi_symbol.specs.declared.states.term.Term.{Term}
 use Rattle.pungi_symbol.specs.declared.states.term.Term.TheVariants.{Unset, Null, Text, Number, Token}
 use Rattle.pungi_symbol.specs.states.Terms.{Table, at, content_of, is_mark, value_of_mark}
-use Rattle.pungi_symbol.specs.states.Known.{count, mark, term_of, known_value}
-use Rattle.pungi_symbol.specs.questions.NextQuestion.{knowing, knowing_mark, needing, needing_mark, setting}
+use Rattle.pungi_symbol.specs.states.Known.{count, mark_of, term_of, known_value}
+use Rattle.pungi_symbol.specs.questions.NextQuestion.{asks_known, knows_mark, asks_thing, needs_mark, asks_set}
 use Rattle.pungi_symbol.specs.runs.Fits.{IsBelow}
 use Rattle.pungi_symbol.specs.runs.ObjectForm.{is_there}
 use Rattle.std.proofs.lemmas.Bool.Decides.{nat_tests, Decides-int_eq}
@@ -40,7 +40,7 @@ IsKnown k Unset = ⊥
 IsKnown k Null = Unit {0}
 IsKnown k Text = Unit {0}
 IsKnown k (Number n) = Unit {0}
-IsKnown k (Token t) = is_open (mark k t) ≡ false
+IsKnown k (Token t) = is_open (mark_of k t) ≡ false
 
 -- it isn't NULL
 abbrev pub IsThing : Known → Term → Type 0
@@ -48,52 +48,52 @@ IsThing k Unset = ⊥
 IsThing k Null = ⊥
 IsThing k Text = Unit {0}
 IsThing k (Number n) = Unit {0}
-IsThing k (Token t) = mark k t ≡ IsNull → ⊥
+IsThing k (Token t) = mark_of k t ≡ IsNull → ⊥
 
 pub data Knowing (k : Known) (x : Term) (q : Question) : Type 0 where
-  unset : x ≡ Unset → knowing k x q ≡ Stops Quiet → Knowing k x q
-  asks : (t : ℕ) → x ≡ Token t → is_open (mark k t) ≡ true → knowing k x q ≡ AsksNull t → Knowing k x q
-  passes : IsKnown k x → knowing k x q ≡ q → Knowing k x q
+  unset : x ≡ Unset → asks_known k x q ≡ Stops Quiet → Knowing k x q
+  asks : (t : ℕ) → x ≡ Token t → is_open (mark_of k t) ≡ true → asks_known k x q ≡ AsksNull t → Knowing k x q
+  passes : IsKnown k x → asks_known k x q ≡ q → Knowing k x q
 
-by_mark : (k : Known) (t : ℕ) (q : Question) (m : Mark) → mark k t ≡ m → Knowing k (Token t) q
-by_mark k t q Pointer e = asks t refl (ap is_open e) (ap (λ m. knowing_mark m t q) e)
-by_mark k t q TextPointer e = asks t refl (ap is_open e) (ap (λ m. knowing_mark m t q) e)
-by_mark k t q IsNull e = passes (ap is_open e) (ap (λ m. knowing_mark m t q) e)
-by_mark k t q IsObject e = passes (ap is_open e) (ap (λ m. knowing_mark m t q) e)
-by_mark k t q IsText e = passes (ap is_open e) (ap (λ m. knowing_mark m t q) e)
-by_mark k t q (IsNumber n) e = passes (ap is_open e) (ap (λ m. knowing_mark m t q) e)
+by_mark : (k : Known) (t : ℕ) (q : Question) (m : Mark) → mark_of k t ≡ m → Knowing k (Token t) q
+by_mark k t q Pointer e = asks t refl (ap is_open e) (ap (λ m. knows_mark m t q) e)
+by_mark k t q TextPointer e = asks t refl (ap is_open e) (ap (λ m. knows_mark m t q) e)
+by_mark k t q IsNull e = passes (ap is_open e) (ap (λ m. knows_mark m t q) e)
+by_mark k t q IsObject e = passes (ap is_open e) (ap (λ m. knows_mark m t q) e)
+by_mark k t q IsText e = passes (ap is_open e) (ap (λ m. knows_mark m t q) e)
+by_mark k t q (IsNumber n) e = passes (ap is_open e) (ap (λ m. knows_mark m t q) e)
 
 pub knowing_is : (k : Known) (x : Term) (q : Question) → Knowing k x q
 knowing_is k Unset q = unset refl refl
 knowing_is k Null q = passes tt refl
 knowing_is k Text q = passes tt refl
 knowing_is k (Number n) q = passes tt refl
-knowing_is k (Token t) q = by_mark k t q (mark k t) refl
+knowing_is k (Token t) q = by_mark k t q (mark_of k t) refl
 
 pub data Needing (k : Known) (x : Term) (q : Question) : Type 0 where
-  unset_n : x ≡ Unset → needing k x q ≡ Stops Quiet → Needing k x q
-  null_n : known_value k x ≡ value.Null → IsKnown k x → needing k x q ≡ Stops Quiet → Needing k x q
-  asks_n : (t : ℕ) → x ≡ Token t → is_open (mark k t) ≡ true → needing k x q ≡ AsksNull t → Needing k x q
-  passes_n : IsKnown k x → IsThing k x → needing k x q ≡ q → Needing k x q
+  unset_n : x ≡ Unset → asks_thing k x q ≡ Stops Quiet → Needing k x q
+  null_n : known_value k x ≡ value.Null → IsKnown k x → asks_thing k x q ≡ Stops Quiet → Needing k x q
+  asks_n : (t : ℕ) → x ≡ Token t → is_open (mark_of k t) ≡ true → asks_thing k x q ≡ AsksNull t → Needing k x q
+  passes_n : IsKnown k x → IsThing k x → asks_thing k x q ≡ q → Needing k x q
 
-need_mark : (k : Known) (t : ℕ) (q : Question) (m : Mark) → mark k t ≡ m → Needing k (Token t) q
-need_mark k t q Pointer e = asks_n t refl (ap is_open e) (ap (λ m. needing_mark m t q) e)
-need_mark k t q TextPointer e = asks_n t refl (ap is_open e) (ap (λ m. needing_mark m t q) e)
-need_mark k t q IsNull e = null_n (ap value_of_mark e) (ap is_open e) (ap (λ m. needing_mark m t q) e)
-need_mark k t q IsObject e = passes_n (ap is_open e) (λ h. let bad : IsObject ≡ IsNull = sym e ∙ h in cc) (ap (λ m. needing_mark m t q) e)
-need_mark k t q IsText e = passes_n (ap is_open e) (λ h. let bad : IsText ≡ IsNull = sym e ∙ h in cc) (ap (λ m. needing_mark m t q) e)
-need_mark k t q (IsNumber n) e = passes_n (ap is_open e) (λ h. let bad : IsNumber n ≡ IsNull = sym e ∙ h in cc) (ap (λ m. needing_mark m t q) e)
+need_mark : (k : Known) (t : ℕ) (q : Question) (m : Mark) → mark_of k t ≡ m → Needing k (Token t) q
+need_mark k t q Pointer e = asks_n t refl (ap is_open e) (ap (λ m. needs_mark m t q) e)
+need_mark k t q TextPointer e = asks_n t refl (ap is_open e) (ap (λ m. needs_mark m t q) e)
+need_mark k t q IsNull e = null_n (ap value_of_mark e) (ap is_open e) (ap (λ m. needs_mark m t q) e)
+need_mark k t q IsObject e = passes_n (ap is_open e) (λ h. let bad : IsObject ≡ IsNull = sym e ∙ h in cc) (ap (λ m. needs_mark m t q) e)
+need_mark k t q IsText e = passes_n (ap is_open e) (λ h. let bad : IsText ≡ IsNull = sym e ∙ h in cc) (ap (λ m. needs_mark m t q) e)
+need_mark k t q (IsNumber n) e = passes_n (ap is_open e) (λ h. let bad : IsNumber n ≡ IsNull = sym e ∙ h in cc) (ap (λ m. needs_mark m t q) e)
 
 pub needing_is : (k : Known) (x : Term) (q : Question) → Needing k x q
 needing_is k Unset q = unset_n refl refl
 needing_is k Null q = null_n refl tt refl
 needing_is k Text q = passes_n tt tt refl
 needing_is k (Number n) q = passes_n tt tt refl
-needing_is k (Token t) q = need_mark k t q (mark k t) refl
+needing_is k (Token t) q = need_mark k t q (mark_of k t) refl
 
 pub data Setting (x : Term) (q : Question) : Type 0 where
-  unset_s : x ≡ Unset → setting x q ≡ Stops Quiet → Setting x q
-  set_s : (x ≡ Unset → ⊥) → setting x q ≡ q → Setting x q
+  unset_s : x ≡ Unset → asks_set x q ≡ Stops Quiet → Setting x q
+  set_s : (x ≡ Unset → ⊥) → asks_set x q ≡ q → Setting x q
 
 pub setting_is : (x : Term) (q : Question) → Setting x q
 setting_is Unset q = unset_s refl refl
@@ -159,13 +159,13 @@ known_set k Text h e = cc
 known_set k (Number n) h e = cc
 known_set k (Token t) h e = cc
 
-module _ (table : Table) (k : Known) (marks : (t : ℕ) → t < count k → is_mark (mark k t) (at table t) ≡ true) where
+module _ (table : Table) (k : Known) (marks : (t : ℕ) → t < count k → is_mark (mark_of k t) (at table t) ≡ true) where
   pub known_agrees : (x : Term) → IsBelow (count k) x → IsKnown k x → Agrees (term_value table x) (known_value k x)
   known_agrees Unset b h = absurd h
   known_agrees Null b h = one refl
   known_agrees Text b h = one refl
   known_agrees (Number n) b h = one refl
-  known_agrees (Token t) b h = mark_agrees (mark k t) (at table t) (marks t b) h
+  known_agrees (Token t) b h = mark_agrees (mark_of k t) (at table t) (marks t b) h
 
   -- what isn't known may be NULL or a text or an object, and is 0 as a number
   open_number : (m : Mark) (v : Value) → is_mark m v ≡ true → is_open m ≡ true → number_of v ≡ number_of (value_of_mark m)
@@ -182,16 +182,16 @@ module _ (table : Table) (k : Known) (marks : (t : ℕ) → t < count k → is_m
   open_number IsText v h o = absurd (let bad : false ≡ true = o in cc)
   open_number (IsNumber n) v h o = absurd (let bad : false ≡ true = o in cc)
 
-  number_by : (t : ℕ) (b : Bool) → t < count k → is_open (mark k t) ≡ b → number_of (at table t) ≡ number_of (value_of_mark (mark k t))
-  number_by t true lt e = open_number (mark k t) (at table t) (marks t lt) e
-  number_by t false lt e = agrees_number (at table t) (value_of_mark (mark k t)) (mark_agrees (mark k t) (at table t) (marks t lt) e)
+  number_by : (t : ℕ) (b : Bool) → t < count k → is_open (mark_of k t) ≡ b → number_of (at table t) ≡ number_of (value_of_mark (mark_of k t))
+  number_by t true lt e = open_number (mark_of k t) (at table t) (marks t lt) e
+  number_by t false lt e = agrees_number (at table t) (value_of_mark (mark_of k t)) (mark_agrees (mark_of k t) (at table t) (marks t lt) e)
 
   pub term_number : (x : Term) → IsBelow (count k) x → number_of (term_value table x) ≡ number_of (known_value k x)
   term_number Unset b = refl
   term_number Null b = refl
   term_number Text b = refl
   term_number (Number n) b = refl
-  term_number (Token t) b = number_by t (is_open (mark k t)) b refl
+  term_number (Token t) b = number_by t (is_open (mark_of k t)) b refl
 
   null_mark : (m : Mark) (v : Value) → is_mark m v ≡ true → value_of_mark m ≡ value.Null → is_open m ≡ false → v ≡ value.Null
   null_mark m v h e o = elim (mark_agrees m v h o) [
@@ -204,7 +204,7 @@ module _ (table : Table) (k : Known) (marks : (t : ℕ) → t < count k → is_m
   null_value Null b h e = refl
   null_value Text b h e = absurd (cc)
   null_value (Number n) b h e = absurd (cc)
-  null_value (Token t) b h e = null_mark (mark k t) (at table t) (marks t b) e h
+  null_value (Token t) b h e = null_mark (mark_of k t) (at table t) (marks t b) e h
 
 -- ---- atoms
 

@@ -13,10 +13,10 @@ use Rattle.pungi_world.specs.declared.content.Content.TheVariants as content
 use Rattle.pungi_world.specs.declared.slot.Slot.{Slot}
 use Rattle.pungi_world.specs.declared.slot.SlotState.{SlotState}
 use Rattle.pungi_world.specs.declared.world.World.{World}
-use Rattle.pungi_world.specs.Counts.{counted, handed, with_object}
+use Rattle.pungi_world.specs.Counts.{count, handed, with_object}
 use Rattle.pungi_world.specs.Escapes.{is_this_object, holds_object, held_now, held_at_entry}
-use Rattle.pungi_world.specs.Slots.{slot_at, no_slot, with_slot, stored}
-use Rattle.pungi_world.specs.World.{untouched, account_of}
+use Rattle.pungi_world.specs.Slots.{slot_at, no_slot, with_slot, put_at}
+use Rattle.pungi_world.specs.World.{fresh_account, account_of}
 use Rattle.pungi_symbol.specs.runs.RunInState.{owed}
 use Rattle.pungi_symbol.proofs.states.NamedObjects.{part}
 
@@ -49,17 +49,17 @@ no_more z p e = omega (arith, ints, e)
 abbrev OwedBy : World → Account → ℕ → ℤ
 OwedBy w a o = (a.change -ℤ a.handed -ℤ pos (held_now w o)) +ℤ pos (held_at_entry w o)
 
-pub owed_counted : (w : World) (k : ℕ) (by : ℤ) (o : ℕ) → k < length w.accounts → owed (counted w k by) o ≡ owed w o +ℤ part (k == o) by
+pub owed_counted : (w : World) (k : ℕ) (by : ℤ) (o : ℕ) → k < length w.accounts → owed (count w k by) o ≡ owed w o +ℤ part (k == o) by
 owed_counted w k by o lt =
     let a : Account = record (account_of w k) { change = (account_of w k).change +ℤ by } in
     elim (cases_eq o k) [
       | inl e ↦
-          let here : account_of (counted w k by) o ≡ a = ap (λ z. get_or (slice_set w.accounts k a) z untouched) e ∙ get_or-set_same w.accounts k a untouched lt in
+          let here : account_of (count w k by) o ≡ a = ap (λ z. get_or (slice_set w.accounts k a) z fresh_account) e ∙ get_or-set_same w.accounts k a fresh_account lt in
           ap (λ z. OwedBy w z o) here
           ∙ up_change (account_of w k).change (account_of w k).handed (pos (held_now w o)) (pos (held_at_entry w o)) by (part (k == o) by) (part_same k o by e)
           ∙ ap (λ z. OwedBy w (account_of w z) o +ℤ part (k == o) by) (sym e)
       | inr ne ↦
-          let here : account_of (counted w k by) o ≡ account_of w o = get_or-set_other w.accounts k o a untouched ne in
+          let here : account_of (count w k by) o ≡ account_of w o = get_or-set_other w.accounts k o a fresh_account ne in
           ap (λ z. OwedBy w z o) here ∙ no_more (owed w o) (part (k == o) by) (part_other k o by ne)
     ]
 
@@ -68,24 +68,24 @@ owed_handed w k o lt =
     let a : Account = record (account_of w k) { handed = (account_of w k).handed +ℤ pos 1 } in
     elim (cases_eq o k) [
       | inl e ↦
-          let here : account_of (handed w k) o ≡ a = ap (λ z. get_or (slice_set w.accounts k a) z untouched) e ∙ get_or-set_same w.accounts k a untouched lt in
+          let here : account_of (handed w k) o ≡ a = ap (λ z. get_or (slice_set w.accounts k a) z fresh_account) e ∙ get_or-set_same w.accounts k a fresh_account lt in
           ap (λ z. OwedBy w z o) here
           ∙ up_handed (account_of w k).change (account_of w k).handed (pos (held_now w o)) (pos (held_at_entry w o)) (part (k == o) (negsuc 0)) (part_same k o (negsuc 0) e)
           ∙ ap (λ z. OwedBy w (account_of w z) o +ℤ part (k == o) (negsuc 0)) (sym e)
       | inr ne ↦
-          let here : account_of (handed w k) o ≡ account_of w o = get_or-set_other w.accounts k o a untouched ne in
+          let here : account_of (handed w k) o ≡ account_of w o = get_or-set_other w.accounts k o a fresh_account ne in
           ap (λ z. OwedBy w z o) here ∙ no_more (owed w o) (part (k == o) (negsuc 0)) (part_other k o (negsuc 0) ne)
     ]
 
 -- an object is added
-account_end : (l : List Account) (o : ℕ) → get_or (l ++ untouched ∷ []) o untouched ≡ get_or l o untouched
+account_end : (l : List Account) (o : ℕ) → get_or (l ++ fresh_account ∷ []) o fresh_account ≡ get_or l o fresh_account
 account_end [] zero = refl
 account_end [] (suc o) = refl
 account_end (a ∷ l) zero = refl
 account_end (a ∷ l) (suc o) = account_end l o
 
 abbrev pub Added : World → World
-Added w = record w { accounts = w.accounts ++ untouched ∷ [] }
+Added w = record w { accounts = w.accounts ++ fresh_account ∷ [] }
 
 added_owed : (w : World) (b : Bool) (o : ℕ) → owed (cond b (Added w) w) o ≡ owed w o
 added_owed w true o = ap (λ a. OwedBy w a o) (account_end w.accounts o)
@@ -102,7 +102,7 @@ pub object_slots : (w : World) (k : ℕ) → (with_object w k).slots ≡ w.slots
 object_slots w k = added_slots w (k == length w.accounts)
 
 added_more : (w : World) (b : Bool) → length w.accounts ≤ length (cond b (Added w) w).accounts
-added_more w true = let e = length-append w.accounts (untouched ∷ []) in omega (arith, e)
+added_more w true = let e = length-append w.accounts (fresh_account ∷ []) in omega (arith, e)
 added_more w false = omega arith
 
 pub object_more : (w : World) (k : ℕ) → length w.accounts ≤ length (with_object w k).accounts
@@ -110,7 +110,7 @@ object_more w k = added_more w (k == length w.accounts)
 
 pub object_there : (w : World) (k : ℕ) → k ≤ length w.accounts → k < length (with_object w k).accounts
 object_there w k le = elim (eqb_tells k (length w.accounts)) [
-  | inl h ↦ subst (λ b. k < length (cond b (Added w) w).accounts) (sym h.0) (let e = length-append w.accounts (untouched ∷ []) in let z = h.1 in omega (arith, e, z))
+  | inl h ↦ subst (λ b. k < length (cond b (Added w) w).accounts) (sym h.0) (let e = length-append w.accounts (fresh_account ∷ []) in let z = h.1 in omega (arith, e, z))
   | inr h ↦ subst (λ b. k < length (cond b (Added w) w).accounts) (sym h.0) (let z = h.1 in omega (arith, z, le))
 ]
 
@@ -125,7 +125,7 @@ object_unmade w k h = added_unmade w (k == length w.accounts) h
 pub replaced_unmade : (w : World) (k : ℕ) (a : Account) → a.made ≡ false → AreUnmade w → AreUnmade (Replaced w k a)
 replaced_unmade w k a is h o = each w.accounts k o h
   where
-    each : (l : List Account) (k o : ℕ) → ((z : ℕ) → (get_or l z untouched).made ≡ false) → (get_or (slice_set l k a) o untouched).made ≡ false
+    each : (l : List Account) (k o : ℕ) → ((z : ℕ) → (get_or l z fresh_account).made ≡ false) → (get_or (slice_set l k a) o fresh_account).made ≡ false
     each [] k o all = all o
     each (b ∷ l) zero zero all = is
     each (b ∷ l) zero (suc o) all = all (suc o)
@@ -170,16 +170,16 @@ moved : (c h y : ℤ) (new old one next : ℕ) (up down : ℤ) → new + one ≡
 moved c h y new old one next up down e f g = omega (arith, ints, e, f, g)
 
 pub owed_stored : (w : World) (i : ℕ) (x : Value) (o : ℕ) → i < length w.slots
-    → owed (stored w i x) o ≡ (owed w o +ℤ part (holds_object (slot_at w i).held o) (pos 1)) +ℤ part (is_this_object x o) (negsuc 0)
+    → owed (put_at w i x) o ≡ (owed w o +ℤ part (holds_object (slot_at w i).held o) (pos 1)) +ℤ part (is_this_object x o) (negsuc 0)
 owed_stored w i x o lt =
     let new : SlotState = record (slot_at w i) { held = content.Holds x } in
     let p = λ (t : SlotState). holds_object t.held o in
     let q = λ (t : SlotState). holds_object t.at_entry o in
     let now = sum_by-set (Ones p) w.slots i new no_slot lt in
     let before = sum_by-set (Ones q) w.slots i new no_slot lt in
-    let same : held_at_entry (stored w i x) o ≡ held_at_entry w o = omega (arith, before) in
+    let same : held_at_entry (put_at w i x) o ≡ held_at_entry w o = omega (arith, before) in
     let c = (account_of w o).change in
     let h = (account_of w o).handed in
-    ap (λ z. (c -ℤ h -ℤ pos (held_now (stored w i x) o)) +ℤ pos z) same
-    ∙ moved c h (pos (held_at_entry w o)) (held_now (stored w i x) o) (held_now w o) (cond (holds_object (slot_at w i).held o) 1 0) (cond (is_this_object x o) 1 0)
+    ap (λ z. (c -ℤ h -ℤ pos (held_now (put_at w i x) o)) +ℤ pos z) same
+    ∙ moved c h (pos (held_at_entry w o)) (held_now (put_at w i x) o) (held_now w o) (cond (holds_object (slot_at w i).held o) 1 0) (cond (is_this_object x o) 1 0)
     (part (holds_object (slot_at w i).held o) (pos 1)) (part (is_this_object x o) (negsuc 0)) now (part_one (holds_object (slot_at w i).held o)) (part_down (is_this_object x o))

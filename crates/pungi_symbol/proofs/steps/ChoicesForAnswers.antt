@@ -20,10 +20,10 @@ use Rattle.pungi_api.specs.declared.param.Param.TheVariants as param
 use Rattle.pungi_world.specs.declared.halt.Halt.{Halt}
 use Rattle.pungi_world.specs.declared.halt.Halt.TheVariants as halt
 use Rattle.pungi_world.specs.declared.world.World.{World}
-use Rattle.pungi_world.specs.Choices.{value_of, is_null, is_text, is_object_choice, is_accepted, chosen}
-use Rattle.pungi_world.specs.Slots.{is_made, is_old, is_content, found}
+use Rattle.pungi_world.specs.Choices.{value_of, is_null, is_text, is_object_choice, is_accepted, choose}
+use Rattle.pungi_world.specs.Slots.{is_made, is_old, is_content, find_content}
 use Rattle.pungi_symbol.specs.states.Terms.{outcomes_of_answer, mark_at}
-use Rattle.pungi_symbol.specs.questions.NextQuestion.{contents}
+use Rattle.pungi_symbol.specs.questions.NextQuestion.{content_mark}
 use Rattle.pungi_symbol.specs.runs.ObjectForm.{is_pointer, is_small}
 use Rattle.pungi_symbol.specs.runs.RunInState.{IsOf}
 use Rattle.pungi_symbol.specs.runs.Paths.{choice_of}
@@ -87,7 +87,7 @@ text_true (value.Object k) m = absurd (let bad : false ≡ true = m in cc)
 text_true (value.Int n) m = absurd (let bad : false ≡ true = m in cc)
 text_true value.Text m = refl
 
-content_true : (w : World) (kind : Param) (v : Value) → is_pointer kind ≡ true → AreUnmade w → is_mark (contents kind) v ≡ true → IsOf (length w.accounts) v → is_content w kind (choice_of v) ≡ true
+content_true : (w : World) (kind : Param) (v : Value) → is_pointer kind ≡ true → AreUnmade w → is_mark (content_mark kind) v ≡ true → IsOf (length w.accounts) v → is_content w kind (choice_of v) ≡ true
 content_true w param.Object v p u m h = pointer_true w v u m h
 content_true w param.ObjectOrNull v p u m h = pointer_true w v u m h
 content_true w param.Text v p u m h = text_true v m
@@ -101,11 +101,11 @@ no_error : {X : Type 0} (r : Res X Halt) (x : X) (h : Halt) → r ≡ Ok x → r
 no_error r x h e f = cc
 
 -- such a choice isn't missing
-pub not_missing : (w : World) (kind : Param) (c : Choice) (rest : List Choice) → is_pointer kind ≡ true → AreUnmade w → (is_mark (contents kind) (value_of c) ≡ true) × IsOf (length w.accounts) (value_of c) × (c ≡ choice_of (value_of c))
-    → found w kind (c ∷ rest) ≡ Err halt.NeedsChoice → ⊥
+pub not_missing : (w : World) (kind : Param) (c : Choice) (rest : List Choice) → is_pointer kind ≡ true → AreUnmade w → (is_mark (content_mark kind) (value_of c) ≡ true) × IsOf (length w.accounts) (value_of c) × (c ≡ choice_of (value_of c))
+    → find_content w kind (c ∷ rest) ≡ Err halt.NeedsChoice → ⊥
 not_missing w kind c rest p u h e =
     let ok : is_content w kind c ≡ true = ap (is_content w kind) h.2 ∙ content_true w kind (value_of c) p u h.0 h.1 in
-    no_error (found w kind (c ∷ rest)) (content.Holds (value_of c), 1) halt.NeedsChoice (ap (λ b. cond b (Ok (content.Holds (value_of c), 1)) (Err halt.NeedsChoice)) ok) e
+    no_error (find_content w kind (c ∷ rest)) (content.Holds (value_of c), 1) halt.NeedsChoice (ap (λ b. cond b (Ok (content.Holds (value_of c), 1)) (Err halt.NeedsChoice)) ok) e
 
 -- ---- answers
 
@@ -175,7 +175,7 @@ accepted_true n answer.Void v s o h = past o.0 0 o.1 (omega arith)
 accepted_true n answer.Null v s o h = past o.0 0 o.1 (omega arith)
 
 pub not_refused : (w : World) (a : Answer) (c : Choice) (rest : List Choice) → is_small a ≡ true → IsOutcome (outcomes_of_answer a) (value_of c) × IsOf (length w.accounts) (value_of c) × (c ≡ choice_of (value_of c))
-    → chosen (length w.accounts) a (c ∷ rest) ≡ Err halt.NeedsChoice → ⊥
+    → choose (length w.accounts) a (c ∷ rest) ≡ Err halt.NeedsChoice → ⊥
 not_refused w a c rest s h e =
     let ok : is_accepted (length w.accounts) a c ≡ true = ap (is_accepted (length w.accounts) a) h.2 ∙ accepted_true (length w.accounts) a (value_of c) s h.0 h.1 in
-    no_error (chosen (length w.accounts) a (c ∷ rest)) (value_of c) halt.NeedsChoice (ap (λ b. cond b (Ok (value_of c)) (Err halt.NeedsChoice)) ok) e
+    no_error (choose (length w.accounts) a (c ∷ rest)) (value_of c) halt.NeedsChoice (ap (λ b. cond b (Ok (value_of c)) (Err halt.NeedsChoice)) ok) e

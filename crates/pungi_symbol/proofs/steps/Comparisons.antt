@@ -32,12 +32,12 @@ use Rattle.pungi_meaning.specs.declared.cmp.Cmp.{Cmp}
 use Rattle.pungi_meaning.specs.declared.cmp.Cmp.TheVariants as cmps
 use Rattle.pungi_meaning.specs.Values.{number_of, truth, holds, is_equal}
 use Rattle.pungi_code.specs.declared.instr.Instr.TheVariants.{Compare}
-use Rattle.pungi_symbol.specs.states.Known.{mark, term_of, known_value, number_in, object_of, object_mark}
-use Rattle.pungi_symbol.specs.questions.NextQuestion.{knowing, ordering, comparing, compare_ask}
-use Rattle.pungi_symbol.specs.answers.KnownAfter.{truth_of, compare, compare_same}
+use Rattle.pungi_symbol.specs.states.Known.{mark_of, term_of, known_value, number_in, object_of, object_mark}
+use Rattle.pungi_symbol.specs.questions.NextQuestion.{asks_known, asks_order, asks_same, asks_compare}
+use Rattle.pungi_symbol.specs.answers.KnownAfter.{truth_term, compares, compares_same}
 use Rattle.pungi_symbol.specs.answers.SymbolicState.{are_one, apply_same}
 use Rattle.pungi_symbol.specs.runs.Fits.{Fits}
-use Rattle.pungi_symbol.specs.runs.OneInstruction.{Led, goes, led}
+use Rattle.pungi_symbol.specs.runs.OneInstruction.{Led, goes, leads}
 use Rattle.pungi_symbol.proofs.states.Contents.{unset, asks, passes, knowing_is, term_value, known_set, known_agrees, Agrees, one, objects, agrees_number, IsKnown}
 use Rattle.pungi_symbol.proofs.states.Terms.{open_below, object_is_below}
 use Rattle.pungi_symbol.proofs.answers.SameObject.{Way, kept, merged, parted, way_is, same_can, way_fits, way_named, object_value}
@@ -99,25 +99,25 @@ same_objects : (a b : ℕ) (r : Bool) → (a == b) ≡ r → is_equal (value.Obj
 same_objects a b true e = sym e
 same_objects a b false e = sym e
 
-same_holds : (c : Cmp) (v x : Value) → is_mark IsObject v ≡ true → is_mark IsObject x ≡ true → compare_same c (is_equal v x) ≡ holds c v x
+same_holds : (c : Cmp) (v x : Value) → is_mark IsObject v ≡ true → is_mark IsObject x ≡ true → compares_same c (is_equal v x) ≡ holds c v x
 same_holds c v x h g =
     let a = object_value v h in
     let b = object_value x g in
     let e : is_equal v x ≡ (a.0 == b.0) = ap (λ z. is_equal z x) a.1 ∙ ap (is_equal (value.Object a.0)) b.1 in
-    ap (compare_same c) e ∙ holds_same c (value.Object 0) (value.Object (cond (a.0 == b.0) 0 1)) (value.Object a.0) (value.Object b.0) (same_objects a.0 b.0 (a.0 == b.0) refl) refl refl
+    ap (compares_same c) e ∙ holds_same c (value.Object 0) (value.Object (cond (a.0 == b.0) 0 1)) (value.Object a.0) (value.Object b.0) (same_objects a.0 b.0 (a.0 == b.0) refl) refl refl
     ∙ sym (ap (λ z. holds c z x) a.1 ∙ ap (holds c (value.Object a.0)) b.1)
 
-pub truth_content : (table : Table) (b : Bool) → content_of table (truth_of b) ≡ content.Holds (truth b)
+pub truth_content : (table : Table) (b : Bool) → content_of table (truth_term b) ≡ content.Holds (truth b)
 truth_content table true = refl
 truth_content table false = refl
 
 -- ---- terms that are or aren't objects
 
 pub data Objected (k : Known) (x : Term) : Type 0 where
-  an_object : (t : ℕ) → x ≡ Token t → mark k t ≡ IsObject → object_of k x ≡ Some t → Objected k x
+  an_object : (t : ℕ) → x ≡ Token t → mark_of k t ≡ IsObject → object_of k x ≡ Some t → Objected k x
   no_object : object_of k x ≡ None → (IsKnown k x → is_object (known_value k x) ≡ false) → Objected k x
 
-object_by : (k : Known) (t : ℕ) (r : Mark) → mark k t ≡ r → Objected k (Token t)
+object_by : (k : Known) (t : ℕ) (r : Mark) → mark_of k t ≡ r → Objected k (Token t)
 object_by k t Pointer e = no_object (ap (λ z. object_mark z t) e) (λ h. ap (λ z. is_object (value_of_mark z)) e)
 object_by k t TextPointer e = no_object (ap (λ z. object_mark z t) e) (λ h. ap (λ z. is_object (value_of_mark z)) e)
 object_by k t IsNull e = no_object (ap (λ z. object_mark z t) e) (λ h. ap (λ z. is_object (value_of_mark z)) e)
@@ -130,7 +130,7 @@ objected k Unset = no_object refl (λ h. refl)
 objected k Null = no_object refl (λ h. refl)
 objected k Text = no_object refl (λ h. refl)
 objected k (Number n) = no_object refl (λ h. refl)
-objected k (Token t) = object_by k t (mark k t) refl
+objected k (Token t) = object_by k t (mark_of k t) refl
 
 pub data Numbered (x : Term) : Type 0 where
   a_number : (n : ℤ) → x ≡ Number n → Numbered x
@@ -143,11 +143,11 @@ numbered Text = no_number refl
 numbered (Number n) = a_number n refl
 numbered (Token t) = no_number refl
 
-ordering_left : (o n : Option ℤ) (q : Question) → o ≡ None → ordering o n q ≡ q
+ordering_left : (o n : Option ℤ) (q : Question) → o ≡ None → asks_order o n q ≡ q
 ordering_left None n q e = refl
 ordering_left (Some m) n q e = absurd (cc)
 
-ordering_right : (o n : Option ℤ) (q : Question) → n ≡ None → ordering o n q ≡ q
+ordering_right : (o n : Option ℤ) (q : Question) → n ≡ None → asks_order o n q ≡ q
 ordering_right None n q e = refl
 ordering_right (Some m) None q e = refl
 ordering_right (Some m) (Some n) q e = absurd (cc)
@@ -159,7 +159,7 @@ way_statics s t u b s' (parted ne e z) = ap (λ r. r.statics) z
 
 module _ (choices : List Choice) (code : List Line) (table : Table) (base : ℕ) (m : Regs) (s : State) (going : s.known.status ≡ status.Going) (w : IsSound s) (l : Lies code table base m s) (p : Pos) where
   -- a run lies in the state after tokens were compared, where it lies in the one with the same known
-  pub same_lies : (t u : ℕ) (m' : Regs) (k' : Known) → mark s.known t ≡ IsObject → mark s.known u ≡ IsObject → k'.marks ≡ s.known.marks → Lies code table base m' (record s { known = k' })
+  pub same_lies : (t u : ℕ) (m' : Regs) (k' : Known) → mark_of s.known t ≡ IsObject → mark_of s.known u ≡ IsObject → k'.marks ≡ s.known.marks → Lies code table base m' (record s { known = k' })
       → Lies code table base m' (record (apply_same (are_one s.classes t u) (is_equal (at table t) (at table u)) t u s) { known = k' })
   same_lies t u m' k' mt mu e h =
       let lt = object_is_below s.known.marks t mt in
@@ -183,20 +183,20 @@ module _ (choices : List Choice) (code : List Line) (table : Table) (base : ℕ)
   CompareLed x c v y = goes (s.known.pc + 1) (put x (content.Holds (truth (holds c v y))) m)
 
   compare_led : (x : Var) (c : Cmp) (a b : Atom) → is_there s.statics a ≡ true → is_there s.statics b ≡ true → (term_of s.known a ≡ Unset → ⊥) → (term_of s.known b ≡ Unset → ⊥)
-      → led choices (Compare x c a b) p s.known.pc m ≡ CompareLed x c (term_value table (term_of s.known a)) (term_value table (term_of s.known b))
+      → leads choices (Compare x c a b) p s.known.pc m ≡ CompareLed x c (term_value table (term_of s.known a)) (term_value table (term_of s.known b))
   compare_led x c a b h g ne nf = set_led choices code table base m s going w l p a _ h ne ∙ set_led choices code table base m s going w l p b _ g nf
 
   compare_goes : (x : Var) (c : Cmp) (a b : Atom) (d : Decision) → IsLine choices code table base m s going w l p (Compare x c a b) → is_there s.statics a ≡ true → is_there s.statics b ≡ true → (term_of s.known a ≡ Unset → ⊥) → (term_of s.known b ≡ Unset → ⊥)
-      → holds c (term_value table (term_of s.known a)) (term_value table (term_of s.known b)) ≡ compare s.known c (term_of s.known a) (term_of s.known b) → Result choices code table base m s going w l p (Compare x c a b) (Does d)
+      → holds c (term_value table (term_of s.known a)) (term_value table (term_of s.known b)) ≡ compares s.known c (term_of s.known a) (term_of s.known b) → Result choices code table base m s going w l p (Compare x c a b) (Does d)
   compare_goes x c a b d is h g ne nf e = inr (
     same_decision d,
     goes_on _ (as_many m) (led_is choices code table base m s going w l p (Compare x c a b) is ∙ compare_led x c a b h g ne nf) going
-        (put_lies choices code table base m s going w l p x (truth_of (compare s.known c (term_of s.known a) (term_of s.known b))) (content.Holds (truth (holds c (term_value table (term_of s.known a)) (term_value table (term_of s.known b))))) (s.known.pc + 1)
-        (truth_content table (compare s.known c (term_of s.known a) (term_of s.known b)) ∙ ap (λ z. content.Holds (truth z)) (sym e))),
+        (put_lies choices code table base m s going w l p x (truth_term (compares s.known c (term_of s.known a) (term_of s.known b))) (content.Holds (truth (holds c (term_value table (term_of s.known a)) (term_value table (term_of s.known b))))) (s.known.pc + 1)
+        (truth_content table (compares s.known c (term_of s.known a) (term_of s.known b)) ∙ ap (λ z. content.Holds (truth z)) (sym e))),
   )
 
   compare_tokens : (x : Var) (c : Cmp) (a b : Atom) (t u : ℕ) → IsLine choices code table base m s going w l p (Compare x c a b) → is_there s.statics a ≡ true → is_there s.statics b ≡ true → term_of s.known a ≡ Token t → term_of s.known b ≡ Token u
-      → mark s.known t ≡ IsObject → mark s.known u ≡ IsObject → Result choices code table base m s going w l p (Compare x c a b) (Same t u)
+      → mark_of s.known t ≡ IsObject → mark_of s.known u ≡ IsObject → Result choices code table base m s going w l p (Compare x c a b) (Same t u)
   compare_tokens x c a b t u is h g ea eb mt mu =
       let lt = object_is_below s.known.marks t mt in
       let lu = object_is_below s.known.marks u mu in
@@ -210,12 +210,12 @@ module _ (choices : List Choice) (code : List Line) (table : Table) (base : ℕ)
         goes_on (put x (content.Holds (truth r)) m) (as_many m)
             (led_is choices code table base m s going w l p (Compare x c a b) is ∙ compare_led x c a b h g ne nf ∙ ap (λ z. CompareLed x c (term_value table z) (term_value table (term_of s.known b))) ea ∙ ap (λ z. CompareLed x c (at table t) (term_value table z)) eb) going
             (same_lies t u (put x (content.Holds (truth r)) m) _ mt mu refl
-            (put_lies choices code table base m s going w l p x (truth_of (compare_same c (is_equal (at table t) (at table u)))) (content.Holds (truth r)) (s.known.pc + 1)
-            (truth_content table (compare_same c (is_equal (at table t) (at table u))) ∙ ap (λ z. content.Holds (truth z)) (same_holds c (at table t) (at table u) ot ou)))),
+            (put_lies choices code table base m s going w l p x (truth_term (compares_same c (is_equal (at table t) (at table u)))) (content.Holds (truth r)) (s.known.pc + 1)
+            (truth_content table (compares_same c (is_equal (at table t) (at table u))) ∙ ap (λ z. content.Holds (truth z)) (same_holds c (at table t) (at table u) ot ou)))),
       )
 
   abbrev Comparing : Atom → Atom → Question
-  Comparing a b = comparing (object_of s.known (term_of s.known a)) (object_of s.known (term_of s.known b))
+  Comparing a b = asks_same (object_of s.known (term_of s.known a)) (object_of s.known (term_of s.known b))
 
   agrees : (a : Atom) → is_there s.statics a ≡ true → IsKnown s.known (term_of s.known a) → Agrees (term_value table (term_of s.known a)) (known_value s.known (term_of s.known a))
   agrees a h k = known_agrees table s.known (marks choices code table base m s going w l p) (term_of s.known a) (below_is choices code table base m s going w l p a h) k
@@ -223,17 +223,17 @@ module _ (choices : List Choice) (code : List Line) (table : Table) (base : ℕ)
   compare_known : (x : Var) (c : Cmp) (a b : Atom) → IsLine choices code table base m s going w l p (Compare x c a b) → is_there s.statics a ≡ true → is_there s.statics b ≡ true → IsKnown s.known (term_of s.known a) → IsKnown s.known (term_of s.known b)
       → Objected s.known (term_of s.known a) → Objected s.known (term_of s.known b) → Result choices code table base m s going w l p (Compare x c a b) (Comparing a b)
   compare_known x c a b is h g ka kb (an_object t ea mt ot) (an_object u eb mu ou) =
-      subst (Result choices code table base m s going w l p (Compare x c a b)) (sym (ap (λ z. comparing z (object_of s.known (term_of s.known b))) ot ∙ ap (comparing (Some t)) ou)) (compare_tokens x c a b t u is h g ea eb mt mu)
+      subst (Result choices code table base m s going w l p (Compare x c a b)) (sym (ap (λ z. asks_same z (object_of s.known (term_of s.known b))) ot ∙ ap (asks_same (Some t)) ou)) (compare_tokens x c a b t u is h g ea eb mt mu)
   compare_known x c a b is h g ka kb (no_object oa na) rb =
-      subst (Result choices code table base m s going w l p (Compare x c a b)) (sym (ap (λ z. comparing z (object_of s.known (term_of s.known b))) oa)) (compare_goes x c a b Quiet is h g (known_set s.known (term_of s.known a) ka) (known_set s.known (term_of s.known b) kb)
+      subst (Result choices code table base m s going w l p (Compare x c a b)) (sym (ap (λ z. asks_same z (object_of s.known (term_of s.known b))) oa)) (compare_goes x c a b Quiet is h g (known_set s.known (term_of s.known a) ka) (known_set s.known (term_of s.known b) kb)
       (holds_agrees c _ _ _ _ (agrees a h ka) (agrees b g kb) (λ e f. let bad : true ≡ false = sym e ∙ na ka in cc)))
   compare_known x c a b is h g ka kb (an_object t ea mt ot) (no_object ob nb) =
-      subst (Result choices code table base m s going w l p (Compare x c a b)) (sym (ap (λ z. comparing z (object_of s.known (term_of s.known b))) ot ∙ ap (comparing (Some t)) ob)) (compare_goes x c a b Quiet is h g (known_set s.known (term_of s.known a) ka) (known_set s.known (term_of s.known b) kb)
+      subst (Result choices code table base m s going w l p (Compare x c a b)) (sym (ap (λ z. asks_same z (object_of s.known (term_of s.known b))) ot ∙ ap (asks_same (Some t)) ob)) (compare_goes x c a b Quiet is h g (known_set s.known (term_of s.known a) ka) (known_set s.known (term_of s.known b) kb)
       (holds_agrees c _ _ _ _ (agrees a h ka) (agrees b g kb) (λ e f. let bad : true ≡ false = sym f ∙ nb kb in cc)))
 
   compare_pointers : (x : Var) (c : Cmp) (a b : Atom) → IsLine choices code table base m s going w l p (Compare x c a b) → is_there s.statics a ≡ true → is_there s.statics b ≡ true
-      → Result choices code table base m s going w l p (Compare x c a b) (knowing s.known (term_of s.known a) (knowing s.known (term_of s.known b) (Comparing a b)))
-  compare_pointers x c a b is h g = elim (knowing_is s.known (term_of s.known a) (knowing s.known (term_of s.known b) (Comparing a b))) [
+      → Result choices code table base m s going w l p (Compare x c a b) (asks_known s.known (term_of s.known a) (asks_known s.known (term_of s.known b) (Comparing a b)))
+  compare_pointers x c a b is h g = elim (knowing_is s.known (term_of s.known a) (asks_known s.known (term_of s.known b) (Comparing a b))) [
     | unset e q ↦ subst (Result choices code table base m s going w l p (Compare x c a b)) (sym q) (stops_result choices code table base m s going w l p (Compare x c a b) Quiet m is (unset_led choices code table base m s going w l p a _ h e))
     | asks t e o q ↦ subst (Result choices code table base m s going w l p (Compare x c a b)) (sym q) (null_result choices code table base m s going w l p (Compare x c a b) t (open_below s.known.marks t o) o)
     | passes ka q ↦ subst (Result choices code table base m s going w l p (Compare x c a b)) (sym q) (elim (knowing_is s.known (term_of s.known b) (Comparing a b)) [
@@ -244,17 +244,17 @@ module _ (choices : List Choice) (code : List Line) (table : Table) (base : ℕ)
   ]
 
   compare_by : (x : Var) (c : Cmp) (a b : Atom) → IsLine choices code table base m s going w l p (Compare x c a b) → is_there s.statics a ≡ true → is_there s.statics b ≡ true → Numbered (term_of s.known a) → Numbered (term_of s.known b)
-      → Result choices code table base m s going w l p (Compare x c a b) (compare_ask s.known (term_of s.known a) (term_of s.known b))
+      → Result choices code table base m s going w l p (Compare x c a b) (asks_compare s.known (term_of s.known a) (term_of s.known b))
   compare_by x c a b is h g (no_number ea) rb = subst (Result choices code table base m s going w l p (Compare x c a b)) (sym (ordering_left (number_in (term_of s.known a)) (number_in (term_of s.known b)) _ ea)) (compare_pointers x c a b is h g)
   compare_by x c a b is h g (a_number i ea) (no_number eb) = subst (Result choices code table base m s going w l p (Compare x c a b)) (sym (ordering_right (number_in (term_of s.known a)) (number_in (term_of s.known b)) _ eb)) (compare_pointers x c a b is h g)
   compare_by x c a b is h g (a_number i ea) (a_number j eb) =
-      subst (Result choices code table base m s going w l p (Compare x c a b)) (sym (ap (λ z. ordering (number_in z) (number_in (term_of s.known b)) (Pointers a b)) ea ∙ ap (λ z. ordering (Some i) (number_in z) (Pointers a b)) eb))
+      subst (Result choices code table base m s going w l p (Compare x c a b)) (sym (ap (λ z. asks_order (number_in z) (number_in (term_of s.known b)) (Pointers a b)) ea ∙ ap (λ z. asks_order (Some i) (number_in z) (Pointers a b)) eb))
       (compare_goes x c a b (Order (int_cmp i j)) is h g (λ z. let bad : Number i ≡ Unset = sym ea ∙ z in cc) (λ z. let bad : Number j ≡ Unset = sym eb ∙ z in cc)
       (ap (λ z. holds c (term_value table z) (term_value table (term_of s.known b))) ea ∙ ap (λ z. holds c (value.Int i) (term_value table z)) eb
       ∙ sym (ap (λ z. holds c (known_value s.known z) (known_value s.known (term_of s.known b))) ea ∙ ap (λ z. holds c (value.Int i) (known_value s.known z)) eb)))
     where
       Pointers : Atom → Atom → Question
-      Pointers a b = knowing s.known (term_of s.known a) (knowing s.known (term_of s.known b) (Comparing a b))
+      Pointers a b = asks_known s.known (term_of s.known a) (asks_known s.known (term_of s.known b) (Comparing a b))
 
-  pub compare_result : (x : Var) (c : Cmp) (a b : Atom) → IsLine choices code table base m s going w l p (Compare x c a b) → is_there s.statics a ≡ true → is_there s.statics b ≡ true → Result choices code table base m s going w l p (Compare x c a b) (compare_ask s.known (term_of s.known a) (term_of s.known b))
+  pub compare_result : (x : Var) (c : Cmp) (a b : Atom) → IsLine choices code table base m s going w l p (Compare x c a b) → is_there s.statics a ≡ true → is_there s.statics b ≡ true → Result choices code table base m s going w l p (Compare x c a b) (asks_compare s.known (term_of s.known a) (term_of s.known b))
   compare_result x c a b is h g = compare_by x c a b is h g (numbered (term_of s.known a)) (numbered (term_of s.known b))

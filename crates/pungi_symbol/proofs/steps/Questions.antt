@@ -1,4 +1,4 @@
--- What a question tells of the state that asks it.
+-- What a question says of the state that asks it.
 use Rattle.std.proofs.Common.{◌≡◌, ℕ, ◌+◌, ℤ, pos, List, [], ◌∷◌, drop, get_or, Bool, true, false, refl, sym, ap, ◌∙◌, subst, Option, None, Some, cond}
 use Rattle.pungi_code.specs.declared.atom.Atom.{Atom}
 use Rattle.pungi_code.specs.declared.atom.Var.{Var}
@@ -40,8 +40,8 @@ use Rattle.pungi_code.specs.WellFormed.{place_kind}
 use Rattle.pungi_symbol.specs.declared.questions.found_slot.Finding.TheVariants.{Waits, At, Nowhere}
 use Rattle.pungi_symbol.specs.declared.states.spot.Progress.{Progress}
 use Rattle.pungi_symbol.specs.declared.states.spot.Progress.TheVariants.{Looking, Found}
-use Rattle.pungi_symbol.specs.states.Known.{count, mark, term_of, number, number_in, object_of, find, find_field, find_token, seek, ask_base, at_place, is_field, is_global, base_of, no_slot, slot_note, spot_of, token_in}
-use Rattle.pungi_symbol.specs.questions.NextQuestion.{setting, knowing, needing, ordering, comparing, ranged, contents, loading, storing, dropping, all_set, needing_for, needing_all, knowing_for, knowing_taken, answering, special_ask, form_ask, first_term, terms_of, return_ask, ask_of, ask_line}
+use Rattle.pungi_symbol.specs.states.Known.{count, mark_of, term_of, number, number_in, object_of, find, find_field, find_token, seek, ask_base, at_place, is_field, is_global, base_of, no_slot, slot_note, spot_of, token_in}
+use Rattle.pungi_symbol.specs.questions.NextQuestion.{asks_set, asks_known, asks_thing, asks_order, asks_same, asks_range, content_mark, asks_load, asks_store, asks_dropped, asks_all_set, asks_param, asks_params, asks_take, asks_takes, asks_answer, asks_special, asks_form, first_term, terms_of, asks_return, asks_instr, asks_line}
 use Rattle.pungi_symbol.specs.answers.KnownAfter.{instr_of}
 use Rattle.pungi_symbol.specs.runs.ObjectForm.{atoms_of, atom_in}
 use Rattle.pungi_symbol.specs.runs.Fits.{IsObjectSpot}
@@ -65,30 +65,30 @@ abbrev pub IsAsked : Instr → Known → Question → Type 0
 IsAsked i k (Does d) = Unit {0}
 IsAsked i k (Touches r) = SpotOk i k × (is_open r ≡ true)
 IsAsked i k (Overwrites r) = SpotOk i k × (is_open r ≡ true)
-IsAsked i k (AsksNull t) = is_open (mark k t) ≡ true
-IsAsked i k (Base t u j) = (mark k t ≡ IsObject) × (mark k u ≡ IsObject)
+IsAsked i k (AsksNull t) = is_open (mark_of k t) ≡ true
+IsAsked i k (Base t u j) = (mark_of k t ≡ IsObject) × (mark_of k u ≡ IsObject)
 IsAsked i k (Answers a) = Unit {0}
-IsAsked i k (Same t u) = (mark k t ≡ IsObject) × (mark k u ≡ IsObject)
+IsAsked i k (Same t u) = (mark_of k t ≡ IsObject) × (mark_of k u ≡ IsObject)
 IsAsked i k (Returns x) = IsGiven k x
 IsAsked i k (Stops d) = Unit {0}
 IsAsked i k Over = Unit {0}
 
 module _ (i : Instr) (k : Known) where
-  setting_asked : (x : Term) (q : Question) → IsAsked i k q → IsAsked i k (setting x q)
+  setting_asked : (x : Term) (q : Question) → IsAsked i k q → IsAsked i k (asks_set x q)
   setting_asked Unset q h = tt
   setting_asked Null q h = h
   setting_asked Text q h = h
   setting_asked (Number n) q h = h
   setting_asked (Token t) q h = h
 
-  knowing_asked : (x : Term) (q : Question) → (IsKnown k x → IsAsked i k q) → IsAsked i k (knowing k x q)
+  knowing_asked : (x : Term) (q : Question) → (IsKnown k x → IsAsked i k q) → IsAsked i k (asks_known k x q)
   knowing_asked x q h = elim (knowing_is k x q) [
     | unset u e ↦ subst (IsAsked i k) (sym e) tt
     | asks t u o e ↦ subst (IsAsked i k) (sym e) o
     | passes kn e ↦ subst (IsAsked i k) (sym e) (h kn)
   ]
 
-  needing_asked : (x : Term) (q : Question) → IsAsked i k q → IsAsked i k (needing k x q)
+  needing_asked : (x : Term) (q : Question) → IsAsked i k q → IsAsked i k (asks_thing k x q)
   needing_asked x q h = elim (needing_is k x q) [
     | unset_n u e ↦ subst (IsAsked i k) (sym e) tt
     | null_n u kn e ↦ subst (IsAsked i k) (sym e) tt
@@ -96,17 +96,17 @@ module _ (i : Instr) (k : Known) where
     | passes_n kn th e ↦ subst (IsAsked i k) (sym e) h
   ]
 
-  ordering_asked : (a b : Option ℤ) (q : Question) → IsAsked i k q → IsAsked i k (ordering a b q)
+  ordering_asked : (a b : Option ℤ) (q : Question) → IsAsked i k q → IsAsked i k (asks_order a b q)
   ordering_asked None b q h = h
   ordering_asked (Some m) None q h = h
   ordering_asked (Some m) (Some n) q h = tt
 
-  comparing_by : (a b : Term) → Objected k a → Objected k b → IsAsked i k (comparing (object_of k a) (object_of k b))
-  comparing_by a b (an_object t e m o) (an_object u f n r) = subst (IsAsked i k) (sym (ap (λ z. comparing z (object_of k b)) o ∙ ap (comparing (Some t)) r)) (m, n)
-  comparing_by a b (an_object t e m o) (no_object r g) = subst (IsAsked i k) (sym (ap (λ z. comparing z (object_of k b)) o ∙ ap (comparing (Some t)) r)) tt
-  comparing_by a b (no_object o g) r = subst (IsAsked i k) (sym (ap (λ z. comparing z (object_of k b)) o)) tt
+  comparing_by : (a b : Term) → Objected k a → Objected k b → IsAsked i k (asks_same (object_of k a) (object_of k b))
+  comparing_by a b (an_object t e m o) (an_object u f n r) = subst (IsAsked i k) (sym (ap (λ z. asks_same z (object_of k b)) o ∙ ap (asks_same (Some t)) r)) (m, n)
+  comparing_by a b (an_object t e m o) (no_object r g) = subst (IsAsked i k) (sym (ap (λ z. asks_same z (object_of k b)) o ∙ ap (asks_same (Some t)) r)) tt
+  comparing_by a b (no_object o g) r = subst (IsAsked i k) (sym (ap (λ z. asks_same z (object_of k b)) o)) tt
 
-  ranged_asked : (o : Option ℤ) (b : Bool) → IsAsked i k (ranged o b)
+  ranged_asked : (o : Option ℤ) (b : Bool) → IsAsked i k (asks_range o b)
   ranged_asked None b = tt
   ranged_asked (Some n) b = tt
 
@@ -114,18 +114,18 @@ module _ (i : Instr) (k : Known) where
   fitting_by true d e = tt
   fitting_by false d e = tt
 
-  dropping_asked : (x : Term) → IsAsked i k (dropping k x)
+  dropping_asked : (x : Term) → IsAsked i k (asks_dropped k x)
   dropping_asked x = elim (dropping_is k x) [
     | drop_asks t e o ↦ subst (IsAsked i k) (sym e) o
     | drop_known e kn ↦ subst (IsAsked i k) (sym e) tt
     | drop_unset e u ↦ subst (IsAsked i k) (sym e) tt
   ]
 
-  all_set_asked : (xs : List Term) (q : Question) → IsAsked i k q → IsAsked i k (all_set xs q)
+  all_set_asked : (xs : List Term) (q : Question) → IsAsked i k q → IsAsked i k (asks_all_set xs q)
   all_set_asked [] q h = h
-  all_set_asked (x ∷ xs) q h = setting_asked x (all_set xs q) (all_set_asked xs q h)
+  all_set_asked (x ∷ xs) q h = setting_asked x (asks_all_set xs q) (all_set_asked xs q h)
 
-  needing_for_asked : (p : Param) (x : Term) (q : Question) → IsAsked i k q → IsAsked i k (needing_for k p x q)
+  needing_for_asked : (p : Param) (x : Term) (q : Question) → IsAsked i k q → IsAsked i k (asks_param k p x q)
   needing_for_asked param.Object x q h = needing_asked x q h
   needing_for_asked param.Text x q h = needing_asked x q h
   needing_for_asked param.ObjectOrNull x q h = h
@@ -135,22 +135,22 @@ module _ (i : Instr) (k : Known) where
   needing_for_asked param.Size x q h = h
   needing_for_asked param.ModuleDef x q h = h
 
-  needing_all_asked : (ps : List Param) (xs : List Term) (q : Question) → IsAsked i k q → IsAsked i k (needing_all k ps xs q)
+  needing_all_asked : (ps : List Param) (xs : List Term) (q : Question) → IsAsked i k q → IsAsked i k (asks_params k ps xs q)
   needing_all_asked [] xs q h = h
   needing_all_asked (p ∷ ps) [] q h = h
-  needing_all_asked (p ∷ ps) (x ∷ xs) q h = needing_for_asked p x (needing_all k ps xs q) (needing_all_asked ps xs q h)
+  needing_all_asked (p ∷ ps) (x ∷ xs) q h = needing_for_asked p x (asks_params k ps xs q) (needing_all_asked ps xs q h)
 
-  knowing_for_asked : (t : Take) (x : Term) (q : Question) → IsAsked i k q → IsAsked i k (knowing_for k t x q)
+  knowing_for_asked : (t : Take) (x : Term) (q : Question) → IsAsked i k q → IsAsked i k (asks_take k t x q)
   knowing_for_asked take.Never x q h = h
   knowing_for_asked take.Always x q h = knowing_asked x q (λ _. h)
   knowing_for_asked take.OnSuccess x q h = knowing_asked x q (λ _. h)
 
-  knowing_taken_asked : (ts : List Take) (xs : List Term) (q : Question) → IsAsked i k q → IsAsked i k (knowing_taken k ts xs q)
-  knowing_taken_asked [] xs q h = h
-  knowing_taken_asked (t ∷ ts) [] q h = h
-  knowing_taken_asked (t ∷ ts) (x ∷ xs) q h = knowing_for_asked t x (knowing_taken k ts xs q) (knowing_taken_asked ts xs q h)
+  asks_takes_asked : (ts : List Take) (xs : List Term) (q : Question) → IsAsked i k q → IsAsked i k (asks_takes k ts xs q)
+  asks_takes_asked [] xs q h = h
+  asks_takes_asked (t ∷ ts) [] q h = h
+  asks_takes_asked (t ∷ ts) (x ∷ xs) q h = knowing_for_asked t x (asks_takes k ts xs q) (asks_takes_asked ts xs q h)
 
-  answering_asked : (a : Answer) → IsAsked i k (answering a)
+  answering_asked : (a : Answer) → IsAsked i k (asks_answer a)
   answering_asked answer.Void = tt
   answering_asked answer.Null = tt
   answering_asked answer.New = tt
@@ -163,7 +163,7 @@ module _ (i : Instr) (k : Known) where
   answering_asked answer.Long = tt
   answering_asked answer.Text = tt
 
-  special_asked : (sp : Special) (x : Term) → IsAsked i k (special_ask k sp x)
+  special_asked : (sp : Special) (x : Term) → IsAsked i k (asks_special k sp x)
   special_asked special.IncRef x = needing_asked x (Does Quiet) tt
   special_asked special.DecRef x = needing_asked x (Does Quiet) tt
   special_asked special.XIncRef x = knowing_asked x (Does Quiet) (λ _. tt)
@@ -180,16 +180,16 @@ module _ (i : Instr) (k : Known) where
   special_asked special.DictNext x = tt
   special_asked special.BuildValue x = tt
 
-  form_asked : (f : Form) (shape : Shape) (xs : List Term) → IsAsked i k (form_ask k f shape xs)
-  form_asked form.Plain shape xs = needing_all_asked shape.row.params xs _ (knowing_taken_asked shape.row.takes xs (answering shape.row.answer) (answering_asked shape.row.answer))
+  form_asked : (f : Form) (shape : Shape) (xs : List Term) → IsAsked i k (asks_form k f shape xs)
+  form_asked form.Plain shape xs = needing_all_asked shape.row.params xs _ (asks_takes_asked shape.row.takes xs (asks_answer shape.row.answer) (answering_asked shape.row.answer))
   form_asked (form.Special sp) shape xs = special_asked sp (first_term xs)
 
 -- ---- slots
 
 pub data Seeks (k : Known) (place : Place) : Type 0 where
   s_stop : find k place ≡ Waits (Stops Quiet) → Seeks k place
-  s_null : (t : ℕ) → find k place ≡ Waits (AsksNull t) → is_open (mark k t) ≡ true → Seeks k place
-  s_base : (t u j : ℕ) → find k place ≡ Waits (Base t u j) → mark k t ≡ IsObject → mark k u ≡ IsObject → Seeks k place
+  s_null : (t : ℕ) → find k place ≡ Waits (AsksNull t) → is_open (mark_of k t) ≡ true → Seeks k place
+  s_base : (t u j : ℕ) → find k place ≡ Waits (Base t u j) → mark_of k t ≡ IsObject → mark_of k u ≡ IsObject → Seeks k place
   s_at : (j : ℕ) → find k place ≡ At j → Seeks k place
   s_new : find k place ≡ Nowhere → IsObjectSpot k.marks (spot_of k place) → Seeks k place
 
@@ -202,18 +202,18 @@ module _ (k : Known) (spots : (j : ℕ) → IsObjectSpot k.marks (slot_note k.sl
     abbrev F : Place
     F = places.Field base' tag field kind
 
-    looks : (t c : ℕ) (r : Option ℕ) → term_of k base' ≡ Token t → mark k t ≡ IsObject → find k F ≡ ask_base t c k.slots (position (λ y. is_field tag field y.spot) (drop c k.slots)) → position (λ y. is_field tag field y.spot) (drop c k.slots) ≡ r → Seeks k F
+    looks : (t c : ℕ) (r : Option ℕ) → term_of k base' ≡ Token t → mark_of k t ≡ IsObject → find k F ≡ ask_base t c k.slots (position (λ y. is_field tag field y.spot) (drop c k.slots)) → position (λ y. is_field tag field y.spot) (drop c k.slots) ≡ r → Seeks k F
     looks t c None e m f g = s_new (f ∙ ap (ask_base t c k.slots) g) (subst (λ y. get_or k.marks (token_in y) IsNull ≡ IsObject) (sym e) m)
     looks t c (Some j) e m f g =
         let there = position-Some (λ y. is_field tag field y.spot) (drop c k.slots) j no_slot g in
         let is : is_field tag field (slot_note k.slots (c + j)).spot ≡ true = ap (λ y. is_field tag field y.spot) (sym (get_or-drop c k.slots j no_slot)) ∙ there.1 in
         s_base t (base_of (slot_note k.slots (c + j)).spot) (c + j) (f ∙ ap (ask_base t c k.slots) g) m (spot_object k.marks tag field (slot_note k.slots (c + j)).spot is (spots (c + j)))
 
-    object_seeks : (t : ℕ) (q : Progress) → term_of k base' ≡ Token t → mark k t ≡ IsObject → k.progress ≡ q → find k F ≡ seek k.progress t tag field k.slots → Seeks k F
+    object_seeks : (t : ℕ) (q : Progress) → term_of k base' ≡ Token t → mark_of k t ≡ IsObject → k.progress ≡ q → find k F ≡ seek k.progress t tag field k.slots → Seeks k F
     object_seeks t (Found j) e m pr f = s_at j (f ∙ ap (λ z. seek z t tag field k.slots) pr)
     object_seeks t (Looking c) e m pr f = looks t c (position (λ y. is_field tag field y.spot) (drop c k.slots)) e m (f ∙ ap (λ z. seek z t tag field k.slots) pr) refl
 
-    token_seeks : (t : ℕ) (r : Mark) → term_of k base' ≡ Token t → mark k t ≡ r → find k F ≡ find_token k t r tag field → Seeks k F
+    token_seeks : (t : ℕ) (r : Mark) → term_of k base' ≡ Token t → mark_of k t ≡ r → find k F ≡ find_token k t r tag field → Seeks k F
     token_seeks t Pointer e m f = s_null t f (ap is_open m)
     token_seeks t TextPointer e m f = s_null t f (ap is_open m)
     token_seeks t IsNull e m f = s_stop f
@@ -226,40 +226,40 @@ module _ (k : Known) (spots : (j : ℕ) → IsObjectSpot k.marks (slot_note k.sl
     field_seeks Null e f = s_stop f
     field_seeks Text e f = s_stop f
     field_seeks (Number n) e f = s_stop f
-    field_seeks (Token t) e f = token_seeks t (mark k t) e refl f
+    field_seeks (Token t) e f = token_seeks t (mark_of k t) e refl f
 
   pub seeks : (place : Place) → Seeks k place
   seeks (places.Global n kind) = global_seeks n kind (position (λ y. is_global n y.spot) k.slots) refl
   seeks (places.Field base' tag field kind) = field_seeks base' tag field kind (term_of k base') refl (ap (λ y. find_field k y tag field) refl)
 
-  loading_asked : (x : Var) (place : Place) → IsAsked (Load x place) k (loading k (contents (place_kind place)) (find k place))
+  loading_asked : (x : Var) (place : Place) → IsAsked (Load x place) k (asks_load k (content_mark (place_kind place)) (find k place))
   loading_asked x place =
       let i = Load x place in
-      let r = contents (place_kind place) in
+      let r = content_mark (place_kind place) in
       elim (seeks place) [
-        | s_stop e ↦ subst (λ f. IsAsked i k (loading k r f)) (sym e) tt
-        | s_null t e o ↦ subst (λ f. IsAsked i k (loading k r f)) (sym e) o
-        | s_base t u j e m n ↦ subst (λ f. IsAsked i k (loading k r f)) (sym e) (m, n)
-        | s_at j e ↦ subst (λ f. IsAsked i k (loading k r f)) (sym e) (setting_asked i k (slot_note k.slots j).held (Does Quiet) tt)
-        | s_new e h ↦ subst (λ f. IsAsked i k (loading k r f)) (sym e) (h, contents_open (place_kind place))
+        | s_stop e ↦ subst (λ f. IsAsked i k (asks_load k r f)) (sym e) tt
+        | s_null t e o ↦ subst (λ f. IsAsked i k (asks_load k r f)) (sym e) o
+        | s_base t u j e m n ↦ subst (λ f. IsAsked i k (asks_load k r f)) (sym e) (m, n)
+        | s_at j e ↦ subst (λ f. IsAsked i k (asks_load k r f)) (sym e) (setting_asked i k (slot_note k.slots j).held (Does Quiet) tt)
+        | s_new e h ↦ subst (λ f. IsAsked i k (asks_load k r f)) (sym e) (h, contents_open (place_kind place))
       ]
 
-  storing_asked : (place : Place) (a : Atom) → IsAsked (Store place a) k (storing k (contents (place_kind place)) (find k place))
+  storing_asked : (place : Place) (a : Atom) → IsAsked (Store place a) k (asks_store k (content_mark (place_kind place)) (find k place))
   storing_asked place a =
       let i = Store place a in
-      let r = contents (place_kind place) in
+      let r = content_mark (place_kind place) in
       elim (seeks place) [
-        | s_stop e ↦ subst (λ f. IsAsked i k (storing k r f)) (sym e) tt
-        | s_null t e o ↦ subst (λ f. IsAsked i k (storing k r f)) (sym e) o
-        | s_base t u j e m n ↦ subst (λ f. IsAsked i k (storing k r f)) (sym e) (m, n)
-        | s_at j e ↦ subst (λ f. IsAsked i k (storing k r f)) (sym e) (dropping_asked i k (slot_note k.slots j).held)
-        | s_new e h ↦ subst (λ f. IsAsked i k (storing k r f)) (sym e) (h, contents_open (place_kind place))
+        | s_stop e ↦ subst (λ f. IsAsked i k (asks_store k r f)) (sym e) tt
+        | s_null t e o ↦ subst (λ f. IsAsked i k (asks_store k r f)) (sym e) o
+        | s_base t u j e m n ↦ subst (λ f. IsAsked i k (asks_store k r f)) (sym e) (m, n)
+        | s_at j e ↦ subst (λ f. IsAsked i k (asks_store k r f)) (sym e) (dropping_asked i k (slot_note k.slots j).held)
+        | s_new e h ↦ subst (λ f. IsAsked i k (asks_store k r f)) (sym e) (h, contents_open (place_kind place))
       ]
 
 -- ---- instructions
 
 module _ (s : State) (w : IsSound s) where
-  return_asked : (o : Option Atom) → list_all (is_there s.statics) (atom_in o) ≡ true → IsAsked (Return o) s.known (return_ask s.known o)
+  return_asked : (o : Option Atom) → list_all (is_there s.statics) (atom_in o) ≡ true → IsAsked (Return o) s.known (asks_return s.known o)
   return_asked None h = tt
   return_asked (Some a) h =
       knowing_asked (Return (Some a)) s.known (term_of s.known a) (Returns (Some (term_of s.known a))) (λ kn. (
@@ -267,7 +267,7 @@ module _ (s : State) (w : IsSound s) where
         atom_below s.known.marks s.known.vars s.known.slots w.terms s.known s.statics a refl w.notes.statics (all_there s.statics a [] h).0,
       ))
 
-  pub asked : (i : Instr) → list_all (is_there s.statics) (atoms_of i) ≡ true → IsAsked i s.known (ask_of s.known i)
+  pub asked : (i : Instr) → list_all (is_there s.statics) (atoms_of i) ≡ true → IsAsked i s.known (asks_instr s.known i)
   asked (Set x a) h = setting_asked (Set x a) s.known (term_of s.known a) (Does Quiet) tt
   asked (Arith x kind o a b) h = setting_asked (Arith x kind o a b) s.known (term_of s.known a) _ (setting_asked (Arith x kind o a b) s.known (term_of s.known b) _
       (ranged_asked (Arith x kind o a b) s.known (arithmetic o kind (number s.known (term_of s.known a)) (number s.known (term_of s.known b))) _))
@@ -284,6 +284,6 @@ module _ (s : State) (w : IsSound s) where
   asked (Return o) h = return_asked o h
   asked Fall h = tt
 
-  pub asked_line : (o : Option Line) → ((line : Line) → o ≡ Some line → list_all (is_there s.statics) (atoms_of line.instr) ≡ true) → IsAsked (instr_of o) s.known (ask_line s.known o)
+  pub asked_line : (o : Option Line) → ((line : Line) → o ≡ Some line → list_all (is_there s.statics) (atoms_of line.instr) ≡ true) → IsAsked (instr_of o) s.known (asks_line s.known o)
   asked_line None h = tt
   asked_line (Some line) h = asked line.instr (h line refl)

@@ -31,13 +31,13 @@ use Rattle.pungi_symbol.specs.declared.states.spot.Progress.TheVariants.{Looking
 use Rattle.pungi_symbol.specs.declared.states.state.State.{State}
 use Rattle.pungi_symbol.specs.declared.states.term.Term.{Term}
 use Rattle.pungi_symbol.specs.states.Terms.{Table, at, content_of, is_mark, outcomes_of_mark, place_of, mark_at}
-use Rattle.pungi_symbol.specs.states.Known.{count, mark, term_of}
+use Rattle.pungi_symbol.specs.states.Known.{count, mark_of, term_of}
 use Rattle.pungi_symbol.specs.answers.SymbolicState.{can, is_decision, is_order, is_outcome, apply}
 use Rattle.pungi_symbol.specs.runs.Fits.{IsBelow, IsSound}
 use Rattle.pungi_symbol.specs.runs.ObjectForm.{is_there}
 use Rattle.pungi_symbol.specs.runs.RunInState.{IsWalked, answer, Lies}
 use Rattle.pungi_symbol.specs.runs.Paths.{returned_value}
-use Rattle.pungi_symbol.specs.runs.OneInstruction.{led, led_at, led_line}
+use Rattle.pungi_symbol.specs.runs.OneInstruction.{leads, leads_at, leads_line}
 use Rattle.pungi_symbol.proofs.steps.ChoicesForAnswers.{Lacks}
 use Rattle.pungi_symbol.proofs.states.Contents.{is_open, atom_term}
 use Rattle.pungi_symbol.proofs.answers.Fits.{mark_fits}
@@ -94,9 +94,9 @@ outcome_closed (IsNumber n) k = refl
 -- where a step of a run leads, and in which state it lies then
 pub data Moved (choices : List Choice) (code : List Line) (table : Table) (base : ℕ) (pc before : ℕ) (m : Regs) (s' : State) : Type 0 where
   stays : s'.known.pc ≡ pc → s'.known.status ≡ status.Going → effort s'.known < before → Lies code table base m s' → Moved choices code table base pc before m s'
-  goes_on : (m' : Regs) → length m.world.accounts ≤ length m'.world.accounts → led_at choices code pc m ≡ (after.Goes s'.known.pc, m') → s'.known.status ≡ status.Going → Lies code table base m' s' → Moved choices code table base pc before m s'
-  leaves : (p : Pos) (x : Option Term) → s'.known.status ≡ status.Returned p x → led_at choices code pc m ≡ (after.Leaves p (returned_value table x), m) → Lies code table base m s' → Moved choices code table base pc before m s'
-  halts : (p : Pos) (m' : Regs) → s'.known.status ≡ status.Stopped p → led_at choices code pc m ≡ (after.Stops p, m') → Lies code table base m s' → Moved choices code table base pc before m s'
+  goes_on : (m' : Regs) → length m.world.accounts ≤ length m'.world.accounts → leads_at choices code pc m ≡ (after.Goes s'.known.pc, m') → s'.known.status ≡ status.Going → Lies code table base m' s' → Moved choices code table base pc before m s'
+  leaves : (p : Pos) (x : Option Term) → s'.known.status ≡ status.Returned p x → leads_at choices code pc m ≡ (after.Leaves p (returned_value table x), m) → Lies code table base m s' → Moved choices code table base pc before m s'
+  halts : (p : Pos) (m' : Regs) → s'.known.status ≡ status.Stopped p → leads_at choices code pc m ≡ (after.Stops p, m') → Lies code table base m s' → Moved choices code table base pc before m s'
 
 pub as_many : (m : Regs) → length m.world.accounts ≤ length m.world.accounts
 as_many m = omega arith
@@ -142,12 +142,12 @@ module _ (choices : List Choice) (code : List Line) (table : Table) (base : ℕ)
 
   -- a choice is wanted, and the next one doesn't suit the question
   abbrev pub Wants : Question → Type 0
-  Wants q = (m' : Regs) × (led_at choices code s.known.pc m ≡ (after.Wants, m')) × Lacks m.world choices (length m.used) q
+  Wants q = (m' : Regs) × (leads_at choices code s.known.pc m ≡ (after.Wants, m')) × Lacks m.world choices (length m.used) q
 
   abbrev pub Result : Instr → Question → Type 0
   Result i q = Wants q ⊎ ((can s q (answer table s.known q) ≡ true) × Moved choices code table base s.known.pc (effort s.known) m (apply (Some (Ln i)) q (answer table s.known q) s))
 
-  pub marks : (t : ℕ) → t < count s.known → is_mark (mark s.known t) (at table t) ≡ true
+  pub marks : (t : ℕ) → t < count s.known → is_mark (mark_of s.known t) (at table t) ≡ true
   marks t lt = l.fits.marks t lt
 
   pub atom_is : (a : Atom) → is_there s.statics a ≡ true → atom_content a m.vars ≡ content_of table (term_of s.known a)
@@ -156,18 +156,18 @@ module _ (choices : List Choice) (code : List Line) (table : Table) (base : ℕ)
   pub below_is : (a : Atom) → is_there s.statics a ≡ true → IsBelow (count s.known) (term_of s.known a)
   below_is a h = atom_below s.known.marks s.known.vars s.known.slots w.terms s.known s.statics a refl w.notes.statics h
 
-  pub led_is : (i : Instr) → IsLine i → led_at choices code s.known.pc m ≡ led choices i p s.known.pc m
-  led_is i is = ap (λ line. led_line choices line s.known.pc m) is
+  pub led_is : (i : Instr) → IsLine i → leads_at choices code s.known.pc m ≡ leads choices i p s.known.pc m
+  led_is i is = ap (λ line. leads_line choices line s.known.pc m) is
 
   -- a question about NULL
-  pub null_result : (i : Instr) (t : ℕ) → t < count s.known → is_open (mark s.known t) ≡ true → Result i (AsksNull t)
+  pub null_result : (i : Instr) (t : ℕ) → t < count s.known → is_open (mark_of s.known t) ≡ true → Result i (AsksNull t)
   null_result i t lt opened' =
-      let o = null_outcome (mark s.known t) (at table t) opened' (marks t lt) in
-      let new = mark_at (outcomes_of_mark (mark s.known t)) (place_of (outcomes_of_mark (mark s.known t)) (at table t)) in
+      let o = null_outcome (mark_of s.known t) (at table t) opened' (marks t lt) in
+      let new = mark_at (outcomes_of_mark (mark_of s.known t)) (place_of (outcomes_of_mark (mark_of s.known t)) (at table t)) in
       let len : length (slice_set s.known.marks t new) ≡ length s.known.marks = length-set s.known.marks t new in
       inr (
         o.0,
-        stays refl going (let e = opens_set s.known.marks t new opened' (outcome_closed (mark s.known t) (place_of (outcomes_of_mark (mark s.known t)) (at table t))) in omega (arith, e)) (record {
+        stays refl going (let e = opens_set s.known.marks t new opened' (outcome_closed (mark_of s.known t) (place_of (outcomes_of_mark (mark_of s.known t)) (at table t))) in omega (arith, e)) (record {
           fits = mark_fits table s.statics s.known.marks s.classes s.others t new o.1 l.fits;
           vars = l.vars;
           slots = l.slots;
@@ -180,7 +180,7 @@ module _ (choices : List Choice) (code : List Line) (table : Table) (base : ℕ)
       )
 
   -- the run stops
-  pub stops_result : (i : Instr) (d : Decision) (m' : Regs) → IsLine i → led choices i p s.known.pc m ≡ (after.Stops p, m') → Result i (Stops d)
+  pub stops_result : (i : Instr) (d : Decision) (m' : Regs) → IsLine i → leads choices i p s.known.pc m ≡ (after.Stops p, m') → Result i (Stops d)
   stops_result i d m' is e = inr (
     same_decision d,
     halts p m' refl (led_is i is ∙ e) (record {
@@ -196,7 +196,7 @@ module _ (choices : List Choice) (code : List Line) (table : Table) (base : ℕ)
   )
 
   -- the function returns
-  pub returns_result : (i : Instr) (x : Option Term) → IsLine i → led choices i p s.known.pc m ≡ (after.Leaves p (returned_value table x), m) → Result i (Returns x)
+  pub returns_result : (i : Instr) (x : Option Term) → IsLine i → leads choices i p s.known.pc m ≡ (after.Leaves p (returned_value table x), m) → Result i (Returns x)
   returns_result i x is e = inr (
     refl,
     leaves p x refl (led_is i is ∙ e) (record {

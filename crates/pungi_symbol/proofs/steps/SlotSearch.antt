@@ -42,7 +42,7 @@ use Rattle.pungi_symbol.specs.declared.states.spot.Progress.{Progress}
 use Rattle.pungi_symbol.specs.declared.states.spot.Progress.TheVariants.{Looking, Found}
 use Rattle.pungi_symbol.specs.declared.states.spot.Spot.{Spot}
 use Rattle.pungi_symbol.specs.declared.states.spot.Spot.TheVariants.{Global, Field}
-use Rattle.pungi_symbol.specs.states.Known.{count, mark, term_of, find, find_field, find_token, seek, ask_base, at_place, is_field, is_global, base_of, slot_note, spot_of, token_in}
+use Rattle.pungi_symbol.specs.states.Known.{count, mark_of, term_of, find, find_field, find_token, seek, ask_base, at_place, is_field, is_global, base_of, slot_note, spot_of, token_in}
 use Rattle.pungi_symbol.specs.answers.KnownAfter.{instr_of}
 use Rattle.pungi_symbol.specs.runs.ObjectForm.{atoms_in}
 use Rattle.pungi_symbol.specs.runs.Fits.{IsObjectSpot}
@@ -86,8 +86,8 @@ module _ (choices : List Choice) (code : List Line) (table : Table) (base : ℕ)
   -- how the search stands
   pub data Sought (place : Place) : Type 0 where
     seeks_stop : find s.known place ≡ Waits (Stops Quiet) → slot_of place m.vars ≡ None → Sought place
-    seeks_null : (t : ℕ) → find s.known place ≡ Waits (AsksNull t) → is_open (mark s.known t) ≡ true → Sought place
-    seeks_base : (t u i : ℕ) (z : Slot) → find s.known place ≡ Waits (Base t u i) → mark s.known t ≡ IsObject → mark s.known u ≡ IsObject → slot_of place m.vars ≡ Some (z, place_kind place)
+    seeks_null : (t : ℕ) → find s.known place ≡ Waits (AsksNull t) → is_open (mark_of s.known t) ≡ true → Sought place
+    seeks_base : (t u i : ℕ) (z : Slot) → find s.known place ≡ Waits (Base t u i) → mark_of s.known t ≡ IsObject → mark_of s.known u ≡ IsObject → slot_of place m.vars ≡ Some (z, place_kind place)
         → (is_equal (at table t) (at table u) ≡ true → slot_place Slots z ≡ Some i) → (is_equal (at table t) (at table u) ≡ false → slot_place (take (i + 1) Slots) z ≡ None)
         → ((c : ℕ) × (s.known.progress ≡ Looking c) × (c ≤ i) × (i < length s.known.slots)) → Sought place
     seeks_at : (i : ℕ) (z : Slot) → find s.known place ≡ At i → slot_of place m.vars ≡ Some (z, place_kind place) → slot_place Slots z ≡ Some i → Sought place
@@ -105,13 +105,13 @@ module _ (choices : List Choice) (code : List Line) (table : Table) (base : ℕ)
     stop_field : (x : Term) → term_of s.known base' ≡ x → find_field s.known x tag field ≡ Waits (Stops Quiet) → field_of (content_of table x) tag field kind ≡ None → Sought F
     stop_field x e f g = seeks_stop (ap (λ y. find_field s.known y tag field) e ∙ f) (ap (λ c. field_of c tag field kind) (atom_is choices code table base m s going w l p base' h ∙ ap (content_of table) e) ∙ g)
 
-    null_token : (t : ℕ) (r : Mark) → term_of s.known base' ≡ Token t → mark s.known t ≡ r → is_mark r (value.Object 0) ≡ false → find_token s.known t r tag field ≡ Waits (Stops Quiet) → t < count s.known → Sought F
+    null_token : (t : ℕ) (r : Mark) → term_of s.known base' ≡ Token t → mark_of s.known t ≡ r → is_mark r (value.Object 0) ≡ false → find_token s.known t r tag field ≡ Waits (Stops Quiet) → t < count s.known → Sought F
     null_token t r e f no_object g lt = stop_field (Token t) e (ap (λ y. find_token s.known t y tag field) f ∙ g) (no_base (at table t) r tag field kind (subst (λ y. is_mark y (at table t) ≡ true) f (marks choices code table base m s going w l p t lt)) no_object)
 
-    open_token : (t : ℕ) (r : Mark) → term_of s.known base' ≡ Token t → mark s.known t ≡ r → is_open r ≡ true → find_token s.known t r tag field ≡ Waits (AsksNull t) → Sought F
+    open_token : (t : ℕ) (r : Mark) → term_of s.known base' ≡ Token t → mark_of s.known t ≡ r → is_open r ≡ true → find_token s.known t r tag field ≡ Waits (AsksNull t) → Sought F
     open_token t r e f o g = seeks_null t (ap (λ y. find_field s.known y tag field) e ∙ ap (λ y. find_token s.known t y tag field) f ∙ g) (ap is_open f ∙ o)
 
-    module _ (t : ℕ) (e : term_of s.known base' ≡ Token t) (mt : mark s.known t ≡ IsObject) (walked : IsWalked Slots s.known.progress (slot_of F m.vars)) where
+    module _ (t : ℕ) (e : term_of s.known base' ≡ Token t) (mt : mark_of s.known t ≡ IsObject) (walked : IsWalked Slots s.known.progress (slot_of F m.vars)) where
       below_t : t < count s.known
       below_t = object_is_below s.known.marks t mt
 
@@ -141,7 +141,7 @@ module _ (choices : List Choice) (code : List Line) (table : Table) (base : ℕ)
       looked c (Some j) pr e' =
           let w0 : slot_place (take c (map (state_in table) s.known.slots)) Z ≡ None = subst (λ y. slot_place (take c y) Z ≡ None) l.slots (subst (λ o. IsWalked Slots (Looking c) o) slot_is (subst (λ q. IsWalked Slots q (slot_of F m.vars)) pr walked)) in
           let u = base_of (slot_note s.known.slots (c + j)).spot in
-          let mu : mark s.known u ≡ IsObject = spot_object s.known.marks tag field (slot_note s.known.slots (c + j)).spot (walk_field table tag field ot.0 s.known.slots c j w0 e') (w.terms.spots (c + j)) in
+          let mu : mark_of s.known u ≡ IsObject = spot_object s.known.marks tag field (slot_note s.known.slots (c + j)).spot (walk_field table tag field ot.0 s.known.slots c j w0 e') (w.terms.spots (c + j)) in
           let lu = object_is_below s.known.marks u mu in
           let ou = object_value (at table u) (subst (λ y. is_mark y (at table u) ≡ true) mu (marks choices code table base m s going w l p u lu)) in
           let same : is_equal (at table t) (at table u) ≡ (number_of_object (at table u) == ot.0) =
@@ -156,7 +156,7 @@ module _ (choices : List Choice) (code : List Line) (table : Table) (base : ℕ)
       object_token (Found i) pr = seeks_at i Z (find_is ∙ ap (λ q. seek q t tag field s.known.slots) pr) slot_is (subst (λ o. IsWalked Slots (Found i) o) slot_is (subst (λ q. IsWalked Slots q (slot_of F m.vars)) pr walked))
       object_token (Looking c) pr = looked c (position (λ y. is_field tag field y.spot) (drop c s.known.slots)) pr refl
 
-    token_by : (t : ℕ) (r : Mark) → term_of s.known base' ≡ Token t → mark s.known t ≡ r → t < count s.known → IsWalked Slots s.known.progress (slot_of F m.vars) → Sought F
+    token_by : (t : ℕ) (r : Mark) → term_of s.known base' ≡ Token t → mark_of s.known t ≡ r → t < count s.known → IsWalked Slots s.known.progress (slot_of F m.vars) → Sought F
     token_by t Pointer e f lt walked = open_token t Pointer e f refl refl
     token_by t TextPointer e f lt walked = open_token t TextPointer e f refl refl
     token_by t IsNull e f lt walked = null_token t IsNull e f refl refl lt
@@ -169,7 +169,7 @@ module _ (choices : List Choice) (code : List Line) (table : Table) (base : ℕ)
     field_by Null e b walked = stop_field Null e refl refl
     field_by Text e b walked = stop_field Text e refl refl
     field_by (Number n) e b walked = stop_field (Number n) e refl refl
-    field_by (Token t) e b walked = token_by t (mark s.known t) e refl b walked
+    field_by (Token t) e b walked = token_by t (mark_of s.known t) e refl b walked
 
   one_there : (a : Atom) → list_all (is_there s.statics) (a ∷ []) ≡ true → is_there s.statics a ≡ true
   one_there a e = by (is_there s.statics a) e
@@ -187,7 +187,7 @@ module _ (choices : List Choice) (code : List Line) (table : Table) (base : ℕ)
   walked_is i place is e = subst (λ o. IsWalked Slots s.known.progress (slot_at_place o m.vars)) e (subst (λ o. IsWalked Slots s.known.progress (slot_at_place (place_in (instr_of o)) m.vars)) is l.walked)
 
   -- a question about the base of a touched slot
-  pub base_result : (i : Instr) (place : Place) (t u j : ℕ) (z : Slot) → IsLine choices code table base m s going w l p i → place_in i ≡ Some place → mark s.known t ≡ IsObject → mark s.known u ≡ IsObject → slot_of place m.vars ≡ Some (z, place_kind place)
+  pub base_result : (i : Instr) (place : Place) (t u j : ℕ) (z : Slot) → IsLine choices code table base m s going w l p i → place_in i ≡ Some place → mark_of s.known t ≡ IsObject → mark_of s.known u ≡ IsObject → slot_of place m.vars ≡ Some (z, place_kind place)
       → (is_equal (at table t) (at table u) ≡ true → slot_place Slots z ≡ Some j) → (is_equal (at table t) (at table u) ≡ false → slot_place (take (j + 1) Slots) z ≡ None)
       → ((c : ℕ) × (s.known.progress ≡ Looking c) × (c ≤ j) × (j < length s.known.slots)) → Result choices code table base m s going w l p i (Base t u j)
   base_result i place t u j z is e mt mu f hit other before =

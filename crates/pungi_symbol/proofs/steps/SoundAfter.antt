@@ -29,11 +29,11 @@ use Rattle.pungi_api.specs.declared.special.Special.{Special}
 use Rattle.pungi_api.specs.declared.special.Special.TheVariants as special
 use Rattle.pungi_world.specs.Calls.{is_success}
 use Rattle.pungi_code.specs.declared.instr.Instr.TheVariants.{Set, Arith, Fit, Compare, Load, Store, Api, Call, Unset as Forget, Jump, Branch, Return, Fall}
-use Rattle.pungi_symbol.specs.states.Known.{count, mark, term_of, object_of, find, found_at, held_in, spot_of}
+use Rattle.pungi_symbol.specs.states.Known.{count, mark_of, term_of, object_of, find, found_at, held_in, spot_of}
 use Rattle.pungi_symbol.specs.states.Terms.{outcomes_of_mark, outcomes_of_answer, mark_at}
 use Rattle.pungi_symbol.specs.questions.NextQuestion.{first_term, terms_of}
-use Rattle.pungi_symbol.specs.answers.KnownAfter.{next, put as put_known, arrive, answered, form_answer, row_answer, special_answer, term_with, does, load_first, store_first, touched_slot, compared_var, compared, instr_of, api_var, is_same, outcome}
-use Rattle.pungi_symbol.specs.answers.SymbolicState.{can, can_same, are_one, apply, apply_same, weigh, form_weigh, special_weigh, lowered, taken, taken_by, add_term, one_for, new_balance, stored_term, joined, answers}
+use Rattle.pungi_symbol.specs.answers.KnownAfter.{go_on, put as put_known, arrive, put_answer, answer_of_form, answer_of_row, answer_of_special, term_with, does, load_first, store_first, touched_slot, comparison_var, comparison_term, instr_of, call_var, says_same, number_of_outcome}
+use Rattle.pungi_symbol.specs.answers.SymbolicState.{can, can_same, are_one, apply, apply_same, weigh, form_weigh, special_weigh, lower, taken_terms, terms_taken_by, add_term, owed_for, owed_for_answer, stored_term, join, take_answer}
 use Rattle.pungi_symbol.specs.runs.ObjectForm.{atoms_of, atoms_in}
 use Rattle.pungi_symbol.specs.runs.Fits.{AreNotesSound, AreTermsSound}
 use Rattle.pungi_symbol.proofs.states.Terms.{below_more, put_terms, stored_terms, touched_terms, more_terms, null_terms, spot_more, atom_below, object_is_below, open_below}
@@ -57,7 +57,7 @@ first_below : (n : ℕ) (k : Known) (as' : List Atom) → ((a : Atom) → is_the
 first_below n k [] f h = tt
 first_below n k (a ∷ as') f h = f a (all_there n a as' h).0
 
-row_below : (n : ℕ) (a : Answer) → OptionBelow n (row_answer a)
+row_below : (n : ℕ) (a : Answer) → OptionBelow n (answer_of_row a)
 row_below n answer.Void = tt
 row_below n answer.Null = tt
 row_below n answer.New = tt
@@ -70,7 +70,7 @@ row_below n answer.Int = tt
 row_below n answer.Long = tt
 row_below n answer.Text = tt
 
-special_below : (n : ℕ) (sp : Special) (x : Term) → IsBelow n x → OptionBelow n (special_answer sp x)
+special_below : (n : ℕ) (sp : Special) (x : Term) → IsBelow n x → OptionBelow n (answer_of_special sp x)
 special_below n special.IncRef x h = tt
 special_below n special.DecRef x h = tt
 special_below n special.XIncRef x h = tt
@@ -87,7 +87,7 @@ special_below n special.UnpackTuple x h = tt
 special_below n special.DictNext x h = tt
 special_below n special.BuildValue x h = tt
 
-form_below : (n : ℕ) (f : Form) (a : Answer) (x : Term) → IsBelow n x → OptionBelow n (form_answer f a x)
+form_below : (n : ℕ) (f : Form) (a : Answer) (x : Term) → IsBelow n x → OptionBelow n (answer_of_form f a x)
 form_below n form.Plain a x h = row_below n a
 form_below n (form.Special sp) a x h = special_below n sp x h
 
@@ -99,7 +99,7 @@ term_with_below IsObject n = omega arith
 term_with_below IsText n = tt
 term_with_below (IsNumber i) n = tt
 
-zero_one : (r : Mark) → (r ≡ IsObject → ⊥) → one_for r ≡ pos 0
+zero_one : (r : Mark) → (r ≡ IsObject → ⊥) → owed_for r ≡ pos 0
 zero_one Pointer h = refl
 zero_one TextPointer h = refl
 zero_one IsNull h = refl
@@ -107,7 +107,7 @@ zero_one IsObject h = absurd (h refl)
 zero_one IsText h = refl
 zero_one (IsNumber i) h = refl
 
-zero_new : (a : Answer) (r : Mark) → (r ≡ IsObject → ⊥) → new_balance a r ≡ pos 0
+zero_new : (a : Answer) (r : Mark) → (r ≡ IsObject → ⊥) → owed_for_answer a r ≡ pos 0
 zero_new answer.New r h = zero_one r h
 zero_new answer.Borrowed r h = refl
 zero_new answer.BorrowedSure r h = refl
@@ -120,7 +120,7 @@ zero_new answer.Text r h = refl
 zero_new answer.Void r h = refl
 zero_new answer.Null r h = refl
 
-compared_below : (n : ℕ) (b : Bool) (i : Instr) → IsBelow n (compared b i)
+compared_below : (n : ℕ) (b : Bool) (i : Instr) → IsBelow n (comparison_term b i)
 compared_below n b (Set x a) = tt
 compared_below n b (Arith x kind o a c) = tt
 compared_below n b (Fit x kind a) = tt
@@ -136,12 +136,12 @@ compared_below n b (Return o) = tt
 compared_below n b Fall = tt
 
 -- a variable gets an answer
-answered_terms : (k : Known) (x : Option Var) (o : Option Term) → AreTermsSound k.marks k.vars k.slots → OptionBelow (count k) o → AreTermsSound (next (answered x o k)).marks (next (answered x o k)).vars (next (answered x o k)).slots
+answered_terms : (k : Known) (x : Option Var) (o : Option Term) → AreTermsSound k.marks k.vars k.slots → OptionBelow (count k) o → AreTermsSound (go_on (put_answer x o k)).marks (go_on (put_answer x o k)).vars (go_on (put_answer x o k)).slots
 answered_terms k None o t h = t
 answered_terms k (Some x) None t h = t
 answered_terms k (Some x) (Some c) t h = put_terms k.marks k.vars k.slots t x.0 c h
 
-pub answered_marks : (k : Known) (x : Option Var) (o : Option Term) → (next (answered x o k)).marks ≡ k.marks
+pub answered_marks : (k : Known) (x : Option Var) (o : Option Term) → (go_on (put_answer x o k)).marks ≡ k.marks
 answered_marks k None o = refl
 answered_marks k (Some x) None = refl
 answered_marks k (Some x) (Some c) = refl
@@ -156,7 +156,7 @@ module _ (s : State) (w : IsSound s) where
   added : (x : Term) (d : ℤ) (bs : List ℤ) → SoundBalances bs → SoundBalances (add_term s.classes s.known x d bs)
   added x d bs h = added_sound s.statics s.known.marks s.classes bs s.others h (object_of s.known x) d (object_in s.known x)
 
-  lowers : (xs : List Term) (bs : List ℤ) → SoundBalances bs → SoundBalances (lowered s.classes s.known xs bs)
+  lowers : (xs : List Term) (bs : List ℤ) → SoundBalances bs → SoundBalances (lower s.classes s.known xs bs)
   lowers [] bs h = h
   lowers (x ∷ xs) bs h = lowers xs (add_term s.classes s.known x (negsuc 0) bs) (added x (negsuc 0) bs h)
 
@@ -178,13 +178,13 @@ module _ (s : State) (w : IsSound s) where
   special_weighs special.BuildValue x = w.notes
 
   form_weighs : (f : Form) (shape : Shape) (xs : List Term) → SoundBalances (form_weigh s.classes s.known f shape xs s.balances)
-  form_weighs form.Plain shape xs = lowers (taken false shape.row.takes xs) s.balances w.notes
+  form_weighs form.Plain shape xs = lowers (taken_terms false shape.row.takes xs) s.balances w.notes
   form_weighs (form.Special sp) shape xs = special_weighs sp (first_term xs)
 
   atom_is_below : (a : Atom) → is_there s.statics a ≡ true → IsBelow (count s.known) (term_of s.known a)
   atom_is_below a h = atom_below s.known.marks s.known.vars s.known.slots T s.known s.statics a refl w.notes.statics h
 
-  put_sound : (x : Var) (c : Term) → IsBelow (count s.known) c → IsSound (record s { known = next (put_known x.0 c s.known) })
+  put_sound : (x : Var) (c : Term) → IsBelow (count s.known) c → IsSound (record s { known = go_on (put_known x.0 c s.known) })
   put_sound x c h = record { terms = put_terms s.known.marks s.known.vars s.known.slots T x.0 c h; notes = w.notes }
 
   one_there : (a : Atom) → list_all (is_there s.statics) (a ∷ []) ≡ true → is_there s.statics a ≡ true
@@ -201,7 +201,7 @@ module _ (s : State) (w : IsSound s) where
     notes = added (term_of s.known a) (negsuc 0) _ (added (held_in s.known (find s.known place)) (pos 1) s.balances w.notes);
   }
   does_sound (Api x shape as' outs) h =
-      let o = form_answer shape.row.form shape.row.answer (first_term (terms_of s.known as')) in
+      let o = answer_of_form shape.row.form shape.row.answer (first_term (terms_of s.known as')) in
       record {
         terms = answered_terms s.known x o T (form_below (count s.known) shape.row.form shape.row.answer (first_term (terms_of s.known as')) (first_below s.statics s.known as' atom_is_below h));
         notes = subst (λ ms. AreNotesSound s.statics ms s.classes (form_weigh s.classes s.known shape.row.form shape (terms_of s.known as') s.balances) s.others) (sym (answered_marks s.known x o)) (form_weighs shape.row.form shape (terms_of s.known as'));
@@ -229,10 +229,10 @@ module _ (s : State) (w : IsSound s) where
   new_notes : (r : Mark) (d : ℤ) (bs : List ℤ) → SoundBalances bs → ((r ≡ IsObject → ⊥) → d ≡ pos 0) → AreNotesSound s.statics (s.known.marks ++ r ∷ []) (s.classes ++ count s.known ∷ []) (bs ++ d ∷ []) s.others
   new_notes r d bs h z = arrived_sound s.statics s.known.marks s.classes bs s.others h r d z
 
-  arrive_sound : (r : Mark) (d : ℤ) (bs : List ℤ) → SoundBalances bs → ((r ≡ IsObject → ⊥) → d ≡ pos 0) → IsSound (record (joined d bs s) { known = arrive r s.known })
+  arrive_sound : (r : Mark) (d : ℤ) (bs : List ℤ) → SoundBalances bs → ((r ≡ IsObject → ⊥) → d ≡ pos 0) → IsSound (record (join d bs s) { known = arrive r s.known })
   arrive_sound r d bs h z = record { terms = arrived_terms r; notes = new_notes r d bs h z }
 
-  load_sound : (i : Instr) (r : Mark) → SpotOk i s.known → IsSound (record (joined (pos 0) s.balances s) { known = load_first i r s.known })
+  load_sound : (i : Instr) (r : Mark) → SpotOk i s.known → IsSound (record (join (pos 0) s.balances s) { known = load_first i r s.known })
   load_sound (Load x place) r ok =
       let ms = s.known.marks ++ r ∷ [] in
       let vars = slice_set s.known.vars x.0 (Token (count s.known)) in
@@ -255,17 +255,17 @@ module _ (s : State) (w : IsSound s) where
   load_sound Fall r ok = arrive_sound r (pos 0) s.balances w.notes (λ _. refl)
 
   abbrev Stored : Instr → List ℤ
-  Stored i = lowered s.classes s.known (stored_term i s.known) s.balances
+  Stored i = lower s.classes s.known (stored_term i s.known) s.balances
 
-  stored_sound : (i : Instr) (r : Mark) → IsSound (record (joined (one_for r) (Stored i) s) { known = arrive r s.known })
-  stored_sound i r = arrive_sound r (one_for r) (Stored i) (lowers (stored_term i s.known) s.balances w.notes) (zero_one r)
+  stored_sound : (i : Instr) (r : Mark) → IsSound (record (join (owed_for r) (Stored i) s) { known = arrive r s.known })
+  stored_sound i r = arrive_sound r (owed_for r) (Stored i) (lowers (stored_term i s.known) s.balances w.notes) (zero_one r)
 
-  store_sound : (i : Instr) (r : Mark) → SpotOk i s.known → list_all (is_there s.statics) (atoms_of i) ≡ true → IsSound (record (joined (one_for r) (Stored i) s) { known = store_first i r s.known })
+  store_sound : (i : Instr) (r : Mark) → SpotOk i s.known → list_all (is_there s.statics) (atoms_of i) ≡ true → IsSound (record (join (owed_for r) (Stored i) s) { known = store_first i r s.known })
   store_sound (Store place a) r ok h =
       record {
         terms = touched_terms (s.known.marks ++ r ∷ []) s.known.vars s.known.slots (arrived_terms r) (touched_slot s.known (spot_of s.known place) (term_of s.known a))
             (arrived_below r (term_of s.known a) (atom_is_below a (all_there s.statics a (atoms_in place) h).0)) (last_below r) (spot_more s.known.marks r (spot_of s.known place) ok);
-        notes = new_notes r (one_for r) (Stored (Store place a)) (lowers (term_of s.known a ∷ []) s.balances w.notes) (zero_one r);
+        notes = new_notes r (owed_for r) (Stored (Store place a)) (lowers (term_of s.known a ∷ []) s.balances w.notes) (zero_one r);
       }
   store_sound (Set x a) r ok h = stored_sound (Set x a) r
   store_sound (Arith x kind o a b) r ok h = stored_sound (Arith x kind o a b) r
@@ -281,16 +281,16 @@ module _ (s : State) (w : IsSound s) where
   store_sound Fall r ok h = stored_sound Fall r
 
   -- which of two answers is given
-  pub decided : (t u : ℕ) (d : Decision) → can_same s t u d ≡ true → d ≡ IsSame (is_same d)
+  pub decided : (t u : ℕ) (d : Decision) → can_same s t u d ≡ true → d ≡ IsSame (says_same d)
   decided t u Quiet c = absurd (let bad : false ≡ true = c in cc)
   decided t u (Outcome n) c = absurd (let bad : false ≡ true = c in cc)
   decided t u (Order o) c = absurd (let bad : false ≡ true = c in cc)
   decided t u (IsSame b) c = refl
 
-  pub same_sound : (t u : ℕ) (d : Decision) (k' : Known) → mark s.known t ≡ IsObject → mark s.known u ≡ IsObject → can_same s t u d ≡ true → k'.marks ≡ s.known.marks → AreTermsSound k'.marks k'.vars k'.slots
-      → IsSound (record (apply_same (are_one s.classes t u) (is_same d) t u s) { known = k' })
+  pub same_sound : (t u : ℕ) (d : Decision) (k' : Known) → mark_of s.known t ≡ IsObject → mark_of s.known u ≡ IsObject → can_same s t u d ≡ true → k'.marks ≡ s.known.marks → AreTermsSound k'.marks k'.vars k'.slots
+      → IsSound (record (apply_same (are_one s.classes t u) (says_same d) t u s) { known = k' })
   same_sound t u d k' mt mu c e terms =
-      let b = is_same d in
+      let b = says_same d in
       let way = way_is s t u b (subst (λ z. can_same s t u z ≡ true) (decided t u d c) c) in
       let s' = apply_same (are_one s.classes t u) b t u s in
       let notes = way_sound s t u b s' w mt mu (object_is_below s.known.marks t mt) (object_is_below s.known.marks u mu) way in
@@ -299,29 +299,29 @@ module _ (s : State) (w : IsSound s) where
         notes = subst (λ n. AreNotesSound n k'.marks s'.classes s'.balances s'.others) (sym (way_statics s t u b s' way)) (subst (λ ms. AreNotesSound s.statics ms s'.classes s'.balances s'.others) (sym e) notes);
       }
 
-  answers_sound : (i : Instr) (a : Answer) (r : Mark) → IsSound (record (answers i a r s) { known = next (answered (api_var i) (Some (term_with r (count s.known))) (arrive r s.known)) })
+  answers_sound : (i : Instr) (a : Answer) (r : Mark) → IsSound (record (take_answer i a r s) { known = go_on (put_answer (call_var i) (Some (term_with r (count s.known))) (arrive r s.known)) })
   answers_sound i a r =
       let o = Some (term_with r (count s.known)) in
-      let bs = lowered s.classes s.known (taken_by (is_success a (Some (value_of_mark r))) i s.known) s.balances in
+      let bs = lower s.classes s.known (terms_taken_by (is_success a (Some (value_of_mark r))) i s.known) s.balances in
       record {
-        terms = answered_terms (arrive r s.known) (api_var i) o (arrived_terms r) (let e = length-append s.known.marks (r ∷ []) in subst (λ n. IsBelow n (term_with r (count s.known))) (sym e) (term_with_below r (count s.known)));
-        notes = subst (λ ms. AreNotesSound s.statics ms (s.classes ++ count s.known ∷ []) (bs ++ new_balance a r ∷ []) s.others) (sym (answered_marks (arrive r s.known) (api_var i) o))
-            (new_notes r (new_balance a r) bs (lowers (taken_by (is_success a (Some (value_of_mark r))) i s.known) s.balances w.notes) (zero_new a r));
+        terms = answered_terms (arrive r s.known) (call_var i) o (arrived_terms r) (let e = length-append s.known.marks (r ∷ []) in subst (λ n. IsBelow n (term_with r (count s.known))) (sym e) (term_with_below r (count s.known)));
+        notes = subst (λ ms. AreNotesSound s.statics ms (s.classes ++ count s.known ∷ []) (bs ++ owed_for_answer a r ∷ []) s.others) (sym (answered_marks (arrive r s.known) (call_var i) o))
+            (new_notes r (owed_for_answer a r) bs (lowers (terms_taken_by (is_success a (Some (value_of_mark r))) i s.known) s.balances w.notes) (zero_new a r));
       }
 
   pub apply_sound : (o : Option Line) (q : Question) (d : Decision) → list_all (is_there s.statics) (atoms_of (instr_of o)) ≡ true → IsAsked (instr_of o) s.known q → can s q d ≡ true → IsSound (apply o q d s)
   apply_sound o (Does d') d h a c = does_line o h d d'
   apply_sound o (Touches r) d h a c = load_sound (instr_of o) r a.0
-  apply_sound o (Overwrites r) d h a c = store_sound (instr_of o) (mark_at (outcomes_of_mark r) (outcome d)) a.0 h
+  apply_sound o (Overwrites r) d h a c = store_sound (instr_of o) (mark_at (outcomes_of_mark r) (number_of_outcome d)) a.0 h
   apply_sound o (AsksNull t) d h a c =
-      let r = mark_at (outcomes_of_mark (mark s.known t)) (outcome d) in
+      let r = mark_at (outcomes_of_mark (mark_of s.known t)) (number_of_outcome d) in
       record {
         terms = null_terms s.known.marks s.known.vars s.known.slots T t r a;
         notes = null_sound s.statics s.known.marks s.classes s.balances s.others w.notes t r (open_below s.known.marks t a) a;
       }
   apply_sound o (Base t u j) d h a c = same_sound t u d _ a.0 a.1 c refl T
-  apply_sound o (Answers x) d h a c = answers_sound (instr_of o) x (mark_at (outcomes_of_answer x) (outcome d))
-  apply_sound o (Same t u) d h a c = same_sound t u d _ a.0 a.1 c refl (put_terms s.known.marks s.known.vars s.known.slots T (compared_var (instr_of o)) (compared (is_same d) (instr_of o)) (compared_below (count s.known) (is_same d) (instr_of o)))
+  apply_sound o (Answers x) d h a c = answers_sound (instr_of o) x (mark_at (outcomes_of_answer x) (number_of_outcome d))
+  apply_sound o (Same t u) d h a c = same_sound t u d _ a.0 a.1 c refl (put_terms s.known.marks s.known.vars s.known.slots T (comparison_var (instr_of o)) (comparison_term (says_same d) (instr_of o)) (compared_below (count s.known) (says_same d) (instr_of o)))
   apply_sound o (Returns x) d h a c = record { terms = T; notes = w.notes }
   apply_sound o (Stops d') d h a c = record { terms = T; notes = w.notes }
   apply_sound o Over d h a c = w

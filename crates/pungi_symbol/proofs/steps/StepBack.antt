@@ -25,9 +25,9 @@ use Rattle.pungi_api.specs.declared.answer.Answer.{Answer}
 use Rattle.pungi_api.specs.declared.answer.Answer.TheVariants as answers
 use Rattle.pungi_code.specs.declared.instr.Instr.TheVariants.{Set, Arith, Fit, Compare, Load, Store, Api, Call, Unset as Forget, Jump, Branch, Return, Fall}
 use Rattle.pungi_symbol.specs.states.Terms.{outcomes_of_mark, outcomes_of_answer, mark_at, place_of}
-use Rattle.pungi_symbol.specs.states.Known.{count, mark}
+use Rattle.pungi_symbol.specs.states.Known.{count, mark_of}
 use Rattle.pungi_symbol.specs.questions.NextQuestion.{first_term, terms_of}
-use Rattle.pungi_symbol.specs.answers.KnownAfter.{arrive, form_answer, term_with, does, load_first, store_first, with_line, instr_of, api_var, is_same, outcome}
+use Rattle.pungi_symbol.specs.answers.KnownAfter.{arrive, answer_of_form, term_with, does, load_first, store_first, perform_line, instr_of, call_var, says_same, number_of_outcome}
 use Rattle.pungi_symbol.specs.answers.SymbolicState.{can, can_same, are_one, apply, apply_same, is_decision, is_order, is_outcome}
 use Rattle.pungi_symbol.specs.runs.Fits.{Fits}
 use Rattle.pungi_meaning.specs.Values.{is_equal}
@@ -87,7 +87,7 @@ decision_says (IsSame false) (Order o) e = no_way e
 lt_says : (k n : ℕ) → nat_lt k n ≡ true → k < n
 lt_says k n e = grind (arith, nat_tests)
 
-pub outcome_says : (n : ℕ) (d : Decision) → is_outcome n d ≡ true → (d ≡ Outcome (outcome d)) × (outcome d < n)
+pub outcome_says : (n : ℕ) (d : Decision) → is_outcome n d ≡ true → (d ≡ Outcome (number_of_outcome d)) × (number_of_outcome d < n)
 outcome_says n Quiet e = no_way e
 outcome_says n (Outcome k) e = (refl, lt_says k n e)
 outcome_says n (Order o) e = no_way e
@@ -193,7 +193,7 @@ does_marks k (Fit x kind a) = refl
 does_marks k (Compare x c a b) = refl
 does_marks k (Load x place) = refl
 does_marks k (Store place a) = refl
-does_marks k (Api x shape as' outs) = answered_marks k x (form_answer shape.row.form shape.row.answer (first_term (terms_of k as')))
+does_marks k (Api x shape as' outs) = answered_marks k x (answer_of_form shape.row.form shape.row.answer (first_term (terms_of k as')))
 does_marks k (Call x f as') = refl
 does_marks k (Forget x) = refl
 does_marks k (Jump to) = refl
@@ -201,7 +201,7 @@ does_marks k (Branch a this other) = refl
 does_marks k (Return o) = refl
 does_marks k Fall = refl
 
-pub line_marks : (k : Known) (o : Option Line) → (with_line o (λ i. does k i) k).marks ≡ k.marks
+pub line_marks : (k : Known) (o : Option Line) → (perform_line o (λ i. does k i) k).marks ≡ k.marks
 line_marks k None = refl
 line_marks k (Some line) = does_marks k line.instr
 
@@ -245,11 +245,11 @@ module _ (table : Table) (s : State) (w : IsSound s) where
   more_back : (r : Mark) → FitsMore (s.known.marks ++ r ∷ []) → FitsState table s × (is_mark r (at table (count s.known)) ≡ true)
   more_back r f = arrives_back table s.statics s.known.marks s.classes s.others r w.notes.classes_long f
 
-  same_back : (t u : ℕ) (d : Decision) → mark s.known t ≡ IsObject → mark s.known u ≡ IsObject → can_same s t u d ≡ true
-      → Fits table (apply_same (are_one s.classes t u) (is_same d) t u s).statics s.known.marks (apply_same (are_one s.classes t u) (is_same d) t u s).classes (apply_same (are_one s.classes t u) (is_same d) t u s).others
+  same_back : (t u : ℕ) (d : Decision) → mark_of s.known t ≡ IsObject → mark_of s.known u ≡ IsObject → can_same s t u d ≡ true
+      → Fits table (apply_same (are_one s.classes t u) (says_same d) t u s).statics s.known.marks (apply_same (are_one s.classes t u) (says_same d) t u s).classes (apply_same (are_one s.classes t u) (says_same d) t u s).others
       → FitsState table s × (IsSame (is_equal (at table t) (at table u)) ≡ d)
   same_back t u d mt mu c f =
-      let b = is_same d in
+      let b = says_same d in
       let is = decided s w t u d c in
       let way = way_is s t u b (subst (λ z. can_same s t u z ≡ true) is c) in
       let s' = apply_same (are_one s.classes t u) b t u s in
@@ -257,8 +257,8 @@ module _ (table : Table) (s : State) (w : IsSound s) where
       let r = way_back s t u table w mt mu (object_is_below s.known.marks t mt) (object_is_below s.known.marks u mu) b s' way g in
       (r.0, ap IsSame r.1 ∙ sym is)
 
-  outcome_back : (ms : List Mark) (d : Decision) (v : Value) → AreApart ms → is_outcome (length ms) d ≡ true → is_mark (mark_at ms (outcome d)) v ≡ true → Outcome (place_of ms v) ≡ d
-  outcome_back ms d v a c h = let o = outcome_says (length ms) d c in ap Outcome (place_back ms (outcome d) v a o.1 h) ∙ sym o.0
+  outcome_back : (ms : List Mark) (d : Decision) (v : Value) → AreApart ms → is_outcome (length ms) d ≡ true → is_mark (mark_at ms (number_of_outcome d)) v ≡ true → Outcome (place_of ms v) ≡ d
+  outcome_back ms d v a c h = let o = outcome_says (length ms) d c in ap Outcome (place_back ms (number_of_outcome d) v a o.1 h) ∙ sym o.0
 
   pub apply_back : (o : Option Line) (q : Question) (d : Decision) → IsAsked (instr_of o) s.known q → can s q d ≡ true → FitsState table (apply o q d s) → FitsState table s × (answer table s.known q ≡ d)
   apply_back o (Does d') d a c f = (subst FitsMarks (line_marks s.known o) f, decision_says d' d c)
@@ -266,18 +266,18 @@ module _ (table : Table) (s : State) (w : IsSound s) where
       let g = more_back r (subst FitsMore (load_marks (instr_of o) r s.known) f) in
       (g.0, decision_says Quiet d c)
   apply_back o (Overwrites r) d a c f =
-      let r' = mark_at (outcomes_of_mark r) (outcome d) in
+      let r' = mark_at (outcomes_of_mark r) (number_of_outcome d) in
       let g = more_back r' (subst FitsMore (store_marks (instr_of o) r' s.known) f) in
       (g.0, outcome_back (outcomes_of_mark r) d (at table (count s.known)) (mark_apart r) c g.1)
   apply_back o (AsksNull t) d a c f =
-      let old = mark s.known t in
+      let old = mark_of s.known t in
       let said = outcome_says (length (outcomes_of_mark old)) d c in
-      let g = mark_back table s.statics s.known.marks s.classes s.others t (mark_at (outcomes_of_mark old) (outcome d)) old (open_below s.known.marks t a) refl (λ h. weaker old (outcome d) (at table t) a said.1 h) f in
+      let g = mark_back table s.statics s.known.marks s.classes s.others t (mark_at (outcomes_of_mark old) (number_of_outcome d)) old (open_below s.known.marks t a) refl (λ h. weaker old (number_of_outcome d) (at table t) a said.1 h) f in
       (g.0, outcome_back (outcomes_of_mark old) d (at table t) (mark_apart old) c g.1)
   apply_back o (Base t u j) d a c f = same_back t u d a.0 a.1 c f
   apply_back o (Answers x) d a c f =
-      let r = mark_at (outcomes_of_answer x) (outcome d) in
-      let g = more_back r (subst FitsMore (answered_marks (arrive r s.known) (api_var (instr_of o)) (Some (term_with r (count s.known)))) f) in
+      let r = mark_at (outcomes_of_answer x) (number_of_outcome d) in
+      let g = more_back r (subst FitsMore (answered_marks (arrive r s.known) (call_var (instr_of o)) (Some (term_with r (count s.known)))) f) in
       (g.0, outcome_back (outcomes_of_answer x) d (at table (count s.known)) (answer_apart x) c g.1)
   apply_back o (Same t u) d a c f = same_back t u d a.0 a.1 c f
   apply_back o (Returns x) d a c f = (f, decision_says Quiet d c)
@@ -292,17 +292,17 @@ module _ (table : Table) (s : State) (w : IsSound s) where
       let g = more_back r (subst FitsMore (load_marks (instr_of o) r s.known) f) in
       (ap (is_mark r) (sym e) ∙ g.1, b, y)
   came_in o (Overwrites r) d c n a ok f e b y =
-      let r' = mark_at (outcomes_of_mark r) (outcome d) in
+      let r' = mark_at (outcomes_of_mark r) (number_of_outcome d) in
       let said = outcome_says (length (outcomes_of_mark r)) d ok in
       let g = more_back r' (subst FitsMore (store_marks (instr_of o) r' s.known) f) in
-      (weaker r (outcome d) (value_of c) a.1 said.1 (ap (is_mark r') (sym e) ∙ g.1), b, y)
+      (weaker r (number_of_outcome d) (value_of c) a.1 said.1 (ap (is_mark r') (sym e) ∙ g.1), b, y)
   came_in o (AsksNull t) d c n a ok f e b y = tt
   came_in o (Base t u j) d c n a ok f e b y = tt
   came_in o (Answers x) d c n a ok f e b y =
-      let r = mark_at (outcomes_of_answer x) (outcome d) in
+      let r = mark_at (outcomes_of_answer x) (number_of_outcome d) in
       let said = outcome_says (length (outcomes_of_answer x)) d ok in
-      let g = more_back r (subst FitsMore (answered_marks (arrive r s.known) (api_var (instr_of o)) (Some (term_with r (count s.known)))) f) in
-      ((outcome d, said.1, ap (is_mark r) (sym e) ∙ g.1), b, y)
+      let g = more_back r (subst FitsMore (answered_marks (arrive r s.known) (call_var (instr_of o)) (Some (term_with r (count s.known)))) f) in
+      ((number_of_outcome d, said.1, ap (is_mark r) (sym e) ∙ g.1), b, y)
   came_in o (Same t u) d c n a ok f e b y = tt
   came_in o (Returns x) d c n a ok f e b y = tt
   came_in o (Stops d') d c n a ok f e b y = tt

@@ -19,10 +19,10 @@ use Rattle.pungi_symbol.specs.runs.RunInState.{answer, Lies}
 use Rattle.std.specs.Prelude.{◌&&◌}
 use Rattle.std.specs.List.{list_all}
 use Rattle.pungi_code.specs.declared.instr.Instr.TheVariants.{Set, Arith, Fit, Compare, Load, Store, Api, Call, Unset as Forget, Jump, Branch, Return, Fall}
-use Rattle.pungi_symbol.specs.questions.NextQuestion.{ask, ask_of, ask_line, ask_while}
+use Rattle.pungi_symbol.specs.questions.NextQuestion.{ask, asks_instr, asks_line, ask_while}
 use Rattle.pungi_symbol.specs.answers.SymbolicState.{can, apply}
-use Rattle.pungi_symbol.specs.runs.ObjectForm.{is_object_instr, is_told_here, atoms_of, atoms_in}
-use Rattle.pungi_symbol.specs.runs.OneInstruction.{led_at, led_line}
+use Rattle.pungi_symbol.specs.runs.ObjectForm.{is_object_instr, is_known_here, atoms_of, atoms_in}
+use Rattle.pungi_symbol.specs.runs.OneInstruction.{leads_at, leads_line}
 use Rattle.pungi_symbol.proofs.steps.Rows.{all_there}
 use Rattle.pungi_symbol.proofs.steps.ChoicesForAnswers.{Lacks}
 use Rattle.pungi_symbol.proofs.steps.RunInState.{Moved, halts, effort, Result, Linked, IsLine}
@@ -40,7 +40,7 @@ one_there : (n : ℕ) (a : Atom) → list_all (is_there n) (a ∷ []) ≡ true �
 one_there n a e = (all_there n a [] e).0
 
 module _ (choices : List Choice) (code : List Line) (table : Table) (base : ℕ) (m : Regs) (s : State) (going : s.known.status ≡ status.Going) (w : IsSound s) (l : Lies code table base m s) (p : Pos) where
-  instr_by : (i : Instr) → Linked table base choices → IsLine choices code table base m s going w l p i → is_told_here i ≡ true → list_all (is_there s.statics) (atoms_of i) ≡ true → Result choices code table base m s going w l p i (ask_of s.known i)
+  instr_by : (i : Instr) → Linked table base choices → IsLine choices code table base m s going w l p i → is_known_here i ≡ true → list_all (is_there s.statics) (atoms_of i) ≡ true → Result choices code table base m s going w l p i (asks_instr s.known i)
   instr_by (Set x a) linked is told h = set_result choices code table base m s going w l p x a is (one_there s.statics a h)
   instr_by (Arith x kind o a b) linked is told h = let r = all_there s.statics a (b ∷ []) h in arith_result choices code table base m s going w l p x kind o a b is r.0 (one_there s.statics b r.1)
   instr_by (Fit x kind a) linked is told h = fit_result choices code table base m s going w l p x kind a is (one_there s.statics a h)
@@ -55,25 +55,25 @@ module _ (choices : List Choice) (code : List Line) (table : Table) (base : ℕ)
   instr_by (Return o) linked is told h = return_result choices code table base m s going w l p o is h
   instr_by Fall linked is told h = fall_result choices code table base m s going w l p is
 
-  pub instr_result : (i : Instr) → Linked table base choices → IsLine choices code table base m s going w l p i → is_object_instr s.statics i ≡ true → Result choices code table base m s going w l p i (ask_of s.known i)
-  instr_result i linked is e = let r = two_true (is_told_here i) (list_all (is_there s.statics) (atoms_of i)) e in instr_by i linked is r.0 r.1
+  pub instr_result : (i : Instr) → Linked table base choices → IsLine choices code table base m s going w l p i → is_object_instr s.statics i ≡ true → Result choices code table base m s going w l p i (asks_instr s.known i)
+  instr_result i linked is e = let r = two_true (is_known_here i) (list_all (is_there s.statics) (atoms_of i)) e in instr_by i linked is r.0 r.1
 
 -- each line of a code has the object form
 abbrev pub AreObjectLines : ℕ → List Line → Type 0
 AreObjectLines n code = (pc : ℕ) (line : Line) → slice_get code pc ≡ Some line → is_object_instr n line.instr ≡ true
 
-pub going_ask : (code : List Line) (k : Known) → k.status ≡ status.Going → ask code k ≡ ask_line k (slice_get code k.pc)
-going_ask code k e = ap (λ z. ask_while z (ask_line k (slice_get code k.pc))) e
+pub going_ask : (code : List Line) (k : Known) → k.status ≡ status.Going → ask code k ≡ asks_line k (slice_get code k.pc)
+going_ask code k e = ap (λ z. ask_while z (asks_line k (slice_get code k.pc))) e
 
 -- the step of a run from a moment that lies in a state
 module _ (choices : List Choice) (code : List Line) (table : Table) (base : ℕ) (m : Regs) (s : State) (going : s.known.status ≡ status.Going) (w : IsSound s) (l : Lies code table base m s) where
   abbrev pub Stepped : Option Line → Question → Type 0
-  Stepped line q = ((m' : Regs) × (led_at choices code s.known.pc m ≡ (after.Wants, m')) × Lacks m.world choices (length m.used) q) ⊎ ((can s q (answer table s.known q) ≡ true) × Moved choices code table base s.known.pc (effort s.known) m (apply line q (answer table s.known q) s))
+  Stepped line q = ((m' : Regs) × (leads_at choices code s.known.pc m ≡ (after.Wants, m')) × Lacks m.world choices (length m.used) q) ⊎ ((can s q (answer table s.known q) ≡ true) × Moved choices code table base s.known.pc (effort s.known) m (apply line q (answer table s.known q) s))
 
-  line_by : (o : Option Line) → Linked table base choices → slice_get code s.known.pc ≡ o → ((line : Line) → o ≡ Some line → is_object_instr s.statics line.instr ≡ true) → Stepped o (ask_line s.known o)
+  line_by : (o : Option Line) → Linked table base choices → slice_get code s.known.pc ≡ o → ((line : Line) → o ≡ Some line → is_object_instr s.statics line.instr ≡ true) → Stepped o (asks_line s.known o)
   line_by None linked e form = inr (
     refl,
-    halts _ m refl (ap (λ o. led_line choices o s.known.pc m) e) (record {
+    halts _ m refl (ap (λ o. leads_line choices o s.known.pc m) e) (record {
       fits = l.fits;
       vars = l.vars;
       slots = l.slots;

@@ -1,4 +1,4 @@
--- What the world answers at the first touch of a slot and at calls, and what an object is owed then.
+-- What the world returns at the first touch of a slot and at calls, and what an object is owed then.
 use Rattle.std.proofs.Common.{◌≡◌, ℕ, zero, suc, ◌≤◌, ℤ, negsuc, ◌+ℤ◌, List, [], ◌∷◌, length, drop, Bool, true, false, refl, sym, ap, ◌∙◌, subst, arith, ◌⊎◌, inl, inr, cond, Some, None}
 use Rattle.std.specs.Prelude.{slice_get, ◌||◌, ◌&&◌, not, nat_le, Ok, Err}
 use Rattle.std.proofs.lemmas.Int.{ints}
@@ -19,12 +19,12 @@ use Rattle.pungi_world.specs.declared.slot.Slot.TheVariants as slot
 use Rattle.pungi_world.specs.declared.touch.Touch.{Touch}
 use Rattle.pungi_world.specs.declared.world.World.{World}
 use Rattle.pungi_world.specs.Choices.{value_of, is_null, is_text}
-use Rattle.pungi_world.specs.Counts.{counted_value, handed_over, with_value}
+use Rattle.pungi_world.specs.Counts.{count_value, hand_over, with_value}
 use Rattle.pungi_world.specs.Escapes.{is_this_object}
-use Rattle.pungi_world.specs.Slots.{is_made, is_fresh, is_old, is_content, found, with_content, with_slot, touched_at, touched, place_of}
+use Rattle.pungi_world.specs.Slots.{is_made, is_fresh, is_old, is_content, find_content, with_content, with_slot, touch_at, touch, place_of}
 use Rattle.pungi_symbol.specs.declared.states.mark.Mark.TheVariants.{Pointer, TextPointer}
 use Rattle.pungi_symbol.specs.states.Terms.{is_mark}
-use Rattle.pungi_symbol.specs.questions.NextQuestion.{contents}
+use Rattle.pungi_symbol.specs.questions.NextQuestion.{content_mark}
 use Rattle.pungi_symbol.specs.runs.ObjectForm.{is_pointer}
 use Rattle.pungi_symbol.specs.runs.RunInState.{owed, IsOf}
 use Rattle.pungi_symbol.proofs.states.NamedObjects.{part}
@@ -76,13 +76,13 @@ of_more n m (value.Int i) le h = tt
 of_more n m value.Text le h = tt
 
 -- a count changes; an object is taken over
-pub counted_owed : (w : World) (v : Value) (by : ℤ) (o : ℕ) → IsOf (length w.accounts) v → owed (counted_value w v by) o ≡ owed w o +ℤ part (is_this_object v o) by
+pub counted_owed : (w : World) (v : Value) (by : ℤ) (o : ℕ) → IsOf (length w.accounts) v → owed (count_value w v by) o ≡ owed w o +ℤ part (is_this_object v o) by
 counted_owed w value.Null by o h = omega (arith, ints)
 counted_owed w (value.Object k) by o h = owed_counted w k by o h
 counted_owed w (value.Int n) by o h = omega (arith, ints)
 counted_owed w value.Text by o h = omega (arith, ints)
 
-pub handed_owed : (w : World) (v : Value) (o : ℕ) → IsOf (length w.accounts) v → owed (handed_over w v) o ≡ owed w o +ℤ part (is_this_object v o) (negsuc 0)
+pub handed_owed : (w : World) (v : Value) (o : ℕ) → IsOf (length w.accounts) v → owed (hand_over w v) o ≡ owed w o +ℤ part (is_this_object v o) (negsuc 0)
 handed_owed w value.Null o h = omega (arith, ints)
 handed_owed w (value.Object k) o h = owed_handed w k o h
 handed_owed w (value.Int n) o h = omega (arith, ints)
@@ -100,13 +100,13 @@ keeps_self w = record { accounts = refl; slots = refl; unmade = λ h. h }
 pub keeps_then : (a b c : World) → Keeps a b → Keeps b c → Keeps a c
 keeps_then a b c f g = record { accounts = g.accounts ∙ f.accounts; slots = g.slots ∙ f.slots; unmade = λ h. g.unmade (f.unmade h) }
 
-pub counted_keeps : (w : World) (v : Value) (by : ℤ) → Keeps w (counted_value w v by)
+pub counted_keeps : (w : World) (v : Value) (by : ℤ) → Keeps w (count_value w v by)
 counted_keeps w value.Null by = keeps_self w
 counted_keeps w (value.Object k) by = record { accounts = length-set w.accounts k _; slots = refl; unmade = λ h. replaced_unmade w k _ (h k) h }
 counted_keeps w (value.Int n) by = keeps_self w
 counted_keeps w value.Text by = keeps_self w
 
-pub handed_keeps : (w : World) (v : Value) → Keeps w (handed_over w v)
+pub handed_keeps : (w : World) (v : Value) → Keeps w (hand_over w v)
 handed_keeps w value.Null = keeps_self w
 handed_keeps w (value.Object k) = record { accounts = length-set w.accounts k _; slots = refl; unmade = λ h. replaced_unmade w k _ (h k) h }
 handed_keeps w (value.Int n) = keeps_self w
@@ -128,8 +128,8 @@ head_drop (d ∷ choices) (suc n) c e = head_drop choices n c e
 
 -- what a slot held at entry
 pub data Found (w : World) (kind : Param) (cs : List Choice) : Type 0 where
-  there : (c : Choice) (rest : List Choice) → cs ≡ c ∷ rest → is_content w kind c ≡ true → found w kind cs ≡ Ok (content.Holds (value_of c), 1) → Found w kind cs
-  missing : found w kind cs ≡ Err halt.NeedsChoice → Found w kind cs
+  there : (c : Choice) (rest : List Choice) → cs ≡ c ∷ rest → is_content w kind c ≡ true → find_content w kind cs ≡ Ok (content.Holds (value_of c), 1) → Found w kind cs
+  missing : find_content w kind cs ≡ Err halt.NeedsChoice → Found w kind cs
 
 found_by : (w : World) (kind : Param) (c : Choice) (rest : List Choice) (b : Bool) → is_content w kind c ≡ b → Found w kind (c ∷ rest)
 found_by w kind c rest true e = there c rest refl e (ap (λ b. cond b (Ok (content.Holds (value_of c), 1)) (Err halt.NeedsChoice)) e)
@@ -149,17 +149,17 @@ Tc w r = record { place = length w.slots; used = r.1 }
 abbrev Tw : World → Slot → Content × ℕ → World
 Tw w s r = with_slot (with_content w r.0) s r.0
 
-pub touch_missing : (w : World) (s : Slot) (kind : Param) (cs : List Choice) → AreUnmade w → place_of w.slots s ≡ None → found w kind cs ≡ Err halt.NeedsChoice → touched w s kind cs ≡ Err halt.NeedsChoice
+pub touch_missing : (w : World) (s : Slot) (kind : Param) (cs : List Choice) → AreUnmade w → place_of w.slots s ≡ None → find_content w kind cs ≡ Err halt.NeedsChoice → touch w s kind cs ≡ Err halt.NeedsChoice
 touch_missing w s kind cs u e f =
-    ap (touched_at w s kind cs) e
-    ∙ ap (λ b. (cond b (Ok (content.Unset, 0)) (found w kind cs)) >>= (λ r. Ok (Tc w r, Tw w s r))) (not_fresh w s u)
+    ap (touch_at w s kind cs) e
+    ∙ ap (λ b. (cond b (Ok (content.Unset, 0)) (find_content w kind cs)) >>= (λ r. Ok (Tc w r, Tw w s r))) (not_fresh w s u)
     ∙ ap (λ z. z >>= (λ r. Ok (Tc w r, Tw w s r))) f
 
-pub touch_there : (w : World) (s : Slot) (kind : Param) (cs : List Choice) (v : Value) → AreUnmade w → place_of w.slots s ≡ None → found w kind cs ≡ Ok (content.Holds v, 1)
-    → touched w s kind cs ≡ Ok (record { place = length w.slots; used = 1 }, with_slot (with_value w v) s (content.Holds v))
+pub touch_there : (w : World) (s : Slot) (kind : Param) (cs : List Choice) (v : Value) → AreUnmade w → place_of w.slots s ≡ None → find_content w kind cs ≡ Ok (content.Holds v, 1)
+    → touch w s kind cs ≡ Ok (record { place = length w.slots; used = 1 }, with_slot (with_value w v) s (content.Holds v))
 touch_there w s kind cs v u e f =
-    ap (touched_at w s kind cs) e
-    ∙ ap (λ b. (cond b (Ok (content.Unset, 0)) (found w kind cs)) >>= (λ r. Ok (Tc w r, Tw w s r))) (not_fresh w s u)
+    ap (touch_at w s kind cs) e
+    ∙ ap (λ b. (cond b (Ok (content.Unset, 0)) (find_content w kind cs)) >>= (λ r. Ok (Tc w r, Tw w s r))) (not_fresh w s u)
     ∙ ap (λ z. z >>= (λ r. Ok (Tc w r, Tw w s r))) f
 
 -- a content is as its mark says, and its object is there or the next one
@@ -199,7 +199,7 @@ text_near w (choice.Given n) e = absurd (let bad : false ≡ true = e in cc)
 text_near w (choice.Failed n) e = absurd (let bad : false ≡ true = e in cc)
 
 abbrev Good : World → Param → Choice → Type 0
-Good w kind c = (is_mark (contents kind) (value_of c) ≡ true) × IsNear w (value_of c)
+Good w kind c = (is_mark (content_mark kind) (value_of c) ≡ true) × IsNear w (value_of c)
 
 pointer_good : (w : World) (c : Choice) → (is_null c || is_old w c) ≡ true → (is_mark Pointer (value_of c) ≡ true) × IsNear w (value_of c)
 pointer_good w c e = elim (or_of (is_null c) (is_old w c) e) [

@@ -1,17 +1,17 @@
 -- Symbolic states: what they note, and what they become.
---   class, balance          the token that stands for a token; what its object is owed
---   parts, are_one, are_other    a pair parts two classes; two tokens are noted as one object; as different ones
+--   class_of, balance_at    the token that stands for a token; what its object is owed
+--   is_part, are_one, are_other  a pair parts two classes; two tokens are noted as one object; as different ones
 --   is_order, is_decision, is_outcome    two orders, two answers are the same; an answer is one of the first so many
 --   can_be, can_same, can   a question still has this answer: as notes have it, of two tokens, of any question
 --   add_to, add_term        a number is added to the balance of a token's object; of a term's
---   lowered                 it falls by 1 for each of these terms
---   taken, taken_by         the arguments that a call takes over
---   special_weigh, form_weigh, weigh    the balances after a call of a row of its own, of any row, after an instruction
---   one_for, new_balance    the balance of a token that comes in
+--   lower                   it falls by 1 for each of these terms
+--   taken_terms, terms_taken_by    the arguments that a call takes over
+--   special_weigh, form_weigh, weigh    the balances after a call of a special row, of any row, after an instruction
+--   owed_for, owed_for_answer    the balance of a token that comes in
 --   stored_term             what a store writes
 --   redirect, gather, merge two tokens become one: their class, their balance, the state
---   merge_older             the older token stands for both
---   apply_same, joined, answers, after, apply    the state after an answer
+--   merge_two               the older token stands for both
+--   apply_same, join, take_answer, follow, apply    the state after an answer
 --   decisions               all answers, in the order in which the states after them stand
 --   after_if, successors    the states after the answers that the next question still has
 --   after_left              the state after an answer that is left over, if there is one
@@ -42,29 +42,29 @@ use Rattle.pungi_symbol.specs.declared.states.state.Pair.{Pair}
 use Rattle.pungi_symbol.specs.declared.states.state.State.{State}
 use Rattle.pungi_symbol.specs.declared.states.term.Term.{Term}
 use Rattle.pungi_symbol.specs.states.Terms.{outcomes_of_mark, outcomes_of_answer, mark_at, value_of_mark}
-use Rattle.pungi_symbol.specs.states.Known.{count, mark, term_of, object_of, find, held_in}
+use Rattle.pungi_symbol.specs.states.Known.{count, mark_of, term_of, object_of, find, held_in}
 use Rattle.pungi_symbol.specs.questions.NextQuestion.{ask, first_term, terms_of}
-use Rattle.pungi_symbol.specs.answers.KnownAfter.{go, outcome, is_same, instr_of}
+use Rattle.pungi_symbol.specs.answers.KnownAfter.{go, number_of_outcome, says_same, instr_of}
 
-abbrev pub class : List ℕ → ℕ → ℕ
-class classes t = get_or classes t 0
+abbrev pub class_of : List ℕ → ℕ → ℕ
+class_of classes t = get_or classes t 0
 
-abbrev pub balance : List ℤ → ℕ → ℤ
-balance balances t = get_or balances t (pos 0)
+abbrev pub balance_at : List ℤ → ℕ → ℤ
+balance_at balances t = get_or balances t (pos 0)
 
 -- ---- which answers are left
 
 -- whether a pair says that the tokens of these classes differ
-abbrev pub parts : List ℕ → ℕ → ℕ → Pair → Bool
-parts classes c d p = ((class classes p.a == c) && (class classes p.b == d)) || ((class classes p.a == d) && (class classes p.b == c))
+abbrev pub is_part : List ℕ → ℕ → ℕ → Pair → Bool
+is_part classes c d p = ((class_of classes p.a == c) && (class_of classes p.b == d)) || ((class_of classes p.a == d) && (class_of classes p.b == c))
 
 abbrev pub are_one : List ℕ → ℕ → ℕ → Bool
-are_one classes t u = class classes t == class classes u
+are_one classes t u = class_of classes t == class_of classes u
 
 -- two static objects differ
 abbrev pub are_other : ℕ → List ℕ → List Pair → ℕ → ℕ → Bool
 are_other statics classes others t u =
-    (nat_lt (class classes t) statics && nat_lt (class classes u) statics) || list_any (parts classes (class classes t) (class classes u)) others
+    (nat_lt (class_of classes t) statics && nat_lt (class_of classes u) statics) || list_any (is_part classes (class_of classes t) (class_of classes u)) others
 
 abbrev pub is_order : Ordering → Ordering → Bool
 is_order Less Less = true
@@ -100,7 +100,7 @@ abbrev pub can : State → Question → Decision → Bool
 can s (Does d') d = is_decision d' d
 can s (Touches m) d = is_decision Quiet d
 can s (Overwrites m) d = is_outcome (length (outcomes_of_mark m)) d
-can s (AsksNull t) d = is_outcome (length (outcomes_of_mark (mark s.known t))) d
+can s (AsksNull t) d = is_outcome (length (outcomes_of_mark (mark_of s.known t))) d
 can s (Base t u i) d = can_same s t u d
 can s (Answers a) d = is_outcome (length (outcomes_of_answer a)) d
 can s (Same t u) d = can_same s t u d
@@ -112,24 +112,24 @@ can s Over d = false
 
 abbrev pub add_to : List ℕ → Option ℕ → ℤ → List ℤ → List ℤ
 add_to classes None d balances = balances
-add_to classes (Some t) d balances = slice_set balances (class classes t) (balance balances (class classes t) +ℤ d)
+add_to classes (Some t) d balances = slice_set balances (class_of classes t) (balance_at balances (class_of classes t) +ℤ d)
 
 abbrev pub add_term : List ℕ → Known → Term → ℤ → List ℤ → List ℤ
 add_term classes k x d balances = add_to classes (object_of k x) d balances
 
-abbrev pub lowered : List ℕ → Known → List Term → List ℤ → List ℤ
-lowered classes k [] balances = balances
-lowered classes k (x ∷ xs) balances = lowered classes k xs (add_term classes k x (negsuc 0) balances)
+abbrev pub lower : List ℕ → Known → List Term → List ℤ → List ℤ
+lower classes k [] balances = balances
+lower classes k (x ∷ xs) balances = lower classes k xs (add_term classes k x (negsuc 0) balances)
 
 -- the arguments that a call takes over
-abbrev pub taken : Bool → List Take → List Term → List Term
-taken success [] xs = []
-taken success (t ∷ ts) [] = []
-taken success (t ∷ ts) (x ∷ xs) = if is_taken success t then x ∷ taken success ts xs else taken success ts xs
+abbrev pub taken_terms : Bool → List Take → List Term → List Term
+taken_terms success [] xs = []
+taken_terms success (t ∷ ts) [] = []
+taken_terms success (t ∷ ts) (x ∷ xs) = if is_taken success t then x ∷ taken_terms success ts xs else taken_terms success ts xs
 
-abbrev pub taken_by : Bool → Instr → Known → List Term
-taken_by success (Api x shape as' outs) k = taken success shape.row.takes (terms_of k as')
-taken_by success i k = []
+abbrev pub terms_taken_by : Bool → Instr → Known → List Term
+terms_taken_by success (Api x shape as' outs) k = taken_terms success shape.row.takes (terms_of k as')
+terms_taken_by success i k = []
 
 abbrev pub special_weigh : List ℕ → Known → Special → Term → List ℤ → List ℤ
 special_weigh classes k special.IncRef x balances = add_term classes k x (pos 1) balances
@@ -141,7 +141,7 @@ special_weigh classes k special.XNewRef x balances = add_term classes k x (pos 1
 special_weigh classes k s x balances = balances
 
 abbrev pub form_weigh : List ℕ → Known → Form → Shape → List Term → List ℤ → List ℤ
-form_weigh classes k form.Plain shape xs balances = lowered classes k (taken false shape.row.takes xs) balances
+form_weigh classes k form.Plain shape xs balances = lower classes k (taken_terms false shape.row.takes xs) balances
 form_weigh classes k (form.Special s) shape xs balances = special_weigh classes k s (first_term xs) balances
 
 abbrev pub weigh : List ℕ → Known → Instr → List ℤ → List ℤ
@@ -149,17 +149,17 @@ weigh classes k (Store place a) balances = add_term classes k (term_of k a) (neg
 weigh classes k (Api x shape as' outs) balances = form_weigh classes k shape.row.form shape (terms_of k as') balances
 weigh classes k i balances = balances
 
-abbrev pub one_for : Mark → ℤ
-one_for IsObject = pos 1
-one_for Pointer = pos 0
-one_for TextPointer = pos 0
-one_for IsNull = pos 0
-one_for IsText = pos 0
-one_for (IsNumber n) = pos 0
+abbrev pub owed_for : Mark → ℤ
+owed_for IsObject = pos 1
+owed_for Pointer = pos 0
+owed_for TextPointer = pos 0
+owed_for IsNull = pos 0
+owed_for IsText = pos 0
+owed_for (IsNumber n) = pos 0
 
-abbrev pub new_balance : Answer → Mark → ℤ
-new_balance answer.New m = one_for m
-new_balance a m = pos 0
+abbrev pub owed_for_answer : Answer → Mark → ℤ
+owed_for_answer answer.New m = owed_for m
+owed_for_answer a m = pos 0
 
 abbrev pub stored_term : Instr → Known → List Term
 stored_term (Store place a) k = term_of k a ∷ []
@@ -171,40 +171,40 @@ abbrev pub redirect : ℕ → ℕ → ℕ → ℕ
 redirect c d e = if e == d then c else e
 
 -- what stands at d goes to c
-abbrev pub gather : ℕ → ℕ → List ℤ → List ℤ
-gather c d balances = slice_set (slice_set balances c (balance balances c +ℤ balance balances d)) d (pos 0)
+abbrev pub gather_at : ℕ → ℕ → List ℤ → List ℤ
+gather_at c d balances = slice_set (slice_set balances c (balance_at balances c +ℤ balance_at balances d)) d (pos 0)
 
-abbrev pub merge : ℕ → ℕ → State → State
-merge c d s = record s { classes = map (redirect c d) s.classes; balances = gather c d s.balances }
+abbrev pub merge_classes : ℕ → ℕ → State → State
+merge_classes c d s = record s { classes = map (redirect c d) s.classes; balances = gather_at c d s.balances }
 
 -- the older token stands for both
-abbrev pub merge_older : ℕ → ℕ → State → State
-merge_older c d s = if nat_lt d c then merge d c s else merge c d s
+abbrev pub merge_two : ℕ → ℕ → State → State
+merge_two c d s = if nat_lt d c then merge_classes d c s else merge_classes c d s
 
 abbrev pub apply_same : Bool → Bool → ℕ → ℕ → State → State
-apply_same one true t u s = if one then s else merge_older (class s.classes t) (class s.classes u) s
+apply_same one true t u s = if one then s else merge_two (class_of s.classes t) (class_of s.classes u) s
 apply_same one false t u s = record s { others = s.others ++ (record { a = t; b = u }) ∷ [] }
 
-abbrev pub joined : ℤ → List ℤ → State → State
-joined d balances s = record s { classes = s.classes ++ count s.known ∷ []; balances = balances ++ d ∷ [] }
+abbrev pub join : ℤ → List ℤ → State → State
+join d balances s = record s { classes = s.classes ++ count s.known ∷ []; balances = balances ++ d ∷ [] }
 
-abbrev pub answers : Instr → Answer → Mark → State → State
-answers i a m s = joined (new_balance a m) (lowered s.classes s.known (taken_by (is_success a (Some (value_of_mark m))) i s.known) s.balances) s
+abbrev pub take_answer : Instr → Answer → Mark → State → State
+take_answer i a m s = join (owed_for_answer a m) (lower s.classes s.known (terms_taken_by (is_success a (Some (value_of_mark m))) i s.known) s.balances) s
 
-abbrev pub after : Option Line → Question → Decision → State → State
-after line (Does d') d s = record s { balances = weigh s.classes s.known (instr_of line) s.balances }
-after line (Touches m) d s = joined (pos 0) s.balances s
-after line (Overwrites m) d s = joined (one_for (mark_at (outcomes_of_mark m) (outcome d))) (lowered s.classes s.known (stored_term (instr_of line) s.known) s.balances) s
-after line (AsksNull t) d s = s
-after line (Base t u i) d s = apply_same (are_one s.classes t u) (is_same d) t u s
-after line (Answers a) d s = answers (instr_of line) a (mark_at (outcomes_of_answer a) (outcome d)) s
-after line (Same t u) d s = apply_same (are_one s.classes t u) (is_same d) t u s
-after line (Returns x) d s = s
-after line (Stops d') d s = s
-after line Over d s = s
+abbrev pub follow : Option Line → Question → Decision → State → State
+follow line (Does d') d s = record s { balances = weigh s.classes s.known (instr_of line) s.balances }
+follow line (Touches m) d s = join (pos 0) s.balances s
+follow line (Overwrites m) d s = join (owed_for (mark_at (outcomes_of_mark m) (number_of_outcome d))) (lower s.classes s.known (stored_term (instr_of line) s.known) s.balances) s
+follow line (AsksNull t) d s = s
+follow line (Base t u i) d s = apply_same (are_one s.classes t u) (says_same d) t u s
+follow line (Answers a) d s = take_answer (instr_of line) a (mark_at (outcomes_of_answer a) (number_of_outcome d)) s
+follow line (Same t u) d s = apply_same (are_one s.classes t u) (says_same d) t u s
+follow line (Returns x) d s = s
+follow line (Stops d') d s = s
+follow line Over d s = s
 
 abbrev pub apply : Option Line → Question → Decision → State → State
-apply line q d s = record (after line q d s) { known = go line s.known q d }
+apply line q d s = record (follow line q d s) { known = go line s.known q d }
 
 abbrev pub decisions : List Decision
 decisions = Quiet ∷ Outcome 0 ∷ Outcome 1 ∷ Outcome 2 ∷ Order Less ∷ Order Equal ∷ Order Greater ∷ IsSame false ∷ IsSame true ∷ []

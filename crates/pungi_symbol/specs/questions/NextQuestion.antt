@@ -1,19 +1,21 @@
 -- What the next step of a run asks, from what is known (Python/C API Reference Manual 3.11; C11 6.5).
---   setting x q                    the step needs a set term
---   knowing k x q, knowing_mark    it needs to know whether a term is NULL
---   needing k x q, needing_mark    it needs one that isn't NULL
---   ordering, comparing, compare_ask    it compares two numbers; two terms that are objects; two terms
---   ranged r below, is_below, fitting   it computes a number that may be out of range: below it, within it or above it
---   contents kind                  what is known of what a slot of a kind held at entry
---   loading, storing, dropping     it reads a slot; it writes one; it needs to know whether what a slot held is NULL
---   all_set                        it is a call of set arguments
---   needing_for, needing_all       it is a call of a row with this parameter; with these
---   knowing_for, knowing_taken     of a row that takes over such an argument; some of its arguments
---   answering a                    of a row with this answer
---   first_term, special_ask        its first argument; it is a call of a row of its own
---   form_ask, terms_of             it is a call of any row; the terms of its arguments
---   return_ask                     it is a return
---   ask_of k i, ask_line           what an instruction asks; what the next one asks, if there is one
+--   asks_set x q                   the step needs a set term
+--   asks_known k x q, knows_mark   it needs to know whether a term is NULL
+--   asks_thing k x q, needs_mark   it needs one that isn't NULL
+--   asks_order, asks_same, asks_compare    it compares two numbers; two terms that are objects; two terms
+--   asks_range r below, is_below, asks_fit    it computes a number that may be out of range: below it, within it or
+--                                             above it
+--   content_mark kind              what is known of what a slot of a kind held at entry
+--   asks_load, asks_store, asks_dropped    it reads a slot; it writes one; it needs to know whether what a slot held is
+--                                          NULL
+--   asks_all_set                   it is a call of set arguments
+--   asks_param, asks_params        it is a call of a row with this parameter; with these
+--   asks_take, asks_takes          of a row that takes over such an argument; some of its arguments
+--   asks_answer a                  of a row with this answer
+--   first_term, asks_special       its first argument; it is a call of a special row
+--   asks_form, terms_of            it is a call of any row; the terms of its arguments
+--   asks_return                    it is a return
+--   asks_instr k i, asks_line      what an instruction asks; what the next one asks, if there is one
 --   ask_while, ask code k          what is asked next, where the run isn't over
 use Rattle.std.specs.Prelude.{ℕ, ℤ, pos, Bool, ◌&&◌, not, int_lt, List, [], ◌∷◌, map, slice_get, Option, Some, None, if◌then◌else◌}
 use Rattle.std.specs.Ordering.{int_cmp}
@@ -48,182 +50,182 @@ use Rattle.pungi_symbol.specs.declared.questions.question.Question.{Question}
 use Rattle.pungi_symbol.specs.declared.questions.question.Question.TheVariants.{Does, Touches, Overwrites, Null as AsksNull, Answers, Same, Returns, Stops, Over}
 use Rattle.pungi_symbol.specs.declared.states.term.Term.{Term}
 use Rattle.pungi_symbol.specs.declared.states.term.Term.TheVariants.{Unset, Null, Text, Number, Token}
-use Rattle.pungi_symbol.specs.states.Known.{mark, term_of, number, object_of, number_in, slot_note, find}
+use Rattle.pungi_symbol.specs.states.Known.{mark_of, term_of, number, object_of, number_in, slot_note, find}
 
-abbrev pub setting : Term → Question → Question
-setting Unset q = Stops Quiet
-setting Null q = q
-setting Text q = q
-setting (Number n) q = q
-setting (Token t) q = q
+abbrev pub asks_set : Term → Question → Question
+asks_set Unset q = Stops Quiet
+asks_set Null q = q
+asks_set Text q = q
+asks_set (Number n) q = q
+asks_set (Token t) q = q
 
-abbrev pub knowing_mark : Mark → ℕ → Question → Question
-knowing_mark Pointer t q = AsksNull t
-knowing_mark TextPointer t q = AsksNull t
-knowing_mark IsNull t q = q
-knowing_mark IsObject t q = q
-knowing_mark IsText t q = q
-knowing_mark (IsNumber n) t q = q
+abbrev pub knows_mark : Mark → ℕ → Question → Question
+knows_mark Pointer t q = AsksNull t
+knows_mark TextPointer t q = AsksNull t
+knows_mark IsNull t q = q
+knows_mark IsObject t q = q
+knows_mark IsText t q = q
+knows_mark (IsNumber n) t q = q
 
-abbrev pub knowing : Known → Term → Question → Question
-knowing k Unset q = Stops Quiet
-knowing k Null q = q
-knowing k Text q = q
-knowing k (Number n) q = q
-knowing k (Token t) q = knowing_mark (mark k t) t q
+abbrev pub asks_known : Known → Term → Question → Question
+asks_known k Unset q = Stops Quiet
+asks_known k Null q = q
+asks_known k Text q = q
+asks_known k (Number n) q = q
+asks_known k (Token t) q = knows_mark (mark_of k t) t q
 
-abbrev pub needing_mark : Mark → ℕ → Question → Question
-needing_mark Pointer t q = AsksNull t
-needing_mark TextPointer t q = AsksNull t
-needing_mark IsNull t q = Stops Quiet
-needing_mark IsObject t q = q
-needing_mark IsText t q = q
-needing_mark (IsNumber n) t q = q
+abbrev pub needs_mark : Mark → ℕ → Question → Question
+needs_mark Pointer t q = AsksNull t
+needs_mark TextPointer t q = AsksNull t
+needs_mark IsNull t q = Stops Quiet
+needs_mark IsObject t q = q
+needs_mark IsText t q = q
+needs_mark (IsNumber n) t q = q
 
-abbrev pub needing : Known → Term → Question → Question
-needing k Unset q = Stops Quiet
-needing k Null q = Stops Quiet
-needing k Text q = q
-needing k (Number n) q = q
-needing k (Token t) q = needing_mark (mark k t) t q
+abbrev pub asks_thing : Known → Term → Question → Question
+asks_thing k Unset q = Stops Quiet
+asks_thing k Null q = Stops Quiet
+asks_thing k Text q = q
+asks_thing k (Number n) q = q
+asks_thing k (Token t) q = needs_mark (mark_of k t) t q
 
 -- ---- numbers and comparisons
 
-abbrev pub ordering : Option ℤ → Option ℤ → Question → Question
-ordering None n q = q
-ordering (Some m) None q = q
-ordering (Some m) (Some n) q = Does (Order (int_cmp m n))
+abbrev pub asks_order : Option ℤ → Option ℤ → Question → Question
+asks_order None n q = q
+asks_order (Some m) None q = q
+asks_order (Some m) (Some n) q = Does (Order (int_cmp m n))
 
-abbrev pub comparing : Option ℕ → Option ℕ → Question
-comparing None u = Does Quiet
-comparing (Some t) None = Does Quiet
-comparing (Some t) (Some u) = Same t u
+abbrev pub asks_same : Option ℕ → Option ℕ → Question
+asks_same None u = Does Quiet
+asks_same (Some t) None = Does Quiet
+asks_same (Some t) (Some u) = Same t u
 
-abbrev pub compare_ask : Known → Term → Term → Question
-compare_ask k a b = ordering (number_in a) (number_in b) (knowing k a (knowing k b (comparing (object_of k a) (object_of k b))))
+abbrev pub asks_compare : Known → Term → Term → Question
+asks_compare k a b = asks_order (number_in a) (number_in b) (asks_known k a (asks_known k b (asks_same (object_of k a) (object_of k b))))
 
 -- below the range, within it, above it
-abbrev pub ranged : Option ℤ → Bool → Question
-ranged (Some r) below = Does (Outcome 1)
-ranged None below = Stops (Outcome (if below then 0 else 2))
+abbrev pub asks_range : Option ℤ → Bool → Question
+asks_range (Some r) below = Does (Outcome 1)
+asks_range None below = Stops (Outcome (if below then 0 else 2))
 
 abbrev pub is_below : Op → ℤ → ℤ → Bool
 is_below o m n = not (is_undefined o n) && int_lt (result_of o m n) (pos 0)
 
-abbrev pub fitting : ValueKind → ℤ → Question
-fitting kind n = if fits kind n then Does (Outcome 1) else Stops (Outcome (if int_lt n (pos 0) then 0 else 2))
+abbrev pub asks_fit : ValueKind → ℤ → Question
+asks_fit kind n = if fits kind n then Does (Outcome 1) else Stops (Outcome (if int_lt n (pos 0) then 0 else 2))
 
 -- ---- slots
 
-abbrev pub contents : Param → Mark
-contents param.Object = Pointer
-contents param.ObjectOrNull = Pointer
-contents param.Text = TextPointer
-contents param.TextOrNull = TextPointer
-contents param.Int = Pointer
-contents param.Long = Pointer
-contents param.Size = Pointer
-contents param.ModuleDef = Pointer
+abbrev pub content_mark : Param → Mark
+content_mark param.Object = Pointer
+content_mark param.ObjectOrNull = Pointer
+content_mark param.Text = TextPointer
+content_mark param.TextOrNull = TextPointer
+content_mark param.Int = Pointer
+content_mark param.Long = Pointer
+content_mark param.Size = Pointer
+content_mark param.ModuleDef = Pointer
 
-abbrev pub loading : Known → Mark → Finding → Question
-loading k m (Waits q) = q
-loading k m (At i) = setting (slot_note k.slots i).held (Does Quiet)
-loading k m Nowhere = Touches m
+abbrev pub asks_load : Known → Mark → Finding → Question
+asks_load k m (Waits q) = q
+asks_load k m (At i) = asks_set (slot_note k.slots i).held (Does Quiet)
+asks_load k m Nowhere = Touches m
 
--- what a slot held that wasn't set is of no concern
-abbrev pub dropping : Known → Term → Question
-dropping k Unset = Does Quiet
-dropping k Null = Does Quiet
-dropping k Text = Does Quiet
-dropping k (Number n) = Does Quiet
-dropping k (Token t) = knowing_mark (mark k t) t (Does Quiet)
+-- what a slot held that wasn't set doesn't matter
+abbrev pub asks_dropped : Known → Term → Question
+asks_dropped k Unset = Does Quiet
+asks_dropped k Null = Does Quiet
+asks_dropped k Text = Does Quiet
+asks_dropped k (Number n) = Does Quiet
+asks_dropped k (Token t) = knows_mark (mark_of k t) t (Does Quiet)
 
-abbrev pub storing : Known → Mark → Finding → Question
-storing k m (Waits q) = q
-storing k m (At i) = dropping k (slot_note k.slots i).held
-storing k m Nowhere = Overwrites m
+abbrev pub asks_store : Known → Mark → Finding → Question
+asks_store k m (Waits q) = q
+asks_store k m (At i) = asks_dropped k (slot_note k.slots i).held
+asks_store k m Nowhere = Overwrites m
 
 -- ---- calls
 
-abbrev pub all_set : List Term → Question → Question
-all_set [] q = q
-all_set (x ∷ xs) q = setting x (all_set xs q)
+abbrev pub asks_all_set : List Term → Question → Question
+asks_all_set [] q = q
+asks_all_set (x ∷ xs) q = asks_set x (asks_all_set xs q)
 
-abbrev pub needing_for : Known → Param → Term → Question → Question
-needing_for k param.Object x q = needing k x q
-needing_for k param.Text x q = needing k x q
-needing_for k param.ObjectOrNull x q = q
-needing_for k param.TextOrNull x q = q
-needing_for k param.Int x q = q
-needing_for k param.Long x q = q
-needing_for k param.Size x q = q
-needing_for k param.ModuleDef x q = q
+abbrev pub asks_param : Known → Param → Term → Question → Question
+asks_param k param.Object x q = asks_thing k x q
+asks_param k param.Text x q = asks_thing k x q
+asks_param k param.ObjectOrNull x q = q
+asks_param k param.TextOrNull x q = q
+asks_param k param.Int x q = q
+asks_param k param.Long x q = q
+asks_param k param.Size x q = q
+asks_param k param.ModuleDef x q = q
 
-abbrev pub needing_all : Known → List Param → List Term → Question → Question
-needing_all k [] xs q = q
-needing_all k (p ∷ ps) [] q = q
-needing_all k (p ∷ ps) (x ∷ xs) q = needing_for k p x (needing_all k ps xs q)
+abbrev pub asks_params : Known → List Param → List Term → Question → Question
+asks_params k [] xs q = q
+asks_params k (p ∷ ps) [] q = q
+asks_params k (p ∷ ps) (x ∷ xs) q = asks_param k p x (asks_params k ps xs q)
 
-abbrev pub knowing_for : Known → Take → Term → Question → Question
-knowing_for k take.Never x q = q
-knowing_for k take.Always x q = knowing k x q
-knowing_for k take.OnSuccess x q = knowing k x q
+abbrev pub asks_take : Known → Take → Term → Question → Question
+asks_take k take.Never x q = q
+asks_take k take.Always x q = asks_known k x q
+asks_take k take.OnSuccess x q = asks_known k x q
 
-abbrev pub knowing_taken : Known → List Take → List Term → Question → Question
-knowing_taken k [] xs q = q
-knowing_taken k (t ∷ ts) [] q = q
-knowing_taken k (t ∷ ts) (x ∷ xs) q = knowing_for k t x (knowing_taken k ts xs q)
+abbrev pub asks_takes : Known → List Take → List Term → Question → Question
+asks_takes k [] xs q = q
+asks_takes k (t ∷ ts) [] q = q
+asks_takes k (t ∷ ts) (x ∷ xs) q = asks_take k t x (asks_takes k ts xs q)
 
-abbrev pub answering : Answer → Question
-answering answer.Void = Does Quiet
-answering answer.Null = Does Quiet
-answering a = Answers a
+abbrev pub asks_answer : Answer → Question
+asks_answer answer.Void = Does Quiet
+asks_answer answer.Null = Does Quiet
+asks_answer a = Answers a
 
 abbrev pub first_term : List Term → Term
 first_term [] = Null
 first_term (x ∷ xs) = x
 
-abbrev pub special_ask : Known → Special → Term → Question
-special_ask k special.IncRef x = needing k x (Does Quiet)
-special_ask k special.DecRef x = needing k x (Does Quiet)
-special_ask k special.XIncRef x = knowing k x (Does Quiet)
-special_ask k special.XDecRef x = knowing k x (Does Quiet)
-special_ask k special.NewRef x = needing k x (Does Quiet)
-special_ask k special.XNewRef x = knowing k x (Does Quiet)
-special_ask k s x = Stops Quiet
+abbrev pub asks_special : Known → Special → Term → Question
+asks_special k special.IncRef x = asks_thing k x (Does Quiet)
+asks_special k special.DecRef x = asks_thing k x (Does Quiet)
+asks_special k special.XIncRef x = asks_known k x (Does Quiet)
+asks_special k special.XDecRef x = asks_known k x (Does Quiet)
+asks_special k special.NewRef x = asks_thing k x (Does Quiet)
+asks_special k special.XNewRef x = asks_known k x (Does Quiet)
+asks_special k s x = Stops Quiet
 
-abbrev pub form_ask : Known → Form → Shape → List Term → Question
-form_ask k form.Plain shape xs = needing_all k shape.row.params xs (knowing_taken k shape.row.takes xs (answering shape.row.answer))
-form_ask k (form.Special s) shape xs = special_ask k s (first_term xs)
+abbrev pub asks_form : Known → Form → Shape → List Term → Question
+asks_form k form.Plain shape xs = asks_params k shape.row.params xs (asks_takes k shape.row.takes xs (asks_answer shape.row.answer))
+asks_form k (form.Special s) shape xs = asks_special k s (first_term xs)
 
 abbrev pub terms_of : Known → List Atom → List Term
 terms_of k as' = map (term_of k) as'
 
 -- ---- instructions
 
-abbrev pub return_ask : Known → Option Atom → Question
-return_ask k None = Returns None
-return_ask k (Some a) = knowing k (term_of k a) (Returns (Some (term_of k a)))
+abbrev pub asks_return : Known → Option Atom → Question
+asks_return k None = Returns None
+asks_return k (Some a) = asks_known k (term_of k a) (Returns (Some (term_of k a)))
 
-abbrev pub ask_of : Known → Instr → Question
-ask_of k (Set x a) = setting (term_of k a) (Does Quiet)
-ask_of k (Arith x kind o a b) =
-    setting (term_of k a) (setting (term_of k b) (ranged (arithmetic o kind (number k (term_of k a)) (number k (term_of k b))) (is_below o (number k (term_of k a)) (number k (term_of k b)))))
-ask_of k (Fit x kind a) = setting (term_of k a) (fitting kind (number k (term_of k a)))
-ask_of k (Compare x c a b) = compare_ask k (term_of k a) (term_of k b)
-ask_of k (Load x place) = loading k (contents (place_kind place)) (find k place)
-ask_of k (Store place a) = knowing k (term_of k a) (storing k (contents (place_kind place)) (find k place))
-ask_of k (Api x shape as' outs) = all_set (terms_of k as') (form_ask k shape.row.form shape (terms_of k as'))
-ask_of k (Call x f as') = Stops Quiet
-ask_of k (Forget x) = Does Quiet
-ask_of k (Jump to) = Does Quiet
-ask_of k (Branch a this other) = ordering (number_in (term_of k a)) (Some (pos 0)) (knowing k (term_of k a) (Does Quiet))
-ask_of k (Return a) = return_ask k a
-ask_of k Fall = Stops Quiet
+abbrev pub asks_instr : Known → Instr → Question
+asks_instr k (Set x a) = asks_set (term_of k a) (Does Quiet)
+asks_instr k (Arith x kind o a b) =
+    asks_set (term_of k a) (asks_set (term_of k b) (asks_range (arithmetic o kind (number k (term_of k a)) (number k (term_of k b))) (is_below o (number k (term_of k a)) (number k (term_of k b)))))
+asks_instr k (Fit x kind a) = asks_set (term_of k a) (asks_fit kind (number k (term_of k a)))
+asks_instr k (Compare x c a b) = asks_compare k (term_of k a) (term_of k b)
+asks_instr k (Load x place) = asks_load k (content_mark (place_kind place)) (find k place)
+asks_instr k (Store place a) = asks_known k (term_of k a) (asks_store k (content_mark (place_kind place)) (find k place))
+asks_instr k (Api x shape as' outs) = asks_all_set (terms_of k as') (asks_form k shape.row.form shape (terms_of k as'))
+asks_instr k (Call x f as') = Stops Quiet
+asks_instr k (Forget x) = Does Quiet
+asks_instr k (Jump to) = Does Quiet
+asks_instr k (Branch a this other) = asks_order (number_in (term_of k a)) (Some (pos 0)) (asks_known k (term_of k a) (Does Quiet))
+asks_instr k (Return a) = asks_return k a
+asks_instr k Fall = Stops Quiet
 
-abbrev pub ask_line : Known → Option Line → Question
-ask_line k None = Stops Quiet
-ask_line k (Some line) = ask_of k line.instr
+abbrev pub asks_line : Known → Option Line → Question
+asks_line k None = Stops Quiet
+asks_line k (Some line) = asks_instr k line.instr
 
 abbrev pub ask_while : Status → Question → Question
 ask_while status.Going q = q
@@ -231,4 +233,4 @@ ask_while (status.Returned p x) q = Over
 ask_while (status.Stopped p) q = Over
 
 abbrev pub ask : List Line → Known → Question
-ask code k = ask_while k.status (ask_line k (slice_get code k.pc))
+ask code k = ask_while k.status (asks_line k (slice_get code k.pc))

@@ -22,7 +22,7 @@ use Rattle.pungi_symbol.specs.declared.states.term.Term.{Term}
 use Rattle.pungi_symbol.specs.declared.states.term.Term.TheVariants.{Unset, Null, Text, Number, Token}
 use Rattle.pungi_symbol.specs.states.Terms.{Table, at, is_mark}
 use Rattle.pungi_symbol.specs.states.Known.{slot_note}
-use Rattle.pungi_symbol.specs.answers.SymbolicState.{class, balance}
+use Rattle.pungi_symbol.specs.answers.SymbolicState.{class_of, balance_at}
 
 abbrev pub is_the : ℕ → Value → Bool
 is_the o v = is_this_object v o
@@ -30,7 +30,7 @@ is_the o v = is_this_object v o
 pub record Fits (table : Table) (first : ℕ) (ms : List Mark) (cs : List ℕ) (ps : List Pair) : Type 0 where
   pub statics : (t : ℕ) → t < first → at table t ≡ value.Object t
   pub marks : (t : ℕ) → t < length ms → is_mark (get_or ms t IsNull) (at table t) ≡ true
-  pub classes : (t : ℕ) → t < length ms → at table (class cs t) ≡ at table t
+  pub classes : (t : ℕ) → t < length ms → at table (class_of cs t) ≡ at table t
   pub others : All (λ p. at table p.a ≡ at table p.b → ⊥) ps
 
 abbrev pub FitsState : Table → State → Type 0
@@ -64,16 +64,16 @@ pub record AreNotesSound (first : ℕ) (ms : List Mark) (cs : List ℕ) (bs : Li
   pub static_objects : (t : ℕ) → t < first → get_or ms t IsNull ≡ IsObject
   pub classes_long : length cs ≡ length ms
   pub balances_long : length bs ≡ length ms
-  pub class_older : (t : ℕ) → t < length ms → class cs t ≤ t
-  pub class_static : (t : ℕ) → t < first → class cs t ≡ t
-  pub class_stands : (t : ℕ) → t < length ms → class cs (class cs t) ≡ class cs t
-  pub class_mark : (t : ℕ) → t < length ms → get_or ms (class cs t) IsNull ≡ get_or ms t IsNull
-  pub alone : (t : ℕ) → t < length ms → (get_or ms t IsNull ≡ IsObject → ⊥) → class cs t ≡ t
-  pub no_object : (t : ℕ) → t < length ms → (get_or ms t IsNull ≡ IsObject → ⊥) → balance bs t ≡ pos 0
-  pub merged : (t : ℕ) → t < length ms → (class cs t ≡ t → ⊥) → balance bs t ≡ pos 0
+  pub class_older : (t : ℕ) → t < length ms → class_of cs t ≤ t
+  pub class_static : (t : ℕ) → t < first → class_of cs t ≡ t
+  pub class_stands : (t : ℕ) → t < length ms → class_of cs (class_of cs t) ≡ class_of cs t
+  pub class_mark : (t : ℕ) → t < length ms → get_or ms (class_of cs t) IsNull ≡ get_or ms t IsNull
+  pub alone : (t : ℕ) → t < length ms → (get_or ms t IsNull ≡ IsObject → ⊥) → class_of cs t ≡ t
+  pub no_object : (t : ℕ) → t < length ms → (get_or ms t IsNull ≡ IsObject → ⊥) → balance_at bs t ≡ pos 0
+  pub merged : (t : ℕ) → t < length ms → (class_of cs t ≡ t → ⊥) → balance_at bs t ≡ pos 0
   pub others_below : All (λ p. (p.a < length ms) × (p.b < length ms)) ps
   pub others_objects : All (λ p. (get_or ms p.a IsNull ≡ IsObject) × (get_or ms p.b IsNull ≡ IsObject)) ps
-  pub others_part : All (λ p. class cs p.a ≡ class cs p.b → ⊥) ps
+  pub others_part : All (λ p. class_of cs p.a ≡ class_of cs p.b → ⊥) ps
 
 pub record IsSound (s : State) : Type 0 where
   pub terms : AreTermsSound s.known.marks s.known.vars s.known.slots

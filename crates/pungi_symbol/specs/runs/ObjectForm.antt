@@ -4,9 +4,9 @@
 --   is_there n a                a static object of an atom is there
 --   is_pointer kind             a kind of pointers
 --   is_pointer_param p          a parameter of such a kind
---   is_small a                  an answer whose numbers are told apart by a trace
+--   is_small a                  a return value whose numbers traces distinguish
 --   has_small s                 so is that of a call
---   is_told_here i              an instruction without unknown integers or calls of functions of the file
+--   is_known_here i             an instruction without unknown integers or calls of functions of the file
 --   is_object_instr n i         an instruction of the object form, where there are n static objects
 --   has_object_form n code      a code of the object form
 use Rattle.std.specs.Prelude.{ℕ, nat_lt, Bool, true, false, ◌&&◌, List, [], ◌∷◌, take, Option, Some, None}
@@ -90,15 +90,15 @@ abbrev pub has_small : Form → Row → Bool
 has_small form.Plain row = is_small row.answer
 has_small (form.Special s) row = true
 
-abbrev pub is_told_here : Instr → Bool
-is_told_here (Load x place) = is_pointer (place_kind place)
-is_told_here (Store place a) = is_pointer (place_kind place)
-is_told_here (Api x shape as' outs) = has_small shape.row.form shape.row
-is_told_here (Call x f as') = false
-is_told_here i = true
+abbrev pub is_known_here : Instr → Bool
+is_known_here (Load x place) = is_pointer (place_kind place)
+is_known_here (Store place a) = is_pointer (place_kind place)
+is_known_here (Api x shape as' outs) = has_small shape.row.form shape.row
+is_known_here (Call x f as') = false
+is_known_here i = true
 
 abbrev pub is_object_instr : ℕ → Instr → Bool
-is_object_instr n i = is_told_here i && list_all (is_there n) (atoms_of i)
+is_object_instr n i = is_known_here i && list_all (is_there n) (atoms_of i)
 
 abbrev pub has_object_form : ℕ → Code → Bool
 has_object_form n code = list_all is_pointer_param (take code.params code.vars) && list_all (λ line. is_object_instr n line.instr) code.instrs

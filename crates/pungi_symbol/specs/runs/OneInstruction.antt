@@ -1,9 +1,9 @@
 -- One instruction of a code as a function: where it leads, and what is held then.
 --   on_value, on_slot, on_values, on_number   an operand is read, where there is one
---   on_effect                    what the world answers
+--   on_effect                    what the world returns
 --   Led, goes                    where a step leads, with what is held then; it goes on
---   led choices i p pc m         where an instruction leads
---   led_line, led_at             where the next instruction leads
+--   leads choices i p pc m       where an instruction leads
+--   leads_line, leads_at         where the next instruction leads
 use Rattle.std.specs.Prelude.{ℕ, ◌+◌, ℤ, List, ◌++◌, replicate, slice_get, Option, Some, None, Result, Ok, Err, if◌then◌else◌}
 use Rattle.pungi_base.specs.declared.choice.Choice.{Choice}
 use Rattle.pungi_base.specs.declared.pos.Pos.{Pos}
@@ -26,7 +26,7 @@ use Rattle.pungi_code.specs.declared.instr.Instr.{Instr}
 use Rattle.pungi_code.specs.declared.instr.Instr.TheVariants.{Set, Arith, Fit, Compare, Load, Store, Api, Call, Unset, Jump, Branch, Return, Fall}
 use Rattle.pungi_code.specs.declared.registers.After.{After}
 use Rattle.pungi_code.specs.declared.registers.After.TheVariants as after
-use Rattle.pungi_code.specs.Registers.{Regs, put, content_of, all_values, left, answered, with_outputs}
+use Rattle.pungi_code.specs.Registers.{Regs, put, content_of, all_values, choices_left, put_answer, with_outputs}
 use Rattle.pungi_code.specs.Perform.{slot_of}
 
 abbrev pub Led : Type 0
@@ -57,31 +57,31 @@ on_effect p (Err halt.Memory) m go = (after.Wants, m)
 abbrev pub goes : ℕ → Regs → Led
 goes pc m = (after.Goes pc, m)
 
-abbrev pub led : List Choice → Instr → Pos → ℕ → Regs → Led
-led choices (Set x a) p pc m = on_value (content_of a m.vars) p m (λ v. goes (pc + 1) (put x (content.Holds v) m))
-led choices (Arith x kind o a b) p pc m =
+abbrev pub leads : List Choice → Instr → Pos → ℕ → Regs → Led
+leads choices (Set x a) p pc m = on_value (content_of a m.vars) p m (λ v. goes (pc + 1) (put x (content.Holds v) m))
+leads choices (Arith x kind o a b) p pc m =
     on_value (content_of a m.vars) p m (λ v. on_value (content_of b m.vars) p m (λ w. on_number (arithmetic o kind (number_of v) (number_of w)) p m (λ n. goes (pc + 1) (put x (content.Holds (value.Int n)) m))))
-led choices (Fit x kind a) p pc m =
+leads choices (Fit x kind a) p pc m =
     on_value (content_of a m.vars) p m (λ v. if fits kind (number_of v) then goes (pc + 1) (put x (content.Holds (value.Int (number_of v))) m) else (after.Stops p, m))
-led choices (Compare x c a b) p pc m =
+leads choices (Compare x c a b) p pc m =
     on_value (content_of a m.vars) p m (λ v. on_value (content_of b m.vars) p m (λ w. goes (pc + 1) (put x (content.Holds (truth (holds c v w))) m)))
-led choices (Load x place) p pc m =
-    on_slot (slot_of place m.vars) p m (λ s kind. on_effect p (load_effect m.world s kind (left choices m)) m (λ e r. goes (pc + 1) (answered (Some x) e.value r)))
-led choices (Store place a) p pc m =
-    on_value (content_of a m.vars) p m (λ v. on_slot (slot_of place m.vars) p m (λ s kind. on_effect p (store_effect m.world s kind v (left choices m)) m (λ e r. goes (pc + 1) r)))
-led choices (Api x shape as' outs) p pc m =
-    on_values (all_values as' m.vars) p m (λ vs. on_effect p (call_effect m.world shape vs (left choices m)) m (λ e r. goes (pc + 1) (with_outputs outs e.outputs (answered x e.value r))))
-led choices (Call x f as') p pc m = (after.Stops p, m)
-led choices (Unset x) p pc m = goes (pc + 1) (put x content.Unset m)
-led choices (Jump to) p pc m = goes to.0 m
-led choices (Branch a this other) p pc m = on_value (content_of a m.vars) p m (λ v. goes (if is_true v then this.0 else other.0) m)
-led choices (Return None) p pc m = (after.Leaves p None, m)
-led choices (Return (Some a)) p pc m = on_value (content_of a m.vars) p m (λ v. (after.Leaves p (Some v), m))
-led choices Fall p pc m = (after.Stops p, m)
+leads choices (Load x place) p pc m =
+    on_slot (slot_of place m.vars) p m (λ s kind. on_effect p (load_effect m.world s kind (choices_left choices m)) m (λ e r. goes (pc + 1) (put_answer (Some x) e.value r)))
+leads choices (Store place a) p pc m =
+    on_value (content_of a m.vars) p m (λ v. on_slot (slot_of place m.vars) p m (λ s kind. on_effect p (store_effect m.world s kind v (choices_left choices m)) m (λ e r. goes (pc + 1) r)))
+leads choices (Api x shape as' outs) p pc m =
+    on_values (all_values as' m.vars) p m (λ vs. on_effect p (call_effect m.world shape vs (choices_left choices m)) m (λ e r. goes (pc + 1) (with_outputs outs e.outputs (put_answer x e.value r))))
+leads choices (Call x f as') p pc m = (after.Stops p, m)
+leads choices (Unset x) p pc m = goes (pc + 1) (put x content.Unset m)
+leads choices (Jump to) p pc m = goes to.0 m
+leads choices (Branch a this other) p pc m = on_value (content_of a m.vars) p m (λ v. goes (if is_true v then this.0 else other.0) m)
+leads choices (Return None) p pc m = (after.Leaves p None, m)
+leads choices (Return (Some a)) p pc m = on_value (content_of a m.vars) p m (λ v. (after.Leaves p (Some v), m))
+leads choices Fall p pc m = (after.Stops p, m)
 
-abbrev pub led_line : List Choice → Option Line → ℕ → Regs → Led
-led_line choices None pc m = (after.Stops nowhere, m)
-led_line choices (Some line) pc m = led choices line.instr line.pos pc m
+abbrev pub leads_line : List Choice → Option Line → ℕ → Regs → Led
+leads_line choices None pc m = (after.Stops nowhere, m)
+leads_line choices (Some line) pc m = leads choices line.instr line.pos pc m
 
-abbrev pub led_at : List Choice → List Line → ℕ → Regs → Led
-led_at choices code pc m = led_line choices (slice_get code pc) pc m
+abbrev pub leads_at : List Choice → List Line → ℕ → Regs → Led
+leads_at choices code pc m = leads_line choices (slice_get code pc) pc m

@@ -1,14 +1,15 @@
 -- Runs of a code, paths of states, and how they belong together.
 --   value_in c, returned_value    the value of a content; what a function returns
---   arguments code                how many arguments a code takes
---   known_at, start_state, starts    what is known at the start of a function, its first state, and the list of it
+--   argument_count code           how many arguments a code takes
+--   known_at, start_state, start_states    what is known at the start of a function, its first state, and the list of
+--                                          it
 --   table_of                      the values of the tokens of a run: the static objects, the arguments, the choices
 --   Asked                         the trace of a run, the newest answer first
 --   Path                          a path of states, by its answers, the newest first
 --   run_for                       how a run of so many instructions ends
 --   IsAt                          a run is, after so many instructions, where a state says
 --   Meets                         a run is, after so many instructions, in a state at the end of a path with its trace
---   IsCovered                     so is each run, as long as it wants no choice that isn't there
+--   IsCovered                     so is each run, as long as it needs no choice that isn't there
 --   GoesBack                      values of the tokens that fit a next state fit the state before, and give that answer
 --   own_value, own_values, canon  the values of the tokens of a state where all that may differ differs
 --   AreApart                      tokens that weren't merged are different objects
@@ -47,9 +48,9 @@ use Rattle.pungi_symbol.specs.declared.states.term.Term.{Term}
 use Rattle.pungi_symbol.specs.declared.states.term.Term.TheVariants.{Unset, Token}
 use Rattle.pungi_symbol.specs.states.Terms.{Table, at, content_of}
 use Rattle.pungi_symbol.specs.states.Known.{count, object_of}
-use Rattle.pungi_symbol.specs.questions.NextQuestion.{ask, contents}
+use Rattle.pungi_symbol.specs.questions.NextQuestion.{ask, content_mark}
 use Rattle.pungi_symbol.specs.answers.KnownAfter.{go}
-use Rattle.pungi_symbol.specs.answers.SymbolicState.{class, balance, can, apply}
+use Rattle.pungi_symbol.specs.answers.SymbolicState.{class_of, balance_at, can, apply}
 use Rattle.pungi_symbol.specs.runs.Fits.{FitsState}
 use Rattle.pungi_symbol.specs.runs.RunInState.{answer, Lies}
 
@@ -63,16 +64,16 @@ returned_value table (Some x) = value_in (content_of table x)
 
 -- ---- the start of a function
 
-abbrev pub arguments : Code → ℕ
-arguments code = length (take code.params code.vars)
+abbrev pub argument_count : Code → ℕ
+argument_count code = length (take code.params code.vars)
 
 abbrev pub known_at : ℕ → ℕ → Code → Known
 known_at statics f code = record {
   function = f;
   pc = 0;
-  vars = map Token (range_with_len statics (arguments code)) ++ replicate (length code.vars - arguments code) Unset;
+  vars = map Token (range_with_len statics (argument_count code)) ++ replicate (length code.vars - argument_count code) Unset;
   slots = [];
-  marks = replicate statics IsObject ++ map contents (take code.params code.vars);
+  marks = replicate statics IsObject ++ map content_mark (take code.params code.vars);
   progress = Looking 0;
   status = status.Going;
 }
@@ -81,14 +82,14 @@ abbrev pub start_state : ℕ → ℕ → Code → State
 start_state statics f code = record {
   known = known_at statics f code;
   statics = statics;
-  classes = range_with_len 0 (statics + arguments code);
-  balances = replicate (statics + arguments code) (pos 0);
+  classes = range_with_len 0 (statics + argument_count code);
+  balances = replicate (statics + argument_count code) (pos 0);
   others = [];
 }
 
-abbrev pub starts : ℕ → ℕ → Option Code → List (Decision × State)
-starts statics f None = []
-starts statics f (Some code) = (Quiet, start_state statics f code) ∷ []
+abbrev pub start_states : ℕ → ℕ → Option Code → List (Decision × State)
+start_states statics f None = []
+start_states statics f (Some code) = (Quiet, start_state statics f code) ∷ []
 
 abbrev pub table_of : ℕ → Entry → List Choice → Table
 table_of statics entry choices = map value.Object (range_with_len 0 statics) ++ (entry.args ++ map value_of choices)
@@ -119,7 +120,7 @@ pub record Meets (statics f : ℕ) (code : Code) (entry : Entry) (choices : List
   pub path : Path code.instrs (start_state statics f code) ds s
   pub asked : Asked code.instrs (table_of statics entry choices) (known_at statics f code) ds s.known
   pub m : Regs
-  pub lies : Lies code.instrs (table_of statics entry choices) (statics + arguments code) m s
+  pub lies : Lies code.instrs (table_of statics entry choices) (statics + argument_count code) m s
   pub is_at : IsAt code entry choices n (table_of statics entry choices) m s.known.pc s.known.status
 
 abbrev pub IsCovered : ℕ → ℕ → Code → Type 0
@@ -148,7 +149,7 @@ abbrev pub canon : State → Table
 canon s = own_values s.known.marks s.classes
 
 abbrev pub AreApart : State → Table → Type 0
-AreApart s table = (t u o : ℕ) → t < count s.known → u < count s.known → at table t ≡ value.Object o → at table u ≡ value.Object o → class s.classes t ≡ class s.classes u
+AreApart s table = (t u o : ℕ) → t < count s.known → u < count s.known → at table t ≡ value.Object o → at table u ≡ value.Object o → class_of s.classes t ≡ class_of s.classes u
 
 abbrev pub choice_of : Value → Choice
 choice_of value.Null = choice.Null
@@ -169,10 +170,10 @@ returned_object k (Some x) = object_of k x
 
 abbrev pub is_class : List ℕ → Option ℕ → ℕ → Bool
 is_class classes None t = false
-is_class classes (Some u) t = class classes u == t
+is_class classes (Some u) t = class_of classes u == t
 
 abbrev pub wanted : State → Option Term → ℕ → ℤ
 wanted s x t = if is_class s.classes (returned_object s.known x) t then pos 1 else pos 0
 
 abbrev pub IsLevelState : State → Option Term → Type 0
-IsLevelState s x = (t : ℕ) → t < count s.known → balance s.balances t ≡ wanted s x t
+IsLevelState s x = (t : ℕ) → t < count s.known → balance_at s.balances t ≡ wanted s x t

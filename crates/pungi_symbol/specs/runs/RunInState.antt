@@ -39,7 +39,7 @@ use Rattle.pungi_symbol.specs.declared.states.spot.Spot.TheVariants.{Global, Fie
 use Rattle.pungi_symbol.specs.declared.states.spot.Touched.{Touched}
 use Rattle.pungi_symbol.specs.declared.states.state.State.{State}
 use Rattle.pungi_symbol.specs.states.Terms.{Table, at, content_of, outcomes_of_mark, outcomes_of_answer, place_of}
-use Rattle.pungi_symbol.specs.states.Known.{count, mark}
+use Rattle.pungi_symbol.specs.states.Known.{count, mark_of}
 use Rattle.pungi_symbol.specs.answers.KnownAfter.{instr_of}
 use Rattle.pungi_symbol.specs.runs.Fits.{FitsState, named}
 
@@ -84,7 +84,7 @@ abbrev pub answer : Table → Known → Question → Decision
 answer table k (Does d) = d
 answer table k (Touches m) = Quiet
 answer table k (Overwrites m) = Outcome (place_of (outcomes_of_mark m) (at table (count k)))
-answer table k (AsksNull t) = Outcome (place_of (outcomes_of_mark (mark k t)) (at table t))
+answer table k (AsksNull t) = Outcome (place_of (outcomes_of_mark (mark_of k t)) (at table t))
 answer table k (Base t u i) = IsSame (is_equal (at table t) (at table u))
 answer table k (Answers a) = Outcome (place_of (outcomes_of_answer a) (at table (count k)))
 answer table k (Same t u) = IsSame (is_equal (at table t) (at table u))

@@ -1,6 +1,6 @@
 -- What is known at a step of a run.
 --   count k                    how many tokens there are
---   mark k t, var k x          what is known of a token; what a variable holds
+--   mark_of k t, variable k x  what is known of a token; what a variable holds
 --   term_of k a                what an atom stands for
 --   known_value k x            the value of a term as far as it is known; an object is any one
 --   number k x                 a term as a number
@@ -41,14 +41,14 @@ use Rattle.pungi_symbol.specs.states.Terms.{value_of_mark}
 abbrev pub count : Known → ℕ
 count k = length k.marks
 
-abbrev pub mark : Known → ℕ → Mark
-mark k t = get_or k.marks t IsNull
+abbrev pub mark_of : Known → ℕ → Mark
+mark_of k t = get_or k.marks t IsNull
 
-abbrev pub var : Known → ℕ → Term
-var k x = get_or k.vars x Unset
+abbrev pub variable : Known → ℕ → Term
+variable k x = get_or k.vars x Unset
 
 abbrev pub term_of : Known → Atom → Term
-term_of k (atom.Var x) = var k x.0
+term_of k (atom.Var x) = variable k x.0
 term_of k (atom.Int n) = Number n
 term_of k atom.Null = Null
 term_of k atom.Text = Text
@@ -59,7 +59,7 @@ known_value k Unset = value.Null
 known_value k Null = value.Null
 known_value k Text = value.Text
 known_value k (Number n) = value.Int n
-known_value k (Token t) = value_of_mark (mark k t)
+known_value k (Token t) = value_of_mark (mark_of k t)
 
 abbrev pub number : Known → Term → ℤ
 number k x = number_of (known_value k x)
@@ -77,7 +77,7 @@ object_of k Unset = None
 object_of k Null = None
 object_of k Text = None
 object_of k (Number n) = None
-object_of k (Token t) = object_mark (mark k t) t
+object_of k (Token t) = object_mark (mark_of k t) t
 
 abbrev pub number_in : Term → Option ℤ
 number_in Unset = None
@@ -132,7 +132,7 @@ find_field k Unset tag field = Waits (asks.Stops Quiet)
 find_field k Null tag field = Waits (asks.Stops Quiet)
 find_field k Text tag field = Waits (asks.Stops Quiet)
 find_field k (Number n) tag field = Waits (asks.Stops Quiet)
-find_field k (Token t) tag field = find_token k t (mark k t) tag field
+find_field k (Token t) tag field = find_token k t (mark_of k t) tag field
 
 abbrev pub find : Known → Place → Finding
 find k (places.Global n kind) = at_place (position (λ s. is_global n s.spot) k.slots)

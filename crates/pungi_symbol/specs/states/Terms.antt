@@ -4,7 +4,7 @@
 --   content_of table x       what a term stands for
 --   is_mark m v              a mark is true of a value
 --   outcomes_of_mark m       the answers to whether a token is NULL, in order
---   outcomes_of_answer a     the answers that a call may give, in order
+--   outcomes_of_answer a     the outcomes that a call may have, in order
 --   place_of ms v            the number of the answer that a value is
 --   mark_at ms k             the mark that an answer leaves
 --   value_of_mark m          a value that a mark is true of, where it is known what the value is
@@ -68,7 +68,7 @@ outcomes_of_mark IsObject = []
 outcomes_of_mark IsText = []
 outcomes_of_mark (IsNumber n) = []
 
--- a call that always answers an object has one answer; sizes and other numbers have none here
+-- a call that always returns an object has one outcome; sizes and other numbers have none here
 abbrev pub outcomes_of_answer : Answer → List Mark
 outcomes_of_answer answer.New = IsNull ∷ IsObject ∷ []
 outcomes_of_answer answer.Borrowed = IsNull ∷ IsObject ∷ []

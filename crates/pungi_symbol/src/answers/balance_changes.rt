@@ -5,9 +5,9 @@ ghost use Rattle.pungi_world.specs.Calls.{is_success, is_taken};
 ghost use Rattle.pungi_symbol.specs.states.Terms.{value_of_mark};
 ghost use Rattle.pungi_symbol.specs.questions.NextQuestion.{terms_of};
 ghost use Rattle.pungi_symbol.specs.answers.KnownAfter.{instr_of};
-ghost use Rattle.pungi_symbol.specs.answers.SymbolicState.{add_term, lowered, taken, taken_by, special_weigh, form_weigh, weigh, stored_term};
+ghost use Rattle.pungi_symbol.specs.answers.SymbolicState.{add_term, lower, taken_terms, terms_taken_by, special_weigh, form_weigh, weigh, stored_term};
 
-use crate::questions::call_questions::shorter;
+use crate::questions::call_questions::smaller_length;
 use crate::questions::next_question::line_at;
 use crate::states::balances::add;
 use crate::states::mark::Mark;
@@ -78,15 +78,15 @@ impl State {
     }
 
     fn lower_if(&mut self, taken: bool, x: Term) -> Result<(), Memory>
-        ensures { OnOk result (self.new ≡ record self.old { balances = if taken then add_term self.old.classes self.old.known x (negsuc 0) self.old.balances else self.old.balances }) }
+        ensures { OnOk result (self.new ≡ record self.old { balances = if taken_terms then add_term self.old.classes self.old.known x (negsuc 0) self.old.balances else self.old.balances }) }
     {
         if taken { self.raise(x, -1) } else { Ok(()) }
     }
 
     fn lower_taken(&mut self, success: bool, takes: &[Take], atoms: &[Atom]) -> Result<(), Memory>
-        ensures { OnOk result (self.new ≡ record self.old { balances = lowered self.old.classes self.old.known (taken success takes.now (terms_of self.old.known atoms.now)) self.old.balances }) }
+        ensures { OnOk result (self.new ≡ record self.old { balances = lower self.old.classes self.old.known (taken_terms success takes.now (terms_of self.old.known atoms.now)) self.old.balances }) }
     {
-        let n = shorter(takes.len(), atoms.len());
+        let n = smaller_length(takes.len(), atoms.len());
         for i in 0..n {
             let x = self.known.term(atoms[i]);
             self.lower_if(counts(success, takes[i]), x)?;
@@ -146,7 +146,7 @@ impl State {
 
     /// The balances after a call that took over some of its arguments.
     pub fn lower_call(&mut self, code: &[Line], success: bool) -> Result<(), Memory>
-        ensures { OnOk result (self.new ≡ record self.old { balances = lowered self.old.classes self.old.known (taken_by success (instr_of (slice_get code.now self.old.known.pc)) self.old.known) self.old.balances }) }
+        ensures { OnOk result (self.new ≡ record self.old { balances = lower self.old.classes self.old.known (terms_taken_by success (instr_of (slice_get code.now self.old.known.pc)) self.old.known) self.old.balances }) }
     {
         match line_at(code, self.known.pc) {
             None => Ok(()),
@@ -161,7 +161,7 @@ impl State {
 
     /// The balances after a store to a slot that wasn't touched.
     pub fn lower_stored(&mut self, code: &[Line]) -> Result<(), Memory>
-        ensures { OnOk result (self.new ≡ record self.old { balances = lowered self.old.classes self.old.known (stored_term (instr_of (slice_get code.now self.old.known.pc)) self.old.known) self.old.balances }) }
+        ensures { OnOk result (self.new ≡ record self.old { balances = lower self.old.classes self.old.known (stored_term (instr_of (slice_get code.now self.old.known.pc)) self.old.known) self.old.balances }) }
     {
         match line_at(code, self.known.pc) {
             None => Ok(()),

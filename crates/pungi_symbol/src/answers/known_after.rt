@@ -3,8 +3,8 @@ ghost use Rattle.std.specs.Prelude.{◌≡◌, ◌+◌, IfOk, OnOk, Some, slice_
 ghost use Rattle.pungi_code.specs.declared.instr.Instr.TheVariants.{Load as LoadOf, Store as StoreOf, Compare as CompareOf};
 ghost use Rattle.pungi_symbol.specs.declared.states.known.Status.TheVariants.{Returned as IsReturned, Stopped as IsStopped};
 ghost use Rattle.pungi_symbol.specs.states.Terms.{outcomes_of_mark, outcomes_of_answer, mark_at};
-ghost use Rattle.pungi_symbol.specs.states.Known.{count, mark};
-ghost use Rattle.pungi_symbol.specs.answers.KnownAfter.{next, put, arrive, compare_same, compared_var, compared, answered, term_with, api_var, touch, load_first, store_first, does, with_line, pos_of, instr_of, go, outcome, is_same};
+ghost use Rattle.pungi_symbol.specs.states.Known.{count, mark_of};
+ghost use Rattle.pungi_symbol.specs.answers.KnownAfter.{go_on, put, arrive, compares_same, comparison_var, comparison_term, put_answer, term_with, call_var, touch, load_first, store_first, does, perform_line, place_of_line, instr_of, go, number_of_outcome, says_same};
 
 use crate::answers::decision::Decision;
 use crate::answers::outcomes::{mark_after, mark_of_answer, number_of_outcome, says_same};
@@ -22,13 +22,13 @@ use pungi_meaning::Cmp;
 
 /// A comparison of two objects.
 fn compares_same(cmp: Cmp, same: bool) -> bool
-    ensures { result ≡ compare_same cmp same }
+    ensures { result ≡ compares_same cmp same }
 {
     cmp.holds(Value::Object(0), Value::Object(if same { 0 } else { 1 }))
 }
 
-/// What a call answered, of which this is known.
-fn answered_term(m: Mark, t: u32) -> Term
+/// What a call returned, of which this is known.
+fn term_with(m: Mark, t: u32) -> Term
     ensures { result ≡ term_with m t }
 {
     match m {
@@ -42,7 +42,7 @@ fn answered_term(m: Mark, t: u32) -> Term
 }
 
 fn place_of_line(code: &[Line], pc: usize) -> Pos
-    ensures { result ≡ pos_of (slice_get code.now pc) }
+    ensures { result ≡ place_of_line (slice_get code.now pc) }
 {
     match line_at(code, pc) {
         None => Pos { line: 0, col: 0 },
@@ -51,7 +51,7 @@ fn place_of_line(code: &[Line], pc: usize) -> Pos
 }
 
 fn call_var(code: &[Line], pc: usize) -> Option<Var>
-    ensures { result ≡ api_var (instr_of (slice_get code.now pc)) }
+    ensures { result ≡ call_var (instr_of (slice_get code.now pc)) }
 {
     match line_at(code, pc) {
         None => None,
@@ -63,7 +63,7 @@ fn call_var(code: &[Line], pc: usize) -> Option<Var>
 }
 
 fn comparison_var(code: &[Line], pc: usize) -> u32
-    ensures { result ≡ compared_var (instr_of (slice_get code.now pc)) }
+    ensures { result ≡ comparison_var (instr_of (slice_get code.now pc)) }
 {
     match line_at(code, pc) {
         None => 0,
@@ -75,7 +75,7 @@ fn comparison_var(code: &[Line], pc: usize) -> u32
 }
 
 fn comparison_term(same: bool, code: &[Line], pc: usize) -> Term
-    ensures { result ≡ compared same (instr_of (slice_get code.now pc)) }
+    ensures { result ≡ comparison_term same (instr_of (slice_get code.now pc)) }
 {
     match line_at(code, pc) {
         None => Term::Unset,
@@ -163,7 +163,7 @@ impl Known {
     }
 
     fn perform_line(&mut self, code: &[Line]) -> Result<(), Memory>
-        ensures { OnOk result (self.new ≡ with_line (slice_get code.now self.old.pc) (λ i. does self.old i) self.old) }
+        ensures { OnOk result (self.new ≡ perform_line (slice_get code.now self.old.pc) (λ i. does self.old i) self.old) }
     {
         match line_at(code, self.pc) {
             None => Ok(()),
@@ -172,7 +172,7 @@ impl Known {
     }
 
     fn note(&mut self, t: u32, k: u32)
-        ensures { self.new ≡ record self.old { marks = slice_set self.old.marks t (mark_at (outcomes_of_mark (mark self.old t)) k) } }
+        ensures { self.new ≡ record self.old { marks = slice_set self.old.marks t (mark_at (outcomes_of_mark (mark_of self.old t)) k) } }
     {
         let m = mark_after(self.mark_of(t), k);
         let place = t as usize;
@@ -198,17 +198,17 @@ impl Known {
     }
 
     fn take_answer(&mut self, code: &[Line], m: Mark) -> Result<(), Memory>
-        ensures { OnOk result (self.new ≡ next (answered (api_var (instr_of (slice_get code.now self.old.pc))) (Some (term_with m (count self.old))) (arrive m self.old))) }
+        ensures { OnOk result (self.new ≡ go_on (put_answer (call_var (instr_of (slice_get code.now self.old.pc))) (Some (term_with m (count self.old))) (arrive m self.old))) }
     {
         let x = call_var(code, self.pc);
-        let answer = answered_term(m, self.tokens()?);
+        let answer = term_with(m, self.tokens()?);
         self.arrive(m)?;
         self.put_answer(x, Some(answer));
         self.go_on()
     }
 
     fn take_same(&mut self, code: &[Line], same: bool) -> Result<(), Memory>
-        ensures { OnOk result (self.new ≡ next (put (compared_var (instr_of (slice_get code.now self.old.pc))) (compared same (instr_of (slice_get code.now self.old.pc))) self.old)) }
+        ensures { OnOk result (self.new ≡ go_on (put (comparison_var (instr_of (slice_get code.now self.old.pc))) (comparison_term same (instr_of (slice_get code.now self.old.pc))) self.old)) }
     {
         let x = comparison_var(code, self.pc);
         let c = comparison_term(same, code, self.pc);
@@ -216,13 +216,13 @@ impl Known {
     }
 
     fn returns(&mut self, code: &[Line], x: Option<Term>)
-        ensures { self.new ≡ record self.old { status = IsReturned (pos_of (slice_get code.now self.old.pc)) x } }
+        ensures { self.new ≡ record self.old { status = IsReturned (place_of_line (slice_get code.now self.old.pc)) x } }
     {
         self.status = Status::Returned(place_of_line(code, self.pc), x);
     }
 
     fn stops(&mut self, code: &[Line])
-        ensures { self.new ≡ record self.old { status = IsStopped (pos_of (slice_get code.now self.old.pc)) } }
+        ensures { self.new ≡ record self.old { status = IsStopped (place_of_line (slice_get code.now self.old.pc)) } }
     {
         self.status = Status::Stopped(place_of_line(code, self.pc));
     }

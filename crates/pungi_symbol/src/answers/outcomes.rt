@@ -1,7 +1,7 @@
 // The answers to a question, by their numbers.
 ghost use Rattle.std.specs.Prelude.{◌≡◌, ◌∷◌, [], length};
 ghost use Rattle.pungi_symbol.specs.states.Terms.{outcomes_of_mark, outcomes_of_answer, mark_at};
-ghost use Rattle.pungi_symbol.specs.answers.KnownAfter.{outcome, is_same};
+ghost use Rattle.pungi_symbol.specs.answers.KnownAfter.{number_of_outcome, says_same};
 
 use crate::answers::decision::Decision;
 use crate::states::mark::Mark;
@@ -9,7 +9,7 @@ use pungi_api::Answer;
 
 /// The number of an answer.
 pub fn number_of_outcome(d: Decision) -> u32
-    ensures { result ≡ outcome d }
+    ensures { result ≡ number_of_outcome d }
 {
     match d {
         Decision::Outcome(k) => k,
@@ -21,7 +21,7 @@ pub fn number_of_outcome(d: Decision) -> u32
 
 /// Whether an answer says that two pointers are the same.
 pub fn says_same(d: Decision) -> bool
-    ensures { result ≡ is_same d }
+    ensures { result ≡ says_same d }
 {
     match d {
         Decision::Same(b) => b,
@@ -77,7 +77,7 @@ pub fn outcomes_after(m: Mark) -> u32
     }
 }
 
-/// What is known of what a call answered.
+/// What is known of what a call returned.
 pub fn mark_of_answer(answer: Answer, k: u32) -> Mark
     ensures { result ≡ mark_at (outcomes_of_answer answer) k }
 {
@@ -98,7 +98,7 @@ pub fn mark_of_answer(answer: Answer, k: u32) -> Mark
     }
 }
 
-/// How many answers a call may give.
+/// How many outcomes a call may have.
 pub fn outcomes_of_call(answer: Answer) -> u32
     ensures { result ≡ length (outcomes_of_answer answer) }
 {

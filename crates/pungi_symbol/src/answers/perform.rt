@@ -3,7 +3,7 @@ ghost use Rattle.std.specs.Prelude.{◌≡◌, OnOk};
 ghost use Rattle.pungi_code.specs.declared.instr.Instr.TheVariants.{Arith as ArithOf, Fit as FitOf, Compare as CompareOf, Load as LoadOf, Store as StoreOf, Api as ApiOf, Branch as BranchOf};
 ghost use Rattle.pungi_symbol.specs.states.Known.{find, found_at, term_of};
 ghost use Rattle.pungi_symbol.specs.questions.NextQuestion.{first_term, terms_of};
-ghost use Rattle.pungi_symbol.specs.answers.KnownAfter.{next, to, put, truth_of, compare, number_or_0, answered, row_answer, special_answer, form_answer, stored, does};
+ghost use Rattle.pungi_symbol.specs.answers.KnownAfter.{go_on, go_to, put, truth_term, compares, number_there, put_answer, answer_of_row, answer_of_special, answer_of_form, store_at, does};
 
 use crate::questions::slot_search::place_found;
 use crate::states::known::Known;
@@ -17,13 +17,13 @@ use pungi_types::ValueKind;
 
 /// What a comparison gives.
 pub fn truth_term(holds: bool) -> Term
-    ensures { result ≡ truth_of holds }
+    ensures { result ≡ truth_term holds }
 {
     Term::Number(number_of(truth(holds)))
 }
 
 fn number_there(n: Option<i64>) -> i64
-    ensures { result ≡ number_or_0 n }
+    ensures { result ≡ number_there n }
 {
     match n {
         Some(n) => n,
@@ -32,7 +32,7 @@ fn number_there(n: Option<i64>) -> i64
 }
 
 fn answer_of_row(answer: Answer) -> Option<Term>
-    ensures { result ≡ row_answer answer }
+    ensures { result ≡ answer_of_row answer }
 {
     match answer {
         Answer::Void => None,
@@ -41,7 +41,7 @@ fn answer_of_row(answer: Answer) -> Option<Term>
 }
 
 fn answer_of_special(special: Special, x: Term) -> Option<Term>
-    ensures { result ≡ special_answer special x }
+    ensures { result ≡ answer_of_special special x }
 {
     match special {
         Special::NewRef => Some(x),
@@ -51,7 +51,7 @@ fn answer_of_special(special: Special, x: Term) -> Option<Term>
 }
 
 fn answer_of_form(form: Form, answer: Answer, x: Term) -> Option<Term>
-    ensures { result ≡ form_answer form answer x }
+    ensures { result ≡ answer_of_form form answer x }
 {
     match form {
         Form::Plain => answer_of_row(answer),
@@ -71,7 +71,7 @@ impl Known {
 
     /// To the next instruction.
     pub fn go_on(&mut self) -> Result<(), Memory>
-        ensures { OnOk result (self.new ≡ next self.old) }
+        ensures { OnOk result (self.new ≡ go_on self.old) }
     {
         match self.pc.checked_add(1) {
             Some(pc) => {
@@ -84,7 +84,7 @@ impl Known {
     }
 
     fn go_to(&mut self, label: Label)
-        ensures { self.new ≡ to label.0 self.old }
+        ensures { self.new ≡ go_to label.0 self.old }
     {
         self.pc = label.0 as usize;
         self.progress = Progress::Looking(0);
@@ -92,7 +92,7 @@ impl Known {
 
     /// A variable gets this, and the next instruction comes.
     pub fn assign(&mut self, x: u32, c: Term) -> Result<(), Memory>
-        ensures { OnOk result (self.new ≡ next (put x c self.old)) }
+        ensures { OnOk result (self.new ≡ go_on (put x c self.old)) }
     {
         self.put(x, c);
         self.go_on()
@@ -100,7 +100,7 @@ impl Known {
 
     /// A variable gets the answer of a call, where there is one.
     pub fn put_answer(&mut self, x: Option<Var>, answer: Option<Term>)
-        ensures { self.new ≡ answered x answer self.old }
+        ensures { self.new ≡ put_answer x answer self.old }
     {
         match x {
             None => {}
@@ -112,7 +112,7 @@ impl Known {
     }
 
     fn store_at(&mut self, i: u32, c: Term)
-        ensures { self.new ≡ stored i c self.old }
+        ensures { self.new ≡ store_at i c self.old }
     {
         let was = self.slot(i);
         let place = i as usize;
@@ -127,7 +127,7 @@ impl Known {
     }
 
     fn compares(&self, cmp: Cmp, x: Term, y: Term) -> bool
-        ensures { result ≡ compare self.now cmp x y }
+        ensures { result ≡ compares self.now cmp x y }
     {
         cmp.holds(self.value(x), self.value(y))
     }
@@ -172,7 +172,7 @@ impl Known {
     }
 
     fn do_call(&mut self, x: Option<Var>, shape: &Shape, atoms: &[Atom]) -> Result<(), Memory>
-        ensures { OnOk result (self.new ≡ next (answered x (form_answer shape.now.row.form shape.now.row.answer (first_term (terms_of self.old atoms.now))) self.old)) }
+        ensures { OnOk result (self.new ≡ go_on (put_answer x (answer_of_form shape.now.row.form shape.now.row.answer (first_term (terms_of self.old atoms.now))) self.old)) }
     {
         let first = self.first_of(atoms);
         let answer = answer_of_form(shape.row.form, shape.row.answer, first);

@@ -1,7 +1,7 @@
 // What a call of the API asks.
 ghost use Rattle.std.specs.Prelude.{◌≡◌, min};
 ghost use Rattle.pungi_symbol.specs.states.Known.{term_of};
-ghost use Rattle.pungi_symbol.specs.questions.NextQuestion.{all_set, needing_for, needing_all, knowing_for, knowing_taken, first_term, special_ask, form_ask, terms_of};
+ghost use Rattle.pungi_symbol.specs.questions.NextQuestion.{asks_all_set, asks_param, asks_params, asks_take, asks_takes, first_term, asks_special, asks_form, terms_of};
 
 use crate::answers::decision::Decision;
 use crate::questions::question::Question;
@@ -12,7 +12,7 @@ use pungi_api::{Form, Param, Shape, Special, Take};
 use pungi_code::Atom;
 
 /// The smaller of two lengths.
-pub fn shorter(m: usize, n: usize) -> usize
+pub fn smaller_length(m: usize, n: usize) -> usize
     ensures { result ≡ min m n }
 {
     if m < n { m } else { n }
@@ -20,7 +20,7 @@ pub fn shorter(m: usize, n: usize) -> usize
 
 impl Known {
     fn asks_param(&self, param: Param, x: Term, q: Question) -> Question
-        ensures { result ≡ needing_for self.now param x q }
+        ensures { result ≡ asks_param self.now param x q }
     {
         match param {
             Param::Object => self.asks_thing(x, q),
@@ -35,7 +35,7 @@ impl Known {
     }
 
     fn asks_take(&self, take: Take, x: Term, q: Question) -> Question
-        ensures { result ≡ knowing_for self.now take x q }
+        ensures { result ≡ asks_take self.now take x q }
     {
         match take {
             Take::Never => q,
@@ -57,7 +57,7 @@ impl Known {
     /// Each of these is set. From the last to the first, so that the first asks first.
     #[tactic(auto, using(crate::proofs::questions::Arguments::set_step, crate::proofs::questions::Arguments::set_end))]
     pub fn asks_all_set(&self, atoms: &[Atom], last: Question) -> Question
-        ensures { result ≡ all_set (terms_of self.now atoms.now) last }
+        ensures { result ≡ asks_all_set (terms_of self.now atoms.now) last }
     {
         let mut q = last;
         let mut i = atoms.len();
@@ -70,10 +70,10 @@ impl Known {
 
     #[tactic(auto, using(crate::proofs::questions::Arguments::needing_step, crate::proofs::questions::Arguments::needing_end))]
     fn asks_params(&self, params: &[Param], atoms: &[Atom], last: Question) -> Question
-        ensures { result ≡ needing_all self.now params.now (terms_of self.now atoms.now) last }
+        ensures { result ≡ asks_params self.now params.now (terms_of self.now atoms.now) last }
     {
         let mut q = last;
-        let mut i = shorter(params.len(), atoms.len());
+        let mut i = smaller_length(params.len(), atoms.len());
         while i > 0 {
             i -= 1;
             q = self.asks_param(params[i], self.term(atoms[i]), q);
@@ -83,10 +83,10 @@ impl Known {
 
     #[tactic(auto, using(crate::proofs::questions::Arguments::taken_step, crate::proofs::questions::Arguments::taken_end))]
     fn asks_takes(&self, takes: &[Take], atoms: &[Atom], last: Question) -> Question
-        ensures { result ≡ knowing_taken self.now takes.now (terms_of self.now atoms.now) last }
+        ensures { result ≡ asks_takes self.now takes.now (terms_of self.now atoms.now) last }
     {
         let mut q = last;
-        let mut i = shorter(takes.len(), atoms.len());
+        let mut i = smaller_length(takes.len(), atoms.len());
         while i > 0 {
             i -= 1;
             q = self.asks_take(takes[i], self.term(atoms[i]), q);
@@ -95,7 +95,7 @@ impl Known {
     }
 
     fn asks_special(&self, special: Special, x: Term) -> Question
-        ensures { result ≡ special_ask self.now special x }
+        ensures { result ≡ asks_special self.now special x }
     {
         let done = Question::Does(Decision::Quiet);
         match special {
@@ -110,7 +110,7 @@ impl Known {
     }
 
     fn asks_form(&self, shape: &Shape, atoms: &[Atom]) -> Question
-        ensures { result ≡ form_ask self.now shape.now.row.form shape.now (terms_of self.now atoms.now) }
+        ensures { result ≡ asks_form self.now shape.now.row.form shape.now (terms_of self.now atoms.now) }
     {
         match shape.row.form {
             Form::Plain => {
@@ -124,7 +124,7 @@ impl Known {
 
     /// A call of the API.
     pub fn asks_call(&self, shape: &Shape, atoms: &[Atom]) -> Question
-        ensures { result ≡ all_set (terms_of self.now atoms.now) (form_ask self.now shape.now.row.form shape.now (terms_of self.now atoms.now)) }
+        ensures { result ≡ asks_all_set (terms_of self.now atoms.now) (asks_form self.now shape.now.row.form shape.now (terms_of self.now atoms.now)) }
     {
         self.asks_all_set(atoms, self.asks_form(shape, atoms))
     }

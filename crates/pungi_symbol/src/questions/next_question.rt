@@ -2,9 +2,9 @@
 ghost use Rattle.std.specs.Prelude.{◌≡◌, ◌<◌, IfOk, MatchOption, None, Some, length, slice_get};
 ghost use Rattle.pungi_code.specs.declared.instr.Instr.TheVariants.{Arith as ArithOf};
 ghost use Rattle.pungi_code.specs.WellFormed.{place_kind};
-ghost use Rattle.pungi_meaning.specs.Values.{arithmetic as arithmetic_result};
+ghost use Rattle.pungi_meaning.specs.Values.{arithmetic};
 ghost use Rattle.pungi_symbol.specs.states.Known.{term_of, number, find};
-ghost use Rattle.pungi_symbol.specs.questions.NextQuestion.{setting, knowing, ranged, is_below, fitting, contents, loading, storing, return_ask, ask_of, ask_line, ask};
+ghost use Rattle.pungi_symbol.specs.questions.NextQuestion.{asks_set, asks_known, asks_range, is_below, asks_fit, content_mark, asks_load, asks_store, asks_return, asks_instr, asks_line, ask};
 
 use crate::answers::decision::Decision;
 use crate::questions::question::Question;
@@ -39,13 +39,13 @@ fn kind_of(place: Place) -> Param
 
 impl Known {
     fn asks_set_atom(&self, a: Atom) -> Question
-        ensures { result ≡ setting (term_of self.now a) (Question.Does Decision.Quiet) }
+        ensures { result ≡ asks_set (term_of self.now a) (Question.Does Decision.Quiet) }
     {
         asks_set(self.term(a), Question::Does(Decision::Quiet))
     }
 
     fn asks_operator(&self, kind: ValueKind, op: Op, a: Atom, b: Atom) -> Question
-        ensures { result ≡ setting (term_of self.now a) (setting (term_of self.now b) (ranged (arithmetic_result op kind (number self.now (term_of self.now a)) (number self.now (term_of self.now b))) (is_below op (number self.now (term_of self.now a)) (number self.now (term_of self.now b))))) }
+        ensures { result ≡ asks_set (term_of self.now a) (asks_set (term_of self.now b) (asks_range (arithmetic op kind (number self.now (term_of self.now a)) (number self.now (term_of self.now b))) (is_below op (number self.now (term_of self.now a)) (number self.now (term_of self.now b))))) }
     {
         let (x, y) = (self.term(a), self.term(b));
         let done = asks_arith(op, kind, self.number(x), self.number(y));
@@ -53,21 +53,21 @@ impl Known {
     }
 
     fn asks_conversion(&self, kind: ValueKind, a: Atom) -> Question
-        ensures { result ≡ setting (term_of self.now a) (fitting kind (number self.now (term_of self.now a))) }
+        ensures { result ≡ asks_set (term_of self.now a) (asks_fit kind (number self.now (term_of self.now a))) }
     {
         let x = self.term(a);
         asks_set(x, asks_fit(kind, self.number(x)))
     }
 
     fn asks_place_load(&self, place: Place) -> Result<Question, Memory>
-        ensures { IfOk result (λ q. q ≡ loading self.now (contents (place_kind place)) (find self.now place)) }
+        ensures { IfOk result (λ q. q ≡ asks_load self.now (content_mark (place_kind place)) (find self.now place)) }
     {
         let found = self.seek(place)?;
         Ok(self.asks_load(content_mark(kind_of(place)), found))
     }
 
     fn asks_place_store(&self, place: Place, a: Atom) -> Result<Question, Memory>
-        ensures { IfOk result (λ q. q ≡ knowing self.now (term_of self.now a) (storing self.now (contents (place_kind place)) (find self.now place))) }
+        ensures { IfOk result (λ q. q ≡ asks_known self.now (term_of self.now a) (asks_store self.now (content_mark (place_kind place)) (find self.now place))) }
     {
         let found = self.seek(place)?;
         let done = self.asks_store(content_mark(kind_of(place)), found);
@@ -75,7 +75,7 @@ impl Known {
     }
 
     fn asks_return(&self, a: Option<Atom>) -> Question
-        ensures { result ≡ return_ask self.now a }
+        ensures { result ≡ asks_return self.now a }
     {
         match a {
             None => Question::Returns(None),
@@ -87,7 +87,7 @@ impl Known {
     }
 
     fn asks_instr(&self, instr: &Instr) -> Result<Question, Memory>
-        ensures { IfOk result (λ q. q ≡ ask_of self.now instr.now) }
+        ensures { IfOk result (λ q. q ≡ asks_instr self.now instr.now) }
     {
         match instr {
             Instr::Set(_, a) => Ok(self.asks_set_atom(*a)),
@@ -107,7 +107,7 @@ impl Known {
     }
 
     fn asks_line(&self, code: &[Line]) -> Result<Question, Memory>
-        ensures { IfOk result (λ q. q ≡ ask_line self.now (slice_get code.now self.now.pc)) }
+        ensures { IfOk result (λ q. q ≡ asks_line self.now (slice_get code.now self.now.pc)) }
     {
         match line_at(code, self.pc) {
             None => Ok(Question::Stops(Decision::Quiet)),

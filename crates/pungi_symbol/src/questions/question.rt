@@ -16,7 +16,7 @@ pub enum Question {
     Null(u32),
     /// Whether the token of a base is that of the touched slot at this place.
     Base(u32, u32, u32),
-    /// What a call answers.
+    /// What a call returns.
     Answers(Answer),
     /// Whether two tokens that are compared are the same object.
     Same(u32, u32),

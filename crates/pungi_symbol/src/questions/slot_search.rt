@@ -39,7 +39,7 @@ fn base(spot: Spot) -> u32
     }
 }
 
-fn after(slots: &[Touched], from: u32) -> &[Touched]
+fn slots_from(slots: &[Touched], from: u32) -> &[Touched]
     ensures { result.now ≡ drop from slots.now }
 {
     let from = from as usize;
@@ -62,8 +62,8 @@ fn first_field(slots: &[Touched], tag: Name, field: Name) -> Option<usize>
     slots.iter().position(|s| is_this_field(tag, field, s.spot))
 }
 
-/// The place so far behind another.
-fn behind(c: u32, j: usize) -> Result<u32, Memory>
+/// The place so far after another.
+fn place_after(c: u32, j: usize) -> Result<u32, Memory>
     ensures { IfOk result (λ i. i ≡ c + j) }
 {
     if j > u32::MAX as usize {
@@ -75,22 +75,22 @@ fn behind(c: u32, j: usize) -> Result<u32, Memory>
     }
 }
 
-fn finding_at(found: Option<usize>) -> Result<Finding, Memory>
+fn at_place(found: Option<usize>) -> Result<Finding, Memory>
     ensures { IfOk result (λ f. f ≡ at_place found) }
 {
     match found {
         None => Ok(Finding::Nowhere),
-        Some(i) => Ok(Finding::At(behind(0, i)?)),
+        Some(i) => Ok(Finding::At(place_after(0, i)?)),
     }
 }
 
-fn asking_base(t: u32, c: u32, slots: &[Touched], found: Option<usize>) -> Result<Finding, Memory>
+fn ask_base(t: u32, c: u32, slots: &[Touched], found: Option<usize>) -> Result<Finding, Memory>
     ensures { IfOk result (λ f. f ≡ ask_base t c slots.now found) }
 {
     match found {
         None => Ok(Finding::Nowhere),
         Some(j) => {
-            let i = behind(c, j)?;
+            let i = place_after(c, j)?;
             let other = base(touched_at(slots, i).spot);
             Ok(Finding::Waits(Question::Base(t, other, i)))
         }
@@ -109,8 +109,8 @@ fn sought(
     match progress {
         Progress::Found(i) => Ok(Finding::At(i)),
         Progress::Looking(c) => {
-            let found = first_field(after(slots, c), tag, field);
-            Ok(asking_base(t, c, slots, found)?)
+            let found = first_field(slots_from(slots, c), tag, field);
+            Ok(ask_base(t, c, slots, found)?)
         }
     }
 }
@@ -170,7 +170,7 @@ impl Known {
         ensures { IfOk result (λ f. f ≡ find self.now place) }
     {
         match place {
-            Place::Global(name, _) => Ok(finding_at(first_global(self.slots.as_slice(), name))?),
+            Place::Global(name, _) => Ok(at_place(first_global(self.slots.as_slice(), name))?),
             Place::Field(base, tag, field, _) => Ok(self.seek_field(self.term(base), tag, field)?),
         }
     }

@@ -1,8 +1,8 @@
 // What the parts of an instruction ask.
 ghost use Rattle.std.specs.Prelude.{◌≡◌, pos, Some};
 ghost use Rattle.pungi_symbol.specs.states.Known.{number_in};
-ghost use Rattle.pungi_meaning.specs.Values.{arithmetic as arithmetic_result};
-ghost use Rattle.pungi_symbol.specs.questions.NextQuestion.{setting, knowing, knowing_mark, needing, needing_mark, ordering, comparing, compare_ask, ranged, is_below, fitting, contents, loading, storing, dropping, answering};
+ghost use Rattle.pungi_meaning.specs.Values.{arithmetic};
+ghost use Rattle.pungi_symbol.specs.questions.NextQuestion.{asks_set, asks_known, knows_mark, asks_thing, needs_mark, asks_order, asks_same, asks_compare, asks_range, is_below, asks_fit, content_mark, asks_load, asks_store, asks_dropped, asks_answer};
 
 use crate::answers::decision::Decision;
 use crate::questions::found_slot::Finding;
@@ -16,7 +16,7 @@ use pungi_types::ValueKind;
 
 /// The step needs a set term.
 pub fn asks_set(x: Term, q: Question) -> Question
-    ensures { result ≡ setting x q }
+    ensures { result ≡ asks_set x q }
 {
     match x {
         Term::Unset => Question::Stops(Decision::Quiet),
@@ -28,7 +28,7 @@ pub fn asks_set(x: Term, q: Question) -> Question
 }
 
 fn knows_mark(m: Mark, t: u32, q: Question) -> Question
-    ensures { result ≡ knowing_mark m t q }
+    ensures { result ≡ knows_mark m t q }
 {
     match m {
         Mark::Pointer => Question::Null(t),
@@ -41,7 +41,7 @@ fn knows_mark(m: Mark, t: u32, q: Question) -> Question
 }
 
 fn needs_mark(m: Mark, t: u32, q: Question) -> Question
-    ensures { result ≡ needing_mark m t q }
+    ensures { result ≡ needs_mark m t q }
 {
     match m {
         Mark::Pointer => Question::Null(t),
@@ -54,7 +54,7 @@ fn needs_mark(m: Mark, t: u32, q: Question) -> Question
 }
 
 fn asks_order(a: Option<i64>, b: Option<i64>, q: Question) -> Question
-    ensures { result ≡ ordering a b q }
+    ensures { result ≡ asks_order a b q }
 {
     match a {
         None => q,
@@ -66,7 +66,7 @@ fn asks_order(a: Option<i64>, b: Option<i64>, q: Question) -> Question
 }
 
 fn asks_same(a: Option<u32>, b: Option<u32>) -> Question
-    ensures { result ≡ comparing a b }
+    ensures { result ≡ asks_same a b }
 {
     match a {
         None => Question::Does(Decision::Quiet),
@@ -78,7 +78,7 @@ fn asks_same(a: Option<u32>, b: Option<u32>) -> Question
 }
 
 fn asks_range(number: Option<i64>, below: bool) -> Question
-    ensures { result ≡ ranged number below }
+    ensures { result ≡ asks_range number below }
 {
     match number {
         Some(_) => Question::Does(Decision::Outcome(1)),
@@ -88,7 +88,7 @@ fn asks_range(number: Option<i64>, below: bool) -> Question
 
 /// A conversion to a kind of integers.
 pub fn asks_fit(kind: ValueKind, n: i64) -> Question
-    ensures { result ≡ fitting kind n }
+    ensures { result ≡ asks_fit kind n }
 {
     if fits(kind, n) {
         Question::Does(Decision::Outcome(1))
@@ -99,7 +99,7 @@ pub fn asks_fit(kind: ValueKind, n: i64) -> Question
 
 /// What is known of what a slot of a kind held at entry.
 pub fn content_mark(kind: Param) -> Mark
-    ensures { result ≡ contents kind }
+    ensures { result ≡ content_mark kind }
 {
     match kind {
         Param::Object => Mark::Pointer,
@@ -115,7 +115,7 @@ pub fn content_mark(kind: Param) -> Mark
 
 /// A call with an answer.
 pub fn asks_answer(answer: Answer) -> Question
-    ensures { result ≡ answering answer }
+    ensures { result ≡ asks_answer answer }
 {
     match answer {
         Answer::Void => Question::Does(Decision::Quiet),
@@ -127,7 +127,7 @@ pub fn asks_answer(answer: Answer) -> Question
 impl Known {
     /// The step needs to know whether a term is `NULL`.
     pub fn asks_known(&self, x: Term, q: Question) -> Question
-        ensures { result ≡ knowing self.now x q }
+        ensures { result ≡ asks_known self.now x q }
     {
         match x {
             Term::Unset => Question::Stops(Decision::Quiet),
@@ -140,7 +140,7 @@ impl Known {
 
     /// The step needs a term that isn't `NULL`.
     pub fn asks_thing(&self, x: Term, q: Question) -> Question
-        ensures { result ≡ needing self.now x q }
+        ensures { result ≡ asks_thing self.now x q }
     {
         match x {
             Term::Unset => Question::Stops(Decision::Quiet),
@@ -153,7 +153,7 @@ impl Known {
 
     /// A comparison.
     pub fn asks_compare(&self, a: Term, b: Term) -> Question
-        ensures { result ≡ compare_ask self.now a b }
+        ensures { result ≡ asks_compare self.now a b }
     {
         let same = asks_same(self.object(a), self.object(b));
         let known = self.asks_known(a, self.asks_known(b, same));
@@ -162,15 +162,15 @@ impl Known {
 
     /// The condition of a branch.
     pub fn asks_condition(&self, a: Term) -> Question
-        ensures { result ≡ ordering (number_in a) (Some (pos 0)) (knowing self.now a (Question.Does Decision.Quiet)) }
+        ensures { result ≡ asks_order (number_in a) (Some (pos 0)) (asks_known self.now a (Question.Does Decision.Quiet)) }
     {
         let known = self.asks_known(a, Question::Does(Decision::Quiet));
         asks_order(constant(a), Some(0), known)
     }
 
-    /// What a slot held that wasn't set is of no concern.
+    /// What a slot held that wasn't set doesn't matter.
     fn asks_dropped(&self, x: Term) -> Question
-        ensures { result ≡ dropping self.now x }
+        ensures { result ≡ asks_dropped self.now x }
     {
         match x {
             Term::Unset => Question::Does(Decision::Quiet),
@@ -183,7 +183,7 @@ impl Known {
 
     /// A load of a slot that stands there.
     pub fn asks_load(&self, m: Mark, f: Finding) -> Question
-        ensures { result ≡ loading self.now m f }
+        ensures { result ≡ asks_load self.now m f }
     {
         match f {
             Finding::Waits(q) => q,
@@ -194,7 +194,7 @@ impl Known {
 
     /// A store to a slot that stands there.
     pub fn asks_store(&self, m: Mark, f: Finding) -> Question
-        ensures { result ≡ storing self.now m f }
+        ensures { result ≡ asks_store self.now m f }
     {
         match f {
             Finding::Waits(q) => q,
@@ -260,7 +260,7 @@ fn is_result_below(op: Op, m: i64, n: i64) -> bool
 
 /// An arithmetic operator.
 pub fn asks_arith(op: Op, kind: ValueKind, m: i64, n: i64) -> Question
-    ensures { result ≡ ranged (arithmetic_result op kind m n) (is_below op m n) }
+    ensures { result ≡ asks_range (arithmetic op kind m n) (is_below op m n) }
 {
     asks_range(arithmetic(op, kind, m, n), is_result_below(op, m, n))
 }

@@ -3,8 +3,8 @@ ghost use Rattle.std.specs.Prelude.{◌≡◌, ◌+◌, ◌-◌, ◌++◌, pos, 
 ghost use Rattle.std.specs.List.{range_with_len};
 ghost use Rattle.std.specs.Option.{option_map_or};
 ghost use Rattle.pungi_code.specs.Run.{code_at};
-ghost use Rattle.pungi_symbol.specs.questions.NextQuestion.{contents};
-ghost use Rattle.pungi_symbol.specs.runs.Paths.{arguments, known_at, starts, start_state};
+ghost use Rattle.pungi_symbol.specs.questions.NextQuestion.{content_mark};
+ghost use Rattle.pungi_symbol.specs.runs.Paths.{argument_count, known_at, start_states, start_state};
 
 use crate::answers::decision::Decision;
 use crate::questions::term_questions::content_mark;
@@ -22,14 +22,14 @@ use std::alloc::Global;
 
 /// How many arguments a code takes.
 fn argument_count(code: &Code) -> usize
-    ensures { result ≡ arguments code.now }
+    ensures { result ≡ argument_count code.now }
 {
     front(code.vars.as_slice(), code.params as usize).len()
 }
 
 /// How many arguments a function takes. With no code it takes none.
 pub fn arguments_of(codes: &Codes, f: usize) -> usize
-    ensures { result ≡ option_map_or arguments (code_at codes.now f) 0 }
+    ensures { result ≡ option_map_or argument_count (code_at codes.now f) 0 }
 {
     match code_of(codes, f) {
         Some(code) => argument_count(code),
@@ -62,7 +62,7 @@ fn tokens(alloc: Global, from: u32, end: u32) -> Result<Vec<Term>, Memory>
 }
 
 fn variables(alloc: Global, statics: u32, code: &Code) -> Result<Vec<Term>, Memory>
-    ensures { IfOk result (λ vars. vars.items ≡ map Term.Token (range_with_len statics (arguments code.now)) ++ replicate (length code.now.vars - arguments code.now) Term.Unset) }
+    ensures { IfOk result (λ vars. vars.items ≡ map Term.Token (range_with_len statics (argument_count code.now)) ++ replicate (length code.now.vars - argument_count code.now) Term.Unset) }
 {
     let n = argument_count(code);
     let mut vars = tokens(alloc, statics, token_after(statics, n)?)?;
@@ -72,14 +72,14 @@ fn variables(alloc: Global, statics: u32, code: &Code) -> Result<Vec<Term>, Memo
 }
 
 fn contents_of(alloc: Global, kinds: &[Param]) -> Result<Vec<Mark>, Memory>
-    ensures { IfOk result (λ marks. marks.items ≡ map contents kinds.now) }
+    ensures { IfOk result (λ marks. marks.items ≡ map content_mark kinds.now) }
 {
     let marks: Vec<Mark> = kinds.iter().map(|kind| content_mark(*kind)).collect(alloc)?;
     Ok(marks)
 }
 
 fn marks_at(alloc: Global, statics: u32, code: &Code) -> Result<Vec<Mark>, Memory>
-    ensures { IfOk result (λ marks. marks.items ≡ replicate statics Mark.IsObject ++ map contents (take code.now.params code.now.vars)) }
+    ensures { IfOk result (λ marks. marks.items ≡ replicate statics Mark.IsObject ++ map content_mark (take code.now.params code.now.vars)) }
 {
     let mut marks = vec![in alloc; Mark::IsObject; statics as usize]?;
     let given = contents_of(alloc, front(code.vars.as_slice(), code.params as usize))?;
@@ -133,7 +133,7 @@ pub fn first_state(alloc: Global, statics: u32, f: usize, code: &Code) -> Result
 
 /// The states with which the runs of a function begin: one, where it has code.
 pub fn first_of(alloc: Global, codes: &Codes, f: usize) -> Result<Vec<(Decision, Sym)>, Memory>
-    ensures { IfOk result (λ first. first.items ≡ starts codes.now.statics f (code_at codes.now f)) }
+    ensures { IfOk result (λ first. first.items ≡ start_states codes.now.statics f (code_at codes.now f)) }
 {
     let mut first = Vec::new(alloc);
     if let Some(code) = code_of(codes, f) {

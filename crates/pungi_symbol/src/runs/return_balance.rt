@@ -1,7 +1,7 @@
 // Whether a state that returns is balanced.
 ghost use Rattle.std.specs.Prelude.{◌≡◌, ◌<◌, ◌↔◌, IsTrue, MatchOption, pos, if◌then◌else◌};
 ghost use Rattle.pungi_symbol.specs.states.Known.{count};
-ghost use Rattle.pungi_symbol.specs.answers.SymbolicState.{balance};
+ghost use Rattle.pungi_symbol.specs.answers.SymbolicState.{balance_at};
 ghost use Rattle.pungi_symbol.specs.Promises.{LevelBy, OffBy};
 ghost use Rattle.pungi_symbol.specs.runs.Paths.{returned_object, is_class, wanted, IsLevelState};
 
@@ -29,7 +29,7 @@ fn stands_for(classes: &[u32], returned: Option<u32>, t: usize) -> bool
 }
 
 fn owed_at(balances: &[i64], t: usize) -> i64
-    ensures { result ≡ balance balances.now t }
+    ensures { result ≡ balance_at balances.now t }
 {
     match balances.get(t) {
         Some(b) => *b,
@@ -38,7 +38,7 @@ fn owed_at(balances: &[i64], t: usize) -> i64
 }
 
 fn is_level_at(state: &State, returned: Option<u32>, t: usize) -> bool
-    ensures { IsTrue result ↔ (balance state.now.balances t ≡ (if is_class state.now.classes returned t then pos 1 else pos 0)) }
+    ensures { IsTrue result ↔ (balance_at state.now.balances t ≡ (if is_class state.now.classes returned t then pos 1 else pos 0)) }
 {
     let b = owed_at(state.balances.as_slice(), t);
     if stands_for(state.classes.as_slice(), returned, t) {
@@ -50,7 +50,7 @@ fn is_level_at(state: &State, returned: Option<u32>, t: usize) -> bool
 
 /// The first token whose balance isn't what the return owes.
 pub fn off_level(state: &State, x: Option<Term>) -> Option<usize>
-    ensures { MatchOption result (IsLevelState state.now x) (λ t. (t < count state.now.known) × (balance state.now.balances t ≡ wanted state.now x t → ⊥)) }
+    ensures { MatchOption result (IsLevelState state.now x) (λ t. (t < count state.now.known) × (balance_at state.now.balances t ≡ wanted state.now x t → ⊥)) }
 {
     let returned = returned_token(&state.known, x);
     let tokens = state.known.marks.len();

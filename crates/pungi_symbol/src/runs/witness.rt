@@ -3,9 +3,9 @@ ghost use Rattle.std.specs.Prelude.{◌≡◌, ◌<◌, ◌^◌, drop, map, take
 ghost use Rattle.std.specs.Option.{option_map_or};
 ghost use Rattle.pungi_code.specs.Run.{code_at};
 ghost use Rattle.pungi_symbol.specs.states.Known.{count};
-ghost use Rattle.pungi_symbol.specs.runs.Paths.{arguments, own_value, canon, choice_of};
+ghost use Rattle.pungi_symbol.specs.runs.Paths.{argument_count, own_value, canon, choice_of};
 
-use crate::questions::call_questions::shorter;
+use crate::questions::call_questions::smaller_length;
 use crate::runs::begin::arguments_of;
 use crate::states::code_lines::{front, rest};
 use crate::states::mark::Mark;
@@ -45,7 +45,7 @@ fn own_table(alloc: Global, state: &State) -> Result<Vec<Value>, Memory>
 {
     let marks = state.known.marks.as_slice();
     let classes = state.classes.as_slice();
-    let n = shorter(marks.len(), classes.len());
+    let n = smaller_length(marks.len(), classes.len());
     let mut table = Vec::new(alloc);
     for i in 0..n {
         table.push(value_for(marks[i], classes[i]))?;
@@ -77,8 +77,8 @@ fn witness_of(
 ) -> Result<Witness, Memory>
     ensures objects { IfOk result (λ w. w.input.objects ≡ count state.now.known) }
     ensures few { IfOk result (λ w. w.input.objects < 2 ^ 31) }
-    ensures args { IfOk result (λ w. w.input.args ≡ take arguments (drop statics (canon state.now))) }
-    ensures choices { IfOk result (λ w. w.choices ≡ map choice_of (drop arguments (drop statics (canon state.now)))) }
+    ensures args { IfOk result (λ w. w.input.args ≡ take argument_count (drop statics (canon state.now))) }
+    ensures choices { IfOk result (λ w. w.choices ≡ map choice_of (drop argument_count (drop statics (canon state.now)))) }
 {
     let table = own_table(alloc, state)?;
     let came = rest(table.as_slice(), statics as usize);
@@ -97,8 +97,8 @@ fn witness_of(
 pub fn run_of(alloc: Global, codes: &Codes, state: &Sym) -> Result<Witness, Memory>
     ensures objects { IfOk result (λ w. w.input.objects ≡ count state.now.known) }
     ensures few { IfOk result (λ w. w.input.objects < 2 ^ 31) }
-    ensures args { IfOk result (λ w. w.input.args ≡ take (option_map_or arguments (code_at codes.now state.now.known.function) 0) (drop codes.now.statics (canon state.now))) }
-    ensures choices { IfOk result (λ w. w.choices ≡ map choice_of (drop (option_map_or arguments (code_at codes.now state.now.known.function) 0) (drop codes.now.statics (canon state.now)))) }
+    ensures args { IfOk result (λ w. w.input.args ≡ take (option_map_or argument_count (code_at codes.now state.now.known.function) 0) (drop codes.now.statics (canon state.now))) }
+    ensures choices { IfOk result (λ w. w.choices ≡ map choice_of (drop (option_map_or argument_count (code_at codes.now state.now.known.function) 0) (drop codes.now.statics (canon state.now)))) }
 {
     let state = state.state();
     let arguments = arguments_of(codes, state.known.function);

@@ -1,7 +1,7 @@
 // What the objects of tokens are owed, and which tokens were merged.
 ghost use Rattle.std.specs.Prelude.{◌≡◌, ◌+ℤ◌, slice_set, map, IfOk, OnOk};
 ghost use Rattle.std.specs.List.{list_any};
-ghost use Rattle.pungi_symbol.specs.answers.SymbolicState.{class, balance, parts, are_one, are_other, one_for, new_balance, redirect, gather};
+ghost use Rattle.pungi_symbol.specs.answers.SymbolicState.{class_of, balance_at, is_part, are_one, are_other, owed_for, owed_for_answer, redirect, gather_at};
 
 use crate::states::mark::Mark;
 use crate::states::state::Pair;
@@ -11,7 +11,7 @@ use std::alloc::Global;
 
 /// The token that stands for a token.
 pub fn class_at(classes: &[u32], t: u32) -> u32
-    ensures { result ≡ class classes.now t }
+    ensures { result ≡ class_of classes.now t }
 {
     match classes.get(t as usize) {
         Some(c) => *c,
@@ -21,7 +21,7 @@ pub fn class_at(classes: &[u32], t: u32) -> u32
 
 /// What the object of a token is owed.
 pub fn balance_at(balances: &[i64], t: u32) -> i64
-    ensures { result ≡ balance balances.now t }
+    ensures { result ≡ balance_at balances.now t }
 {
     match balances.get(t as usize) {
         Some(b) => *b,
@@ -40,7 +40,7 @@ fn put_balance(balances: &mut Seq<i64>, t: u32, b: i64)
 
 /// A number is added to the balance of a token.
 pub fn add(balances: &mut Seq<i64>, t: u32, d: i64) -> Result<(), Memory>
-    ensures { OnOk result (balances.new ≡ slice_set balances.old t (balance balances.old t +ℤ d)) }
+    ensures { OnOk result (balances.new ≡ slice_set balances.old t (balance_at balances.old t +ℤ d)) }
 {
     match balance_at(balances.as_slice(), t).checked_add(d) {
         Some(sum) => {
@@ -53,7 +53,7 @@ pub fn add(balances: &mut Seq<i64>, t: u32, d: i64) -> Result<(), Memory>
 
 /// What stands at one token goes to another.
 pub fn gather_at(balances: &mut Seq<i64>, c: u32, d: u32) -> Result<(), Memory>
-    ensures { OnOk result (balances.new ≡ gather c d balances.old) }
+    ensures { OnOk result (balances.new ≡ gather_at c d balances.old) }
 {
     let more = balance_at(balances.as_slice(), d);
     add(balances, c, more)?;
@@ -63,7 +63,7 @@ pub fn gather_at(balances: &mut Seq<i64>, c: u32, d: u32) -> Result<(), Memory>
 
 /// What a new object is owed.
 pub fn owed_for(m: Mark) -> i64
-    ensures { result ≡ one_for m }
+    ensures { result ≡ owed_for m }
 {
     match m {
         Mark::IsObject => 1,
@@ -77,7 +77,7 @@ pub fn owed_for(m: Mark) -> i64
 
 /// What the answer of a call is owed.
 pub fn owed_for_answer(answer: Answer, m: Mark) -> i64
-    ensures { result ≡ new_balance answer m }
+    ensures { result ≡ owed_for_answer answer m }
 {
     match answer {
         Answer::New => owed_for(m),
@@ -86,7 +86,7 @@ pub fn owed_for_answer(answer: Answer, m: Mark) -> i64
 }
 
 fn is_part(classes: &[u32], c: u32, d: u32, pair: &Pair) -> bool
-    ensures { result ≡ parts classes.now c d pair.now }
+    ensures { result ≡ is_part classes.now c d pair.now }
 {
     let a = class_at(classes, pair.a);
     let b = class_at(classes, pair.b);
@@ -94,7 +94,7 @@ fn is_part(classes: &[u32], c: u32, d: u32, pair: &Pair) -> bool
 }
 
 fn any_part(classes: &[u32], c: u32, d: u32, others: &[Pair]) -> bool
-    ensures { result ≡ list_any (parts classes.now c d) others.now }
+    ensures { result ≡ list_any (is_part classes.now c d) others.now }
 {
     others.iter().any(|pair| is_part(classes, c, d, pair))
 }
@@ -114,16 +114,21 @@ pub fn is_other(statics: u32, classes: &[u32], others: &[Pair], t: u32, u: u32) 
     (c < statics && d < statics) || any_part(classes, c, d, others)
 }
 
-fn toward(c: u32, d: u32, e: u32) -> u32
+fn redirect(c: u32, d: u32, e: u32) -> u32
     ensures { result ≡ redirect c d e }
 {
     if e == d { c } else { e }
 }
 
 /// The classes after two of them are merged.
-pub fn redirected(alloc: Global, classes: &[u32], c: u32, d: u32) -> Result<Seq<u32>, Memory>
+pub fn redirected_classes(
+    alloc: Global,
+    classes: &[u32],
+    c: u32,
+    d: u32,
+) -> Result<Seq<u32>, Memory>
     ensures { IfOk result (λ s. s ≡ map (redirect c d) classes.now) }
 {
-    let items: Vec<u32> = classes.iter().map(|e| toward(c, d, *e)).collect(alloc)?;
+    let items: Vec<u32> = classes.iter().map(|e| redirect(c, d, *e)).collect(alloc)?;
     Ok(Seq::new(items))
 }

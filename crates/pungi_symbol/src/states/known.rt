@@ -1,6 +1,6 @@
 ghost use Rattle.std.specs.Prelude.{◌≡◌, IfOk};
 ghost use Rattle.pungi_symbol.specs.states.Terms.{value_of_mark};
-ghost use Rattle.pungi_symbol.specs.states.Known.{mark, var, term_of, known_value, number, object_mark, object_of, number_in, slot_note};
+ghost use Rattle.pungi_symbol.specs.states.Known.{mark_of, variable, term_of, known_value, number, object_mark, object_of, number_in, slot_note};
 
 use crate::states::mark::Mark;
 use crate::states::spot::{Progress, Spot, Touched};
@@ -35,7 +35,7 @@ pub struct Known {
 }
 
 /// A value that a mark is true of, where it is known what the value is.
-fn marked_value(m: Mark) -> Value
+fn value_of_mark(m: Mark) -> Value
     ensures { result ≡ value_of_mark m }
 {
     match m {
@@ -49,7 +49,7 @@ fn marked_value(m: Mark) -> Value
 }
 
 /// A token that is known to be an object.
-fn marked_object(m: Mark, t: u32) -> Option<u32>
+fn object_mark(m: Mark, t: u32) -> Option<u32>
     ensures { result ≡ object_mark m t }
 {
     match m {
@@ -110,7 +110,7 @@ impl Known {
 
     /// What a variable holds.
     pub fn variable(&self, x: u32) -> Term
-        ensures { result ≡ var self.now x }
+        ensures { result ≡ variable self.now x }
     {
         match self.vars.as_slice().get(x as usize) {
             Some(c) => *c,
@@ -120,7 +120,7 @@ impl Known {
 
     /// What is known of a token.
     pub fn mark_of(&self, t: u32) -> Mark
-        ensures { result ≡ mark self.now t }
+        ensures { result ≡ mark_of self.now t }
     {
         match self.marks.as_slice().get(t as usize) {
             Some(m) => *m,
@@ -150,7 +150,7 @@ impl Known {
             Term::Null => Value::Null,
             Term::Text => Value::Text,
             Term::Number(n) => Value::Int(n),
-            Term::Token(t) => marked_value(self.mark_of(t)),
+            Term::Token(t) => value_of_mark(self.mark_of(t)),
         }
     }
 
@@ -170,7 +170,7 @@ impl Known {
             Term::Null => None,
             Term::Text => None,
             Term::Number(_) => None,
-            Term::Token(t) => marked_object(self.mark_of(t), t),
+            Term::Token(t) => object_mark(self.mark_of(t), t),
         }
     }
 

@@ -1,12 +1,14 @@
 ghost use Rattle.std.specs.Prelude.{◌≡◌, true, false, slice_get, IfOk, OnOk};
 ghost use Rattle.pungi_symbol.specs.answers.KnownAfter.{instr_of};
-ghost use Rattle.pungi_symbol.specs.answers.SymbolicState.{class, are_one, one_for, lowered, stored_term, gather, merge, merge_older, apply_same, joined, answers, after, apply};
+ghost use Rattle.pungi_symbol.specs.answers.SymbolicState.{class_of, are_one, owed_for, lower, stored_term, gather_at, merge_classes, merge_two, apply_same, join, take_answer, follow, apply};
 
 use crate::answers::balance_changes::succeeds;
 use crate::answers::decision::Decision;
 use crate::answers::outcomes::{mark_after, mark_of_answer, number_of_outcome, says_same};
 use crate::questions::question::Question;
-use crate::states::balances::{class_at, gather_at, is_one, owed_for, owed_for_answer, redirected};
+use crate::states::balances::{
+    class_at, gather_at, is_one, owed_for, owed_for_answer, redirected_classes,
+};
 use crate::states::known::Known;
 use crate::states::mark::Mark;
 use pungi_api::Answer;
@@ -53,7 +55,7 @@ impl State {
 
     /// The token that stands for a token.
     pub fn class_of(&self, t: u32) -> u32
-        ensures { result ≡ class self.now.classes t }
+        ensures { result ≡ class_of self.now.classes t }
     {
         class_at(self.classes.as_slice(), t)
     }
@@ -66,7 +68,7 @@ impl State {
     }
 
     fn join(&mut self, d: i64) -> Result<(), Memory>
-        ensures { OnOk result (self.new ≡ joined d self.old.balances self.old) }
+        ensures { OnOk result (self.new ≡ join d self.old.balances self.old) }
     {
         let token = self.known.tokens()?;
         self.classes.push(token)?;
@@ -75,35 +77,35 @@ impl State {
     }
 
     fn overwrite(&mut self, code: &[Line], m: Mark) -> Result<(), Memory>
-        ensures { OnOk result (self.new ≡ joined (one_for m) (lowered self.old.classes self.old.known (stored_term (instr_of (slice_get code.now self.old.known.pc)) self.old.known) self.old.balances) self.old) }
+        ensures { OnOk result (self.new ≡ join (owed_for m) (lower self.old.classes self.old.known (stored_term (instr_of (slice_get code.now self.old.known.pc)) self.old.known) self.old.balances) self.old) }
     {
         self.lower_stored(code)?;
         self.join(owed_for(m))
     }
 
     fn take_answer(&mut self, code: &[Line], answer: Answer, m: Mark) -> Result<(), Memory>
-        ensures { OnOk result (self.new ≡ answers (instr_of (slice_get code.now self.old.known.pc)) answer m self.old) }
+        ensures { OnOk result (self.new ≡ take_answer (instr_of (slice_get code.now self.old.known.pc)) answer m self.old) }
     {
         self.lower_call(code, succeeds(answer, m))?;
         self.join(owed_for_answer(answer, m))
     }
 
     fn gathered(&mut self, c: u32, d: u32) -> Result<(), Memory>
-        ensures { OnOk result (self.new ≡ record self.old { balances = gather c d self.old.balances }) }
+        ensures { OnOk result (self.new ≡ record self.old { balances = gather_at c d self.old.balances }) }
     {
         gather_at(&mut self.balances, c, d)
     }
 
     fn merge_classes(&mut self, alloc: Global, c: u32, d: u32) -> Result<(), Memory>
-        ensures { OnOk result (self.new ≡ merge c d self.old) }
+        ensures { OnOk result (self.new ≡ merge_classes c d self.old) }
     {
-        self.classes = redirected(alloc, self.classes.as_slice(), c, d)?;
+        self.classes = redirected_classes(alloc, self.classes.as_slice(), c, d)?;
         self.gathered(c, d)
     }
 
     /// The older token stands for both.
     fn merge_two(&mut self, alloc: Global, c: u32, d: u32) -> Result<(), Memory>
-        ensures { OnOk result (self.new ≡ merge_older c d self.old) }
+        ensures { OnOk result (self.new ≡ merge_two c d self.old) }
     {
         if d < c {
             self.merge_classes(alloc, d, c)
@@ -146,7 +148,7 @@ impl State {
         q: Question,
         d: Decision,
     ) -> Result<(), Memory>
-        ensures { OnOk result (self.new ≡ after (slice_get code.now self.old.known.pc) q d self.old) }
+        ensures { OnOk result (self.new ≡ follow (slice_get code.now self.old.known.pc) q d self.old) }
     {
         let k = number_of_outcome(d);
         let same = says_same(d);

@@ -12,8 +12,8 @@ use Rattle.pungi.proofs.examine.examine.Goals as goal
 
 pub returns-in-Err : goal.returns-in-Err
 returns-in-Err c =
-    IfOk-weaker c.refused.result _ _ (λ a h.
-    inr (h.0, refused_as c.args.text.now c.in-Err.fault a.text.items (no_file c.args.text.now c.in-Err.fault c.in-Err.ensures.fault) h.1)) c.refused.ensures
+    IfOk-weaker c.refusal_answer.result _ _ (λ a h.
+    inr (h.0, refused_as c.args.text.now c.in-Err.fault a.text.items (no_file c.args.text.now c.in-Err.fault c.in-Err.ensures.fault) h.1)) c.refusal_answer.ensures
 
 pub reported-requires-clause-known : goal.reported-requires-clause-known
 reported-requires-clause-known c =
@@ -32,5 +32,5 @@ returns c =
     let names = c.unit_of.new.names in
     let items = unit_view c.in-Ok.unit in
     let holds = subst (λ (rows : List (ℕ × Row)). IsFaultOf (source_file names items rows) c.in-Err-check.fault) c.in_ok-rows.ensures c.in-Err-check.ensures.fault in
-    IfOk-weaker c.refused-in-Err-check.result _ _ (λ a h.
-    inr (h.0, refused_as c.args.text.now (fault.Unit c.in-Err-check.fault) a.text.items (unit_refused c.args.text.now names items c.in-Err-check.fault c.in-Ok.ensures.unit c.in-Ok.ensures.only holds) h.1)) c.refused-in-Err-check.ensures
+    IfOk-weaker c.refusal_answer-in-Err-check.result _ _ (λ a h.
+    inr (h.0, refused_as c.args.text.now (fault.Unit c.in-Err-check.fault) a.text.items (unit_refused c.args.text.now names items c.in-Err-check.fault c.in-Ok.ensures.unit c.in-Ok.ensures.only holds) h.1)) c.refusal_answer-in-Err-check.ensures

@@ -33,14 +33,14 @@ returns-in_default-clause-range c =
     rw (← c.span.view_is) (λ r h. kept_not_large w c.span.inside.scale (lines c.span.inside.rows.items) c.span.invariant r
     (large_row_same w (Plus w (InSpan w (vectors (lines c.span.inside.rows.items))) (at c.args.v.now)) (InSpan w (vectors (lines c.span.inside.rows.items))) (member_plus w (vectors (lines c.span.inside.rows.items)) (at c.args.v.now) m) r h))
 
-pub extended-requires-clause-new : goal.extended-requires-clause-new
-extended-requires-clause-new c =
+pub extended_form-requires-clause-new : goal.extended_form-requires-clause-new
+extended_form-requires-clause-new c =
     let left = rw (to_z-of_z w64 c.span.inside.scale (box_fits c.span.inside.scale c.span.invariant.scale), c.as_slice-rows.ensures.value) at c.in_ok-left.ensures in
     let part = rw (c.in-Some.is, c.as_slice.ensures.value) at c.in_ok-new.ensures in
     part_wide c.span.inside.scale (lines c.span.inside.rows.items) c.args.v.now c.in_ok-left.left.items c.in-Some.new.pivot c.in-Some.new.entries.items left part
 
-pub reduced-requires : goal.reduced-requires
-reduced-requires c =
+pub reduced_span-requires : goal.reduced_span-requires
+reduced_span-requires c =
     let left = rw (to_z-of_z w64 c.span.inside.scale (box_fits c.span.inside.scale c.span.invariant.scale), c.as_slice-rows.ensures.value) at c.in_ok-left.ensures in
     let part = rw (c.in-Some.is, c.as_slice.ensures.value) at c.in_ok-new.ensures in
     let x = rw (to_z-of_z w64 c.span.inside.scale (box_fits c.span.inside.scale c.span.invariant.scale), c.as_slice-rows.ensures.value) at c.in_ok-form.ensures in

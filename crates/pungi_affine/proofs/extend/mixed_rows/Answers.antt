@@ -4,13 +4,13 @@ use Rattle.pungi_affine.proofs.LineLemmas.{from_kept, lines_length}
 use Rattle.pungi_affine.proofs.Extends.{mixed_rows_more}
 use Rattle.pungi_affine.proofs.extend.mixed_rows.Goals as goal
 
-pub mixed-requires-clause-within : goal.mixed-requires-clause-within
-mixed-requires-clause-within c =
+pub mixed_row-requires-clause-within : goal.mixed_row-requires-clause-within
+mixed_row-requires-clause-within c =
     let lt : c.loop-row.row-index < length (lines c.args.rows.now) = (let n = lines_length c.args.rows.now in let t = c.loop-row-test.true in omega (arith, n, t)) in
     (c.requires.within, from_kept (λ l. length l.entries ≡ length c.args.u.now) c.args.rows.now c.loop-row.row-index c.row-item.result c.loop-row-test.true c.row-item.is (c.requires.widths c.loop-row.row-index lt))
 
-pub mixed-requires-clause-row : goal.mixed-requires-clause-row
-mixed-requires-clause-row c =
+pub mixed_row-requires-clause-row : goal.mixed_row-requires-clause-row
+mixed_row-requires-clause-row c =
     let lt : c.loop-row.row-index < length (lines c.args.rows.now) = (let n = lines_length c.args.rows.now in let t = c.loop-row-test.true in omega (arith, n, t)) in
     from_kept (λ l. WithinBox l.entries) c.args.rows.now c.loop-row.row-index c.row-item.result c.loop-row-test.true c.row-item.is (c.requires.rows c.loop-row.row-index lt)
 

@@ -1,5 +1,5 @@
 use Rattle.std.proofs.Common.{◌+◌, map, sym, ap, ◌∙◌, subst, arith}
-use Rattle.pungi_symbol.specs.runs.Paths.{starts}
+use Rattle.pungi_symbol.specs.runs.Paths.{start_states}
 use Rattle.pungi_explore.specs.declared.visited.Visited.TheVariants.{Goes, Ends}
 use Rattle.pungi_explore.specs.Visits.{Visits}
 use Rattle.pungi_explore.proofs.Searched.{Searched, first_searched, ended_searched, next_searched, fault_searched, too_many, all_searched}
@@ -10,7 +10,7 @@ pub states-init : goal.states-init
 states-init c = record {
   few = omega arith;
   searched = λ code has.
-      let first = c.in_ok-pending.ensures.first ∙ ap (λ o. map (λ p. p.1) (starts c.args.codes.now.statics c.args.f o)) has.is in
+      let first = c.in_ok-pending.ensures.first ∙ ap (λ o. map (λ p. p.1) (start_states c.args.codes.now.statics c.args.f o)) has.is in
       subst (λ ss. Searched c.args.codes.now c.args.f code ss 0) (sym first) (first_searched c.args.codes.now c.args.f code has);
 }
 

@@ -1,7 +1,7 @@
 use Rattle.std.proofs.Common.{◌≡◌, drop}
-use Rattle.pungi_lex.specs.Comment.{close_len}
+use Rattle.pungi_lex.specs.Comment.{close_count}
 use Rattle.pungi_lex.specs.Lengths.{add_to}
 use Rattle.pungi_lex.proofs.comment.close_count.Given as goal
 
 abbrev pub invariant-loop-i : goal.invariant-loop-i
-invariant-loop-i l = close_len l.text ≡ add_to l.i (close_len (drop l.i l.text))
+invariant-loop-i l = close_count l.text ≡ add_to l.i (close_count (drop l.i l.text))

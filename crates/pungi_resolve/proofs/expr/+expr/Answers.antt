@@ -99,8 +99,8 @@ resolve_arg-returns-clause-value g t c =
       | resolve_arg-else-wants_module-via-else-wants_module w ↦ neither-left _ _ (sym c.wants_module.ensures ∙ w.if-wants_module.false)
     ] in
     c.in_ok-value.ensures
-    ∙ ap (λ p. convert p c.wanted_kind.result c.in_ok-a.a.kind (boxed_view c.in_ok-a.a.value)) c.pos_of-pos.ensures
-    ∙ ap (λ k. convert (expr_pos e) k c.in_ok-a.a.kind (boxed_view c.in_ok-a.a.value)) c.wanted_kind.ensures
+    ∙ ap (λ p. convert p c.want_kind.result c.in_ok-a.a.kind (boxed_view c.in_ok-a.a.value)) c.expr_pos-pos.ensures
+    ∙ ap (λ k. convert (expr_pos e) k c.in_ok-a.a.kind (boxed_view c.in_ok-a.a.value)) c.want_kind.ensures
     ∙ ap (λ k. convert (expr_pos e) (want_kind ws) k (boxed_view c.in_ok-a.a.value)) c.in_ok-a.ensures.kind
     ∙ ap (convert (expr_pos e) (want_kind ws) (kind_of env e)) c.in_ok-a.ensures.value
     ∙ sym (argument-value env ws e f)

@@ -3,7 +3,7 @@ use Rattle.std.proofs.lemmas.List.{drop_all}
 use Rattle.pungi_tree.specs.StmtView.{stmt_view, stmts_of, for_start_view}
 use Rattle.pungi_tree.specs.declared.stmt.Stmt.{Stmt}
 use Rattle.pungi_types.specs.Labels.{stmt_locals}
-use Rattle.pungi_resolve.specs.Stmts.{Site, action, actions as actions_in, after}
+use Rattle.pungi_resolve.specs.Stmts.{Site, action, actions as actions_in, site_after}
 use Rattle.pungi_resolved.specs.Actions.{action_and}
 use Rattle.pungi_resolved.specs.ActionView.{action_view}
 use Rattle.pungi_resolve.specs.Sites.{site_of, after_all}
@@ -48,10 +48,10 @@ resolve_list-loop-s-preserved g t c =
     let d = next_one xs i c.s-item.result s r in
     let left = stmts_of (map stmt_view (drop (i + 1) xs)) in
     let P : List Stmt → Type 0 = λ ys. AreSoundActions (actions_in F (stmts_of (map stmt_view ys))) in
-    let k : IsSoundAction (action F one) × AreSoundActions (actions_in (after F one) left) = subst P d c.loop-s.invariant.sound in
+    let k : IsSoundAction (action F one) × AreSoundActions (actions_in (site_after F one) left) = subst P d c.loop-s.invariant.sound in
     let Q : Site → Type 0 = λ h. AreSoundActions (actions_in h left) in
     let done = c.loop-s.found.items in
-    let there : G ≡ after F one = c.in_ok-one.ensures.after in
+    let there : G ≡ site_after F one = c.in_ok-one.ensures.after in
     record {
       actions =
           ap (λ ys. actions_before (map action_view ys) (actions_in G left)) c.in_ok-push.ensures.items

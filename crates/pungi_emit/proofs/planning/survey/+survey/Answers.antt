@@ -1,6 +1,6 @@
 use Rattle.std.proofs.Common.{◌≡◌, ◌+◌, ◌<◌, List, [], ◌++◌, length, map, drop, refl, ap, sym, ◌∙◌, subst, arith, append_assoc, append-nil}
 use Rattle.std.proofs.lemmas.List.{length-map, drop_all}
-use Rattle.pungi_resolved.specs.ActionView.{reached_view, action_view, actions_of}
+use Rattle.pungi_resolved.specs.ActionView.{declared_view, action_view, actions_of}
 use Rattle.pungi_resolved.specs.declared.action.Action.{Action as Node}
 use Rattle.pungi_resolved.specs.ValueView.{value_view, optional_view}
 use Rattle.pungi_meaning.specs.Run.{nowhere}
@@ -110,7 +110,7 @@ survey_for-fill-requires t c =
 pub survey_for-returns : goal.survey_for-returns
 survey_for-returns t c =
     let a = action_view c.args.body.now in
-    let rs = map reached_view c.args.reached.now in
+    let rs = map declared_view c.args.reached.now in
     let w = optional_view c.args.last.now in
     let top = for_head c.args.pc rs (optional_view c.args.first.now) in
     let at = top + test_size (optional_view c.args.test.now) in

@@ -1,12 +1,12 @@
 use Rattle.std.proofs.Common.{◌≡◌, List, ◌+◌, ◌<◌, [], ◌∷◌, ◌++◌, length, map, drop, sym, ap, ◌∙◌, subst, arith, append-nil}
 use Rattle.std.proofs.lemmas.List.{length-map, drop_all}
 use denote.Param.Weighed.{most, at_most}
-use Rattle.pungi_resolved.specs.Actions.{Action, block_of, switch_on}
-use Rattle.pungi_resolved.specs.ActionView.{reached_view, action_view, actions_of}
+use Rattle.pungi_resolved.specs.Actions.{Action, block, switch}
+use Rattle.pungi_resolved.specs.ActionView.{declared_view, action_view, actions_of}
 use Rattle.pungi_resolved.specs.declared.action.Action.{Action as Node, size-Action}
 use Rattle.pungi_resolved.specs.ValueView.{value_view, optional_view}
 use Rattle.pungi_meaning.specs.Run.{nowhere}
-use Rattle.pungi_meaning.specs.Work.{declared}
+use Rattle.pungi_meaning.specs.Work.{block_locals}
 use Rattle.pungi_layout.specs.code.Sizes.{expr_size, option_size, test_size, stmt_size, stmts_size}
 use Rattle.pungi_layout.specs.code.Scopes.{for_head}
 use Rattle.pungi_emit.specs.planning.LabelPlaces.{list_labels, list_starts, env_of}
@@ -28,19 +28,19 @@ emit_if-emit_stmt-requires t c =
     let v = value_view c.args.c.now in
     let a = action_view c.args.body.now in
     let at = length c.args.code.now + expr_size v + 1 in
-    let n = test_place c.args.around.locals (env_of c.args.scope.now) c.args.pos v at c.planned-other.result c.args.code.now c.emit_test.new.code c.in_ok-emit_test.ensures in
-    (omega arith, part_begins a at (length c.emit_test.new.code) (at + stmt_size a) c.planned-other.result c.args.plan.now.left.now c.planned-other.new.plan.left.now c.requires.plan c.planned-other.ensures n)
+    let n = test_place c.args.around.locals (env_of c.args.scope.now) c.args.pos v at c.next_planned-other.result c.args.code.now c.emit_test.new.code c.in_ok-emit_test.ensures in
+    (omega arith, part_begins a at (length c.emit_test.new.code) (at + stmt_size a) c.next_planned-other.result c.args.plan.now.left.now c.next_planned-other.new.plan.left.now c.requires.plan c.next_planned-other.ensures n)
 
 pub emit_if-returns : goal.emit_if-returns
 emit_if-returns t c =
     let v = value_view c.args.c.now in
     let a = action_view c.args.body.now in
     let at = length c.args.code.now + expr_size v + 1 in
-    let o = one_place (plan_of at a) c.args.plan.now.left.now c.planned-other.new.plan.left.now (at + stmt_size a) c.planned-other.result c.requires.plan c.planned-other.ensures in
-    let n = test_place c.args.around.locals (env_of c.args.scope.now) c.args.pos v at c.planned-other.result c.args.code.now c.emit_test.new.code c.in_ok-emit_test.ensures in
+    let o = one_place (plan_of at a) c.args.plan.now.left.now c.next_planned-other.new.plan.left.now (at + stmt_size a) c.next_planned-other.result c.requires.plan c.next_planned-other.ensures in
+    let n = test_place c.args.around.locals (env_of c.args.scope.now) c.args.pos v at c.next_planned-other.result c.args.code.now c.emit_test.new.code c.in_ok-emit_test.ensures in
     record {
-      code = if_laid c.args.around.locals (env_of c.args.scope.now) c.args.pos v a c.planned-other.result c.args.code.now c.emit_test.new.code c.emit_stmt.new.code c.in_ok-emit_test.ensures c.in_ok-emit_stmt.ensures.code o;
-      plan = part_through a at (length c.emit_test.new.code) (at + stmt_size a) c.planned-other.result c.args.plan.now.left.now c.planned-other.new.plan.left.now c.emit_stmt.new.plan.left.now c.requires.plan c.planned-other.ensures n c.in_ok-emit_stmt.ensures.plan;
+      code = if_laid c.args.around.locals (env_of c.args.scope.now) c.args.pos v a c.next_planned-other.result c.args.code.now c.emit_test.new.code c.emit_stmt.new.code c.in_ok-emit_test.ensures c.in_ok-emit_stmt.ensures.code o;
+      plan = part_through a at (length c.emit_test.new.code) (at + stmt_size a) c.next_planned-other.result c.args.plan.now.left.now c.next_planned-other.new.plan.left.now c.emit_stmt.new.plan.left.now c.requires.plan c.next_planned-other.ensures n c.in_ok-emit_stmt.ensures.plan;
     }
 
 pub emit_else-emit_stmt-requires : goal.emit_else-emit_stmt-requires
@@ -50,8 +50,8 @@ emit_else-emit_stmt-requires t c =
     let b = action_view c.args.b.now in
     let at = length c.args.code.now + expr_size v + 1 in
     let bt = at + stmt_size a + 1 in
-    let n = test_place c.args.around.locals (env_of c.args.scope.now) c.args.pos v at c.planned-other.result c.args.code.now c.emit_test.new.code c.in_ok-emit_test.ensures in
-    (omega arith, first_begins a b at bt (length c.emit_test.new.code) bt (bt + stmt_size b) c.planned-other.result c.planned-end.result c.args.plan.now.left.now c.planned-other.new.plan.left.now c.planned-end.new.plan.left.now c.requires.plan c.planned-other.ensures c.planned-end.ensures n)
+    let n = test_place c.args.around.locals (env_of c.args.scope.now) c.args.pos v at c.next_planned-other.result c.args.code.now c.emit_test.new.code c.in_ok-emit_test.ensures in
+    (omega arith, first_begins a b at bt (length c.emit_test.new.code) bt (bt + stmt_size b) c.next_planned-other.result c.next_planned-end.result c.args.plan.now.left.now c.next_planned-other.new.plan.left.now c.next_planned-end.new.plan.left.now c.requires.plan c.next_planned-other.ensures c.next_planned-end.ensures n)
 
 pub emit_else-emit_stmt-requires-2 : goal.emit_else-emit_stmt-requires-2
 emit_else-emit_stmt-requires-2 t c =
@@ -60,9 +60,9 @@ emit_else-emit_stmt-requires-2 t c =
     let b = action_view c.args.b.now in
     let at = length c.args.code.now + expr_size v + 1 in
     let bt = at + stmt_size a + 1 in
-    let n = test_place c.args.around.locals (env_of c.args.scope.now) c.args.pos v at c.planned-other.result c.args.code.now c.emit_test.new.code c.in_ok-emit_test.ensures in
-    let m = else_place c.args.around.locals (env_of c.args.scope.now) c.args.pos v a c.planned-other.result c.planned-end.result c.args.code.now c.emit_test.new.code c.emit_stmt.new.code c.put.new.code c.in_ok-emit_test.ensures c.in_ok-emit_stmt.ensures.code c.in_ok-put.ensures in
-    (omega arith, second_begins a b at bt (length c.emit_test.new.code) (length c.put.new.code) bt (bt + stmt_size b) c.planned-other.result c.planned-end.result c.args.plan.now.left.now c.planned-other.new.plan.left.now c.planned-end.new.plan.left.now c.emit_stmt.new.plan.left.now c.requires.plan c.planned-other.ensures c.planned-end.ensures n c.in_ok-emit_stmt.ensures.plan m)
+    let n = test_place c.args.around.locals (env_of c.args.scope.now) c.args.pos v at c.next_planned-other.result c.args.code.now c.emit_test.new.code c.in_ok-emit_test.ensures in
+    let m = else_place c.args.around.locals (env_of c.args.scope.now) c.args.pos v a c.next_planned-other.result c.next_planned-end.result c.args.code.now c.emit_test.new.code c.emit_stmt.new.code c.put.new.code c.in_ok-emit_test.ensures c.in_ok-emit_stmt.ensures.code c.in_ok-put.ensures in
+    (omega arith, second_begins a b at bt (length c.emit_test.new.code) (length c.put.new.code) bt (bt + stmt_size b) c.next_planned-other.result c.next_planned-end.result c.args.plan.now.left.now c.next_planned-other.new.plan.left.now c.next_planned-end.new.plan.left.now c.emit_stmt.new.plan.left.now c.requires.plan c.next_planned-other.ensures c.next_planned-end.ensures n c.in_ok-emit_stmt.ensures.plan m)
 
 pub emit_else-returns : goal.emit_else-returns
 emit_else-returns t c =
@@ -72,13 +72,13 @@ emit_else-returns t c =
     let at = length c.args.code.now + expr_size v + 1 in
     let bt = at + stmt_size a + 1 in
     let both = plan_of at a ++ plan_of bt b in
-    let o = two_first both c.args.plan.now.left.now c.planned-other.new.plan.left.now bt (bt + stmt_size b) c.planned-other.result c.requires.plan c.planned-other.ensures in
-    let q = two_second both c.args.plan.now.left.now c.planned-other.new.plan.left.now c.planned-end.new.plan.left.now bt (bt + stmt_size b) c.planned-other.result c.planned-end.result c.requires.plan c.planned-other.ensures c.planned-end.ensures in
-    let n = test_place c.args.around.locals (env_of c.args.scope.now) c.args.pos v at c.planned-other.result c.args.code.now c.emit_test.new.code c.in_ok-emit_test.ensures in
-    let m = else_place c.args.around.locals (env_of c.args.scope.now) c.args.pos v a c.planned-other.result c.planned-end.result c.args.code.now c.emit_test.new.code c.emit_stmt.new.code c.put.new.code c.in_ok-emit_test.ensures c.in_ok-emit_stmt.ensures.code c.in_ok-put.ensures in
+    let o = two_first both c.args.plan.now.left.now c.next_planned-other.new.plan.left.now bt (bt + stmt_size b) c.next_planned-other.result c.requires.plan c.next_planned-other.ensures in
+    let q = two_second both c.args.plan.now.left.now c.next_planned-other.new.plan.left.now c.next_planned-end.new.plan.left.now bt (bt + stmt_size b) c.next_planned-other.result c.next_planned-end.result c.requires.plan c.next_planned-other.ensures c.next_planned-end.ensures in
+    let n = test_place c.args.around.locals (env_of c.args.scope.now) c.args.pos v at c.next_planned-other.result c.args.code.now c.emit_test.new.code c.in_ok-emit_test.ensures in
+    let m = else_place c.args.around.locals (env_of c.args.scope.now) c.args.pos v a c.next_planned-other.result c.next_planned-end.result c.args.code.now c.emit_test.new.code c.emit_stmt.new.code c.put.new.code c.in_ok-emit_test.ensures c.in_ok-emit_stmt.ensures.code c.in_ok-put.ensures in
     record {
-      code = else_laid c.args.around.locals (env_of c.args.scope.now) c.args.pos v a b c.planned-other.result c.planned-end.result c.args.code.now c.emit_test.new.code c.emit_stmt.new.code c.put.new.code c.emit_stmt-2.new.code c.in_ok-emit_test.ensures c.in_ok-emit_stmt.ensures.code c.in_ok-put.ensures o c.in_ok-emit_stmt-2.ensures.code q;
-      plan = both_parts_through a b at bt (length c.emit_test.new.code) (length c.put.new.code) bt (bt + stmt_size b) c.planned-other.result c.planned-end.result c.args.plan.now.left.now c.planned-other.new.plan.left.now c.planned-end.new.plan.left.now c.emit_stmt.new.plan.left.now c.emit_stmt-2.new.plan.left.now c.requires.plan c.planned-other.ensures c.planned-end.ensures n c.in_ok-emit_stmt.ensures.plan m c.in_ok-emit_stmt-2.ensures.plan;
+      code = else_laid c.args.around.locals (env_of c.args.scope.now) c.args.pos v a b c.next_planned-other.result c.next_planned-end.result c.args.code.now c.emit_test.new.code c.emit_stmt.new.code c.put.new.code c.emit_stmt-2.new.code c.in_ok-emit_test.ensures c.in_ok-emit_stmt.ensures.code c.in_ok-put.ensures o c.in_ok-emit_stmt-2.ensures.code q;
+      plan = both_parts_through a b at bt (length c.emit_test.new.code) (length c.put.new.code) bt (bt + stmt_size b) c.next_planned-other.result c.next_planned-end.result c.args.plan.now.left.now c.next_planned-other.new.plan.left.now c.next_planned-end.new.plan.left.now c.emit_stmt.new.plan.left.now c.emit_stmt-2.new.plan.left.now c.requires.plan c.next_planned-other.ensures c.next_planned-end.ensures n c.in_ok-emit_stmt.ensures.plan m c.in_ok-emit_stmt-2.ensures.plan;
     }
 
 pub emit_while-emit_stmt-requires : goal.emit_while-emit_stmt-requires
@@ -88,19 +88,19 @@ emit_while-emit_stmt-requires t c =
     let go = length c.args.code.now + (expr_size v + 1) in
     let k = test_place c.args.around.locals (env_of c.args.scope.now) c.args.pos v (length c.args.code.now + expr_size v + 1) c.in_ok-end.end c.args.code.now c.emit_test.new.code c.in_ok-emit_test.ensures in
     let n : length c.emit_test.new.code ≡ go = omega (arith, k) in
-    (omega arith, part_begins a go (length c.emit_test.new.code) (go + stmt_size a) c.planned-again.result c.args.plan.now.left.now c.planned-again.new.plan.left.now c.requires.plan c.planned-again.ensures n)
+    (omega arith, part_begins a go (length c.emit_test.new.code) (go + stmt_size a) c.next_planned-again.result c.args.plan.now.left.now c.next_planned-again.new.plan.left.now c.requires.plan c.next_planned-again.ensures n)
 
 pub emit_while-returns : goal.emit_while-returns
 emit_while-returns t c =
     let v = value_view c.args.c.now in
     let a = action_view c.args.body.now in
     let go = length c.args.code.now + (expr_size v + 1) in
-    let o = one_place (plan_of go a) c.args.plan.now.left.now c.planned-again.new.plan.left.now (go + stmt_size a) c.planned-again.result c.requires.plan c.planned-again.ensures in
+    let o = one_place (plan_of go a) c.args.plan.now.left.now c.next_planned-again.new.plan.left.now (go + stmt_size a) c.next_planned-again.result c.requires.plan c.next_planned-again.ensures in
     let k = test_place c.args.around.locals (env_of c.args.scope.now) c.args.pos v (length c.args.code.now + expr_size v + 1) c.in_ok-end.end c.args.code.now c.emit_test.new.code c.in_ok-emit_test.ensures in
     let n : length c.emit_test.new.code ≡ go = omega (arith, k) in
     record {
-      code = while_laid c.args.around.locals (env_of c.args.scope.now) c.args.pos v a c.in_ok-head.head c.planned-again.result c.in_ok-end.end c.args.code.now c.emit_test.new.code c.emit_stmt.new.code c.put.new.code c.in_ok-head.ensures.place c.in_ok-end.ensures c.in_ok-emit_test.ensures c.in_ok-emit_stmt.ensures.code o c.in_ok-put.ensures;
-      plan = part_through a go (length c.emit_test.new.code) (go + stmt_size a) c.planned-again.result c.args.plan.now.left.now c.planned-again.new.plan.left.now c.emit_stmt.new.plan.left.now c.requires.plan c.planned-again.ensures n c.in_ok-emit_stmt.ensures.plan;
+      code = while_laid c.args.around.locals (env_of c.args.scope.now) c.args.pos v a c.in_ok-head.head c.next_planned-again.result c.in_ok-end.end c.args.code.now c.emit_test.new.code c.emit_stmt.new.code c.put.new.code c.in_ok-head.ensures.place c.in_ok-end.ensures c.in_ok-emit_test.ensures c.in_ok-emit_stmt.ensures.code o c.in_ok-put.ensures;
+      plan = part_through a go (length c.emit_test.new.code) (go + stmt_size a) c.next_planned-again.result c.args.plan.now.left.now c.next_planned-again.new.plan.left.now c.emit_stmt.new.plan.left.now c.requires.plan c.next_planned-again.ensures n c.in_ok-emit_stmt.ensures.plan;
     }
 
 pub emit_until-emit_stmt-requires : goal.emit_until-emit_stmt-requires
@@ -108,49 +108,49 @@ emit_until-emit_stmt-requires t c =
     let v = value_view c.args.c.now in
     let a = action_view c.args.body.now in
     let go = length c.args.code.now + 1 + (expr_size v + 1) in
-    let n = until_place c.args.around.locals (env_of c.args.scope.now) c.args.pos v c.planned-go.result c.in_ok-end.end c.args.code.now c.put.new.code c.emit_test.new.code c.in_ok-put.ensures c.in_ok-emit_test.ensures in
-    (omega arith, loop_begins a go (length c.emit_test.new.code) go (go + stmt_size a) c.planned-go.result c.planned-again.result c.args.plan.now.left.now c.planned-go.new.plan.left.now c.planned-again.new.plan.left.now c.requires.plan c.planned-go.ensures c.planned-again.ensures n)
+    let n = until_place c.args.around.locals (env_of c.args.scope.now) c.args.pos v c.next_planned-go.result c.in_ok-end.end c.args.code.now c.put.new.code c.emit_test.new.code c.in_ok-put.ensures c.in_ok-emit_test.ensures in
+    (omega arith, loop_begins a go (length c.emit_test.new.code) go (go + stmt_size a) c.next_planned-go.result c.next_planned-again.result c.args.plan.now.left.now c.next_planned-go.new.plan.left.now c.next_planned-again.new.plan.left.now c.requires.plan c.next_planned-go.ensures c.next_planned-again.ensures n)
 
 pub emit_until-returns : goal.emit_until-returns
 emit_until-returns t c =
     let v = value_view c.args.c.now in
     let a = action_view c.args.body.now in
     let go = length c.args.code.now + 1 + (expr_size v + 1) in
-    let o = two_first (plan_of go a) c.args.plan.now.left.now c.planned-go.new.plan.left.now go (go + stmt_size a) c.planned-go.result c.requires.plan c.planned-go.ensures in
-    let q = two_second (plan_of go a) c.args.plan.now.left.now c.planned-go.new.plan.left.now c.planned-again.new.plan.left.now go (go + stmt_size a) c.planned-go.result c.planned-again.result c.requires.plan c.planned-go.ensures c.planned-again.ensures in
-    let n = until_place c.args.around.locals (env_of c.args.scope.now) c.args.pos v c.planned-go.result c.in_ok-end.end c.args.code.now c.put.new.code c.emit_test.new.code c.in_ok-put.ensures c.in_ok-emit_test.ensures in
+    let o = two_first (plan_of go a) c.args.plan.now.left.now c.next_planned-go.new.plan.left.now go (go + stmt_size a) c.next_planned-go.result c.requires.plan c.next_planned-go.ensures in
+    let q = two_second (plan_of go a) c.args.plan.now.left.now c.next_planned-go.new.plan.left.now c.next_planned-again.new.plan.left.now go (go + stmt_size a) c.next_planned-go.result c.next_planned-again.result c.requires.plan c.next_planned-go.ensures c.next_planned-again.ensures in
+    let n = until_place c.args.around.locals (env_of c.args.scope.now) c.args.pos v c.next_planned-go.result c.in_ok-end.end c.args.code.now c.put.new.code c.emit_test.new.code c.in_ok-put.ensures c.in_ok-emit_test.ensures in
     record {
-      code = until_laid c.args.around.locals (env_of c.args.scope.now) c.args.pos v a c.in_ok-head.head c.planned-go.result c.planned-again.result c.in_ok-end.end c.args.code.now c.put.new.code c.emit_test.new.code c.emit_stmt.new.code c.put-2.new.code c.in_ok-end.ensures c.in_ok-put.ensures c.in_ok-head.ensures.place c.in_ok-emit_test.ensures o c.in_ok-emit_stmt.ensures.code q c.in_ok-put-2.ensures;
-      plan = loop_through a go (length c.emit_test.new.code) go (go + stmt_size a) c.planned-go.result c.planned-again.result c.args.plan.now.left.now c.planned-go.new.plan.left.now c.planned-again.new.plan.left.now c.emit_stmt.new.plan.left.now c.requires.plan c.planned-go.ensures c.planned-again.ensures n c.in_ok-emit_stmt.ensures.plan;
+      code = until_laid c.args.around.locals (env_of c.args.scope.now) c.args.pos v a c.in_ok-head.head c.next_planned-go.result c.next_planned-again.result c.in_ok-end.end c.args.code.now c.put.new.code c.emit_test.new.code c.emit_stmt.new.code c.put-2.new.code c.in_ok-end.ensures c.in_ok-put.ensures c.in_ok-head.ensures.place c.in_ok-emit_test.ensures o c.in_ok-emit_stmt.ensures.code q c.in_ok-put-2.ensures;
+      plan = loop_through a go (length c.emit_test.new.code) go (go + stmt_size a) c.next_planned-go.result c.next_planned-again.result c.args.plan.now.left.now c.next_planned-go.new.plan.left.now c.next_planned-again.new.plan.left.now c.emit_stmt.new.plan.left.now c.requires.plan c.next_planned-go.ensures c.next_planned-again.ensures n c.in_ok-emit_stmt.ensures.plan;
     }
 
 pub emit_for-emit_stmt-requires : goal.emit_for-emit_stmt-requires
 emit_for-emit_stmt-requires t c =
-    let rs = map reached_view c.args.reached.now in
+    let rs = map declared_view c.args.reached.now in
     let u = optional_view c.args.first.now in
     let v = optional_view c.args.c.now in
     let w = optional_view c.args.last.now in
     let a = action_view c.args.body.now in
     let go = for_head (length c.args.code.now) rs u + test_size v in
     let last = go + stmt_size a in
-    let n = for_body c.args.around.locals (env_of c.args.scope.now) c.args.pos rs u v c.planned-end.result c.args.code.now c.emit_unset.new.code c.emit_reached.new.code c.emit_option.new.code c.emit_tested.new.code c.in_ok-emit_unset.ensures c.in_ok-emit_reached.ensures c.in_ok-emit_option.ensures c.in_ok-emit_tested.ensures in
-    (omega arith, loop_begins a go (length c.emit_tested.new.code) last (last + option_size w + 1) c.planned-again.result c.planned-end.result c.args.plan.now.left.now c.planned-again.new.plan.left.now c.planned-end.new.plan.left.now c.requires.plan c.planned-again.ensures c.planned-end.ensures n)
+    let n = for_body c.args.around.locals (env_of c.args.scope.now) c.args.pos rs u v c.next_planned-end.result c.args.code.now c.emit_unset.new.code c.emit_declared.new.code c.emit_option.new.code c.emit_tested.new.code c.in_ok-emit_unset.ensures c.in_ok-emit_reached.ensures c.in_ok-emit_option.ensures c.in_ok-emit_tested.ensures in
+    (omega arith, loop_begins a go (length c.emit_tested.new.code) last (last + option_size w + 1) c.next_planned-again.result c.next_planned-end.result c.args.plan.now.left.now c.next_planned-again.new.plan.left.now c.next_planned-end.new.plan.left.now c.requires.plan c.next_planned-again.ensures c.next_planned-end.ensures n)
 
 pub emit_for-returns : goal.emit_for-returns
 emit_for-returns t c =
-    let rs = map reached_view c.args.reached.now in
+    let rs = map declared_view c.args.reached.now in
     let u = optional_view c.args.first.now in
     let v = optional_view c.args.c.now in
     let w = optional_view c.args.last.now in
     let a = action_view c.args.body.now in
     let go = for_head (length c.args.code.now) rs u + test_size v in
     let last = go + stmt_size a in
-    let o = two_first (plan_of go a) c.args.plan.now.left.now c.planned-again.new.plan.left.now last (last + option_size w + 1) c.planned-again.result c.requires.plan c.planned-again.ensures in
-    let q = two_second (plan_of go a) c.args.plan.now.left.now c.planned-again.new.plan.left.now c.planned-end.new.plan.left.now last (last + option_size w + 1) c.planned-again.result c.planned-end.result c.requires.plan c.planned-again.ensures c.planned-end.ensures in
-    let n = for_body c.args.around.locals (env_of c.args.scope.now) c.args.pos rs u v c.planned-end.result c.args.code.now c.emit_unset.new.code c.emit_reached.new.code c.emit_option.new.code c.emit_tested.new.code c.in_ok-emit_unset.ensures c.in_ok-emit_reached.ensures c.in_ok-emit_option.ensures c.in_ok-emit_tested.ensures in
+    let o = two_first (plan_of go a) c.args.plan.now.left.now c.next_planned-again.new.plan.left.now last (last + option_size w + 1) c.next_planned-again.result c.requires.plan c.next_planned-again.ensures in
+    let q = two_second (plan_of go a) c.args.plan.now.left.now c.next_planned-again.new.plan.left.now c.next_planned-end.new.plan.left.now last (last + option_size w + 1) c.next_planned-again.result c.next_planned-end.result c.requires.plan c.next_planned-again.ensures c.next_planned-end.ensures in
+    let n = for_body c.args.around.locals (env_of c.args.scope.now) c.args.pos rs u v c.next_planned-end.result c.args.code.now c.emit_unset.new.code c.emit_declared.new.code c.emit_option.new.code c.emit_tested.new.code c.in_ok-emit_unset.ensures c.in_ok-emit_reached.ensures c.in_ok-emit_option.ensures c.in_ok-emit_tested.ensures in
     record {
-      code = for_laid c.args.around.locals (env_of c.args.scope.now) c.args.pos rs u v w a c.in_ok-head.head c.planned-again.result c.planned-end.result c.args.code.now c.emit_unset.new.code c.emit_reached.new.code c.emit_option.new.code c.emit_tested.new.code c.emit_stmt.new.code c.emit_option-2.new.code c.put.new.code c.in_ok-emit_unset.ensures c.in_ok-emit_reached.ensures c.in_ok-emit_option.ensures c.in_ok-head.ensures.place c.in_ok-emit_tested.ensures c.in_ok-emit_stmt.ensures.code o c.in_ok-emit_option-2.ensures c.in_ok-put.ensures q;
-      plan = loop_through a go (length c.emit_tested.new.code) last (last + option_size w + 1) c.planned-again.result c.planned-end.result c.args.plan.now.left.now c.planned-again.new.plan.left.now c.planned-end.new.plan.left.now c.emit_stmt.new.plan.left.now c.requires.plan c.planned-again.ensures c.planned-end.ensures n c.in_ok-emit_stmt.ensures.plan;
+      code = for_laid c.args.around.locals (env_of c.args.scope.now) c.args.pos rs u v w a c.in_ok-head.head c.next_planned-again.result c.next_planned-end.result c.args.code.now c.emit_unset.new.code c.emit_declared.new.code c.emit_option.new.code c.emit_tested.new.code c.emit_stmt.new.code c.emit_option-2.new.code c.put.new.code c.in_ok-emit_unset.ensures c.in_ok-emit_reached.ensures c.in_ok-emit_option.ensures c.in_ok-head.ensures.place c.in_ok-emit_tested.ensures c.in_ok-emit_stmt.ensures.code o c.in_ok-emit_option-2.ensures c.in_ok-put.ensures q;
+      plan = loop_through a go (length c.emit_tested.new.code) last (last + option_size w + 1) c.next_planned-again.result c.next_planned-end.result c.args.plan.now.left.now c.next_planned-again.new.plan.left.now c.next_planned-end.new.plan.left.now c.emit_stmt.new.plan.left.now c.requires.plan c.next_planned-again.ensures c.next_planned-end.ensures n c.in_ok-emit_stmt.ensures.plan;
     }
 
 pub emit_list-emit_stmt-requires : goal.emit_list-emit_stmt-requires
@@ -227,7 +227,7 @@ emit_block-plan_labels-requires t c =
     let list = map action_view c.args.list.now in
     let c0 = c.args.code.now in
     let l0 = c.args.plan.now.left.now in
-    let from = length c0 + length (declared list) in
+    let from = length c0 + length (block_locals list) in
     let front = places_of (list_labels from list) in
     let inner = plans_of from (actions_of list) in
     let same = block_plan_is c.args.pos nowhere list (length c0) in
@@ -241,7 +241,7 @@ emit_block-emit_inside-requires t c =
     let list = map action_view c.args.list.now in
     let c0 = c.args.code.now in
     let l0 = c.args.plan.now.left.now in
-    let from = length c0 + length (declared list) in
+    let from = length c0 + length (block_locals list) in
     let front = places_of (list_labels from list) in
     let inner = plans_of from (actions_of list) in
     let same = block_plan_is c.args.pos nowhere list (length c0) in
@@ -250,7 +250,7 @@ emit_block-emit_inside-requires t c =
     let l1 = c.plan_labels.new.plan.left.now in
     let c1 = c.emit_unsets.new.code in
     let known = labels_known own list from inner l0 l1 begun c.in_ok-own.ensures.places c.in_ok-own.ensures.names in
-    let n : length c1 ≡ from = grown c0 c1 (unset_code c.args.pos (declared list)) (length (declared list)) c.in_ok-emit_unsets.ensures (unset_long (declared list) c.args.pos) in
+    let n : length c1 ≡ from = grown c0 c1 (unset_code c.args.pos (block_locals list)) (length (block_locals list)) c.in_ok-emit_unsets.ensures (unset_long (block_locals list) c.args.pos) in
     let plan = begins_at (λ i. plans_of i (actions_of list)) from (length c1) l1 (labels_left own list from inner l0 l1 begun c.in_ok-own.ensures.places known) n in
     (omega arith, (plan, c.as_slice.ensures.value ∙ known ∙ ap (λ i. list_labels i list) (sym n)))
 
@@ -259,7 +259,7 @@ emit_block-returns t c =
     let list = map action_view c.args.list.now in
     let c0 = c.args.code.now in
     let l0 = c.args.plan.now.left.now in
-    let from = length c0 + length (declared list) in
+    let from = length c0 + length (block_locals list) in
     let front = places_of (list_labels from list) in
     let inner = plans_of from (actions_of list) in
     let same = block_plan_is c.args.pos nowhere list (length c0) in
@@ -268,7 +268,7 @@ emit_block-returns t c =
     let l1 = c.plan_labels.new.plan.left.now in
     let c1 = c.emit_unsets.new.code in
     let known = labels_known own list from inner l0 l1 begun c.in_ok-own.ensures.places c.in_ok-own.ensures.names in
-    let n : length c1 ≡ from = grown c0 c1 (unset_code c.args.pos (declared list)) (length (declared list)) c.in_ok-emit_unsets.ensures (unset_long (declared list) c.args.pos) in
+    let n : length c1 ≡ from = grown c0 c1 (unset_code c.args.pos (block_locals list)) (length (block_locals list)) c.in_ok-emit_unsets.ensures (unset_long (block_locals list) c.args.pos) in
     let l2 = c.emit_inside.new.plan.left.now in
     let s = c.in_ok-own.ensures.places ∙ ap (λ ms. places_of ms ++ l1) known in
     let u = c.in_ok-emit_inside.ensures.plan ∙ ap (λ i. plans_of i (actions_of list) ++ l2) n in
@@ -320,10 +320,10 @@ emit_switch-planned_all-starts-requires t c =
     let front = places_of (list_labels from list) in
     let inner = plans_of from (actions_of list) in
     let l0 = c.args.plan.now.left.now in
-    let l1 = c.planned-end.new.plan.left.now in
+    let l1 = c.next_planned-end.new.plan.left.now in
     let same = switch_plan_is nowhere nowhere list place in
     let whole : Begins (last ∷ (begin ++ (front ++ inner))) l0 = begins_as _ (last ∷ (begin ++ (front ++ inner))) l0 same c.requires.plan in
-    let b1 = one_begins (begin ++ (front ++ inner)) l0 l1 last c.planned-end.result whole c.planned-end.ensures in
+    let b1 = one_begins (begin ++ (front ++ inner)) l0 l1 last c.next_planned-end.result whole c.next_planned-end.ensures in
     let long : length begin ≡ length c.args.list.now = starts_long list from ∙ length-map c.args.list.now action_view in
     let h = front_long begin (front ++ inner) l1 b1 in
     omega (arith, h, long)
@@ -338,10 +338,10 @@ emit_switch-plan_labels-requires t c =
     let front = places_of (list_labels from list) in
     let inner = plans_of from (actions_of list) in
     let l0 = c.args.plan.now.left.now in
-    let l1 = c.planned-end.new.plan.left.now in
+    let l1 = c.next_planned-end.new.plan.left.now in
     let same = switch_plan_is nowhere nowhere list place in
     let whole : Begins (last ∷ (begin ++ (front ++ inner))) l0 = begins_as _ (last ∷ (begin ++ (front ++ inner))) l0 same c.requires.plan in
-    let b1 = one_begins (begin ++ (front ++ inner)) l0 l1 last c.planned-end.result whole c.planned-end.ensures in
+    let b1 = one_begins (begin ++ (front ++ inner)) l0 l1 last c.next_planned-end.result whole c.next_planned-end.ensures in
     let long : length begin ≡ length c.args.list.now = starts_long list from ∙ length-map c.args.list.now action_view in
     let starts = c.planned_all-starts.result.now in
     let l2 = c.planned_all-starts.new.plan.left.now in
@@ -362,10 +362,10 @@ emit_switch-emit_switched-requires t c =
     let front = places_of (list_labels from list) in
     let inner = plans_of from (actions_of list) in
     let l0 = c.args.plan.now.left.now in
-    let l1 = c.planned-end.new.plan.left.now in
+    let l1 = c.next_planned-end.new.plan.left.now in
     let same = switch_plan_is nowhere nowhere list place in
     let whole : Begins (last ∷ (begin ++ (front ++ inner))) l0 = begins_as _ (last ∷ (begin ++ (front ++ inner))) l0 same c.requires.plan in
-    let b1 = one_begins (begin ++ (front ++ inner)) l0 l1 last c.planned-end.result whole c.planned-end.ensures in
+    let b1 = one_begins (begin ++ (front ++ inner)) l0 l1 last c.next_planned-end.result whole c.next_planned-end.ensures in
     let long : length begin ≡ length c.args.list.now = starts_long list from ∙ length-map c.args.list.now action_view in
     let starts = c.planned_all-starts.result.now in
     let l2 = c.planned_all-starts.new.plan.left.now in
@@ -374,7 +374,7 @@ emit_switch-emit_switched-requires t c =
     let b2 = back_known starts begin (front ++ inner) l1 l2 b1 c.planned_all-starts.ensures.left count in
     let own = c.in_ok-own.own.items in
     let l3 = c.plan_labels.new.plan.left.now in
-    let o = one_place (begin ++ (front ++ inner)) l0 l1 last c.planned-end.result whole c.planned-end.ensures in
+    let o = one_place (begin ++ (front ++ inner)) l0 l1 last c.next_planned-end.result whole c.next_planned-end.ensures in
     let begun = front_known starts begin (front ++ inner) l1 l2 b1 c.planned_all-starts.ensures.left count in
     let known = labels_known own list from inner l2 l3 b2 c.in_ok-own.ensures.places c.in_ok-own.ensures.names in
     (omega arith, (labels_left own list from inner l2 l3 b2 c.in_ok-own.ensures.places known, (begun, (c.as_slice-labels.ensures.value ∙ known, o))))
@@ -389,10 +389,10 @@ emit_switch-returns t c =
     let front = places_of (list_labels from list) in
     let inner = plans_of from (actions_of list) in
     let l0 = c.args.plan.now.left.now in
-    let l1 = c.planned-end.new.plan.left.now in
+    let l1 = c.next_planned-end.new.plan.left.now in
     let same = switch_plan_is nowhere nowhere list place in
     let whole : Begins (last ∷ (begin ++ (front ++ inner))) l0 = begins_as _ (last ∷ (begin ++ (front ++ inner))) l0 same c.requires.plan in
-    let b1 = one_begins (begin ++ (front ++ inner)) l0 l1 last c.planned-end.result whole c.planned-end.ensures in
+    let b1 = one_begins (begin ++ (front ++ inner)) l0 l1 last c.next_planned-end.result whole c.next_planned-end.ensures in
     let long : length begin ≡ length c.args.list.now = starts_long list from ∙ length-map c.args.list.now action_view in
     let starts = c.planned_all-starts.result.now in
     let l2 = c.planned_all-starts.new.plan.left.now in
@@ -401,7 +401,7 @@ emit_switch-returns t c =
     let b2 = back_known starts begin (front ++ inner) l1 l2 b1 c.planned_all-starts.ensures.left count in
     let own = c.in_ok-own.own.items in
     let l3 = c.plan_labels.new.plan.left.now in
-    let o = one_place (begin ++ (front ++ inner)) l0 l1 last c.planned-end.result whole c.planned-end.ensures in
+    let o = one_place (begin ++ (front ++ inner)) l0 l1 last c.next_planned-end.result whole c.next_planned-end.ensures in
     let begun = front_known starts begin (front ++ inner) l1 l2 b1 c.planned_all-starts.ensures.left count in
     let known = labels_known own list from inner l2 l3 b2 c.in_ok-own.ensures.places c.in_ok-own.ensures.names in
     let l4 = c.emit_switched.new.plan.left.now in
@@ -410,7 +410,7 @@ emit_switch-returns t c =
     let behind = both_through begin (front ++ inner) l1 l2 l4 s (both_through front inner l2 l3 l4 u c.in_ok-emit_switched.ensures.plan) in
     record {
       code = c.in_ok-emit_switched.ensures.code;
-      plan = one_through (begin ++ (front ++ inner)) l0 l1 l4 last c.planned-end.result c.planned-end.ensures o behind ∙ ap (λ x. x ++ l4) (sym same);
+      plan = one_through (begin ++ (front ++ inner)) l0 l1 l4 last c.next_planned-end.result c.next_planned-end.ensures o behind ∙ ap (λ x. x ++ l4) (sym same);
     }
 
 pub emit_skipped-emit_stmt-requires : goal.emit_skipped-emit_stmt-requires
@@ -418,19 +418,19 @@ emit_skipped-emit_stmt-requires t c =
     let v = value_view c.args.node.now in
     let a = action_view c.args.body.now in
     let at = length c.args.code.now + expr_size v + 1 in
-    let n = skipped_place c.args.around.locals (env_of c.args.scope.now) c.args.pos v c.planned-end.result c.args.code.now c.emit_alone.new.code c.put.new.code c.in_ok-_value.ensures.code c.in_ok-put.ensures in
-    (omega arith, part_begins a at (length c.put.new.code) (at + stmt_size a) c.planned-end.result c.args.plan.now.left.now c.planned-end.new.plan.left.now c.requires.plan c.planned-end.ensures n)
+    let n = skipped_place c.args.around.locals (env_of c.args.scope.now) c.args.pos v c.next_planned-end.result c.args.code.now c.emit_alone.new.code c.put.new.code c.in_ok-_value.ensures.code c.in_ok-put.ensures in
+    (omega arith, part_begins a at (length c.put.new.code) (at + stmt_size a) c.next_planned-end.result c.args.plan.now.left.now c.next_planned-end.new.plan.left.now c.requires.plan c.next_planned-end.ensures n)
 
 pub emit_skipped-returns : goal.emit_skipped-returns
 emit_skipped-returns t c =
     let v = value_view c.args.node.now in
     let a = action_view c.args.body.now in
     let at = length c.args.code.now + expr_size v + 1 in
-    let o = one_place (plan_of at a) c.args.plan.now.left.now c.planned-end.new.plan.left.now (at + stmt_size a) c.planned-end.result c.requires.plan c.planned-end.ensures in
-    let n = skipped_place c.args.around.locals (env_of c.args.scope.now) c.args.pos v c.planned-end.result c.args.code.now c.emit_alone.new.code c.put.new.code c.in_ok-_value.ensures.code c.in_ok-put.ensures in
+    let o = one_place (plan_of at a) c.args.plan.now.left.now c.next_planned-end.new.plan.left.now (at + stmt_size a) c.next_planned-end.result c.requires.plan c.next_planned-end.ensures in
+    let n = skipped_place c.args.around.locals (env_of c.args.scope.now) c.args.pos v c.next_planned-end.result c.args.code.now c.emit_alone.new.code c.put.new.code c.in_ok-_value.ensures.code c.in_ok-put.ensures in
     record {
-      code = skipped_laid c.args.around.locals (env_of c.args.scope.now) c.args.pos v a c.planned-end.result c.args.code.now c.emit_alone.new.code c.put.new.code c.emit_stmt.new.code c.in_ok-_value.ensures.code c.in_ok-put.ensures c.in_ok-emit_stmt.ensures.code o;
-      plan = part_through a at (length c.put.new.code) (at + stmt_size a) c.planned-end.result c.args.plan.now.left.now c.planned-end.new.plan.left.now c.emit_stmt.new.plan.left.now c.requires.plan c.planned-end.ensures n c.in_ok-emit_stmt.ensures.plan;
+      code = skipped_laid c.args.around.locals (env_of c.args.scope.now) c.args.pos v a c.next_planned-end.result c.args.code.now c.emit_alone.new.code c.put.new.code c.emit_stmt.new.code c.in_ok-_value.ensures.code c.in_ok-put.ensures c.in_ok-emit_stmt.ensures.code o;
+      plan = part_through a at (length c.put.new.code) (at + stmt_size a) c.next_planned-end.result c.args.plan.now.left.now c.next_planned-end.new.plan.left.now c.emit_stmt.new.plan.left.now c.requires.plan c.next_planned-end.ensures n c.in_ok-emit_stmt.ensures.plan;
     }
 
 pub emit_choice-emit_skipped-requires : goal.emit_choice-emit_skipped-requires
@@ -452,8 +452,8 @@ emit_body-emit_switch-requires t c =
     let pc = length c.args.code.now in
     let v = value_view c.args.node.now in
     let l0 = c.args.plan.now.left.now in
-    let P : Action → Type 0 = λ a. Begins (plan_of pc (switch_on c.args.pos v a)) l0 in
-    let Q : List Node → Type 0 = λ ys. Begins (plan_of pc (switch_on c.args.pos v (block_of nowhere (actions_of (map action_view ys)) nowhere))) l0 in
+    let P : Action → Type 0 = λ a. Begins (plan_of pc (switch c.args.pos v a)) l0 in
+    let Q : List Node → Type 0 = λ ys. Begins (plan_of pc (switch c.args.pos v (block nowhere (actions_of (map action_view ys)) nowhere))) l0 in
     let smaller = block_size body c.in-Block.list c.in-Block.field-1 c.in-Block.is in
     (omega (arith, smaller, ap (λ ys. most size-Action ys) c.deref.ensures.value), subst Q (sym c.deref.ensures.value) (subst P (block_view body c.in-Block.list c.in-Block.field-1 c.in-Block.is) c.requires.plan))
 
@@ -464,6 +464,6 @@ emit_body-returns-in_ok-emit_switch t c =
     let env = env_of c.args.scope.now in
     let v = value_view c.args.node.now in
     let items = c.in-Block.list.items in
-    let P : Action → Type 0 = λ a. EmitsStmt nl env (switch_on c.args.pos v a) c.args.code.now c.emit_switch.new.code c.args.plan.now.left.now c.emit_switch.new.plan.left.now in
-    let h : P (block_of body.pos (actions_of (map action_view items)) c.in-Block.field-1) = rw c.deref.ensures.value at c.in_ok-emit_switch.ensures in
+    let P : Action → Type 0 = λ a. EmitsStmt nl env (switch c.args.pos v a) c.args.code.now c.emit_switch.new.code c.args.plan.now.left.now c.emit_switch.new.plan.left.now in
+    let h : P (block body.pos (actions_of (map action_view items)) c.in-Block.field-1) = rw c.deref.ensures.value at c.in_ok-emit_switch.ensures in
     subst P (sym (block_view body c.in-Block.list c.in-Block.field-1 c.in-Block.is)) h

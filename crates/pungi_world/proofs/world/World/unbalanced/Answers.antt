@@ -3,7 +3,7 @@ use Rattle.std.proofs.lemmas.Int.{ints}
 use mir.Val.{to_z, of_z}
 use mir.Syntax.{w64}
 use Rattle.pungi_world.specs.declared.account.Account.{Account}
-use Rattle.pungi_world.specs.World.{untouched}
+use Rattle.pungi_world.specs.World.{fresh_account}
 use Rattle.pungi_world.proofs.world.World.unbalanced.Goals as goal
 
 pub loop-object-preserved : goal.loop-object-preserved
@@ -11,4 +11,4 @@ loop-object-preserved c =
     let same = c.if-not-is_change.ensures in
     let fits : to_z w64 (of_z w64 c.escaped-escaped.result) ≡ c.escaped-escaped.result = omega (arith, ints) in
     below_more _ _ c.loop-object.invariant
-    (sym (ap (λ (l : List Account). (get_or l c.loop-object.object untouched).change) c.as_slice.ensures) ∙ same.0 refl ∙ fits ∙ c.escaped-escaped.ensures)
+    (sym (ap (λ (l : List Account). (get_or l c.loop-object.object fresh_account).change) c.as_slice.ensures) ∙ same.0 refl ∙ fits ∙ c.escaped-escaped.ensures)
