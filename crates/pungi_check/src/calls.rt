@@ -143,8 +143,8 @@ fn stmt(out: &mut Vec<u32>, s: &Stmt) -> Result<(), Memory>
             stmt(out, body)?;
             expr(out, e)
         }
-        StmtNode::For(first, test, step, body) => {
-            for_head(out, first, test, step)?;
+        StmtNode::For(head, body) => {
+            for_head(out, &head.start, &head.test, &head.step)?;
             stmt(out, body)
         }
         StmtNode::Default(body) | StmtNode::Label(_, body) => stmt(out, body),

@@ -86,8 +86,8 @@ pub(crate) fn stmt<'u>(out: &mut Vec<Tag<'u>>, s: &'u Stmt) -> Result<(), Memory
             stmt(out, body)?;
             expr(out, e)
         }
-        StmtNode::For(first, test, step, body) => {
-            for_head(out, first, test, step)?;
+        StmtNode::For(head, body) => {
+            for_head(out, &head.start, &head.test, &head.step)?;
             stmt(out, body)
         }
         StmtNode::Default(body) | StmtNode::Label(_, body) => stmt(out, body),

@@ -79,7 +79,7 @@ fn cast(alloc: Global) -> Result<Box<Expr>, AllocError> {
         spec: alias(T),
         stars: Vec::new(alloc),
     };
-    boxed(alloc, ExprNode::Cast(name, null))
+    boxed(alloc, ExprNode::Cast(Box::new(alloc, name)?, null))
 }
 
 /// `return sizeof ((T)NULL);` without its outer parentheses.

@@ -41,7 +41,7 @@ fn resolve_body<N: Lookup>(
         | StmtNode::If(_, _, Some(_))
         | StmtNode::While(_, _)
         | StmtNode::DoWhile(_, _)
-        | StmtNode::For(_, _, _, _)
+        | StmtNode::For(_, _)
         | StmtNode::Switch(_, _)
         | StmtNode::Case(_, _)
         | StmtNode::Default(_)

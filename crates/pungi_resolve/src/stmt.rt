@@ -185,9 +185,16 @@ pub(crate) fn resolve_stmt<N: Lookup>(
         }
         StmtNode::While(e, body) => resolve_while(names, around, walk, pos, body, e),
         StmtNode::DoWhile(body, e) => resolve_do_while(names, around, walk, pos, body, e),
-        StmtNode::For(start, test, step, body) => {
-            resolve_for(names, around, walk, pos, body, start, test, step)
-        }
+        StmtNode::For(head, body) => resolve_for(
+            names,
+            around,
+            walk,
+            pos,
+            body,
+            &head.start,
+            &head.test,
+            &head.step,
+        ),
         StmtNode::Switch(e, body) => resolve_switch(names, around, walk, pos, body, e),
         StmtNode::Case(e, inner) => resolve_case(names, around, walk, pos, inner, e),
         StmtNode::Default(inner) => resolve_default(names, around, walk, pos, inner),

@@ -44,7 +44,7 @@ fn own_labels(kept: &mut IndexSet<u32>, s: &Stmt) -> Result<(), Memory>
         StmtNode::If(_, inner, None)
         | StmtNode::While(_, inner)
         | StmtNode::DoWhile(inner, _)
-        | StmtNode::For(_, _, _, inner)
+        | StmtNode::For(_, inner)
         | StmtNode::Switch(_, inner)
         | StmtNode::Case(_, inner)
         | StmtNode::Default(inner) => own_labels(kept, inner),
@@ -108,7 +108,7 @@ fn note_labels(
         StmtNode::If(_, inner, None)
         | StmtNode::While(_, inner)
         | StmtNode::DoWhile(inner, _)
-        | StmtNode::For(_, _, _, inner)
+        | StmtNode::For(_, inner)
         | StmtNode::Switch(_, inner)
         | StmtNode::Case(_, inner)
         | StmtNode::Default(inner) => {

@@ -69,9 +69,12 @@ fn stmt_size(s: &Stmt) -> u32
             plus(plus(expr(e), stmt_size(body)), 1)
         }
         StmtNode::DoWhile(body, e) => plus(plus(stmt_size(body), expr(e)), 1),
-        StmtNode::For(first, test, step, body) => {
-            let head = plus(plus(start(first), optional(test)), optional(step));
-            plus(plus(head, stmt_size(body)), 1)
+        StmtNode::For(head, body) => {
+            let front = plus(
+                plus(start(&head.start), optional(&head.test)),
+                optional(&head.step),
+            );
+            plus(plus(front, stmt_size(body)), 1)
         }
         StmtNode::Default(body) | StmtNode::Label(_, body) => plus(stmt_size(body), 1),
         StmtNode::Goto(_, _) | StmtNode::Break | StmtNode::Continue => 1,

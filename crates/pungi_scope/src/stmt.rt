@@ -210,9 +210,16 @@ fn check_part<N: Lookup>(
             visit_condition(names, walk, s.pos, e);
             Ok(())
         }
-        StmtNode::For(start, test, step, body) => {
-            check_for(names, around, walk, s.pos, body, start, test, step)
-        }
+        StmtNode::For(head, body) => check_for(
+            names,
+            around,
+            walk,
+            s.pos,
+            body,
+            &head.start,
+            &head.test,
+            &head.step,
+        ),
         StmtNode::Switch(e, body) => {
             visit_switched(names, walk, s.pos, e);
             note_switch(around.alloc, &mut walk.first, body)?;

@@ -70,9 +70,9 @@ pub(crate) fn stmt(s: &Stmt) -> u32
             deeper(expr(e).max(stmt(body)))
         }
         StmtNode::DoWhile(body, e) => deeper(stmt(body).max(expr(e))),
-        StmtNode::For(first, test, step, body) => {
-            let head = start(first).max(optional(test));
-            deeper(head.max(optional(step).max(stmt(body))))
+        StmtNode::For(head, body) => {
+            let front = start(&head.start).max(optional(&head.test));
+            deeper(front.max(optional(&head.step).max(stmt(body))))
         }
         StmtNode::Default(body) | StmtNode::Label(_, body) => deeper(stmt(body)),
         StmtNode::Goto(_, _) | StmtNode::Break | StmtNode::Continue => 1,

@@ -153,8 +153,8 @@ pub(crate) fn stmt(out: &mut Vec<Kind>, s: &Stmt) -> Result<(), Memory>
             condition(out, Key::While, e)?;
             mark(out, Punct::Semicolon)
         }
-        StmtNode::For(start, test, step, body) => {
-            for_head(out, start, test, step)?;
+        StmtNode::For(head, body) => {
+            for_head(out, &head.start, &head.test, &head.step)?;
             stmt(out, body)
         }
         StmtNode::Switch(e, body) => {

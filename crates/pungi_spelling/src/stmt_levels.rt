@@ -19,7 +19,7 @@ fn open_if(s: &Stmt) -> bool
         StmtNode::If(_, _, None) => true,
         StmtNode::If(_, _, Some(body))
         | StmtNode::While(_, body)
-        | StmtNode::For(_, _, _, body)
+        | StmtNode::For(_, body)
         | StmtNode::Switch(_, body)
         | StmtNode::Case(_, body)
         | StmtNode::Default(body)
@@ -114,10 +114,10 @@ pub(crate) fn stmt(file: &[Item], s: &Stmt) -> bool
         StmtNode::DoWhile(body, e) => {
             is_statement(body) && stmt(file, body) && expr_at(file, 0, e)
         }
-        StmtNode::For(first, test, step, body) => {
-            start(file, first)
-                && optional(file, test)
-                && optional(file, step)
+        StmtNode::For(head, body) => {
+            start(file, &head.start)
+                && optional(file, &head.test)
+                && optional(file, &head.step)
                 && is_statement(body)
                 && stmt(file, body)
         }

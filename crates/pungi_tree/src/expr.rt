@@ -66,14 +66,14 @@ pub enum ExprNode {
     /// `expr "," assign`.
     Comma(Box<Expr>, Box<Expr>),
     /// `"(" typename ")" cast`, at the parenthesis.
-    Cast(TypeName, Box<Expr>),
+    Cast(Box<TypeName>, Box<Expr>),
     /// `"sizeof" "(" typename ")"`.
-    SizeOfType(TypeName),
+    SizeOfType(Box<TypeName>),
     /// `postfix "(" (assign ("," assign)*)? ")"`, at its first token.
     Call(Box<Expr>, Vec<Expr>),
     /// `"PyObject_New" "(" typename "," assign ")"` (Python/C API Reference Manual 3.11,
     /// "Allocating Objects on the Heap").
-    New(TypeName, Box<Expr>),
+    New(Box<TypeName>, Box<Expr>),
     /// `postfix "[" expr "]"`, at the bracket.
     Index(Box<Expr>, Box<Expr>),
     /// `postfix "." word`.

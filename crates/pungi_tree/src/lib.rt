@@ -18,5 +18,5 @@ pub use expr::{Expr, ExprNode};
 pub use item::{FunctionDef, Head, Item};
 pub use params::{ParamDecl, ParamDeclr, Params};
 pub use spec::{Base, Field, Spec, TypeName};
-pub use stmt::{ForStart, Stmt, StmtNode};
+pub use stmt::{ForHead, ForStart, Stmt, StmtNode};
 pub use unit::Unit;

@@ -43,7 +43,7 @@ pub enum StmtNode {
     /// `"do" stmt "while" "(" expr ")" ";"`.
     DoWhile(Box<Stmt>, Expr),
     /// `"for" "(" (decl | expr? ";") expr? ";" expr? ")" stmt`.
-    For(ForStart, Option<Expr>, Option<Expr>, Box<Stmt>),
+    For(Box<ForHead>, Box<Stmt>),
     /// `"switch" "(" expr ")" stmt`.
     Switch(Expr, Box<Stmt>),
     /// `"case" cond ":" stmt`.
@@ -72,7 +72,7 @@ impl Drop for StmtNode {
             | StmtNode::If(_, _, _)
             | StmtNode::While(_, _)
             | StmtNode::DoWhile(_, _)
-            | StmtNode::For(_, _, _, _)
+            | StmtNode::For(_, _)
             | StmtNode::Switch(_, _)
             | StmtNode::Case(_, _)
             | StmtNode::Default(_)
@@ -82,6 +82,23 @@ impl Drop for StmtNode {
             | StmtNode::Continue
             | StmtNode::Return(_) => {}
         }
+    }
+}
+
+/// What stands between the parentheses of a `for` (C11 6.8.5.3).
+pub struct ForHead {
+    pub start: ForStart,
+    pub test: Option<Expr>,
+    pub step: Option<Expr>,
+}
+
+impl Drop for ForHead {
+    fn drop(self) {
+        let ForHead {
+            start: _,
+            test: _,
+            step: _,
+        } = self;
     }
 }
 

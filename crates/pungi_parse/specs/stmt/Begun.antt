@@ -20,7 +20,7 @@ use Rattle.pungi_parse.specs.stmt.StmtReader.{optional, condition, start_at, lab
 use Rattle.pungi_parse.specs.types.TypeReader.{Lower}
 use Rattle.pungi_parse.specs.declared.stmt.begun.Begun.{Begun as TheBegun}
 use Rattle.pungi_parse.specs.declared.stmt.begun.Begun.TheVariants as begun
-use Rattle.pungi_parse.specs.declared.stmt.begun.ForHead.{ForHead}
+use Rattle.pungi_tree.specs.declared.stmt.ForHead.{ForHead}
 use Rattle.pungi_parse.specs.declared.stmt.begun.StmtHead.{StmtHead}
 use Rattle.pungi_parse.specs.declared.stmt.begun.StmtHead.TheVariants as heads
 use Rattle.pungi_tree.specs.ExprView.{expr_view, optional_view}

@@ -1,13 +1,5 @@
 use pungi_base::{Name, Pos};
-use pungi_tree::{Expr, ForStart, Stmt};
-
-/// What stands between the parentheses of a `for`.
-#[derive(Drop)]
-pub(crate) struct ForHead {
-    pub(crate) start: ForStart,
-    pub(crate) test: Option<Expr>,
-    pub(crate) step: Option<Expr>,
-}
+use pungi_tree::{Expr, ForHead, Stmt};
 
 /// What stands in front of the one statement that is the body of another one.
 #[derive(Drop)]

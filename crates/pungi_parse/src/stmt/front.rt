@@ -7,13 +7,13 @@ ghost use Rattle.pungi_tree.specs.Placed.{placed};
 ghost use Rattle.pungi_tree.specs.StmtView.{stmt_view};
 
 use crate::parser::Parser;
-use crate::stmt::begun::{Begun, ForHead, StmtHead};
+use crate::stmt::begun::{Begun, StmtHead};
 use crate::stmt::decl::Front;
 use crate::stmt::nodes::boxed;
 use crate::stop::Stop;
 use crate::tokens::one_token::{eat, eat_key};
 use pungi_base::{Key, Pos, Punct, Token};
-use pungi_tree::{Stmt, StmtNode};
+use pungi_tree::{ForHead, Stmt, StmtNode};
 
 impl Parser<'_> {
     /// What stands after `if`, up to its first branch.

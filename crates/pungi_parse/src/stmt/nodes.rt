@@ -6,7 +6,7 @@ ghost use Rattle.pungi_tree.specs.Placed.{Placed};
 ghost use Rattle.pungi_tree.specs.StmtView.{stmt_view, stmts_of};
 ghost use Rattle.pungi_tree.specs.Syntax as plain;
 
-use crate::stmt::begun::{ForHead, StmtHead};
+use crate::stmt::begun::StmtHead;
 use pungi_base::{Memory, Pos};
 use pungi_tree::{Stmt, StmtNode};
 use std::alloc::Global;
@@ -36,10 +36,7 @@ pub(crate) fn headed(pos: Pos, head: StmtHead, body: Box<Stmt>) -> Stmt
 {
     let node = match head {
         StmtHead::While(test) => StmtNode::While(Box::into_inner(test), body),
-        StmtHead::For(head) => {
-            let ForHead { start, test, step } = Box::into_inner(head);
-            StmtNode::For(start, test, step, body)
-        }
+        StmtHead::For(head) => StmtNode::For(head, body),
         StmtHead::Switch(value) => StmtNode::Switch(Box::into_inner(value), body),
         StmtHead::Case(value) => StmtNode::Case(Box::into_inner(value), body),
         StmtHead::Default => StmtNode::Default(body),

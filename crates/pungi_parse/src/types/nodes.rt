@@ -1,9 +1,9 @@
-ghost use Rattle.std.specs.Prelude.{◌≡◌, Some, None, false, map};
-ghost use Rattle.pungi_tree.specs.ExprView.{base_view, field_view, fields_of, spec_view, declr_view, declrs_of, sizes_of, optional_view, params_view, param_declr_view, param_decl_view, param_decls_of};
+ghost use Rattle.std.specs.Prelude.{◌≡◌, Some, None, IfOk, false, map};
+ghost use Rattle.pungi_tree.specs.ExprView.{base_view, field_view, fields_of, spec_view, type_name_view, declr_view, declrs_of, sizes_of, optional_view, params_view, param_declr_view, param_decl_view, param_decls_of};
 ghost use Rattle.pungi_tree.specs.Syntax as plain;
 
-use pungi_base::{Key, Name, Pos};
-use pungi_tree::{Base, Declr, Expr, Field, ParamDecl, ParamDeclr, Params, Spec, Tail};
+use pungi_base::{Key, Memory, Name, Pos};
+use pungi_tree::{Base, Declr, Expr, Field, ParamDecl, ParamDeclr, Params, Spec, Tail, TypeName};
 use std::alloc::Global;
 
 pub(crate) fn tagged(of: Key, name: Name, pos: Pos) -> Base
@@ -24,6 +24,12 @@ pub(crate) fn tagged_fields(of: Key, tag: Option<(Name, Pos)>, fields: Vec<Field
         tag,
         fields: Some(fields),
     }
+}
+
+pub(crate) fn type_name(alloc: Global, spec: Spec, stars: Vec<u32>) -> Result<Box<TypeName>, Memory>
+    ensures { IfOk result (λ t. type_name_view t.value ≡ plain.type_name (spec_view spec) stars.items) }
+{
+    Ok(Box::new(alloc, TypeName { spec, stars })?)
 }
 
 pub(crate) fn members(quals: Vec<Key>, spec: Spec, declrs: Vec<Declr>) -> Field

@@ -19,13 +19,14 @@ impl Parser<'_> {
     /// The type with its pointers at the front (C11 6.7.7).
     #[tactic(auto, unfolding(crate::specs::types::TypeReader::type_name_at, crate::specs::Reading::chain))]
     #[cycle(parts)]
-    pub(crate) fn type_name<'t>(&self, tokens: &'t [Token]) -> Read<'t, TypeName>
-        ensures { Reads type_name_view type_name_depth self.now.most (length tokens.now) result
+    pub(crate) fn type_name<'t>(&self, tokens: &'t [Token]) -> Read<'t, Box<TypeName>>
+        ensures { Reads (λ t. type_name_view t.value) type_name_depth self.now.most (length tokens.now) result
             (type_name_at (readers self.now.types.now self.now.nest self.now.most) (placed tokens.now)) }
     {
         let (spec, depth, rest) = self.spec(tokens)?;
         let (stars, rest) = words::stars(self.alloc, rest)?;
-        Ok((TypeName { spec, stars }, depth, rest))
+        let name = nodes::type_name(self.alloc, spec, stars)?;
+        Ok((name, depth, rest))
     }
 
     /// The type without its pointers at the front (C11 6.7.2).
