@@ -16,4 +16,4 @@ mixed_row-requires-clause-row c =
 
 pub loop-row-preserved : goal.loop-row-preserved
 loop-row-preserved c =
-    rw c.in_ok-push.ensures.items (mixed_rows_more c.args.u.now c.args.q c.args.rows.now c.loop-row.mixes.items c.loop-row.row-index c.row-item.result c.in_ok-mixed.field-0 c.loop-row-test.true c.row-item.is c.loop-row.invariant c.in_ok-mixed.ensures)
+    rw c.in_ok-push.ensures.items (mixed_rows_more c.args.u.now c.args.q c.args.rows.now c.loop-row.mixes.items c.loop-row.row-index c.row-item.result c.in_ok-mixed_row.field-0 c.loop-row-test.true c.row-item.is c.loop-row.invariant c.in_ok-mixed_row.ensures)

@@ -25,6 +25,6 @@ loop-i-preserved c =
     let n = c.args.fuel - (c.loop-i.i + 1) in
     let e : c.args.fuel - c.loop-i.i ≡ suc n = omega arith in
     let at : slice_get c.args.instrs.now c.loop-i.pc ≡ Some c.in-Some.line.now = c.in-Some.ensures.0 in
-    let is : next_place c.in_ok-after.after ≡ Some c.in-Some-place_after.next = sym c.next_place.ensures ∙ c.in-Some-place_after.is in
-    run_on c.args.choices.now c.args.instrs.now (c.args.fuel - c.loop-i.i) n c.loop-i.pc c.in-Some-place_after.next (regs_of c.loop-i.m) c.perform.new.m c.in-Some.line.now c.in_ok-after.after e at c.in_ok-after.ensures is
+    let is : next_place c.in_ok-after.after ≡ Some c.in-Some-next_place.next = sym c.next_place.ensures ∙ c.in-Some-next_place.is in
+    run_on c.args.choices.now c.args.instrs.now (c.args.fuel - c.loop-i.i) n c.loop-i.pc c.in-Some-next_place.next (regs_of c.loop-i.m) c.perform.new.m c.in-Some.line.now c.in_ok-after.after e at c.in_ok-after.ensures is
     ∙ c.loop-i.invariant

@@ -133,7 +133,7 @@ emit_for-emit_stmt-requires t c =
     let a = action_view c.args.body.now in
     let go = for_head (length c.args.code.now) rs u + test_size v in
     let last = go + stmt_size a in
-    let n = for_body c.args.around.locals (env_of c.args.scope.now) c.args.pos rs u v c.next_planned-end.result c.args.code.now c.emit_unset.new.code c.emit_declared.new.code c.emit_option.new.code c.emit_tested.new.code c.in_ok-emit_unset.ensures c.in_ok-emit_reached.ensures c.in_ok-emit_option.ensures c.in_ok-emit_tested.ensures in
+    let n = for_body c.args.around.locals (env_of c.args.scope.now) c.args.pos rs u v c.next_planned-end.result c.args.code.now c.emit_unset.new.code c.emit_declared.new.code c.emit_option.new.code c.emit_tested.new.code c.in_ok-emit_unset.ensures c.in_ok-emit_declared.ensures c.in_ok-emit_option.ensures c.in_ok-emit_tested.ensures in
     (omega arith, loop_begins a go (length c.emit_tested.new.code) last (last + option_size w + 1) c.next_planned-again.result c.next_planned-end.result c.args.plan.now.left.now c.next_planned-again.new.plan.left.now c.next_planned-end.new.plan.left.now c.requires.plan c.next_planned-again.ensures c.next_planned-end.ensures n)
 
 pub emit_for-returns : goal.emit_for-returns
@@ -147,9 +147,9 @@ emit_for-returns t c =
     let last = go + stmt_size a in
     let o = two_first (plan_of go a) c.args.plan.now.left.now c.next_planned-again.new.plan.left.now last (last + option_size w + 1) c.next_planned-again.result c.requires.plan c.next_planned-again.ensures in
     let q = two_second (plan_of go a) c.args.plan.now.left.now c.next_planned-again.new.plan.left.now c.next_planned-end.new.plan.left.now last (last + option_size w + 1) c.next_planned-again.result c.next_planned-end.result c.requires.plan c.next_planned-again.ensures c.next_planned-end.ensures in
-    let n = for_body c.args.around.locals (env_of c.args.scope.now) c.args.pos rs u v c.next_planned-end.result c.args.code.now c.emit_unset.new.code c.emit_declared.new.code c.emit_option.new.code c.emit_tested.new.code c.in_ok-emit_unset.ensures c.in_ok-emit_reached.ensures c.in_ok-emit_option.ensures c.in_ok-emit_tested.ensures in
+    let n = for_body c.args.around.locals (env_of c.args.scope.now) c.args.pos rs u v c.next_planned-end.result c.args.code.now c.emit_unset.new.code c.emit_declared.new.code c.emit_option.new.code c.emit_tested.new.code c.in_ok-emit_unset.ensures c.in_ok-emit_declared.ensures c.in_ok-emit_option.ensures c.in_ok-emit_tested.ensures in
     record {
-      code = for_laid c.args.around.locals (env_of c.args.scope.now) c.args.pos rs u v w a c.in_ok-head.head c.next_planned-again.result c.next_planned-end.result c.args.code.now c.emit_unset.new.code c.emit_declared.new.code c.emit_option.new.code c.emit_tested.new.code c.emit_stmt.new.code c.emit_option-2.new.code c.put.new.code c.in_ok-emit_unset.ensures c.in_ok-emit_reached.ensures c.in_ok-emit_option.ensures c.in_ok-head.ensures.place c.in_ok-emit_tested.ensures c.in_ok-emit_stmt.ensures.code o c.in_ok-emit_option-2.ensures c.in_ok-put.ensures q;
+      code = for_laid c.args.around.locals (env_of c.args.scope.now) c.args.pos rs u v w a c.in_ok-head.head c.next_planned-again.result c.next_planned-end.result c.args.code.now c.emit_unset.new.code c.emit_declared.new.code c.emit_option.new.code c.emit_tested.new.code c.emit_stmt.new.code c.emit_option-2.new.code c.put.new.code c.in_ok-emit_unset.ensures c.in_ok-emit_declared.ensures c.in_ok-emit_option.ensures c.in_ok-head.ensures.place c.in_ok-emit_tested.ensures c.in_ok-emit_stmt.ensures.code o c.in_ok-emit_option-2.ensures c.in_ok-put.ensures q;
       plan = loop_through a go (length c.emit_tested.new.code) last (last + option_size w + 1) c.next_planned-again.result c.next_planned-end.result c.args.plan.now.left.now c.next_planned-again.new.plan.left.now c.next_planned-end.new.plan.left.now c.emit_stmt.new.plan.left.now c.requires.plan c.next_planned-again.ensures c.next_planned-end.ensures n c.in_ok-emit_stmt.ensures.plan;
     }
 
