@@ -3,6 +3,7 @@ use Rattle.std.proofs.lemmas.Result.{IfOk-equal}
 use Rattle.pungi_tree.specs.ExprView.{optional_view}
 use Rattle.pungi_tree.specs.StmtView.{stmt_view, stmts_of, for_start_view}
 use Rattle.pungi_tree.specs.Syntax as plain
+use Rattle.pungi_tree.specs.declared.stmt.ForHead.{ForHead}
 use Rattle.pungi_tree.specs.declared.stmt.Stmt.{Stmt}
 use Rattle.pungi_types.specs.Labels.{stmt_locals, stmts_locals, start_locals}
 use Rattle.pungi_types.specs.Stmts.{Frame, in_block, stmt_findings, stmts_findings}
@@ -41,10 +42,15 @@ check_part-returns-in-For g t c =
     let old = c.args.walk.now in
     let F = frame_of (g.N.Lookup.env c.args.names.now) old [] c.args.around.now in
     let at : plain.Stmt → Walk = λ s. record old { first = least_from old.first (stmt_findings F s); next = old.next + stmt_locals s } in
-    let whole : Stmt → plain.Stmt = λ s. plain.for c.args.s.now.pos (for_start_view c.in-For.start) (optional_view c.in-For.test) (optional_view c.in-For.step) (stmt_view s) in
-    let body : c.deref-in-For.result.now ≡ c.in-For.body.value = c.deref-in-For.ensures in
-    IfOk-equal c.check_for.result c.check_for.new.walk (at (whole c.deref-in-For.result.now)) (at (stmt_view c.args.s.now)) c.check_for.ensures
-    (ap (λ (s : Stmt). at (whole s)) body ∙ sym (ap at (stmt_view-for c.args.s.now c.in-For.start c.in-For.test c.in-For.step c.in-For.body c.in-For.is)))
+    let from : ForHead → ForHead → ForHead → Stmt → plain.Stmt = λ x y z s. plain.for c.args.s.now.pos (for_start_view x.start) (optional_view y.test) (optional_view z.step) (stmt_view s) in
+    let head = c.in-For.head.value in
+    let body = c.deref-in-For.result.now in
+    let test = c.deref-in-For-3.result.now in
+    let step = c.deref-in-For-4.result.now in
+    IfOk-equal c.check_for.result c.check_for.new.walk (at (from c.deref-in-For-2.result.now test step body)) (at (stmt_view c.args.s.now)) c.check_for.ensures
+    (ap (λ (x : ForHead). at (from x test step body)) c.deref-in-For-2.ensures ∙ ap (λ (y : ForHead). at (from head y step body)) c.deref-in-For-3.ensures
+    ∙ ap (λ (z : ForHead). at (from head head z body)) c.deref-in-For-4.ensures ∙ ap (λ (s : Stmt). at (from head head head s)) c.deref-in-For.ensures
+    ∙ sym (ap at (stmt_view-for c.args.s.now c.in-For.head c.in-For.body c.in-For.is)))
 
 pub check_stmt-returns-in_ok-check_decl-in-Some-clause-found : goal.check_stmt-returns-in_ok-check_decl-in-Some-clause-found
 check_stmt-returns-in_ok-check_decl-in-Some-clause-found g t c =
