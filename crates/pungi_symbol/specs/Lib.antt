@@ -2,6 +2,6 @@
 -- it.
 pub mod states
 pub mod questions
-pub mod take_answer
+pub mod answers
 pub mod runs
 pub mod Promises

@@ -108,7 +108,7 @@ abbrev pub switch_first : ℕ → ℕ → stmt.Actions → ℕ
 switch_first pc count ss = pc + count + 2 * length (block_cases (listed ss)) + 1
 
 abbrev pub end_of_loop : ℕ → Loop → ℕ
-end_of_loop head loop = loop_end head loop.test loop.body loop.behind
+end_of_loop head loop = loop_end head loop.test loop.body loop.increment
 
 abbrev pub join_size : Option stmt.Action → ℕ
 join_size None = 0
@@ -299,7 +299,7 @@ module _ (code : List Line) (nl room : ℕ) where
   -- a loop's instructions
   abbrev pub LoopAt : Env → ℕ → Loop → Type 0
   LoopAt env head loop =
-      TestAt head loop.test (loop_body head loop.test) (loop_end head loop.test loop.body loop.behind) × StmtAt (in_loop env (loop_again head loop.test loop.body) (loop_end head loop.test loop.body loop.behind)) (loop_body head loop.test) loop.body × OptionAt (loop_again head loop.test loop.body) loop.behind × Does (loop_again head loop.test loop.body + option_size loop.behind) (Jump (at_label head))
+      TestAt head loop.test (loop_body head loop.test) (loop_end head loop.test loop.body loop.increment) × StmtAt (in_loop env (loop_again head loop.test loop.body) (loop_end head loop.test loop.body loop.increment)) (loop_body head loop.test) loop.body × OptionAt (loop_again head loop.test loop.body) loop.increment × Does (loop_again head loop.test loop.body + option_size loop.increment) (Jump (at_label head))
 
   -- the instructions of statements, from a place to an end
   abbrev pub ListAt : Env → ℕ → List stmt.Action → ℕ → Type 0

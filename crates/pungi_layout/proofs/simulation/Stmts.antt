@@ -158,7 +158,7 @@ module _ (choices : List Choice) (code : List Line) (nl room : ℕ) where
 
   pub test_sim : (loop : Loop) (k : List Todo) (s : State) (env : Env) (pc : ℕ) (ks : List Waiting) (m : Regs) → IsAt code nl room env (ToTest loop ∷ k) pc ks → Match code nl room ks s m → IsDone choices code nl room (act choices (ToTest loop ∷ k) s) 0 pc m
   test_sim loop k s env pc ks m h ma =
-      let r = tested_at loop.test loop.behind loop.body k env pc h.1 h.2 in
+      let r = tested_at loop.test loop.increment loop.body k env pc h.1 h.2 in
       still choices code nl room (test_loop loop k) s pc m r.0 [] r.1 (none_waits ks s m h.0 ma)
 
   turn_by : (c : Bool) (loop : Loop) (k : List Todo) (s : State) (env : Env) (pc head : ℕ) (m : Regs) → ((j : ℕ) → exec choices code (suc j) pc m ≡ exec choices code j (if c then loop_body head loop.test else end_of_loop head loop) m) → LoopAt code nl room env head loop → IsAt code nl room env k (end_of_loop head loop) [] → Match code nl room [] s m → Continues choices code nl room [] (turn c loop k) s 0 pc m
@@ -177,13 +177,13 @@ module _ (choices : List Choice) (code : List Line) (nl room : ℕ) where
 
   pub again_sim : (loop : Loop) (k : List Todo) (s : State) (env : Env) (pc : ℕ) (ks : List Waiting) (m : Regs) → IsAt code nl room env (ToAgain loop ∷ k) pc ks → Match code nl room ks s m → IsDone choices code nl room (act choices (ToAgain loop ∷ k) s) 0 pc m
   again_sim loop k s env pc ks m h ma =
-      still choices code nl room (evaluate_first loop.behind (ToBack loop ∷ k)) s pc m h.0 []
-      (moved choices code nl room h.0 (evaluate_first loop.behind (ToBack loop ∷ k)) (loop_again h.1 loop.test loop.body) pc [] (sym h.4)
-      (started_at loop.behind (ToBack loop ∷ k) h.0 (loop_again h.1 loop.test loop.body) h.3.2 (h.1, refl, h.3.3, h.3, h.8))) (none_waits ks s m h.2 ma)
+      still choices code nl room (evaluate_first loop.increment (ToBack loop ∷ k)) s pc m h.0 []
+      (moved choices code nl room h.0 (evaluate_first loop.increment (ToBack loop ∷ k)) (loop_again h.1 loop.test loop.body) pc [] (sym h.4)
+      (started_at loop.increment (ToBack loop ∷ k) h.0 (loop_again h.1 loop.test loop.body) h.3.2 (h.1, refl, h.3.3, h.3, h.8))) (none_waits ks s m h.2 ma)
 
   pub back_sim : (loop : Loop) (k : List Todo) (s : State) (env : Env) (pc : ℕ) (ks : List Waiting) (m : Regs) → IsAt code nl room env (ToBack loop ∷ k) pc ks → Match code nl room ks s m → IsDone choices code nl room (act choices (ToBack loop ∷ k) s) 1 pc m
   back_sim loop k s env pc ks m h ma =
-      let r = tested_at loop.test loop.behind loop.body k env h.0 h.3 h.4 in
+      let r = tested_at loop.test loop.increment loop.body k env h.0 h.3 h.4 in
       step_to (test_loop loop k) s 1 pc m h.0 m r.0 (omega arith) (jump_step choices code nl room pc h.0 m h.2) r.1 (none_waits ks s m h.1 ma)
 
   pub switch_end_sim : (k : List Todo) (s : State) (env : Env) (pc : ℕ) (ks : List Waiting) (m : Regs) → IsAt code nl room env (ToSwitchEnd ∷ k) pc ks → Match code nl room ks s m → IsDone choices code nl room (act choices (ToSwitchEnd ∷ k) s) 0 pc m

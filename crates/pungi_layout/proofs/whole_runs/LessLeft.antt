@@ -225,8 +225,8 @@ module _ (most : ℕ) where
   tested_light None behind body k le h = (omega arith, (body_light None behind (stmt_weight body) most le, (le, h)))
   tested_light (Some c) behind body k le h = (omega arith, (tt, (le, h)))
 
-  turn_light : (c : Bool) (loop : Loop) (n : ℕ) (k : List Todo) (s : State) → turn_weight loop.behind (stmt_weight loop.body) + weight k ≤ n → loop_weight loop ≤ most → AreLight k → Leaves n (pop_value (turn c loop k) s)
-  turn_light true loop n k s le hl h = (omega (arith, le), (body_light loop.test loop.behind (stmt_weight loop.body) most hl, (hl, h)))
+  turn_light : (c : Bool) (loop : Loop) (n : ℕ) (k : List Todo) (s : State) → turn_weight loop.increment (stmt_weight loop.body) + weight k ≤ n → loop_weight loop ≤ most → AreLight k → Leaves n (pop_value (turn c loop k) s)
+  turn_light true loop n k s le hl h = (omega (arith, le), (body_light loop.test loop.increment (stmt_weight loop.body) most hl, (hl, h)))
   turn_light false loop n k s le hl h = (omega (arith, le), h)
 
   choose_light : (c : Bool) (a : stmt.Action) (b : Option stmt.Action) (n : ℕ) (k : List Todo) (s : State) → stmt_weight a + other_weight b + 2 + weight k ≤ n → stmt_weight a ≤ most → other_weight b ≤ most → AreLight k → Leaves n (pop_value (if c then ToExec a ∷ ToJoin ∷ k else else_part b (ToJoin ∷ k)) s)
@@ -400,12 +400,12 @@ module _ (most : ℕ) where
   step_light choices (ToJoin ∷ k) s h = (omega arith, h.1)
   step_light choices (ToRest block i ∷ k) s h = at_most (next_stmt block i (slice_get block i) k s) (omega arith) (next_light (slice_get block i) block i k s (is_next block i) h.0 h.1)
   step_light choices (ToTest loop ∷ k) s h =
-      let r = tested_light loop.test loop.behind loop.body k h.0 h.1 in (omega (arith, r.0), r.1)
+      let r = tested_light loop.test loop.increment loop.body k h.0 h.1 in (omega (arith, r.0), r.1)
   step_light choices (ToTurn loop ∷ k) s h = turn_light (is_true (top s.values)) loop _ k s (omega arith) h.0 h.1
   step_light choices (ToAgain loop ∷ k) s h =
-      let r = started_light loop.behind (ToBack loop ∷ k) (h.0, h.1) in (omega (arith, r.0), r.1)
+      let r = started_light loop.increment (ToBack loop ∷ k) (h.0, h.1) in (omega (arith, r.0), r.1)
   step_light choices (ToBack loop ∷ k) s h =
-      let r = tested_light loop.test loop.behind loop.body k h.0 h.1 in (omega (arith, r.0, h.0), r.1)
+      let r = tested_light loop.test loop.increment loop.body k h.0 h.1 in (omega (arith, r.0, h.0), r.1)
   step_light choices (ToSwitch p a ∷ k) s h = at_most (switch p (top s.values) a k s) (omega arith) (switch_light a p (top s.values) k s h.0 h.1)
   step_light choices (ToSwitchEnd ∷ k) s h = (omega arith, h.1)
   step_light choices (ToReturn p ∷ k) s h = tt

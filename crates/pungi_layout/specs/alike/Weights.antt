@@ -93,7 +93,7 @@ list_weight [] = 1
 list_weight (a ∷ rest) = stmt_weight a + 1 + list_weight rest
 
 abbrev pub loop_weight : Loop → ℕ
-loop_weight loop = tested_weight loop.test loop.behind (stmt_weight loop.body)
+loop_weight loop = tested_weight loop.test loop.increment (stmt_weight loop.body)
 
 abbrev pub switch_weight : stmt.Action → ℕ
 switch_weight (stmt.block q ss r) = stmts_weight ss + 2
@@ -115,8 +115,8 @@ item_weight (ToDeclare rs) = declare_weight rs
 item_weight (ToChoose a b) = stmt_weight a + other_weight b + 2
 item_weight (ToRest block i) = list_weight (drop i block)
 item_weight (ToTest loop) = loop_weight loop + 1
-item_weight (ToTurn loop) = turn_weight loop.behind (stmt_weight loop.body)
-item_weight (ToAgain loop) = again_weight loop.behind
+item_weight (ToTurn loop) = turn_weight loop.increment (stmt_weight loop.body)
+item_weight (ToAgain loop) = again_weight loop.increment
 item_weight (ToSwitch p a) = switch_weight a
 item_weight t = 1
 
