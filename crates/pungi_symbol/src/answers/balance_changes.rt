@@ -78,7 +78,7 @@ impl State {
     }
 
     fn lower_if(&mut self, taken: bool, x: Term) -> Result<(), Memory>
-        ensures { OnOk result (self.new ≡ record self.old { balances = if taken_terms then add_term self.old.classes self.old.known x (negsuc 0) self.old.balances else self.old.balances }) }
+        ensures { OnOk result (self.new ≡ record self.old { balances = if taken then add_term self.old.classes self.old.known x (negsuc 0) self.old.balances else self.old.balances }) }
     {
         if taken { self.raise(x, -1) } else { Ok(()) }
     }

@@ -77,8 +77,8 @@ fn witness_of(
 ) -> Result<Witness, Memory>
     ensures objects { IfOk result (λ w. w.input.objects ≡ count state.now.known) }
     ensures few { IfOk result (λ w. w.input.objects < 2 ^ 31) }
-    ensures args { IfOk result (λ w. w.input.args ≡ take argument_count (drop statics (canon state.now))) }
-    ensures choices { IfOk result (λ w. w.choices ≡ map choice_of (drop argument_count (drop statics (canon state.now)))) }
+    ensures args { IfOk result (λ w. w.input.args ≡ take arguments (drop statics (canon state.now))) }
+    ensures choices { IfOk result (λ w. w.choices ≡ map choice_of (drop arguments (drop statics (canon state.now)))) }
 {
     let table = own_table(alloc, state)?;
     let came = rest(table.as_slice(), statics as usize);
