@@ -211,7 +211,7 @@ fn survey_for(
     test: &Option<Box<Node>>,
     last: &Option<Box<Node>>,
 ) -> Result<u32, Memory>
-    ensures { IfOk result (λ next. SurveysStmt pc (for pos (map declared_view reached.now) (optional_view first.now) (optional_view if_only.now) (optional_view last.now) (action_view body.now)) next marks.old marks.new places.old places.new labels.old labels.new) }
+    ensures { IfOk result (λ next. SurveysStmt pc (for pos (map declared_view reached.now) (optional_view first.now) (optional_view test.now) (optional_view last.now) (action_view body.now)) next marks.old marks.new places.old places.new labels.old labels.new) }
 {
     let room = hold(places, 2)?;
     let top = for_head(pc, reached, first)?;
