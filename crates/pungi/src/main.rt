@@ -26,6 +26,8 @@ use std::process::ExitCode;
 #[cfg(test)]
 mod rule_tests;
 #[cfg(test)]
+mod size_tests;
+#[cfg(test)]
 mod test_modules;
 #[cfg(test)]
 mod tests;

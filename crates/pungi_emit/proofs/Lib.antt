@@ -1,12 +1,1 @@
-pub mod ListLemmas
-pub mod ArgLemmas
-pub mod EmitLemmas
-pub mod DeclLemmas
-pub mod CaseLemmas
-pub mod LabelLemmas
-pub mod StmtLemmas
-pub mod ActionLemmas
-pub mod SurveyLemmas
-pub mod KindLemmas
-pub mod PlanLists
-pub mod PlanLemmas
+-- In the order of reading: code, expr, stmt, planning, function. The file named after a folder says what is in it.

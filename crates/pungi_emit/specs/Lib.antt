@@ -1,5 +1,3 @@
-pub mod LabelPlaces
-pub mod Plans
-pub mod Cases
-pub mod Surveys
-pub mod Emits
+-- In the order of reading: planning, stmt. The file named after a folder says what is in it.
+pub mod planning
+pub mod stmt

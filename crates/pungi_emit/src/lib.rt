@@ -1,31 +1,12 @@
 //! The emitters: the code of a function, as the layout has it.
 #![tactic(auto)]
 
-mod calls;
-mod column;
-mod counts;
-mod decl;
-mod emit;
+mod code;
 mod expr;
 mod function;
-mod functions;
-mod heads;
-mod kinds;
-mod labels;
-mod nodes;
-mod number;
-mod parts;
-mod place;
-mod plan;
-mod room;
-mod row;
-mod scope;
-mod size;
+mod planning;
 mod stmt;
-mod survey;
-mod switch;
-mod temporary;
 
-pub use calls::has_no_call;
-pub use function::lower_function;
-pub use functions::lower_functions;
+pub use function::calls::has_no_call;
+pub use function::codes::lower_functions;
+pub use function::function_code::lower_function;

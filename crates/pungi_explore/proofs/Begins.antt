@@ -5,15 +5,15 @@ use Rattle.std.specs.Prelude.{slice_get, Option}
 use Rattle.pungi_base.specs.declared.pos.Pos.{Pos}
 use Rattle.pungi_code.specs.declared.code.Codes.{Codes}
 use Rattle.pungi_code.specs.declared.code.Line.{Line}
-use Rattle.pungi_symbol.specs.declared.decision.Decision.{Decision}
-use Rattle.pungi_symbol.specs.declared.known.Status.{Status}
-use Rattle.pungi_symbol.specs.declared.known.Status.TheVariants as status
-use Rattle.pungi_symbol.specs.declared.question.Question.{Question}
-use Rattle.pungi_symbol.specs.declared.state.State.{State}
-use Rattle.pungi_symbol.specs.declared.term.Term.{Term}
-use Rattle.pungi_symbol.specs.Asks.{ask, ask_line, ask_while}
-use Rattle.pungi_symbol.specs.State.{can, apply}
-use Rattle.pungi_symbol.specs.Runs.{Path, path_here, path_on}
+use Rattle.pungi_symbol.specs.declared.answers.decision.Decision.{Decision}
+use Rattle.pungi_symbol.specs.declared.states.known.Status.{Status}
+use Rattle.pungi_symbol.specs.declared.states.known.Status.TheVariants as status
+use Rattle.pungi_symbol.specs.declared.questions.question.Question.{Question}
+use Rattle.pungi_symbol.specs.declared.states.state.State.{State}
+use Rattle.pungi_symbol.specs.declared.states.term.Term.{Term}
+use Rattle.pungi_symbol.specs.questions.NextQuestion.{ask, ask_line, ask_while}
+use Rattle.pungi_symbol.specs.answers.SymbolicState.{can, apply}
+use Rattle.pungi_symbol.specs.runs.Paths.{Path, path_here, path_on}
 use Rattle.pungi_symbol.specs.Promises.{AllLevel}
 use Rattle.pungi_explore.specs.Traces.{HasEnded, states_after}
 use Rattle.pungi_explore.proofs.Each.{Each}

@@ -10,12 +10,12 @@ use Rattle.pungi_world.specs.Escapes.{IsBalanced}
 use Rattle.pungi_meaning.specs.Run as run
 use Rattle.pungi_code.specs.declared.code.Code.{Code}
 use Rattle.pungi_code.specs.declared.code.Codes.{Codes}
-use Rattle.pungi_symbol.specs.declared.decision.Decision.{Decision}
-use Rattle.pungi_symbol.specs.declared.known.Status.{Status}
-use Rattle.pungi_symbol.specs.declared.known.Status.TheVariants as status
-use Rattle.pungi_symbol.specs.declared.state.State.{State}
-use Rattle.pungi_symbol.specs.declared.term.Term.{Term}
-use Rattle.pungi_symbol.specs.Runs.{start_state, table_of, Path, run_for, IsAt, Meets, returned_value}
+use Rattle.pungi_symbol.specs.declared.answers.decision.Decision.{Decision}
+use Rattle.pungi_symbol.specs.declared.states.known.Status.{Status}
+use Rattle.pungi_symbol.specs.declared.states.known.Status.TheVariants as status
+use Rattle.pungi_symbol.specs.declared.states.state.State.{State}
+use Rattle.pungi_symbol.specs.declared.states.term.Term.{Term}
+use Rattle.pungi_symbol.specs.runs.Paths.{start_state, table_of, Path, run_for, IsAt, Meets, returned_value}
 use Rattle.pungi_symbol.specs.Promises.{HasForm, Covers, IsReached}
 use Rattle.pungi_explore.specs.Explored.{Returns, AreBalanced, IsFaultRun}
 use Rattle.pungi_explore.specs.Visits.{ShowsFault}

@@ -24,27 +24,27 @@ use Rattle.pungi_code.specs.declared.instr.Instr.TheVariants.{Set, Arith, Fit, C
 use Rattle.pungi_code.specs.declared.place.Place.{Place}
 use Rattle.pungi_code.specs.declared.place.Place.TheVariants as places
 use Rattle.pungi_code.specs.WellFormed.{place_kind}
-use Rattle.pungi_symbol.specs.declared.decision.Decision.{Decision}
-use Rattle.pungi_symbol.specs.declared.decision.Decision.TheVariants.{Quiet, Outcome, Order, Same as IsSame}
-use Rattle.pungi_symbol.specs.declared.finding.Finding.{Finding}
-use Rattle.pungi_symbol.specs.declared.finding.Finding.TheVariants.{Waits, At, Nowhere}
-use Rattle.pungi_symbol.specs.declared.known.Known.{Known}
-use Rattle.pungi_symbol.specs.declared.known.Status.{Status}
-use Rattle.pungi_symbol.specs.declared.known.Status.TheVariants as status
-use Rattle.pungi_symbol.specs.declared.mark.Mark.{Mark}
-use Rattle.pungi_symbol.specs.declared.mark.Mark.TheVariants.{Pointer, TextPointer, IsNull, IsObject, IsText, IsNumber}
-use Rattle.pungi_symbol.specs.declared.question.Question.{Question}
-use Rattle.pungi_symbol.specs.declared.question.Question.TheVariants.{Does, Touches, Overwrites, Null as AsksNull, Base, Answers, Same, Returns, Stops, Over}
-use Rattle.pungi_symbol.specs.declared.spot.Progress.{Progress}
-use Rattle.pungi_symbol.specs.declared.spot.Progress.TheVariants.{Looking, Found}
-use Rattle.pungi_symbol.specs.declared.spot.Touched.{Touched}
-use Rattle.pungi_symbol.specs.declared.state.State.{State}
-use Rattle.pungi_symbol.specs.declared.term.Term.{Term}
-use Rattle.pungi_symbol.specs.declared.term.Term.TheVariants.{Unset, Null, Text, Number, Token}
-use Rattle.pungi_symbol.specs.Terms.{outcomes_of_mark, outcomes_of_answer}
-use Rattle.pungi_symbol.specs.Knows.{mark, term_of, number, number_in, object_of, slot_note, is_global, is_field, at_place, ask_base, seek, find_token, find_field, find}
-use Rattle.pungi_symbol.specs.Asks.{setting, knowing_mark, knowing, needing_mark, needing, ordering, comparing, ranged, contents, loading, storing, dropping, all_set, needing_for, needing_all, knowing_for, knowing_taken, answering, special_ask, form_ask, first_term, terms_of, return_ask, ask_of, ask_line, ask_while, ask}
-use Rattle.pungi_symbol.specs.State.{is_decision, is_outcome, can_be, are_one, are_other, can, apply, decisions, after_if}
+use Rattle.pungi_symbol.specs.declared.answers.decision.Decision.{Decision}
+use Rattle.pungi_symbol.specs.declared.answers.decision.Decision.TheVariants.{Quiet, Outcome, Order, Same as IsSame}
+use Rattle.pungi_symbol.specs.declared.questions.found_slot.Finding.{Finding}
+use Rattle.pungi_symbol.specs.declared.questions.found_slot.Finding.TheVariants.{Waits, At, Nowhere}
+use Rattle.pungi_symbol.specs.declared.states.known.Known.{Known}
+use Rattle.pungi_symbol.specs.declared.states.known.Status.{Status}
+use Rattle.pungi_symbol.specs.declared.states.known.Status.TheVariants as status
+use Rattle.pungi_symbol.specs.declared.states.mark.Mark.{Mark}
+use Rattle.pungi_symbol.specs.declared.states.mark.Mark.TheVariants.{Pointer, TextPointer, IsNull, IsObject, IsText, IsNumber}
+use Rattle.pungi_symbol.specs.declared.questions.question.Question.{Question}
+use Rattle.pungi_symbol.specs.declared.questions.question.Question.TheVariants.{Does, Touches, Overwrites, Null as AsksNull, Base, Answers, Same, Returns, Stops, Over}
+use Rattle.pungi_symbol.specs.declared.states.spot.Progress.{Progress}
+use Rattle.pungi_symbol.specs.declared.states.spot.Progress.TheVariants.{Looking, Found}
+use Rattle.pungi_symbol.specs.declared.states.spot.Touched.{Touched}
+use Rattle.pungi_symbol.specs.declared.states.state.State.{State}
+use Rattle.pungi_symbol.specs.declared.states.term.Term.{Term}
+use Rattle.pungi_symbol.specs.declared.states.term.Term.TheVariants.{Unset, Null, Text, Number, Token}
+use Rattle.pungi_symbol.specs.states.Terms.{outcomes_of_mark, outcomes_of_answer}
+use Rattle.pungi_symbol.specs.states.Known.{mark, term_of, number, number_in, object_of, slot_note, is_global, is_field, at_place, ask_base, seek, find_token, find_field, find}
+use Rattle.pungi_symbol.specs.questions.NextQuestion.{setting, knowing_mark, knowing, needing_mark, needing, ordering, comparing, ranged, contents, loading, storing, dropping, all_set, needing_for, needing_all, knowing_for, knowing_taken, answering, special_ask, form_ask, first_term, terms_of, return_ask, ask_of, ask_line, ask_while, ask}
+use Rattle.pungi_symbol.specs.answers.SymbolicState.{is_decision, is_outcome, can_be, are_one, are_other, can, apply, decisions, after_if}
 use Rattle.pungi_explore.specs.Traces.{states_after}
 use Rattle.pungi_explore.proofs.Each.{Each, IsIn, is_first, is_later, each_mapped, each_flat, each_if}
 

@@ -3,10 +3,10 @@ use Rattle.std.proofs.Common.{◌≡◌, List, true}
 use Rattle.std.specs.Prelude.{slice_get}
 use Rattle.std.specs.List.{flat_map}
 use Rattle.pungi_code.specs.declared.code.Line.{Line}
-use Rattle.pungi_symbol.specs.declared.decision.Decision.{Decision}
-use Rattle.pungi_symbol.specs.declared.state.State.{State}
-use Rattle.pungi_symbol.specs.Asks.{ask}
-use Rattle.pungi_symbol.specs.State.{can, apply, after_if, decisions}
+use Rattle.pungi_symbol.specs.declared.answers.decision.Decision.{Decision}
+use Rattle.pungi_symbol.specs.declared.states.state.State.{State}
+use Rattle.pungi_symbol.specs.questions.NextQuestion.{ask}
+use Rattle.pungi_symbol.specs.answers.SymbolicState.{can, apply, after_if, decisions}
 use Rattle.pungi_explore.specs.Traces.{states_after}
 use Rattle.pungi_explore.proofs.Each.{Each, each_of_if, each_of_flat, each_of_map}
 

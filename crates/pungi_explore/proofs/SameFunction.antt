@@ -5,16 +5,16 @@ use Rattle.pungi_code.specs.declared.atom.Var.{Var}
 use Rattle.pungi_code.specs.declared.code.Line.{Line}
 use Rattle.pungi_code.specs.declared.instr.Instr.{Instr}
 use Rattle.pungi_code.specs.declared.instr.Instr.TheVariants.{Set, Arith, Fit, Compare, Load, Store, Api, Call, Unset as Forget, Jump, Branch, Return, Fall}
-use Rattle.pungi_symbol.specs.declared.decision.Decision.{Decision}
-use Rattle.pungi_symbol.specs.declared.known.Known.{Known}
-use Rattle.pungi_symbol.specs.declared.mark.Mark.{Mark}
-use Rattle.pungi_symbol.specs.declared.question.Question.{Question}
-use Rattle.pungi_symbol.specs.declared.question.Question.TheVariants.{Does, Touches, Overwrites, Null as AsksNull, Base, Answers, Same, Returns, Stops, Over}
-use Rattle.pungi_symbol.specs.declared.state.State.{State}
-use Rattle.pungi_symbol.specs.declared.term.Term.{Term}
-use Rattle.pungi_symbol.specs.Asks.{ask}
-use Rattle.pungi_symbol.specs.Goes.{answered, arrive, api_var, does, instr_of, load_first, next, store_first, with_line, go}
-use Rattle.pungi_symbol.specs.Runs.{Path, path_here, path_on}
+use Rattle.pungi_symbol.specs.declared.answers.decision.Decision.{Decision}
+use Rattle.pungi_symbol.specs.declared.states.known.Known.{Known}
+use Rattle.pungi_symbol.specs.declared.states.mark.Mark.{Mark}
+use Rattle.pungi_symbol.specs.declared.questions.question.Question.{Question}
+use Rattle.pungi_symbol.specs.declared.questions.question.Question.TheVariants.{Does, Touches, Overwrites, Null as AsksNull, Base, Answers, Same, Returns, Stops, Over}
+use Rattle.pungi_symbol.specs.declared.states.state.State.{State}
+use Rattle.pungi_symbol.specs.declared.states.term.Term.{Term}
+use Rattle.pungi_symbol.specs.questions.NextQuestion.{ask}
+use Rattle.pungi_symbol.specs.answers.KnownAfter.{answered, arrive, api_var, does, instr_of, load_first, next, store_first, with_line, go}
+use Rattle.pungi_symbol.specs.runs.Paths.{Path, path_here, path_on}
 
 answered_function : (k : Known) (x : Option Var) (o : Option Term) → (next (answered x o k)).function ≡ k.function
 answered_function k None o = refl

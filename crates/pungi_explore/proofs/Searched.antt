@@ -4,11 +4,11 @@ use Rattle.pungi_base.specs.declared.witness.Witness.{Witness}
 use Rattle.pungi_code.specs.declared.code.Code.{Code}
 use Rattle.pungi_code.specs.declared.code.Codes.{Codes}
 use Rattle.pungi_code.specs.Run.{code_at}
-use Rattle.pungi_symbol.specs.declared.decision.Decision.{Decision}
-use Rattle.pungi_symbol.specs.declared.known.Status.TheVariants as status
-use Rattle.pungi_symbol.specs.declared.state.State.{State}
-use Rattle.pungi_symbol.specs.State.{successors}
-use Rattle.pungi_symbol.specs.Runs.{start_state, Path, path_here, path_on}
+use Rattle.pungi_symbol.specs.declared.answers.decision.Decision.{Decision}
+use Rattle.pungi_symbol.specs.declared.states.known.Status.TheVariants as status
+use Rattle.pungi_symbol.specs.declared.states.state.State.{State}
+use Rattle.pungi_symbol.specs.answers.SymbolicState.{successors}
+use Rattle.pungi_symbol.specs.runs.Paths.{start_state, Path, path_here, path_on}
 use Rattle.pungi_symbol.specs.Promises.{lines_in, next_states, HasForm, Covers, AllLevel}
 use Rattle.pungi_explore.specs.declared.explored.Explored.{Explored}
 use Rattle.pungi_explore.specs.declared.explored.Explored.TheVariants.{AllBalanced, Fault, TooMany}

@@ -1,7 +1,7 @@
 -- Traces of lists of states: those of two lists together, and of the parts of a list.
 use Rattle.std.proofs.Common.{◌≡◌, ℕ, suc, ◌+◌, ◌≤◌, List, [], ◌∷◌, ◌++◌, subst, arith}
 use Rattle.pungi_code.specs.declared.code.Line.{Line}
-use Rattle.pungi_symbol.specs.declared.state.State.{State}
+use Rattle.pungi_symbol.specs.declared.states.state.State.{State}
 use Rattle.pungi_explore.specs.Traces.{states_after, HaveTraces, no_state, has_ended, goes_on, HaveAtLeast, none_left, left_out, one_ended, one_goes_on}
 
 module _ (code : List Line) where

@@ -5,9 +5,9 @@
 --   HaveAtLeast code ss n    they have so many traces or more
 use Rattle.std.specs.Prelude.{◌≡◌, ℕ, suc, ◌+◌, List, [], ◌∷◌, map}
 use Rattle.pungi_code.specs.declared.code.Line.{Line}
-use Rattle.pungi_symbol.specs.declared.known.Status.TheVariants as status
-use Rattle.pungi_symbol.specs.declared.state.State.{State}
-use Rattle.pungi_symbol.specs.State.{successors}
+use Rattle.pungi_symbol.specs.declared.states.known.Status.TheVariants as status
+use Rattle.pungi_symbol.specs.declared.states.state.State.{State}
+use Rattle.pungi_symbol.specs.answers.SymbolicState.{successors}
 
 abbrev pub HasEnded : State → Type 0
 HasEnded s = s.known.status ≡ status.Going → ⊥

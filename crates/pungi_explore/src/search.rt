@@ -1,7 +1,7 @@
 // All states of a function, one path at a time.
 ghost use Rattle.std.specs.Prelude.{◌≡◌, map, IfOk};
 ghost use Rattle.pungi_code.specs.Run.{code_at};
-ghost use Rattle.pungi_symbol.specs.Runs.{starts};
+ghost use Rattle.pungi_symbol.specs.runs.Paths.{starts};
 ghost use Rattle.pungi_symbol.specs.Promises.{Covers};
 ghost use Rattle.pungi_explore.specs.Explored.{IsExplored, FindsFault};
 

@@ -15,6 +15,8 @@ mod lex_tests;
 #[cfg(test)]
 mod parse_tests;
 #[cfg(test)]
+mod token_lines;
+#[cfg(test)]
 mod tree_tests;
 #[cfg(test)]
 mod trees;

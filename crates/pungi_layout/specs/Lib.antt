@@ -1,18 +1,5 @@
-pub mod Parts
-pub mod Sizes
-pub mod Temporaries
-pub mod ExprCode
-pub mod Scopes
-pub mod StmtCode
-pub mod Weights
-pub mod Sound
-pub mod Correct
-pub mod VarKinds
-pub mod Heads
-pub mod Liveness
-pub mod Typed
-pub mod TypedCalls
-pub mod TypedCode
-pub mod Codes
-pub mod Boundaries
-pub mod Laws
+-- In the order of reading: code, alike, liveness, kinds. The file named after a folder says what is in it.
+pub mod code
+pub mod alike
+pub mod liveness
+pub mod kinds

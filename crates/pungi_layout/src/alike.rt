@@ -1,11 +1,11 @@
 // What the layout of a function promises.
 ghost use Rattle.std.specs.Prelude.{◌≡◌, ◌+◌, ◌*◌, ◌≤◌};
 ghost use Rattle.pungi_resolved.specs.ActionView.{function_view};
-ghost use Rattle.pungi_layout.specs.StmtCode.{body_code};
-ghost use Rattle.pungi_layout.specs.Sound.{IsStmtSound, stmt_nodes};
-ghost use Rattle.pungi_layout.specs.Correct.{temps_of, Behaves};
-ghost use Rattle.pungi_layout.specs.Boundaries.{KeepsNothing};
-ghost use Rattle.pungi_layout.specs.Heads.{heads_of};
+ghost use Rattle.pungi_layout.specs.code.StmtCode.{body_code};
+ghost use Rattle.pungi_layout.specs.code.Sound.{IsStmtSound, stmt_nodes};
+ghost use Rattle.pungi_layout.specs.alike.Correct.{temps_of, Behaves};
+ghost use Rattle.pungi_layout.specs.liveness.Boundaries.{KeepsNothing};
+ghost use Rattle.pungi_layout.specs.code.Heads.{heads_of};
 
 use pungi_resolved::Function;
 

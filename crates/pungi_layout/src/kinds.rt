@@ -1,6 +1,6 @@
 // What the layout makes of functions whose parts are of the kinds that they need.
 ghost use Rattle.pungi_resolved.specs.ActionView.{function_view};
-ghost use Rattle.pungi_layout.specs.Laws.{IsWellFormedIfTyped, AgreeIfTyped};
+ghost use Rattle.pungi_layout.specs.kinds.Laws.{IsWellFormedIfTyped, AgreeIfTyped};
 
 use pungi_resolved::Function;
 

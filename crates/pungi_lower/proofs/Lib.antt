@@ -1,18 +1,9 @@
-pub mod NodesExprs
-pub mod NodesStmts
-pub mod TypedParts
-pub mod TypedExprs
-pub mod TypedStmts
-pub mod TypedFunctions
-pub mod NodesCode
-pub mod KindsParts
-pub mod KindsOperators
-pub mod KindsWords
-pub mod KindsCalls
-pub mod KindsPassed
-pub mod KindsLocals
-pub mod KindsPassedStmts
-pub mod KindsFunctions
+-- In the order of reading: nodes, sound, kinds, TypedLaws, Lowered, Worked, WorkedOperators, WorkedStatements,
+-- WorkedSlots, WorkedCode, WorkedCodeOperators, WorkedCodeStatements, WorkedCodeSlots. The file named after a folder
+-- says what is in it.
+pub mod nodes
+pub mod sound
+pub mod kinds
 pub mod TypedLaws
 pub mod Lowered
 pub mod Worked

@@ -17,21 +17,21 @@ use Rattle.pungi_meaning.specs.Entries.{entry_fits}
 use Rattle.pungi_code.specs.declared.code.Code.{Code}
 use Rattle.pungi_code.specs.declared.code.Codes.{Codes}
 use Rattle.pungi_code.specs.WellFormed.{IsWellFormed, AgreeOnKinds, AreWellFormed}
-use Rattle.pungi_layout.specs.Codes.{code_for}
-use Rattle.pungi_layout.specs.Correct.{temps_of, Behaves}
+use Rattle.pungi_layout.specs.code.Codes.{code_for}
+use Rattle.pungi_layout.specs.alike.Correct.{temps_of, Behaves}
 use Rattle.pungi_lower.specs.Lowered.{codes_of, names_of, IsEachPassed, IsLowered, AreLowered}
-use Rattle.pungi_layout.specs.Sound.{IsStmtSound, stmt_nodes}
-use Rattle.pungi_layout.specs.StmtCode.{body_code}
-use Rattle.pungi_layout.specs.VarKinds.{kind_held, stmt_reached, temp_kinds, var_kinds}
-use Rattle.pungi_layout.specs.TypedCalls.{has_no_call}
-use Rattle.pungi_layout.specs.TypedCode.{code_of, HasLocals}
-use Rattle.pungi_layout.proofs.BoundaryHeads.{keeps_nothing}
-use Rattle.pungi_layout.proofs.EntryKinds.{entries_alike, fit-count}
-use Rattle.pungi_layout.proofs.Final.{laid_out}
-use Rattle.pungi_layout.proofs.KindsCode.{vars_long}
-use Rattle.pungi_lower.proofs.KindsFunctions.{function-locals, function-well-formed}
-use Rattle.pungi_lower.proofs.NodesCode.{code-few}
-use Rattle.pungi_lower.proofs.TypedFunctions.{function-works, nodes-bounded}
+use Rattle.pungi_layout.specs.code.Sound.{IsStmtSound, stmt_nodes}
+use Rattle.pungi_layout.specs.code.StmtCode.{body_code}
+use Rattle.pungi_layout.specs.code.VarKinds.{kind_held, stmt_reached, temp_kinds, var_kinds}
+use Rattle.pungi_layout.specs.code.Calls.{has_no_call}
+use Rattle.pungi_layout.specs.code.FunctionCode.{code_of, HasLocals}
+use Rattle.pungi_layout.proofs.boundaries.Heads.{keeps_nothing}
+use Rattle.pungi_layout.proofs.well_formed.Entries.{entries_alike, fit-count}
+use Rattle.pungi_layout.proofs.whole_runs.Behaves.{laid_out}
+use Rattle.pungi_layout.proofs.well_formed.FunctionCode.{vars_long}
+use Rattle.pungi_lower.proofs.kinds.Functions.{function-locals, function-well-formed}
+use Rattle.pungi_lower.proofs.sound.Sizes.{code-few}
+use Rattle.pungi_lower.proofs.sound.Functions.{function-works, nodes-bounded}
 use Rattle.pungi_lower.proofs.TypedLaws.{agree_if_passed}
 
 -- ---- each function in which no rule holds is passed

@@ -8,17 +8,17 @@ use Rattle.pungi_types.specs.Nodes.{function_nodes}
 use Rattle.pungi_resolve.specs.Functions.{resolved_in}
 use Rattle.pungi_resolved.specs.Functions.{ResolvedFunction}
 use Rattle.pungi_code.specs.WellFormed.{IsWellFormed, AgreeOnKinds}
-use Rattle.pungi_layout.specs.Sound.{IsStmtSound, stmt_nodes}
-use Rattle.pungi_layout.specs.StmtCode.{body_code}
-use Rattle.pungi_layout.specs.Typed.{IsStmtTyped}
-use Rattle.pungi_layout.specs.TypedCalls.{has_no_call}
-use Rattle.pungi_layout.specs.TypedCode.{code_of}
+use Rattle.pungi_layout.specs.code.Sound.{IsStmtSound, stmt_nodes}
+use Rattle.pungi_layout.specs.code.StmtCode.{body_code}
+use Rattle.pungi_layout.specs.kinds.Typed.{IsStmtTyped}
+use Rattle.pungi_layout.specs.code.Calls.{has_no_call}
+use Rattle.pungi_layout.specs.code.FunctionCode.{code_of}
 use Rattle.pungi_lower.specs.TypedLaws.{IsSoundIfPassed, IsSmallIfPassed, IsWellFormedIfPassed, AgreeIfPassed}
-use Rattle.pungi_layout.specs.VarKinds.{var_kinds}
-use Rattle.pungi_lower.proofs.TypedFunctions.{function-works, params-among, nodes-bounded}
-use Rattle.pungi_lower.proofs.NodesCode.{code-few, code-bounded}
-use Rattle.pungi_lower.proofs.KindsFunctions.{function-kinds, function-well-formed}
-use Rattle.pungi_layout.proofs.KindsSlots.{codes-agree}
+use Rattle.pungi_layout.specs.code.VarKinds.{var_kinds}
+use Rattle.pungi_lower.proofs.sound.Functions.{function-works, params-among, nodes-bounded}
+use Rattle.pungi_lower.proofs.sound.Sizes.{code-few, code-bounded}
+use Rattle.pungi_lower.proofs.kinds.Functions.{function-kinds, function-well-formed}
+use Rattle.pungi_layout.proofs.well_formed.Slots.{codes-agree}
 
 pub sound_if_passed : (f : ResolvedFunction) → IsSoundIfPassed f
 sound_if_passed f = λ env d h e. subst (λ (r : ResolvedFunction). IsStmtSound r.locals r.body) (sym e) (function-works env d h)

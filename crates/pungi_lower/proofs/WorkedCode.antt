@@ -7,8 +7,8 @@ use Rattle.pungi_tree.specs.Syntax.{Item}
 use Rattle.pungi_resolved.specs.Functions.{ResolvedFunction}
 use Rattle.pungi_meaning.specs.Run.{End, OutOfFuel}
 use Rattle.pungi_lower.proofs.Worked.{last_function}
-use Rattle.pungi_layout.specs.Correct.{temps_of, target}
-use Rattle.pungi_layout.specs.StmtCode.{body_code}
+use Rattle.pungi_layout.specs.alike.Correct.{temps_of, target}
+use Rattle.pungi_layout.specs.code.StmtCode.{body_code}
 
 abbrev run_of_last : Option ResolvedFunction → Entry → List Choice → ℕ → End
 run_of_last None entry choices fuel = OutOfFuel

@@ -18,9 +18,9 @@ use Rattle.pungi_resolve.specs.Resolutions.{resolution_of}
 use Rattle.pungi_meaning.specs.Entries.{entry_fits}
 use Rattle.pungi_code.specs.declared.code.Code.{Code}
 use Rattle.pungi_code.specs.Entries.{code_fits}
-use Rattle.pungi_layout.specs.Boundaries.{KeepsNothing}
-use Rattle.pungi_layout.specs.Codes.{code_for}
-use Rattle.pungi_layout.specs.Correct.{Behaves}
+use Rattle.pungi_layout.specs.liveness.Boundaries.{KeepsNothing}
+use Rattle.pungi_layout.specs.code.Codes.{code_for}
+use Rattle.pungi_layout.specs.alike.Correct.{Behaves}
 
 abbrev pub codes_of : CheckedFile → List (Option Code)
 codes_of c = map code_for (map (resolution_of c.file c.refused) (definitions c.file.items))

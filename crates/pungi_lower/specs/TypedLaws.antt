@@ -12,10 +12,10 @@ use Rattle.pungi_resolve.specs.Functions.{resolved_in}
 use Rattle.pungi_resolved.specs.Functions.{ResolvedFunction}
 use Rattle.pungi_code.specs.WellFormed.{IsWellFormed, AgreeOnKinds}
 use Rattle.pungi_resolve.specs.Passed.{IsPassed}
-use Rattle.pungi_layout.specs.Sound.{IsStmtSound, stmt_nodes}
-use Rattle.pungi_layout.specs.StmtCode.{body_code}
-use Rattle.pungi_layout.specs.TypedCalls.{has_no_call}
-use Rattle.pungi_layout.specs.TypedCode.{code_of}
+use Rattle.pungi_layout.specs.code.Sound.{IsStmtSound, stmt_nodes}
+use Rattle.pungi_layout.specs.code.StmtCode.{body_code}
+use Rattle.pungi_layout.specs.code.Calls.{has_no_call}
+use Rattle.pungi_layout.specs.code.FunctionCode.{code_of}
 
 abbrev pub IsSoundIfPassed : ResolvedFunction → Type 0
 IsSoundIfPassed f = (env : Env) (d : Definition) → IsPassed env d → f ≡ resolved_in env d → IsStmtSound f.locals f.body

@@ -1,7 +1,7 @@
 //! The codes of a file's functions.
 ghost use Rattle.std.specs.Prelude.{◌≡◌, ◌≤◌, ◌+◌, ◌^◌, map, IfOk};
 ghost use Rattle.pungi_code.specs.WellFormed.{AreWellFormed};
-ghost use Rattle.pungi_layout.specs.Codes.{code_for};
+ghost use Rattle.pungi_layout.specs.code.Codes.{code_for};
 ghost use Rattle.pungi_lower.specs.Lowered.{AreLowered, names_of};
 ghost use Rattle.pungi_resolve.specs.Resolutions.{IsResolved, resolution_view};
 ghost use Rattle.pungi_types.specs.Refused.{CheckedFile};

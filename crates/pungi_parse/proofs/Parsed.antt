@@ -5,13 +5,13 @@ use Rattle.pungi_base.specs.declared.pos.Pos.{Pos}
 use Rattle.pungi_base.specs.declared.names.Name.{Name}
 use Rattle.pungi_base.specs.declared.token.Token.{Token}
 use Rattle.pungi_parse.specs.Faults.{HasFault}
-use Rattle.pungi_parse.specs.UnitReader.{deepest, item_at}
+use Rattle.pungi_parse.specs.item.UnitReader.{deepest, item_at}
 use Rattle.pungi_parse.specs.Units.{IsUnit, StopsAt}
 use Rattle.pungi_parse.specs.declared.fault.ParseFault.{ParseFault}
 use Rattle.pungi_parse.specs.declared.fault.ParseFault.TheVariants as faults
-use Rattle.pungi_parse.proofs.StmtKinds.{unit_kinds}
-use Rattle.pungi_parse.proofs.UnitLoop.{UnitTo, unit_ends, unit_stops, one_unit, no_unit}
-use Rattle.pungi_parse.proofs.UnitTwins.{no_tree}
+use Rattle.pungi_parse.proofs.trees.StmtKinds.{unit_kinds}
+use Rattle.pungi_parse.proofs.item.UnitLoop.{UnitTo, unit_ends, unit_stops, one_unit, no_unit}
+use Rattle.pungi_parse.proofs.twins.UnitTwins.{no_tree}
 use Rattle.pungi_tree.specs.Placed.{Placed, placed, kinds, first_place}
 use Rattle.pungi_tree.specs.Syntax.{Item}
 use Rattle.pungi_tree.specs.TypeWords.{type_words}

@@ -12,7 +12,7 @@ use Rattle.pungi_base.specs.declared.key.Key.{Key}
 use Rattle.pungi_base.specs.declared.key.Key.TheVariants as keys
 use Rattle.pungi_base.specs.declared.punct.Punct.{Punct}
 use Rattle.pungi_base.specs.declared.punct.Punct.TheVariants as puncts
-use Rattle.pungi_parse.specs.Eat.{punct_number, key_number}
+use Rattle.pungi_parse.specs.tokens.OneToken.{punct_number, key_number}
 use Rattle.pungi_parse.specs.Reading.{◌>>=◌, chain, on_some, when, unless}
 
 pub IfOk-both : {X E : Type 0} (r : Result X E) (P Q R : X → Type 0) → ((x : X) → P x → Q x → R x) → IfOk r P → IfOk r Q → IfOk r R

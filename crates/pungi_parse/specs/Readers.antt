@@ -5,8 +5,8 @@
 --   readers types n d    the readers of what has at most `n` nodes, types and lists of parameters on a path, at most `d` of them nodes of expressions
 use Rattle.std.specs.Prelude.{ℕ, zero, suc, List, None}
 use Rattle.pungi_base.specs.declared.names.Name.{Name}
-use Rattle.pungi_parse.specs.ExprReader.{expr_at}
-use Rattle.pungi_parse.specs.TypeReader.{Lower, spec_at, params_at}
+use Rattle.pungi_parse.specs.expr.ExprReader.{expr_at}
+use Rattle.pungi_parse.specs.types.TypeReader.{Lower, spec_at, params_at}
 
 abbrev pub nothing_read : Lower
 nothing_read = record { expr = λ l ts. None; spec = λ ts. None; params = λ ts. None }

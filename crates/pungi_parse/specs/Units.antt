@@ -9,7 +9,7 @@ use Rattle.std.specs.Prelude.{◌≡◌, ℕ, suc, pred, ◌≤◌, Bool, true, 
 use Rattle.pungi_base.specs.declared.kind.Kind.{Kind}
 use Rattle.pungi_base.specs.declared.names.Name.{Name}
 use Rattle.pungi_base.specs.declared.pos.Pos.{Pos}
-use Rattle.pungi_parse.specs.UnitReader.{deepest}
+use Rattle.pungi_parse.specs.item.UnitReader.{deepest}
 use Rattle.pungi_tree.specs.Balanced.{awaited_by, closing}
 use Rattle.pungi_tree.specs.Placed.{Placed, kinds, first_place}
 use Rattle.pungi_tree.specs.Syntax.{Item}

@@ -1,5 +1,5 @@
 use crate::stop::Stop;
-use crate::type_words::TypeWords;
+use crate::types::type_words::TypeWords;
 use pungi_base::Token;
 use std::alloc::Global;
 

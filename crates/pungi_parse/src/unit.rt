@@ -1,7 +1,7 @@
 ghost use Rattle.std.specs.Prelude.{◌≡◌, ◌≤◌, true, List, map, IfOk, None, Some, Err, MatchResult};
 ghost use Rattle.pungi_base.specs.declared.pos.Pos.{Pos as ThePos};
 ghost use Rattle.pungi_parse.specs.Faults.{HasFault};
-ghost use Rattle.pungi_parse.specs.UnitReader.{deepest};
+ghost use Rattle.pungi_parse.specs.item.UnitReader.{deepest};
 ghost use Rattle.pungi_parse.specs.Units.{IsUnit, StopsAt, too_deep};
 ghost use Rattle.pungi_tree.specs.Placed.{placed, kinds};
 ghost use Rattle.pungi_tree.specs.Syntax.{Item as PlainItem};
@@ -12,10 +12,10 @@ ghost use Rattle.pungi_tree.specs.UnitLevels.{is_levelled};
 ghost use Rattle.pungi_tree.specs.UnitView.{item_view, unit_view};
 
 use crate::fault::ParseFault;
-use crate::item::ItemParser;
-use crate::scan::scan;
+use crate::item::item_parser::ItemParser;
+use crate::item::typedef_scan::scan;
 use crate::stop::Stop;
-use crate::type_words::TypeWords;
+use crate::types::type_words::TypeWords;
 use pungi_base::{Memory, Name, Token};
 use pungi_tree::{Item, Unit};
 use std::alloc::Global;

@@ -8,18 +8,18 @@ use Rattle.pungi_base.specs.declared.value.Value.TheVariants as value
 use Rattle.pungi_code.specs.declared.atom.Var.{Var}
 use Rattle.pungi_code.specs.declared.code.Line.{Line}
 use Rattle.pungi_code.specs.declared.instr.Instr.{Instr}
-use Rattle.pungi_symbol.specs.declared.decision.Decision.{Decision}
-use Rattle.pungi_symbol.specs.declared.known.Known.{Known}
-use Rattle.pungi_symbol.specs.declared.known.Status.TheVariants as status
-use Rattle.pungi_symbol.specs.declared.mark.Mark.{Mark}
-use Rattle.pungi_symbol.specs.declared.mark.Mark.TheVariants.{IsNull}
-use Rattle.pungi_symbol.specs.declared.question.Question.{Question}
-use Rattle.pungi_symbol.specs.declared.question.Question.TheVariants.{Does, Touches, Overwrites, Null as AsksNull, Base, Answers, Same, Returns, Stops, Over}
-use Rattle.pungi_symbol.specs.declared.state.State.{State}
-use Rattle.pungi_symbol.specs.declared.term.Term.{Term}
-use Rattle.pungi_symbol.specs.Terms.{Table, at, is_mark}
-use Rattle.pungi_symbol.specs.Fits.{FitsState, IsSound}
-use Rattle.pungi_symbol.specs.Lies.{Lies}
+use Rattle.pungi_symbol.specs.declared.answers.decision.Decision.{Decision}
+use Rattle.pungi_symbol.specs.declared.states.known.Known.{Known}
+use Rattle.pungi_symbol.specs.declared.states.known.Status.TheVariants as status
+use Rattle.pungi_symbol.specs.declared.states.mark.Mark.{Mark}
+use Rattle.pungi_symbol.specs.declared.states.mark.Mark.TheVariants.{IsNull}
+use Rattle.pungi_symbol.specs.declared.questions.question.Question.{Question}
+use Rattle.pungi_symbol.specs.declared.questions.question.Question.TheVariants.{Does, Touches, Overwrites, Null as AsksNull, Base, Answers, Same, Returns, Stops, Over}
+use Rattle.pungi_symbol.specs.declared.states.state.State.{State}
+use Rattle.pungi_symbol.specs.declared.states.term.Term.{Term}
+use Rattle.pungi_symbol.specs.states.Terms.{Table, at, is_mark}
+use Rattle.pungi_symbol.specs.runs.Fits.{FitsState, IsSound}
+use Rattle.pungi_symbol.specs.runs.RunInState.{Lies}
 use Rattle.std.specs.Prelude.{◌&&◌, nat_lt, nat_le, ◌^◌, All}
 use Rattle.std.specs.Option.{option_map_or}
 use Rattle.std.specs.List.{list_all}
@@ -39,24 +39,24 @@ use Rattle.pungi_code.specs.Entries.{holds_value, hold_values, code_fits}
 use Rattle.pungi_code.specs.Run.{code_at}
 use Rattle.pungi_code.specs.declared.instr.Instr.TheVariants.{Set, Arith, Fit, Compare, Load, Store, Api, Call, Unset as Forget, Jump, Branch, Return, Fall}
 use Rattle.pungi_world.specs.Escapes.{IsLevel}
-use Rattle.pungi_symbol.specs.declared.known.Status.{Status}
-use Rattle.pungi_symbol.specs.Knows.{count}
-use Rattle.pungi_symbol.specs.Asks.{ask, contents}
-use Rattle.pungi_symbol.specs.Goes.{go, instr_of, does, with_line, load_first, store_first, answered, next, arrive, api_var, pos_of}
-use Rattle.pungi_symbol.specs.State.{balance}
-use Rattle.pungi_symbol.specs.Form.{is_pointer_param}
-use Rattle.pungi_symbol.specs.Lies.{IsOf}
-use Rattle.pungi_symbol.specs.Runs.{own_values, arguments, start_state, table_of, Path, path_here, path_on, run_for, Meets, GoesBack, AreApart, canon, choice_of, wanted, IsLevelState, returned_value}
+use Rattle.pungi_symbol.specs.declared.states.known.Status.{Status}
+use Rattle.pungi_symbol.specs.states.Known.{count}
+use Rattle.pungi_symbol.specs.questions.NextQuestion.{ask, contents}
+use Rattle.pungi_symbol.specs.answers.KnownAfter.{go, instr_of, does, with_line, load_first, store_first, answered, next, arrive, api_var, pos_of}
+use Rattle.pungi_symbol.specs.answers.SymbolicState.{balance}
+use Rattle.pungi_symbol.specs.runs.ObjectForm.{is_pointer_param}
+use Rattle.pungi_symbol.specs.runs.RunInState.{IsOf}
+use Rattle.pungi_symbol.specs.runs.Paths.{own_values, arguments, start_state, table_of, Path, path_here, path_on, run_for, Meets, GoesBack, AreApart, canon, choice_of, wanted, IsLevelState, returned_value}
 use Rattle.pungi_symbol.specs.Promises.{next_states, Covers, IsReached, IsRunOf, IsOwn, HasEachChoice, AllLevel, OwnUneven, LevelBy, OffBy, HasReturned}
-use Rattle.pungi_symbol.proofs.Canon.{own_table, own_apart}
-use Rattle.pungi_symbol.proofs.Moves.{AreObjectLines, two_true}
-use Rattle.pungi_symbol.proofs.Asked.{IsGiven, IsAsked}
-use Rattle.pungi_symbol.proofs.Paths.{can_going, asked_at, step_back, path_sound, path_fits, Arrived, wants_one, meets_one, arrives_at}
-use Rattle.pungi_symbol.proofs.Stands.{count_by, Supplies, stands}
-use Rattle.pungi_symbol.proofs.Starting.{form_lines, form_params, marks_long, argument_mark, start_sound, held_long, start_linked, start_lies, entry_fits}
-use Rattle.pungi_symbol.proofs.Ends.{canon_fits, canon_below, level_balanced, uneven}
-use Rattle.pungi_symbol.proofs.Nexts.{all_next}
-use Rattle.pungi_symbol.proofs.Reached.{of_code}
+use Rattle.pungi_symbol.proofs.runs.Canon.{own_table, own_apart}
+use Rattle.pungi_symbol.proofs.steps.StepForward.{AreObjectLines, two_true}
+use Rattle.pungi_symbol.proofs.steps.Questions.{IsGiven, IsAsked}
+use Rattle.pungi_symbol.proofs.runs.Paths.{can_going, asked_at, step_back, path_sound, path_fits, Arrived, wants_one, meets_one, arrives_at}
+use Rattle.pungi_symbol.proofs.runs.RunsOfPaths.{count_by, Supplies, stands}
+use Rattle.pungi_symbol.proofs.runs.Starts.{form_lines, form_params, marks_long, argument_mark, start_sound, held_long, start_linked, start_lies, entry_fits}
+use Rattle.pungi_symbol.proofs.runs.Returns.{canon_fits, canon_below, level_balanced, uneven}
+use Rattle.pungi_symbol.proofs.answers.NextStates.{all_next}
+use Rattle.pungi_symbol.proofs.answers.Reached.{of_code}
 
 returned_same : (p q : Pos) (x y : Option Term) → status.Returned p x ≡ status.Returned q y → x ≡ y
 returned_same p q x y e = cc

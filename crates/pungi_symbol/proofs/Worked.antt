@@ -16,15 +16,15 @@ use Rattle.pungi_code.specs.declared.code.Line.{Line}
 use Rattle.pungi_code.specs.declared.instr.Instr.{Instr}
 use Rattle.pungi_code.specs.declared.instr.Instr.TheVariants.{Compare, Store, Api, Return}
 use Rattle.pungi_code.specs.declared.place.Place.TheVariants as places
-use Rattle.pungi_symbol.specs.declared.decision.Decision.{Decision}
-use Rattle.pungi_symbol.specs.declared.decision.Decision.TheVariants.{Outcome, Same as IsSame}
-use Rattle.pungi_symbol.specs.declared.mark.Mark.TheVariants as marks
-use Rattle.pungi_symbol.specs.declared.question.Question.TheVariants.{Null as AsksNull, Overwrites, Answers, Same, Returns}
-use Rattle.pungi_symbol.specs.declared.state.State.{State}
-use Rattle.pungi_symbol.specs.declared.term.Term.TheVariants.{Token}
-use Rattle.pungi_symbol.specs.Asks.{ask}
-use Rattle.pungi_symbol.specs.State.{apply, successors}
-use Rattle.pungi_symbol.specs.Runs.{start_state, wanted}
+use Rattle.pungi_symbol.specs.declared.answers.decision.Decision.{Decision}
+use Rattle.pungi_symbol.specs.declared.answers.decision.Decision.TheVariants.{Outcome, Same as IsSame}
+use Rattle.pungi_symbol.specs.declared.states.mark.Mark.TheVariants as marks
+use Rattle.pungi_symbol.specs.declared.questions.question.Question.TheVariants.{Null as AsksNull, Overwrites, Answers, Same, Returns}
+use Rattle.pungi_symbol.specs.declared.states.state.State.{State}
+use Rattle.pungi_symbol.specs.declared.states.term.Term.TheVariants.{Token}
+use Rattle.pungi_symbol.specs.questions.NextQuestion.{ask}
+use Rattle.pungi_symbol.specs.answers.SymbolicState.{apply, successors}
+use Rattle.pungi_symbol.specs.runs.Paths.{start_state, wanted}
 
 abbrev Here : Pos
 Here = record { line = 1; col = 1 }

@@ -1,11 +1,7 @@
-pub mod Terms
-pub mod Knows
-pub mod Asks
-pub mod Goes
-pub mod State
-pub mod Fits
-pub mod Steps
-pub mod Lies
-pub mod Form
-pub mod Runs
+-- In the order of reading: states, questions, answers, runs, Promises. The file named after a folder says what is in
+-- it.
+pub mod states
+pub mod questions
+pub mod answers
+pub mod runs
 pub mod Promises

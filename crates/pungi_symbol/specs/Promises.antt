@@ -23,15 +23,15 @@ use Rattle.pungi_code.specs.declared.code.Codes.{Codes}
 use Rattle.pungi_code.specs.declared.code.Line.{Line}
 use Rattle.pungi_code.specs.Entries.{code_fits}
 use Rattle.pungi_code.specs.Run.{code_at}
-use Rattle.pungi_symbol.specs.declared.decision.Decision.{Decision}
-use Rattle.pungi_symbol.specs.declared.known.Status.{Status}
-use Rattle.pungi_symbol.specs.declared.known.Status.TheVariants as status
-use Rattle.pungi_symbol.specs.declared.state.State.{State}
-use Rattle.pungi_symbol.specs.declared.term.Term.{Term}
-use Rattle.pungi_symbol.specs.Knows.{count}
-use Rattle.pungi_symbol.specs.State.{balance, successors}
-use Rattle.pungi_symbol.specs.Form.{has_object_form}
-use Rattle.pungi_symbol.specs.Runs.{arguments, start_state, Path, Meets, IsCovered, canon, table_of, returned_value, wanted, IsLevelState}
+use Rattle.pungi_symbol.specs.declared.answers.decision.Decision.{Decision}
+use Rattle.pungi_symbol.specs.declared.states.known.Status.{Status}
+use Rattle.pungi_symbol.specs.declared.states.known.Status.TheVariants as status
+use Rattle.pungi_symbol.specs.declared.states.state.State.{State}
+use Rattle.pungi_symbol.specs.declared.states.term.Term.{Term}
+use Rattle.pungi_symbol.specs.states.Known.{count}
+use Rattle.pungi_symbol.specs.answers.SymbolicState.{balance, successors}
+use Rattle.pungi_symbol.specs.runs.ObjectForm.{has_object_form}
+use Rattle.pungi_symbol.specs.runs.Paths.{arguments, start_state, Path, Meets, IsCovered, canon, table_of, returned_value, wanted, IsLevelState}
 
 abbrev pub lines_in : Option Code → List Line
 lines_in None = []

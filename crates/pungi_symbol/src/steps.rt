@@ -1,17 +1,17 @@
 // The calls on symbolic states.
 ghost use Rattle.std.specs.Prelude.{◌≡◌, ◌∷◌, IfOk, IfSome, is_some, true, false, All, List};
 ghost use Rattle.pungi_code.specs.declared.code.Code.{Code};
-ghost use Rattle.pungi_symbol.specs.declared.decision.Decision.{Decision as DecisionOf};
+ghost use Rattle.pungi_symbol.specs.declared.answers.decision.Decision.{Decision as DecisionOf};
 ghost use Rattle.pungi_code.specs.declared.code.Codes.{Codes as CodesOf};
 ghost use Rattle.pungi_code.specs.Run.{code_at};
-ghost use Rattle.pungi_symbol.specs.Runs.{end_of, starts, start_state, table_of, Path, GoesBack, AreApart};
+ghost use Rattle.pungi_symbol.specs.runs.Paths.{end_of, starts, start_state, table_of, Path, GoesBack, AreApart};
 ghost use Rattle.pungi_symbol.specs.Promises.{next_states, lines_of, Covers, IsReached, IsRunOf, IsOwn, HasEachChoice, AllLevel, OwnUneven, HasReturned};
 
-use crate::begin::first_of;
-use crate::known::Status;
-use crate::level::off_return;
-use crate::own::run_of;
-use crate::successors::{next_from, next_of};
+use crate::answers::successors::{next_from, next_of};
+use crate::runs::begin::first_of;
+use crate::runs::return_balance::off_return;
+use crate::runs::witness::run_of;
+use crate::states::known::Status;
 use crate::{Decision, Sym, SymEnd};
 use pungi_base::{Memory, Witness};
 use pungi_code::Codes;

@@ -23,7 +23,7 @@ use Rattle.pungi_code.specs.declared.code.Code.{Code}
 use Rattle.pungi_code.specs.declared.code.Codes.{Codes}
 use Rattle.pungi_code.specs.Run.{code_at, joined}
 use Rattle.pungi_code.specs.WellFormed.{AreWellFormed}
-use Rattle.pungi_layout.specs.Codes.{code_for}
+use Rattle.pungi_layout.specs.code.Codes.{code_for}
 use Rattle.pungi_lower.specs.Lowered.{codes_of, names_of, IsLowered, AreLowered}
 use Rattle.pungi_explore.specs.Explored.{IsFew, IsMany}
 use Rattle.pungi_verdict.specs.Replays.{IsGiven}

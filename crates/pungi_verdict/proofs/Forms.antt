@@ -4,7 +4,7 @@ use Rattle.std.specs.Prelude.{◌&&◌, ◌==◌, if◌then◌else◌}
 use Rattle.std.proofs.lemmas.Bool.Decides.{nat_tests}
 use Rattle.std.proofs.Common.{arith}
 use Rattle.pungi_code.specs.declared.code.Code.{Code}
-use Rattle.pungi_symbol.specs.Form.{has_object_form}
+use Rattle.pungi_symbol.specs.runs.ObjectForm.{has_object_form}
 use Rattle.pungi_verdict.specs.ObjectForm.{has_no_head, has_pointers, are_signed, is_object_code}
 use Rattle.pungi_verdict.specs.Verdicts.{object_code}
 

@@ -14,7 +14,7 @@ use Rattle.pungi_resolve.specs.Functions.{resolved}
 use Rattle.pungi_resolved.specs.Functions.{ResolvedFunction}
 use Rattle.pungi_types.specs.Refused.{CheckedFile}
 use Rattle.pungi_code.specs.declared.code.Code.{Code}
-use Rattle.pungi_layout.specs.Codes.{code_for}
+use Rattle.pungi_layout.specs.code.Codes.{code_for}
 use Rattle.pungi_verdict.specs.Verdicts.{IsRight, IsShown, object_code, statics_of, HasFewTraces, HasManyTraces, IsTold, IsJudged, IsReportable}
 
 refused-reportable : (v : Verdict) (at : Pos) (rule : Rule) → v ≡ verdict.Refused at rule → IsReportable v

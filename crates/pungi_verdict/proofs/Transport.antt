@@ -11,7 +11,7 @@ use Rattle.pungi_code.specs.declared.code.Code.{Code}
 use Rattle.pungi_code.specs.Alike.{IsOver}
 use Rattle.pungi_code.specs.WellFormed.{IsWellFormed}
 use Rattle.pungi_code.proofs.Longer.{one_end}
-use Rattle.pungi_layout.specs.Correct.{Behaves, first_regs, source, target}
+use Rattle.pungi_layout.specs.alike.Correct.{Behaves, first_regs, source, target}
 use Rattle.pungi_lower.specs.Lowered.{IsLowered}
 use Rattle.pungi_explore.specs.Explored.{AreBalanced, IsFaultRun}
 use Rattle.pungi_verdict.specs.Replays.{IsUneven}

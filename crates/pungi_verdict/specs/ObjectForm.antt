@@ -18,7 +18,7 @@ use Rattle.pungi_code.specs.declared.instr.Instr.{Instr}
 use Rattle.pungi_code.specs.declared.instr.Instr.TheVariants.{Set, Arith}
 use Rattle.pungi_meaning.specs.declared.op.Op.{Op}
 use Rattle.pungi_meaning.specs.declared.op.Op.TheVariants as ops
-use Rattle.pungi_symbol.specs.Form.{has_object_form, is_pointer_param}
+use Rattle.pungi_symbol.specs.runs.ObjectForm.{has_object_form, is_pointer_param}
 
 abbrev pub is_minus : Op → Bool
 is_minus ops.Add = false

@@ -11,7 +11,7 @@ use Rattle.pungi_world.specs.Escapes.{IsBalanced}
 use Rattle.pungi_meaning.specs.Run.{Returned}
 use Rattle.pungi_code.specs.declared.code.Code.{Code}
 use Rattle.pungi_code.specs.WellFormed.{IsWellFormed}
-use Rattle.pungi_layout.specs.Correct.{target}
+use Rattle.pungi_layout.specs.alike.Correct.{target}
 use Rattle.pungi_lower.specs.Lowered.{IsLowered}
 use Rattle.pungi_verdict.specs.ObjectForm.{is_object_code}
 

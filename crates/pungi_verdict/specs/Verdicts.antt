@@ -36,7 +36,7 @@ use Rattle.pungi_meaning.specs.Entries.{entry_fits}
 use Rattle.pungi_meaning.specs.Run.{run_of, Returned}
 use Rattle.pungi_code.specs.declared.code.Code.{Code}
 use Rattle.pungi_code.specs.declared.code.Codes.{Codes}
-use Rattle.pungi_layout.specs.Codes.{code_for}
+use Rattle.pungi_layout.specs.code.Codes.{code_for}
 use Rattle.pungi_lower.specs.Lowered.{codes_of, names_of}
 use Rattle.pungi_explore.specs.Explored.{IsFew, IsMany}
 use Rattle.pungi_verdict.specs.ObjectForm.{is_object_code}

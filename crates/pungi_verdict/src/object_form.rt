@@ -2,7 +2,7 @@
 ghost use Rattle.std.specs.Prelude.{◌≡◌, ◌≤◌, None, length, take};
 ghost use Rattle.std.specs.List.{list_all};
 ghost use Rattle.pungi_code.specs.WellFormed.{place_kind};
-ghost use Rattle.pungi_symbol.specs.Form.{atoms_in, atoms_of, is_there as is_there_of, is_pointer as is_pointer_of, is_pointer_param, is_small as is_small_of, has_small as has_small_of, is_told_here, is_object_instr as is_object_instr_of, has_object_form as has_object_form_of};
+ghost use Rattle.pungi_symbol.specs.runs.ObjectForm.{atoms_in, atoms_of, is_there as is_there_of, is_pointer as is_pointer_of, is_pointer_param, is_small as is_small_of, has_small as has_small_of, is_told_here, is_object_instr as is_object_instr_of, has_object_form as has_object_form_of};
 ghost use Rattle.pungi_verdict.specs.ObjectForm.{is_minus as is_minus_of, is_zero as is_zero_of, constant_of, is_constant as is_constant_of, is_signed as is_signed_of, are_signed as are_signed_of, is_object_code as is_object_code_of};
 
 use pungi_api::{Answer, Form, Param, Row};

@@ -3,7 +3,7 @@ ghost use Rattle.std.specs.Prelude.{◌≡◌, ℕ, ◌≤◌, ◌<◌, ◌+◌,
 ghost use Rattle.pungi_resolved.specs.ActionView.{function_view};
 ghost use Rattle.pungi_world.specs.Escapes.{IsBalanced, IsCountable, IsLevel};
 ghost use Rattle.pungi_code.specs.WellFormed.{IsWellFormed};
-ghost use Rattle.pungi_layout.specs.Correct.{Behaves};
+ghost use Rattle.pungi_layout.specs.alike.Correct.{Behaves};
 ghost use Rattle.pungi_verdict.specs.Replays.{IsUneven};
 ghost use Rattle.pungi_verdict.specs.Verdicts.{TellsLowest, IsReturnOf};
 

@@ -1,5 +1,5 @@
 use Rattle.std.proofs.Common.{◌+◌, map, sym, ap, ◌∙◌, subst, arith}
-use Rattle.pungi_symbol.specs.Runs.{starts}
+use Rattle.pungi_symbol.specs.runs.Paths.{starts}
 use Rattle.pungi_explore.specs.declared.visited.Visited.TheVariants.{Goes, Ends}
 use Rattle.pungi_explore.specs.Visits.{Visits}
 use Rattle.pungi_explore.proofs.Searched.{Searched, first_searched, ended_searched, next_searched, fault_searched, too_many, all_searched}

@@ -1,5 +1,5 @@
 use Rattle.pungi_resolved.specs.ActionView.{function_view}
-use Rattle.pungi_layout.proofs.BoundaryHeads.{keeps_nothing}
+use Rattle.pungi_layout.proofs.boundaries.Heads.{keeps_nothing}
 use Rattle.pungi_layout.proofs.alike.layout_keeps_nothing.Goals as goal
 
 pub returns : goal.returns

@@ -1,6 +1,6 @@
 use Rattle.pungi_resolved.specs.ActionView.{function_view}
-use Rattle.pungi_layout.specs.VarKinds.{var_kinds}
-use Rattle.pungi_layout.proofs.KindsSlots.{codes-agree}
+use Rattle.pungi_layout.specs.code.VarKinds.{var_kinds}
+use Rattle.pungi_layout.proofs.well_formed.Slots.{codes-agree}
 use Rattle.pungi_layout.proofs.kinds.layouts_agree.Goals as goal
 
 pub returns : goal.returns

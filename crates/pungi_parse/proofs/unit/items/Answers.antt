@@ -1,9 +1,9 @@
 use Rattle.std.proofs.Common.{◌≡◌, ◌≤◌, ◌++◌, ◌∷◌, [], length, map, None, Some, arith, refl, rules}
 use Rattle.std.proofs.lemmas.List.{map_push}
-use Rattle.pungi_parse.specs.UnitReader.{item_at}
+use Rattle.pungi_parse.specs.item.UnitReader.{item_at}
 use Rattle.pungi_parse.proofs.Parsed.{loop_ends, loop_stops, nothing_placed}
-use Rattle.pungi_parse.proofs.UnitLoop.{UnitTo, unit_begins, unit_turns}
-use Rattle.pungi_parse.proofs.Vars.{placed_length}
+use Rattle.pungi_parse.proofs.item.UnitLoop.{UnitTo, unit_begins, unit_turns}
+use Rattle.pungi_parse.proofs.stmt.Vars.{placed_length}
 use Rattle.pungi_tree.specs.Placed.{placed, first_place}
 use Rattle.pungi_tree.specs.UnitView.{item_view}
 use Rattle.pungi_parse.proofs.unit.items.Goals as goal

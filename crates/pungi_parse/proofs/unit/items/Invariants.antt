@@ -1,5 +1,5 @@
 use Rattle.std.proofs.Common.{length, map}
-use Rattle.pungi_parse.proofs.UnitLoop.{UnitTo}
+use Rattle.pungi_parse.proofs.item.UnitLoop.{UnitTo}
 use Rattle.pungi_tree.specs.Placed.{placed}
 use Rattle.pungi_tree.specs.UnitView.{item_view}
 use Rattle.pungi_parse.proofs.unit.items.Given as goal

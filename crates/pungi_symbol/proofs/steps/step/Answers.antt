@@ -1,5 +1,5 @@
 use Rattle.pungi_symbol.proofs.Promised.{all_back}
-use Rattle.pungi_symbol.proofs.Reached.{next_paths}
+use Rattle.pungi_symbol.proofs.answers.Reached.{next_paths}
 use Rattle.pungi_symbol.proofs.steps.step.Goals as goal
 
 pub returns-clause-path : goal.returns-clause-path

@@ -3,7 +3,7 @@ use Rattle.pungi_resolved.specs.declared.function.Function.{Function}
 use Rattle.pungi_resolved.specs.Functions.{ResolvedFunction}
 use Rattle.pungi_resolve.specs.Resolutions.{IsResolved, resolution_view}
 use Rattle.pungi_check.specs.Found.{checked_view}
-use Rattle.pungi_layout.specs.Codes.{code_for}
+use Rattle.pungi_layout.specs.code.Codes.{code_for}
 use Rattle.pungi_verdict.proofs.Files.{resolved-of, same-codes}
 use Rattle.pungi_verdict.proofs.judge.codes.Goals as goal
 

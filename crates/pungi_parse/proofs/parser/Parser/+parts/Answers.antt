@@ -2,21 +2,21 @@ use Rattle.std.proofs.Common.{arith, ◌≡◌, None, sym, ◌∙◌, rules, tru
 use Rattle.std.proofs.lemmas.Result.{err_from_is_err_and, IfOk-weaker}
 use Rattle.std.proofs.lemmas.List.{map_push}
 use Rattle.pungi_base.specs.declared.punct.Punct.TheVariants as puncts
-use Rattle.pungi_parse.proofs.ArgLoop.{args_begin, args_turn, args_fail, args_open, args_end, args_depth}
-use Rattle.pungi_parse.proofs.ClimbLoop.{climb_begins, climb_ends, climb_deep, climb_fails, climb_turns}
-use Rattle.pungi_parse.proofs.CommaLoop.{comma_begins, comma_ends, comma_deep, comma_fails, comma_turns}
-use Rattle.pungi_parse.proofs.DeclrLoop.{declrs_begin, declrs_turn, declrs_fail, declrs_end, declrs_deepest}
-use Rattle.pungi_parse.proofs.FieldLoop.{fields_begin, fields_turn, fields_fail, fields_end, fields_deepest}
-use Rattle.pungi_parse.proofs.FunctionRest.{function_none, function_fails, function_ends}
+use Rattle.pungi_parse.proofs.expr.ArgLoop.{args_begin, args_turn, args_fail, args_open, args_end, args_depth}
+use Rattle.pungi_parse.proofs.expr.ClimbLoop.{climb_begins, climb_ends, climb_deep, climb_fails, climb_turns}
+use Rattle.pungi_parse.proofs.expr.CommaLoop.{comma_begins, comma_ends, comma_deep, comma_fails, comma_turns}
+use Rattle.pungi_parse.proofs.types.DeclrLoop.{declrs_begin, declrs_turn, declrs_fail, declrs_end, declrs_deepest}
+use Rattle.pungi_parse.proofs.types.FieldLoop.{fields_begin, fields_turn, fields_fail, fields_end, fields_deepest}
+use Rattle.pungi_parse.proofs.types.FunctionRest.{function_none, function_fails, function_ends}
 use Rattle.pungi_parse.proofs.ListLoop.{placed_shorter}
-use Rattle.pungi_parse.proofs.ParamLoop.{params_begin, params_turn, params_fail, params_dots, params_end, params_deepest}
-use Rattle.pungi_parse.proofs.PostfixLoop.{postfix_begins, postfix_ends, postfix_deep, postfix_fails, postfix_turns}
-use Rattle.pungi_parse.proofs.ReadAt.{expr_none, expr_flat, expr_some, spec_none, spec_some, params_none, params_some, read_at_comma, read_at_assign, read_at_conditional, read_at_climb, read_at_unary}
-use Rattle.pungi_parse.proofs.SizeLoop.{sizes_begin, sizes_turn, sizes_fail, sizes_end, sizes_deepest}
+use Rattle.pungi_parse.proofs.types.ParamLoop.{params_begin, params_turn, params_fail, params_dots, params_end, params_deepest}
+use Rattle.pungi_parse.proofs.expr.PostfixLoop.{postfix_begins, postfix_ends, postfix_deep, postfix_fails, postfix_turns}
+use Rattle.pungi_parse.proofs.expr.ReadAt.{expr_none, expr_flat, expr_some, spec_none, spec_some, params_none, params_some, read_at_comma, read_at_assign, read_at_conditional, read_at_climb, read_at_unary}
+use Rattle.pungi_parse.proofs.types.SizeLoop.{sizes_begin, sizes_turn, sizes_fail, sizes_end, sizes_deepest}
 use Rattle.pungi_parse.proofs.Tools.{IfOk-both}
-use Rattle.pungi_parse.specs.Eat.{eat, eat_operator}
-use Rattle.pungi_parse.specs.Turns.{goes_on, function_front}
-use Rattle.pungi_parse.specs.TypeReader.{dots_front}
+use Rattle.pungi_parse.specs.tokens.OneToken.{eat, eat_operator}
+use Rattle.pungi_parse.specs.ReaderParts.{goes_on, function_front}
+use Rattle.pungi_parse.specs.types.TypeReader.{dots_front}
 use Rattle.pungi_tree.specs.ExprView.{expr_view, field_view, declr_view, optional_view, param_decl_view}
 use Rattle.pungi_tree.specs.Placed.{placed}
 use Rattle.pungi_parse.proofs.parser.Parser.+parts.Goals as goal

@@ -1,12 +1,12 @@
 use Rattle.std.proofs.Common.{suc, length, ◌≤◌, ◌<◌, ◌≡◌, map, ◌*◌, ◌+◌}
-use Rattle.pungi_parse.proofs.ArgLoop.{ArgsTo}
-use Rattle.pungi_parse.proofs.ClimbLoop.{ClimbsTo}
-use Rattle.pungi_parse.proofs.CommaLoop.{CommasTo}
-use Rattle.pungi_parse.proofs.DeclrLoop.{DeclrsTo}
-use Rattle.pungi_parse.proofs.FieldLoop.{FieldsTo}
-use Rattle.pungi_parse.proofs.ParamLoop.{ParamsTo}
-use Rattle.pungi_parse.proofs.PostfixLoop.{PostfixTo}
-use Rattle.pungi_parse.proofs.SizeLoop.{SizesTo}
+use Rattle.pungi_parse.proofs.expr.ArgLoop.{ArgsTo}
+use Rattle.pungi_parse.proofs.expr.ClimbLoop.{ClimbsTo}
+use Rattle.pungi_parse.proofs.expr.CommaLoop.{CommasTo}
+use Rattle.pungi_parse.proofs.types.DeclrLoop.{DeclrsTo}
+use Rattle.pungi_parse.proofs.types.FieldLoop.{FieldsTo}
+use Rattle.pungi_parse.proofs.types.ParamLoop.{ParamsTo}
+use Rattle.pungi_parse.proofs.expr.PostfixLoop.{PostfixTo}
+use Rattle.pungi_parse.proofs.types.SizeLoop.{SizesTo}
 use Rattle.pungi_parse.specs.Readers.{readers}
 use Rattle.pungi_tree.specs.ExprDepth.{exprs_depth, fields_depth, declrs_depth, sizes_depth, param_decls_depth}
 use Rattle.pungi_tree.specs.ExprView.{expr_view, exprs_of, fields_of, field_view, declrs_of, declr_view, sizes_of, optional_view, param_decls_of, param_decl_view}

@@ -2,12 +2,12 @@ use Rattle.std.proofs.Common.{◌≡◌, ◌<◌, ◌++◌, ◌∷◌, [], true,
 use Rattle.std.proofs.lemmas.List.{map_push}
 use Rattle.std.proofs.lemmas.Result.{err_from_is_err_and, IfOk-weaker}
 use Rattle.pungi_base.specs.declared.punct.Punct.TheVariants as puncts
-use Rattle.pungi_parse.specs.Begun.{begun_view}
-use Rattle.pungi_parse.specs.Eat.{eat}
-use Rattle.pungi_parse.specs.TypeReader.{begins_decl}
-use Rattle.pungi_parse.proofs.Blocks.{stmt_none, element_none, element_decl, element_stmt, block_begin, block_turn, block_fails, block_end}
-use Rattle.pungi_parse.proofs.StmtSteps.{stmt_fails, stmt_goes}
-use Rattle.pungi_parse.proofs.Vars.{placed_length}
+use Rattle.pungi_parse.specs.stmt.Begun.{begun_view}
+use Rattle.pungi_parse.specs.tokens.OneToken.{eat}
+use Rattle.pungi_parse.specs.types.TypeReader.{begins_decl}
+use Rattle.pungi_parse.proofs.stmt.Blocks.{stmt_none, element_none, element_decl, element_stmt, block_begin, block_turn, block_fails, block_end}
+use Rattle.pungi_parse.proofs.stmt.StmtSteps.{stmt_fails, stmt_goes}
+use Rattle.pungi_parse.proofs.stmt.Vars.{placed_length}
 use Rattle.pungi_tree.specs.Placed.{placed}
 use Rattle.pungi_tree.specs.StmtView.{stmt_view}
 use Rattle.pungi_parse.proofs.parser.Parser.+statements.Goals as goal

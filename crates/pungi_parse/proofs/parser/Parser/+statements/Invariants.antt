@@ -1,5 +1,5 @@
 use Rattle.std.proofs.Common.{◌+◌, ◌*◌, ◌≤◌, length, map}
-use Rattle.pungi_parse.proofs.Blocks.{BlockTo}
+use Rattle.pungi_parse.proofs.stmt.Blocks.{BlockTo}
 use Rattle.pungi_tree.specs.Placed.{placed}
 use Rattle.pungi_tree.specs.StmtView.{stmt_view}
 use Rattle.pungi_parse.proofs.parser.Parser.+statements.Given as goal

@@ -2,8 +2,8 @@ use Rattle.std.proofs.Common.{◌≡◌, ◌<◌, ◌++◌, ◌∷◌, [], lengt
 use Rattle.std.proofs.lemmas.List.{map_push}
 use Rattle.std.proofs.lemmas.Result.{err_from_is_err_and}
 use Rattle.pungi_base.specs.declared.punct.Punct.TheVariants as puncts
-use Rattle.pungi_parse.specs.Eat.{eat}
-use Rattle.pungi_parse.proofs.Vars.{vars_begin, vars_first_fails, vars_turn, vars_fail, vars_finish, vars_open, placed_length}
+use Rattle.pungi_parse.specs.tokens.OneToken.{eat}
+use Rattle.pungi_parse.proofs.stmt.Vars.{vars_begin, vars_first_fails, vars_turn, vars_fail, vars_finish, vars_open, placed_length}
 use Rattle.pungi_tree.specs.Placed.{placed}
 use Rattle.pungi_tree.specs.StmtView.{var_decl_view}
 use Rattle.pungi_parse.proofs.parser.Parser.vars.Goals as goal

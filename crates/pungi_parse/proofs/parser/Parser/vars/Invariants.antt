@@ -1,5 +1,5 @@
 use Rattle.std.proofs.Common.{◌<◌, length, map}
-use Rattle.pungi_parse.proofs.Vars.{VarsTo}
+use Rattle.pungi_parse.proofs.stmt.Vars.{VarsTo}
 use Rattle.pungi_tree.specs.Placed.{placed}
 use Rattle.pungi_tree.specs.StmtView.{var_decl_view}
 use Rattle.pungi_parse.proofs.parser.Parser.vars.Given as goal

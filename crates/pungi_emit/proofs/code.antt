@@ -1,0 +1,2 @@
+-- Lists of instructions.
+pub mod Lists

@@ -1,0 +1,3 @@
+-- The instructions of expressions.
+pub mod Arguments
+pub mod ExprCode

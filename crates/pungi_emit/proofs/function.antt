@@ -1,0 +1,2 @@
+-- The variables of a function.
+pub mod VarKinds

@@ -1,6 +1,0 @@
-use Rattle.std.proofs.Common.{◌≡◌, ◌++◌, drop, map}
-use Rattle.pungi_layout.specs.VarKinds.{held_kind}
-use Rattle.pungi_emit.proofs.kinds.add_params.Given as goal
-
-abbrev pub invariant-loop-param : goal.invariant-loop-param
-invariant-loop-param l = l.kinds ++ map held_kind (drop l.param-index l.params) ≡ l.initial.kinds ++ map held_kind l.params

@@ -1,7 +1,0 @@
-use Rattle.std.proofs.Common.{◌≡◌, ◌++◌, drop, map}
-use Rattle.pungi_resolved.specs.ActionView.{action_view}
-use Rattle.pungi_emit.specs.Plans.{list_names}
-use Rattle.pungi_emit.proofs.labels.block_names.Given as goal
-
-abbrev pub invariant-loop-action : goal.invariant-loop-action
-invariant-loop-action l = l.names ++ list_names (map action_view (drop l.action-index l.list)) ≡ list_names (map action_view l.list)

@@ -1,0 +1,17 @@
+use Rattle.std.proofs.Common.{◌≡◌, ◌+◌, ◌<◌, ◌++◌, length, map, drop, sym, ap, ◌∙◌, arith}
+use Rattle.pungi_resolved.specs.ActionView.{action_view}
+use Rattle.pungi_meaning.specs.Work.{declared, declared_by}
+use Rattle.pungi_layout.specs.code.StmtCode.{unset_code}
+use Rattle.pungi_emit.proofs.code.Lists.{next_one}
+use Rattle.pungi_emit.proofs.stmt.Decls.{unset_laid}
+use Rattle.pungi_emit.proofs.stmt.decl.emit_unsets.Goals as goal
+
+pub loop-action-preserved : goal.loop-action-preserved
+loop-action-preserved c =
+    let xs = c.args.list.now in
+    let i = c.loop-action.action-index in
+    let s : i < length xs = omega arith in
+    let d = next_one xs i c.action-item.result s c.action-item.is in
+    let so_far = c.loop-action.code in
+    let step = unset_laid c.args.pos (declared_by (action_view c.action-item.result)) (declared (map action_view (drop (i + 1) xs))) so_far c.emit_own_unset.new.code c.in_ok-emit_own_unset.ensures in
+    sym step ∙ ap (λ ys. so_far ++ unset_code c.args.pos (declared (map action_view ys))) (sym d) ∙ c.loop-action.invariant

@@ -1,0 +1,4 @@
+-- The places that statements lead to.
+pub mod LabelPlaces
+pub mod Plans
+pub mod Surveys

@@ -1,0 +1,3 @@
+-- The instructions of statements.
+pub mod Cases
+pub mod Emits

@@ -1,0 +1,4 @@
+//! Instructions one after another, and their places.
+
+pub(crate) mod instructions;
+pub(crate) mod number;

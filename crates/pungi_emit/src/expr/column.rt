@@ -1,0 +1,89 @@
+// The variables behind the locals.
+ghost use Rattle.std.specs.Prelude.{◌≡◌, ◌<◌};
+ghost use Rattle.pungi_resolved.specs.ValueView.{value_view};
+ghost use Rattle.pungi_layout.specs.code.Temporaries.{column as column_of, joined_column as joined_column_of, answer_column as answer_column_of, form_column as form_column_of, value_column as value_column_of};
+
+use pungi_api::{Answer, Form};
+use pungi_meaning::fits;
+use pungi_resolved::{Value as Node, ValueNode};
+use pungi_types::ValueKind;
+
+/// Which of five variables a value of this kind has.
+pub fn column(kind: ValueKind) -> u32
+    ensures column { result ≡ column_of kind }
+    ensures low { result < 5 }
+{
+    match kind {
+        ValueKind::Int => 0,
+        ValueKind::Long => 1,
+        ValueKind::Size => 2,
+        ValueKind::Text => 3,
+        _ => 4,
+    }
+}
+
+fn joined_column(a: u32, b: u32) -> u32
+    requires left { a < 5 }
+    requires right { b < 5 }
+    ensures column { result ≡ joined_column_of a b }
+    ensures low { result < 5 }
+{
+    if a <= 2 && b <= 2 {
+        if a + b == 0 { 0 } else { 1 }
+    } else if a <= b {
+        a
+    } else {
+        b
+    }
+}
+
+fn answer_column(answer: Answer) -> u32
+    ensures column { result ≡ answer_column_of answer }
+    ensures low { result < 5 }
+{
+    match answer {
+        Answer::Status | Answer::Truth | Answer::Int => 0,
+        Answer::Long => 1,
+        Answer::Size => 2,
+        Answer::Text => 3,
+        _ => 4,
+    }
+}
+
+fn form_column(form: Form, answer: Answer) -> u32
+    ensures column { result ≡ form_column_of form answer }
+    ensures low { result < 5 }
+{
+    match form {
+        Form::Plain => answer_column(answer),
+        Form::Special(_) => 4,
+    }
+}
+
+/// Which of five variables the value of an expression has.
+pub fn value_column(node: &Node) -> u32
+    ensures column { result ≡ value_column_of (value_view node.now) }
+    ensures low { result < 5 }
+{
+    match &node.node {
+        ValueNode::Constant(n) => { if fits(ValueKind::Int, *n) { 0 } else { 1 } }
+        ValueNode::Text(_) | ValueNode::Module(_) => 3,
+        ValueNode::Null | ValueNode::Static(_) => 4,
+        ValueNode::Read(kind, _) => column(*kind),
+        ValueNode::Inner(part) => value_column(part),
+        ValueNode::Signed(_, kind, _) => column(*kind),
+        ValueNode::Negated(_) => 0,
+        ValueNode::Stepped(_, _, kind, _) => column(*kind),
+        ValueNode::Computed(_, kind, _, _) => column(*kind),
+        ValueNode::Compared(_, _, _) => 0,
+        ValueNode::Joined(_, _, _) => 0,
+        ValueNode::Stored(kind, _, _) => column(*kind),
+        ValueNode::Updated(_, _, kind, _, _) => column(*kind),
+        ValueNode::Chosen(_, a, b) => joined_column(value_column(a), value_column(b)),
+        ValueNode::Converted(kind, _) => column(*kind),
+        ValueNode::Cast(part) => value_column(part),
+        ValueNode::Dropped(part) => value_column(part),
+        ValueNode::Called(_, _) => 0,
+        ValueNode::CalledRow(_, shape, _) => form_column(shape.row.form, shape.row.answer),
+    }
+}

@@ -1,0 +1,484 @@
+// The instructions of expressions.
+ghost use Rattle.std.specs.Prelude.{◌≡◌, ◌+◌, ◌++◌, length, map, OnOk};
+ghost use Rattle.pungi_resolved.specs.ValueView.{value_view, values_of, place_view};
+ghost use Rattle.pungi_resolved.specs.Values.{signed, negated, stepped, computed, compared, joined_by, stored, updated, chosen, converted, called_row};
+ghost use Rattle.pungi_layout.specs.code.Sizes.{expr_size};
+ghost use Rattle.pungi_layout.specs.code.ExprCode.{expr_code, base_code, args_code, old_code, sign_code, step_code, base_var as base_variable};
+
+use crate::code::instructions::{Around, next_place, put, replace};
+use crate::code::number::behind;
+use crate::expr::column::value_column;
+use crate::expr::parts::{bit, branch_on, is_and, is_minus, step_op};
+use crate::expr::place::{emit_fit, emit_old, emit_store};
+use crate::expr::row::emit_row;
+use crate::expr::temporary::{
+    above, atom, base_var, counted_var, front_column, operand, sign_var, stored_var, tail, temp,
+    temp_of,
+};
+use pungi_api::{Param, Shape};
+use pungi_base::{Kind, Memory, Name, Pos, Punct, Seq};
+use pungi_code::{Atom, Instr, Label, Line, Var};
+use pungi_meaning::{Cmp, Op, wide};
+use pungi_resolved::{Place, Value as Node, ValueNode};
+use pungi_types::ValueKind;
+
+/// `++` and `--`, once the old content stands in its variable.
+fn emit_step(
+    code: &mut Seq<Line>,
+    around: Around,
+    depth: u32,
+    target: u32,
+    pos: Pos,
+    mark: Kind,
+    kind: ValueKind,
+    place: &Place,
+) -> Result<(), Memory>
+    ensures { OnOk result (code.new ≡ code.old ++ step_code around.locals depth target pos mark kind (place_view place.now)) }
+{
+    let locals = around.locals;
+    let counted = wide(kind);
+    let base = base_var(locals, place, depth)?;
+    let value = stored_var(locals, place, depth, kind)?;
+    let outcome = counted_var(locals, place, depth, kind, counted)?;
+    let old = temp(locals, above(place, depth)?, kind)?;
+    let instr = Instr::Arith(
+        Var(outcome),
+        counted,
+        step_op(mark),
+        atom(old),
+        Atom::Int(1),
+    );
+    put(code, pos, instr)?;
+    emit_fit(code, pos, kind, counted, value, outcome)?;
+    emit_store(code, kind, place, target, base, value)
+}
+
+/// The sign of a value.
+fn emit_sign(
+    code: &mut Seq<Line>,
+    minus: bool,
+    pos: Pos,
+    kind: ValueKind,
+    target: u32,
+    value: u32,
+) -> Result<(), Memory>
+    ensures { OnOk result (code.new ≡ code.old ++ sign_code minus pos kind target value) }
+{
+    if minus {
+        let instr = Instr::Arith(Var(target), kind, Op::Sub, Atom::Int(0), atom(value));
+        put(code, pos, instr)
+    } else {
+        Ok(())
+    }
+}
+
+/// The base of a field, which waits where it is found again.
+#[cycle(emit)]
+fn emit_base(code: &mut Seq<Line>, around: Around, depth: u32, place: &Place) -> Result<(), Memory>
+    ensures { OnOk result (code.new ≡ code.old ++ base_code around.locals depth (length code.old) (place_view place.now)) }
+{
+    match place {
+        Place::Field(_, base, _, _) => {
+            let target = temp_of(around.locals, depth, base)?;
+            emit_value(code, around, depth, target, base)
+        }
+        _ => Ok(()),
+    }
+}
+
+/// What a place holds goes on in `old`; its base stands in a variable of its own.
+#[cycle(emit)]
+fn emit_held(
+    code: &mut Seq<Line>,
+    around: Around,
+    depth: u32,
+    kind: ValueKind,
+    place: &Place,
+    old: u32,
+) -> Result<(), Memory>
+    ensures { OnOk result (code.new ≡ code.old ++ (base_code around.locals depth (length code.old) (place_view place.now) ++ old_code kind (place_view place.now) old (base_variable around.locals (place_view place.now) depth))) }
+{
+    let base = base_var(around.locals, place, depth)?;
+    emit_base(code, around, depth, place)?;
+    emit_old(code, kind, place, old, base)
+}
+
+/// `++` and `--`.
+#[cycle(emit)]
+fn emit_stepped(
+    code: &mut Seq<Line>,
+    around: Around,
+    depth: u32,
+    target: u32,
+    pos: Pos,
+    behind_it: bool,
+    mark: Kind,
+    kind: ValueKind,
+    place: &Place,
+) -> Result<(), Memory>
+    ensures { OnOk result (code.new ≡ code.old ++ expr_code around.locals depth target (length code.old) (stepped pos behind_it mark kind (place_view place.now))) }
+{
+    if behind_it {
+        let level = behind(depth, 1)?;
+        let value = temp(around.locals, level, kind)?;
+        let old = temp(around.locals, above(place, level)?, kind)?;
+        put(code, pos, Instr::Set(Var(target), bit(false)))?;
+        emit_held(code, around, level, kind, place, old)?;
+        put(code, pos, Instr::Set(Var(target), atom(old)))?;
+        emit_step(code, around, level, value, pos, mark, kind, place)
+    } else {
+        let old = temp(around.locals, above(place, depth)?, kind)?;
+        emit_held(code, around, depth, kind, place, old)?;
+        emit_step(code, around, depth, target, pos, mark, kind, place)
+    }
+}
+
+/// An assignment.
+#[cycle(emit)]
+fn emit_stored(
+    code: &mut Seq<Line>,
+    around: Around,
+    depth: u32,
+    target: u32,
+    pos: Pos,
+    kind: ValueKind,
+    place: &Place,
+    part: &Node,
+) -> Result<(), Memory>
+    ensures { OnOk result (code.new ≡ code.old ++ expr_code around.locals depth target (length code.old) (stored pos kind (place_view place.now) (value_view part.now))) }
+{
+    let base = base_var(around.locals, place, depth)?;
+    let value = stored_var(around.locals, place, depth, kind)?;
+    let level = above(place, depth)?;
+    emit_base(code, around, depth, place)?;
+    emit_value(code, around, level, value, part)?;
+    emit_store(code, kind, place, target, base, value)?;
+    Ok(())
+}
+
+/// `+=` and its kin.
+#[cycle(emit)]
+fn emit_updated(
+    code: &mut Seq<Line>,
+    around: Around,
+    depth: u32,
+    target: u32,
+    pos: Pos,
+    mark: Punct,
+    counted: ValueKind,
+    kind: ValueKind,
+    place: &Place,
+    part: &Node,
+) -> Result<(), Memory>
+    ensures { OnOk result (code.new ≡ code.old ++ expr_code around.locals depth target (length code.old) (updated pos mark counted kind (place_view place.now) (value_view part.now))) }
+{
+    let locals = around.locals;
+    let level = above(place, depth)?;
+    let next_level = behind(level, 1)?;
+    let old = temp(locals, level, kind)?;
+    let right = temp_of(locals, next_level, part)?;
+    let base = base_var(locals, place, depth)?;
+    let value = stored_var(locals, place, depth, kind)?;
+    let outcome = counted_var(locals, place, depth, kind, counted)?;
+    emit_held(code, around, depth, kind, place, old)?;
+    emit_value(code, around, next_level, right, part)?;
+    let instr = Instr::Arith(Var(outcome), counted, Op::of(mark), atom(old), atom(right));
+    put(code, pos, instr)?;
+    emit_fit(code, pos, kind, counted, value, outcome)?;
+    emit_store(code, kind, place, target, base, value)?;
+    Ok(())
+}
+
+/// Two operands, each in its variable.
+#[cycle(emit)]
+fn emit_operands(
+    code: &mut Seq<Line>,
+    around: Around,
+    depth: u32,
+    left: u32,
+    right: u32,
+    a: &Node,
+    b: &Node,
+) -> Result<(), Memory>
+    ensures { OnOk result (code.new ≡ code.old ++ (expr_code around.locals depth left (length code.old) (value_view a.now) ++ expr_code around.locals (depth + 1) right (length code.old + expr_size (value_view a.now)) (value_view b.now))) }
+{
+    let level = behind(depth, 1)?;
+    emit_value(code, around, depth, left, a)?;
+    emit_value(code, around, level, right, b)?;
+    Ok(())
+}
+
+/// An operation on two numbers.
+#[cycle(emit)]
+fn emit_computed(
+    code: &mut Seq<Line>,
+    around: Around,
+    depth: u32,
+    target: u32,
+    pos: Pos,
+    mark: Punct,
+    kind: ValueKind,
+    a: &Node,
+    b: &Node,
+) -> Result<(), Memory>
+    ensures { OnOk result (code.new ≡ code.old ++ expr_code around.locals depth target (length code.old) (computed pos mark kind (value_view a.now) (value_view b.now))) }
+{
+    let left = temp_of(around.locals, depth, a)?;
+    let right = temp_of(around.locals, behind(depth, 1)?, b)?;
+    emit_operands(code, around, depth, left, right, a, b)?;
+    let instr = Instr::Arith(Var(target), kind, Op::of(mark), atom(left), atom(right));
+    put(code, pos, instr)
+}
+
+/// A comparison.
+#[cycle(emit)]
+fn emit_compared(
+    code: &mut Seq<Line>,
+    around: Around,
+    depth: u32,
+    target: u32,
+    pos: Pos,
+    mark: Punct,
+    a: &Node,
+    b: &Node,
+) -> Result<(), Memory>
+    ensures { OnOk result (code.new ≡ code.old ++ expr_code around.locals depth target (length code.old) (compared pos mark (value_view a.now) (value_view b.now))) }
+{
+    let left = operand(around.locals, depth, value_column(b), a)?;
+    let right = operand(around.locals, behind(depth, 1)?, value_column(a), b)?;
+    emit_operands(code, around, depth, left, right, a, b)?;
+    let instr = Instr::Compare(Var(target), Cmp::of(mark), atom(left), atom(right));
+    put(code, pos, instr)
+}
+
+/// A value with a sign.
+#[cycle(emit)]
+fn emit_signed(
+    code: &mut Seq<Line>,
+    around: Around,
+    depth: u32,
+    target: u32,
+    pos: Pos,
+    mark: Kind,
+    kind: ValueKind,
+    part: &Node,
+) -> Result<(), Memory>
+    ensures { OnOk result (code.new ≡ code.old ++ expr_code around.locals depth target (length code.old) (signed pos mark kind (value_view part.now))) }
+{
+    let minus = is_minus(mark);
+    let value = temp_of(around.locals, depth, part)?;
+    emit_value(code, around, depth, sign_var(minus, target, value), part)?;
+    emit_sign(code, minus, pos, kind, target, value)
+}
+
+/// A conversion.
+#[cycle(emit)]
+fn emit_converted(
+    code: &mut Seq<Line>,
+    around: Around,
+    depth: u32,
+    target: u32,
+    pos: Pos,
+    kind: ValueKind,
+    part: &Node,
+) -> Result<(), Memory>
+    ensures { OnOk result (code.new ≡ code.old ++ expr_code around.locals depth target (length code.old) (converted pos kind (value_view part.now))) }
+{
+    let value = temp_of(around.locals, depth, part)?;
+    emit_value(code, around, depth, value, part)?;
+    put(code, pos, Instr::Fit(Var(target), kind, atom(value)))
+}
+
+/// `!`: the truth that waits is set to the other one.
+#[cycle(emit)]
+fn emit_negated(
+    code: &mut Seq<Line>,
+    around: Around,
+    depth: u32,
+    target: u32,
+    pos: Pos,
+    part: &Node,
+) -> Result<(), Memory>
+    ensures { OnOk result (code.new ≡ code.old ++ expr_code around.locals depth target (length code.old) (negated pos (value_view part.now))) }
+{
+    let level = behind(depth, 1)?;
+    let value = temp_of(around.locals, level, part)?;
+    put(code, pos, Instr::Set(Var(target), bit(true)))?;
+    emit_value(code, around, level, value, part)?;
+    let test = next_place(code)?;
+    let branch = branch_on(true, value, test + 1, test + 2);
+    put(code, pos, branch)?;
+    put(code, pos, Instr::Set(Var(target), bit(false)))?;
+    Ok(())
+}
+
+/// `&&` and `||`: the truth that waits is set to the other one.
+#[cycle(emit)]
+fn emit_joined(
+    code: &mut Seq<Line>,
+    around: Around,
+    depth: u32,
+    target: u32,
+    pos: Pos,
+    mark: Punct,
+    a: &Node,
+    b: &Node,
+) -> Result<(), Memory>
+    ensures { OnOk result (code.new ≡ code.old ++ expr_code around.locals depth target (length code.old) (joined_by pos mark (value_view a.now) (value_view b.now))) }
+{
+    let on = is_and(mark);
+    let level = behind(depth, 1)?;
+    let left = temp_of(around.locals, level, a)?;
+    let right = temp_of(around.locals, level, b)?;
+    put(code, pos, Instr::Set(Var(target), bit(!on)))?;
+    emit_value(code, around, level, left, a)?;
+    let test = next_place(code)?;
+    put(code, pos, Instr::Fall)?;
+    emit_value(code, around, level, right, b)?;
+    let last = next_place(code)?;
+    let end = last + 2;
+    let first = branch_on(on, left, test + 1, end);
+    let second = branch_on(on, right, last + 1, end);
+    replace(code, test, pos, first);
+    put(code, pos, second)?;
+    put(code, pos, Instr::Set(Var(target), bit(on)))?;
+    Ok(())
+}
+
+/// `?:`.
+#[cycle(emit)]
+fn emit_chosen(
+    code: &mut Seq<Line>,
+    around: Around,
+    depth: u32,
+    target: u32,
+    pos: Pos,
+    c: &Node,
+    a: &Node,
+    b: &Node,
+) -> Result<(), Memory>
+    ensures { OnOk result (code.new ≡ code.old ++ expr_code around.locals depth target (length code.old) (chosen pos (value_view c.now) (value_view a.now) (value_view b.now))) }
+{
+    let value = temp_of(around.locals, depth, c)?;
+    emit_value(code, around, depth, value, c)?;
+    let test = next_place(code)?;
+    put(code, pos, Instr::Fall)?;
+    emit_value(code, around, depth, target, a)?;
+    let jump = next_place(code)?;
+    put(code, pos, Instr::Fall)?;
+    emit_value(code, around, depth, target, b)?;
+    let end = next_place(code)?;
+    let branch = branch_on(true, value, test + 1, jump + 1);
+    replace(code, jump, pos, Instr::Jump(Label(end)));
+    replace(code, test, pos, branch);
+    Ok(())
+}
+
+/// The arguments of a call, each in its variable.
+#[cycle(emit)]
+fn emit_args(
+    code: &mut Seq<Line>,
+    around: Around,
+    depth: u32,
+    params: &[Param],
+    args: &[Node],
+) -> Result<(), Memory>
+    ensures { OnOk result (code.new ≡ code.old ++ args_code around.locals depth (length code.old) params.now (values_of (map value_view args.now))) }
+{
+    let mut level = depth;
+    let mut left = params;
+    for arg in args {
+        let target = operand(around.locals, level, front_column(left), arg)?;
+        emit_value(code, around, level, target, arg)?;
+        level = behind(level, 1)?;
+        left = tail(left);
+    }
+    Ok(())
+}
+
+/// A call of a row, behind its arguments.
+#[cycle(emit)]
+fn emit_called(
+    code: &mut Seq<Line>,
+    around: Around,
+    depth: u32,
+    target: u32,
+    pos: Pos,
+    name: Name,
+    shape: &Shape,
+    args: &[Node],
+) -> Result<(), Memory>
+    ensures { OnOk result (code.new ≡ code.old ++ expr_code around.locals depth target (length code.old) (called_row pos name shape.now.row (values_of (map value_view args.now)))) }
+{
+    emit_args(code, around, depth, shape.row.params.as_slice(), args)?;
+    emit_row(code, around, depth, target, pos, shape, args)?;
+    Ok(())
+}
+
+/// The instructions of an expression: they leave its value in a variable, where so many values wait below it.
+#[cycle(emit)]
+pub fn emit_value(
+    code: &mut Seq<Line>,
+    around: Around,
+    depth: u32,
+    target: u32,
+    node: &Node,
+) -> Result<(), Memory>
+    ensures { OnOk result (code.new ≡ code.old ++ expr_code around.locals depth target (length code.old) (value_view node.now)) }
+{
+    let pos = node.pos;
+    match &node.node {
+        ValueNode::Constant(n) => put(code, pos, Instr::Set(Var(target), Atom::Int(*n))),
+        ValueNode::Text(_) | ValueNode::Module(_) => {
+            put(code, pos, Instr::Set(Var(target), Atom::Text))
+        }
+        ValueNode::Null => put(code, pos, Instr::Set(Var(target), Atom::Null)),
+        ValueNode::Static(object) => {
+            put(code, pos, Instr::Set(Var(target), Atom::Static(*object)))
+        }
+        ValueNode::Read(kind, place) => emit_held(code, around, depth, *kind, place, target),
+        ValueNode::Inner(part) | ValueNode::Cast(part) | ValueNode::Dropped(part) => {
+            emit_value(code, around, depth, target, part)
+        }
+        ValueNode::Signed(mark, kind, part) => {
+            emit_signed(code, around, depth, target, pos, *mark, *kind, part)
+        }
+        ValueNode::Negated(part) => emit_negated(code, around, depth, target, pos, part),
+        ValueNode::Stepped(behind_it, mark, kind, place) => {
+            emit_stepped(
+                code, around, depth, target, pos, *behind_it, *mark, *kind, place,
+            )
+        }
+        ValueNode::Computed(mark, kind, a, b) => {
+            emit_computed(code, around, depth, target, pos, *mark, *kind, a, b)
+        }
+        ValueNode::Compared(mark, a, b) => {
+            emit_compared(code, around, depth, target, pos, *mark, a, b)
+        }
+        ValueNode::Joined(mark, a, b) => {
+            emit_joined(code, around, depth, target, pos, *mark, a, b)
+        }
+        ValueNode::Stored(kind, place, part) => {
+            emit_stored(code, around, depth, target, pos, *kind, place, part)
+        }
+        ValueNode::Updated(mark, counted, kind, place, part) => {
+            emit_updated(
+                code, around, depth, target, pos, *mark, *counted, *kind, place, part,
+            )
+        }
+        ValueNode::Chosen(c, a, b) => emit_chosen(code, around, depth, target, pos, c, a, b),
+        ValueNode::Converted(kind, part) => {
+            emit_converted(code, around, depth, target, pos, *kind, part)
+        }
+        ValueNode::Called(_, _) => {
+            put(
+                code,
+                pos,
+                Instr::Call(None, 0, Seq::new(Vec::new(around.alloc))),
+            )
+        }
+        ValueNode::CalledRow(name, shape, args) => {
+            emit_called(code, around, depth, target, pos, *name, shape, args)
+        }
+    }
+}

@@ -1,0 +1,147 @@
+// Where values stand that wait.
+ghost use Rattle.std.specs.Prelude.{◌≡◌, ◌+◌, IfOk};
+ghost use Rattle.pungi_resolved.specs.ValueView.{value_view, place_view};
+ghost use Rattle.pungi_layout.specs.code.Temporaries.{column as column_of, temp as temporary, temp_of as temporary_of, fitting_column as fitting_column_of, operand as operand_of, local_column as local_column_of, param_column as param_column_of, front_column as front_column_of, tail as tail_of};
+ghost use Rattle.pungi_layout.specs.code.ExprCode.{above as level_above, base_var as base_variable, stored_var as stored_variable, counted_var as counted_variable, sign_var as sign_variable, var as var_atom};
+
+use crate::code::number::{behind, small};
+use crate::expr::column::{column, value_column};
+use crate::expr::parts::is_same_kind;
+use pungi_api::Param;
+use pungi_base::Memory;
+use pungi_code::{Atom, Var};
+use pungi_resolved::{Place, Value as Node};
+use pungi_types::ValueKind;
+
+/// A variable as an atom.
+pub fn atom(var: u32) -> Atom
+    ensures { result ≡ var_atom var }
+{
+    Atom::Var(Var(var))
+}
+
+/// The variable of a level and a column.
+pub fn temp_in(locals: u32, depth: u32, column: u32) -> Result<u32, Memory>
+    ensures { IfOk result (λ x. x ≡ temporary locals depth column) }
+{
+    small(locals as u64 + 5 * (depth as u64) + column as u64)
+}
+
+/// The variable of a value of this kind that has so many values below it.
+pub fn temp(locals: u32, depth: u32, kind: ValueKind) -> Result<u32, Memory>
+    ensures { IfOk result (λ x. x ≡ temporary locals depth (column_of kind)) }
+{
+    temp_in(locals, depth, column(kind))
+}
+
+/// The variable of the value of an expression.
+pub fn temp_of(locals: u32, depth: u32, node: &Node) -> Result<u32, Memory>
+    ensures { IfOk result (λ x. x ≡ temporary_of locals depth (value_view node.now)) }
+{
+    temp_in(locals, depth, value_column(node))
+}
+
+/// The column of an operand where one of the column `want` is wanted: `NULL` is a pointer of either kind.
+pub fn fitting_column(want: u32, own: u32) -> u32
+    ensures { result ≡ fitting_column_of want own }
+{
+    if want == 3 { 3 } else { own }
+}
+
+/// The variable of an operand where one of the column `want` is wanted.
+pub fn operand(locals: u32, depth: u32, want: u32, node: &Node) -> Result<u32, Memory>
+    ensures { IfOk result (λ x. x ≡ operand_of locals depth want (value_view node.now)) }
+{
+    temp_in(locals, depth, fitting_column(want, value_column(node)))
+}
+
+/// The column that a local of this kind wants.
+pub fn local_column(kind: Option<ValueKind>) -> u32
+    ensures { result ≡ local_column_of kind }
+{
+    match kind {
+        Some(kind) => column(kind),
+        None => 4,
+    }
+}
+
+/// The column that a parameter wants.
+pub fn param_column(param: Param) -> u32
+    ensures { result ≡ param_column_of param }
+{
+    match param {
+        Param::Text | Param::TextOrNull => 3,
+        _ => 4,
+    }
+}
+
+/// The column that the first of these parameters wants.
+pub fn front_column(params: &[Param]) -> u32
+    ensures { result ≡ front_column_of params.now }
+{
+    match params {
+        [] => 4,
+        [param, ..] => param_column(*param),
+    }
+}
+
+/// The parameters behind the first.
+pub fn tail(params: &[Param]) -> &[Param]
+    ensures { result.now ≡ tail_of params.now }
+{
+    match params {
+        [] => params,
+        [_, rest @ ..] => rest,
+    }
+}
+
+/// How many values wait below one that is stored to a place.
+pub fn above(place: &Place, depth: u32) -> Result<u32, Memory>
+    ensures { IfOk result (λ x. x ≡ level_above (place_view place.now) depth) }
+{
+    match place {
+        Place::Field(_, _, _, _) => behind(depth, 1),
+        _ => Ok(depth),
+    }
+}
+
+/// The variable of the base of a field.
+pub fn base_var(locals: u32, place: &Place, depth: u32) -> Result<u32, Memory>
+    ensures { IfOk result (λ x. x ≡ base_variable locals (place_view place.now) depth) }
+{
+    match place {
+        Place::Field(_, base, _, _) => temp_of(locals, depth, base),
+        _ => Ok(0),
+    }
+}
+
+/// The variable that a value is stored from.
+pub fn stored_var(locals: u32, place: &Place, depth: u32, kind: ValueKind) -> Result<u32, Memory>
+    ensures { IfOk result (λ x. x ≡ stored_variable locals (place_view place.now) depth kind) }
+{
+    temp(locals, above(place, depth)?, kind)
+}
+
+/// The variable of a value before it is converted to the kind of its place.
+pub fn counted_var(
+    locals: u32,
+    place: &Place,
+    depth: u32,
+    kind: ValueKind,
+    counted: ValueKind,
+) -> Result<u32, Memory>
+    ensures { IfOk result (λ x. x ≡ counted_variable locals (place_view place.now) depth kind counted) }
+{
+    if is_same_kind(kind, counted) {
+        stored_var(locals, place, depth, kind)
+    } else {
+        temp(locals, above(place, depth)?, counted)
+    }
+}
+
+/// The variable of what a sign stands before.
+pub fn sign_var(minus: bool, to: u32, value: u32) -> u32
+    ensures { result ≡ sign_variable minus to value }
+{
+    if minus { value } else { to }
+}

@@ -1,0 +1,44 @@
+// The codes of functions that may be refused.
+ghost use Rattle.std.specs.Prelude.{◌≡◌, map, option_map, IfOk};
+ghost use Rattle.pungi_resolved.specs.ActionView.{function_view};
+ghost use Rattle.pungi_layout.specs.code.Codes.{code_for};
+
+use crate::function::calls::has_no_call;
+use crate::function::function_code::lower_function;
+use pungi_base::{Memory, Seq};
+use pungi_code::Code;
+use pungi_resolved::Function;
+use std::alloc::Global;
+
+/// The code of a function that may be refused.
+fn lower_one(alloc: Global, f: &Option<Function>) -> Result<Option<Code>, Memory>
+    ensures { IfOk result (λ code. code ≡ code_for (option_map function_view f.now)) }
+{
+    match f {
+        Some(f) => {
+            if has_no_call(&f.body) {
+                let code = lower_function(alloc, f)?;
+                Ok(Some(code))
+            } else {
+                Ok(None)
+            }
+        }
+        None => Ok(None),
+    }
+}
+
+/// The codes of the functions of a file. There is none of a function that is refused, and none of one that calls a
+/// function of the file.
+pub fn lower_functions(
+    alloc: Global,
+    functions: &[Option<Function>],
+) -> Result<Seq<Option<Code>>, Memory>
+    ensures { IfOk result (λ codes. codes ≡ map code_for (map (option_map function_view) functions.now)) }
+{
+    let mut codes = Seq::new(Vec::new(alloc));
+    for f in functions {
+        let code = lower_one(alloc, f)?;
+        codes.push(code)?;
+    }
+    Ok(codes)
+}

@@ -1,0 +1,126 @@
+// Of how many nodes a statement is made. Each function adds those of its part to a number.
+ghost use Rattle.std.specs.Prelude.{◌≡◌, ◌+◌, map, IfOk};
+ghost use Rattle.pungi_resolved.specs.ActionView.{reached_view, action_view, actions_of};
+ghost use Rattle.pungi_resolved.specs.ValueView.{value_view, values_of, place_view, optional_view};
+ghost use Rattle.pungi_layout.specs.code.Sound.{expr_nodes, place_nodes, values_nodes, option_nodes, reach_nodes, stmt_nodes as stmt_count, stmts_nodes};
+
+use crate::code::number::behind;
+use pungi_base::Memory;
+use pungi_resolved::{Action, ActionNode, Place, Reached, Value as Node, ValueNode};
+
+#[cycle(nodes)]
+fn add_place(before: u32, place: &Place) -> Result<u32, Memory>
+    ensures { IfOk result (λ n. n ≡ before + place_nodes (place_view place.now)) }
+{
+    let total = behind(before, 1)?;
+    match place {
+        Place::Field(_, base, _, _) => add_value(total, base),
+        _ => Ok(total),
+    }
+}
+
+#[cycle(nodes)]
+fn add_value(before: u32, node: &Node) -> Result<u32, Memory>
+    ensures { IfOk result (λ n. n ≡ before + expr_nodes (value_view node.now)) }
+{
+    let total = behind(before, 1)?;
+    match &node.node {
+        ValueNode::Constant(_)
+        | ValueNode::Text(_)
+        | ValueNode::Null
+        | ValueNode::Static(_)
+        | ValueNode::Module(_)
+        | ValueNode::Called(_, _) => Ok(total),
+        ValueNode::Read(_, place) | ValueNode::Stepped(_, _, _, place) => add_place(total, place),
+        ValueNode::Inner(part)
+        | ValueNode::Cast(part)
+        | ValueNode::Dropped(part)
+        | ValueNode::Signed(_, _, part)
+        | ValueNode::Negated(part)
+        | ValueNode::Converted(_, part) => add_value(total, part),
+        ValueNode::Computed(_, _, a, b)
+        | ValueNode::Compared(_, a, b)
+        | ValueNode::Joined(_, a, b) => add_value(add_value(total, a)?, b),
+        ValueNode::Stored(_, place, part) | ValueNode::Updated(_, _, _, place, part) => {
+            add_value(add_place(total, place)?, part)
+        }
+        ValueNode::Chosen(c, a, b) => add_value(add_value(add_value(total, c)?, a)?, b),
+        ValueNode::CalledRow(_, _, args) => add_values(total, args),
+    }
+}
+
+#[cycle(nodes)]
+fn add_values(before: u32, args: &[Node]) -> Result<u32, Memory>
+    ensures { IfOk result (λ n. n ≡ before + values_nodes (values_of (map value_view args.now))) }
+{
+    let mut total = before;
+    for arg in args {
+        total = add_value(total, arg)?;
+    }
+    Ok(total)
+}
+
+fn add_option(before: u32, node: &Option<Box<Node>>) -> Result<u32, Memory>
+    ensures { IfOk result (λ n. n ≡ before + option_nodes (optional_view node.now)) }
+{
+    match node {
+        Some(node) => add_value(before, node),
+        None => Ok(before),
+    }
+}
+
+fn add_reached(before: u32, list: &[Reached]) -> Result<u32, Memory>
+    ensures { IfOk result (λ n. n ≡ before + reach_nodes (map reached_view list.now)) }
+{
+    let mut total = before;
+    for reached in list {
+        total = add_option(behind(total, 1)?, &reached.value)?;
+    }
+    Ok(total)
+}
+
+#[cycle(stmt_nodes)]
+fn add_stmt(before: u32, action: &Action) -> Result<u32, Memory>
+    ensures { IfOk result (λ n. n ≡ before + stmt_count (action_view action.now)) }
+{
+    let total = behind(before, 1)?;
+    match &action.node {
+        ActionNode::Block(list, _) => add_list(total, list),
+        ActionNode::Reach(list) => add_reached(total, list),
+        ActionNode::Evaluate(node) | ActionNode::Give(node) => add_option(total, node),
+        ActionNode::Test(c, a)
+        | ActionNode::RepeatWhile(c, a)
+        | ActionNode::RepeatUntil(a, c)
+        | ActionNode::SwitchOn(c, a) => add_stmt(add_value(total, c)?, a),
+        ActionNode::TestElse(c, a, b) => add_stmt(add_stmt(add_value(total, c)?, a)?, b),
+        ActionNode::RepeatFor(rs, u, c, w, a) => {
+            let bound = add_reached(total, rs)?;
+            let first = add_option(bound, u)?;
+            let test = add_option(first, c)?;
+            let last = add_option(test, w)?;
+            add_stmt(last, a)
+        }
+        ActionNode::AtCase(_, a) | ActionNode::AtDefault(a) | ActionNode::AtLabel(_, a) => {
+            add_stmt(total, a)
+        }
+        ActionNode::Jump(_) | ActionNode::Leave | ActionNode::NextTurn => Ok(total),
+    }
+}
+
+#[cycle(stmt_nodes)]
+fn add_list(before: u32, list: &[Action]) -> Result<u32, Memory>
+    ensures { IfOk result (λ n. n ≡ before + stmts_nodes (actions_of (map action_view list.now))) }
+{
+    let mut total = before;
+    for action in list {
+        total = add_stmt(total, action)?;
+    }
+    Ok(total)
+}
+
+/// Of how many nodes a statement is made.
+pub fn stmt_nodes(action: &Action) -> Result<u32, Memory>
+    ensures { IfOk result (λ n. n ≡ stmt_count (action_view action.now)) }
+{
+    add_stmt(0, action)
+}

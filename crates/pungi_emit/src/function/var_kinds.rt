@@ -1,0 +1,116 @@
+// What the variables of a code hold.
+ghost use Rattle.std.specs.Prelude.{◌≡◌, ◌++◌, map, IfOk, OnOk};
+ghost use Rattle.pungi_resolved.specs.ActionView.{reached_view, action_view, actions_of, function_view};
+ghost use Rattle.pungi_layout.specs.code.VarKinds.{held_kind, kind_held, stmt_reached, stmts_reached, temp_kinds, var_kinds as kinds_of_vars};
+
+use crate::function::nodes::stmt_nodes;
+use pungi_api::Param;
+use pungi_base::{Memory, Seq};
+use pungi_resolved::{Action, ActionNode, Function, Reached};
+use pungi_types::ValueKind;
+use std::alloc::Global;
+
+/// What a local of this kind holds. No local is of the last kinds.
+fn held(kind: Option<ValueKind>) -> Param
+    ensures { result ≡ held_kind kind }
+{
+    match kind {
+        Some(ValueKind::Int) => Param::Int,
+        Some(ValueKind::Long) => Param::Long,
+        Some(ValueKind::Size) => Param::Size,
+        Some(ValueKind::Text) => Param::TextOrNull,
+        Some(ValueKind::Object(_)) => Param::ObjectOrNull,
+        Some(ValueKind::Null) | Some(ValueKind::Void) | None => Param::ModuleDef,
+    }
+}
+
+fn add_params(kinds: &mut Seq<Param>, params: &[Option<ValueKind>]) -> Result<(), Memory>
+    ensures { OnOk result (kinds.new ≡ kinds.old ++ map held_kind params.now) }
+{
+    for param in params {
+        kinds.push(held(*param))?;
+    }
+    Ok(())
+}
+
+fn add_reached(kinds: &mut Seq<Param>, list: &[Reached]) -> Result<(), Memory>
+    ensures { OnOk result (kinds.new ≡ kinds.old ++ map kind_held (map reached_view list.now)) }
+{
+    for reached in list {
+        kinds.push(held(reached.kind))?;
+    }
+    Ok(())
+}
+
+/// The locals that a statement declares, those of the statements in it too.
+#[cycle(add)]
+#[tactic(auto, using(crate::proofs::function::VarKinds::both_added))]
+fn add_stmt(kinds: &mut Seq<Param>, action: &Action) -> Result<(), Memory>
+    ensures { OnOk result (kinds.new ≡ kinds.old ++ map kind_held (stmt_reached (action_view action.now))) }
+{
+    match &action.node {
+        ActionNode::Block(list, _) => Ok(add_list(kinds, list)?),
+        ActionNode::Reach(list) => Ok(add_reached(kinds, list)?),
+        ActionNode::Test(_, a)
+        | ActionNode::RepeatWhile(_, a)
+        | ActionNode::RepeatUntil(a, _)
+        | ActionNode::SwitchOn(_, a)
+        | ActionNode::AtCase(_, a)
+        | ActionNode::AtDefault(a)
+        | ActionNode::AtLabel(_, a) => Ok(add_stmt(kinds, a)?),
+        ActionNode::TestElse(_, a, b) => {
+            add_stmt(kinds, a)?;
+            Ok(add_stmt(kinds, b)?)
+        }
+        ActionNode::RepeatFor(list, _, _, _, a) => {
+            add_reached(kinds, list)?;
+            Ok(add_stmt(kinds, a)?)
+        }
+        ActionNode::Evaluate(_)
+        | ActionNode::Jump(_)
+        | ActionNode::Leave
+        | ActionNode::NextTurn
+        | ActionNode::Give(_) => Ok(()),
+    }
+}
+
+#[cycle(add)]
+fn add_list(kinds: &mut Seq<Param>, list: &[Action]) -> Result<(), Memory>
+    ensures { OnOk result (kinds.new ≡ kinds.old ++ map kind_held (stmts_reached (actions_of (map action_view list.now)))) }
+{
+    for action in list {
+        add_stmt(kinds, action)?;
+    }
+    Ok(())
+}
+
+/// The variables of a level, in the order of the columns.
+fn add_level(kinds: &mut Seq<Param>) -> Result<(), Memory>
+    ensures { OnOk result (kinds.new ≡ kinds.old ++ temp_kinds 1) }
+{
+    kinds.push(Param::Int)?;
+    kinds.push(Param::Long)?;
+    kinds.push(Param::Size)?;
+    kinds.push(Param::TextOrNull)?;
+    kinds.push(Param::ObjectOrNull)
+}
+
+fn add_temps(kinds: &mut Seq<Param>, levels: u32) -> Result<(), Memory>
+    ensures { OnOk result (kinds.new ≡ kinds.old ++ temp_kinds levels) }
+{
+    for _i in 0..levels {
+        add_level(kinds)?;
+    }
+    Ok(())
+}
+
+/// All variables of the code of a function: the parameters, the other locals, the temporaries.
+pub fn var_kinds(alloc: Global, f: &Function) -> Result<Seq<Param>, Memory>
+    ensures { IfOk result (λ kinds. kinds ≡ kinds_of_vars (function_view f.now)) }
+{
+    let mut kinds = Seq::new(Vec::new(alloc));
+    add_params(&mut kinds, f.params.as_slice())?;
+    add_stmt(&mut kinds, &f.body)?;
+    add_temps(&mut kinds, stmt_nodes(&f.body)?)?;
+    Ok(kinds)
+}

@@ -1,0 +1,136 @@
+// The instructions of values that stand alone, and of declared locals.
+ghost use Rattle.std.specs.Prelude.{◌≡◌, ◌+◌, ◌++◌, length, map, IfOk, OnOk};
+ghost use Rattle.pungi_resolved.specs.ActionView.{reached_view, action_view};
+ghost use Rattle.pungi_resolved.specs.ValueView.{value_view, optional_view};
+ghost use Rattle.pungi_meaning.specs.Work.{declared, declared_by};
+ghost use Rattle.pungi_layout.specs.code.Sizes.{expr_size, test_size};
+ghost use Rattle.pungi_layout.specs.code.Temporaries.{temp_of as temporary_of};
+ghost use Rattle.pungi_layout.specs.code.StmtCode.{unset_code, value_code, option_code, bind_code, reach_code, test_code, tested_code};
+
+use crate::code::instructions::{Around, next_place, put};
+use crate::code::number::small;
+use crate::expr::expr_code::emit_value;
+use crate::expr::temporary::{atom, local_column, operand, temp_of};
+use pungi_base::{Memory, Pos, Seq};
+use pungi_code::{Instr, Label, Line, Var};
+use pungi_resolved::{Action, ActionNode, Reached, Value as Node};
+
+/// A value that is the only one. The answer is the variable in which it stands.
+pub fn emit_alone(code: &mut Seq<Line>, around: Around, node: &Node) -> Result<u32, Memory>
+    ensures var { IfOk result (λ x. x ≡ temporary_of around.locals 0 (value_view node.now)) }
+    ensures code { OnOk result (code.new ≡ code.old ++ value_code around.locals (length code.old) (value_view node.now)) }
+{
+    let target = temp_of(around.locals, 0, node)?;
+    emit_value(code, around, 0, target, node)?;
+    Ok(target)
+}
+
+/// A value that may be missing.
+pub fn emit_option(
+    code: &mut Seq<Line>,
+    around: Around,
+    node: &Option<Box<Node>>,
+) -> Result<(), Memory>
+    ensures { OnOk result (code.new ≡ code.old ++ option_code around.locals (length code.old) (optional_view node.now)) }
+{
+    if let Some(node) = node {
+        emit_alone(code, around, node)?;
+        Ok(())
+    } else {
+        Ok(())
+    }
+}
+
+/// A declared local: it gets its value, or becomes unset.
+fn emit_bind(code: &mut Seq<Line>, around: Around, reached: &Reached) -> Result<(), Memory>
+    ensures { OnOk result (code.new ≡ code.old ++ bind_code around.locals (length code.old) reached.now.at reached.now.number reached.now.kind (optional_view reached.now.value)) }
+{
+    let local = small(reached.number as u64)?;
+    if let Some(node) = &reached.value {
+        let value = operand(around.locals, 0, local_column(reached.kind), node)?;
+        emit_value(code, around, 0, value, node)?;
+        put(code, reached.at, Instr::Set(Var(local), atom(value)))
+    } else {
+        put(code, reached.at, Instr::Unset(Var(local)))
+    }
+}
+
+/// Declared locals.
+pub fn emit_reached(code: &mut Seq<Line>, around: Around, list: &[Reached]) -> Result<(), Memory>
+    ensures { OnOk result (code.new ≡ code.old ++ reach_code around.locals (length code.old) (map reached_view list.now)) }
+{
+    for reached in list {
+        emit_bind(code, around, reached)?;
+    }
+    Ok(())
+}
+
+/// Declared locals hold nothing.
+pub fn emit_unset(code: &mut Seq<Line>, pos: Pos, list: &[Reached]) -> Result<(), Memory>
+    ensures { OnOk result (code.new ≡ code.old ++ unset_code pos (map reached_view list.now)) }
+{
+    for reached in list {
+        let local = small(reached.number as u64)?;
+        put(code, pos, Instr::Unset(Var(local)))?;
+    }
+    Ok(())
+}
+
+/// The locals that a statement of a block declares hold nothing.
+fn emit_own_unset(code: &mut Seq<Line>, pos: Pos, action: &Action) -> Result<(), Memory>
+    ensures { OnOk result (code.new ≡ code.old ++ unset_code pos (declared_by (action_view action.now))) }
+{
+    if let ActionNode::Reach(list) = &action.node {
+        emit_unset(code, pos, list)
+    } else {
+        Ok(())
+    }
+}
+
+/// The locals that a block declares hold nothing.
+pub fn emit_unsets(code: &mut Seq<Line>, pos: Pos, list: &[Action]) -> Result<(), Memory>
+    ensures { OnOk result (code.new ≡ code.old ++ unset_code pos (declared (map action_view list.now))) }
+{
+    for action in list {
+        emit_own_unset(code, pos, action)?;
+    }
+    Ok(())
+}
+
+/// A test, and the branch behind it.
+pub fn emit_test(
+    code: &mut Seq<Line>,
+    around: Around,
+    pos: Pos,
+    test: &Node,
+    other: u32,
+) -> Result<(), Memory>
+    ensures { OnOk result (code.new ≡ code.old ++ test_code pos around.locals (length code.old) (value_view test.now) (length code.old + expr_size (value_view test.now) + 1) other) }
+{
+    let value = emit_alone(code, around, test)?;
+    let place = next_place(code)?;
+    let go = place + 1;
+    put(
+        code,
+        pos,
+        Instr::Branch(atom(value), Label(go), Label(other)),
+    )?;
+    Ok(())
+}
+
+/// A test that may be missing.
+pub fn emit_tested(
+    code: &mut Seq<Line>,
+    around: Around,
+    pos: Pos,
+    test: &Option<Box<Node>>,
+    other: u32,
+) -> Result<(), Memory>
+    ensures { OnOk result (code.new ≡ code.old ++ tested_code pos around.locals (length code.old) (optional_view test.now) (length code.old + test_size (optional_view test.now)) other) }
+{
+    if let Some(test) = test {
+        emit_test(code, around, pos, test, other)
+    } else {
+        Ok(())
+    }
+}

@@ -1,0 +1,412 @@
+// The instructions of statements.
+ghost use Rattle.std.specs.Prelude.{◌≡◌, ◌+◌, ◌++◌, length, map, OnOk};
+ghost use Rattle.pungi_resolved.specs.ActionView.{reached_view, action_view, actions_of};
+ghost use Rattle.pungi_resolved.specs.ValueView.{value_view, optional_view};
+ghost use Rattle.pungi_resolved.specs.Actions.{block_of, test, test_else, repeat_while, repeat_until, repeat_for, switch_on};
+ghost use Rattle.pungi_emit.specs.stmt.Cases.{skipped_code};
+ghost use Rattle.pungi_emit.specs.stmt.Emits.{Emits, EmitsStmt, EmitsList};
+ghost use Rattle.pungi_layout.specs.code.Sizes.{expr_size, stmts_size};
+ghost use Rattle.pungi_emit.specs.planning.LabelPlaces.{list_labels, list_starts, env_of};
+ghost use Rattle.pungi_emit.specs.planning.Plans.{Begins, switch_from, plan_of, plans_of, skipped_plan};
+ghost use Rattle.pungi_layout.specs.code.Scopes.{in_block};
+ghost use Rattle.pungi_layout.specs.code.StmtCode.{stmt_code, give_code};
+ghost use Rattle.pungi_meaning.specs.Run.{nowhere};
+
+use crate::code::instructions::{Around, next_place, put};
+use crate::code::number::behind;
+use crate::expr::temporary::{atom, temp_in};
+use crate::planning::labels::plan_labels;
+use crate::planning::plan::{Plan, planned, planned_all};
+use crate::planning::scope::{Labels, Placed, Scope, goto_place};
+use crate::stmt::decl::{
+    emit_alone, emit_option, emit_reached, emit_test, emit_tested, emit_unset, emit_unsets,
+};
+use crate::stmt::switch::{default_or, emit_cases, is_block};
+use pungi_base::{Memory, Pos, Seq};
+use pungi_code::{Instr, Label, Line};
+use pungi_resolved::{Action, ActionNode, Reached, Value as Node};
+
+/// `return`.
+fn emit_give(
+    code: &mut Seq<Line>,
+    around: Around,
+    pos: Pos,
+    node: &Option<Box<Node>>,
+) -> Result<(), Memory>
+    ensures { OnOk result (code.new ≡ code.old ++ give_code around.locals (length code.old) pos (optional_view node.now)) }
+{
+    if let Some(node) = node {
+        let value = emit_alone(code, around, node)?;
+        put(code, pos, Instr::Return(Some(atom(value))))
+    } else {
+        put(code, pos, Instr::Return(None))
+    }
+}
+
+/// `if` without `else`.
+#[cycle(emit_stmts)]
+fn emit_if(
+    code: &mut Seq<Line>,
+    around: Around,
+    scope: &Scope<'_>,
+    plan: &mut Plan<'_>,
+    pos: Pos,
+    c: &Node,
+    body: &Action,
+) -> Result<(), Memory>
+    requires plan { Begins (plan_of (length code.old) (test pos (value_view c.now) (action_view body.now))) plan.old.left.now }
+    ensures { OnOk result (EmitsStmt around.locals (env_of scope.now) (test pos (value_view c.now) (action_view body.now)) code.old code.new plan.old.left.now plan.new.left.now) }
+{
+    let other = planned(plan);
+    emit_test(code, around, pos, c, other)?;
+    emit_stmt(code, around, scope, plan, body)?;
+    Ok(())
+}
+
+/// `if` with `else`.
+#[cycle(emit_stmts)]
+fn emit_else(
+    code: &mut Seq<Line>,
+    around: Around,
+    scope: &Scope<'_>,
+    plan: &mut Plan<'_>,
+    pos: Pos,
+    c: &Node,
+    a: &Action,
+    b: &Action,
+) -> Result<(), Memory>
+    requires plan { Begins (plan_of (length code.old) (test_else pos (value_view c.now) (action_view a.now) (action_view b.now))) plan.old.left.now }
+    ensures { OnOk result (EmitsStmt around.locals (env_of scope.now) (test_else pos (value_view c.now) (action_view a.now) (action_view b.now)) code.old code.new plan.old.left.now plan.new.left.now) }
+{
+    let other = planned(plan);
+    let end = planned(plan);
+    emit_test(code, around, pos, c, other)?;
+    emit_stmt(code, around, scope, plan, a)?;
+    put(code, pos, Instr::Jump(Label(end)))?;
+    emit_stmt(code, around, scope, plan, b)?;
+    Ok(())
+}
+
+/// `while`.
+#[cycle(emit_stmts)]
+fn emit_while(
+    code: &mut Seq<Line>,
+    around: Around,
+    scope: &Scope<'_>,
+    plan: &mut Plan<'_>,
+    pos: Pos,
+    c: &Node,
+    body: &Action,
+) -> Result<(), Memory>
+    requires plan { Begins (plan_of (length code.old) (repeat_while pos (value_view c.now) (action_view body.now))) plan.old.left.now }
+    ensures { OnOk result (EmitsStmt around.locals (env_of scope.now) (repeat_while pos (value_view c.now) (action_view body.now)) code.old code.new plan.old.left.now plan.new.left.now) }
+{
+    let head = next_place(code)?;
+    let again = planned(plan);
+    let end = behind(again, 1)?;
+    let inner = Scope {
+        breaks: end,
+        continues: again,
+        labels: scope.labels,
+    };
+    emit_test(code, around, pos, c, end)?;
+    emit_stmt(code, around, &inner, plan, body)?;
+    put(code, pos, Instr::Jump(Label(head)))?;
+    Ok(())
+}
+
+/// `do`: the first turn comes without a test.
+#[cycle(emit_stmts)]
+fn emit_until(
+    code: &mut Seq<Line>,
+    around: Around,
+    scope: &Scope<'_>,
+    plan: &mut Plan<'_>,
+    pos: Pos,
+    body: &Action,
+    c: &Node,
+) -> Result<(), Memory>
+    requires plan { Begins (plan_of (length code.old) (repeat_until pos (action_view body.now) (value_view c.now))) plan.old.left.now }
+    ensures { OnOk result (EmitsStmt around.locals (env_of scope.now) (repeat_until pos (action_view body.now) (value_view c.now)) code.old code.new plan.old.left.now plan.new.left.now) }
+{
+    let go = planned(plan);
+    let again = planned(plan);
+    let end = behind(again, 1)?;
+    let inner = Scope {
+        breaks: end,
+        continues: again,
+        labels: scope.labels,
+    };
+    put(code, pos, Instr::Jump(Label(go)))?;
+    let head = next_place(code)?;
+    emit_test(code, around, pos, c, end)?;
+    emit_stmt(code, around, &inner, plan, body)?;
+    put(code, pos, Instr::Jump(Label(head)))?;
+    Ok(())
+}
+
+/// `for`.
+#[cycle(emit_stmts)]
+fn emit_for(
+    code: &mut Seq<Line>,
+    around: Around,
+    scope: &Scope<'_>,
+    plan: &mut Plan<'_>,
+    pos: Pos,
+    reached: &[Reached],
+    first: &Option<Box<Node>>,
+    c: &Option<Box<Node>>,
+    last: &Option<Box<Node>>,
+    body: &Action,
+) -> Result<(), Memory>
+    requires plan { Begins (plan_of (length code.old) (repeat_for pos (map reached_view reached.now) (optional_view first.now) (optional_view c.now) (optional_view last.now) (action_view body.now))) plan.old.left.now }
+    ensures { OnOk result (EmitsStmt around.locals (env_of scope.now) (repeat_for pos (map reached_view reached.now) (optional_view first.now) (optional_view c.now) (optional_view last.now) (action_view body.now)) code.old code.new plan.old.left.now plan.new.left.now) }
+{
+    let again = planned(plan);
+    let end = planned(plan);
+    let inner = Scope {
+        breaks: end,
+        continues: again,
+        labels: scope.labels,
+    };
+    emit_unset(code, pos, reached)?;
+    emit_reached(code, around, reached)?;
+    emit_option(code, around, first)?;
+    let head = next_place(code)?;
+    emit_tested(code, around, pos, c, end)?;
+    emit_stmt(code, around, &inner, plan, body)?;
+    emit_option(code, around, last)?;
+    put(code, pos, Instr::Jump(Label(head)))?;
+    Ok(())
+}
+
+/// Statements, one after another.
+#[cycle(emit_stmts)]
+fn emit_list(
+    code: &mut Seq<Line>,
+    around: Around,
+    list: &[Action],
+    scope: &Scope<'_>,
+    plan: &mut Plan<'_>,
+) -> Result<(), Memory>
+    requires plan { Begins (plans_of (length code.old) (actions_of (map action_view list.now))) plan.old.left.now }
+    ensures { OnOk result (EmitsList around.locals (env_of scope.now) (map action_view list.now) code.old code.new plan.old.left.now plan.new.left.now) }
+{
+    for action in list {
+        emit_stmt(code, around, scope, plan, action)?;
+    }
+    Ok(())
+}
+
+/// The statements of a block, which has these labels.
+#[cycle(emit_stmts)]
+fn emit_inside(
+    code: &mut Seq<Line>,
+    around: Around,
+    list: &[Action],
+    scope: &Scope<'_>,
+    plan: &mut Plan<'_>,
+    own: &[Placed],
+) -> Result<(), Memory>
+    requires plan { Begins (plans_of (length code.old) (actions_of (map action_view list.now))) plan.old.left.now }
+    requires own { own.now ≡ list_labels (length code.old) (map action_view list.now) }
+    ensures { OnOk result (EmitsList around.locals (in_block (env_of scope.now) (length code.old) (map action_view list.now)) (map action_view list.now) code.old code.new plan.old.left.now plan.new.left.now) }
+{
+    let labels = Labels::Inside(own, scope.labels);
+    let inner = Scope {
+        breaks: scope.breaks,
+        continues: scope.continues,
+        labels: &labels,
+    };
+    emit_list(code, around, list, &inner, plan)?;
+    Ok(())
+}
+
+/// A block.
+#[cycle(emit_stmts)]
+fn emit_block(
+    code: &mut Seq<Line>,
+    around: Around,
+    list: &[Action],
+    scope: &Scope<'_>,
+    plan: &mut Plan<'_>,
+    pos: Pos,
+) -> Result<(), Memory>
+    requires plan { Begins (plan_of (length code.old) (block_of pos (actions_of (map action_view list.now)) nowhere)) plan.old.left.now }
+    ensures { OnOk result (EmitsStmt around.locals (env_of scope.now) (block_of pos (actions_of (map action_view list.now)) nowhere) code.old code.new plan.old.left.now plan.new.left.now) }
+{
+    let own = plan_labels(around.alloc, plan, list)?;
+    emit_unsets(code, pos, list)?;
+    emit_inside(code, around, list, scope, plan, own.as_slice())?;
+    Ok(())
+}
+
+/// A `switch` over statements that begin at these places: the locals of the block are unset, then come the comparisons,
+/// then the statements.
+#[cycle(emit_stmts)]
+fn emit_switched(
+    code: &mut Seq<Line>,
+    around: Around,
+    list: &[Action],
+    scope: &Scope<'_>,
+    plan: &mut Plan<'_>,
+    pos: Pos,
+    node: &Node,
+    starts: &[u32],
+    own: &[Placed],
+    end: u32,
+) -> Result<(), Memory>
+    requires plan { Begins (plans_of (switch_from (length code.old + expr_size (value_view node.now)) (map action_view list.now)) (actions_of (map action_view list.now))) plan.old.left.now }
+    requires starts { starts.now ≡ list_starts (switch_from (length code.old + expr_size (value_view node.now)) (map action_view list.now)) (map action_view list.now) }
+    requires own { own.now ≡ list_labels (switch_from (length code.old + expr_size (value_view node.now)) (map action_view list.now)) (map action_view list.now) }
+    requires end { end ≡ switch_from (length code.old + expr_size (value_view node.now)) (map action_view list.now) + stmts_size (actions_of (map action_view list.now)) }
+    ensures { OnOk result (Emits (stmt_code around.locals (env_of scope.now) (length code.old) (switch_on pos (value_view node.now) (block_of nowhere (actions_of (map action_view list.now)) nowhere))) (plans_of (switch_from (length code.old + expr_size (value_view node.now)) (map action_view list.now)) (actions_of (map action_view list.now))) code.old code.new plan.old.left.now plan.new.left.now) }
+{
+    let inner = Scope {
+        breaks: end,
+        continues: scope.continues,
+        labels: scope.labels,
+    };
+    let value = emit_alone(code, around, node)?;
+    emit_unsets(code, pos, list)?;
+    let outcome = temp_in(around.locals, 1, 0)?;
+    emit_cases(code, pos, value, outcome, list, starts)?;
+    let other = default_or(list, starts, end);
+    put(code, pos, Instr::Jump(Label(other)))?;
+    emit_inside(code, around, list, &inner, plan, own)?;
+    Ok(())
+}
+
+/// A `switch` over a block.
+#[cycle(emit_stmts)]
+fn emit_switch(
+    code: &mut Seq<Line>,
+    around: Around,
+    list: &[Action],
+    scope: &Scope<'_>,
+    plan: &mut Plan<'_>,
+    pos: Pos,
+    node: &Node,
+) -> Result<(), Memory>
+    requires plan { Begins (plan_of (length code.old) (switch_on pos (value_view node.now) (block_of nowhere (actions_of (map action_view list.now)) nowhere))) plan.old.left.now }
+    ensures { OnOk result (EmitsStmt around.locals (env_of scope.now) (switch_on pos (value_view node.now) (block_of nowhere (actions_of (map action_view list.now)) nowhere)) code.old code.new plan.old.left.now plan.new.left.now) }
+{
+    let end = planned(plan);
+    let starts = planned_all(plan, list.len());
+    let own = plan_labels(around.alloc, plan, list)?;
+    let labels = own.as_slice();
+    emit_switched(
+        code, around, list, scope, plan, pos, node, starts, labels, end,
+    )?;
+    Ok(())
+}
+
+/// A `switch` over what is no block: nothing of it is done.
+#[cycle(emit_stmts)]
+fn emit_skipped(
+    code: &mut Seq<Line>,
+    around: Around,
+    scope: &Scope<'_>,
+    plan: &mut Plan<'_>,
+    pos: Pos,
+    node: &Node,
+    body: &Action,
+) -> Result<(), Memory>
+    requires plan { Begins (skipped_plan (length code.old + expr_size (value_view node.now)) (action_view body.now)) plan.old.left.now }
+    ensures { OnOk result (Emits (skipped_code around.locals (env_of scope.now) (length code.old) pos (value_view node.now) (action_view body.now)) (skipped_plan (length code.old + expr_size (value_view node.now)) (action_view body.now)) code.old code.new plan.old.left.now plan.new.left.now) }
+{
+    let end = planned(plan);
+    let inner = Scope {
+        breaks: end,
+        continues: scope.continues,
+        labels: scope.labels,
+    };
+    let _value = emit_alone(code, around, node)?;
+    put(code, pos, Instr::Jump(Label(end)))?;
+    emit_stmt(code, around, &inner, plan, body)?;
+    Ok(())
+}
+
+/// A `switch`.
+#[cycle(emit_stmts)]
+fn emit_choice(
+    code: &mut Seq<Line>,
+    around: Around,
+    scope: &Scope<'_>,
+    plan: &mut Plan<'_>,
+    pos: Pos,
+    node: &Node,
+    body: &Action,
+) -> Result<(), Memory>
+    requires plan { Begins (plan_of (length code.old) (switch_on pos (value_view node.now) (action_view body.now))) plan.old.left.now }
+    ensures { OnOk result (EmitsStmt around.locals (env_of scope.now) (switch_on pos (value_view node.now) (action_view body.now)) code.old code.new plan.old.left.now plan.new.left.now) }
+{
+    if is_block(body) {
+        emit_body(code, around, body, scope, plan, pos, node)?;
+        Ok(())
+    } else {
+        emit_skipped(code, around, scope, plan, pos, node, body)?;
+        Ok(())
+    }
+}
+
+/// A `switch` over a statement that is a block.
+#[cycle(emit_stmts)]
+fn emit_body(
+    code: &mut Seq<Line>,
+    around: Around,
+    body: &Action,
+    scope: &Scope<'_>,
+    plan: &mut Plan<'_>,
+    pos: Pos,
+    node: &Node,
+) -> Result<(), Memory>
+    requires plan { Begins (plan_of (length code.old) (switch_on pos (value_view node.now) (action_view body.now))) plan.old.left.now }
+    ensures { OnOk result (EmitsStmt around.locals (env_of scope.now) (switch_on pos (value_view node.now) (action_view body.now)) code.old code.new plan.old.left.now plan.new.left.now) }
+{
+    if let ActionNode::Block(list, _) = &body.node {
+        emit_switch(code, around, list, scope, plan, pos, node)?;
+        Ok(())
+    } else {
+        Err(Memory)
+    }
+}
+
+/// The instructions of a statement, which takes its places from the plan.
+#[cycle(emit_stmts)]
+#[tactic(auto, using(crate::proofs::planning::Plans::nothing_planned))]
+pub fn emit_stmt(
+    code: &mut Seq<Line>,
+    around: Around,
+    scope: &Scope<'_>,
+    plan: &mut Plan<'_>,
+    action: &Action,
+) -> Result<(), Memory>
+    requires plan { Begins (plan_of (length code.old) (action_view action.now)) plan.old.left.now }
+    ensures { OnOk result (EmitsStmt around.locals (env_of scope.now) (action_view action.now) code.old code.new plan.old.left.now plan.new.left.now) }
+{
+    let pos = action.pos;
+    match &action.node {
+        ActionNode::Block(list, _) => emit_block(code, around, list, scope, plan, action.pos),
+        ActionNode::Reach(list) => emit_reached(code, around, list),
+        ActionNode::Evaluate(node) => emit_option(code, around, node),
+        ActionNode::Test(c, a) => emit_if(code, around, scope, plan, pos, c, a),
+        ActionNode::TestElse(c, a, b) => emit_else(code, around, scope, plan, pos, c, a, b),
+        ActionNode::RepeatWhile(c, a) => emit_while(code, around, scope, plan, pos, c, a),
+        ActionNode::RepeatUntil(a, c) => emit_until(code, around, scope, plan, pos, a, c),
+        ActionNode::RepeatFor(rs, u, c, w, a) => {
+            emit_for(code, around, scope, plan, pos, rs, u, c, w, a)
+        }
+        ActionNode::SwitchOn(node, a) => emit_choice(code, around, scope, plan, pos, node, a),
+        ActionNode::AtCase(_, a) | ActionNode::AtDefault(a) | ActionNode::AtLabel(_, a) => {
+            emit_stmt(code, around, scope, plan, a)
+        }
+        ActionNode::Jump(name) => {
+            let place = goto_place(*name, scope.labels);
+            put(code, pos, Instr::Jump(Label(place)))
+        }
+        ActionNode::Leave => put(code, pos, Instr::Jump(Label(scope.breaks))),
+        ActionNode::NextTurn => put(code, pos, Instr::Jump(Label(scope.continues))),
+        ActionNode::Give(node) => emit_give(code, around, pos, node),
+    }
+}

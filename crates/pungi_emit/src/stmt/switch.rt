@@ -1,0 +1,153 @@
+// The comparisons of a `switch`.
+ghost use Rattle.std.specs.Prelude.{◌≡◌, ◌++◌, length, map, OnOk};
+ghost use Rattle.pungi_resolved.specs.ActionView.{action_view};
+ghost use Rattle.pungi_meaning.specs.Stmts.{cases_of, is_default as is_default_of};
+ghost use Rattle.pungi_emit.specs.stmt.Cases.{case_lines, cases_at, default_at, is_block as is_block_of};
+ghost use Rattle.pungi_layout.specs.code.Scopes.{placed_cases, label_or};
+ghost use Rattle.pungi_layout.specs.code.StmtCode.{case_code};
+
+use crate::code::instructions::{next_place, put};
+use crate::expr::temporary::atom;
+use pungi_base::{Memory, Pos, Seq};
+use pungi_code::{Atom, Instr, Label, Line, Var};
+use pungi_meaning::Cmp;
+use pungi_resolved::{Action, ActionNode};
+
+/// The comparison with one case, which leads to a place where it is equal.
+fn emit_case(
+    code: &mut Seq<Line>,
+    pos: Pos,
+    value: u32,
+    outcome: u32,
+    number: Atom,
+    place: u32,
+) -> Result<(), Memory>
+    ensures { OnOk result (code.new ≡ code.old ++ case_lines pos value outcome (length code.old) number place) }
+{
+    let here = next_place(code)?;
+    let next = here + 2;
+    let compare = Instr::Compare(Var(outcome), Cmp::Equal, atom(value), number);
+    put(code, pos, compare)?;
+    put(
+        code,
+        pos,
+        Instr::Branch(atom(outcome), Label(place), Label(next)),
+    )?;
+    Ok(())
+}
+
+/// The comparisons with the cases that a statement stands behind.
+#[tactic(auto, using(crate::proofs::stmt::Cases::one_case))]
+fn emit_own_cases(
+    code: &mut Seq<Line>,
+    pos: Pos,
+    value: u32,
+    outcome: u32,
+    place: u32,
+    action: &Action,
+) -> Result<(), Memory>
+    ensures { OnOk result (code.new ≡ code.old ++ case_code pos value outcome (length code.old) (placed_cases place (cases_of (action_view action.now)))) }
+{
+    match &action.node {
+        ActionNode::AtCase(number, a) => {
+            emit_case(code, pos, value, outcome, Atom::Int(*number), place)?;
+            emit_own_cases(code, pos, value, outcome, place, a)?;
+            Ok(())
+        }
+        ActionNode::AtDefault(a) | ActionNode::AtLabel(_, a) => {
+            emit_own_cases(code, pos, value, outcome, place, a)?;
+            Ok(())
+        }
+        ActionNode::Block(_, _)
+        | ActionNode::Reach(_)
+        | ActionNode::Evaluate(_)
+        | ActionNode::Test(_, _)
+        | ActionNode::TestElse(_, _, _)
+        | ActionNode::RepeatWhile(_, _)
+        | ActionNode::RepeatUntil(_, _)
+        | ActionNode::RepeatFor(_, _, _, _, _)
+        | ActionNode::SwitchOn(_, _)
+        | ActionNode::Jump(_)
+        | ActionNode::Leave
+        | ActionNode::NextTurn
+        | ActionNode::Give(_) => Ok(()),
+    }
+}
+
+/// The comparisons with the cases of statements that begin at these places.
+pub fn emit_cases(
+    code: &mut Seq<Line>,
+    pos: Pos,
+    value: u32,
+    outcome: u32,
+    list: &[Action],
+    starts: &[u32],
+) -> Result<(), Memory>
+    requires { length list.now ≡ length starts.now }
+    ensures { OnOk result (code.new ≡ code.old ++ case_code pos value outcome (length code.old) (cases_at (map action_view list.now) starts.now)) }
+{
+    for i in 0..list.len() {
+        emit_own_cases(code, pos, value, outcome, starts[i], &list[i])?;
+    }
+    Ok(())
+}
+
+/// A statement stands behind `default`.
+fn is_default(action: &Action) -> bool
+    ensures { result ≡ is_default_of (action_view action.now) }
+{
+    match &action.node {
+        ActionNode::AtDefault(_) => true,
+        ActionNode::AtCase(_, a) | ActionNode::AtLabel(_, a) => is_default(a),
+        ActionNode::Block(_, _)
+        | ActionNode::Reach(_)
+        | ActionNode::Evaluate(_)
+        | ActionNode::Test(_, _)
+        | ActionNode::TestElse(_, _, _)
+        | ActionNode::RepeatWhile(_, _)
+        | ActionNode::RepeatUntil(_, _)
+        | ActionNode::RepeatFor(_, _, _, _, _)
+        | ActionNode::SwitchOn(_, _)
+        | ActionNode::Jump(_)
+        | ActionNode::Leave
+        | ActionNode::NextTurn
+        | ActionNode::Give(_) => false,
+    }
+}
+
+/// A statement is a block.
+pub fn is_block(action: &Action) -> bool
+    ensures { result ≡ is_block_of (action_view action.now) }
+{
+    match &action.node {
+        ActionNode::Block(_, _) => true,
+        ActionNode::Reach(_)
+        | ActionNode::Evaluate(_)
+        | ActionNode::Test(_, _)
+        | ActionNode::TestElse(_, _, _)
+        | ActionNode::RepeatWhile(_, _)
+        | ActionNode::RepeatUntil(_, _)
+        | ActionNode::RepeatFor(_, _, _, _, _)
+        | ActionNode::SwitchOn(_, _)
+        | ActionNode::AtCase(_, _)
+        | ActionNode::AtDefault(_)
+        | ActionNode::AtLabel(_, _)
+        | ActionNode::Jump(_)
+        | ActionNode::Leave
+        | ActionNode::NextTurn
+        | ActionNode::Give(_) => false,
+    }
+}
+
+/// The place of the statement behind `default`, where the statements begin at these places; else the end.
+pub fn default_or(list: &[Action], starts: &[u32], end: u32) -> u32
+    requires { length list.now ≡ length starts.now }
+    ensures { result ≡ label_or (default_at (map action_view list.now) starts.now) end }
+{
+    for i in 0..list.len() {
+        if is_default(&list[i]) {
+            return starts[i];
+        }
+    }
+    end
+}

@@ -1,0 +1,4 @@
+-- No temporary is kept where one statement's instructions end and another's begin.
+pub mod Exprs
+pub mod Stmts
+pub mod Heads

@@ -1,0 +1,5 @@
+-- No instruction reads a temporary that was not written before.
+pub mod FoundPlaces
+pub mod Paths
+pub mod Exprs
+pub mod Stmts

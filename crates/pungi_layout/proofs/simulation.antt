@@ -1,0 +1,9 @@
+-- The code does each step of a function, one kind of step after another.
+pub mod WorldAnswers
+pub mod Operators
+pub mod Places
+pub mod Calls
+pub mod Exprs
+pub mod Stmts
+pub mod Switch
+pub mod EachStep

@@ -1,0 +1,5 @@
+-- Whole runs: the code of a function runs as the function does.
+pub mod LessLeft
+pub mod WeightCounts
+pub mod WholeRuns
+pub mod Behaves

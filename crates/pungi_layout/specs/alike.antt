@@ -1,0 +1,3 @@
+-- What it is for a code to run as its function does.
+pub mod Weights
+pub mod Correct

@@ -1,0 +1,122 @@
+-- How many instructions an expression and a statement take.
+--   place_size place               the base of a place
+--   fit_size to from               a conversion, where the kinds differ
+--   store_size               a store, which leaves the stored value
+--   sign_size, keep_size           what a minus, and `++` behind its operand, take more
+--   expr_size v, values_size vs    an expression, arguments one after another
+--   option_size o                  an expression that may be missing
+--   args_size vs                   arguments in a list
+--   reach_size rs                  declared locals
+--   test_size o                    a test and the branch behind it, where there is one
+--   stmt_size a, stmts_size as, list_size list    a statement, statements
+--   switch_size a                  a `switch`, behind its value
+use Rattle.std.specs.Prelude.{ℕ, ◌+◌, ◌*◌, Bool, List, [], ◌∷◌, length, Option, Some, None, if◌then◌else◌}
+use Rattle.pungi_types.specs.declared.kind.ValueKind.{ValueKind}
+use Rattle.pungi_resolved.specs.Values as expr
+use Rattle.pungi_types.specs.Operators.{is_same_kind}
+use Rattle.pungi_resolved.specs.Actions as stmt
+use Rattle.pungi_meaning.specs.Values.{wide}
+use Rattle.pungi_meaning.specs.Todo.{listed}
+use Rattle.pungi_meaning.specs.Stmts.{block_cases}
+use Rattle.pungi_meaning.specs.Work.{declared}
+use Rattle.pungi_layout.specs.code.Parts.{is_minus}
+
+abbrev pub fit_size : ValueKind → ValueKind → ℕ
+fit_size to from = if is_same_kind (Some to) (Some from) then 0 else 1
+
+abbrev pub store_size : ℕ
+store_size = 2
+
+abbrev pub sign_size : Bool → ℕ
+sign_size minus = if minus then 1 else 0
+
+-- behind its operand `++` first makes the place of its value, and then keeps the old content there
+abbrev pub keep_size : Bool → ℕ
+keep_size behind = if behind then 1 else 0
+
+abbrev mutual
+  pub expr_size : expr.Value → ℕ
+  expr_size (expr.constant p n) = 1
+  expr_size (expr.text_of p ns) = 1
+  expr_size (expr.null_of p) = 1
+  expr_size (expr.static_of p n) = 1
+  expr_size (expr.module_of p n) = 1
+  expr_size (expr.read p kind place) = place_size place + 1
+  expr_size (expr.inner p v) = expr_size v
+  expr_size (expr.signed p m kind v) = expr_size v + sign_size (is_minus m)
+  expr_size (expr.negated p v) = 1 + expr_size v + 2
+  expr_size (expr.stepped p behind m kind place) = keep_size behind + place_size place + 1 + keep_size behind + 1 + fit_size kind (wide kind) + store_size
+  expr_size (expr.computed p m kind a b) = expr_size a + expr_size b + 1
+  expr_size (expr.compared p m a b) = expr_size a + expr_size b + 1
+  expr_size (expr.joined_by p m a b) = 1 + expr_size a + 1 + expr_size b + 2
+  expr_size (expr.stored p kind place v) = place_size place + expr_size v + store_size
+  expr_size (expr.updated p m counted kind place v) = place_size place + 1 + expr_size v + 1 + fit_size kind counted + store_size
+  expr_size (expr.chosen p c a b) = expr_size c + 1 + expr_size a + 1 + expr_size b
+  expr_size (expr.converted p kind v) = expr_size v + 1
+  expr_size (expr.cast_of p v) = expr_size v
+  expr_size (expr.dropped p v) = expr_size v
+  expr_size (expr.called p n vs) = 1
+  expr_size (expr.called_row p n row vs) = values_size vs + 1
+  expr_size (expr.nonsense p) = 1
+
+  pub place_size : expr.Place → ℕ
+  place_size (expr.local_place p x) = 0
+  place_size (expr.global_place p n) = 0
+  place_size (expr.field_place p base tag field) = expr_size base
+  place_size expr.no_place = 0
+
+  pub values_size : expr.Values → ℕ
+  values_size expr.no_values = 0
+  values_size (expr.value_and v vs) = expr_size v + values_size vs
+
+abbrev pub args_size : List expr.Value → ℕ
+args_size [] = 0
+args_size (v ∷ vs) = expr_size v + args_size vs
+
+-- ---- statements
+
+abbrev pub option_size : Option expr.Value → ℕ
+option_size None = 0
+option_size (Some v) = expr_size v
+
+abbrev pub reach_size : List stmt.Reached → ℕ
+reach_size [] = 0
+reach_size (r ∷ rs) = option_size r.value + 1 + reach_size rs
+
+-- a loop's test and the branch behind it; a loop without one has neither
+abbrev pub test_size : Option expr.Value → ℕ
+test_size None = 0
+test_size (Some c) = expr_size c + 1
+
+abbrev mutual
+  pub stmt_size : stmt.Action → ℕ
+  stmt_size (stmt.block_of p ss q) = length (declared (listed ss)) + stmts_size ss
+  stmt_size (stmt.reach p rs) = reach_size rs
+  stmt_size (stmt.evaluate p v) = option_size v
+  stmt_size (stmt.test p c a) = expr_size c + 1 + stmt_size a
+  stmt_size (stmt.test_else p c a b) = expr_size c + 1 + stmt_size a + 1 + stmt_size b
+  stmt_size (stmt.repeat_while p c a) = expr_size c + 1 + stmt_size a + 1
+  stmt_size (stmt.repeat_until p a c) = 1 + expr_size c + 1 + stmt_size a + 1
+  stmt_size (stmt.repeat_for p rs u c w a) = length rs + reach_size rs + option_size u + test_size c + stmt_size a + option_size w + 1
+  stmt_size (stmt.switch_on p v (stmt.block_of q ss r)) = expr_size v + (length (declared (listed ss)) + 2 * length (block_cases (listed ss)) + 1 + stmts_size ss)
+  stmt_size (stmt.switch_on p v a) = expr_size v + (1 + stmt_size a)
+  stmt_size (stmt.at_case p n a) = stmt_size a
+  stmt_size (stmt.at_default p a) = stmt_size a
+  stmt_size (stmt.at_label p l a) = stmt_size a
+  stmt_size (stmt.jump p l) = 1
+  stmt_size (stmt.leave p) = 1
+  stmt_size (stmt.next_turn p) = 1
+  stmt_size (stmt.give p v) = option_size v + 1
+
+  pub stmts_size : stmt.Actions → ℕ
+  stmts_size stmt.no_actions = 0
+  stmts_size (stmt.action_and a ss) = stmt_size a + stmts_size ss
+
+-- of a `switch`, behind its value: the locals of its block are unset, then come the comparisons, then the block
+abbrev pub switch_size : stmt.Action → ℕ
+switch_size (stmt.block_of q ss r) = length (declared (listed ss)) + 2 * length (block_cases (listed ss)) + 1 + stmts_size ss
+switch_size a = 1 + stmt_size a
+
+abbrev pub list_size : List stmt.Action → ℕ
+list_size [] = 0
+list_size (a ∷ rest) = stmt_size a + list_size rest

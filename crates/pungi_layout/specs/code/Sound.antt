@@ -1,0 +1,135 @@
+-- What the lowering asks of a checked function: its locals are there, each operand has a value, and each place is one. Of how many
+-- values an expression is made.
+--   IsSound nl v, IsPlaceSound, AreSound    an expression, a place, arguments
+--   IsWanted nl v                           an operand: it leaves a value
+--   IsOptionSound, IsOptionWanted           one that may be missing
+--   AreReached nl rs                        declared locals
+--   IsStmtSound nl a, AreStmtsSound         a statement, statements
+--   expr_nodes v, place_nodes, values_nodes, option_nodes, reach_nodes, stmt_nodes a, stmts_nodes    how many nodes
+use Rattle.std.specs.Prelude.{◌≡◌, ℕ, ◌+◌, ◌<◌, true, List, [], ◌∷◌, Option, Some, None}
+use Rattle.pungi_resolved.specs.Values as expr
+use Rattle.pungi_resolved.specs.Actions as stmt
+use Rattle.pungi_layout.specs.code.Parts.{gives}
+
+abbrev mutual
+  pub IsSound : ℕ → expr.Value → Type 0
+  IsSound nl (expr.read p kind place) = IsPlaceSound nl place
+  IsSound nl (expr.inner p v) = IsSound nl v
+  IsSound nl (expr.signed p m kind v) = (gives v ≡ true) × IsSound nl v
+  IsSound nl (expr.negated p v) = (gives v ≡ true) × IsSound nl v
+  IsSound nl (expr.stepped p behind m kind place) = IsPlaceSound nl place
+  IsSound nl (expr.computed p m kind a b) = (gives a ≡ true) × IsSound nl a × (gives b ≡ true) × IsSound nl b
+  IsSound nl (expr.compared p m a b) = (gives a ≡ true) × IsSound nl a × (gives b ≡ true) × IsSound nl b
+  IsSound nl (expr.joined_by p m a b) = (gives a ≡ true) × IsSound nl a × (gives b ≡ true) × IsSound nl b
+  IsSound nl (expr.stored p kind place v) = IsPlaceSound nl place × (gives v ≡ true) × IsSound nl v
+  IsSound nl (expr.updated p m counted kind place v) = IsPlaceSound nl place × (gives v ≡ true) × IsSound nl v
+  IsSound nl (expr.chosen p c a b) = (gives c ≡ true) × IsSound nl c × (gives a ≡ true) × IsSound nl a × (gives b ≡ true) × IsSound nl b
+  IsSound nl (expr.converted p kind v) = (gives v ≡ true) × IsSound nl v
+  IsSound nl (expr.cast_of p v) = IsSound nl v
+  IsSound nl (expr.dropped p v) = IsSound nl v
+  IsSound nl (expr.called_row p n row vs) = AreSound nl vs
+  IsSound nl v = Unit {0}
+
+  pub IsPlaceSound : ℕ → expr.Place → Type 0
+  IsPlaceSound nl (expr.local_place p x) = x < nl
+  IsPlaceSound nl (expr.global_place p n) = Unit {0}
+  IsPlaceSound nl (expr.field_place p base tag field) = (gives base ≡ true) × IsSound nl base
+  IsPlaceSound nl expr.no_place = ⊥
+
+  pub AreSound : ℕ → expr.Values → Type 0
+  AreSound nl expr.no_values = Unit {0}
+  AreSound nl (expr.value_and v vs) = (gives v ≡ true) × IsSound nl v × AreSound nl vs
+
+abbrev pub IsWanted : ℕ → expr.Value → Type 0
+IsWanted nl v = (gives v ≡ true) × IsSound nl v
+
+abbrev pub IsOptionSound : ℕ → Option expr.Value → Type 0
+IsOptionSound nl None = Unit {0}
+IsOptionSound nl (Some v) = IsSound nl v
+
+abbrev pub IsOptionWanted : ℕ → Option expr.Value → Type 0
+IsOptionWanted nl None = Unit {0}
+IsOptionWanted nl (Some v) = IsWanted nl v
+
+abbrev pub AreReached : ℕ → List stmt.Reached → Type 0
+AreReached nl [] = Unit {0}
+AreReached nl (r ∷ rs) = (r.number < nl) × IsOptionWanted nl r.value × AreReached nl rs
+
+abbrev mutual
+  pub IsStmtSound : ℕ → stmt.Action → Type 0
+  IsStmtSound nl (stmt.block_of p ss q) = AreStmtsSound nl ss
+  IsStmtSound nl (stmt.reach p rs) = AreReached nl rs
+  IsStmtSound nl (stmt.evaluate p v) = IsOptionSound nl v
+  IsStmtSound nl (stmt.test p c a) = IsWanted nl c × IsStmtSound nl a
+  IsStmtSound nl (stmt.test_else p c a b) = IsWanted nl c × IsStmtSound nl a × IsStmtSound nl b
+  IsStmtSound nl (stmt.repeat_while p c a) = IsWanted nl c × IsStmtSound nl a
+  IsStmtSound nl (stmt.repeat_until p a c) = IsWanted nl c × IsStmtSound nl a
+  IsStmtSound nl (stmt.repeat_for p rs u c w a) = AreReached nl rs × IsOptionSound nl u × IsOptionWanted nl c × IsOptionSound nl w × IsStmtSound nl a
+  IsStmtSound nl (stmt.switch_on p v a) = IsWanted nl v × IsStmtSound nl a
+  IsStmtSound nl (stmt.at_case p n a) = IsStmtSound nl a
+  IsStmtSound nl (stmt.at_default p a) = IsStmtSound nl a
+  IsStmtSound nl (stmt.at_label p l a) = IsStmtSound nl a
+  IsStmtSound nl (stmt.give p v) = IsOptionWanted nl v
+  IsStmtSound nl a = Unit {0}
+
+  pub AreStmtsSound : ℕ → stmt.Actions → Type 0
+  AreStmtsSound nl stmt.no_actions = Unit {0}
+  AreStmtsSound nl (stmt.action_and a ss) = IsStmtSound nl a × AreStmtsSound nl ss
+
+-- ---- how many
+
+abbrev mutual
+  pub expr_nodes : expr.Value → ℕ
+  expr_nodes (expr.read p kind place) = place_nodes place + 1
+  expr_nodes (expr.inner p v) = expr_nodes v + 1
+  expr_nodes (expr.signed p m kind v) = expr_nodes v + 1
+  expr_nodes (expr.negated p v) = expr_nodes v + 1
+  expr_nodes (expr.stepped p behind m kind place) = place_nodes place + 1
+  expr_nodes (expr.computed p m kind a b) = expr_nodes a + expr_nodes b + 1
+  expr_nodes (expr.compared p m a b) = expr_nodes a + expr_nodes b + 1
+  expr_nodes (expr.joined_by p m a b) = expr_nodes a + expr_nodes b + 1
+  expr_nodes (expr.stored p kind place v) = place_nodes place + expr_nodes v + 1
+  expr_nodes (expr.updated p m counted kind place v) = place_nodes place + expr_nodes v + 1
+  expr_nodes (expr.chosen p c a b) = expr_nodes c + expr_nodes a + expr_nodes b + 1
+  expr_nodes (expr.converted p kind v) = expr_nodes v + 1
+  expr_nodes (expr.cast_of p v) = expr_nodes v + 1
+  expr_nodes (expr.dropped p v) = expr_nodes v + 1
+  expr_nodes (expr.called_row p n row vs) = values_nodes vs + 1
+  expr_nodes v = 1
+
+  pub place_nodes : expr.Place → ℕ
+  place_nodes (expr.field_place p base tag field) = expr_nodes base + 1
+  place_nodes place = 1
+
+  pub values_nodes : expr.Values → ℕ
+  values_nodes expr.no_values = 0
+  values_nodes (expr.value_and v vs) = expr_nodes v + values_nodes vs
+
+abbrev pub option_nodes : Option expr.Value → ℕ
+option_nodes None = 0
+option_nodes (Some v) = expr_nodes v
+
+abbrev pub reach_nodes : List stmt.Reached → ℕ
+reach_nodes [] = 0
+reach_nodes (r ∷ rs) = option_nodes r.value + 1 + reach_nodes rs
+
+abbrev mutual
+  pub stmt_nodes : stmt.Action → ℕ
+  stmt_nodes (stmt.block_of p ss q) = stmts_nodes ss + 1
+  stmt_nodes (stmt.reach p rs) = reach_nodes rs + 1
+  stmt_nodes (stmt.evaluate p v) = option_nodes v + 1
+  stmt_nodes (stmt.test p c a) = expr_nodes c + stmt_nodes a + 1
+  stmt_nodes (stmt.test_else p c a b) = expr_nodes c + stmt_nodes a + stmt_nodes b + 1
+  stmt_nodes (stmt.repeat_while p c a) = expr_nodes c + stmt_nodes a + 1
+  stmt_nodes (stmt.repeat_until p a c) = expr_nodes c + stmt_nodes a + 1
+  stmt_nodes (stmt.repeat_for p rs u c w a) = reach_nodes rs + option_nodes u + option_nodes c + option_nodes w + stmt_nodes a + 1
+  stmt_nodes (stmt.switch_on p v a) = expr_nodes v + stmt_nodes a + 1
+  stmt_nodes (stmt.at_case p n a) = stmt_nodes a + 1
+  stmt_nodes (stmt.at_default p a) = stmt_nodes a + 1
+  stmt_nodes (stmt.at_label p l a) = stmt_nodes a + 1
+  stmt_nodes (stmt.give p v) = option_nodes v + 1
+  stmt_nodes a = 1
+
+  pub stmts_nodes : stmt.Actions → ℕ
+  stmts_nodes stmt.no_actions = 0
+  stmts_nodes (stmt.action_and a ss) = stmt_nodes a + stmts_nodes ss

@@ -1,0 +1,3 @@
+-- Which temporaries are kept, and where none is.
+pub mod Liveness
+pub mod Boundaries

@@ -1,0 +1,9 @@
+-- A function in which no rule holds is of the kinds that it needs.
+pub mod Parts
+pub mod Operators
+pub mod Words
+pub mod Calls
+pub mod Exprs
+pub mod Locals
+pub mod Stmts
+pub mod Functions

@@ -1,0 +1,113 @@
+-- The kinds of values as the rules know them, and what follows for the tree.
+use Rattle.std.proofs.Common.{◌≡◌, ◌∙◌, ◌≤◌, inl, inr, arith, Bool, true, false, List, Option, Some, None, refl, sym}
+use Rattle.std.specs.Prelude.{◌&&◌, not, if◌then◌else◌}
+use Rattle.pungi_base.specs.declared.pos.Pos.{Pos}
+use Rattle.pungi_tree.specs.Syntax.{Item}
+use Rattle.pungi_api.specs.declared.param.Param.{Param}
+use Rattle.pungi_types.specs.declared.kind.ValueKind.{ValueKind}
+use Rattle.pungi_types.specs.declared.kind.ValueKind.TheVariants as kinds
+use Rattle.pungi_types.specs.Operators.{is_integer, fits, is_same_kind}
+use Rattle.pungi_resolve.specs.Exprs.{convert, convert_some}
+use Rattle.pungi_resolved.specs.Values.{Value, converted}
+use Rattle.pungi_meaning.specs.Values.{slot_kind}
+use Rattle.pungi_layout.specs.code.Temporaries.{column, value_column}
+use Rattle.pungi_layout.specs.kinds.Typed.{is_counted, is_kept, is_null, IsNumber, IsText, IsObject, GoesIn, IsTyped}
+use Rattle.pungi_layout.specs.code.Calls.{calls_none}
+use Rattle.pungi_layout.proofs.well_formed.Columns.{null_column}
+
+-- a value is of a kind that the rules know
+abbrev pub Kin : Option ValueKind → Value → Type 0
+Kin (Some kinds.Int) v = value_column v ≡ 0
+Kin (Some kinds.Long) v = value_column v ≤ 1
+Kin (Some kinds.Size) v = value_column v ≡ 2
+Kin (Some kinds.Text) v = IsText v
+Kin (Some (kinds.Object s)) v = IsObject v
+Kin (Some kinds.Null) v = is_null v ≡ true
+Kin _ v = Unit {0}
+
+pub kin_number : (k : Option ValueKind) (v : Value) → is_integer k ≡ true → Kin k v → IsNumber v
+kin_number (Some kinds.Int) v h g = omega (arith, g)
+kin_number (Some kinds.Long) v h g = omega (arith, g)
+kin_number (Some kinds.Size) v h g = omega (arith, g)
+kin_number _ v h g = absurd (cc)
+
+-- a value in the column of its kind
+pub kin_column : (k : ValueKind) (v : Value) → is_kept k ≡ true → value_column v ≡ column k → Kin (Some k) v
+kin_column kinds.Int v h e = e
+kin_column kinds.Long v h e = omega (arith, e)
+kin_column kinds.Size v h e = e
+kin_column kinds.Text v h e = inl e
+kin_column (kinds.Object s) v h e = e
+kin_column _ v h e = absurd (cc)
+
+pub kin_if : (c : Bool) (k : Option ValueKind) (v : Value) → Kin k v → Kin (if c then k else None) v
+kin_if true k v h = h
+kin_if false k v h = tt
+
+-- .. what may be assigned
+-- a place of this kind may hold a value
+abbrev pub GoesTo : Option ValueKind → Value → Type 0
+GoesTo None v = ⊥
+GoesTo (Some k) v = (is_kept k ≡ true) × GoesIn (slot_kind k) v
+
+pub fits_goes : (p : Pos) (to from : Option ValueKind) (v : Value) → fits to from ≡ true → Kin from v → GoesTo to (convert p to from v)
+fits_goes p (Some kinds.Int) (Some kinds.Int) v h g = (refl, g)
+fits_goes p (Some kinds.Int) (Some kinds.Long) v h g = (refl, refl)
+fits_goes p (Some kinds.Int) (Some kinds.Size) v h g = (refl, refl)
+fits_goes p (Some kinds.Long) (Some kinds.Int) v h g = (refl, omega arith)
+fits_goes p (Some kinds.Long) (Some kinds.Long) v h g = (refl, omega (arith, g))
+fits_goes p (Some kinds.Long) (Some kinds.Size) v h g = (refl, omega arith)
+fits_goes p (Some kinds.Size) (Some kinds.Int) v h g = (refl, omega arith)
+fits_goes p (Some kinds.Size) (Some kinds.Long) v h g = (refl, omega arith)
+fits_goes p (Some kinds.Size) (Some kinds.Size) v h g = (refl, omega (arith, g))
+fits_goes p (Some kinds.Text) (Some kinds.Text) v h g = (refl, g)
+fits_goes p (Some kinds.Text) (Some kinds.Null) v h g = (refl, inr g)
+fits_goes p (Some (kinds.Object s)) (Some (kinds.Object t)) v h g = (refl, g)
+fits_goes p (Some (kinds.Object s)) (Some kinds.Null) v h g = (refl, null_column v g)
+fits_goes p _ _ v h g = absurd (cc)
+
+module _ (file : List Item) (vars : List Param) where
+  -- a value that is typed and of its kind, where it calls no function of the file
+  pub record Typed (k : Option ValueKind) (v : Value) : Type 0 where
+    pub typed : calls_none v ≡ true → IsTyped file vars v
+    pub kin : calls_none v ≡ true → Kin k v
+
+  -- a value that goes to a place of this kind
+  pub record Going (to : Option ValueKind) (v : Value) : Type 0 where
+    pub typed : calls_none v ≡ true → IsTyped file vars v
+    pub goes : calls_none v ≡ true → GoesTo to v
+
+  converted_typed : (p : Pos) (k from : ValueKind) (v : Value) → is_counted k ≡ true → is_integer (Some from) ≡ true → Typed (Some from) v → calls_none v ≡ true → IsTyped file vars (converted p k v)
+  converted_typed p k from v c i t n = (c, kin_number (Some from) v i (t.kin n), t.typed n)
+
+  pub convert_typed : (p : Pos) (to from : Option ValueKind) (v : Value) → fits to from ≡ true → Typed from v → calls_none (convert p to from v) ≡ true → IsTyped file vars (convert p to from v)
+  convert_typed p (Some kinds.Int) (Some kinds.Int) v h t n = t.typed n
+  convert_typed p (Some kinds.Int) (Some kinds.Long) v h t n = converted_typed p kinds.Int kinds.Long v refl refl t n
+  convert_typed p (Some kinds.Int) (Some kinds.Size) v h t n = converted_typed p kinds.Int kinds.Size v refl refl t n
+  convert_typed p (Some kinds.Long) (Some kinds.Int) v h t n = converted_typed p kinds.Long kinds.Int v refl refl t n
+  convert_typed p (Some kinds.Long) (Some kinds.Long) v h t n = t.typed n
+  convert_typed p (Some kinds.Long) (Some kinds.Size) v h t n = converted_typed p kinds.Long kinds.Size v refl refl t n
+  convert_typed p (Some kinds.Size) (Some kinds.Int) v h t n = converted_typed p kinds.Size kinds.Int v refl refl t n
+  convert_typed p (Some kinds.Size) (Some kinds.Long) v h t n = converted_typed p kinds.Size kinds.Long v refl refl t n
+  convert_typed p (Some kinds.Size) (Some kinds.Size) v h t n = t.typed n
+  convert_typed p (Some kinds.Text) (Some kinds.Text) v h t n = t.typed n
+  convert_typed p (Some kinds.Text) (Some kinds.Null) v h t n = t.typed n
+  convert_typed p (Some (kinds.Object s)) (Some (kinds.Object u)) v h t n = t.typed n
+  convert_typed p (Some (kinds.Object s)) (Some kinds.Null) v h t n = t.typed n
+  convert_typed p _ _ v h t n = absurd (cc)
+
+  some_free : (p : Pos) (to : Option ValueKind) (v : Value) → calls_none (convert_some p to v) ≡ calls_none v
+  some_free p None v = refl
+  some_free p (Some k) v = refl
+
+  pub convert_free : (p : Pos) (to from : Option ValueKind) (v : Value) → calls_none (convert p to from v) ≡ calls_none v
+  convert_free p to from v = elim (is_integer to && (is_integer from && not (is_same_kind to from))) as (λ b. calls_none (if b then convert_some p to v else v) ≡ calls_none v) [
+    | true ↦ some_free p to v
+    | false ↦ refl
+  ]
+
+  pub convert_going : (p : Pos) (to from : Option ValueKind) (v : Value) → fits to from ≡ true → Typed from v → Going to (convert p to from v)
+  convert_going p to from v h t = record {
+    typed = λ n. convert_typed p to from v h t n;
+    goes = λ n. fits_goes p to from v h (t.kin (sym (convert_free p to from v) ∙ n));
+  }

@@ -1,0 +1,3 @@
+-- How many nodes and instructions the text of a function becomes.
+pub mod Exprs
+pub mod Stmts

@@ -1,0 +1,2 @@
+-- Reading expressions (C11 6.5).
+pub mod ExprReader

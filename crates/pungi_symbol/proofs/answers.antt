@@ -1,0 +1,9 @@
+-- What an answer leaves of a state.
+pub mod EachAnswer
+pub mod LaterMarks
+pub mod TakenOver
+pub mod Fits
+pub mod NextStates
+pub mod Reached
+pub mod SoundNotes
+pub mod SameObject

@@ -1,7 +1,0 @@
-use Rattle.std.proofs.Common.{◌≡◌, ℕ, ◌<◌}
-use Rattle.pungi_symbol.specs.State.{balance}
-use Rattle.pungi_symbol.specs.Runs.{wanted}
-use Rattle.pungi_symbol.proofs.level.off_level.Given as goal
-
-abbrev pub invariant-loop-t : goal.invariant-loop-t
-invariant-loop-t l = (k : ℕ) → k < l.t → balance l.state.balances k ≡ wanted l.state l.fn.x k

@@ -1,0 +1,7 @@
+-- Whole runs and paths, from the start of a function to its return.
+pub mod Ranges
+pub mod Canon
+pub mod Starts
+pub mod Paths
+pub mod RunsOfPaths
+pub mod Returns

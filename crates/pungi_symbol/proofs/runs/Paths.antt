@@ -1,0 +1,190 @@
+-- Whole runs and paths: forward and back.
+use Rattle.std.proofs.Common.{◌≡◌, ℕ, zero, suc, ◌+◌, ◌<◌, List, [], ◌∷◌, Bool, true, false, refl, sym, ap, ◌∙◌, subst, arith, inl, inr, Option, None, Some, cond}
+use Rattle.std.specs.Prelude.{slice_get}
+use Rattle.pungi_base.specs.declared.choice.Choice.{Choice}
+use Rattle.pungi_base.specs.declared.pos.Pos.{Pos}
+use Rattle.pungi_base.specs.declared.value.Value.{Value}
+use Rattle.pungi_code.specs.declared.code.Line.{Line}
+use Rattle.pungi_code.specs.declared.registers.After.TheVariants as after
+use Rattle.pungi_code.specs.Registers.{Regs}
+use Rattle.pungi_symbol.specs.declared.answers.decision.Decision.{Decision}
+use Rattle.pungi_symbol.specs.declared.states.known.Status.TheVariants as status
+use Rattle.pungi_symbol.specs.declared.questions.question.Question.{Question}
+use Rattle.pungi_symbol.specs.declared.questions.question.Question.TheVariants.{Does, Touches, Overwrites, Null as AsksNull, Base, Answers, Same, Returns, Stops, Over}
+use Rattle.pungi_symbol.specs.declared.states.state.State.{State}
+use Rattle.pungi_symbol.specs.states.Terms.{Table}
+use Rattle.pungi_symbol.specs.runs.Fits.{FitsState, IsSound}
+use Rattle.pungi_symbol.specs.runs.ObjectForm.{is_there}
+use Rattle.pungi_symbol.specs.runs.RunInState.{answer, Lies}
+use Rattle.std.specs.Prelude.{nat_lt}
+use Rattle.std.specs.List.{list_all}
+use Rattle.pungi_base.specs.declared.entry.Entry.{Entry}
+use Rattle.pungi_meaning.specs.Run as run
+use Rattle.pungi_code.specs.declared.code.Code.{Code}
+use Rattle.pungi_code.specs.Run.{exec, start}
+use Rattle.pungi_code.specs.Machine.{Reaches}
+use Rattle.pungi_symbol.specs.declared.states.known.Status.{Status}
+use Rattle.pungi_symbol.specs.questions.NextQuestion.{ask, ask_line, ask_while}
+use Rattle.pungi_symbol.specs.answers.KnownAfter.{go, instr_of}
+use Rattle.pungi_symbol.specs.answers.SymbolicState.{can, apply, apply_same, are_one, merge, class}
+use Rattle.pungi_symbol.specs.runs.ObjectForm.{is_told_here, atoms_of}
+use Rattle.pungi_symbol.specs.runs.Paths.{table_of, arguments, known_at, start_state, Asked, asked_here, asked_on, Path, path_here, path_on, run_for, IsAt, Meets, returned_value}
+use Rattle.pungi_symbol.specs.runs.OneInstruction.{led_at}
+use Rattle.pungi_symbol.proofs.steps.OneInstruction.{exec_step}
+use Rattle.pungi_symbol.proofs.steps.RunInState.{stays, goes_on, leaves, halts, effort, Linked}
+use Rattle.pungi_symbol.proofs.steps.StepForward.{AreObjectLines, going_ask, moves, two_true}
+use Rattle.pungi_symbol.proofs.steps.Questions.{IsAsked, asked_line}
+use Rattle.pungi_symbol.proofs.steps.SoundAfter.{apply_sound}
+use Rattle.pungi_symbol.proofs.steps.StepBack.{apply_back}
+
+going_by : (s : State) (q : Question) (d : Decision) (z : Status) → can s (ask_while z q) d ≡ true → z ≡ status.Going
+going_by s q d status.Going c = refl
+going_by s q d (status.Returned p x) c = absurd (let bad : false ≡ true = c in cc)
+going_by s q d (status.Stopped p) c = absurd (let bad : false ≡ true = c in cc)
+
+pub can_going : (code : List Line) (s : State) (d : Decision) → can s (ask code s.known) d ≡ true → s.known.status ≡ status.Going
+can_going code s d c = going_by s (ask_line s.known (slice_get code s.known.pc)) d s.known.status c
+
+merged_statics : (b : Bool) (c d : ℕ) (s : State) → (cond b (merge d c s) (merge c d s)).statics ≡ s.statics
+merged_statics true c d s = refl
+merged_statics false c d s = refl
+
+same_statics : (one b : Bool) (t u : ℕ) (s : State) → (apply_same one b t u s).statics ≡ s.statics
+same_statics true true t u s = refl
+same_statics false true t u s = merged_statics (nat_lt (class s.classes u) (class s.classes t)) (class s.classes t) (class s.classes u) s
+same_statics true false t u s = refl
+same_statics false false t u s = refl
+
+pub apply_statics : (o : Option Line) (q : Question) (d : Decision) (s : State) → (apply o q d s).statics ≡ s.statics
+apply_statics o (Does d') d s = refl
+apply_statics o (Touches r) d s = refl
+apply_statics o (Overwrites r) d s = refl
+apply_statics o (AsksNull t) d s = refl
+apply_statics o (Base t u j) d s = same_statics (are_one s.classes t u) _ t u s
+apply_statics o (Answers a) d s = refl
+apply_statics o (Same t u) d s = same_statics (are_one s.classes t u) _ t u s
+apply_statics o (Returns x) d s = refl
+apply_statics o (Stops d') d s = refl
+apply_statics o Over d s = refl
+
+module _ (code : List Line) (n : ℕ) (form : AreObjectLines n code) where
+  line_form : (pc : ℕ) (line : Line) → slice_get code pc ≡ Some line → list_all (is_there n) (atoms_of line.instr) ≡ true
+  line_form pc line e = (two_true (is_told_here line.instr) (list_all (is_there n) (atoms_of line.instr)) (form pc line e)).1
+
+  instr_form : (o : Option Line) → ((line : Line) → o ≡ Some line → list_all (is_there n) (atoms_of line.instr) ≡ true) → list_all (is_there n) (atoms_of (instr_of o)) ≡ true
+  instr_form None h = refl
+  instr_form (Some line) h = h line refl
+
+  module _ (s : State) (w : IsSound s) (same : s.statics ≡ n) where
+    there : list_all (is_there s.statics) (atoms_of (instr_of (slice_get code s.known.pc))) ≡ true
+    there = subst (λ z. list_all (is_there z) (atoms_of (instr_of (slice_get code s.known.pc))) ≡ true) (sym same) (instr_form (slice_get code s.known.pc) (λ line e. line_form s.known.pc line e))
+
+    pub asked_at : (d : Decision) → can s (ask code s.known) d ≡ true → IsAsked (instr_of (slice_get code s.known.pc)) s.known (ask code s.known)
+    asked_at d c = subst (IsAsked (instr_of (slice_get code s.known.pc)) s.known) (sym (going_ask code s.known (can_going code s d c)))
+        (asked_line s w (slice_get code s.known.pc) (λ line e. subst (λ z. list_all (is_there z) (atoms_of line.instr) ≡ true) (sym same) (line_form s.known.pc line e)))
+
+    pub step_sound : (d : Decision) → can s (ask code s.known) d ≡ true → IsSound (apply (slice_get code s.known.pc) (ask code s.known) d s)
+    step_sound d c = apply_sound s w (slice_get code s.known.pc) (ask code s.known) d there (asked_at d c) c
+
+    pub step_back : (table : Table) (d : Decision) → can s (ask code s.known) d ≡ true → FitsState table (apply (slice_get code s.known.pc) (ask code s.known) d s) → FitsState table s × (answer table s.known (ask code s.known) ≡ d)
+    step_back table d c f = apply_back table s w (slice_get code s.known.pc) (ask code s.known) d (asked_at d c) c f
+
+  -- ---- paths
+
+  module _ (first : State) (w : IsSound first) (same : first.statics ≡ n) where
+    pub path_sound : (ds : List Decision) (s : State) → Path code first ds s → IsSound s × (s.statics ≡ n)
+    path_sound ds s path_here = (w, same)
+    path_sound _ _ (path_on ds s d p c) =
+        let r = path_sound ds s p in
+        (step_sound s r.0 r.1 d c, apply_statics (slice_get code s.known.pc) (ask code s.known) d s ∙ r.1)
+
+    -- values of the tokens that fit the last state fit the first, and the path is the trace by them
+    pub path_fits : (table : Table) (ds : List Decision) (s : State) → Path code first ds s → FitsState table s → FitsState table first × Asked code table first.known ds s.known
+    path_fits table ds s path_here f = (f, asked_here)
+    path_fits table _ _ (path_on ds s d p c) f =
+        let r = path_sound ds s p in
+        let b = step_back s r.0 r.1 table d c f in
+        let before = path_fits table ds s p b.0 in
+        (before.0, subst (λ z. Asked code table first.known (z ∷ ds) (go (slice_get code s.known.pc) s.known (ask code s.known) z)) b.1 (asked_on ds s.known before.1 (can_going code s d c)))
+
+-- ---- runs
+
+pub data Arrived (code : Code) (statics f : ℕ) (entry : Entry) (choices : List Choice) (n : ℕ) : Type 0 where
+  wants_one : ((fuel : ℕ) → run_for code entry choices (n + fuel) ≡ run.NeedsChoice) → Arrived code statics f entry choices n
+  meets_one : (ds : List Decision) (s : State) → Meets statics f code entry choices n ds s → Arrived code statics f entry choices n
+
+module _ (code : Code) (statics f : ℕ) (form : AreObjectLines statics code.instrs) (entry : Entry) (choices : List Choice) (sound : IsSound (start_state statics f code))
+    (linked : Linked (table_of statics entry choices) (statics + arguments code) choices)
+    (started : Lies code.instrs (table_of statics entry choices) (statics + arguments code) (start code entry) (start_state statics f code)) where
+  abbrev pub T : Table
+  T = table_of statics entry choices
+
+  abbrev pub B : ℕ
+  B = statics + arguments code
+
+  abbrev pub At : ℕ → Regs → ℕ → Status → Type 0
+  At n m pc z = IsAt code entry choices n T m pc z
+
+  -- one more instruction
+  abbrev pub Going : ℕ → Regs → ℕ → Type 0
+  Going n m pc = (fuel : ℕ) → run_for code entry choices (n + fuel) ≡ (exec choices code.instrs fuel pc m).end
+
+  more : (n fuel : ℕ) → run_for code entry choices ((n + 1) + fuel) ≡ run_for code entry choices (n + suc fuel)
+  more n fuel = ap (run_for code entry choices) (omega arith)
+
+  on : (n : ℕ) (m : Regs) (pc fuel : ℕ) → Going n m pc → run_for code entry choices ((n + 1) + fuel) ≡ (Reaches (exec choices code.instrs fuel) (led_at choices code.instrs pc m).0 (led_at choices code.instrs pc m).1).end
+  on n m pc fuel g = more n fuel ∙ g (suc fuel) ∙ exec_step choices code.instrs fuel pc m
+
+  pub goes_at : (n : ℕ) (m m' : Regs) (pc pc' : ℕ) → Going n m pc → led_at choices code.instrs pc m ≡ (after.Goes pc', m') → Going (n + 1) m' pc'
+  goes_at n m m' pc pc' g e fuel = on n m pc fuel g ∙ ap (λ r. (Reaches (exec choices code.instrs fuel) r.0 r.1).end) e
+
+  wants_at : (n : ℕ) (m m' : Regs) (pc : ℕ) → Going n m pc → led_at choices code.instrs pc m ≡ (after.Wants, m') → (fuel : ℕ) → run_for code entry choices ((n + 1) + fuel) ≡ run.NeedsChoice
+  wants_at n m m' pc g e fuel = on n m pc fuel g ∙ ap (λ r. (Reaches (exec choices code.instrs fuel) r.0 r.1).end) e
+
+  pub leaves_at : (n : ℕ) (m m' : Regs) (pc : ℕ) (p : Pos) (v : Option Value) → Going n m pc → led_at choices code.instrs pc m ≡ (after.Leaves p v, m') → (fuel : ℕ) → run_for code entry choices ((n + 1) + fuel) ≡ run.Returned m'.world v p m'.used
+  leaves_at n m m' pc p v g e fuel = on n m pc fuel g ∙ ap (λ r. (Reaches (exec choices code.instrs fuel) r.0 r.1).end) e
+
+  pub halts_at : (n : ℕ) (m m' : Regs) (pc : ℕ) (p : Pos) → Going n m pc → led_at choices code.instrs pc m ≡ (after.Stops p, m') → (fuel : ℕ) → run_for code entry choices ((n + 1) + fuel) ≡ run.Stopped p
+  halts_at n m m' pc p g e fuel = on n m pc fuel g ∙ ap (λ r. (Reaches (exec choices code.instrs fuel) r.0 r.1).end) e
+
+  pub at_status : (n : ℕ) (m : Regs) (pc : ℕ) (z z' : Status) → z ≡ z' → At n m pc z' → At n m pc z
+  at_status n m pc z z' e h = subst (At n m pc) (sym e) h
+
+  -- the questions of an instruction are asked until it is done
+  settle : (e n : ℕ) (ds : List Decision) (s : State) (m : Regs) → effort s.known < e → Path code.instrs (start_state statics f code) ds s → Asked code.instrs T (known_at statics f code) ds s.known → Lies code.instrs T B m s
+      → s.known.status ≡ status.Going → Going n m s.known.pc → Arrived code statics f entry choices (n + 1)
+  settle zero n ds s m less p a l going g = absurd (omega (arith, less))
+  settle (suc e) n ds s m less p a l going g =
+      let r = path_sound code.instrs statics form (start_state statics f code) sound refl ds s p in
+      let q = ask code.instrs s.known in
+      let d = answer T s.known q in
+      let s' = apply (slice_get code.instrs s.known.pc) q d s in
+      elim (moves choices code.instrs T B m s going r.0 l linked (subst (λ z. AreObjectLines z code.instrs) (sym r.1) form)) [
+        | inl w ↦ wants_one (wants_at n m w.0 s.known.pc g w.1)
+        | inr mv ↦
+            let p' : Path code.instrs (start_state statics f code) (d ∷ ds) s' = path_on ds s d p mv.0 in
+            let a' : Asked code.instrs T (known_at statics f code) (d ∷ ds) s'.known = asked_on ds s.known a going in
+            elim (mv.1) [
+              | stays pc going' less' l' ↦ settle e n (d ∷ ds) s' m (omega (arith, less, less')) p' a' l' going' (subst (Going n m) (sym pc) g)
+              | goes_on m' many e' going' l' ↦ meets_one (d ∷ ds) s' (record { path = p'; asked = a'; m = m'; lies = l'; is_at = at_status (n + 1) m' s'.known.pc s'.known.status status.Going going' (goes_at n m m' s.known.pc s'.known.pc g e') })
+              | leaves p0 x e0 e' l' ↦ meets_one (d ∷ ds) s' (record { path = p'; asked = a'; m = m; lies = l'; is_at = at_status (n + 1) m s'.known.pc s'.known.status (status.Returned p0 x) e0 (leaves_at n m m s.known.pc p0 (returned_value T x) g e') })
+              | halts p0 m' e0 e' l' ↦ meets_one (d ∷ ds) s' (record { path = p'; asked = a'; m = m; lies = l'; is_at = at_status (n + 1) m s'.known.pc s'.known.status (status.Stopped p0) e0 (halts_at n m m' s.known.pc p0 g e') })
+            ]
+      ]
+
+  one_more : (n : ℕ) (ds : List Decision) (s : State) (z : Status) → s.known.status ≡ z → Meets statics f code entry choices n ds s → Arrived code statics f entry choices (n + 1)
+  one_more n ds s status.Going e r = settle (effort s.known + 1) n ds s r.m (omega arith) r.path r.asked r.lies e (subst (At n r.m s.known.pc) e r.is_at)
+  one_more n ds s (status.Returned p0 x) e r =
+      let h : At n r.m s.known.pc (status.Returned p0 x) = subst (At n r.m s.known.pc) e r.is_at in
+      meets_one ds s (record { path = r.path; asked = r.asked; m = r.m; lies = r.lies; is_at = at_status (n + 1) r.m s.known.pc s.known.status (status.Returned p0 x) e (λ fuel. more n fuel ∙ h (suc fuel)) })
+  one_more n ds s (status.Stopped p0) e r =
+      let h : At n r.m s.known.pc (status.Stopped p0) = subst (At n r.m s.known.pc) e r.is_at in
+      meets_one ds s (record { path = r.path; asked = r.asked; m = r.m; lies = r.lies; is_at = at_status (n + 1) r.m s.known.pc s.known.status (status.Stopped p0) e (λ fuel. more n fuel ∙ h (suc fuel)) })
+
+  -- each run is on a path with its trace
+  pub arrives_at : (n : ℕ) → Arrived code statics f entry choices n
+  arrives_at zero = meets_one [] (start_state statics f code) (record { path = path_here; asked = asked_here; m = start code entry; lies = started; is_at = λ fuel. ap (run_for code entry choices) (omega arith) })
+  arrives_at (suc n) = elim (arrives_at n) [
+    | wants_one h ↦ wants_one (λ fuel. ap (run_for code entry choices) (omega arith) ∙ h (suc fuel))
+    | meets_one ds s r ↦ subst (Arrived code statics f entry choices) (omega arith) (one_more n ds s s.known.status refl r)
+  ]

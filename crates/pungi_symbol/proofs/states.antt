@@ -1,0 +1,6 @@
+-- Terms, tokens and balances, by themselves and after a change.
+pub mod Contents
+pub mod Terms
+pub mod NamedObjects
+pub mod Claims
+pub mod Owed

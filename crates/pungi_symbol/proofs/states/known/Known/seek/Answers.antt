@@ -1,0 +1,10 @@
+use Rattle.std.proofs.Common.{sym, ap, ◌∙◌}
+use Rattle.std.specs.Prelude.{position}
+use Rattle.pungi_symbol.specs.states.Known.{is_global, at_place, find}
+use Rattle.pungi_symbol.proofs.states.known.Known.seek.Goals as goal
+
+pub returns-in_ok-finding_at-in-Global : goal.returns-in_ok-finding_at-in-Global
+returns-in_ok-finding_at-in-Global c =
+    c.in_ok-finding_at-in-Global.ensures
+    ∙ ap at_place (c.first_global.ensures ∙ ap (position (λ s. is_global c.in-Global.name s.spot)) c.as_slice.ensures)
+    ∙ sym (ap (find c.args.self.now) c.in-Global.is)

@@ -1,0 +1,327 @@
+-- A sound state stays sound after an answer.
+use Rattle.std.proofs.Common.{◌≡◌, ℕ, ◌+◌, ◌<◌, ℤ, pos, negsuc, List, [], ◌∷◌, ◌++◌, length, Bool, true, false, refl, sym, subst, arith, Option, None, Some}
+use Rattle.std.specs.Prelude.{slice_set}
+use Rattle.pungi_code.specs.declared.atom.Atom.{Atom}
+use Rattle.pungi_code.specs.declared.atom.Var.{Var}
+use Rattle.pungi_code.specs.declared.code.Line.{Line}
+use Rattle.pungi_code.specs.declared.instr.Instr.{Instr}
+use Rattle.pungi_symbol.specs.declared.answers.decision.Decision.{Decision}
+use Rattle.pungi_symbol.specs.declared.answers.decision.Decision.TheVariants.{Quiet, Outcome, Order, Same as IsSame}
+use Rattle.pungi_symbol.specs.declared.states.known.Known.{Known}
+use Rattle.pungi_symbol.specs.declared.states.mark.Mark.{Mark}
+use Rattle.pungi_symbol.specs.declared.states.mark.Mark.TheVariants.{Pointer, TextPointer, IsNull, IsObject, IsText, IsNumber}
+use Rattle.pungi_symbol.specs.declared.questions.question.Question.{Question}
+use Rattle.pungi_symbol.specs.declared.questions.question.Question.TheVariants.{Does, Touches, Overwrites, Null as AsksNull, Base, Answers, Same, Returns, Stops, Over}
+use Rattle.pungi_symbol.specs.declared.states.state.State.{State}
+use Rattle.pungi_symbol.specs.declared.states.term.Term.{Term}
+use Rattle.pungi_symbol.specs.declared.states.term.Term.TheVariants.{Unset, Number, Token}
+use Rattle.pungi_symbol.specs.states.Terms.{value_of_mark}
+use Rattle.pungi_symbol.specs.runs.Fits.{IsBelow, IsSound}
+use Rattle.pungi_symbol.specs.runs.ObjectForm.{is_there}
+use Rattle.std.specs.List.{list_all}
+use Rattle.std.proofs.Common.{length-append}
+use Rattle.pungi_api.specs.declared.answer.Answer.{Answer}
+use Rattle.pungi_api.specs.declared.answer.Answer.TheVariants as answer
+use Rattle.pungi_api.specs.declared.row.Form.{Form}
+use Rattle.pungi_api.specs.declared.row.Form.TheVariants as form
+use Rattle.pungi_api.specs.declared.shape.Shape.{Shape}
+use Rattle.pungi_api.specs.declared.special.Special.{Special}
+use Rattle.pungi_api.specs.declared.special.Special.TheVariants as special
+use Rattle.pungi_world.specs.Calls.{is_success}
+use Rattle.pungi_code.specs.declared.instr.Instr.TheVariants.{Set, Arith, Fit, Compare, Load, Store, Api, Call, Unset as Forget, Jump, Branch, Return, Fall}
+use Rattle.pungi_symbol.specs.states.Known.{count, mark, term_of, object_of, find, found_at, held_in, spot_of}
+use Rattle.pungi_symbol.specs.states.Terms.{outcomes_of_mark, outcomes_of_answer, mark_at}
+use Rattle.pungi_symbol.specs.questions.NextQuestion.{first_term, terms_of}
+use Rattle.pungi_symbol.specs.answers.KnownAfter.{next, put as put_known, arrive, answered, form_answer, row_answer, special_answer, term_with, does, load_first, store_first, touched_slot, compared_var, compared, instr_of, api_var, is_same, outcome}
+use Rattle.pungi_symbol.specs.answers.SymbolicState.{can, can_same, are_one, apply, apply_same, weigh, form_weigh, special_weigh, lowered, taken, taken_by, add_term, one_for, new_balance, stored_term, joined, answers}
+use Rattle.pungi_symbol.specs.runs.ObjectForm.{atoms_of, atoms_in}
+use Rattle.pungi_symbol.specs.runs.Fits.{AreNotesSound, AreTermsSound}
+use Rattle.pungi_symbol.proofs.states.Terms.{below_more, put_terms, stored_terms, touched_terms, more_terms, null_terms, spot_more, atom_below, object_is_below, open_below}
+use Rattle.pungi_symbol.proofs.answers.SoundNotes.{IsObjectIn, added_sound, null_sound, arrived_sound}
+use Rattle.pungi_symbol.proofs.answers.SameObject.{way_is, way_sound}
+use Rattle.pungi_symbol.proofs.steps.Comparisons.{an_object, no_object, objected, way_statics}
+use Rattle.pungi_symbol.proofs.steps.Questions.{IsAsked, SpotOk}
+use Rattle.pungi_symbol.proofs.steps.Rows.{all_there}
+
+object_in : (k : Known) (x : Term) → IsObjectIn k.marks (object_of k x)
+object_in k x = elim (objected k x) [
+  | an_object t e m o ↦ subst (IsObjectIn k.marks) (sym o) (object_is_below k.marks t m, m)
+  | no_object o h ↦ subst (IsObjectIn k.marks) (sym o) tt
+]
+
+abbrev pub OptionBelow : ℕ → Option Term → Type 0
+OptionBelow n None = Unit {0}
+OptionBelow n (Some x) = IsBelow n x
+
+first_below : (n : ℕ) (k : Known) (as' : List Atom) → ((a : Atom) → is_there n a ≡ true → IsBelow (count k) (term_of k a)) → list_all (is_there n) as' ≡ true → IsBelow (count k) (first_term (terms_of k as'))
+first_below n k [] f h = tt
+first_below n k (a ∷ as') f h = f a (all_there n a as' h).0
+
+row_below : (n : ℕ) (a : Answer) → OptionBelow n (row_answer a)
+row_below n answer.Void = tt
+row_below n answer.Null = tt
+row_below n answer.New = tt
+row_below n answer.Borrowed = tt
+row_below n answer.BorrowedSure = tt
+row_below n answer.Status = tt
+row_below n answer.Truth = tt
+row_below n answer.Size = tt
+row_below n answer.Int = tt
+row_below n answer.Long = tt
+row_below n answer.Text = tt
+
+special_below : (n : ℕ) (sp : Special) (x : Term) → IsBelow n x → OptionBelow n (special_answer sp x)
+special_below n special.IncRef x h = tt
+special_below n special.DecRef x h = tt
+special_below n special.XIncRef x h = tt
+special_below n special.XDecRef x h = tt
+special_below n special.NewRef x h = h
+special_below n special.XNewRef x h = h
+special_below n special.Clear x h = tt
+special_below n special.ObjectNew x h = tt
+special_below n special.TuplePack x h = tt
+special_below n special.CallFunctionObjArgs x h = tt
+special_below n special.ErrFormat x h = tt
+special_below n special.ParseTuple x h = tt
+special_below n special.UnpackTuple x h = tt
+special_below n special.DictNext x h = tt
+special_below n special.BuildValue x h = tt
+
+form_below : (n : ℕ) (f : Form) (a : Answer) (x : Term) → IsBelow n x → OptionBelow n (form_answer f a x)
+form_below n form.Plain a x h = row_below n a
+form_below n (form.Special sp) a x h = special_below n sp x h
+
+term_with_below : (r : Mark) (n : ℕ) → IsBelow (n + 1) (term_with r n)
+term_with_below Pointer n = omega arith
+term_with_below TextPointer n = omega arith
+term_with_below IsNull n = tt
+term_with_below IsObject n = omega arith
+term_with_below IsText n = tt
+term_with_below (IsNumber i) n = tt
+
+zero_one : (r : Mark) → (r ≡ IsObject → ⊥) → one_for r ≡ pos 0
+zero_one Pointer h = refl
+zero_one TextPointer h = refl
+zero_one IsNull h = refl
+zero_one IsObject h = absurd (h refl)
+zero_one IsText h = refl
+zero_one (IsNumber i) h = refl
+
+zero_new : (a : Answer) (r : Mark) → (r ≡ IsObject → ⊥) → new_balance a r ≡ pos 0
+zero_new answer.New r h = zero_one r h
+zero_new answer.Borrowed r h = refl
+zero_new answer.BorrowedSure r h = refl
+zero_new answer.Status r h = refl
+zero_new answer.Truth r h = refl
+zero_new answer.Size r h = refl
+zero_new answer.Int r h = refl
+zero_new answer.Long r h = refl
+zero_new answer.Text r h = refl
+zero_new answer.Void r h = refl
+zero_new answer.Null r h = refl
+
+compared_below : (n : ℕ) (b : Bool) (i : Instr) → IsBelow n (compared b i)
+compared_below n b (Set x a) = tt
+compared_below n b (Arith x kind o a c) = tt
+compared_below n b (Fit x kind a) = tt
+compared_below n b (Compare x c a d) = tt
+compared_below n b (Load x place) = tt
+compared_below n b (Store place a) = tt
+compared_below n b (Api x shape as' outs) = tt
+compared_below n b (Call x f as') = tt
+compared_below n b (Forget x) = tt
+compared_below n b (Jump to) = tt
+compared_below n b (Branch a this other) = tt
+compared_below n b (Return o) = tt
+compared_below n b Fall = tt
+
+-- a variable gets an answer
+answered_terms : (k : Known) (x : Option Var) (o : Option Term) → AreTermsSound k.marks k.vars k.slots → OptionBelow (count k) o → AreTermsSound (next (answered x o k)).marks (next (answered x o k)).vars (next (answered x o k)).slots
+answered_terms k None o t h = t
+answered_terms k (Some x) None t h = t
+answered_terms k (Some x) (Some c) t h = put_terms k.marks k.vars k.slots t x.0 c h
+
+pub answered_marks : (k : Known) (x : Option Var) (o : Option Term) → (next (answered x o k)).marks ≡ k.marks
+answered_marks k None o = refl
+answered_marks k (Some x) None = refl
+answered_marks k (Some x) (Some c) = refl
+
+module _ (s : State) (w : IsSound s) where
+  abbrev T : AreTermsSound s.known.marks s.known.vars s.known.slots
+  T = w.terms
+
+  abbrev pub SoundBalances : List ℤ → Type 0
+  SoundBalances bs = AreNotesSound s.statics s.known.marks s.classes bs s.others
+
+  added : (x : Term) (d : ℤ) (bs : List ℤ) → SoundBalances bs → SoundBalances (add_term s.classes s.known x d bs)
+  added x d bs h = added_sound s.statics s.known.marks s.classes bs s.others h (object_of s.known x) d (object_in s.known x)
+
+  lowers : (xs : List Term) (bs : List ℤ) → SoundBalances bs → SoundBalances (lowered s.classes s.known xs bs)
+  lowers [] bs h = h
+  lowers (x ∷ xs) bs h = lowers xs (add_term s.classes s.known x (negsuc 0) bs) (added x (negsuc 0) bs h)
+
+  special_weighs : (sp : Special) (x : Term) → SoundBalances (special_weigh s.classes s.known sp x s.balances)
+  special_weighs special.IncRef x = added x (pos 1) s.balances w.notes
+  special_weighs special.DecRef x = added x (negsuc 0) s.balances w.notes
+  special_weighs special.XIncRef x = added x (pos 1) s.balances w.notes
+  special_weighs special.XDecRef x = added x (negsuc 0) s.balances w.notes
+  special_weighs special.NewRef x = added x (pos 1) s.balances w.notes
+  special_weighs special.XNewRef x = added x (pos 1) s.balances w.notes
+  special_weighs special.Clear x = w.notes
+  special_weighs special.ObjectNew x = w.notes
+  special_weighs special.TuplePack x = w.notes
+  special_weighs special.CallFunctionObjArgs x = w.notes
+  special_weighs special.ErrFormat x = w.notes
+  special_weighs special.ParseTuple x = w.notes
+  special_weighs special.UnpackTuple x = w.notes
+  special_weighs special.DictNext x = w.notes
+  special_weighs special.BuildValue x = w.notes
+
+  form_weighs : (f : Form) (shape : Shape) (xs : List Term) → SoundBalances (form_weigh s.classes s.known f shape xs s.balances)
+  form_weighs form.Plain shape xs = lowers (taken false shape.row.takes xs) s.balances w.notes
+  form_weighs (form.Special sp) shape xs = special_weighs sp (first_term xs)
+
+  atom_is_below : (a : Atom) → is_there s.statics a ≡ true → IsBelow (count s.known) (term_of s.known a)
+  atom_is_below a h = atom_below s.known.marks s.known.vars s.known.slots T s.known s.statics a refl w.notes.statics h
+
+  put_sound : (x : Var) (c : Term) → IsBelow (count s.known) c → IsSound (record s { known = next (put_known x.0 c s.known) })
+  put_sound x c h = record { terms = put_terms s.known.marks s.known.vars s.known.slots T x.0 c h; notes = w.notes }
+
+  one_there : (a : Atom) → list_all (is_there s.statics) (a ∷ []) ≡ true → is_there s.statics a ≡ true
+  one_there a h = (all_there s.statics a [] h).0
+
+  does_sound : (i : Instr) → list_all (is_there s.statics) (atoms_of i) ≡ true → IsSound (record s { balances = weigh s.classes s.known i s.balances; known = does s.known i })
+  does_sound (Set x a) h = put_sound x (term_of s.known a) (atom_is_below a (one_there a h))
+  does_sound (Arith x kind o a b) h = put_sound x (Number _) tt
+  does_sound (Fit x kind a) h = put_sound x (Number _) tt
+  does_sound (Compare x c a b) h = put_sound x (Number _) tt
+  does_sound (Load x place) h = put_sound x (held_in s.known (find s.known place)) (T.held (found_at (find s.known place)))
+  does_sound (Store place a) h = record {
+    terms = stored_terms s.known.marks s.known.vars s.known.slots T (found_at (find s.known place)) (term_of s.known a) (atom_is_below a (all_there s.statics a (atoms_in place) h).0);
+    notes = added (term_of s.known a) (negsuc 0) _ (added (held_in s.known (find s.known place)) (pos 1) s.balances w.notes);
+  }
+  does_sound (Api x shape as' outs) h =
+      let o = form_answer shape.row.form shape.row.answer (first_term (terms_of s.known as')) in
+      record {
+        terms = answered_terms s.known x o T (form_below (count s.known) shape.row.form shape.row.answer (first_term (terms_of s.known as')) (first_below s.statics s.known as' atom_is_below h));
+        notes = subst (λ ms. AreNotesSound s.statics ms s.classes (form_weigh s.classes s.known shape.row.form shape (terms_of s.known as') s.balances) s.others) (sym (answered_marks s.known x o)) (form_weighs shape.row.form shape (terms_of s.known as'));
+      }
+  does_sound (Call x f as') h = w
+  does_sound (Forget x) h = put_sound x Unset tt
+  does_sound (Jump to) h = record { terms = T; notes = w.notes }
+  does_sound (Branch a this other) h = record { terms = T; notes = w.notes }
+  does_sound (Return o) h = w
+  does_sound Fall h = w
+
+  does_line : (o : Option Line) → list_all (is_there s.statics) (atoms_of (instr_of o)) ≡ true → (d d' : Decision) → IsSound (apply o (Does d') d s)
+  does_line None h d d' = w
+  does_line (Some line) h d d' = does_sound line.instr h
+
+  arrived_terms : (r : Mark) → AreTermsSound (s.known.marks ++ r ∷ []) s.known.vars s.known.slots
+  arrived_terms r = more_terms s.known.marks s.known.vars s.known.slots T r
+
+  last_below : (r : Mark) → count s.known < length (s.known.marks ++ r ∷ [])
+  last_below r = let e = length-append s.known.marks (r ∷ []) in omega (arith, e)
+
+  arrived_below : (r : Mark) (x : Term) → IsBelow (count s.known) x → IsBelow (length (s.known.marks ++ r ∷ [])) x
+  arrived_below r x h = below_more (count s.known) (length (s.known.marks ++ r ∷ [])) x (let e = last_below r in omega (arith, e)) h
+
+  new_notes : (r : Mark) (d : ℤ) (bs : List ℤ) → SoundBalances bs → ((r ≡ IsObject → ⊥) → d ≡ pos 0) → AreNotesSound s.statics (s.known.marks ++ r ∷ []) (s.classes ++ count s.known ∷ []) (bs ++ d ∷ []) s.others
+  new_notes r d bs h z = arrived_sound s.statics s.known.marks s.classes bs s.others h r d z
+
+  arrive_sound : (r : Mark) (d : ℤ) (bs : List ℤ) → SoundBalances bs → ((r ≡ IsObject → ⊥) → d ≡ pos 0) → IsSound (record (joined d bs s) { known = arrive r s.known })
+  arrive_sound r d bs h z = record { terms = arrived_terms r; notes = new_notes r d bs h z }
+
+  load_sound : (i : Instr) (r : Mark) → SpotOk i s.known → IsSound (record (joined (pos 0) s.balances s) { known = load_first i r s.known })
+  load_sound (Load x place) r ok =
+      let ms = s.known.marks ++ r ∷ [] in
+      let vars = slice_set s.known.vars x.0 (Token (count s.known)) in
+      record {
+        terms = touched_terms ms vars s.known.slots (put_terms ms s.known.vars s.known.slots (arrived_terms r) x.0 (Token (count s.known)) (last_below r)) (touched_slot s.known (spot_of s.known place) (Token (count s.known)))
+            (last_below r) (last_below r) (spot_more s.known.marks r (spot_of s.known place) ok);
+        notes = new_notes r (pos 0) s.balances w.notes (λ _. refl);
+      }
+  load_sound (Set x a) r ok = arrive_sound r (pos 0) s.balances w.notes (λ _. refl)
+  load_sound (Arith x kind o a b) r ok = arrive_sound r (pos 0) s.balances w.notes (λ _. refl)
+  load_sound (Fit x kind a) r ok = arrive_sound r (pos 0) s.balances w.notes (λ _. refl)
+  load_sound (Compare x c a b) r ok = arrive_sound r (pos 0) s.balances w.notes (λ _. refl)
+  load_sound (Store place a) r ok = arrive_sound r (pos 0) s.balances w.notes (λ _. refl)
+  load_sound (Api x shape as' outs) r ok = arrive_sound r (pos 0) s.balances w.notes (λ _. refl)
+  load_sound (Call x f as') r ok = arrive_sound r (pos 0) s.balances w.notes (λ _. refl)
+  load_sound (Forget x) r ok = arrive_sound r (pos 0) s.balances w.notes (λ _. refl)
+  load_sound (Jump to) r ok = arrive_sound r (pos 0) s.balances w.notes (λ _. refl)
+  load_sound (Branch a this other) r ok = arrive_sound r (pos 0) s.balances w.notes (λ _. refl)
+  load_sound (Return o) r ok = arrive_sound r (pos 0) s.balances w.notes (λ _. refl)
+  load_sound Fall r ok = arrive_sound r (pos 0) s.balances w.notes (λ _. refl)
+
+  abbrev Stored : Instr → List ℤ
+  Stored i = lowered s.classes s.known (stored_term i s.known) s.balances
+
+  stored_sound : (i : Instr) (r : Mark) → IsSound (record (joined (one_for r) (Stored i) s) { known = arrive r s.known })
+  stored_sound i r = arrive_sound r (one_for r) (Stored i) (lowers (stored_term i s.known) s.balances w.notes) (zero_one r)
+
+  store_sound : (i : Instr) (r : Mark) → SpotOk i s.known → list_all (is_there s.statics) (atoms_of i) ≡ true → IsSound (record (joined (one_for r) (Stored i) s) { known = store_first i r s.known })
+  store_sound (Store place a) r ok h =
+      record {
+        terms = touched_terms (s.known.marks ++ r ∷ []) s.known.vars s.known.slots (arrived_terms r) (touched_slot s.known (spot_of s.known place) (term_of s.known a))
+            (arrived_below r (term_of s.known a) (atom_is_below a (all_there s.statics a (atoms_in place) h).0)) (last_below r) (spot_more s.known.marks r (spot_of s.known place) ok);
+        notes = new_notes r (one_for r) (Stored (Store place a)) (lowers (term_of s.known a ∷ []) s.balances w.notes) (zero_one r);
+      }
+  store_sound (Set x a) r ok h = stored_sound (Set x a) r
+  store_sound (Arith x kind o a b) r ok h = stored_sound (Arith x kind o a b) r
+  store_sound (Fit x kind a) r ok h = stored_sound (Fit x kind a) r
+  store_sound (Compare x c a b) r ok h = stored_sound (Compare x c a b) r
+  store_sound (Load x place) r ok h = stored_sound (Load x place) r
+  store_sound (Api x shape as' outs) r ok h = stored_sound (Api x shape as' outs) r
+  store_sound (Call x f as') r ok h = stored_sound (Call x f as') r
+  store_sound (Forget x) r ok h = stored_sound (Forget x) r
+  store_sound (Jump to) r ok h = stored_sound (Jump to) r
+  store_sound (Branch a this other) r ok h = stored_sound (Branch a this other) r
+  store_sound (Return o) r ok h = stored_sound (Return o) r
+  store_sound Fall r ok h = stored_sound Fall r
+
+  -- which of two answers is given
+  pub decided : (t u : ℕ) (d : Decision) → can_same s t u d ≡ true → d ≡ IsSame (is_same d)
+  decided t u Quiet c = absurd (let bad : false ≡ true = c in cc)
+  decided t u (Outcome n) c = absurd (let bad : false ≡ true = c in cc)
+  decided t u (Order o) c = absurd (let bad : false ≡ true = c in cc)
+  decided t u (IsSame b) c = refl
+
+  pub same_sound : (t u : ℕ) (d : Decision) (k' : Known) → mark s.known t ≡ IsObject → mark s.known u ≡ IsObject → can_same s t u d ≡ true → k'.marks ≡ s.known.marks → AreTermsSound k'.marks k'.vars k'.slots
+      → IsSound (record (apply_same (are_one s.classes t u) (is_same d) t u s) { known = k' })
+  same_sound t u d k' mt mu c e terms =
+      let b = is_same d in
+      let way = way_is s t u b (subst (λ z. can_same s t u z ≡ true) (decided t u d c) c) in
+      let s' = apply_same (are_one s.classes t u) b t u s in
+      let notes = way_sound s t u b s' w mt mu (object_is_below s.known.marks t mt) (object_is_below s.known.marks u mu) way in
+      record {
+        terms = terms;
+        notes = subst (λ n. AreNotesSound n k'.marks s'.classes s'.balances s'.others) (sym (way_statics s t u b s' way)) (subst (λ ms. AreNotesSound s.statics ms s'.classes s'.balances s'.others) (sym e) notes);
+      }
+
+  answers_sound : (i : Instr) (a : Answer) (r : Mark) → IsSound (record (answers i a r s) { known = next (answered (api_var i) (Some (term_with r (count s.known))) (arrive r s.known)) })
+  answers_sound i a r =
+      let o = Some (term_with r (count s.known)) in
+      let bs = lowered s.classes s.known (taken_by (is_success a (Some (value_of_mark r))) i s.known) s.balances in
+      record {
+        terms = answered_terms (arrive r s.known) (api_var i) o (arrived_terms r) (let e = length-append s.known.marks (r ∷ []) in subst (λ n. IsBelow n (term_with r (count s.known))) (sym e) (term_with_below r (count s.known)));
+        notes = subst (λ ms. AreNotesSound s.statics ms (s.classes ++ count s.known ∷ []) (bs ++ new_balance a r ∷ []) s.others) (sym (answered_marks (arrive r s.known) (api_var i) o))
+            (new_notes r (new_balance a r) bs (lowers (taken_by (is_success a (Some (value_of_mark r))) i s.known) s.balances w.notes) (zero_new a r));
+      }
+
+  pub apply_sound : (o : Option Line) (q : Question) (d : Decision) → list_all (is_there s.statics) (atoms_of (instr_of o)) ≡ true → IsAsked (instr_of o) s.known q → can s q d ≡ true → IsSound (apply o q d s)
+  apply_sound o (Does d') d h a c = does_line o h d d'
+  apply_sound o (Touches r) d h a c = load_sound (instr_of o) r a.0
+  apply_sound o (Overwrites r) d h a c = store_sound (instr_of o) (mark_at (outcomes_of_mark r) (outcome d)) a.0 h
+  apply_sound o (AsksNull t) d h a c =
+      let r = mark_at (outcomes_of_mark (mark s.known t)) (outcome d) in
+      record {
+        terms = null_terms s.known.marks s.known.vars s.known.slots T t r a;
+        notes = null_sound s.statics s.known.marks s.classes s.balances s.others w.notes t r (open_below s.known.marks t a) a;
+      }
+  apply_sound o (Base t u j) d h a c = same_sound t u d _ a.0 a.1 c refl T
+  apply_sound o (Answers x) d h a c = answers_sound (instr_of o) x (mark_at (outcomes_of_answer x) (outcome d))
+  apply_sound o (Same t u) d h a c = same_sound t u d _ a.0 a.1 c refl (put_terms s.known.marks s.known.vars s.known.slots T (compared_var (instr_of o)) (compared (is_same d) (instr_of o)) (compared_below (count s.known) (is_same d) (instr_of o)))
+  apply_sound o (Returns x) d h a c = record { terms = T; notes = w.notes }
+  apply_sound o (Stops d') d h a c = record { terms = T; notes = w.notes }
+  apply_sound o Over d h a c = w

@@ -1,0 +1,309 @@
+-- One step back: values of the tokens that fit the state after an answer fit the state before, and give that answer.
+use Rattle.std.proofs.Common.{◌≡◌, ℕ, zero, suc, ◌<◌, ℤ, pos, negsuc, List, [], ◌∷◌, ◌++◌, length, true, false, refl, sym, ap, ◌∙◌, subst, arith, Option, None, Some, cond}
+use Rattle.pungi_base.specs.declared.choice.Choice.{Choice}
+use Rattle.pungi_base.specs.declared.value.Value.{Value}
+use Rattle.pungi_base.specs.declared.value.Value.TheVariants as value
+use Rattle.pungi_code.specs.declared.code.Line.{Line}
+use Rattle.pungi_code.specs.declared.instr.Instr.{Instr}
+use Rattle.pungi_symbol.specs.declared.answers.decision.Decision.{Decision}
+use Rattle.pungi_symbol.specs.declared.answers.decision.Decision.TheVariants.{Quiet, Outcome, Order, Same as IsSame}
+use Rattle.pungi_symbol.specs.declared.states.known.Known.{Known}
+use Rattle.pungi_symbol.specs.declared.states.mark.Mark.{Mark}
+use Rattle.pungi_symbol.specs.declared.states.mark.Mark.TheVariants.{Pointer, TextPointer, IsNull, IsObject, IsText, IsNumber}
+use Rattle.pungi_symbol.specs.declared.questions.question.Question.{Question}
+use Rattle.pungi_symbol.specs.declared.questions.question.Question.TheVariants.{Does, Touches, Overwrites, Null as AsksNull, Base, Answers, Same, Returns, Stops, Over}
+use Rattle.pungi_symbol.specs.declared.states.state.State.{State}
+use Rattle.pungi_symbol.specs.states.Terms.{Table, at, is_mark}
+use Rattle.pungi_symbol.specs.runs.Fits.{FitsState, IsSound}
+use Rattle.pungi_symbol.specs.runs.RunInState.{answer}
+use Rattle.std.specs.declared.cmp.Ordering.{Ordering}
+use Rattle.std.specs.declared.cmp.Ordering.TheVariants as orders
+use Rattle.std.proofs.lemmas.Bool.{eqb-true}
+use Rattle.std.proofs.lemmas.Bool.Decides.{nat_tests, Decides-int_eq}
+use Rattle.std.specs.Prelude.{nat_lt}
+use Rattle.pungi_api.specs.declared.answer.Answer.{Answer}
+use Rattle.pungi_api.specs.declared.answer.Answer.TheVariants as answers
+use Rattle.pungi_code.specs.declared.instr.Instr.TheVariants.{Set, Arith, Fit, Compare, Load, Store, Api, Call, Unset as Forget, Jump, Branch, Return, Fall}
+use Rattle.pungi_symbol.specs.states.Terms.{outcomes_of_mark, outcomes_of_answer, mark_at, place_of}
+use Rattle.pungi_symbol.specs.states.Known.{count, mark}
+use Rattle.pungi_symbol.specs.questions.NextQuestion.{first_term, terms_of}
+use Rattle.pungi_symbol.specs.answers.KnownAfter.{arrive, form_answer, term_with, does, load_first, store_first, with_line, instr_of, api_var, is_same, outcome}
+use Rattle.pungi_symbol.specs.answers.SymbolicState.{can, can_same, are_one, apply, apply_same, is_decision, is_order, is_outcome}
+use Rattle.pungi_symbol.specs.runs.Fits.{Fits}
+use Rattle.pungi_meaning.specs.Values.{is_equal}
+use Rattle.pungi_world.specs.declared.world.World.{World}
+use Rattle.pungi_world.specs.Choices.{value_of}
+use Rattle.pungi_symbol.specs.runs.RunInState.{IsOf}
+use Rattle.pungi_symbol.specs.runs.Paths.{choice_of}
+use Rattle.pungi_symbol.proofs.steps.ChoicesForAnswers.{Suits}
+use Rattle.pungi_symbol.proofs.states.Contents.{is_open}
+use Rattle.pungi_symbol.proofs.answers.Fits.{mark_back, arrives_back}
+use Rattle.pungi_symbol.proofs.states.Terms.{open_below, object_is_below}
+use Rattle.pungi_symbol.proofs.answers.SameObject.{way_is, way_back}
+use Rattle.pungi_symbol.proofs.steps.Comparisons.{way_statics}
+use Rattle.pungi_symbol.proofs.steps.Questions.{IsAsked}
+use Rattle.pungi_symbol.proofs.steps.SoundAfter.{answered_marks, decided}
+
+-- ---- decisions
+
+order_says : (a b : Ordering) → is_order a b ≡ true → a ≡ b
+order_says orders.Less orders.Less e = refl
+order_says orders.Equal orders.Equal e = refl
+order_says orders.Greater orders.Greater e = refl
+order_says orders.Less orders.Equal e = absurd (let bad : false ≡ true = e in cc)
+order_says orders.Less orders.Greater e = absurd (let bad : false ≡ true = e in cc)
+order_says orders.Equal orders.Less e = absurd (let bad : false ≡ true = e in cc)
+order_says orders.Equal orders.Greater e = absurd (let bad : false ≡ true = e in cc)
+order_says orders.Greater orders.Less e = absurd (let bad : false ≡ true = e in cc)
+order_says orders.Greater orders.Equal e = absurd (let bad : false ≡ true = e in cc)
+
+no_way : {X : Type 0} → false ≡ true → X
+no_way e = absurd (cc)
+
+pub decision_says : (a b : Decision) → is_decision a b ≡ true → a ≡ b
+decision_says Quiet Quiet e = refl
+decision_says Quiet (Outcome k) e = no_way e
+decision_says Quiet (Order o) e = no_way e
+decision_says Quiet (IsSame b) e = no_way e
+decision_says (Outcome j) Quiet e = no_way e
+decision_says (Outcome j) (Outcome k) e = ap Outcome (eqb-true j k e)
+decision_says (Outcome j) (Order o) e = no_way e
+decision_says (Outcome j) (IsSame b) e = no_way e
+decision_says (Order a) Quiet e = no_way e
+decision_says (Order a) (Outcome k) e = no_way e
+decision_says (Order a) (Order b) e = ap Order (order_says a b e)
+decision_says (Order a) (IsSame b) e = no_way e
+decision_says (IsSame true) (IsSame true) e = refl
+decision_says (IsSame true) (IsSame false) e = no_way e
+decision_says (IsSame false) (IsSame true) e = no_way e
+decision_says (IsSame false) (IsSame false) e = refl
+decision_says (IsSame true) Quiet e = no_way e
+decision_says (IsSame true) (Outcome k) e = no_way e
+decision_says (IsSame true) (Order o) e = no_way e
+decision_says (IsSame false) Quiet e = no_way e
+decision_says (IsSame false) (Outcome k) e = no_way e
+decision_says (IsSame false) (Order o) e = no_way e
+
+lt_says : (k n : ℕ) → nat_lt k n ≡ true → k < n
+lt_says k n e = grind (arith, nat_tests)
+
+pub outcome_says : (n : ℕ) (d : Decision) → is_outcome n d ≡ true → (d ≡ Outcome (outcome d)) × (outcome d < n)
+outcome_says n Quiet e = no_way e
+outcome_says n (Outcome k) e = (refl, lt_says k n e)
+outcome_says n (Order o) e = no_way e
+outcome_says n (IsSame b) e = no_way e
+
+-- ---- answers by number
+
+abbrev Excludes : Mark → List Mark → Type 0
+Excludes m ms = (j : ℕ) (v : Value) → j < length ms → is_mark (mark_at ms j) v ≡ true → is_mark m v ≡ false
+
+abbrev AreApart : List Mark → Type 0
+AreApart [] = Unit {0}
+AreApart (m ∷ ms) = Excludes m ms × AreApart ms
+
+place_back : (ms : List Mark) (k : ℕ) (v : Value) → AreApart ms → k < length ms → is_mark (mark_at ms k) v ≡ true → place_of ms v ≡ k
+place_back [] k v a lt h = absurd (omega (arith, lt))
+place_back (m ∷ ms) zero v a lt h = ap (λ b. cond b 0 (suc (place_of ms v))) h
+place_back (m ∷ ms) (suc k) v a lt h =
+    ap (λ b. cond b 0 (suc (place_of ms v))) (a.0 k v (omega (arith, lt)) h) ∙ ap suc (place_back ms k v a.1 (omega (arith, lt)) h)
+
+none_after : (m : Mark) → Excludes m []
+none_after m j v lt h = absurd (omega (arith, lt))
+
+apart_by : (m n : Mark) → ((v : Value) → is_mark n v ≡ true → is_mark m v ≡ false) → Excludes m (n ∷ [])
+apart_by m n f zero v lt h = f v h
+apart_by m n f (suc j) v lt h = absurd (omega (arith, lt))
+
+null_object : (v : Value) → is_mark IsObject v ≡ true → is_mark IsNull v ≡ false
+null_object value.Null h = no_way h
+null_object (value.Object k) h = refl
+null_object (value.Int n) h = no_way h
+null_object value.Text h = no_way h
+
+null_text : (v : Value) → is_mark IsText v ≡ true → is_mark IsNull v ≡ false
+null_text value.Null h = no_way h
+null_text (value.Object k) h = no_way h
+null_text (value.Int n) h = no_way h
+null_text value.Text h = refl
+
+number_other : (i j : ℤ) → is_mark (IsNumber i) (value.Int j) ≡ false → (v : Value) → is_mark (IsNumber j) v ≡ true → is_mark (IsNumber i) v ≡ false
+number_other i j ne value.Null h = no_way h
+number_other i j ne (value.Object k) h = no_way h
+number_other i j ne (value.Int n) h = ap (λ z. is_mark (IsNumber i) (value.Int z)) ((Decides-int_eq n j).0 h) ∙ ne
+number_other i j ne value.Text h = no_way h
+
+truth_first : Excludes (IsNumber (pos 1)) (IsNumber (pos 0) ∷ IsNumber (negsuc 0) ∷ [])
+truth_first zero v lt h = number_other (pos 1) (pos 0) refl v h
+truth_first (suc zero) v lt h = number_other (pos 1) (negsuc 0) refl v h
+truth_first (suc (suc j)) v lt h = absurd (omega (arith, lt))
+
+mark_apart : (r : Mark) → AreApart (outcomes_of_mark r)
+mark_apart Pointer = (apart_by IsNull IsObject null_object, (none_after IsObject, tt))
+mark_apart TextPointer = (apart_by IsNull IsText null_text, (none_after IsText, tt))
+mark_apart IsNull = tt
+mark_apart IsObject = tt
+mark_apart IsText = tt
+mark_apart (IsNumber n) = tt
+
+answer_apart : (a : Answer) → AreApart (outcomes_of_answer a)
+answer_apart answers.New = (apart_by IsNull IsObject null_object, (none_after IsObject, tt))
+answer_apart answers.Borrowed = (apart_by IsNull IsObject null_object, (none_after IsObject, tt))
+answer_apart answers.BorrowedSure = (none_after IsObject, tt)
+answer_apart answers.Status = (apart_by (IsNumber (pos 0)) (IsNumber (negsuc 0)) (number_other (pos 0) (negsuc 0) refl), (none_after (IsNumber (negsuc 0)), tt))
+answer_apart answers.Truth = (truth_first, (apart_by (IsNumber (pos 0)) (IsNumber (negsuc 0)) (number_other (pos 0) (negsuc 0) refl), (none_after (IsNumber (negsuc 0)), tt)))
+answer_apart answers.Text = (apart_by IsNull IsText null_text, (none_after IsText, tt))
+answer_apart answers.Size = tt
+answer_apart answers.Int = tt
+answer_apart answers.Long = tt
+answer_apart answers.Void = tt
+answer_apart answers.Null = tt
+
+-- an answer says more than the mark before it
+pub weaker : (r : Mark) (k : ℕ) (v : Value) → is_open r ≡ true → k < length (outcomes_of_mark r) → is_mark (mark_at (outcomes_of_mark r) k) v ≡ true → is_mark r v ≡ true
+weaker Pointer zero value.Null o lt h = refl
+weaker Pointer zero (value.Object k) o lt h = refl
+weaker Pointer zero (value.Int n) o lt h = h
+weaker Pointer zero value.Text o lt h = h
+weaker Pointer (suc zero) value.Null o lt h = refl
+weaker Pointer (suc zero) (value.Object k) o lt h = refl
+weaker Pointer (suc zero) (value.Int n) o lt h = h
+weaker Pointer (suc zero) value.Text o lt h = h
+weaker Pointer (suc (suc k)) v o lt h = absurd (omega (arith, lt))
+weaker TextPointer zero value.Null o lt h = refl
+weaker TextPointer zero (value.Object k) o lt h = h
+weaker TextPointer zero (value.Int n) o lt h = h
+weaker TextPointer zero value.Text o lt h = refl
+weaker TextPointer (suc zero) value.Null o lt h = refl
+weaker TextPointer (suc zero) (value.Object k) o lt h = h
+weaker TextPointer (suc zero) (value.Int n) o lt h = h
+weaker TextPointer (suc zero) value.Text o lt h = refl
+weaker TextPointer (suc (suc k)) v o lt h = absurd (omega (arith, lt))
+weaker IsNull k v o lt h = no_way o
+weaker IsObject k v o lt h = no_way o
+weaker IsText k v o lt h = no_way o
+weaker (IsNumber n) k v o lt h = no_way o
+
+-- ---- marks after an answer
+
+pub does_marks : (k : Known) (i : Instr) → (does k i).marks ≡ k.marks
+does_marks k (Set x a) = refl
+does_marks k (Arith x kind o a b) = refl
+does_marks k (Fit x kind a) = refl
+does_marks k (Compare x c a b) = refl
+does_marks k (Load x place) = refl
+does_marks k (Store place a) = refl
+does_marks k (Api x shape as' outs) = answered_marks k x (form_answer shape.row.form shape.row.answer (first_term (terms_of k as')))
+does_marks k (Call x f as') = refl
+does_marks k (Forget x) = refl
+does_marks k (Jump to) = refl
+does_marks k (Branch a this other) = refl
+does_marks k (Return o) = refl
+does_marks k Fall = refl
+
+pub line_marks : (k : Known) (o : Option Line) → (with_line o (λ i. does k i) k).marks ≡ k.marks
+line_marks k None = refl
+line_marks k (Some line) = does_marks k line.instr
+
+pub load_marks : (i : Instr) (r : Mark) (k : Known) → (load_first i r k).marks ≡ k.marks ++ r ∷ []
+load_marks (Set x a) r k = refl
+load_marks (Arith x kind o a b) r k = refl
+load_marks (Fit x kind a) r k = refl
+load_marks (Compare x c a b) r k = refl
+load_marks (Load x place) r k = refl
+load_marks (Store place a) r k = refl
+load_marks (Api x shape as' outs) r k = refl
+load_marks (Call x f as') r k = refl
+load_marks (Forget x) r k = refl
+load_marks (Jump to) r k = refl
+load_marks (Branch a this other) r k = refl
+load_marks (Return o) r k = refl
+load_marks Fall r k = refl
+
+pub store_marks : (i : Instr) (r : Mark) (k : Known) → (store_first i r k).marks ≡ k.marks ++ r ∷ []
+store_marks (Set x a) r k = refl
+store_marks (Arith x kind o a b) r k = refl
+store_marks (Fit x kind a) r k = refl
+store_marks (Compare x c a b) r k = refl
+store_marks (Load x place) r k = refl
+store_marks (Store place a) r k = refl
+store_marks (Api x shape as' outs) r k = refl
+store_marks (Call x f as') r k = refl
+store_marks (Forget x) r k = refl
+store_marks (Jump to) r k = refl
+store_marks (Branch a this other) r k = refl
+store_marks (Return o) r k = refl
+store_marks Fall r k = refl
+
+module _ (table : Table) (s : State) (w : IsSound s) where
+  abbrev FitsMarks : List Mark → Type 0
+  FitsMarks ms = Fits table s.statics ms s.classes s.others
+
+  abbrev FitsMore : List Mark → Type 0
+  FitsMore ms = Fits table s.statics ms (s.classes ++ count s.known ∷ []) s.others
+
+  more_back : (r : Mark) → FitsMore (s.known.marks ++ r ∷ []) → FitsState table s × (is_mark r (at table (count s.known)) ≡ true)
+  more_back r f = arrives_back table s.statics s.known.marks s.classes s.others r w.notes.classes_long f
+
+  same_back : (t u : ℕ) (d : Decision) → mark s.known t ≡ IsObject → mark s.known u ≡ IsObject → can_same s t u d ≡ true
+      → Fits table (apply_same (are_one s.classes t u) (is_same d) t u s).statics s.known.marks (apply_same (are_one s.classes t u) (is_same d) t u s).classes (apply_same (are_one s.classes t u) (is_same d) t u s).others
+      → FitsState table s × (IsSame (is_equal (at table t) (at table u)) ≡ d)
+  same_back t u d mt mu c f =
+      let b = is_same d in
+      let is = decided s w t u d c in
+      let way = way_is s t u b (subst (λ z. can_same s t u z ≡ true) is c) in
+      let s' = apply_same (are_one s.classes t u) b t u s in
+      let g = subst (λ n. Fits table n s.known.marks s'.classes s'.others) (way_statics s t u b s' way) f in
+      let r = way_back s t u table w mt mu (object_is_below s.known.marks t mt) (object_is_below s.known.marks u mu) b s' way g in
+      (r.0, ap IsSame r.1 ∙ sym is)
+
+  outcome_back : (ms : List Mark) (d : Decision) (v : Value) → AreApart ms → is_outcome (length ms) d ≡ true → is_mark (mark_at ms (outcome d)) v ≡ true → Outcome (place_of ms v) ≡ d
+  outcome_back ms d v a c h = let o = outcome_says (length ms) d c in ap Outcome (place_back ms (outcome d) v a o.1 h) ∙ sym o.0
+
+  pub apply_back : (o : Option Line) (q : Question) (d : Decision) → IsAsked (instr_of o) s.known q → can s q d ≡ true → FitsState table (apply o q d s) → FitsState table s × (answer table s.known q ≡ d)
+  apply_back o (Does d') d a c f = (subst FitsMarks (line_marks s.known o) f, decision_says d' d c)
+  apply_back o (Touches r) d a c f =
+      let g = more_back r (subst FitsMore (load_marks (instr_of o) r s.known) f) in
+      (g.0, decision_says Quiet d c)
+  apply_back o (Overwrites r) d a c f =
+      let r' = mark_at (outcomes_of_mark r) (outcome d) in
+      let g = more_back r' (subst FitsMore (store_marks (instr_of o) r' s.known) f) in
+      (g.0, outcome_back (outcomes_of_mark r) d (at table (count s.known)) (mark_apart r) c g.1)
+  apply_back o (AsksNull t) d a c f =
+      let old = mark s.known t in
+      let said = outcome_says (length (outcomes_of_mark old)) d c in
+      let g = mark_back table s.statics s.known.marks s.classes s.others t (mark_at (outcomes_of_mark old) (outcome d)) old (open_below s.known.marks t a) refl (λ h. weaker old (outcome d) (at table t) a said.1 h) f in
+      (g.0, outcome_back (outcomes_of_mark old) d (at table t) (mark_apart old) c g.1)
+  apply_back o (Base t u j) d a c f = same_back t u d a.0 a.1 c f
+  apply_back o (Answers x) d a c f =
+      let r = mark_at (outcomes_of_answer x) (outcome d) in
+      let g = more_back r (subst FitsMore (answered_marks (arrive r s.known) (api_var (instr_of o)) (Some (term_with r (count s.known)))) f) in
+      (g.0, outcome_back (outcomes_of_answer x) d (at table (count s.known)) (answer_apart x) c g.1)
+  apply_back o (Same t u) d a c f = same_back t u d a.0 a.1 c f
+  apply_back o (Returns x) d a c f = (f, decision_says Quiet d c)
+  apply_back o (Stops d') d a c f = (f, decision_says d' d c)
+  apply_back o Over d a c f = no_way c
+
+  -- the token that came in is as the answer says, and its choice suits the question
+  pub came_in : (o : Option Line) (q : Question) (d : Decision) (c : Choice) (accounts : World) → IsAsked (instr_of o) s.known q → can s q d ≡ true → FitsState table (apply o q d s)
+      → at table (count s.known) ≡ value_of c → IsOf (length accounts.accounts) (value_of c) → c ≡ choice_of (value_of c) → Suits accounts q c
+  came_in o (Does d') d c n a ok f e b y = tt
+  came_in o (Touches r) d c n a ok f e b y =
+      let g = more_back r (subst FitsMore (load_marks (instr_of o) r s.known) f) in
+      (ap (is_mark r) (sym e) ∙ g.1, b, y)
+  came_in o (Overwrites r) d c n a ok f e b y =
+      let r' = mark_at (outcomes_of_mark r) (outcome d) in
+      let said = outcome_says (length (outcomes_of_mark r)) d ok in
+      let g = more_back r' (subst FitsMore (store_marks (instr_of o) r' s.known) f) in
+      (weaker r (outcome d) (value_of c) a.1 said.1 (ap (is_mark r') (sym e) ∙ g.1), b, y)
+  came_in o (AsksNull t) d c n a ok f e b y = tt
+  came_in o (Base t u j) d c n a ok f e b y = tt
+  came_in o (Answers x) d c n a ok f e b y =
+      let r = mark_at (outcomes_of_answer x) (outcome d) in
+      let said = outcome_says (length (outcomes_of_answer x)) d ok in
+      let g = more_back r (subst FitsMore (answered_marks (arrive r s.known) (api_var (instr_of o)) (Some (term_with r (count s.known)))) f) in
+      ((outcome d, said.1, ap (is_mark r) (sym e) ∙ g.1), b, y)
+  came_in o (Same t u) d c n a ok f e b y = tt
+  came_in o (Returns x) d c n a ok f e b y = tt
+  came_in o (Stops d') d c n a ok f e b y = tt
+  came_in o Over d c n a ok f e b y = tt

@@ -1,0 +1,3 @@
+-- What is known after an answer, and what a state becomes by it.
+pub mod KnownAfter
+pub mod SymbolicState

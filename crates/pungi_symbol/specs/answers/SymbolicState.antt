@@ -1,0 +1,220 @@
+-- Symbolic states: what they note, and what they become.
+--   class, balance          the token that stands for a token; what its object is owed
+--   parts, are_one, are_other    a pair parts two classes; two tokens are noted as one object; as different ones
+--   is_order, is_decision, is_outcome    two orders, two answers are the same; an answer is one of the first so many
+--   can_be, can_same, can   a question still has this answer: as notes have it, of two tokens, of any question
+--   add_to, add_term        a number is added to the balance of a token's object; of a term's
+--   lowered                 it falls by 1 for each of these terms
+--   taken, taken_by         the arguments that a call takes over
+--   special_weigh, form_weigh, weigh    the balances after a call of a row of its own, of any row, after an instruction
+--   one_for, new_balance    the balance of a token that comes in
+--   stored_term             what a store writes
+--   redirect, gather, merge two tokens become one: their class, their balance, the state
+--   merge_older             the older token stands for both
+--   apply_same, joined, answers, after, apply    the state after an answer
+--   decisions               all answers, in the order in which the states after them stand
+--   after_if, successors    the states after the answers that the next question still has
+--   after_left              the state after an answer that is left over, if there is one
+use Rattle.std.specs.Prelude.{ℕ, ◌==◌, nat_lt, ℤ, pos, negsuc, ◌+ℤ◌, Bool, true, false, not, ◌&&◌, ◌||◌, List, [], ◌∷◌, ◌++◌, length, get_or, slice_get, slice_set, map, Option, Some, None, if◌then◌else◌}
+use Rattle.std.specs.List.{list_any, flat_map}
+use Rattle.std.specs.declared.cmp.Ordering.{Ordering}
+use Rattle.std.specs.declared.cmp.Ordering.TheVariants.{Less, Equal, Greater}
+use Rattle.pungi_api.specs.declared.answer.Answer.{Answer}
+use Rattle.pungi_api.specs.declared.answer.Answer.TheVariants as answer
+use Rattle.pungi_api.specs.declared.row.Form.{Form}
+use Rattle.pungi_api.specs.declared.row.Form.TheVariants as form
+use Rattle.pungi_api.specs.declared.special.Special.{Special}
+use Rattle.pungi_api.specs.declared.special.Special.TheVariants as special
+use Rattle.pungi_api.specs.declared.shape.Shape.{Shape}
+use Rattle.pungi_api.specs.declared.take.Take.{Take}
+use Rattle.pungi_world.specs.Calls.{is_success, is_taken}
+use Rattle.pungi_code.specs.declared.code.Line.{Line}
+use Rattle.pungi_code.specs.declared.instr.Instr.{Instr}
+use Rattle.pungi_code.specs.declared.instr.Instr.TheVariants.{Store, Api}
+use Rattle.pungi_symbol.specs.declared.answers.decision.Decision.{Decision}
+use Rattle.pungi_symbol.specs.declared.answers.decision.Decision.TheVariants.{Quiet, Outcome, Order, Same as IsSame}
+use Rattle.pungi_symbol.specs.declared.states.known.Known.{Known}
+use Rattle.pungi_symbol.specs.declared.states.mark.Mark.{Mark}
+use Rattle.pungi_symbol.specs.declared.states.mark.Mark.TheVariants.{Pointer, TextPointer, IsNull, IsObject, IsText, IsNumber}
+use Rattle.pungi_symbol.specs.declared.questions.question.Question.{Question}
+use Rattle.pungi_symbol.specs.declared.questions.question.Question.TheVariants.{Does, Touches, Overwrites, Null as AsksNull, Base, Answers, Same, Returns, Stops, Over}
+use Rattle.pungi_symbol.specs.declared.states.state.Pair.{Pair}
+use Rattle.pungi_symbol.specs.declared.states.state.State.{State}
+use Rattle.pungi_symbol.specs.declared.states.term.Term.{Term}
+use Rattle.pungi_symbol.specs.states.Terms.{outcomes_of_mark, outcomes_of_answer, mark_at, value_of_mark}
+use Rattle.pungi_symbol.specs.states.Known.{count, mark, term_of, object_of, find, held_in}
+use Rattle.pungi_symbol.specs.questions.NextQuestion.{ask, first_term, terms_of}
+use Rattle.pungi_symbol.specs.answers.KnownAfter.{go, outcome, is_same, instr_of}
+
+abbrev pub class : List ℕ → ℕ → ℕ
+class classes t = get_or classes t 0
+
+abbrev pub balance : List ℤ → ℕ → ℤ
+balance balances t = get_or balances t (pos 0)
+
+-- ---- which answers are left
+
+-- whether a pair says that the tokens of these classes differ
+abbrev pub parts : List ℕ → ℕ → ℕ → Pair → Bool
+parts classes c d p = ((class classes p.a == c) && (class classes p.b == d)) || ((class classes p.a == d) && (class classes p.b == c))
+
+abbrev pub are_one : List ℕ → ℕ → ℕ → Bool
+are_one classes t u = class classes t == class classes u
+
+-- two static objects differ
+abbrev pub are_other : ℕ → List ℕ → List Pair → ℕ → ℕ → Bool
+are_other statics classes others t u =
+    (nat_lt (class classes t) statics && nat_lt (class classes u) statics) || list_any (parts classes (class classes t) (class classes u)) others
+
+abbrev pub is_order : Ordering → Ordering → Bool
+is_order Less Less = true
+is_order Equal Equal = true
+is_order Greater Greater = true
+is_order a b = false
+
+abbrev pub is_decision : Decision → Decision → Bool
+is_decision Quiet Quiet = true
+is_decision (Outcome j) (Outcome k) = j == k
+is_decision (Order a) (Order b) = is_order a b
+is_decision (IsSame true) (IsSame true) = true
+is_decision (IsSame false) (IsSame false) = true
+is_decision a b = false
+
+abbrev pub is_outcome : ℕ → Decision → Bool
+is_outcome n (Outcome k) = nat_lt k n
+is_outcome n Quiet = false
+is_outcome n (Order o) = false
+is_outcome n (IsSame b) = false
+
+abbrev pub can_be : Bool → Bool → Decision → Bool
+can_be one other (IsSame true) = one || not other
+can_be one other (IsSame false) = not one
+can_be one other Quiet = false
+can_be one other (Outcome k) = false
+can_be one other (Order o) = false
+
+abbrev pub can_same : State → ℕ → ℕ → Decision → Bool
+can_same s t u d = can_be (are_one s.classes t u) (are_other s.statics s.classes s.others t u) d
+
+abbrev pub can : State → Question → Decision → Bool
+can s (Does d') d = is_decision d' d
+can s (Touches m) d = is_decision Quiet d
+can s (Overwrites m) d = is_outcome (length (outcomes_of_mark m)) d
+can s (AsksNull t) d = is_outcome (length (outcomes_of_mark (mark s.known t))) d
+can s (Base t u i) d = can_same s t u d
+can s (Answers a) d = is_outcome (length (outcomes_of_answer a)) d
+can s (Same t u) d = can_same s t u d
+can s (Returns x) d = is_decision Quiet d
+can s (Stops d') d = is_decision d' d
+can s Over d = false
+
+-- ---- balances
+
+abbrev pub add_to : List ℕ → Option ℕ → ℤ → List ℤ → List ℤ
+add_to classes None d balances = balances
+add_to classes (Some t) d balances = slice_set balances (class classes t) (balance balances (class classes t) +ℤ d)
+
+abbrev pub add_term : List ℕ → Known → Term → ℤ → List ℤ → List ℤ
+add_term classes k x d balances = add_to classes (object_of k x) d balances
+
+abbrev pub lowered : List ℕ → Known → List Term → List ℤ → List ℤ
+lowered classes k [] balances = balances
+lowered classes k (x ∷ xs) balances = lowered classes k xs (add_term classes k x (negsuc 0) balances)
+
+-- the arguments that a call takes over
+abbrev pub taken : Bool → List Take → List Term → List Term
+taken success [] xs = []
+taken success (t ∷ ts) [] = []
+taken success (t ∷ ts) (x ∷ xs) = if is_taken success t then x ∷ taken success ts xs else taken success ts xs
+
+abbrev pub taken_by : Bool → Instr → Known → List Term
+taken_by success (Api x shape as' outs) k = taken success shape.row.takes (terms_of k as')
+taken_by success i k = []
+
+abbrev pub special_weigh : List ℕ → Known → Special → Term → List ℤ → List ℤ
+special_weigh classes k special.IncRef x balances = add_term classes k x (pos 1) balances
+special_weigh classes k special.DecRef x balances = add_term classes k x (negsuc 0) balances
+special_weigh classes k special.XIncRef x balances = add_term classes k x (pos 1) balances
+special_weigh classes k special.XDecRef x balances = add_term classes k x (negsuc 0) balances
+special_weigh classes k special.NewRef x balances = add_term classes k x (pos 1) balances
+special_weigh classes k special.XNewRef x balances = add_term classes k x (pos 1) balances
+special_weigh classes k s x balances = balances
+
+abbrev pub form_weigh : List ℕ → Known → Form → Shape → List Term → List ℤ → List ℤ
+form_weigh classes k form.Plain shape xs balances = lowered classes k (taken false shape.row.takes xs) balances
+form_weigh classes k (form.Special s) shape xs balances = special_weigh classes k s (first_term xs) balances
+
+abbrev pub weigh : List ℕ → Known → Instr → List ℤ → List ℤ
+weigh classes k (Store place a) balances = add_term classes k (term_of k a) (negsuc 0) (add_term classes k (held_in k (find k place)) (pos 1) balances)
+weigh classes k (Api x shape as' outs) balances = form_weigh classes k shape.row.form shape (terms_of k as') balances
+weigh classes k i balances = balances
+
+abbrev pub one_for : Mark → ℤ
+one_for IsObject = pos 1
+one_for Pointer = pos 0
+one_for TextPointer = pos 0
+one_for IsNull = pos 0
+one_for IsText = pos 0
+one_for (IsNumber n) = pos 0
+
+abbrev pub new_balance : Answer → Mark → ℤ
+new_balance answer.New m = one_for m
+new_balance a m = pos 0
+
+abbrev pub stored_term : Instr → Known → List Term
+stored_term (Store place a) k = term_of k a ∷ []
+stored_term i k = []
+
+-- ---- answers
+
+abbrev pub redirect : ℕ → ℕ → ℕ → ℕ
+redirect c d e = if e == d then c else e
+
+-- what stands at d goes to c
+abbrev pub gather : ℕ → ℕ → List ℤ → List ℤ
+gather c d balances = slice_set (slice_set balances c (balance balances c +ℤ balance balances d)) d (pos 0)
+
+abbrev pub merge : ℕ → ℕ → State → State
+merge c d s = record s { classes = map (redirect c d) s.classes; balances = gather c d s.balances }
+
+-- the older token stands for both
+abbrev pub merge_older : ℕ → ℕ → State → State
+merge_older c d s = if nat_lt d c then merge d c s else merge c d s
+
+abbrev pub apply_same : Bool → Bool → ℕ → ℕ → State → State
+apply_same one true t u s = if one then s else merge_older (class s.classes t) (class s.classes u) s
+apply_same one false t u s = record s { others = s.others ++ (record { a = t; b = u }) ∷ [] }
+
+abbrev pub joined : ℤ → List ℤ → State → State
+joined d balances s = record s { classes = s.classes ++ count s.known ∷ []; balances = balances ++ d ∷ [] }
+
+abbrev pub answers : Instr → Answer → Mark → State → State
+answers i a m s = joined (new_balance a m) (lowered s.classes s.known (taken_by (is_success a (Some (value_of_mark m))) i s.known) s.balances) s
+
+abbrev pub after : Option Line → Question → Decision → State → State
+after line (Does d') d s = record s { balances = weigh s.classes s.known (instr_of line) s.balances }
+after line (Touches m) d s = joined (pos 0) s.balances s
+after line (Overwrites m) d s = joined (one_for (mark_at (outcomes_of_mark m) (outcome d))) (lowered s.classes s.known (stored_term (instr_of line) s.known) s.balances) s
+after line (AsksNull t) d s = s
+after line (Base t u i) d s = apply_same (are_one s.classes t u) (is_same d) t u s
+after line (Answers a) d s = answers (instr_of line) a (mark_at (outcomes_of_answer a) (outcome d)) s
+after line (Same t u) d s = apply_same (are_one s.classes t u) (is_same d) t u s
+after line (Returns x) d s = s
+after line (Stops d') d s = s
+after line Over d s = s
+
+abbrev pub apply : Option Line → Question → Decision → State → State
+apply line q d s = record (after line q d s) { known = go line s.known q d }
+
+abbrev pub decisions : List Decision
+decisions = Quiet ∷ Outcome 0 ∷ Outcome 1 ∷ Outcome 2 ∷ Order Less ∷ Order Equal ∷ Order Greater ∷ IsSame false ∷ IsSame true ∷ []
+
+abbrev pub after_if : Option Line → Question → State → Decision → List (Decision × State)
+after_if line q s d = if can s q d then (d, apply line q d s) ∷ [] else []
+
+abbrev pub after_left : Option Line → Question → State → Option Decision → List (Decision × State)
+after_left line q s None = []
+after_left line q s (Some d) = (d, apply line q d s) ∷ []
+
+abbrev pub successors : List Line → State → List (Decision × State)
+successors code s = flat_map (after_if (slice_get code s.known.pc) (ask code s.known) s) decisions

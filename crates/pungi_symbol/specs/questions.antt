@@ -1,0 +1,2 @@
+-- What the next instruction asks in a state.
+pub mod NextQuestion

@@ -1,0 +1,6 @@
+-- Runs of a code, and when a run lies in a state.
+pub mod Fits
+pub mod OneInstruction
+pub mod RunInState
+pub mod ObjectForm
+pub mod Paths

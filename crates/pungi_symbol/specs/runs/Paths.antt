@@ -1,0 +1,178 @@
+-- Runs of a code, paths of states, and how they belong together.
+--   value_in c, returned_value    the value of a content; what a function returns
+--   arguments code                how many arguments a code takes
+--   known_at, start_state, starts    what is known at the start of a function, its first state, and the list of it
+--   table_of                      the values of the tokens of a run: the static objects, the arguments, the choices
+--   Asked                         the trace of a run, the newest answer first
+--   Path                          a path of states, by its answers, the newest first
+--   run_for                       how a run of so many instructions ends
+--   IsAt                          a run is, after so many instructions, where a state says
+--   Meets                         a run is, after so many instructions, in a state at the end of a path with its trace
+--   IsCovered                     so is each run, as long as it wants no choice that isn't there
+--   GoesBack                      values of the tokens that fit a next state fit the state before, and give that answer
+--   own_value, own_values, canon  the values of the tokens of a state where all that may differ differs
+--   AreApart                      tokens that weren't merged are different objects
+--   choice_of v                   the choice by which a token has a value
+--   end_of                        how a state ends
+--   returned_object, is_class     the token that is returned, where it is an object; whether a token stands for it
+--   wanted, IsLevelState          what is owed to the object of a token where a function returns; each balance is that
+use Rattle.std.specs.Prelude.{◌≡◌, ℕ, ◌+◌, ◌-◌, ◌<◌, ◌==◌, ℤ, pos, ◌⊎◌, Bool, true, false, List, [], ◌∷◌, ◌++◌, length, map, take, replicate, slice_get, Option, Some, None, if◌then◌else◌}
+use Rattle.std.specs.List.{range_with_len}
+use Rattle.pungi_base.specs.declared.choice.Choice.{Choice}
+use Rattle.pungi_base.specs.declared.choice.Choice.TheVariants as choice
+use Rattle.pungi_base.specs.declared.entry.Entry.{Entry}
+use Rattle.pungi_base.specs.declared.value.Value.{Value}
+use Rattle.pungi_base.specs.declared.value.Value.TheVariants as value
+use Rattle.pungi_world.specs.declared.content.Content.{Content}
+use Rattle.pungi_world.specs.declared.content.Content.TheVariants as content
+use Rattle.pungi_world.specs.Choices.{value_of}
+use Rattle.pungi_meaning.specs.Run as run
+use Rattle.pungi_code.specs.declared.code.Code.{Code}
+use Rattle.pungi_code.specs.declared.code.Line.{Line}
+use Rattle.pungi_code.specs.Entries.{code_fits}
+use Rattle.pungi_code.specs.Registers.{Regs}
+use Rattle.pungi_code.specs.Run.{exec, start}
+use Rattle.pungi_symbol.specs.declared.answers.decision.Decision.{Decision}
+use Rattle.pungi_symbol.specs.declared.answers.decision.Decision.TheVariants.{Quiet}
+use Rattle.pungi_symbol.specs.declared.states.known.Known.{Known}
+use Rattle.pungi_symbol.specs.declared.states.known.Status.{Status}
+use Rattle.pungi_symbol.specs.declared.states.known.Status.TheVariants as status
+use Rattle.pungi_symbol.specs.declared.states.mark.Mark.{Mark}
+use Rattle.pungi_symbol.specs.declared.states.mark.Mark.TheVariants.{Pointer, TextPointer, IsNull, IsObject, IsText, IsNumber}
+use Rattle.pungi_symbol.specs.declared.states.spot.Progress.TheVariants.{Looking}
+use Rattle.pungi_symbol.specs.declared.states.state.State.{State}
+use Rattle.pungi_symbol.specs.declared.states.sym_end.SymEnd.{SymEnd}
+use Rattle.pungi_symbol.specs.declared.states.sym_end.SymEnd.TheVariants as ends
+use Rattle.pungi_symbol.specs.declared.states.term.Term.{Term}
+use Rattle.pungi_symbol.specs.declared.states.term.Term.TheVariants.{Unset, Token}
+use Rattle.pungi_symbol.specs.states.Terms.{Table, at, content_of}
+use Rattle.pungi_symbol.specs.states.Known.{count, object_of}
+use Rattle.pungi_symbol.specs.questions.NextQuestion.{ask, contents}
+use Rattle.pungi_symbol.specs.answers.KnownAfter.{go}
+use Rattle.pungi_symbol.specs.answers.SymbolicState.{class, balance, can, apply}
+use Rattle.pungi_symbol.specs.runs.Fits.{FitsState}
+use Rattle.pungi_symbol.specs.runs.RunInState.{answer, Lies}
+
+abbrev pub value_in : Content → Option Value
+value_in content.Unset = None
+value_in (content.Holds v) = Some v
+
+abbrev pub returned_value : Table → Option Term → Option Value
+returned_value table None = None
+returned_value table (Some x) = value_in (content_of table x)
+
+-- ---- the start of a function
+
+abbrev pub arguments : Code → ℕ
+arguments code = length (take code.params code.vars)
+
+abbrev pub known_at : ℕ → ℕ → Code → Known
+known_at statics f code = record {
+  function = f;
+  pc = 0;
+  vars = map Token (range_with_len statics (arguments code)) ++ replicate (length code.vars - arguments code) Unset;
+  slots = [];
+  marks = replicate statics IsObject ++ map contents (take code.params code.vars);
+  progress = Looking 0;
+  status = status.Going;
+}
+
+abbrev pub start_state : ℕ → ℕ → Code → State
+start_state statics f code = record {
+  known = known_at statics f code;
+  statics = statics;
+  classes = range_with_len 0 (statics + arguments code);
+  balances = replicate (statics + arguments code) (pos 0);
+  others = [];
+}
+
+abbrev pub starts : ℕ → ℕ → Option Code → List (Decision × State)
+starts statics f None = []
+starts statics f (Some code) = (Quiet, start_state statics f code) ∷ []
+
+abbrev pub table_of : ℕ → Entry → List Choice → Table
+table_of statics entry choices = map value.Object (range_with_len 0 statics) ++ (entry.args ++ map value_of choices)
+
+-- ---- traces and paths
+
+pub data Asked (code : List Line) (table : Table) (first : Known) : List Decision → Known → Type 0 where
+  asked_here : Asked code table first [] first
+  asked_on : (ds : List Decision) (k : Known) → Asked code table first ds k → k.status ≡ status.Going
+      → Asked code table first (answer table k (ask code k) ∷ ds) (go (slice_get code k.pc) k (ask code k) (answer table k (ask code k)))
+
+pub data Path (code : List Line) (first : State) : List Decision → State → Type 0 where
+  path_here : Path code first [] first
+  path_on : (ds : List Decision) (s : State) (d : Decision) → Path code first ds s → can s (ask code s.known) d ≡ true
+      → Path code first (d ∷ ds) (apply (slice_get code s.known.pc) (ask code s.known) d s)
+
+-- ---- runs
+
+abbrev pub run_for : Code → Entry → List Choice → ℕ → run.End
+run_for code entry choices n = (exec choices code.instrs n 0 (start code entry)).end
+
+abbrev pub IsAt : Code → Entry → List Choice → ℕ → Table → Regs → ℕ → Status → Type 0
+IsAt code entry choices n table m pc status.Going = (fuel : ℕ) → run_for code entry choices (n + fuel) ≡ (exec choices code.instrs fuel pc m).end
+IsAt code entry choices n table m pc (status.Returned p x) = (fuel : ℕ) → run_for code entry choices (n + fuel) ≡ run.Returned m.world (returned_value table x) p m.used
+IsAt code entry choices n table m pc (status.Stopped p) = (fuel : ℕ) → run_for code entry choices (n + fuel) ≡ run.Stopped p
+
+pub record Meets (statics f : ℕ) (code : Code) (entry : Entry) (choices : List Choice) (n : ℕ) (ds : List Decision) (s : State) : Type 0 where
+  pub path : Path code.instrs (start_state statics f code) ds s
+  pub asked : Asked code.instrs (table_of statics entry choices) (known_at statics f code) ds s.known
+  pub m : Regs
+  pub lies : Lies code.instrs (table_of statics entry choices) (statics + arguments code) m s
+  pub is_at : IsAt code entry choices n (table_of statics entry choices) m s.known.pc s.known.status
+
+abbrev pub IsCovered : ℕ → ℕ → Code → Type 0
+IsCovered statics f code = (entry : Entry) (choices : List Choice) (n : ℕ) → code_fits statics code entry ≡ true
+    → (run_for code entry choices n ≡ run.NeedsChoice) ⊎ ((ds : List Decision) × ((s : State) × Meets statics f code entry choices n ds s))
+
+abbrev pub GoesBack : List Line → State → Decision × State → Type 0
+GoesBack code s p = (table : Table) → FitsState table p.1 → FitsState table s × (answer table s.known (ask code s.known) ≡ p.0)
+
+-- ---- a run for a state
+
+abbrev pub own_value : Mark → ℕ → Value
+own_value Pointer c = value.Object c
+own_value TextPointer c = value.Text
+own_value IsNull c = value.Null
+own_value IsObject c = value.Object c
+own_value IsText c = value.Text
+own_value (IsNumber n) c = value.Int n
+
+abbrev pub own_values : List Mark → List ℕ → Table
+own_values [] cs = []
+own_values (m ∷ ms) [] = []
+own_values (m ∷ ms) (c ∷ cs) = own_value m c ∷ own_values ms cs
+
+abbrev pub canon : State → Table
+canon s = own_values s.known.marks s.classes
+
+abbrev pub AreApart : State → Table → Type 0
+AreApart s table = (t u o : ℕ) → t < count s.known → u < count s.known → at table t ≡ value.Object o → at table u ≡ value.Object o → class s.classes t ≡ class s.classes u
+
+abbrev pub choice_of : Value → Choice
+choice_of value.Null = choice.Null
+choice_of (value.Object k) = choice.Object k
+choice_of (value.Int n) = choice.Int n
+choice_of value.Text = choice.Text
+
+-- ---- balance
+
+abbrev pub end_of : Status → SymEnd
+end_of status.Going = ends.Going
+end_of (status.Returned p x) = ends.Returned p
+end_of (status.Stopped p) = ends.Stopped p
+
+abbrev pub returned_object : Known → Option Term → Option ℕ
+returned_object k None = None
+returned_object k (Some x) = object_of k x
+
+abbrev pub is_class : List ℕ → Option ℕ → ℕ → Bool
+is_class classes None t = false
+is_class classes (Some u) t = class classes u == t
+
+abbrev pub wanted : State → Option Term → ℕ → ℤ
+wanted s x t = if is_class s.classes (returned_object s.known x) t then pos 1 else pos 0
+
+abbrev pub IsLevelState : State → Option Term → Type 0
+IsLevelState s x = (t : ℕ) → t < count s.known → balance s.balances t ≡ wanted s x t

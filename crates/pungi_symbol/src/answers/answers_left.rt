@@ -1,0 +1,120 @@
+// Which answers a question still has in a state.
+ghost use Rattle.std.specs.Prelude.{◌≡◌, ◌||◌, not};
+ghost use Rattle.pungi_symbol.specs.answers.SymbolicState.{is_order, is_decision, is_outcome, are_one, are_other, can_same, can};
+
+use crate::answers::decision::Decision;
+use crate::answers::outcomes::{outcomes_after, outcomes_of_call};
+use crate::questions::question::Question;
+use crate::states::balances::is_other;
+use crate::states::state::State;
+use std::cmp::Ordering;
+
+fn is_same_order(a: Ordering, b: Ordering) -> bool
+    ensures { result ≡ is_order a b }
+{
+    match a {
+        Ordering::Less => match b {
+            Ordering::Less => true,
+            Ordering::Equal => false,
+            Ordering::Greater => false,
+        },
+        Ordering::Equal => match b {
+            Ordering::Less => false,
+            Ordering::Equal => true,
+            Ordering::Greater => false,
+        },
+        Ordering::Greater => match b {
+            Ordering::Less => false,
+            Ordering::Equal => false,
+            Ordering::Greater => true,
+        },
+    }
+}
+
+fn is_this_same(a: bool, d: Decision) -> bool
+    ensures { result ≡ is_decision (Decision.Same a) d }
+{
+    match d {
+        Decision::Quiet => false,
+        Decision::Outcome(_) => false,
+        Decision::Order(_) => false,
+        Decision::Same(b) => { if a { b } else { !b } }
+    }
+}
+
+fn is_this_decision(a: Decision, d: Decision) -> bool
+    ensures { result ≡ is_decision a d }
+{
+    match a {
+        Decision::Quiet => match d {
+            Decision::Quiet => true,
+            Decision::Outcome(_) => false,
+            Decision::Order(_) => false,
+            Decision::Same(_) => false,
+        },
+        Decision::Outcome(j) => match d {
+            Decision::Quiet => false,
+            Decision::Outcome(k) => j == k,
+            Decision::Order(_) => false,
+            Decision::Same(_) => false,
+        },
+        Decision::Order(p) => match d {
+            Decision::Quiet => false,
+            Decision::Outcome(_) => false,
+            Decision::Order(q) => is_same_order(p, q),
+            Decision::Same(_) => false,
+        },
+        Decision::Same(b) => is_this_same(b, d),
+    }
+}
+
+fn is_an_outcome(n: u32, d: Decision) -> bool
+    ensures { result ≡ is_outcome n d }
+{
+    match d {
+        Decision::Outcome(k) => k < n,
+        Decision::Quiet => false,
+        Decision::Order(_) => false,
+        Decision::Same(_) => false,
+    }
+}
+
+impl State {
+    /// Whether two tokens may be one object.
+    fn can_be_one(&self, t: u32, u: u32) -> bool
+        ensures { result ≡ (are_one self.now.classes t u || not (are_other self.now.statics self.now.classes self.now.others t u)) }
+    {
+        let classes = self.classes.as_slice();
+        self.are_one(t, u) || !is_other(self.statics, classes, self.others.as_slice(), t, u)
+    }
+
+    fn can_same(&self, t: u32, u: u32, d: Decision) -> bool
+        ensures { result ≡ can_same self.now t u d }
+    {
+        match d {
+            Decision::Same(true) => self.can_be_one(t, u),
+            Decision::Same(false) => !self.are_one(t, u),
+            Decision::Quiet => false,
+            Decision::Outcome(_) => false,
+            Decision::Order(_) => false,
+        }
+    }
+
+    /// Whether a question still has this answer.
+    pub fn can(&self, q: Question, d: Decision) -> bool
+        ensures { result ≡ can self.now q d }
+    {
+        match q {
+            Question::Does(told) => is_this_decision(told, d),
+            Question::Touches(_) => is_this_decision(Decision::Quiet, d),
+            Question::Overwrites(m) => is_an_outcome(outcomes_after(m), d),
+            Question::Null(t) => is_an_outcome(outcomes_after(self.known.mark_of(t)), d),
+            Question::Base(t, u, _) => self.can_same(t, u, d),
+            Question::Answers(answer) => is_an_outcome(outcomes_of_call(answer), d),
+            Question::Same(t, u) => self.can_same(t, u, d),
+            Question::Returns(_) => is_this_decision(Decision::Quiet, d),
+            Question::Stops(told) => is_this_decision(told, d),
+            Question::Over => false,
+        }
+    }
+}

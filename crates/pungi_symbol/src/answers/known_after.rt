@@ -1,0 +1,258 @@
+// What is known after an answer to a question.
+ghost use Rattle.std.specs.Prelude.{◌≡◌, ◌+◌, IfOk, OnOk, Some, slice_get, slice_set, if◌then◌else◌};
+ghost use Rattle.pungi_code.specs.declared.instr.Instr.TheVariants.{Load as LoadOf, Store as StoreOf, Compare as CompareOf};
+ghost use Rattle.pungi_symbol.specs.declared.states.known.Status.TheVariants.{Returned as IsReturned, Stopped as IsStopped};
+ghost use Rattle.pungi_symbol.specs.states.Terms.{outcomes_of_mark, outcomes_of_answer, mark_at};
+ghost use Rattle.pungi_symbol.specs.states.Known.{count, mark};
+ghost use Rattle.pungi_symbol.specs.answers.KnownAfter.{next, put, arrive, compare_same, compared_var, compared, answered, term_with, api_var, touch, load_first, store_first, does, with_line, pos_of, instr_of, go, outcome, is_same};
+
+use crate::answers::decision::Decision;
+use crate::answers::outcomes::{mark_after, mark_of_answer, number_of_outcome, says_same};
+use crate::answers::perform::truth_term;
+use crate::questions::next_question::line_at;
+use crate::questions::question::Question;
+use crate::states::known::{Known, Status};
+use crate::states::mark::Mark;
+use crate::states::spot::{Progress, Spot, Touched};
+use crate::states::term::Term;
+use pungi_api::Answer;
+use pungi_base::{Memory, Pos, Value};
+use pungi_code::{Atom, Instr, Line, Place, Var};
+use pungi_meaning::Cmp;
+
+/// A comparison of two objects.
+fn compares_same(cmp: Cmp, same: bool) -> bool
+    ensures { result ≡ compare_same cmp same }
+{
+    cmp.holds(Value::Object(0), Value::Object(if same { 0 } else { 1 }))
+}
+
+/// What a call answered, of which this is known.
+fn answered_term(m: Mark, t: u32) -> Term
+    ensures { result ≡ term_with m t }
+{
+    match m {
+        Mark::Pointer => Term::Token(t),
+        Mark::TextPointer => Term::Token(t),
+        Mark::IsNull => Term::Null,
+        Mark::IsObject => Term::Token(t),
+        Mark::IsText => Term::Text,
+        Mark::IsNumber(n) => Term::Number(n),
+    }
+}
+
+fn place_of_line(code: &[Line], pc: usize) -> Pos
+    ensures { result ≡ pos_of (slice_get code.now pc) }
+{
+    match line_at(code, pc) {
+        None => Pos { line: 0, col: 0 },
+        Some(line) => line.pos,
+    }
+}
+
+fn call_var(code: &[Line], pc: usize) -> Option<Var>
+    ensures { result ≡ api_var (instr_of (slice_get code.now pc)) }
+{
+    match line_at(code, pc) {
+        None => None,
+        Some(line) => match &line.instr {
+            Instr::Api(x, _, _, _) => *x,
+            _ => None,
+        },
+    }
+}
+
+fn comparison_var(code: &[Line], pc: usize) -> u32
+    ensures { result ≡ compared_var (instr_of (slice_get code.now pc)) }
+{
+    match line_at(code, pc) {
+        None => 0,
+        Some(line) => match &line.instr {
+            Instr::Compare(x, _, _, _) => x.0,
+            _ => 0,
+        },
+    }
+}
+
+fn comparison_term(same: bool, code: &[Line], pc: usize) -> Term
+    ensures { result ≡ compared same (instr_of (slice_get code.now pc)) }
+{
+    match line_at(code, pc) {
+        None => Term::Unset,
+        Some(line) => match &line.instr {
+            Instr::Compare(_, cmp, _, _) => truth_term(compares_same(*cmp, same)),
+            _ => Term::Unset,
+        },
+    }
+}
+
+impl Known {
+    /// How many tokens there are.
+    pub fn tokens(&self) -> Result<u32, Memory>
+        ensures { IfOk result (λ n. n ≡ count self.now) }
+    {
+        let n = self.marks.len();
+        if n > u32::MAX as usize {
+            return Err(Memory);
+        }
+        Ok(n as u32)
+    }
+
+    fn arrive(&mut self, m: Mark) -> Result<(), Memory>
+        ensures { OnOk result (self.new ≡ arrive m self.old) }
+    {
+        self.marks.push(m)?;
+        Ok(())
+    }
+
+    fn touch(&mut self, spot: Spot, held: Term) -> Result<(), Memory>
+        ensures { OnOk result (self.new ≡ touch spot held self.old) }
+    {
+        let token = self.tokens()?;
+        let slot = Touched {
+            spot,
+            at_entry: Term::Token(token),
+            held,
+        };
+        self.slots.push(slot)?;
+        Ok(())
+    }
+
+    fn load_place(&mut self, x: Var, place: Place, m: Mark) -> Result<(), Memory>
+        ensures { OnOk result (self.new ≡ load_first (LoadOf x place) m self.old) }
+    {
+        let token = Term::Token(self.tokens()?);
+        let spot = self.spot(place);
+        self.touch(spot, token)?;
+        self.arrive(m)?;
+        self.assign(x.0, token)
+    }
+
+    fn load_line(&mut self, code: &[Line], m: Mark) -> Result<(), Memory>
+        ensures { OnOk result (self.new ≡ load_first (instr_of (slice_get code.now self.old.pc)) m self.old) }
+    {
+        match line_at(code, self.pc) {
+            None => self.arrive(m),
+            Some(line) => match &line.instr {
+                Instr::Load(x, place) => self.load_place(*x, *place, m),
+                _ => self.arrive(m),
+            },
+        }
+    }
+
+    fn store_place(&mut self, place: Place, a: Atom, m: Mark) -> Result<(), Memory>
+        ensures { OnOk result (self.new ≡ store_first (StoreOf place a) m self.old) }
+    {
+        let held = self.term(a);
+        let spot = self.spot(place);
+        self.touch(spot, held)?;
+        self.arrive(m)?;
+        self.go_on()
+    }
+
+    fn store_line(&mut self, code: &[Line], m: Mark) -> Result<(), Memory>
+        ensures { OnOk result (self.new ≡ store_first (instr_of (slice_get code.now self.old.pc)) m self.old) }
+    {
+        match line_at(code, self.pc) {
+            None => self.arrive(m),
+            Some(line) => match &line.instr {
+                Instr::Store(place, a) => self.store_place(*place, *a, m),
+                _ => self.arrive(m),
+            },
+        }
+    }
+
+    fn perform_line(&mut self, code: &[Line]) -> Result<(), Memory>
+        ensures { OnOk result (self.new ≡ with_line (slice_get code.now self.old.pc) (λ i. does self.old i) self.old) }
+    {
+        match line_at(code, self.pc) {
+            None => Ok(()),
+            Some(line) => self.perform(&line.instr),
+        }
+    }
+
+    fn note(&mut self, t: u32, k: u32)
+        ensures { self.new ≡ record self.old { marks = slice_set self.old.marks t (mark_at (outcomes_of_mark (mark self.old t)) k) } }
+    {
+        let m = mark_after(self.mark_of(t), k);
+        let place = t as usize;
+        if place < self.marks.len() {
+            self.marks.set(place, m);
+        }
+    }
+
+    fn walk(&mut self, same: bool, i: u32) -> Result<(), Memory>
+        ensures { OnOk result (self.new ≡ record self.old { progress = if same then Progress.Found i else Progress.Looking (i + 1) }) }
+    {
+        if same {
+            self.progress = Progress::Found(i);
+            return Ok(());
+        }
+        match i.checked_add(1) {
+            Some(next) => {
+                self.progress = Progress::Looking(next);
+                Ok(())
+            }
+            None => Err(Memory),
+        }
+    }
+
+    fn take_answer(&mut self, code: &[Line], m: Mark) -> Result<(), Memory>
+        ensures { OnOk result (self.new ≡ next (answered (api_var (instr_of (slice_get code.now self.old.pc))) (Some (term_with m (count self.old))) (arrive m self.old))) }
+    {
+        let x = call_var(code, self.pc);
+        let answer = answered_term(m, self.tokens()?);
+        self.arrive(m)?;
+        self.put_answer(x, Some(answer));
+        self.go_on()
+    }
+
+    fn take_same(&mut self, code: &[Line], same: bool) -> Result<(), Memory>
+        ensures { OnOk result (self.new ≡ next (put (compared_var (instr_of (slice_get code.now self.old.pc))) (compared same (instr_of (slice_get code.now self.old.pc))) self.old)) }
+    {
+        let x = comparison_var(code, self.pc);
+        let c = comparison_term(same, code, self.pc);
+        self.assign(x, c)
+    }
+
+    fn returns(&mut self, code: &[Line], x: Option<Term>)
+        ensures { self.new ≡ record self.old { status = IsReturned (pos_of (slice_get code.now self.old.pc)) x } }
+    {
+        self.status = Status::Returned(place_of_line(code, self.pc), x);
+    }
+
+    fn stops(&mut self, code: &[Line])
+        ensures { self.new ≡ record self.old { status = IsStopped (pos_of (slice_get code.now self.old.pc)) } }
+    {
+        self.status = Status::Stopped(place_of_line(code, self.pc));
+    }
+
+    /// What is known after an answer to a question.
+    pub fn go(&mut self, code: &[Line], q: Question, d: Decision) -> Result<(), Memory>
+        ensures { OnOk result (self.new ≡ go (slice_get code.now self.old.pc) self.old q d) }
+    {
+        let k = number_of_outcome(d);
+        let same = says_same(d);
+        match q {
+            Question::Does(_) => self.perform_line(code),
+            Question::Touches(m) => self.load_line(code, m),
+            Question::Overwrites(m) => self.store_line(code, mark_after(m, k)),
+            Question::Null(t) => {
+                self.note(t, k);
+                Ok(())
+            }
+            Question::Base(_, _, i) => self.walk(same, i),
+            Question::Answers(answer) => self.take_answer(code, mark_of_answer(answer, k)),
+            Question::Same(_, _) => self.take_same(code, same),
+            Question::Returns(x) => {
+                self.returns(code, x);
+                Ok(())
+            }
+            Question::Stops(_) => {
+                self.stops(code);
+                Ok(())
+            }
+            Question::Over => Ok(()),
+        }
+    }
+}

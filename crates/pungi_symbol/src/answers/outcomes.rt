@@ -1,0 +1,118 @@
+// The answers to a question, by their numbers.
+ghost use Rattle.std.specs.Prelude.{◌≡◌, ◌∷◌, [], length};
+ghost use Rattle.pungi_symbol.specs.states.Terms.{outcomes_of_mark, outcomes_of_answer, mark_at};
+ghost use Rattle.pungi_symbol.specs.answers.KnownAfter.{outcome, is_same};
+
+use crate::answers::decision::Decision;
+use crate::states::mark::Mark;
+use pungi_api::Answer;
+
+/// The number of an answer.
+pub fn number_of_outcome(d: Decision) -> u32
+    ensures { result ≡ outcome d }
+{
+    match d {
+        Decision::Outcome(k) => k,
+        Decision::Quiet => 0,
+        Decision::Order(_) => 0,
+        Decision::Same(_) => 0,
+    }
+}
+
+/// Whether an answer says that two pointers are the same.
+pub fn says_same(d: Decision) -> bool
+    ensures { result ≡ is_same d }
+{
+    match d {
+        Decision::Same(b) => b,
+        Decision::Outcome(_) => false,
+        Decision::Quiet => false,
+        Decision::Order(_) => false,
+    }
+}
+
+fn one_mark(a: Mark, k: u32) -> Mark
+    ensures { result ≡ mark_at (a ∷ []) k }
+{
+    if k == 0 { a } else { Mark::IsNull }
+}
+
+fn one_of_two(a: Mark, b: Mark, k: u32) -> Mark
+    ensures { result ≡ mark_at (a ∷ b ∷ []) k }
+{
+    if k == 0 { a } else { one_mark(b, k - 1) }
+}
+
+fn one_of_three(a: Mark, b: Mark, c: Mark, k: u32) -> Mark
+    ensures { result ≡ mark_at (a ∷ b ∷ c ∷ []) k }
+{
+    if k == 0 { a } else { one_of_two(b, c, k - 1) }
+}
+
+/// What is known of a token after an answer to whether it is `NULL`.
+pub fn mark_after(m: Mark, k: u32) -> Mark
+    ensures { result ≡ mark_at (outcomes_of_mark m) k }
+{
+    match m {
+        Mark::Pointer => one_of_two(Mark::IsNull, Mark::IsObject, k),
+        Mark::TextPointer => one_of_two(Mark::IsNull, Mark::IsText, k),
+        Mark::IsNull => Mark::IsNull,
+        Mark::IsObject => Mark::IsNull,
+        Mark::IsText => Mark::IsNull,
+        Mark::IsNumber(_) => Mark::IsNull,
+    }
+}
+
+/// How many answers there are to whether a token is `NULL`.
+pub fn outcomes_after(m: Mark) -> u32
+    ensures { result ≡ length (outcomes_of_mark m) }
+{
+    match m {
+        Mark::Pointer => 2,
+        Mark::TextPointer => 2,
+        Mark::IsNull => 0,
+        Mark::IsObject => 0,
+        Mark::IsText => 0,
+        Mark::IsNumber(_) => 0,
+    }
+}
+
+/// What is known of what a call answered.
+pub fn mark_of_answer(answer: Answer, k: u32) -> Mark
+    ensures { result ≡ mark_at (outcomes_of_answer answer) k }
+{
+    match answer {
+        Answer::New => one_of_two(Mark::IsNull, Mark::IsObject, k),
+        Answer::Borrowed => one_of_two(Mark::IsNull, Mark::IsObject, k),
+        Answer::BorrowedSure => one_mark(Mark::IsObject, k),
+        Answer::Status => one_of_two(Mark::IsNumber(0), Mark::IsNumber(-1), k),
+        Answer::Truth => {
+            one_of_three(Mark::IsNumber(1), Mark::IsNumber(0), Mark::IsNumber(-1), k)
+        }
+        Answer::Text => one_of_two(Mark::IsNull, Mark::IsText, k),
+        Answer::Size => Mark::IsNull,
+        Answer::Int => Mark::IsNull,
+        Answer::Long => Mark::IsNull,
+        Answer::Void => Mark::IsNull,
+        Answer::Null => Mark::IsNull,
+    }
+}
+
+/// How many answers a call may give.
+pub fn outcomes_of_call(answer: Answer) -> u32
+    ensures { result ≡ length (outcomes_of_answer answer) }
+{
+    match answer {
+        Answer::New => 2,
+        Answer::Borrowed => 2,
+        Answer::BorrowedSure => 1,
+        Answer::Status => 2,
+        Answer::Truth => 3,
+        Answer::Text => 2,
+        Answer::Size => 0,
+        Answer::Int => 0,
+        Answer::Long => 0,
+        Answer::Void => 0,
+        Answer::Null => 0,
+    }
+}

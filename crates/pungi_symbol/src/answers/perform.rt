@@ -1,0 +1,222 @@
+// What is known after an instruction's work is done.
+ghost use Rattle.std.specs.Prelude.{◌≡◌, OnOk};
+ghost use Rattle.pungi_code.specs.declared.instr.Instr.TheVariants.{Arith as ArithOf, Fit as FitOf, Compare as CompareOf, Load as LoadOf, Store as StoreOf, Api as ApiOf, Branch as BranchOf};
+ghost use Rattle.pungi_symbol.specs.states.Known.{find, found_at, term_of};
+ghost use Rattle.pungi_symbol.specs.questions.NextQuestion.{first_term, terms_of};
+ghost use Rattle.pungi_symbol.specs.answers.KnownAfter.{next, to, put, truth_of, compare, number_or_0, answered, row_answer, special_answer, form_answer, stored, does};
+
+use crate::questions::slot_search::place_found;
+use crate::states::known::Known;
+use crate::states::spot::{Progress, Touched};
+use crate::states::term::Term;
+use pungi_api::{Answer, Form, Shape, Special};
+use pungi_base::Memory;
+use pungi_code::{Atom, Instr, Label, Place, Var};
+use pungi_meaning::{Cmp, Op, arithmetic, is_true, number_of, truth};
+use pungi_types::ValueKind;
+
+/// What a comparison gives.
+pub fn truth_term(holds: bool) -> Term
+    ensures { result ≡ truth_of holds }
+{
+    Term::Number(number_of(truth(holds)))
+}
+
+fn number_there(n: Option<i64>) -> i64
+    ensures { result ≡ number_or_0 n }
+{
+    match n {
+        Some(n) => n,
+        None => 0,
+    }
+}
+
+fn answer_of_row(answer: Answer) -> Option<Term>
+    ensures { result ≡ row_answer answer }
+{
+    match answer {
+        Answer::Void => None,
+        _ => Some(Term::Null),
+    }
+}
+
+fn answer_of_special(special: Special, x: Term) -> Option<Term>
+    ensures { result ≡ special_answer special x }
+{
+    match special {
+        Special::NewRef => Some(x),
+        Special::XNewRef => Some(x),
+        _ => None,
+    }
+}
+
+fn answer_of_form(form: Form, answer: Answer, x: Term) -> Option<Term>
+    ensures { result ≡ form_answer form answer x }
+{
+    match form {
+        Form::Plain => answer_of_row(answer),
+        Form::Special(special) => answer_of_special(special, x),
+    }
+}
+
+impl Known {
+    fn put(&mut self, x: u32, c: Term)
+        ensures { self.new ≡ put x c self.old }
+    {
+        let place = x as usize;
+        if place < self.vars.len() {
+            self.vars.set(place, c);
+        }
+    }
+
+    /// To the next instruction.
+    pub fn go_on(&mut self) -> Result<(), Memory>
+        ensures { OnOk result (self.new ≡ next self.old) }
+    {
+        match self.pc.checked_add(1) {
+            Some(pc) => {
+                self.pc = pc;
+                self.progress = Progress::Looking(0);
+                Ok(())
+            }
+            None => Err(Memory),
+        }
+    }
+
+    fn go_to(&mut self, label: Label)
+        ensures { self.new ≡ to label.0 self.old }
+    {
+        self.pc = label.0 as usize;
+        self.progress = Progress::Looking(0);
+    }
+
+    /// A variable gets this, and the next instruction comes.
+    pub fn assign(&mut self, x: u32, c: Term) -> Result<(), Memory>
+        ensures { OnOk result (self.new ≡ next (put x c self.old)) }
+    {
+        self.put(x, c);
+        self.go_on()
+    }
+
+    /// A variable gets the answer of a call, where there is one.
+    pub fn put_answer(&mut self, x: Option<Var>, answer: Option<Term>)
+        ensures { self.new ≡ answered x answer self.old }
+    {
+        match x {
+            None => {}
+            Some(x) => match answer {
+                None => {}
+                Some(c) => self.put(x.0, c),
+            },
+        }
+    }
+
+    fn store_at(&mut self, i: u32, c: Term)
+        ensures { self.new ≡ stored i c self.old }
+    {
+        let was = self.slot(i);
+        let place = i as usize;
+        if place < self.slots.len() {
+            let now = Touched {
+                spot: was.spot,
+                at_entry: was.at_entry,
+                held: c,
+            };
+            self.slots.set(place, now);
+        }
+    }
+
+    fn compares(&self, cmp: Cmp, x: Term, y: Term) -> bool
+        ensures { result ≡ compare self.now cmp x y }
+    {
+        cmp.holds(self.value(x), self.value(y))
+    }
+
+    fn do_arith(&mut self, x: Var, kind: ValueKind, op: Op, a: Atom, b: Atom) -> Result<(), Memory>
+        ensures { OnOk result (self.new ≡ does self.old (ArithOf x kind op a b)) }
+    {
+        let (left, right) = (self.number(self.term(a)), self.number(self.term(b)));
+        let n = number_there(arithmetic(op, kind, left, right));
+        self.assign(x.0, Term::Number(n))
+    }
+
+    fn do_fit(&mut self, x: Var, kind: ValueKind, a: Atom) -> Result<(), Memory>
+        ensures { OnOk result (self.new ≡ does self.old (FitOf x kind a)) }
+    {
+        let n = self.number(self.term(a));
+        self.assign(x.0, Term::Number(n))
+    }
+
+    fn do_compare(&mut self, x: Var, cmp: Cmp, a: Atom, b: Atom) -> Result<(), Memory>
+        ensures { OnOk result (self.new ≡ does self.old (CompareOf x cmp a b)) }
+    {
+        let holds = self.compares(cmp, self.term(a), self.term(b));
+        self.assign(x.0, truth_term(holds))
+    }
+
+    fn do_load(&mut self, x: Var, place: Place) -> Result<(), Memory>
+        ensures { OnOk result (self.new ≡ does self.old (LoadOf x place)) }
+    {
+        let found = self.seek(place)?;
+        let held = self.held(found);
+        self.assign(x.0, held)
+    }
+
+    fn do_store(&mut self, place: Place, a: Atom) -> Result<(), Memory>
+        ensures { OnOk result (self.new ≡ does self.old (StoreOf place a)) }
+    {
+        let found = self.seek(place)?;
+        let c = self.term(a);
+        self.store_at(place_found(found), c);
+        self.go_on()
+    }
+
+    fn do_call(&mut self, x: Option<Var>, shape: &Shape, atoms: &[Atom]) -> Result<(), Memory>
+        ensures { OnOk result (self.new ≡ next (answered x (form_answer shape.now.row.form shape.now.row.answer (first_term (terms_of self.old atoms.now))) self.old)) }
+    {
+        let first = self.first_of(atoms);
+        let answer = answer_of_form(shape.row.form, shape.row.answer, first);
+        self.put_answer(x, answer);
+        self.go_on()
+    }
+
+    fn do_branch(&mut self, a: Atom, this: Label, other: Label)
+        ensures { self.new ≡ does self.old (BranchOf a this other) }
+    {
+        if is_true(self.value(self.term(a))) {
+            self.go_to(this);
+        } else {
+            self.go_to(other);
+        }
+    }
+
+    /// An instruction's work is done.
+    pub fn perform(&mut self, instr: &Instr) -> Result<(), Memory>
+        ensures { OnOk result (self.new ≡ does self.old instr.now) }
+    {
+        match instr {
+            Instr::Set(x, a) => {
+                let c = self.term(*a);
+                self.assign(x.0, c)
+            }
+            Instr::Arith(x, kind, op, a, b) => self.do_arith(*x, *kind, *op, *a, *b),
+            Instr::Fit(x, kind, a) => self.do_fit(*x, *kind, *a),
+            Instr::Compare(x, cmp, a, b) => self.do_compare(*x, *cmp, *a, *b),
+            Instr::Load(x, place) => self.do_load(*x, *place),
+            Instr::Store(place, a) => self.do_store(*place, *a),
+            Instr::Api(x, shape, args, _) => self.do_call(*x, shape, args.as_slice()),
+            Instr::Call(_, _, _) => Ok(()),
+            Instr::Unset(x) => self.assign(x.0, Term::Unset),
+            Instr::Jump(to) => {
+                self.go_to(*to);
+                Ok(())
+            }
+            Instr::Branch(a, this, other) => {
+                self.do_branch(*a, *this, *other);
+                Ok(())
+            }
+            Instr::Return(_) => Ok(()),
+            Instr::Fall => Ok(()),
+        }
+    }
+}

@@ -1,0 +1,162 @@
+// The states after the answers to the next question.
+ghost use Rattle.std.specs.Prelude.{◌≡◌, ◌++◌, Some, slice_get, IfOk, OnOk};
+ghost use Rattle.std.specs.List.{flat_map};
+ghost use Rattle.pungi_symbol.specs.answers.SymbolicState.{after_if, after_left, decisions, successors};
+ghost use Rattle.pungi_symbol.specs.Promises.{next_states};
+
+use crate::answers::decision::Decision;
+use crate::questions::question::Question;
+use crate::states::code_lines::lines;
+use crate::states::state::State;
+use crate::states::sym::Sym;
+use pungi_base::Memory;
+use pungi_code::{Codes, Line};
+use std::alloc::Global;
+use std::cmp::Ordering;
+
+impl State {
+    /// The state after an answer is put among the next ones.
+    fn put_next(
+        self,
+        alloc: Global,
+        code: &[Line],
+        q: Question,
+        d: Decision,
+        next: &mut Vec<(Decision, Sym)>,
+    ) -> Result<(), Memory>
+        ensures { OnOk result (next.new.items ≡ next.old.items ++ after_left (slice_get code.now self.known.pc) q self (Some d)) }
+    {
+        let mut state = self;
+        state.answer(alloc, code, q, d)?;
+        next.push((d, Sym::new(state)))?;
+        Ok(())
+    }
+
+    /// The state after an answer that is left over, if there is one, is put there.
+    fn put_left(
+        self,
+        alloc: Global,
+        code: &[Line],
+        q: Question,
+        left: Option<Decision>,
+        next: &mut Vec<(Decision, Sym)>,
+    ) -> Result<(), Memory>
+        ensures { OnOk result (next.new.items ≡ next.old.items ++ after_left (slice_get code.now self.known.pc) q self left) }
+    {
+        match left {
+            None => Ok(()),
+            Some(d) => self.put_next(alloc, code, q, d, next),
+        }
+    }
+
+    /// The same, in a copy of the state.
+    fn put_copy(
+        &self,
+        alloc: Global,
+        code: &[Line],
+        q: Question,
+        left: Option<Decision>,
+        next: &mut Vec<(Decision, Sym)>,
+    ) -> Result<(), Memory>
+        ensures { OnOk result (next.new.items ≡ next.old.items ++ after_left (slice_get code.now self.now.known.pc) q self.now left) }
+    {
+        match left {
+            None => Ok(()),
+            Some(d) => {
+                let state = self.copy(alloc)?;
+                state.put_next(alloc, code, q, d, next)
+            }
+        }
+    }
+
+    /// One more answer, if the question still has it. It is left over in place of the one that was.
+    fn leave(
+        &self,
+        alloc: Global,
+        code: &[Line],
+        q: Question,
+        left: Option<Decision>,
+        d: Decision,
+        next: &mut Vec<(Decision, Sym)>,
+    ) -> Result<Option<Decision>, Memory>
+        ensures { IfOk result (λ o. next.new.items ++ after_left (slice_get code.now self.now.known.pc) q self.now o ≡ (next.old.items ++ after_left (slice_get code.now self.now.known.pc) q self.now left) ++ after_if (slice_get code.now self.now.known.pc) q self.now d) }
+    {
+        if self.can(q, d) {
+            self.put_copy(alloc, code, q, left, next)?;
+            Ok(Some(d))
+        } else {
+            Ok(left)
+        }
+    }
+
+    /// The states after all answers that the question still has, but for the last one, which is left over.
+    #[tactic(auto, using(crate::proofs::answers::EachAnswer::next_step, crate::proofs::answers::EachAnswer::next_end))]
+    fn put_answers(
+        &self,
+        alloc: Global,
+        code: &[Line],
+        q: Question,
+        decisions: &[Decision],
+        next: &mut Vec<(Decision, Sym)>,
+    ) -> Result<Option<Decision>, Memory>
+        ensures { IfOk result (λ o. next.new.items ++ after_left (slice_get code.now self.now.known.pc) q self.now o ≡ next.old.items ++ flat_map (after_if (slice_get code.now self.now.known.pc) q self.now) decisions.now) }
+    {
+        let mut left = None;
+        for d in decisions {
+            left = self.leave(alloc, code, q, left, *d, next)?;
+        }
+        Ok(left)
+    }
+
+    /// The states after all answers but the last one, which is left over.
+    fn put_all(
+        &self,
+        alloc: Global,
+        code: &[Line],
+        q: Question,
+        next: &mut Vec<(Decision, Sym)>,
+    ) -> Result<Option<Decision>, Memory>
+        ensures { IfOk result (λ o. next.new.items ++ after_left (slice_get code.now self.now.known.pc) q self.now o ≡ next.old.items ++ flat_map (after_if (slice_get code.now self.now.known.pc) q self.now) decisions) }
+    {
+        let decisions = [
+            Decision::Quiet,
+            Decision::Outcome(0),
+            Decision::Outcome(1),
+            Decision::Outcome(2),
+            Decision::Order(Ordering::Less),
+            Decision::Order(Ordering::Equal),
+            Decision::Order(Ordering::Greater),
+            Decision::Same(false),
+            Decision::Same(true),
+        ];
+        self.put_answers(alloc, code, q, &decisions, next)
+    }
+
+    /// The next states, each with its answer. The last one takes the place of the state, which isn't copied for it.
+    fn next_states(self, alloc: Global, code: &[Line]) -> Result<Vec<(Decision, Sym)>, Memory>
+        ensures { IfOk result (λ next. next.items ≡ successors code.now self) }
+    {
+        let q = self.known.question(code)?;
+        let mut next = Vec::new(alloc);
+        let left = self.put_all(alloc, code, q, &mut next)?;
+        self.put_left(alloc, code, q, left, &mut next)?;
+        Ok(next)
+    }
+}
+
+/// The next states of a symbolic state, which is used up.
+pub fn next_from(alloc: Global, codes: &Codes, state: Sym) -> Result<Vec<(Decision, Sym)>, Memory>
+    ensures { IfOk result (λ next. next.items ≡ next_states codes.now state) }
+{
+    let state = state.into_state();
+    let code = lines(codes, state.known.function);
+    state.next_states(alloc, code)
+}
+
+/// The next states of a symbolic state.
+pub fn next_of(alloc: Global, codes: &Codes, state: &Sym) -> Result<Vec<(Decision, Sym)>, Memory>
+    ensures { IfOk result (λ next. next.items ≡ next_states codes.now state.now) }
+{
+    let copy = Sym::new(state.state().copy(alloc)?);
+    next_from(alloc, codes, copy)
+}

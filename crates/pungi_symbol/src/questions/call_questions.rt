@@ -1,0 +1,131 @@
+// What a call of the API asks.
+ghost use Rattle.std.specs.Prelude.{◌≡◌, min};
+ghost use Rattle.pungi_symbol.specs.states.Known.{term_of};
+ghost use Rattle.pungi_symbol.specs.questions.NextQuestion.{all_set, needing_for, needing_all, knowing_for, knowing_taken, first_term, special_ask, form_ask, terms_of};
+
+use crate::answers::decision::Decision;
+use crate::questions::question::Question;
+use crate::questions::term_questions::{asks_answer, asks_set};
+use crate::states::known::Known;
+use crate::states::term::Term;
+use pungi_api::{Form, Param, Shape, Special, Take};
+use pungi_code::Atom;
+
+/// The smaller of two lengths.
+pub fn shorter(m: usize, n: usize) -> usize
+    ensures { result ≡ min m n }
+{
+    if m < n { m } else { n }
+}
+
+impl Known {
+    fn asks_param(&self, param: Param, x: Term, q: Question) -> Question
+        ensures { result ≡ needing_for self.now param x q }
+    {
+        match param {
+            Param::Object => self.asks_thing(x, q),
+            Param::Text => self.asks_thing(x, q),
+            Param::ObjectOrNull => q,
+            Param::TextOrNull => q,
+            Param::Int => q,
+            Param::Long => q,
+            Param::Size => q,
+            Param::ModuleDef => q,
+        }
+    }
+
+    fn asks_take(&self, take: Take, x: Term, q: Question) -> Question
+        ensures { result ≡ knowing_for self.now take x q }
+    {
+        match take {
+            Take::Never => q,
+            Take::Always => self.asks_known(x, q),
+            Take::OnSuccess => self.asks_known(x, q),
+        }
+    }
+
+    /// The first argument.
+    pub fn first_of(&self, atoms: &[Atom]) -> Term
+        ensures { result ≡ first_term (terms_of self.now atoms.now) }
+    {
+        match atoms.first() {
+            Some(a) => self.term(*a),
+            None => Term::Null,
+        }
+    }
+
+    /// Each of these is set. From the last to the first, so that the first asks first.
+    #[tactic(auto, using(crate::proofs::questions::Arguments::set_step, crate::proofs::questions::Arguments::set_end))]
+    pub fn asks_all_set(&self, atoms: &[Atom], last: Question) -> Question
+        ensures { result ≡ all_set (terms_of self.now atoms.now) last }
+    {
+        let mut q = last;
+        let mut i = atoms.len();
+        while i > 0 {
+            i -= 1;
+            q = asks_set(self.term(atoms[i]), q);
+        }
+        q
+    }
+
+    #[tactic(auto, using(crate::proofs::questions::Arguments::needing_step, crate::proofs::questions::Arguments::needing_end))]
+    fn asks_params(&self, params: &[Param], atoms: &[Atom], last: Question) -> Question
+        ensures { result ≡ needing_all self.now params.now (terms_of self.now atoms.now) last }
+    {
+        let mut q = last;
+        let mut i = shorter(params.len(), atoms.len());
+        while i > 0 {
+            i -= 1;
+            q = self.asks_param(params[i], self.term(atoms[i]), q);
+        }
+        q
+    }
+
+    #[tactic(auto, using(crate::proofs::questions::Arguments::taken_step, crate::proofs::questions::Arguments::taken_end))]
+    fn asks_takes(&self, takes: &[Take], atoms: &[Atom], last: Question) -> Question
+        ensures { result ≡ knowing_taken self.now takes.now (terms_of self.now atoms.now) last }
+    {
+        let mut q = last;
+        let mut i = shorter(takes.len(), atoms.len());
+        while i > 0 {
+            i -= 1;
+            q = self.asks_take(takes[i], self.term(atoms[i]), q);
+        }
+        q
+    }
+
+    fn asks_special(&self, special: Special, x: Term) -> Question
+        ensures { result ≡ special_ask self.now special x }
+    {
+        let done = Question::Does(Decision::Quiet);
+        match special {
+            Special::IncRef => self.asks_thing(x, done),
+            Special::DecRef => self.asks_thing(x, done),
+            Special::XIncRef => self.asks_known(x, done),
+            Special::XDecRef => self.asks_known(x, done),
+            Special::NewRef => self.asks_thing(x, done),
+            Special::XNewRef => self.asks_known(x, done),
+            _ => Question::Stops(Decision::Quiet),
+        }
+    }
+
+    fn asks_form(&self, shape: &Shape, atoms: &[Atom]) -> Question
+        ensures { result ≡ form_ask self.now shape.now.row.form shape.now (terms_of self.now atoms.now) }
+    {
+        match shape.row.form {
+            Form::Plain => {
+                let answer = asks_answer(shape.row.answer);
+                let takes = self.asks_takes(shape.row.takes.as_slice(), atoms, answer);
+                self.asks_params(shape.row.params.as_slice(), atoms, takes)
+            }
+            Form::Special(special) => self.asks_special(special, self.first_of(atoms)),
+        }
+    }
+
+    /// A call of the API.
+    pub fn asks_call(&self, shape: &Shape, atoms: &[Atom]) -> Question
+        ensures { result ≡ all_set (terms_of self.now atoms.now) (form_ask self.now shape.now.row.form shape.now (terms_of self.now atoms.now)) }
+    {
+        self.asks_all_set(atoms, self.asks_form(shape, atoms))
+    }
+}

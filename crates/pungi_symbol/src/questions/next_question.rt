@@ -1,0 +1,128 @@
+// What the next instruction asks.
+ghost use Rattle.std.specs.Prelude.{◌≡◌, ◌<◌, IfOk, MatchOption, None, Some, length, slice_get};
+ghost use Rattle.pungi_code.specs.declared.instr.Instr.TheVariants.{Arith as ArithOf};
+ghost use Rattle.pungi_code.specs.WellFormed.{place_kind};
+ghost use Rattle.pungi_meaning.specs.Values.{arithmetic as arithmetic_result};
+ghost use Rattle.pungi_symbol.specs.states.Known.{term_of, number, find};
+ghost use Rattle.pungi_symbol.specs.questions.NextQuestion.{setting, knowing, ranged, is_below, fitting, contents, loading, storing, return_ask, ask_of, ask_line, ask};
+
+use crate::answers::decision::Decision;
+use crate::questions::question::Question;
+use crate::questions::term_questions::{asks_arith, asks_fit, asks_set, content_mark};
+use crate::states::known::{Known, Status};
+use pungi_api::Param;
+use pungi_base::Memory;
+use pungi_code::{Atom, Instr, Line, Place};
+use pungi_meaning::Op;
+use pungi_types::ValueKind;
+
+/// The instruction at this place, if there is one.
+pub fn line_at(instrs: &[Line], pc: usize) -> Option<&Line>
+    ensures { MatchOption result (slice_get instrs.now pc ≡ None) (λ l. (slice_get instrs.now pc ≡ Some l.now) × (pc < length instrs.now)) }
+{
+    if pc < instrs.len() {
+        Some(&instrs[pc])
+    } else {
+        None
+    }
+}
+
+/// What a slot holds.
+fn kind_of(place: Place) -> Param
+    ensures { result ≡ place_kind place }
+{
+    match place {
+        Place::Global(_, kind) => kind,
+        Place::Field(_, _, _, kind) => kind,
+    }
+}
+
+impl Known {
+    fn asks_set_atom(&self, a: Atom) -> Question
+        ensures { result ≡ setting (term_of self.now a) (Question.Does Decision.Quiet) }
+    {
+        asks_set(self.term(a), Question::Does(Decision::Quiet))
+    }
+
+    fn asks_operator(&self, kind: ValueKind, op: Op, a: Atom, b: Atom) -> Question
+        ensures { result ≡ setting (term_of self.now a) (setting (term_of self.now b) (ranged (arithmetic_result op kind (number self.now (term_of self.now a)) (number self.now (term_of self.now b))) (is_below op (number self.now (term_of self.now a)) (number self.now (term_of self.now b))))) }
+    {
+        let (x, y) = (self.term(a), self.term(b));
+        let done = asks_arith(op, kind, self.number(x), self.number(y));
+        asks_set(x, asks_set(y, done))
+    }
+
+    fn asks_conversion(&self, kind: ValueKind, a: Atom) -> Question
+        ensures { result ≡ setting (term_of self.now a) (fitting kind (number self.now (term_of self.now a))) }
+    {
+        let x = self.term(a);
+        asks_set(x, asks_fit(kind, self.number(x)))
+    }
+
+    fn asks_place_load(&self, place: Place) -> Result<Question, Memory>
+        ensures { IfOk result (λ q. q ≡ loading self.now (contents (place_kind place)) (find self.now place)) }
+    {
+        let found = self.seek(place)?;
+        Ok(self.asks_load(content_mark(kind_of(place)), found))
+    }
+
+    fn asks_place_store(&self, place: Place, a: Atom) -> Result<Question, Memory>
+        ensures { IfOk result (λ q. q ≡ knowing self.now (term_of self.now a) (storing self.now (contents (place_kind place)) (find self.now place))) }
+    {
+        let found = self.seek(place)?;
+        let done = self.asks_store(content_mark(kind_of(place)), found);
+        Ok(self.asks_known(self.term(a), done))
+    }
+
+    fn asks_return(&self, a: Option<Atom>) -> Question
+        ensures { result ≡ return_ask self.now a }
+    {
+        match a {
+            None => Question::Returns(None),
+            Some(a) => {
+                let x = self.term(a);
+                self.asks_known(x, Question::Returns(Some(x)))
+            }
+        }
+    }
+
+    fn asks_instr(&self, instr: &Instr) -> Result<Question, Memory>
+        ensures { IfOk result (λ q. q ≡ ask_of self.now instr.now) }
+    {
+        match instr {
+            Instr::Set(_, a) => Ok(self.asks_set_atom(*a)),
+            Instr::Arith(_, kind, op, a, b) => Ok(self.asks_operator(*kind, *op, *a, *b)),
+            Instr::Fit(_, kind, a) => Ok(self.asks_conversion(*kind, *a)),
+            Instr::Compare(_, _, a, b) => Ok(self.asks_compare(self.term(*a), self.term(*b))),
+            Instr::Load(_, place) => Ok(self.asks_place_load(*place)?),
+            Instr::Store(place, a) => self.asks_place_store(*place, *a),
+            Instr::Api(_, shape, args, _) => Ok(self.asks_call(shape, args.as_slice())),
+            Instr::Call(_, _, _) => Ok(Question::Stops(Decision::Quiet)),
+            Instr::Unset(_) => Ok(Question::Does(Decision::Quiet)),
+            Instr::Jump(_) => Ok(Question::Does(Decision::Quiet)),
+            Instr::Branch(a, _, _) => Ok(self.asks_condition(self.term(*a))),
+            Instr::Return(a) => Ok(self.asks_return(*a)),
+            Instr::Fall => Ok(Question::Stops(Decision::Quiet)),
+        }
+    }
+
+    fn asks_line(&self, code: &[Line]) -> Result<Question, Memory>
+        ensures { IfOk result (λ q. q ≡ ask_line self.now (slice_get code.now self.now.pc)) }
+    {
+        match line_at(code, self.pc) {
+            None => Ok(Question::Stops(Decision::Quiet)),
+            Some(line) => self.asks_instr(&line.instr),
+        }
+    }
+
+    /// What the next instruction asks, where the run isn't over.
+    pub fn question(&self, code: &[Line]) -> Result<Question, Memory>
+        ensures { IfOk result (λ q. q ≡ ask code.now self.now) }
+    {
+        match self.status {
+            Status::Going => self.asks_line(code),
+            Status::Returned(_, _) => Ok(Question::Over),
+            Status::Stopped(_) => Ok(Question::Over),
+        }
+    }
+}

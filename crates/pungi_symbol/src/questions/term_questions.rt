@@ -1,0 +1,266 @@
+// What the parts of an instruction ask.
+ghost use Rattle.std.specs.Prelude.{◌≡◌, pos, Some};
+ghost use Rattle.pungi_symbol.specs.states.Known.{number_in};
+ghost use Rattle.pungi_meaning.specs.Values.{arithmetic as arithmetic_result};
+ghost use Rattle.pungi_symbol.specs.questions.NextQuestion.{setting, knowing, knowing_mark, needing, needing_mark, ordering, comparing, compare_ask, ranged, is_below, fitting, contents, loading, storing, dropping, answering};
+
+use crate::answers::decision::Decision;
+use crate::questions::found_slot::Finding;
+use crate::questions::question::Question;
+use crate::states::known::{Known, constant};
+use crate::states::mark::Mark;
+use crate::states::term::Term;
+use pungi_api::{Answer, Param};
+use pungi_meaning::{Op, arithmetic, fits};
+use pungi_types::ValueKind;
+
+/// The step needs a set term.
+pub fn asks_set(x: Term, q: Question) -> Question
+    ensures { result ≡ setting x q }
+{
+    match x {
+        Term::Unset => Question::Stops(Decision::Quiet),
+        Term::Null => q,
+        Term::Text => q,
+        Term::Number(_) => q,
+        Term::Token(_) => q,
+    }
+}
+
+fn knows_mark(m: Mark, t: u32, q: Question) -> Question
+    ensures { result ≡ knowing_mark m t q }
+{
+    match m {
+        Mark::Pointer => Question::Null(t),
+        Mark::TextPointer => Question::Null(t),
+        Mark::IsNull => q,
+        Mark::IsObject => q,
+        Mark::IsText => q,
+        Mark::IsNumber(_) => q,
+    }
+}
+
+fn needs_mark(m: Mark, t: u32, q: Question) -> Question
+    ensures { result ≡ needing_mark m t q }
+{
+    match m {
+        Mark::Pointer => Question::Null(t),
+        Mark::TextPointer => Question::Null(t),
+        Mark::IsNull => Question::Stops(Decision::Quiet),
+        Mark::IsObject => q,
+        Mark::IsText => q,
+        Mark::IsNumber(_) => q,
+    }
+}
+
+fn asks_order(a: Option<i64>, b: Option<i64>, q: Question) -> Question
+    ensures { result ≡ ordering a b q }
+{
+    match a {
+        None => q,
+        Some(m) => match b {
+            None => q,
+            Some(n) => Question::Does(Decision::Order(m.cmp(&n))),
+        },
+    }
+}
+
+fn asks_same(a: Option<u32>, b: Option<u32>) -> Question
+    ensures { result ≡ comparing a b }
+{
+    match a {
+        None => Question::Does(Decision::Quiet),
+        Some(t) => match b {
+            None => Question::Does(Decision::Quiet),
+            Some(u) => Question::Same(t, u),
+        },
+    }
+}
+
+fn asks_range(number: Option<i64>, below: bool) -> Question
+    ensures { result ≡ ranged number below }
+{
+    match number {
+        Some(_) => Question::Does(Decision::Outcome(1)),
+        None => Question::Stops(Decision::Outcome(if below { 0 } else { 2 })),
+    }
+}
+
+/// A conversion to a kind of integers.
+pub fn asks_fit(kind: ValueKind, n: i64) -> Question
+    ensures { result ≡ fitting kind n }
+{
+    if fits(kind, n) {
+        Question::Does(Decision::Outcome(1))
+    } else {
+        Question::Stops(Decision::Outcome(if n < 0 { 0 } else { 2 }))
+    }
+}
+
+/// What is known of what a slot of a kind held at entry.
+pub fn content_mark(kind: Param) -> Mark
+    ensures { result ≡ contents kind }
+{
+    match kind {
+        Param::Object => Mark::Pointer,
+        Param::ObjectOrNull => Mark::Pointer,
+        Param::Text => Mark::TextPointer,
+        Param::TextOrNull => Mark::TextPointer,
+        Param::Int => Mark::Pointer,
+        Param::Long => Mark::Pointer,
+        Param::Size => Mark::Pointer,
+        Param::ModuleDef => Mark::Pointer,
+    }
+}
+
+/// A call with an answer.
+pub fn asks_answer(answer: Answer) -> Question
+    ensures { result ≡ answering answer }
+{
+    match answer {
+        Answer::Void => Question::Does(Decision::Quiet),
+        Answer::Null => Question::Does(Decision::Quiet),
+        other => Question::Answers(other),
+    }
+}
+
+impl Known {
+    /// The step needs to know whether a term is `NULL`.
+    pub fn asks_known(&self, x: Term, q: Question) -> Question
+        ensures { result ≡ knowing self.now x q }
+    {
+        match x {
+            Term::Unset => Question::Stops(Decision::Quiet),
+            Term::Null => q,
+            Term::Text => q,
+            Term::Number(_) => q,
+            Term::Token(t) => knows_mark(self.mark_of(t), t, q),
+        }
+    }
+
+    /// The step needs a term that isn't `NULL`.
+    pub fn asks_thing(&self, x: Term, q: Question) -> Question
+        ensures { result ≡ needing self.now x q }
+    {
+        match x {
+            Term::Unset => Question::Stops(Decision::Quiet),
+            Term::Null => Question::Stops(Decision::Quiet),
+            Term::Text => q,
+            Term::Number(_) => q,
+            Term::Token(t) => needs_mark(self.mark_of(t), t, q),
+        }
+    }
+
+    /// A comparison.
+    pub fn asks_compare(&self, a: Term, b: Term) -> Question
+        ensures { result ≡ compare_ask self.now a b }
+    {
+        let same = asks_same(self.object(a), self.object(b));
+        let known = self.asks_known(a, self.asks_known(b, same));
+        asks_order(constant(a), constant(b), known)
+    }
+
+    /// The condition of a branch.
+    pub fn asks_condition(&self, a: Term) -> Question
+        ensures { result ≡ ordering (number_in a) (Some (pos 0)) (knowing self.now a (Question.Does Decision.Quiet)) }
+    {
+        let known = self.asks_known(a, Question::Does(Decision::Quiet));
+        asks_order(constant(a), Some(0), known)
+    }
+
+    /// What a slot held that wasn't set is of no concern.
+    fn asks_dropped(&self, x: Term) -> Question
+        ensures { result ≡ dropping self.now x }
+    {
+        match x {
+            Term::Unset => Question::Does(Decision::Quiet),
+            Term::Null => Question::Does(Decision::Quiet),
+            Term::Text => Question::Does(Decision::Quiet),
+            Term::Number(_) => Question::Does(Decision::Quiet),
+            Term::Token(t) => knows_mark(self.mark_of(t), t, Question::Does(Decision::Quiet)),
+        }
+    }
+
+    /// A load of a slot that stands there.
+    pub fn asks_load(&self, m: Mark, f: Finding) -> Question
+        ensures { result ≡ loading self.now m f }
+    {
+        match f {
+            Finding::Waits(q) => q,
+            Finding::At(i) => asks_set(self.slot(i).held, Question::Does(Decision::Quiet)),
+            Finding::Nowhere => Question::Touches(m),
+        }
+    }
+
+    /// A store to a slot that stands there.
+    pub fn asks_store(&self, m: Mark, f: Finding) -> Question
+        ensures { result ≡ storing self.now m f }
+    {
+        match f {
+            Finding::Waits(q) => q,
+            Finding::At(i) => self.asks_dropped(self.slot(i).held),
+            Finding::Nowhere => Question::Overwrites(m),
+        }
+    }
+}
+
+fn is_sum_below(m: i64, n: i64) -> bool
+    ensures { result ≡ is_below Op.Add m n }
+{
+    match m.checked_add(n) {
+        Some(r) => r < 0,
+        None => m < 0,
+    }
+}
+
+fn is_difference_below(m: i64, n: i64) -> bool
+    ensures { result ≡ is_below Op.Sub m n }
+{
+    match m.checked_sub(n) {
+        Some(r) => r < 0,
+        None => m < 0,
+    }
+}
+
+fn is_product_below(m: i64, n: i64) -> bool
+    ensures { result ≡ is_below Op.Mul m n }
+{
+    (m < 0 && n > 0) || (m > 0 && n < 0)
+}
+
+fn is_quotient_below(m: i64, n: i64) -> bool
+    ensures { result ≡ is_below Op.Div m n }
+{
+    match m.checked_div(n) {
+        Some(r) => r < 0,
+        None => false,
+    }
+}
+
+fn is_rest_below(m: i64, n: i64) -> bool
+    ensures { result ≡ is_below Op.Rem m n }
+{
+    match m.checked_rem(n) {
+        Some(r) => r < 0,
+        None => false,
+    }
+}
+
+fn is_result_below(op: Op, m: i64, n: i64) -> bool
+    ensures { result ≡ is_below op m n }
+{
+    match op {
+        Op::Add => is_sum_below(m, n),
+        Op::Sub => is_difference_below(m, n),
+        Op::Mul => is_product_below(m, n),
+        Op::Div => is_quotient_below(m, n),
+        Op::Rem => is_rest_below(m, n),
+    }
+}
+
+/// An arithmetic operator.
+pub fn asks_arith(op: Op, kind: ValueKind, m: i64, n: i64) -> Question
+    ensures { result ≡ ranged (arithmetic_result op kind m n) (is_below op m n) }
+{
+    asks_range(arithmetic(op, kind, m, n), is_result_below(op, m, n))
+}

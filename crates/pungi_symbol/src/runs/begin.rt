@@ -1,0 +1,144 @@
+// The state at the start of a function.
+ghost use Rattle.std.specs.Prelude.{◌≡◌, ◌+◌, ◌-◌, ◌++◌, pos, length, map, replicate, take, IfOk};
+ghost use Rattle.std.specs.List.{range_with_len};
+ghost use Rattle.std.specs.Option.{option_map_or};
+ghost use Rattle.pungi_code.specs.Run.{code_at};
+ghost use Rattle.pungi_symbol.specs.questions.NextQuestion.{contents};
+ghost use Rattle.pungi_symbol.specs.runs.Paths.{arguments, known_at, starts, start_state};
+
+use crate::answers::decision::Decision;
+use crate::questions::term_questions::content_mark;
+use crate::states::code_lines::{code_of, front};
+use crate::states::known::{Known, Status};
+use crate::states::mark::Mark;
+use crate::states::spot::Progress;
+use crate::states::state::State;
+use crate::states::sym::Sym;
+use crate::states::term::Term;
+use pungi_api::Param;
+use pungi_base::{Memory, Seq};
+use pungi_code::{Code, Codes};
+use std::alloc::Global;
+
+/// How many arguments a code takes.
+fn argument_count(code: &Code) -> usize
+    ensures { result ≡ arguments code.now }
+{
+    front(code.vars.as_slice(), code.params as usize).len()
+}
+
+/// How many arguments a function takes. With no code it takes none.
+pub fn arguments_of(codes: &Codes, f: usize) -> usize
+    ensures { result ≡ option_map_or arguments (code_at codes.now f) 0 }
+{
+    match code_of(codes, f) {
+        Some(code) => argument_count(code),
+        None => 0,
+    }
+}
+
+/// The sum of two counts of tokens.
+fn token_after(statics: u32, n: usize) -> Result<u32, Memory>
+    ensures { IfOk result (λ end. end ≡ statics + n) }
+{
+    if n > u32::MAX as usize {
+        return Err(Memory);
+    }
+    match statics.checked_add(n as u32) {
+        Some(end) => Ok(end),
+        None => Err(Memory),
+    }
+}
+
+#[tactic(auto, using(crate::proofs::runs::Ranges::tokens_more))]
+fn tokens(alloc: Global, from: u32, end: u32) -> Result<Vec<Term>, Memory>
+    ensures { IfOk result (λ vars. vars.items ≡ map Term.Token (range_with_len from (end - from))) }
+{
+    let mut vars = Vec::new(alloc);
+    for t in from..end {
+        vars.push(Term::Token(t))?;
+    }
+    Ok(vars)
+}
+
+fn variables(alloc: Global, statics: u32, code: &Code) -> Result<Vec<Term>, Memory>
+    ensures { IfOk result (λ vars. vars.items ≡ map Term.Token (range_with_len statics (arguments code.now)) ++ replicate (length code.now.vars - arguments code.now) Term.Unset) }
+{
+    let n = argument_count(code);
+    let mut vars = tokens(alloc, statics, token_after(statics, n)?)?;
+    let unset = vec![in alloc; Term::Unset; code.vars.len() - n]?;
+    vars.extend_from_slice(unset.as_slice())?;
+    Ok(vars)
+}
+
+fn contents_of(alloc: Global, kinds: &[Param]) -> Result<Vec<Mark>, Memory>
+    ensures { IfOk result (λ marks. marks.items ≡ map contents kinds.now) }
+{
+    let marks: Vec<Mark> = kinds.iter().map(|kind| content_mark(*kind)).collect(alloc)?;
+    Ok(marks)
+}
+
+fn marks_at(alloc: Global, statics: u32, code: &Code) -> Result<Vec<Mark>, Memory>
+    ensures { IfOk result (λ marks. marks.items ≡ replicate statics Mark.IsObject ++ map contents (take code.now.params code.now.vars)) }
+{
+    let mut marks = vec![in alloc; Mark::IsObject; statics as usize]?;
+    let given = contents_of(alloc, front(code.vars.as_slice(), code.params as usize))?;
+    marks.extend_from_slice(given.as_slice())?;
+    Ok(marks)
+}
+
+#[tactic(auto, using(crate::proofs::runs::Ranges::range_more))]
+fn classes_at(alloc: Global, end: u32) -> Result<Vec<u32>, Memory>
+    ensures { IfOk result (λ classes. classes.items ≡ range_with_len 0 end) }
+{
+    let mut classes = Vec::new(alloc);
+    for t in 0..end {
+        classes.push(t)?;
+    }
+    Ok(classes)
+}
+
+fn known_at_start(alloc: Global, statics: u32, f: usize, code: &Code) -> Result<Known, Memory>
+    ensures { IfOk result (λ k. k ≡ known_at statics f code.now) }
+{
+    let vars = variables(alloc, statics, code)?;
+    let marks = marks_at(alloc, statics, code)?;
+    Ok(Known {
+        function: f,
+        pc: 0,
+        vars: Seq::new(vars),
+        slots: Seq::new(Vec::new(alloc)),
+        marks: Seq::new(marks),
+        progress: Progress::Looking(0),
+        status: Status::Going,
+    })
+}
+
+/// The state at the start of a function.
+pub fn first_state(alloc: Global, statics: u32, f: usize, code: &Code) -> Result<State, Memory>
+    ensures { IfOk result (λ s. s ≡ start_state statics f code.now) }
+{
+    let end = token_after(statics, argument_count(code))?;
+    let classes = classes_at(alloc, end)?;
+    let balances = vec![in alloc; 0i64; end as usize]?;
+    let known = known_at_start(alloc, statics, f, code)?;
+    Ok(State {
+        known,
+        statics,
+        classes: Seq::new(classes),
+        balances: Seq::new(balances),
+        others: Seq::new(Vec::new(alloc)),
+    })
+}
+
+/// The states with which the runs of a function begin: one, where it has code.
+pub fn first_of(alloc: Global, codes: &Codes, f: usize) -> Result<Vec<(Decision, Sym)>, Memory>
+    ensures { IfOk result (λ first. first.items ≡ starts codes.now.statics f (code_at codes.now f)) }
+{
+    let mut first = Vec::new(alloc);
+    if let Some(code) = code_of(codes, f) {
+        let state = first_state(alloc, codes.statics, f, code)?;
+        first.push((Decision::Quiet, Sym::new(state)))?;
+    }
+    Ok(first)
+}

@@ -1,0 +1,129 @@
+// What the objects of tokens are owed, and which tokens were merged.
+ghost use Rattle.std.specs.Prelude.{◌≡◌, ◌+ℤ◌, slice_set, map, IfOk, OnOk};
+ghost use Rattle.std.specs.List.{list_any};
+ghost use Rattle.pungi_symbol.specs.answers.SymbolicState.{class, balance, parts, are_one, are_other, one_for, new_balance, redirect, gather};
+
+use crate::states::mark::Mark;
+use crate::states::state::Pair;
+use pungi_api::Answer;
+use pungi_base::{Memory, Seq};
+use std::alloc::Global;
+
+/// The token that stands for a token.
+pub fn class_at(classes: &[u32], t: u32) -> u32
+    ensures { result ≡ class classes.now t }
+{
+    match classes.get(t as usize) {
+        Some(c) => *c,
+        None => 0,
+    }
+}
+
+/// What the object of a token is owed.
+pub fn balance_at(balances: &[i64], t: u32) -> i64
+    ensures { result ≡ balance balances.now t }
+{
+    match balances.get(t as usize) {
+        Some(b) => *b,
+        None => 0,
+    }
+}
+
+fn put_balance(balances: &mut Seq<i64>, t: u32, b: i64)
+    ensures { balances.new ≡ slice_set balances.old t b }
+{
+    let place = t as usize;
+    if place < balances.len() {
+        balances.set(place, b);
+    }
+}
+
+/// A number is added to the balance of a token.
+pub fn add(balances: &mut Seq<i64>, t: u32, d: i64) -> Result<(), Memory>
+    ensures { OnOk result (balances.new ≡ slice_set balances.old t (balance balances.old t +ℤ d)) }
+{
+    match balance_at(balances.as_slice(), t).checked_add(d) {
+        Some(sum) => {
+            put_balance(balances, t, sum);
+            Ok(())
+        }
+        None => Err(Memory),
+    }
+}
+
+/// What stands at one token goes to another.
+pub fn gather_at(balances: &mut Seq<i64>, c: u32, d: u32) -> Result<(), Memory>
+    ensures { OnOk result (balances.new ≡ gather c d balances.old) }
+{
+    let more = balance_at(balances.as_slice(), d);
+    add(balances, c, more)?;
+    put_balance(balances, d, 0);
+    Ok(())
+}
+
+/// What a new object is owed.
+pub fn owed_for(m: Mark) -> i64
+    ensures { result ≡ one_for m }
+{
+    match m {
+        Mark::IsObject => 1,
+        Mark::Pointer => 0,
+        Mark::TextPointer => 0,
+        Mark::IsNull => 0,
+        Mark::IsText => 0,
+        Mark::IsNumber(_) => 0,
+    }
+}
+
+/// What the answer of a call is owed.
+pub fn owed_for_answer(answer: Answer, m: Mark) -> i64
+    ensures { result ≡ new_balance answer m }
+{
+    match answer {
+        Answer::New => owed_for(m),
+        _ => 0,
+    }
+}
+
+fn is_part(classes: &[u32], c: u32, d: u32, pair: &Pair) -> bool
+    ensures { result ≡ parts classes.now c d pair.now }
+{
+    let a = class_at(classes, pair.a);
+    let b = class_at(classes, pair.b);
+    (a == c && b == d) || (a == d && b == c)
+}
+
+fn any_part(classes: &[u32], c: u32, d: u32, others: &[Pair]) -> bool
+    ensures { result ≡ list_any (parts classes.now c d) others.now }
+{
+    others.iter().any(|pair| is_part(classes, c, d, pair))
+}
+
+/// Two tokens are noted as one object.
+pub fn is_one(classes: &[u32], t: u32, u: u32) -> bool
+    ensures { result ≡ are_one classes.now t u }
+{
+    class_at(classes, t) == class_at(classes, u)
+}
+
+/// Two tokens are noted as different objects.
+pub fn is_other(statics: u32, classes: &[u32], others: &[Pair], t: u32, u: u32) -> bool
+    ensures { result ≡ are_other statics classes.now others.now t u }
+{
+    let (c, d) = (class_at(classes, t), class_at(classes, u));
+    (c < statics && d < statics) || any_part(classes, c, d, others)
+}
+
+fn toward(c: u32, d: u32, e: u32) -> u32
+    ensures { result ≡ redirect c d e }
+{
+    if e == d { c } else { e }
+}
+
+/// The classes after two of them are merged.
+pub fn redirected(alloc: Global, classes: &[u32], c: u32, d: u32) -> Result<Seq<u32>, Memory>
+    ensures { IfOk result (λ s. s ≡ map (redirect c d) classes.now) }
+{
+    let items: Vec<u32> = classes.iter().map(|e| toward(c, d, *e)).collect(alloc)?;
+    Ok(Seq::new(items))
+}

@@ -1,0 +1,183 @@
+ghost use Rattle.std.specs.Prelude.{◌≡◌, IfOk};
+ghost use Rattle.pungi_symbol.specs.states.Terms.{value_of_mark};
+ghost use Rattle.pungi_symbol.specs.states.Known.{mark, var, term_of, known_value, number, object_mark, object_of, number_in, slot_note};
+
+use crate::states::mark::Mark;
+use crate::states::spot::{Progress, Spot, Touched};
+use crate::states::term::Term;
+use pungi_base::{Memory, Name, Pos, Seq, Value};
+use pungi_code::Atom;
+use pungi_meaning::number_of;
+use std::alloc::Global;
+
+/// How a run is over, if it is.
+#[derive(Clone, Copy)]
+pub enum Status {
+    Going,
+    /// At this place, with this value.
+    Returned(Pos, Option<Term>),
+    Stopped(Pos),
+}
+
+/// What is known at a step of a run.
+#[derive(Drop)]
+pub struct Known {
+    /// The number of the function.
+    pub function: usize,
+    pub pc: usize,
+    pub vars: Seq<Term>,
+    /// The slots that were touched, in the order of their first touch.
+    pub slots: Seq<Touched>,
+    /// One for each token.
+    pub marks: Seq<Mark>,
+    pub progress: Progress,
+    pub status: Status,
+}
+
+/// A value that a mark is true of, where it is known what the value is.
+fn marked_value(m: Mark) -> Value
+    ensures { result ≡ value_of_mark m }
+{
+    match m {
+        Mark::Pointer => Value::Null,
+        Mark::TextPointer => Value::Null,
+        Mark::IsNull => Value::Null,
+        Mark::IsObject => Value::Object(0),
+        Mark::IsText => Value::Text,
+        Mark::IsNumber(n) => Value::Int(n),
+    }
+}
+
+/// A token that is known to be an object.
+fn marked_object(m: Mark, t: u32) -> Option<u32>
+    ensures { result ≡ object_mark m t }
+{
+    match m {
+        Mark::Pointer => None,
+        Mark::TextPointer => None,
+        Mark::IsNull => None,
+        Mark::IsObject => Some(t),
+        Mark::IsText => None,
+        Mark::IsNumber(_) => None,
+    }
+}
+
+/// The number that a term is.
+pub fn constant(x: Term) -> Option<i64>
+    ensures { result ≡ number_in x }
+{
+    match x {
+        Term::Unset => None,
+        Term::Null => None,
+        Term::Text => None,
+        Term::Number(n) => Some(n),
+        Term::Token(_) => None,
+    }
+}
+
+/// The touched slot at a place.
+pub fn touched_at(slots: &[Touched], i: u32) -> Touched
+    ensures { result ≡ slot_note slots.now i }
+{
+    match slots.get(i as usize) {
+        Some(s) => *s,
+        None => Touched {
+            spot: Spot::Global(Name(0)),
+            at_entry: Term::Unset,
+            held: Term::Unset,
+        },
+    }
+}
+
+impl Known {
+    /// The same.
+    pub fn copy(&self, alloc: Global) -> Result<Known, Memory>
+        ensures { IfOk result (λ k. k ≡ self.now) }
+    {
+        let vars = self.vars.copy(alloc)?;
+        let slots = self.slots.copy(alloc)?;
+        let marks = self.marks.copy(alloc)?;
+        Ok(Known {
+            function: self.function,
+            pc: self.pc,
+            vars,
+            slots,
+            marks,
+            progress: self.progress,
+            status: self.status,
+        })
+    }
+
+    /// What a variable holds.
+    pub fn variable(&self, x: u32) -> Term
+        ensures { result ≡ var self.now x }
+    {
+        match self.vars.as_slice().get(x as usize) {
+            Some(c) => *c,
+            None => Term::Unset,
+        }
+    }
+
+    /// What is known of a token.
+    pub fn mark_of(&self, t: u32) -> Mark
+        ensures { result ≡ mark self.now t }
+    {
+        match self.marks.as_slice().get(t as usize) {
+            Some(m) => *m,
+            None => Mark::IsNull,
+        }
+    }
+
+    /// What an atom stands for.
+    pub fn term(&self, atom: Atom) -> Term
+        ensures { result ≡ term_of self.now atom }
+    {
+        match atom {
+            Atom::Var(x) => self.variable(x.0),
+            Atom::Int(n) => Term::Number(n),
+            Atom::Null => Term::Null,
+            Atom::Text => Term::Text,
+            Atom::Static(k) => Term::Token(k),
+        }
+    }
+
+    /// The value of a term, as far as it is known.
+    pub fn value(&self, x: Term) -> Value
+        ensures { result ≡ known_value self.now x }
+    {
+        match x {
+            Term::Unset => Value::Null,
+            Term::Null => Value::Null,
+            Term::Text => Value::Text,
+            Term::Number(n) => Value::Int(n),
+            Term::Token(t) => marked_value(self.mark_of(t)),
+        }
+    }
+
+    /// A term as a number.
+    pub fn number(&self, x: Term) -> i64
+        ensures { result ≡ number self.now x }
+    {
+        number_of(self.value(x))
+    }
+
+    /// The token of a term that is known to be an object.
+    pub fn object(&self, x: Term) -> Option<u32>
+        ensures { result ≡ object_of self.now x }
+    {
+        match x {
+            Term::Unset => None,
+            Term::Null => None,
+            Term::Text => None,
+            Term::Number(_) => None,
+            Term::Token(t) => marked_object(self.mark_of(t), t),
+        }
+    }
+
+    /// The touched slot at a place.
+    pub fn slot(&self, i: u32) -> Touched
+        ensures { result ≡ slot_note self.now.slots i }
+    {
+        touched_at(self.slots.as_slice(), i)
+    }
+}

@@ -1,0 +1,180 @@
+ghost use Rattle.std.specs.Prelude.{◌≡◌, true, false, slice_get, IfOk, OnOk};
+ghost use Rattle.pungi_symbol.specs.answers.KnownAfter.{instr_of};
+ghost use Rattle.pungi_symbol.specs.answers.SymbolicState.{class, are_one, one_for, lowered, stored_term, gather, merge, merge_older, apply_same, joined, answers, after, apply};
+
+use crate::answers::balance_changes::succeeds;
+use crate::answers::decision::Decision;
+use crate::answers::outcomes::{mark_after, mark_of_answer, number_of_outcome, says_same};
+use crate::questions::question::Question;
+use crate::states::balances::{class_at, gather_at, is_one, owed_for, owed_for_answer, redirected};
+use crate::states::known::Known;
+use crate::states::mark::Mark;
+use pungi_api::Answer;
+use pungi_base::{Memory, Seq};
+use pungi_code::Line;
+use std::alloc::Global;
+
+/// Two tokens that are known to be different objects.
+#[derive(Clone, Copy)]
+pub struct Pair {
+    pub a: u32,
+    pub b: u32,
+}
+
+/// What a symbolic state notes. `classes` has the token that each token was merged with, and `balances` what is owed by
+/// the object of the tokens that were merged with it.
+#[derive(Drop)]
+pub struct State {
+    pub known: Known,
+    /// How many static objects there are. They are the first tokens.
+    pub statics: u32,
+    pub classes: Seq<u32>,
+    pub balances: Seq<i64>,
+    pub others: Seq<Pair>,
+}
+
+impl State {
+    /// The same.
+    pub fn copy(&self, alloc: Global) -> Result<State, Memory>
+        ensures { IfOk result (λ s. s ≡ self.now) }
+    {
+        let classes = self.classes.copy(alloc)?;
+        let balances = self.balances.copy(alloc)?;
+        let others = self.others.copy(alloc)?;
+        let known = self.known.copy(alloc)?;
+        Ok(State {
+            known,
+            statics: self.statics,
+            classes,
+            balances,
+            others,
+        })
+    }
+
+    /// The token that stands for a token.
+    pub fn class_of(&self, t: u32) -> u32
+        ensures { result ≡ class self.now.classes t }
+    {
+        class_at(self.classes.as_slice(), t)
+    }
+
+    /// Two tokens are noted as one object.
+    pub fn are_one(&self, t: u32, u: u32) -> bool
+        ensures { result ≡ are_one self.now.classes t u }
+    {
+        is_one(self.classes.as_slice(), t, u)
+    }
+
+    fn join(&mut self, d: i64) -> Result<(), Memory>
+        ensures { OnOk result (self.new ≡ joined d self.old.balances self.old) }
+    {
+        let token = self.known.tokens()?;
+        self.classes.push(token)?;
+        self.balances.push(d)?;
+        Ok(())
+    }
+
+    fn overwrite(&mut self, code: &[Line], m: Mark) -> Result<(), Memory>
+        ensures { OnOk result (self.new ≡ joined (one_for m) (lowered self.old.classes self.old.known (stored_term (instr_of (slice_get code.now self.old.known.pc)) self.old.known) self.old.balances) self.old) }
+    {
+        self.lower_stored(code)?;
+        self.join(owed_for(m))
+    }
+
+    fn take_answer(&mut self, code: &[Line], answer: Answer, m: Mark) -> Result<(), Memory>
+        ensures { OnOk result (self.new ≡ answers (instr_of (slice_get code.now self.old.known.pc)) answer m self.old) }
+    {
+        self.lower_call(code, succeeds(answer, m))?;
+        self.join(owed_for_answer(answer, m))
+    }
+
+    fn gathered(&mut self, c: u32, d: u32) -> Result<(), Memory>
+        ensures { OnOk result (self.new ≡ record self.old { balances = gather c d self.old.balances }) }
+    {
+        gather_at(&mut self.balances, c, d)
+    }
+
+    fn merge_classes(&mut self, alloc: Global, c: u32, d: u32) -> Result<(), Memory>
+        ensures { OnOk result (self.new ≡ merge c d self.old) }
+    {
+        self.classes = redirected(alloc, self.classes.as_slice(), c, d)?;
+        self.gathered(c, d)
+    }
+
+    /// The older token stands for both.
+    fn merge_two(&mut self, alloc: Global, c: u32, d: u32) -> Result<(), Memory>
+        ensures { OnOk result (self.new ≡ merge_older c d self.old) }
+    {
+        if d < c {
+            self.merge_classes(alloc, d, c)
+        } else {
+            self.merge_classes(alloc, c, d)
+        }
+    }
+
+    fn part(&mut self, t: u32, u: u32) -> Result<(), Memory>
+        ensures { OnOk result (self.new ≡ apply_same (are_one self.old.classes t u) false t u self.old) }
+    {
+        self.others.push(Pair { a: t, b: u })?;
+        Ok(())
+    }
+
+    fn unite(&mut self, alloc: Global, t: u32, u: u32) -> Result<(), Memory>
+        ensures { OnOk result (self.new ≡ apply_same (are_one self.old.classes t u) true t u self.old) }
+    {
+        if self.are_one(t, u) {
+            return Ok(());
+        }
+        let (c, d) = (self.class_of(t), self.class_of(u));
+        self.merge_two(alloc, c, d)
+    }
+
+    fn take_same(&mut self, alloc: Global, same: bool, t: u32, u: u32) -> Result<(), Memory>
+        ensures { OnOk result (self.new ≡ apply_same (are_one self.old.classes t u) same t u self.old) }
+    {
+        if same {
+            self.unite(alloc, t, u)
+        } else {
+            self.part(t, u)
+        }
+    }
+
+    fn follow(
+        &mut self,
+        alloc: Global,
+        code: &[Line],
+        q: Question,
+        d: Decision,
+    ) -> Result<(), Memory>
+        ensures { OnOk result (self.new ≡ after (slice_get code.now self.old.known.pc) q d self.old) }
+    {
+        let k = number_of_outcome(d);
+        let same = says_same(d);
+        match q {
+            Question::Does(_) => self.weigh_line(code),
+            Question::Touches(_) => self.join(0),
+            Question::Overwrites(m) => self.overwrite(code, mark_after(m, k)),
+            Question::Null(_) => Ok(()),
+            Question::Base(t, u, _) => self.take_same(alloc, same, t, u),
+            Question::Answers(answer) => self.take_answer(code, answer, mark_of_answer(answer, k)),
+            Question::Same(t, u) => self.take_same(alloc, same, t, u),
+            Question::Returns(_) => Ok(()),
+            Question::Stops(_) => Ok(()),
+            Question::Over => Ok(()),
+        }
+    }
+
+    /// The state after an answer to a question.
+    pub fn answer(
+        &mut self,
+        alloc: Global,
+        code: &[Line],
+        q: Question,
+        d: Decision,
+    ) -> Result<(), Memory>
+        ensures { OnOk result (self.new ≡ apply (slice_get code.now self.old.known.pc) q d self.old) }
+    {
+        self.follow(alloc, code, q, d)?;
+        self.known.go(code, q, d)
+    }
+}
