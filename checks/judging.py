@@ -1,7 +1,8 @@
 #!/usr/bin/env python3
 """judging.py [PROGRAM]: times whole runs of the program, out/pungi of the crate pungi unless it is named, beside clang on the
-same files: a thousand functions, functions with 16,384 traces, and functions of 4,000 nodes that are nested 200 deep. It
-prints the least milliseconds of some runs of each. clang gets declarations of the calls in front of each file."""
+same files: a thousand functions, 3,131 ordinary functions over integers (644 KB; none of them is judged yet), functions with
+16,384 traces, and functions of 4,000 nodes that are nested 200 deep. It prints the least milliseconds of some runs of each, and
+the most memory that the program took, in MB. clang gets declarations of the calls in front of each file."""
 import os
 import subprocess
 import sys
@@ -28,6 +29,24 @@ PyObject *get%d(PyObject *self, PyObject *args) { return Py_None; }
 """
 
 
+ORDINARY = """static int step%d(int value, int low, int high)
+{
+    int sum = value;
+    while (sum < low) {
+        sum += high;
+    }
+    if (sum > high || sum == 0) {
+        return low;
+    }
+    return sum * 2;
+}
+"""
+
+
+def ordinary(count):
+    return "".join(ORDINARY % i for i in range(count))
+
+
 def thousand():
     functions = (FOUR % (i, i, i, i) for i in range(250))
     return "typedef struct { PyObject_HEAD PyObject *first; } Box;\n" + "".join(functions)
@@ -46,19 +65,24 @@ def nested(count):
 
 
 def least(command, turns):
-    best = None
+    """The least milliseconds of so many runs of a command, and the most memory of one of them in MB."""
+    best, most = None, 0
     for _ in range(turns):
         begun = time.perf_counter()
-        subprocess.run(command, stdout=subprocess.DEVNULL, stderr=subprocess.DEVNULL)
+        with subprocess.Popen(command, stdout=subprocess.DEVNULL, stderr=subprocess.DEVNULL) as run:
+            _, _, used = os.wait4(run.pid, 0)
+            run.returncode = 0
         took = 1000 * (time.perf_counter() - begun)
         best = took if best is None else min(best, took)
-    return best
+        most = max(most, used.ru_maxrss / 1000)
+    return best, most
 
 
 def main():
     program = os.path.abspath(sys.argv[1]) if len(sys.argv) > 1 else os.path.join(HERE, "..", "crates", "pungi", "out", "pungi")
     files = [
         ("a thousand functions", thousand()),
+        ("3,131 ordinary functions", ordinary(3131)),
         ("16,384 traces", asking(14, 0)),
         ("16,384 traces of a long function", asking(14, 20)),
         ("50 functions, nested 200 deep", nested(50)),
@@ -69,9 +93,9 @@ def main():
                 it.write(text)
             with open(f"{room}/declared.c", "w") as it:
                 it.write(DECLARED + text)
-            pungi = least([program, f"{room}/x.c"], 10)
-            clang = least(["clang", "-fsyntax-only", "-w", "-fbracket-depth=1024", f"{room}/declared.c"], 10)
-            print(f"{name}: pungi {pungi:.1f} ms, clang {clang:.1f} ms")
+            pungi, memory = least([program, f"{room}/x.c"], 10)
+            clang, _ = least(["clang", "-fsyntax-only", "-w", "-fbracket-depth=1024", f"{room}/declared.c"], 10)
+            print(f"{name}: pungi {pungi:.1f} ms and {memory:.0f} MB, clang {clang:.1f} ms")
 
 
 if __name__ == "__main__":
