@@ -2,7 +2,7 @@
 use Rattle.std.proofs.Common.{◌≡◌, ℕ, ◌<◌, List, ◌++◌, length, take, drop, Option, Some, None, sym, ap, ◌∙◌, append_assoc, length-append, take-append-drop, arith}
 use Rattle.pungi_base.specs.Sink.{Takes}
 use Rattle.pungi.specs.Read.{IsRead}
-use Rattle.pungi.specs.declared.read.TheConstants.{FILE_LIMIT}
+use Rattle.pungi.specs.Limits.{file_limit}
 
 -- where the texts are known, the bytes so far and what is left are the text of the name
 abbrev pub Left : Option (List ℕ → Option (List ℕ)) → List ℕ → Option (List ℕ) → List ℕ → Type 0
@@ -10,7 +10,7 @@ Left None name rest bytes = Unit {0}
 Left (Some texts) name None bytes = ⊥
 Left (Some texts) name (Some rest) bytes = texts name ≡ Some (bytes ++ rest)
 
-pub long_left : (texts : Option (List ℕ → Option (List ℕ))) (name : List ℕ) (rest : Option (List ℕ)) (bytes : List ℕ) → Left texts name rest bytes → FILE_LIMIT < length bytes → (text : List ℕ) × IsRead texts name text × (FILE_LIMIT < length text)
+pub long_left : (texts : Option (List ℕ → Option (List ℕ))) (name : List ℕ) (rest : Option (List ℕ)) (bytes : List ℕ) → Left texts name rest bytes → file_limit < length bytes → (text : List ℕ) × IsRead texts name text × (file_limit < length text)
 long_left None name rest bytes left long = (bytes, tt, long)
 long_left (Some texts) name None bytes left long = absurd left
 long_left (Some texts) name (Some rest) bytes left long = (bytes ++ rest, left, omega (arith, long, length-append bytes rest))

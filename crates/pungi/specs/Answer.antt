@@ -11,8 +11,8 @@
 --                                the names that `open` was given: none or the file's, and the file's where it is unread
 use Rattle.std.specs.Prelude.{◌≡◌, ◌⊎◌, ℕ, ◌≤◌, ◌<◌, List, [], ◌∷◌, ◌++◌, length, Option, None, Some, IsNone, codes}
 use Rattle.pungi_base.specs.Witness.{line_end}
-use Rattle.pungi.specs.declared.read.TheConstants.{FILE_LIMIT}
-use Rattle.pungi.specs.declared.status.TheConstants.{ALL_CLEAN, SOME_FAULTY, SOME_OPEN, WORDS_REFUSED, FILE_UNREAD, FILE_REFUSED}
+use Rattle.pungi.specs.Limits.{file_limit}
+use Rattle.pungi.specs.Status.{all_clean, some_faulty, some_open, words_refused, file_unread, file_refused}
 use Rattle.pungi.specs.Examine.{IsReport}
 use Rattle.pungi.specs.Front.{IsNoFile, IsRefusedAs}
 use Rattle.pungi.specs.Read.{IsRead}
@@ -28,28 +28,28 @@ abbrev pub long_text : List ℕ
 long_text = codes "file refused over 1048576 bytes" ++ line_end
 
 abbrev pub IsRefusal : List ℕ → List ℕ → Type 0
-IsRefusal text answer = ((FILE_LIMIT < length text) × (answer ≡ long_text)) ⊎ ((length text ≤ FILE_LIMIT) × IsRefusedAs text answer)
+IsRefusal text answer = ((file_limit < length text) × (answer ≡ long_text)) ⊎ ((length text ≤ file_limit) × IsRefusedAs text answer)
 
 abbrev pub IsRefusedText : List ℕ → Type 0
-IsRefusedText text = (FILE_LIMIT < length text) ⊎ ((length text ≤ FILE_LIMIT) × IsNoFile text)
+IsRefusedText text = (file_limit < length text) ⊎ ((length text ≤ file_limit) × IsNoFile text)
 
 abbrev pub IsFileText : List (List ℕ) → Option (List ℕ → Option (List ℕ)) → List ℕ → Type 0
 IsFileText words None text = ⊥
 IsFileText words (Some texts) text = (file : List ℕ) × (file_word words ≡ Some file) × (texts file ≡ Some text)
 
 abbrev pub IsReported : ℕ → Type 0
-IsReported status = (status ≡ ALL_CLEAN) ⊎ (status ≡ SOME_FAULTY) ⊎ (status ≡ SOME_OPEN)
+IsReported status = (status ≡ all_clean) ⊎ (status ≡ some_faulty) ⊎ (status ≡ some_open)
 
 pub record Answers (words : List (List ℕ)) (texts : Option (List ℕ → Option (List ℕ))) (unread : Type 0) (status : ℕ) (answer : List ℕ) : Type 0 where
-  pub one : (status ≡ ALL_CLEAN) ⊎ (status ≡ SOME_FAULTY) ⊎ (status ≡ SOME_OPEN) ⊎ (status ≡ WORDS_REFUSED) ⊎ (status ≡ FILE_UNREAD) ⊎ (status ≡ FILE_REFUSED)
+  pub one : (status ≡ all_clean) ⊎ (status ≡ some_faulty) ⊎ (status ≡ some_open) ⊎ (status ≡ words_refused) ⊎ (status ≡ file_unread) ⊎ (status ≡ file_refused)
   pub report : IsReported status → (file : List ℕ) × (text : List ℕ)
-      × (file_word words ≡ Some file) × IsRead texts file text × (length text ≤ FILE_LIMIT) × IsReport text status answer
-  pub usage : status ≡ WORDS_REFUSED → IsNone (file_word words) × (answer ≡ usage_text)
-  pub failed : status ≡ FILE_UNREAD → (file : List ℕ) × (file_word words ≡ Some file) × unread × (answer ≡ unread_text file)
-  pub refused : status ≡ FILE_REFUSED → (file : List ℕ) × (text : List ℕ) × (file_word words ≡ Some file) × IsRead texts file text × IsRefusal text answer
+      × (file_word words ≡ Some file) × IsRead texts file text × (length text ≤ file_limit) × IsReport text status answer
+  pub usage : status ≡ words_refused → IsNone (file_word words) × (answer ≡ usage_text)
+  pub failed : status ≡ file_unread → (file : List ℕ) × (file_word words ≡ Some file) × unread × (answer ≡ unread_text file)
+  pub refused : status ≡ file_refused → (file : List ℕ) × (text : List ℕ) × (file_word words ≡ Some file) × IsRead texts file text × IsRefusal text answer
 
 abbrev pub IsOpened : List (List ℕ) → ℕ → Option (List (List ℕ)) → Option (List (List ℕ)) → Type 0
 IsOpened words status None after = Unit {0}
 IsOpened words status (Some before) None = ⊥
 IsOpened words status (Some before) (Some after) =
-    ((after ≡ before) × (status ≡ FILE_UNREAD → ⊥)) ⊎ ((file : List ℕ) × (file_word words ≡ Some file) × (after ≡ before ++ file ∷ []))
+    ((after ≡ before) × (status ≡ file_unread → ⊥)) ⊎ ((file : List ℕ) × (file_word words ≡ Some file) × (after ≡ before ++ file ∷ []))

@@ -14,7 +14,7 @@ use Rattle.pungi_types.specs.Refused.{CheckedFile, IsRefusedSet}
 use Rattle.pungi_report.specs.Text.{report_text}
 use Rattle.pungi_verdict.specs.Verdicts.{IsJudged}
 use Rattle.pungi.specs.Front.{IsFile, file_known}
-use Rattle.pungi.specs.declared.status.TheConstants.{ALL_CLEAN, SOME_FAULTY, SOME_OPEN}
+use Rattle.pungi.specs.Status.{all_clean, some_faulty, some_open}
 
 abbrev pub checked_file : List (List ℕ) → List Item → List ℕ → CheckedFile
 checked_file names items refused = record { file = file_known names items; refused = refused }
@@ -32,7 +32,7 @@ is_open (verdict.Unknown why) = true
 is_open (verdict.Refused at rule) = true
 
 abbrev pub status_of : List (Name × Verdict) → ℕ
-status_of lines = if list_any (λ line. is_faulty line.1) lines then SOME_FAULTY else (if list_any (λ line. is_open line.1) lines then SOME_OPEN else ALL_CLEAN)
+status_of lines = if list_any (λ line. is_faulty line.1) lines then some_faulty else (if list_any (λ line. is_open line.1) lines then some_open else all_clean)
 
 pub record IsReportOn (names : List (List ℕ)) (c : CheckedFile) (status : ℕ) (report : List ℕ) : Type 0 where
   pub lines : List (Name × Verdict)

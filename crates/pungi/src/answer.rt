@@ -1,5 +1,6 @@
 ghost use Rattle.std.specs.Prelude.{◌≡◌, ◌++◌, ◌∷◌, [], IfOk};
 ghost use Rattle.pungi.specs.Answer.{unread_text};
+ghost use Rattle.pungi.specs.Status.{file_unread};
 
 use crate::status::FILE_UNREAD;
 use pungi_base::Memory;
@@ -25,7 +26,7 @@ pub fn message(alloc: Global, status: u8, line: &str) -> Result<Answer, Memory>
 
 /// That the file can't be read.
 pub fn unread_answer(alloc: Global, file: &str) -> Result<Answer, Memory>
-    ensures { IfOk result (λ a. (a.status ≡ FILE_UNREAD) × (a.text.items ≡ unread_text file.now)) }
+    ensures { IfOk result (λ a. (a.status ≡ file_unread) × (a.text.items ≡ unread_text file.now)) }
 {
     let mut text = Vec::from_slice(alloc, b"cannot read ")?;
     text.extend_from_slice(file.as_bytes())?;

@@ -4,13 +4,14 @@ ghost use Rattle.pungi_check.specs.Found.{checked_view, IsChecked};
 ghost use Rattle.pungi_tree.specs.UnitFlat.{items_flat};
 ghost use Rattle.pungi.specs.Examine.{IsReport, IsReportOn, is_faulty, is_open, status_of};
 ghost use Rattle.pungi.specs.Front.{AreKnownKinds, IsRefusedAs};
+ghost use Rattle.pungi.specs.Limits.{file_limit};
+ghost use Rattle.pungi.specs.Status.{some_open, file_refused};
 
 use crate::answer::Answer;
 use crate::file_fault::FileFault;
 use crate::front::unit_of;
-use crate::read::FILE_LIMIT;
 use crate::refusal::refusal_answer;
-use crate::status::{ALL_CLEAN, FILE_REFUSED, SOME_FAULTY, SOME_OPEN};
+use crate::status::{ALL_CLEAN, SOME_FAULTY, SOME_OPEN};
 use pungi_api::Table;
 use pungi_base::{Memory, Name, Names, Verdict};
 use pungi_check::{Checked, check};
@@ -65,7 +66,7 @@ fn status(lines: &[(Name, Verdict)]) -> u8
 fn reported(alloc: Global, names: &Names, checked: &Checked<'_>) -> Result<Answer, Memory>
     requires checked { IsChecked checked.now }
     requires known { AreKnownKinds (length names.now) (items_flat (checked_view checked.now).file.items) }
-    ensures { IfOk result (λ a. (a.status ≤ SOME_OPEN) × IsReportOn names.now (checked_view checked.now) a.status a.text.items) }
+    ensures { IfOk result (λ a. (a.status ≤ some_open) × IsReportOn names.now (checked_view checked.now) a.status a.text.items) }
 {
     let lines = judge_all(alloc, checked)?;
     Ok(Answer {
@@ -76,8 +77,8 @@ fn reported(alloc: Global, names: &Names, checked: &Checked<'_>) -> Result<Answe
 
 /// The answer to a text within the limit: the report on its functions, or why it is refused.
 pub(crate) fn examine(alloc: Global, text: &[u8]) -> Result<Answer, Memory>
-    requires { length text.now ≤ FILE_LIMIT }
-    ensures { IfOk result (λ a. ((a.status ≤ SOME_OPEN) × IsReport text.now a.status a.text.items) ⊎ ((a.status ≡ FILE_REFUSED) × IsRefusedAs text.now a.text.items)) }
+    requires { length text.now ≤ file_limit }
+    ensures { IfOk result (λ a. ((a.status ≤ some_open) × IsReport text.now a.status a.text.items) ⊎ ((a.status ≡ file_refused) × IsRefusedAs text.now a.text.items)) }
 {
     let rows = Table::builtin(alloc)?;
     let mut names = Names::builtin(alloc)?;

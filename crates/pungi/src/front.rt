@@ -1,27 +1,28 @@
 ghost use Rattle.std.specs.Prelude.{◌≡◌, ◌≤◌, length, List, ℕ, Some, IfOk, IfErr};
 ghost use Rattle.pungi_base.specs.declared.pos.Pos.{Pos};
 ghost use Rattle.pungi_base.specs.Words.{builtin_words};
+ghost use Rattle.pungi_lex.specs.Limits.{token_limit};
 ghost use Rattle.pungi_tree.specs.Syntax.{Item};
 ghost use Rattle.pungi_tree.specs.UnitFlat.{items_flat};
 ghost use Rattle.pungi_tree.specs.UnitView.{unit_view};
 ghost use Rattle.pungi.specs.Front.{IsUnitOf, IsNoUnit, IsFaultOf, AreKnownKinds, reason_of};
+ghost use Rattle.pungi.specs.Limits.{file_limit};
 
 use crate::file_fault::FileFault;
-use crate::read::FILE_LIMIT;
 use pungi_base::Names;
-use pungi_lex::{TOKEN_LIMIT, expand, lex};
+use pungi_lex::{expand, lex};
 use pungi_parse::parse;
 use pungi_tree::Unit;
 use std::alloc::Global;
 
 /// What a text within the limit consists of: its tokens, their macros replaced, as a tree.
 pub(crate) fn unit_of(alloc: Global, names: &mut Names, text: &[u8]) -> Result<Unit, FileFault>
-    requires limit { length text.now ≤ FILE_LIMIT }
+    requires limit { length text.now ≤ file_limit }
     requires words { names.old ≡ builtin_words }
     ensures unit { IfOk result (λ unit. IsUnitOf text.now names.new (unit_view unit)) }
     ensures only { IfOk result (λ unit. (others : List (List ℕ)) (items : List Item) → IsUnitOf text.now others items → items ≡ unit_view unit) }
     ensures known { IfOk result (λ unit. AreKnownKinds (length names.new) (items_flat (unit_view unit))) }
-    ensures few { IfOk result (λ unit. length (items_flat (unit_view unit)) ≤ TOKEN_LIMIT) }
+    ensures few { IfOk result (λ unit. length (items_flat (unit_view unit)) ≤ token_limit) }
     ensures fault { IfErr result (λ fault. (told : Pos × List ℕ) → reason_of fault ≡ Some told → IsFaultOf text.now fault × IsNoUnit text.now) }
 {
     let tokens = match lex(alloc, names, text) {

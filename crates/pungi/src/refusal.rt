@@ -1,6 +1,7 @@
 ghost use Rattle.std.specs.Prelude.{◌≡◌, IfOk, option_map, List, ℕ, Some};
 ghost use Rattle.pungi_base.specs.declared.pos.Pos.{Pos as ThePos};
 ghost use Rattle.pungi.specs.Front.{lex_reason, macro_reason, parse_reason, unit_reason, reason_of, refused_text};
+ghost use Rattle.pungi.specs.Status.{file_refused};
 
 use crate::answer::Answer;
 use crate::file_fault::FileFault;
@@ -79,7 +80,7 @@ fn refusal_line(alloc: Global, at: Pos, reason: &str) -> Result<Vec<u8>, Memory>
 
 /// That a file is refused, and why.
 pub(crate) fn refusal_answer(alloc: Global, fault: &FileFault) -> Result<Answer, Memory>
-    ensures { IfOk result (λ a. (a.status ≡ FILE_REFUSED)
+    ensures { IfOk result (λ a. (a.status ≡ file_refused)
         × ((at : ThePos) × (reason : List ℕ) × (reason_of fault.now ≡ Some (at, reason)) × (a.text.items ≡ refused_text at reason))) }
 {
     let Some((at, reason)) = reason_of(fault) else {

@@ -5,12 +5,14 @@ ghost use Rattle.pungi_tree.specs.Syntax.{Item};
 ghost use Rattle.pungi.specs.Answer.{Answers, IsOpened, IsFileText, IsRefusedText, IsReported};
 ghost use Rattle.pungi.specs.Front.{IsFile};
 ghost use Rattle.pungi.specs.Settings.{file_word};
+ghost use Rattle.pungi.specs.Limits.{file_limit};
+ghost use Rattle.pungi.specs.Status.{words_refused, file_unread, answer_cut, file_refused, memory_wanted};
 
 use crate::answer::{Answer, message, unread_answer};
 use crate::examine::examine;
-use crate::read::{FILE_LIMIT, Reading, read_opened};
+use crate::read::{Reading, read_opened};
 use crate::settings::file_word;
-use crate::status::{ANSWER_CUT, FILE_REFUSED, FILE_UNREAD, MEMORY_WANTED, WORDS_REFUSED};
+use crate::status::{ANSWER_CUT, FILE_REFUSED, MEMORY_WANTED, WORDS_REFUSED};
 use crate::write::write_all;
 use pungi_base::{Memory, OpenFault, Shelf, Sink};
 use std::alloc::Global;
@@ -19,7 +21,7 @@ use std::alloc::Global;
 fn decide<F: Shelf>(alloc: Global, words: &[String], shelf: &mut F) -> Result<Answer, Memory>
     ensures answer { IfOk result (λ a. Answers (map string_bytes words.now) (F.texts shelf.old) (Rose (F.faults shelf.old) (F.faults shelf.new)) a.status a.text.items) }
     ensures asked { IfOk result (λ a. IsOpened (map string_bytes words.now) a.status (F.given shelf.old) (F.given shelf.new)) }
-    ensures unasked { OnErr result (IsOpened (map string_bytes words.now) MEMORY_WANTED (F.given shelf.old) (F.given shelf.new)) }
+    ensures unasked { OnErr result (IsOpened (map string_bytes words.now) memory_wanted (F.given shelf.old) (F.given shelf.new)) }
     ensures later { F.faults shelf.old ≤ F.faults shelf.new }
     ensures texts { F.texts shelf.new ≡ F.texts shelf.old }
 {
@@ -53,29 +55,29 @@ fn decide<F: Shelf>(alloc: Global, words: &[String], shelf: &mut F) -> Result<An
 /// printed object is the lowest whose change there differs from its escapes.
 pub fn pungi<F: Shelf, O: Sink>(alloc: Global, words: &[String], shelf: &mut F, out: &mut O) -> u8
     // The status has its cause, and the text that goes with it was written whole.
-    ensures answer { result ≢ ANSWER_CUT → result ≢ MEMORY_WANTED → (text : List ℕ)
+    ensures answer { result ≢ answer_cut → result ≢ memory_wanted → (text : List ℕ)
         × Answers (map string_bytes words.now) (F.texts shelf.old) (Rose (F.faults shelf.old) (F.faults shelf.new)) result text
         × Takes (O.taken out.old) (O.taken out.new) text }
 
     // A write failed: the sink's count rose, and a front of the text was taken.
-    ensures cut { result ≡ ANSWER_CUT → Rose (O.faults out.old) (O.faults out.new)
+    ensures cut { result ≡ answer_cut → Rose (O.faults out.old) (O.faults out.new)
         × ((status : ℕ) × (front : List ℕ) × (rest : List ℕ)
         × Answers (map string_bytes words.now) (F.texts shelf.old) (Rose (F.faults shelf.old) (F.faults shelf.new)) status (front ++ rest)
         × Takes (O.taken out.old) (O.taken out.new) front) }
 
     // For want of memory nothing was written, and no write was tried that failed.
-    ensures memory { result ≡ MEMORY_WANTED → (O.taken out.new ≡ O.taken out.old) × (O.faults out.new ≡ O.faults out.old) }
+    ensures memory { result ≡ memory_wanted → (O.taken out.new ≡ O.taken out.old) × (O.faults out.new ≡ O.faults out.old) }
 
     // No file was opened but the one that the words name.
     ensures asked { IsOpened (map string_bytes words.now) result (F.given shelf.old) (F.given shelf.new) }
 
     // Where a cause holds, its status comes, unless a call failed or memory ran out.
-    ensures words { IsNone (file_word (map string_bytes words.now)) → result ≢ ANSWER_CUT → result ≢ MEMORY_WANTED → result ≡ WORDS_REFUSED }
+    ensures words { IsNone (file_word (map string_bytes words.now)) → result ≢ answer_cut → result ≢ memory_wanted → result ≡ words_refused }
     ensures file { (text : List ℕ) → IsFileText (map string_bytes words.now) (F.texts shelf.old) text → IsRefusedText text
-        → result ≢ FILE_UNREAD → result ≢ ANSWER_CUT → result ≢ MEMORY_WANTED → result ≡ FILE_REFUSED }
-    ensures judged { (text : List ℕ) → IsFileText (map string_bytes words.now) (F.texts shelf.old) text → length text ≤ FILE_LIMIT
+        → result ≢ file_unread → result ≢ answer_cut → result ≢ memory_wanted → result ≡ file_refused }
+    ensures judged { (text : List ℕ) → IsFileText (map string_bytes words.now) (F.texts shelf.old) text → length text ≤ file_limit
         → (names : List (List ℕ)) → (items : List Item) → IsFile text names items
-        → result ≢ FILE_UNREAD → result ≢ ANSWER_CUT → result ≢ MEMORY_WANTED → IsReported result }
+        → result ≢ file_unread → result ≢ answer_cut → result ≢ memory_wanted → IsReported result }
 
     ensures later { F.faults shelf.old ≤ F.faults shelf.new }
     ensures texts { F.texts shelf.new ≡ F.texts shelf.old }

@@ -1,9 +1,8 @@
 -- The table of rows (Python/C API Reference Manual 3.11).
 --   with_given, params_of s    the parameters of a signature that are there
 --   takes_of n third           of so many parameters only the third may be taken over
---   plain_row p, special_row s the rows that the table of the manual states
---   name_of p                  the word whose number a plain row has
---   builtin_rows               the rows of the manual, under the numbers of their names
+--   plain_row p, special_row s the rows that the program's constants state
+--   builtin_row c, builtin_rows    the row of a call of the manual under the number of its name; all of them
 --   row_in rows name           the row of a name, where there is one
 --   is_object p, has_success a      an object or NULL; a return value that shows whether the call succeeded
 --   may_take a p t, may_take_all    whether a parameter may be taken over so, and each of them
@@ -14,10 +13,9 @@
 --   is_plain_form f, are_plain_rows rows        each is such a row, and plain
 --   named_row r                a row under the number of its name
 --   are_new rows more          none of these names stands before
-use Rattle.std.specs.Prelude.{ℕ, ◌==◌, Bool, true, false, ◌&&◌, List, [], ◌∷◌, ◌++◌, length, take, map, slice_get, Option, None, Some, is_none}
+use Rattle.std.specs.Prelude.{ℕ, ◌==◌, Bool, true, false, ◌&&◌, List, [], ◌∷◌, ◌++◌, length, take, map, Option, None, Some, is_none}
 use Rattle.std.specs.List.{list_all}
 use Rattle.std.specs.Map.{lookup}
-use Rattle.pungi_base.specs.Words.{builtin_words}
 use Rattle.pungi_base.specs.declared.names.Name.{Name}
 use Rattle.pungi_api.specs.declared.param.Param.{Param}
 use Rattle.pungi_api.specs.declared.param.Param.TheVariants as param
@@ -31,7 +29,7 @@ use Rattle.pungi_api.specs.declared.row.Row.{Row}
 use Rattle.pungi_api.specs.declared.manual.Signature.{Signature}
 use Rattle.pungi_api.specs.declared.manual.PlainRow.{PlainRow}
 use Rattle.pungi_api.specs.declared.manual.SpecialRow.{SpecialRow}
-use Rattle.pungi_api.specs.declared.manual.TheConstants.{PLAIN_ROWS, SPECIAL_ROWS}
+use Rattle.pungi_api.specs.Manual.{Call, calls}
 
 abbrev pub with_given : Option Param → List Param → List Param
 with_given None ps = ps
@@ -49,11 +47,11 @@ plain_row p = (p.0, record { form = form.Plain; params = params_of p.1; takes = 
 abbrev pub special_row : SpecialRow → ℕ × Row
 special_row s = (s.0, record { form = form.Special s.1; params = []; takes = []; answer = answer.Null })
 
-abbrev pub name_of : PlainRow → Option (List ℕ)
-name_of p = slice_get builtin_words p.0
+abbrev pub builtin_row : Call → ℕ × Row
+builtin_row c = (c.number, c.row)
 
 abbrev pub builtin_rows : List (ℕ × Row)
-builtin_rows = map plain_row PLAIN_ROWS ++ map special_row SPECIAL_ROWS
+builtin_rows = map builtin_row calls
 
 abbrev pub row_in : List (ℕ × Row) → ℕ → Option Row
 row_in rows name = lookup (λ other. name == other) rows

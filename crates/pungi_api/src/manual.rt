@@ -1,7 +1,8 @@
-//! The rows of the manual. Contracts and code read the same table.
-ghost use Rattle.std.specs.Prelude.{◌≡◌, map};
-ghost use Rattle.pungi_base.specs.Words.{plain_rows};
-ghost use Rattle.pungi_api.specs.Rows.{name_of};
+//! The rows of the manual. The definitions spell them once more, and `Table::builtin` is proved to have theirs.
+ghost use Rattle.std.specs.Prelude.{◌≡◌, Some, map, slice_get};
+ghost use Rattle.pungi_base.specs.Words.{builtin_words, plain_rows};
+ghost use Rattle.pungi_api.specs.Manual.{calls, plain_calls, special_calls};
+ghost use Rattle.pungi_api.specs.Rows.{builtin_row, plain_row, special_row};
 
 use crate::row_words::*;
 use crate::{Answer, Param, Special, Take};
@@ -157,7 +158,11 @@ pub static SPECIAL_ROWS: [SpecialRow; 6] = [
     SpecialRow(words::PY_XNEW_REF, Special::XNewRef),
 ];
 
-/// The numbers of the plain rows are those of the words of plain rows, in their order.
-pub fn plain_rows_have_their_names()
-    ensures { map name_of PLAIN_ROWS ≡ map Some plain_rows }
+/// The rows are those that the definitions spell, each under the number that its name has among the words, and the plain
+/// rows are all words of plain rows, in their order.
+pub fn rows_have_their_names()
+    ensures plain_rows { map plain_row PLAIN_ROWS ≡ map builtin_row plain_calls }
+    ensures special_rows { map special_row SPECIAL_ROWS ≡ map builtin_row special_calls }
+    ensures numbers { map (λ c. slice_get builtin_words c.number) calls ≡ map (λ c. Some c.name) calls }
+    ensures names { map (λ c. c.name) plain_calls ≡ plain_rows }
 {}

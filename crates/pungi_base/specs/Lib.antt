@@ -1,4 +1,5 @@
 pub mod Names
+pub mod Numbers
 pub mod Shelf
 pub mod Sink
 pub mod Token

@@ -1,18 +1,9 @@
 ghost use Rattle.std.specs.Prelude.{◌≡◌, ◌<◌, ◌≤◌, [], get_or, IfOk};
 ghost use Rattle.pungi_base.specs.Words.{builtin_words};
 
-use crate::words::{KEYWORDS, MACROS, PLAIN_ROWS, STATICS, TYPE_WORDS, WORDS};
+use crate::words::{FIRST_STATIC, KEYWORDS, PY_INCREF, STATICS_END, WORDS};
 use crate::{Memory, Names};
 use std::alloc::Global;
-
-/// The first number of a static.
-const FIRST_STATIC: u32 = KEYWORDS + MACROS + TYPE_WORDS;
-
-/// The first number of an API call.
-const FIRST_ROW: u32 = FIRST_STATIC + STATICS;
-
-/// The first number of an API call with a special row.
-const FIRST_SPECIAL: u32 = FIRST_ROW + PLAIN_ROWS;
 
 /// A keyword, by its number.
 fn keyword(number: u32) -> &'static str
@@ -117,7 +108,7 @@ fn macro_or_type(number: u32) -> &'static str
 /// A static, by its number.
 fn static_object(number: u32) -> &'static str
     requires from { FIRST_STATIC ≤ number }
-    requires below { number < FIRST_ROW }
+    requires below { number < STATICS_END }
     ensures { result.now ≡ get_or builtin_words number [] }
 {
     match number {
@@ -151,8 +142,8 @@ fn static_object(number: u32) -> &'static str
 
 /// An API call with a plain row, by its number.
 fn plain_row(number: u32) -> &'static str
-    requires from { FIRST_ROW ≤ number }
-    requires below { number < FIRST_SPECIAL }
+    requires from { STATICS_END ≤ number }
+    requires below { number < PY_INCREF }
     ensures { result.now ≡ get_or builtin_words number [] }
 {
     match number {
@@ -226,7 +217,7 @@ fn plain_row(number: u32) -> &'static str
 
 /// An API call with a special row or a further word, by its number.
 fn other_word(number: u32) -> &'static str
-    requires from { FIRST_SPECIAL ≤ number }
+    requires from { PY_INCREF ≤ number }
     requires below { number < WORDS }
     ensures { result.now ≡ get_or builtin_words number [] }
 {
@@ -264,9 +255,9 @@ fn word_of(number: u32) -> &'static str
         keyword(number)
     } else if number < FIRST_STATIC {
         macro_or_type(number)
-    } else if number < FIRST_ROW {
+    } else if number < STATICS_END {
         static_object(number)
-    } else if number < FIRST_SPECIAL {
+    } else if number < PY_INCREF {
         plain_row(number)
     } else {
         other_word(number)

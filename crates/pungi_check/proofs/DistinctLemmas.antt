@@ -4,6 +4,7 @@ use Rattle.std.specs.Prelude.{◌==◌, ◌≤◌, ◌&&◌, ◌||◌, not, leng
 use Rattle.std.specs.List.{list_any}
 use Rattle.std.proofs.lemmas.Bool.Decides.{nat_tests}
 use Rattle.pungi_base.specs.declared.pos.Pos.{Pos}
+use Rattle.pungi_types.specs.Limits.{most_functions}
 use Rattle.pungi_types.specs.Files.{SourceFile, Definition, definitions, typedefs}
 use Rattle.pungi_types.specs.Tags.{tags}
 use Rattle.pungi_types.specs.Findings.{Findings, nothing_found, one_found, ◌and◌, when, is_before, earlier, least_from, least}
@@ -56,7 +57,7 @@ definitions-new file seen (d ∷ ds) h =
 pub file-new : (file : SourceFile) → least (faults file) ≡ None → are_new [] (definitions file.items) ≡ true
 file-new file h =
     let others = use_faults [] (uses file.items file.items) and (variable_faults file (uses file.items file.items)
-    and (typedef_faults [] (typedefs file.items) and (tag_faults [] (tags file.items) and count_faults (slice_get (definitions file.items) 4096)))) in
+    and (typedef_faults [] (typedefs file.items) and (tag_faults [] (tags file.items) and count_faults (slice_get (definitions file.items) most_functions)))) in
     definitions-new file [] (definitions file.items) (left-none (definition_faults file [] (definitions file.items)) others h)
 
 behind-the-end : {X : Type 0} (xs : List X) (i : ℕ) → slice_get xs i ≡ None → length xs ≤ i
@@ -69,9 +70,9 @@ count-none None h = refl
 count-none (Some d) h = absurd (cc)
 
 -- .. and 4,096 at most
-pub file-few : (file : SourceFile) → least (faults file) ≡ None → length (definitions file.items) ≤ 4096
+pub file-few : (file : SourceFile) → least (faults file) ≡ None → length (definitions file.items) ≤ most_functions
 file-few file h =
-    let counted = count_faults (slice_get (definitions file.items) 4096) in
+    let counted = count_faults (slice_get (definitions file.items) most_functions) in
     let by-tags = tag_faults [] (tags file.items) and counted in
     let by-words = typedef_faults [] (typedefs file.items) and by-tags in
     let by-variables = variable_faults file (uses file.items file.items) and by-words in
@@ -81,7 +82,7 @@ file-few file h =
     (right-none (variable_faults file (uses file.items file.items)) by-words
     (right-none (use_faults [] (uses file.items file.items)) by-variables
     (right-none (definition_faults file [] (definitions file.items)) by-uses h)))) in
-    behind-the-end (definitions file.items) 4096 (count-none (slice_get (definitions file.items) 4096) none)
+    behind-the-end (definitions file.items) most_functions (count-none (slice_get (definitions file.items) most_functions) none)
 
 pub and-left : (a b : Bool) → (not a && b) ≡ true → a ≡ false
 and-left true b h = absurd (cc)

@@ -4,6 +4,7 @@ use Rattle.std.specs.Prelude.{◌==◌, ◌&&◌, ◌||◌, slice_get, if◌then
 use Rattle.std.proofs.lemmas.Bool.Decides.{nat_tests}
 use Rattle.pungi_base.specs.declared.names.Name.{Name}
 use Rattle.pungi_base.specs.declared.pos.Pos.{Pos}
+use Rattle.pungi_types.specs.Limits.{most_functions}
 use Rattle.pungi_types.specs.Files.{SourceFile, Definition, definitions, Typedef, typedefs}
 use Rattle.pungi_types.specs.Findings.{Findings, nothing_found, one_found, ◌and◌, when, is_before, earlier, least_from, least}
 use Rattle.pungi_types.specs.Names.{is_among, with_word}
@@ -88,7 +89,7 @@ of-file file =
     (both _ _ (of-uses [] (uses file.items file.items))
     (both _ _ (of-variables file (uses file.items file.items))
     (both _ _ (of-typedefs [] (typedefs file.items))
-    (both _ _ (of-tags [] (tags file.items)) (of-count (slice_get (definitions file.items) 4096))))))
+    (both _ _ (of-tags [] (tags file.items)) (of-count (slice_get (definitions file.items) most_functions))))))
 
 one-or-two : (n : ℕ) → is_fault_rule n ≡ true → (n ≡ 1) ⊎ (n ≡ 2)
 one-or-two n h = grind (arith, nat_tests)

@@ -6,7 +6,7 @@
 --   definition_faults   a function defined twice, or with the name of a row or a built-in static
 --   typedef_faults      a type word defined twice, or one that is known before a text is read
 --   is_same_of, has_tag, tag_seen, one_tag_fault, tag_faults    a struct's or union's tag defined twice
---   count_faults, faults file    the 4,097th function, and all of these
+--   count_faults, faults file    the first function that is too many, and all of these
 use Rattle.std.specs.Prelude.{ℕ, ◌==◌, Bool, true, false, ◌&&◌, ◌||◌, not, List, [], ◌∷◌, ◌++◌, Option, Some, None, is_some, slice_get, if◌then◌else◌}
 use Rattle.pungi_base.specs.declared.key.Key.{Key}
 use Rattle.pungi_base.specs.declared.names.Name.{Name}
@@ -16,6 +16,7 @@ use Rattle.pungi_api.specs.declared.row.Row.{Row}
 use Rattle.pungi_api.specs.Rows.{row_in}
 use Rattle.pungi_types.specs.Tags.{Tag, tags}
 use Rattle.pungi_types.specs.Files.{SourceFile, Typedef, typedefs, Definition, definitions, declr_name, declr_pos}
+use Rattle.pungi_types.specs.Limits.{most_functions}
 use Rattle.pungi_types.specs.Kinds.{is_struct, is_listed_type}
 use Rattle.pungi_types.specs.Names.{is_among, with_word, is_table, is_built_in_static}
 use Rattle.pungi_types.specs.Findings.{Findings, nothing_found, ◌and◌, when}
@@ -102,7 +103,7 @@ abbrev pub tag_faults : List Tag → List Tag → Findings
 tag_faults seen [] = nothing_found
 tag_faults seen (t ∷ ts) = one_tag_fault seen t t.tag and tag_faults (t ∷ seen) ts
 
--- the 4,097th function
+-- the first function that is too many
 abbrev pub count_faults : Option Definition → Findings
 count_faults None = nothing_found
 count_faults (Some d) = when true d.pos 2
@@ -110,4 +111,4 @@ count_faults (Some d) = when true d.pos 2
 abbrev pub faults : SourceFile → Findings
 faults file =
     definition_faults file [] (definitions file.items) and (use_faults [] (uses file.items file.items) and (variable_faults file (uses file.items file.items)
-    and (typedef_faults [] (typedefs file.items) and (tag_faults [] (tags file.items) and count_faults (slice_get (definitions file.items) 4096)))))
+    and (typedef_faults [] (typedefs file.items) and (tag_faults [] (tags file.items) and count_faults (slice_get (definitions file.items) most_functions)))))

@@ -4,13 +4,15 @@
 --                       holds, and how many static objects there are
 --   checked_view c      the file that a checked unit of the program is, with its refused functions
 --   IsChecked c         what a checked unit holds is what is found of its file
-use Rattle.std.specs.Prelude.{◌≡◌, ℕ, ◌+◌, ◌≤◌, ◌^◌, List, length, map, Option, None, IsTrue}
+use Rattle.std.specs.Prelude.{◌≡◌, ℕ, ◌+◌, ◌≤◌, List, length, map, Option, None, IsTrue}
 use Rattle.pungi_base.specs.declared.names.Name.{Name}
+use Rattle.pungi_base.specs.Numbers.{static_count}
 use Rattle.pungi_api.specs.Rows.{are_rows}
 use Rattle.pungi_tree.specs.UnitView.{unit_view}
 use Rattle.pungi_types.specs.Files.{SourceFile, source_file, definitions, AreOwn}
 use Rattle.pungi_types.specs.Findings.{least}
 use Rattle.pungi_types.specs.Functions.{refusal}
+use Rattle.pungi_types.specs.Limits.{most_functions, most_statics}
 use Rattle.pungi_types.specs.Names.{type_objects}
 use Rattle.pungi_types.specs.Refused.{CheckedFile, IsRefusedSet}
 use Rattle.pungi_types.specs.declared.finding.Finding.{Finding}
@@ -21,15 +23,15 @@ use Rattle.pungi_check.specs.declared.checked.Checked.{Checked}
 
 pub record IsFound (file : SourceFile) (names : List Name) (refused : List ℕ) (refusals : List (Option Finding)) (resolved : List (Option ResolvedFunction)) (statics : ℕ) : Type 0 where
   pub none : least (faults file) ≡ None
-  pub few : length (definitions file.items) ≤ 4096
+  pub few : length (definitions file.items) ≤ most_functions
   pub own : AreOwn (definitions file.items) (definitions file.items)
   pub set : IsRefusedSet file refused
   pub names_are : names ≡ map (λ d. d.name) (definitions file.items)
   pub refusals_are : refusals ≡ map (refusal file refused) (definitions file.items)
   pub resolved_are : resolved ≡ map (resolution_of file refused) (definitions file.items)
   pub rows : IsTrue (are_rows file.rows)
-  pub statics_are : statics ≡ 24 + length (type_objects file.items)
-  pub few_statics : statics ≤ 2 ^ 30 + 24
+  pub statics_are : statics ≡ static_count + length (type_objects file.items)
+  pub few_statics : statics ≤ most_statics
 
 abbrev pub checked_view : Checked → CheckedFile
 checked_view c = record { file = source_file c.texts.now (unit_view c.unit.now) c.rows.now; refused = c.refused.keys }

@@ -1,11 +1,12 @@
 //! A unit is checked as a whole, and then function by function.
-ghost use Rattle.std.specs.Prelude.{◌≡◌, ◌+◌, ◌≤◌, ◌^◌, None, length, IfOk, IfErr, OnOk, IsTrue, map};
+ghost use Rattle.std.specs.Prelude.{◌≡◌, ◌+◌, ◌≤◌, None, length, IfOk, IfErr, OnOk, IsTrue, map};
 ghost use Rattle.pungi_check.specs.Duplicates.{faults};
 ghost use Rattle.pungi_check.specs.Faults.{IsFaultOf};
 ghost use Rattle.pungi_check.specs.Found.{IsFound, IsChecked, checked_view};
 ghost use Rattle.pungi_check.specs.Graph.{graph_of, node_view};
 ghost use Rattle.pungi_check.specs.declared.fault.UnitFault.TheVariants.{DuplicateName, TooManyFunctions};
 ghost use Rattle.pungi_api.specs.Rows.{are_rows};
+ghost use Rattle.pungi_base.specs.Numbers.{static_count};
 ghost use Rattle.pungi_declared.specs.DeclaredView.{function_view};
 ghost use Rattle.pungi_names.specs.NamesView.{file_of};
 ghost use Rattle.pungi_resolve.specs.Resolutions.{resolution_of, resolution_view};
@@ -13,6 +14,7 @@ ghost use Rattle.pungi_tree.specs.UnitView.{unit_view};
 ghost use Rattle.pungi_types.specs.Files.{source_file, definitions};
 ghost use Rattle.pungi_types.specs.Findings.{least};
 ghost use Rattle.pungi_types.specs.Functions.{refusal};
+ghost use Rattle.pungi_types.specs.Limits.{most_statics};
 ghost use Rattle.pungi_types.specs.Names.{type_objects};
 ghost use Rattle.pungi_types.specs.Refused.{IsRefusedSet};
 
@@ -26,6 +28,7 @@ use crate::worklist::least_set;
 use crate::{Checked, UnitFault};
 use indexmap::IndexSet;
 use pungi_api::Table;
+use pungi_base::words::STATICS;
 use pungi_base::{Memory, Name, Names, Rule, Seq};
 use pungi_declared::definitions;
 use pungi_names::{UnitNames, unit_names};
@@ -69,12 +72,12 @@ fn refuse_fault(
 
 /// How many static objects there are. There is no memory for a file with more than 2^30 type objects.
 fn statics(names: &UnitNames<'_>) -> Result<u32, Memory>
-    ensures counted { IfOk result (λ n. n ≡ 24 + length (type_objects (file_of names.now).items)) }
-    ensures few { IfOk result (λ n. n ≤ 2 ^ 30 + 24) }
+    ensures counted { IfOk result (λ n. n ≡ static_count + length (type_objects (file_of names.now).items)) }
+    ensures few { IfOk result (λ n. n ≤ most_statics) }
 {
     let count = names.type_objects();
     if count <= MOST_TYPE_OBJECTS {
-        Ok(count + 24)
+        Ok(count + STATICS)
     } else {
         Err(Memory)
     }

@@ -5,6 +5,7 @@ ghost use Rattle.pungi_check.specs.UsesView.{use_view, name_use_view};
 ghost use Rattle.pungi_names.specs.NamesView.{file_of};
 ghost use Rattle.pungi_check.specs.Duplicates.{is_taken, is_variable_use, definition_faults, variable_faults, count_faults};
 ghost use Rattle.pungi_types.specs.Findings.{least_from};
+ghost use Rattle.pungi_types.specs.Limits.{most_functions};
 
 use crate::name_use::{NameUse, Use};
 use indexmap::IndexSet;
@@ -73,7 +74,7 @@ pub(crate) fn note_variables(
 /// Notes the first function that is too many.
 #[tactic(auto, using(crate::proofs::SeenLemmas::by_number))]
 pub(crate) fn note_count(first: &mut Option<Finding>, functions: &Vec<&FunctionDef>)
-    ensures { first.new ≡ least_from first.old (count_faults (slice_get (map function_view functions.now.items) 4096)) }
+    ensures { first.new ≡ least_from first.old (count_faults (slice_get (map function_view functions.now.items) most_functions)) }
 {
     if let Some(f) = functions.get(MOST_FUNCTIONS) {
         note(first, true, f.pos, 2);

@@ -4,4 +4,5 @@ pub mod Run
 pub mod Machine
 pub mod Alike
 pub mod Entries
+pub mod Limits
 pub mod WellFormed

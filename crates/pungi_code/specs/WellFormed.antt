@@ -34,6 +34,7 @@ use Rattle.pungi_api.specs.declared.answer.Answer.TheVariants as answer
 use Rattle.pungi_api.specs.declared.row.Form.{Form}
 use Rattle.pungi_api.specs.declared.row.Form.TheVariants as form
 use Rattle.pungi_api.specs.declared.row.Row.{Row}
+use Rattle.pungi_types.specs.Limits.{most_functions, most_locals, most_statics}
 use Rattle.pungi_types.specs.declared.kind.ValueKind.{ValueKind}
 use Rattle.pungi_types.specs.declared.kind.ValueKind.TheVariants as kinds
 use Rattle.pungi_meaning.specs.declared.cmp.Cmp.{Cmp}
@@ -49,6 +50,7 @@ use Rattle.pungi_code.specs.declared.code.Line.{Line}
 use Rattle.pungi_code.specs.declared.instr.Instr.{Instr}
 use Rattle.pungi_code.specs.declared.instr.Instr.TheVariants.{Set, Arith, Fit, Compare, Load, Store, Api, Call, Unset, Jump, Branch, Return, Fall}
 use Rattle.pungi_code.specs.declared.instr.Label.{Label}
+use Rattle.pungi_code.specs.Limits.{most_arguments, most_instructions, most_variables}
 use Rattle.pungi_code.specs.declared.place.Place.{Place}
 use Rattle.pungi_code.specs.declared.place.Place.TheVariants.{Global, Field}
 
@@ -183,7 +185,7 @@ is_sound code (Compare x c a b) = is_var code.vars x && (is_integer (var_kind co
 is_sound code (Load x place) = is_var code.vars x && (is_place code.vars place (place_kind place) && is_wide (place_kind place) (var_kind code.vars x))
 is_sound code (Store place a) = is_place code.vars place (place_kind place) && atom_is code.vars (place_kind place) a
 is_sound code (Api x shape as' outs) =
-    is_answer code.vars shape.row x && (are_arguments code.vars (wanted_params shape.row) as' && (list_all (λ o. is_output code.vars o) outs && nat_le (length as') (2 ^ 14)))
+    is_answer code.vars shape.row x && (are_arguments code.vars (wanted_params shape.row) as' && (list_all (λ o. is_output code.vars o) outs && nat_le (length as') most_arguments))
 is_sound code (Call x f as') = false
 is_sound code (Unset x) = is_var code.vars x
 is_sound code (Jump to) = is_label code to
@@ -213,11 +215,11 @@ goes_back heads place i = list_all (λ l. nat_lt place l.0 || is_head heads l) (
 -- ---- codes
 
 pub record IsWellFormed (code : Code) : Type 0 where
-  pub params : code.params ≤ 32
+  pub params : code.params ≤ most_locals
   pub among : code.params ≤ code.locals
   pub locals : code.locals ≤ length code.vars
-  pub vars : length code.vars ≤ 2 ^ 16
-  pub few : length code.instrs ≤ 2 ^ 14
+  pub vars : length code.vars ≤ most_variables
+  pub few : length code.instrs ≤ most_instructions
   pub sound : (place : ℕ) (line : Line) → slice_get code.instrs place ≡ Some line → is_sound code line.instr ≡ true
   pub last : (place : ℕ) (line : Line) → slice_get code.instrs place ≡ Some line → leads_on line.instr ≡ true → place + 1 < length code.instrs
   pub back : (place : ℕ) (line : Line) → slice_get code.instrs place ≡ Some line → goes_back code.heads place line.instr ≡ true
@@ -245,5 +247,5 @@ pub record AreWellFormed (codes : Codes) : Type 0 where
   pub each : (f : ℕ) (code : Code) → slice_get codes.codes f ≡ Some (Some code) → IsWellFormed code
   pub kinds : (f g : ℕ) (a b : Code) → slice_get codes.codes f ≡ Some (Some a) → slice_get codes.codes g ≡ Some (Some b) → AgreeOnKinds a b
   pub names : length codes.names ≡ length codes.codes
-  pub few : length codes.codes ≤ 2 ^ 12
-  pub statics : codes.statics ≤ 2 ^ 30 + 24
+  pub few : length codes.codes ≤ most_functions
+  pub statics : codes.statics ≤ most_statics

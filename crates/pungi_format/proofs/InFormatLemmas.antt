@@ -4,7 +4,7 @@ use Rattle.std.specs.Option.{option_to_list}
 use Rattle.std.proofs.lemmas.List.{take_more}
 use Rattle.std.proofs.lemmas.List.Folds.{list_any-append}
 use Rattle.pungi_format.specs.declared.in_unit.InUnit.{InUnit}
-use Rattle.pungi_format.specs.declared.in_format.TheConstants.{BAR}
+use Rattle.pungi_format.specs.InFormat.{bar_byte}
 use Rattle.pungi_format.specs.InFormat.{units_of, required_of, unit_before, has_bar, in_rule}
 use Rattle.pungi_format.proofs.FaultLemmas.{step_drop, NoFaultBefore, none_yet, none_here}
 
@@ -22,12 +22,12 @@ pub record ReadAsFar (text : List ℕ) (units : List InUnit) (required : Option 
 pub begun : (text : List ℕ) → ReadAsFar text [] None 0
 begun text = record { spelled = refl; counted = omega arith; bar = refl; faults = none_yet in_rule text }
 
-more_bar : (text : List ℕ) (i : ℕ) → i < length text → has_bar (take (i + 1) text) ≡ (has_bar (take i text) || (slice_index text i == BAR || false))
-more_bar text i lt = rw (take_more text i 0 lt) (list_any-append (λ b. b == BAR) (take i text) (slice_index text i ∷ []))
+more_bar : (text : List ℕ) (i : ℕ) → i < length text → has_bar (take (i + 1) text) ≡ (has_bar (take i text) || (slice_index text i == bar_byte || false))
+more_bar text i lt = rw (take_more text i 0 lt) (list_any-append (λ b. b == bar_byte) (take i text) (slice_index text i ∷ []))
 
 -- a byte that is no bar
 pub unit_read : (text : List ℕ) (units : List InUnit) (required : Option ℕ) (i : ℕ) (o : Option InUnit) → i < length text → ReadAsFar text units required i
-    → in_rule (take i text) (slice_index text i) ≡ None → (slice_index text i == BAR) ≡ false
+    → in_rule (take i text) (slice_index text i) ≡ None → (slice_index text i == bar_byte) ≡ false
     → o ≡ unit_before (slice_index text i) (drop (i + 1) text) → ReadAsFar text (units ++ option_to_list o) required (i + 1)
 unit_read text units required i o lt r none no_bar is = record {
   spelled = rw (append_assoc, is, ← step_drop_units) r.spelled;
@@ -53,7 +53,7 @@ unit_read text units required i o lt r none no_bar is = record {
     counts (Some n) h = h
     counts None h = omega (arith, h, step_required, length-append units (option_to_list o))
 
-no_bar_before : (before : List ℕ) → in_rule before BAR ≡ None → has_bar before ≡ false
+no_bar_before : (before : List ℕ) → in_rule before bar_byte ≡ None → has_bar before ≡ false
 no_bar_before before none = go (has_bar before) refl
   where
     go : (b : Bool) → has_bar before ≡ b → has_bar before ≡ false
@@ -62,7 +62,7 @@ no_bar_before before none = go (has_bar before) refl
 
 -- the bar
 pub bar_read : (text : List ℕ) (units : List InUnit) (required : Option ℕ) (i : ℕ) → i < length text → ReadAsFar text units required i
-    → in_rule (take i text) (slice_index text i) ≡ None → slice_index text i ≡ BAR → ReadAsFar text units (Some (length units)) (i + 1)
+    → in_rule (take i text) (slice_index text i) ≡ None → slice_index text i ≡ bar_byte → ReadAsFar text units (Some (length units)) (i + 1)
 bar_read text units required i lt r none is = record {
   spelled = (let e : units_of (drop i text) ≡ units_of (drop (i + 1) text) = ap units_of step in rw (← e) r.spelled);
   counted = (let e : required_of (drop i text) ≡ 0 = ap required_of step in counts required r.counted (r.bar ∙ none_before) e);
@@ -70,7 +70,7 @@ bar_read text units required i lt r none is = record {
   faults = none_here in_rule text i lt r.faults none;
 }
   where
-    step : drop i text ≡ BAR ∷ drop (i + 1) text
+    step : drop i text ≡ bar_byte ∷ drop (i + 1) text
     step = step_drop text i lt ∙ ap (λ b. b ∷ drop (i + 1) text) is
 
     none_before : has_bar (take i text) ≡ false

@@ -1,4 +1,6 @@
 -- The formats of `PyArg_ParseTuple` (Python/C API Reference Manual 3.11, 'Parsing arguments and building values').
+--   object_byte, typed_byte, bar_byte, name_byte, message_byte
+--                                  the bytes `O`, `!`, `|`, `:` and `;`
 --   ends_units b                   `:` and `;` end the units; what follows is free text
 --   in_letter b                    the unit that a byte alone spells
 --   unit_before b bs               the unit that a byte begins before these: `O!` is one unit
@@ -18,13 +20,27 @@ use Rattle.std.specs.List.{before_first, list_any}
 use Rattle.pungi_format.specs.declared.in_unit.InUnit.{InUnit}
 use Rattle.pungi_format.specs.declared.in_unit.InUnit.TheVariants as unit
 use Rattle.pungi_format.specs.declared.in_format.InFormat.{InFormat}
-use Rattle.pungi_format.specs.declared.in_format.TheConstants.{OBJECT, TYPED, BAR, NAME, MESSAGE}
 use Rattle.pungi_format.specs.declared.format_fault.FormatFault.{FormatFault}
 use Rattle.pungi_format.specs.declared.format_fault.FormatFault.TheVariants as fault
 use Rattle.pungi_format.specs.FormatFault.{first_fault, is_among}
 
+abbrev pub object_byte : ℕ
+object_byte = 79
+
+abbrev pub typed_byte : ℕ
+typed_byte = 33
+
+abbrev pub bar_byte : ℕ
+bar_byte = 124
+
+abbrev pub name_byte : ℕ
+name_byte = 58
+
+abbrev pub message_byte : ℕ
+message_byte = 59
+
 abbrev pub ends_units : ℕ → Bool
-ends_units b = b == NAME || b == MESSAGE
+ends_units b = b == name_byte || b == message_byte
 
 abbrev pub in_letter : ℕ → Option InUnit
 in_letter b =
@@ -38,7 +54,7 @@ in_letter b =
     else None
 
 abbrev pub unit_before : ℕ → List ℕ → Option InUnit
-unit_before b bs = if b == OBJECT && (slice_index bs 0 == TYPED) then Some unit.ObjectOf else in_letter b
+unit_before b bs = if b == object_byte && (slice_index bs 0 == typed_byte) then Some unit.ObjectOf else in_letter b
 
 abbrev pub units_of : List ℕ → List InUnit
 units_of [] = []
@@ -46,18 +62,18 @@ units_of (b ∷ bs) = option_to_list (unit_before b bs) ++ units_of bs
 
 abbrev pub required_of : List ℕ → ℕ
 required_of [] = 0
-required_of (b ∷ bs) = if b == BAR then 0 else length (option_to_list (unit_before b bs)) + required_of bs
+required_of (b ∷ bs) = if b == bar_byte then 0 else length (option_to_list (unit_before b bs)) + required_of bs
 
 abbrev pub has_bar : List ℕ → Bool
-has_bar text = list_any (λ b. b == BAR) text
+has_bar text = list_any (λ b. b == bar_byte) text
 
 abbrev pub is_typed : List ℕ → Bool
-is_typed before = slice_index before (length before - 1) == OBJECT
+is_typed before = slice_index before (length before - 1) == object_byte
 
 abbrev pub in_rule : List ℕ → ℕ → Option FormatFault
 in_rule before b =
-    if b == BAR then (if has_bar before then Some (fault.Order (length before)) else None)
-    else if b == TYPED then (if is_typed before then None else Some (fault.UnknownUnit (length before)))
+    if b == bar_byte then (if has_bar before then Some (fault.Order (length before)) else None)
+    else if b == typed_byte then (if is_typed before then None else Some (fault.UnknownUnit (length before)))
     else if is_some (in_letter b) then None else Some (fault.UnknownUnit (length before))
 
 abbrev pub units_fault : List ℕ → Option FormatFault

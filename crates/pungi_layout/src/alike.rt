@@ -1,6 +1,7 @@
 // What the layout of a function promises.
 ghost use Rattle.std.specs.Prelude.{◌≡◌, ◌+◌, ◌*◌, ◌≤◌};
 ghost use Rattle.pungi_resolved.specs.ActionView.{function_view};
+ghost use Rattle.pungi_code.specs.Limits.{steps_an_instruction};
 ghost use Rattle.pungi_layout.specs.code.StmtCode.{body_code};
 ghost use Rattle.pungi_layout.specs.code.Sound.{IsStmtSound, stmt_nodes};
 ghost use Rattle.pungi_layout.specs.alike.Correct.{temps_of, Behaves};
@@ -13,8 +14,8 @@ use pungi_resolved::Function;
 /// instructions that are laid out for it are alike.
 pub fn layout_is_alike(f: &Function)
     requires sound { IsStmtSound (function_view f.now).locals (function_view f.now).body }
-    requires nodes { 5 * stmt_nodes (function_view f.now).body ≤ 65536 }
-    ensures { Behaves (function_view f.now) (body_code (function_view f.now)) ((function_view f.now).locals + temps_of (function_view f.now)) 65536 }
+    requires nodes { 5 * stmt_nodes (function_view f.now).body ≤ steps_an_instruction }
+    ensures { Behaves (function_view f.now) (body_code (function_view f.now)) ((function_view f.now).locals + temps_of (function_view f.now)) steps_an_instruction }
 {}
 
 /// The law of its temporaries: where one instruction leads to another, and no statement has own nodes at the places of both,

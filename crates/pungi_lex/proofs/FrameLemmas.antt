@@ -6,7 +6,7 @@ use Rattle.std.proofs.lemmas.List.{append-nil, reverse-append}
 use Rattle.pungi_base.specs.declared.kind.Kind.{Kind}
 use Rattle.pungi_base.specs.declared.token.Token.{Token}
 use Rattle.pungi_lex.specs.declared.frames.Frame.{Frame}
-use Rattle.pungi_lex.specs.declared.frames.TheConstants.{TOKEN_LIMIT}
+use Rattle.pungi_lex.specs.Limits.{token_limit}
 use Rattle.pungi_lex.specs.Frames.{IsReplaced, IsOverLimit}
 use Rattle.pungi_lex.specs.Macros.{Macros, Expands, Nothing, Kept, Replaced, word_number, body_of, body_at, replacement, placed}
 use Rattle.pungi_lex.specs.declared.macro_fault.MacroFault.TheVariants as fault
@@ -233,7 +233,7 @@ pub same_at_end : (first now : Macros) (frames : List Frame) (t : Token) (before
 same_at_end first now frames t before after used count none x =
     let y : Expansion first now [] t before after used count = subst (λ (l : List Frame). Expansion first now l t before after used count) (ap reverse (length_none frames none)) x in y.back
 
-pub over_at_start : (m : Macros) (t : Token) (used : ℕ) → used ≡ TOKEN_LIMIT → IsOverLimit m used t (fault.TooManyTokens t.pos)
+pub over_at_start : (m : Macros) (t : Token) (used : ℕ) → used ≡ token_limit → IsOverLimit m used t (fault.TooManyTokens t.pos)
 over_at_start m t used full =
     let e = total m (t.kind ∷ []) in
     let cost = some_cost m (t.kind ∷ []) e.0 e.1 e.2 (omega arith) in
@@ -244,7 +244,7 @@ long_drop n [] h = absurd (omega arith)
 long_drop zero (k ∷ ks) h = omega arith
 long_drop (suc n) (k ∷ ks) h = long_drop n ks (omega arith)
 
-pub over_within : (first now : Macros) (f : Frame) (fs : List Frame) (t : Token) (before after : List Token) (used count : ℕ) → f.next < length f.body → count ≡ TOKEN_LIMIT
+pub over_within : (first now : Macros) (f : Frame) (fs : List Frame) (t : Token) (before after : List Token) (used count : ℕ) → f.next < length f.body → count ≡ token_limit
     → Expansion first now (f ∷ fs) t before after used count → IsOverLimit first used t (fault.TooManyTokens t.pos)
 over_within first now f fs t before after used count some full x =
     let c = completion now (f ∷ fs) in

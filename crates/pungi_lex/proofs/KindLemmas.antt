@@ -10,7 +10,7 @@ use Rattle.pungi_base.specs.declared.kind.Kind.{Kind}
 use Rattle.pungi_base.specs.declared.kind.Kind.TheVariants as kind
 use Rattle.pungi_base.specs.declared.names.Name.{Name}
 use Rattle.pungi_base.specs.declared.punct.Punct.{Punct}
-use Rattle.pungi_base.specs.declared.words.TheConstants.{KEYWORDS}
+use Rattle.pungi_base.specs.Numbers.{keyword_count}
 use Rattle.pungi_base.specs.Names.{AreDistinct, AreNames}
 use Rattle.pungi_base.specs.Token.{key_number, punct_text}
 use Rattle.pungi_lex.specs.declared.start.Start.{Start}
@@ -85,7 +85,7 @@ key_back key.Null = refl
 key_once : (a b : Key) → key_number a ≡ key_number b → a ≡ b
 key_once a b e = let same : Some a ≡ Some b = sym (key_back a) ∙ ap (slice_get keys) e ∙ key_back b in cc
 
-key_below : (k : Key) → key_number k < KEYWORDS
+key_below : (k : Key) → key_number k < keyword_count
 key_below key.Int = lit< tt
 key_below key.Long = lit< tt
 key_below key.Short = lit< tt

@@ -9,7 +9,7 @@ use Rattle.pungi_base.specs.declared.kind.Kind.{Kind}
 use Rattle.pungi_base.specs.declared.kind.Kind.TheVariants as kind
 use Rattle.pungi_base.specs.declared.punct.Punct.TheVariants as punct
 use Rattle.pungi_base.specs.declared.token.Token.{Token}
-use Rattle.pungi_base.specs.declared.words.TheConstants.{PY_RETURN_NONE, PY_RETURN_TRUE, PY_RETURN_FALSE, PY_BEGIN_ALLOW_THREADS, PY_END_ALLOW_THREADS, PY_MODINIT_FUNC, PY_OBJECT_HEAD, PY_OBJECT_VAR_HEAD, PY_LT, PY_LE, PY_EQ, PY_NE, PY_GT, PY_GE, PY_OBJECT, PY_VAR_OBJECT, PY_NONE, PY_TRUE, PY_FALSE, PY_NEW_REF, OB_BASE, WORDS}
+use Rattle.pungi_base.specs.Numbers.{py_return_none, py_return_true, py_return_false, py_begin_allow_threads, py_end_allow_threads, py_modinit_func, py_object_head, py_object_var_head, py_lt, py_le, py_eq, py_ne, py_gt, py_ge, py_object, py_var_object, py_none, py_true, py_false, py_new_ref, ob_base, word_count}
 use Rattle.pungi_base.specs.Words.{BeginWithWords, builtin_words}
 use Rattle.pungi_lex.specs.declared.macro_fault.MacroFault.{MacroFault}
 use Rattle.pungi_lex.specs.Directive.{Defines, Define, OfFunction, Again, Joint, Obeys, Inclusion, Definition, Other, kinds_in}
@@ -36,20 +36,20 @@ one names k h = All-cons (IsKnown names) k [] h (All-nil (IsKnown names))
 more : (names : ℕ) (k : Kind) (ks : List Kind) → IsKnown names k → AreKnownKinds names ks → AreKnownKinds names (k ∷ ks)
 more names k ks h t = All-cons (IsKnown names) k ks h t
 
-returned_known : (names object : ℕ) → WORDS ≤ names → object < names → AreKnownKinds names (returned object)
+returned_known : (names object : ℕ) → word_count ≤ names → object < names → AreKnownKinds names (returned object)
 returned_known names object words known =
-    let reference : PY_NEW_REF < names = omega arith in
+    let reference : py_new_ref < names = omega arith in
     All-from_recursion (IsKnown names) (returned object) (tt, (reference, (tt, (known, (tt, tt)))))
 
-headed_known : (names struct : ℕ) → WORDS ≤ names → struct < names → AreKnownKinds names (headed struct)
+headed_known : (names struct : ℕ) → word_count ≤ names → struct < names → AreKnownKinds names (headed struct)
 headed_known names struct words known =
-    let base : OB_BASE < names = omega arith in
+    let base : ob_base < names = omega arith in
     All-from_recursion (IsKnown names) (headed struct) (known, (base, (tt, tt)))
 
-pointer_known : (names : ℕ) → WORDS ≤ names → AreKnownKinds names (word PY_OBJECT ∷ kind.Punct punct.Star ∷ [])
+pointer_known : (names : ℕ) → word_count ≤ names → AreKnownKinds names (word py_object ∷ kind.Punct punct.Star ∷ [])
 pointer_known names words =
-    let object : PY_OBJECT < names = omega arith in
-    All-from_recursion (IsKnown names) (word PY_OBJECT ∷ kind.Punct punct.Star ∷ []) (object, (tt, tt))
+    let object : py_object < names = omega arith in
+    All-from_recursion (IsKnown names) (word py_object ∷ kind.Punct punct.Star ∷ []) (object, (tt, tt))
 
 record KnownBody (names : ℕ) (body : Option (List Kind)) : Type 0 where
   pub is : IsKnownBody names body
@@ -61,27 +61,27 @@ choose names false kinds others here there = there
 nothing_known : (names : ℕ) → KnownBody names None
 nothing_known names = record { is = tt }
 
-first_known : (names n : ℕ) → WORDS ≤ names → KnownBody names (first_body n)
+first_known : (names n : ℕ) → word_count ≤ names → KnownBody names (first_body n)
 first_known names n words =
-    choose names (n == PY_RETURN_NONE) (returned PY_NONE) _ (returned_known names PY_NONE words (omega arith))
-    (choose names (n == PY_RETURN_TRUE) (returned PY_TRUE) _ (returned_known names PY_TRUE words (omega arith))
-    (choose names (n == PY_RETURN_FALSE) (returned PY_FALSE) _ (returned_known names PY_FALSE words (omega arith))
-    (choose names (n == PY_BEGIN_ALLOW_THREADS) (kind.Punct punct.LeftBrace ∷ []) _ (one names (kind.Punct punct.LeftBrace) tt)
-    (choose names (n == PY_END_ALLOW_THREADS) (kind.Punct punct.RightBrace ∷ []) _ (one names (kind.Punct punct.RightBrace) tt)
-    (choose names (n == PY_MODINIT_FUNC) (word PY_OBJECT ∷ kind.Punct punct.Star ∷ []) _ (pointer_known names words)
-    (choose names (n == PY_OBJECT_HEAD) (headed PY_OBJECT) _ (headed_known names PY_OBJECT words (omega arith))
-    (choose names (n == PY_OBJECT_VAR_HEAD) (headed PY_VAR_OBJECT) _ (headed_known names PY_VAR_OBJECT words (omega arith))
-    (choose names (n == PY_LT) (number 0) _ (number_known names 0)
-    (choose names (n == PY_LE) (number 1) _ (number_known names 1)
-    (choose names (n == PY_EQ) (number 2) _ (number_known names 2)
-    (choose names (n == PY_NE) (number 3) _ (number_known names 3)
-    (choose names (n == PY_GT) (number 4) _ (number_known names 4)
-    (choose names (n == PY_GE) (number 5) None (number_known names 5) (nothing_known names))))))))))))))
+    choose names (n == py_return_none) (returned py_none) _ (returned_known names py_none words (omega arith))
+    (choose names (n == py_return_true) (returned py_true) _ (returned_known names py_true words (omega arith))
+    (choose names (n == py_return_false) (returned py_false) _ (returned_known names py_false words (omega arith))
+    (choose names (n == py_begin_allow_threads) (kind.Punct punct.LeftBrace ∷ []) _ (one names (kind.Punct punct.LeftBrace) tt)
+    (choose names (n == py_end_allow_threads) (kind.Punct punct.RightBrace ∷ []) _ (one names (kind.Punct punct.RightBrace) tt)
+    (choose names (n == py_modinit_func) (word py_object ∷ kind.Punct punct.Star ∷ []) _ (pointer_known names words)
+    (choose names (n == py_object_head) (headed py_object) _ (headed_known names py_object words (omega arith))
+    (choose names (n == py_object_var_head) (headed py_var_object) _ (headed_known names py_var_object words (omega arith))
+    (choose names (n == py_lt) (number 0) _ (number_known names 0)
+    (choose names (n == py_le) (number 1) _ (number_known names 1)
+    (choose names (n == py_eq) (number 2) _ (number_known names 2)
+    (choose names (n == py_ne) (number 3) _ (number_known names 3)
+    (choose names (n == py_gt) (number 4) _ (number_known names 4)
+    (choose names (n == py_ge) (number 5) None (number_known names 5) (nothing_known names))))))))))))))
   where
     number_known : (names value : ℕ) → AreKnownKinds names (number value)
     number_known names value = All-from_recursion (IsKnown names) (number value) (tt, tt)
 
-predefined_known : (names count : ℕ) → WORDS ≤ names → AreKnownMacros names (predefined count)
+predefined_known : (names count : ℕ) → word_count ≤ names → AreKnownMacros names (predefined count)
 predefined_known names zero words = All-nil (IsKnownBody names)
 predefined_known names (suc count) words = All-push (IsKnownBody names) (predefined count) (first_body count) (predefined_known names count words) (first_known names count words).is
 
@@ -145,7 +145,7 @@ runs_known names macros n parts out last m (Expanded _ _ _ k _ t kinds rest late
 pub expansion_known : {A : Type 0} (items : A → List Token) (names : List (List ℕ)) (tokens : List Token) (r : Result A MacroFault) → BeginWithWords names → AreKnown (length names) tokens
     → IfOk r (λ found. IsExpanded (length names) tokens (items found)) → IfOk r (λ found. AreKnown (length names) (items found))
 expansion_known items names tokens (Ok found) words known x =
-    let many : WORDS ≤ length names = omega (arith, ap length words, length-take (length builtin_words) names) in
+    let many : word_count ≤ length names = omega (arith, ap length words, length-take (length builtin_words) names) in
     runs_known (length names) (predefined (length names)) 0 x.parts (items found) x.last x.count x.runs (predefined_known (length names) (length names) many)
     (append_front (length names) (tokens_in x.parts) [] (subst (AreKnown (length names)) x.whole known))
 expansion_known items names tokens (Err f) words known x = tt

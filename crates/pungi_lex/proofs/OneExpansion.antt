@@ -7,7 +7,7 @@ use Rattle.std.proofs.lemmas.Option.{same_Some}
 use Rattle.pungi_base.specs.declared.pos.Pos.{Pos}
 use Rattle.pungi_base.specs.declared.kind.Kind.{Kind}
 use Rattle.pungi_base.specs.declared.token.Token.{Token}
-use Rattle.pungi_lex.specs.declared.frames.TheConstants.{TOKEN_LIMIT}
+use Rattle.pungi_lex.specs.Limits.{token_limit}
 use Rattle.pungi_lex.specs.declared.macro_fault.MacroFault.{MacroFault}
 use Rattle.pungi_lex.specs.declared.macro_fault.MacroFault.TheVariants as fault
 use Rattle.pungi_lex.specs.Directive.{Defines, Define, OfFunction, Again, Joint, Obeys, Inclusion, Definition, Other, IsHash, IsDefinition, IsDefinitionOf, HasNoJointBelow, IsJointAt}
@@ -222,7 +222,7 @@ record RanPlain (macros : Macros) (n : ℕ) (t : Token) (parts : List Part) (out
   pub spent : ℕ
   pub rest : List Token
   pub expands : Expands macros (t.kind ∷ []) kinds spent
-  pub within : n + spent ≤ TOKEN_LIMIT
+  pub within : n + spent ≤ token_limit
   pub behind : Runs macros (n + spent) parts rest last m
   pub out_is : out ≡ placed t kinds ++ rest
 
@@ -365,7 +365,7 @@ out_within macros ks out n (Nothing _) = omega arith
 out_within macros ks out n (Kept _ k rest o i e x) = omega (arith, out_within macros rest o i x)
 out_within macros ks out n (Replaced _ k name body rest inner o i j w e x y) = omega (arith, length-append inner o, out_within (set macros name None) body inner i x, out_within macros rest o j y)
 
-runs_within : (macros : Macros) (n : ℕ) (parts : List Part) (out : List Token) (last : Macros) (m : ℕ) → Runs macros n parts out last m → n ≤ TOKEN_LIMIT → n + length out ≤ TOKEN_LIMIT
+runs_within : (macros : Macros) (n : ℕ) (parts : List Part) (out : List Token) (last : Macros) (m : ℕ) → Runs macros n parts out last m → n ≤ token_limit → n + length out ≤ token_limit
 runs_within macros n parts out last m (Ends _ _) h = omega arith
 runs_within macros n parts out last m (Directs _ next _ _ _ hash words rest _ obeys runs) h = runs_within next n rest out last m runs h
 runs_within macros n parts out last m (Expanded _ _ _ k _ t kinds rest later expands few runs) h =
@@ -380,7 +380,7 @@ expanded_once items names tokens other (Ok found) x y =
     runs_once (predefined names) 0 x.parts (items found) other x.last y.last x.count y.count x.runs (subst (λ (ps : List Part). Runs (predefined names) 0 ps other y.last y.count) parts y.runs)
 expanded_once items names tokens other (Err f) x y = tt
 
-pub expanded_within : {A : Type 0} (items : A → List Token) (names : ℕ) (tokens : List Token) (r : Result A MacroFault) → IfOk r (λ found. IsExpanded names tokens (items found)) → IfOk r (λ found. length (items found) ≤ TOKEN_LIMIT)
+pub expanded_within : {A : Type 0} (items : A → List Token) (names : ℕ) (tokens : List Token) (r : Result A MacroFault) → IfOk r (λ found. IsExpanded names tokens (items found)) → IfOk r (λ found. length (items found) ≤ token_limit)
 expanded_within items names tokens (Ok found) x = omega (arith, runs_within (predefined names) 0 x.parts (items found) x.last x.count x.runs (omega arith))
 expanded_within items names tokens (Err f) x = tt
 

@@ -5,7 +5,7 @@ use Rattle.std.proofs.lemmas.List.{append-nil, drop-drop, length-take-le}
 use Rattle.std.proofs.lemmas.List.Elements.{All-head, All-tail}
 use Rattle.pungi_base.specs.declared.token.Token.{Token}
 use Rattle.pungi_lex.specs.declared.macro_fault.MacroFault.{MacroFault}
-use Rattle.pungi_lex.specs.declared.frames.TheConstants.{TOKEN_LIMIT}
+use Rattle.pungi_lex.specs.Limits.{token_limit}
 use Rattle.pungi_lex.specs.Directive.{IsHash, Obeys}
 use Rattle.pungi_lex.specs.Expander.{Part, Directed, Plain, tokens_of_part, tokens_in, starts_first, ArePartsBefore, Runs, Ends, Directs, Expanded, Refuses, OfDirective, OfCount, IsExpanded, HasMacroFault}
 use Rattle.pungi_lex.specs.Frames.{Stays, IsReplaced, IsOverLimit}
@@ -28,11 +28,11 @@ pub start : (names : ℕ) (tokens : List Token) → Progress names tokens 0 (pre
 start names tokens = record { forward = λ parts extra rest later last k e are runs. record { all = parts; whole = e; are = are; runs = runs } }
 
 pub plain_on : (names : ℕ) (tokens behind : List Token) (done next : ℕ) (m : Macros) (n count : ℕ) (out after : List Token) (t : Token) → drop done tokens ≡ t ∷ behind → drop next tokens ≡ behind → (IsHash t → ⊥)
-    → IsReplaced m n t out after count → count ≤ TOKEN_LIMIT → Progress names tokens done m n out → Progress names tokens next m count after
+    → IsReplaced m n t out after count → count ≤ token_limit → Progress names tokens done m n out → Progress names tokens next m count after
 plain_on names tokens behind done next m n count out after t here there other is within so_far = record {
   forward = λ parts extra rest later last k e are runs.
       let kinds = is.0 in
-      let within-k : n + is.1 ≤ TOKEN_LIMIT = omega (arith, is.4, within) in
+      let within-k : n + is.1 ≤ token_limit = omega (arith, is.4, within) in
       let on : Runs m (n + is.1) parts later last k = subst (λ (j : ℕ). Runs m j parts later last k) is.4 runs in
       let r = so_far.forward (Plain t ∷ parts) extra rest (placed t kinds ++ later) last k (here ∙ ap (λ (l : List Token). t ∷ l) (sym there ∙ e)) (other, are) (Expanded m last n is.1 k t kinds parts later is.2 within-k on) in
       record {
@@ -48,7 +48,7 @@ told_as : (names : ℕ) (tokens : List Token) (done done' : ℕ) (m : Macros) (n
 told_as names tokens done done' m n n' out out' done-is n-is out-is so_far =
     subst (λ (d : ℕ). Progress names tokens d m n' out') done-is (subst (λ (k : ℕ). Progress names tokens done m k out') n-is (subst (λ (l : List Token). Progress names tokens done m n l) out-is so_far))
 
-pub kept_on : (names : ℕ) (tokens kept behind : List Token) (done : ℕ) (m : Macros) (n : ℕ) (out : List Token) → drop done tokens ≡ kept ++ behind → All (Stays m) kept → n + length kept ≤ TOKEN_LIMIT
+pub kept_on : (names : ℕ) (tokens kept behind : List Token) (done : ℕ) (m : Macros) (n : ℕ) (out : List Token) → drop done tokens ≡ kept ++ behind → All (Stays m) kept → n + length kept ≤ token_limit
     → Progress names tokens done m n out → Progress names tokens (done + length kept) m (n + length kept) (out ++ kept)
 kept_on names tokens [] behind done m n out here stay within so_far =
     let done-is : done ≡ done + 0 = omega arith in
@@ -127,7 +127,7 @@ pub at_end : (names : ℕ) (tokens rest : List Token) (done : ℕ) (m : Macros) 
 at_end names tokens rest done m n out is none so_far = ended names tokens done m n out (sym is ∙ length_none rest none) so_far
 
 pub at_plain : (names : ℕ) (tokens rest : List Token) (done : ℕ) (m after_m : Macros) (n count : ℕ) (out after : List Token) (t : Token) → rest ≡ drop done tokens → 0 < length rest → t ≡ get_or rest 0 t → (IsHash t → ⊥)
-    → IsReplaced m n t out after count → count ≤ TOKEN_LIMIT → after_m ≡ m → Progress names tokens done m n out → Progress names tokens (done + 1) after_m count after
+    → IsReplaced m n t out after count → count ≤ token_limit → after_m ≡ m → Progress names tokens done m n out → Progress names tokens (done + 1) after_m count after
 at_plain names tokens rest done m after_m n count out after t is some t-is other replaced few same so_far =
     subst (λ (x : Macros). Progress names tokens (done + 1) x count after) (sym same)
     (plain_on names tokens (drop 1 rest) done (done + 1) m n count out after t (sym is ∙ uncons rest t some t-is) (later done 1 tokens rest is) other replaced few so_far)
@@ -160,7 +160,7 @@ plain_refused names tokens rest done m n out t found is some t-is other over so_
     stopped names tokens done m n out (drop 1 rest) (Plain t) found (sym is ∙ uncons rest t some t-is) (other, tt)
     (subst (λ (f : MacroFault). Refuses m n (Plain t) f) (sym over.4) (OfCount t over.0 over.1 over.2 over.3)) so_far
 
-pub at_kept : (names : ℕ) (tokens rest kept : List Token) (done length_of : ℕ) (m : Macros) (n : ℕ) (out after : List Token) → rest ≡ drop done tokens → kept ≡ take length_of rest → length_of ≤ length rest → All (Stays m) (take length_of rest) → n + length_of ≤ TOKEN_LIMIT → after ≡ out ++ kept
+pub at_kept : (names : ℕ) (tokens rest kept : List Token) (done length_of : ℕ) (m : Macros) (n : ℕ) (out after : List Token) → rest ≡ drop done tokens → kept ≡ take length_of rest → length_of ≤ length rest → All (Stays m) (take length_of rest) → n + length_of ≤ token_limit → after ≡ out ++ kept
     → Progress names tokens done m n out → Progress names tokens (done + length_of) m (n + length_of) after
 at_kept names tokens rest kept done k m n out after is kept-is within stay few after-is so_far =
     let front = take k rest in

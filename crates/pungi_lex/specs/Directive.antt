@@ -17,7 +17,7 @@ use Rattle.pungi_base.specs.declared.kind.Kind.{Kind}
 use Rattle.pungi_base.specs.declared.kind.Kind.TheVariants as kind
 use Rattle.pungi_base.specs.declared.punct.Punct.TheVariants as punct
 use Rattle.pungi_base.specs.declared.token.Token.{Token}
-use Rattle.pungi_base.specs.declared.words.TheConstants.{INCLUDE, DEFINE}
+use Rattle.pungi_base.specs.Numbers.{include_word, define_word}
 use Rattle.pungi_lex.specs.declared.macro_fault.MacroFault.{MacroFault}
 use Rattle.pungi_lex.specs.declared.macro_fault.MacroFault.TheVariants as fault
 use Rattle.pungi_lex.specs.Macros.{Macros, word_number, body_of}
@@ -31,17 +31,17 @@ IsWord n token = word_number token.kind ≡ Some n
 
 abbrev pub IsInclusion : List Token → Type 0
 IsInclusion [] = ⊥
-IsInclusion (word ∷ words) = IsWord INCLUDE word
+IsInclusion (word ∷ words) = IsWord include_word word
 
 abbrev pub IsDefinition : List Token → Type 0
 IsDefinition [] = ⊥
 IsDefinition (word ∷ []) = ⊥
-IsDefinition (word ∷ defined ∷ body) = IsWord DEFINE word × ((name : ℕ) × IsWord name defined)
+IsDefinition (word ∷ defined ∷ body) = IsWord define_word word × ((name : ℕ) × IsWord name defined)
 
 abbrev pub IsDefinitionOf : ℕ → Pos → List Token → Type 0
 IsDefinitionOf name at [] = ⊥
 IsDefinitionOf name at (word ∷ []) = ⊥
-IsDefinitionOf name at (word ∷ defined ∷ body) = IsWord DEFINE word × IsWord name defined × (at ≡ defined.pos)
+IsDefinitionOf name at (word ∷ defined ∷ body) = IsWord define_word word × IsWord name defined × (at ≡ defined.pos)
 
 abbrev pub kinds_in : List Token → List Kind
 kinds_in tokens = map (λ t. t.kind) tokens

@@ -13,7 +13,7 @@ use Rattle.std.specs.Prelude.{◌≡◌, ◌≤◌, ◌<◌, ℕ, ◌+◌, Bool,
 use Rattle.std.specs.List.{list_all}
 use Rattle.pungi_base.specs.declared.kind.Kind.{Kind}
 use Rattle.pungi_base.specs.declared.token.Token.{Token}
-use Rattle.pungi_lex.specs.declared.frames.TheConstants.{TOKEN_LIMIT}
+use Rattle.pungi_lex.specs.Limits.{token_limit}
 use Rattle.pungi_lex.specs.declared.macro_fault.MacroFault.{MacroFault}
 use Rattle.pungi_lex.specs.declared.macro_fault.MacroFault.TheVariants as fault
 use Rattle.pungi_lex.specs.Directive.{IsHash, Obeys}
@@ -47,7 +47,7 @@ pub data Runs : Macros → ℕ → List Part → List Token → Macros → ℕ �
   Ends : (macros : Macros) (n : ℕ) → Runs macros n [] [] macros n
   Directs : (macros next last : Macros) (n m : ℕ) (hash : Token) (words : List Token) (parts : List Part) (out : List Token) → Obeys macros hash words (Ok next) → Runs next n parts out last m
       → Runs macros n (Directed hash words ∷ parts) out last m
-  Expanded : (macros last : Macros) (n k m : ℕ) (t : Token) (kinds : List Kind) (parts : List Part) (out : List Token) → Expands macros (t.kind ∷ []) kinds k → n + k ≤ TOKEN_LIMIT → Runs macros (n + k) parts out last m
+  Expanded : (macros last : Macros) (n k m : ℕ) (t : Token) (kinds : List Kind) (parts : List Part) (out : List Token) → Expands macros (t.kind ∷ []) kinds k → n + k ≤ token_limit → Runs macros (n + k) parts out last m
       → Runs macros n (Plain t ∷ parts) (placed t kinds ++ out) last m
 
 pub record IsExpanded (names : ℕ) (tokens out : List Token) : Type 0 where
@@ -60,7 +60,7 @@ pub record IsExpanded (names : ℕ) (tokens out : List Token) : Type 0 where
 
 pub data Refuses (macros : Macros) (n : ℕ) : Part → MacroFault → Type 0 where
   OfDirective : (hash : Token) (words : List Token) (found : MacroFault) → Obeys macros hash words (Err found) → Refuses macros n (Directed hash words) found
-  OfCount : (t : Token) (kinds : List Kind) (k : ℕ) → Expands macros (t.kind ∷ []) kinds k → TOKEN_LIMIT < n + k → Refuses macros n (Plain t) (fault.TooManyTokens t.pos)
+  OfCount : (t : Token) (kinds : List Kind) (k : ℕ) → Expands macros (t.kind ∷ []) kinds k → token_limit < n + k → Refuses macros n (Plain t) (fault.TooManyTokens t.pos)
 
 pub record HasMacroFault (names : ℕ) (tokens : List Token) (found : MacroFault) : Type 0 where
   pub parts : List Part

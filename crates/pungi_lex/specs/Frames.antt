@@ -7,7 +7,7 @@ use Rattle.std.specs.Prelude.{◌≡◌, ◌<◌, ℕ, ◌+◌, Bool, true, fals
 use Rattle.pungi_base.specs.declared.kind.Kind.{Kind}
 use Rattle.pungi_base.specs.declared.token.Token.{Token}
 use Rattle.pungi_lex.specs.declared.frames.Frame.{Frame}
-use Rattle.pungi_lex.specs.declared.frames.TheConstants.{TOKEN_LIMIT}
+use Rattle.pungi_lex.specs.Limits.{token_limit}
 use Rattle.pungi_lex.specs.declared.macro_fault.MacroFault.{MacroFault}
 use Rattle.pungi_lex.specs.declared.macro_fault.MacroFault.TheVariants as fault
 use Rattle.pungi_lex.specs.Directive.{IsHash}
@@ -26,4 +26,4 @@ abbrev pub IsReplaced : Macros → ℕ → Token → List Token → List Token �
 IsReplaced macros used t before after count = (kinds : List Kind) × (k : ℕ) × Expands macros (t.kind ∷ []) kinds k × (after ≡ before ++ placed t kinds) × (count ≡ used + k)
 
 abbrev pub IsOverLimit : Macros → ℕ → Token → MacroFault → Type 0
-IsOverLimit macros used t found = (kinds : List Kind) × (k : ℕ) × Expands macros (t.kind ∷ []) kinds k × (TOKEN_LIMIT < used + k) × (found ≡ fault.TooManyTokens t.pos)
+IsOverLimit macros used t found = (kinds : List Kind) × (k : ℕ) × Expands macros (t.kind ∷ []) kinds k × (token_limit < used + k) × (found ≡ fault.TooManyTokens t.pos)

@@ -7,6 +7,7 @@ pub mod Frames
 pub mod Join
 pub mod Known
 pub mod Lengths
+pub mod Limits
 pub mod Line
 pub mod MacroFault
 pub mod Macros

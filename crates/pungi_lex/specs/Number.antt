@@ -2,6 +2,7 @@
 --   is_exponent_letter, is_sign    one of e E; one of + -
 --   goes_on prev b       b goes on a number's spelling after the byte prev
 --   spelling_len prev text, number_count text  how long the spelling is that goes on, and that begins a text
+--   zero_byte, upper_a, lower_a    the bytes of 0, A and a
 --   digit_value b, value_in base digits    the value of a digit, and of digits
 --   is_u, is_l, is_unsigned_suffix, is_long_suffix, is_mixed_suffix    parts of a suffix: one of u U, one of l L, the one, l L ll LL, and both in either order
 --   is_suffix suffix     nothing, or at most one u or U and at most one of l L ll LL, in either order
@@ -17,7 +18,6 @@
 use Rattle.std.specs.Prelude.{ℕ, ◌+◌, ◌*◌, ◌-◌, ◌^◌, ◌==◌, pos, Bool, true, false, not, ◌&&◌, ◌||◌, List, [], ◌∷◌, fold, drop, nat_le, Option, Some, None, codes, if◌then◌else◌}
 use Rattle.pungi_base.specs.declared.kind.Kind.{Kind}
 use Rattle.pungi_base.specs.declared.kind.Kind.TheVariants as kind
-use Rattle.pungi_lex.specs.declared.number.TheConstants.{ZERO, UPPER_A, LOWER_A}
 use Rattle.pungi_lex.specs.Bytes.{is_one_of, is_digit, is_octal_digit, is_hex_digit, is_word_byte, begins, begins_with, front_of, after_front}
 
 -- ---- the spelling
@@ -42,9 +42,18 @@ number_count (b ∷ text) = 1 + spelling_len b text
 
 -- ---- integer constants
 
+abbrev pub zero_byte : ℕ
+zero_byte = 48
+
+abbrev pub upper_a : ℕ
+upper_a = 65
+
+abbrev pub lower_a : ℕ
+lower_a = 97
+
 -- the value of a digit, also of a hexadecimal one
 abbrev pub digit_value : ℕ → ℕ
-digit_value b = if is_digit b then b - ZERO else if nat_le LOWER_A b then 10 + (b - LOWER_A) else 10 + (b - UPPER_A)
+digit_value b = if is_digit b then b - zero_byte else if nat_le lower_a b then 10 + (b - lower_a) else 10 + (b - upper_a)
 
 abbrev pub value_in : ℕ → List ℕ → ℕ
 value_in base digits = fold (λ value b. base * value + digit_value b) 0 digits

@@ -9,7 +9,7 @@ use Rattle.std.specs.Prelude.{◌≡◌, ◌≤◌, ◌<◌, ◌==◌, ℕ, fals
 use Rattle.std.specs.List.{prefix_len}
 use Rattle.pungi_base.specs.declared.kind.Kind.{Kind}
 use Rattle.pungi_base.specs.declared.kind.Kind.TheVariants as kind
-use Rattle.pungi_base.specs.declared.words.TheConstants.{KEYWORDS}
+use Rattle.pungi_base.specs.Numbers.{keyword_count}
 use Rattle.pungi_base.specs.Names.{with_text}
 use Rattle.pungi_base.specs.Token.{key_number, punct_text}
 use Rattle.pungi_lex.specs.declared.start.Start.{Start}
@@ -38,7 +38,7 @@ length_at start.Nothing text = None
 abbrev pub NamesWord : List (List ℕ) → Option Kind → List ℕ → Type 0
 NamesWord names None word = ⊥
 NamesWord names (Some (kind.Key key)) word = slice_get names (key_number key) ≡ Some word
-NamesWord names (Some (kind.Word name)) word = (slice_get names name.0 ≡ Some word) × (KEYWORDS ≤ name.0)
+NamesWord names (Some (kind.Word name)) word = (slice_get names name.0 ≡ Some word) × (keyword_count ≤ name.0)
 NamesWord names (Some (kind.Int value long unsigned)) word = ⊥
 NamesWord names (Some kind.Float) word = ⊥
 NamesWord names (Some (kind.Char b)) word = ⊥

@@ -6,6 +6,7 @@ ghost use Rattle.pungi_lex.specs.declared.macro_fault.MacroFault.{MacroFault as 
 ghost use Rattle.pungi_lex.specs.Expander.{IsExpanded, HasMacroFault, HasNoExpansion};
 ghost use Rattle.pungi_lex.specs.Known.{AreKnown};
 ghost use Rattle.pungi_lex.specs.MacroFault.{is_want_of_memory};
+ghost use Rattle.pungi_lex.specs.Limits.{token_limit};
 
 use crate::directive::{is_hash, obey, token_at};
 use crate::frames::{TOKEN_LIMIT, expand_token};
@@ -75,7 +76,7 @@ pub fn expand(alloc: Global, names: &Names, tokens: &[Token]) -> Result<Vec<Toke
     requires few { length names.now < 2 ^ 32 }
     ensures expanded { IfOk result (λ out. IsExpanded (length names.now) tokens.now out.items) }
     ensures only { (other : List TheToken) → IsExpanded (length names.now) tokens.now other → IfOk result (λ out. other ≡ out.items) }
-    ensures within { IfOk result (λ out. length out.items ≤ TOKEN_LIMIT) }
+    ensures within { IfOk result (λ out. length out.items ≤ token_limit) }
     ensures known { AreKnown (length names.now) tokens.now → IfOk result (λ out. AreKnown (length names.now) out.items) }
     ensures fault { IfErr result (λ fault. is_want_of_memory fault ≡ false → HasMacroFault (length names.now) tokens.now fault) }
     ensures first { (other : TheMacroFault) → HasMacroFault (length names.now) tokens.now other → IfErr result (λ fault. is_want_of_memory fault ≡ false → other ≡ fault) }

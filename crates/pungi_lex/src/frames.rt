@@ -2,6 +2,7 @@ ghost use Rattle.std.specs.Prelude.{◌≡◌, ◌≤◌, ◌<◌, ◌+◌, Some
 ghost use Rattle.pungi_lex.specs.MacroFault.{is_want_of_memory};
 ghost use Rattle.pungi_lex.specs.Frames.{Emits, IsReplaced, IsOverLimit};
 ghost use Rattle.pungi_lex.specs.Macros.{Expands, word_number};
+ghost use Rattle.pungi_lex.specs.Limits.{token_limit};
 
 use crate::macro_fault::MacroFault;
 use crate::macros::{Body, put_body, take_body};
@@ -62,9 +63,9 @@ fn expand_word(
     used: usize,
     token: &Token,
 ) -> Result<usize, MacroFault>
-    requires { used ≤ TOKEN_LIMIT }
+    requires { used ≤ token_limit }
     ensures replaced { IfOk result (λ count. IsReplaced table.old.items used token.now out.old.items out.new.items count) }
-    ensures within { IfOk result (λ count. count ≤ TOKEN_LIMIT) }
+    ensures within { IfOk result (λ count. count ≤ token_limit) }
     ensures same { OnOk result (table.new.items ≡ table.old.items) }
     ensures over { IfErr result (λ fault. is_want_of_memory fault ≡ false → IsOverLimit table.old.items used token.now fault) }
 {
@@ -107,9 +108,9 @@ pub(crate) fn expand_token(
     used: usize,
     token: &Token,
 ) -> Result<usize, MacroFault>
-    requires { used ≤ TOKEN_LIMIT }
+    requires { used ≤ token_limit }
     ensures replaced { IfOk result (λ count. IsReplaced table.old.items used token.now out.old.items out.new.items count) }
-    ensures within { IfOk result (λ count. count ≤ TOKEN_LIMIT) }
+    ensures within { IfOk result (λ count. count ≤ token_limit) }
     ensures same { OnOk result (table.new.items ≡ table.old.items) }
     ensures over { IfErr result (λ fault. is_want_of_memory fault ≡ false → IsOverLimit table.old.items used token.now fault) }
 {

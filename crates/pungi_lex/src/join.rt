@@ -2,9 +2,9 @@ ghost use Rattle.std.specs.Prelude.{◌≡◌, ◌≤◌, ◌<◌, ◌+◌, ◌-
 ghost use Rattle.std.specs.List.{prefix_len, All};
 ghost use Rattle.pungi_lex.specs.Join.{join_length, after_byte, bytes_of, places_of, joined, joined_from, plain};
 ghost use Rattle.pungi_lex.specs.Stretch.{is_unbroken, side_by_side, places_along, IsNarrow};
+ghost use Rattle.pungi_lex.specs.Limits.{text_limit};
 
 use crate::stretch::{Stretch, right_of};
-use crate::tokens::TEXT_LIMIT;
 use memchr::memchr2;
 use pungi_base::Pos;
 use std::alloc::{AllocError, Global};
@@ -98,9 +98,9 @@ fn unbroken_count(text: &[u8]) -> usize
 
 /// What stands first in a text that begins at a place.
 fn front_of(at: Pos, text: &[u8]) -> Front
-    requires short { length text.now ≤ TEXT_LIMIT }
+    requires short { length text.now ≤ text_limit }
     requires line { at.line + 1 < 2 ^ 32 }
-    requires col { at.col + TEXT_LIMIT < 2 ^ 32 - 1 }
+    requires col { at.col + text_limit < 2 ^ 32 - 1 }
     ensures bytes { bytes_of (joined_from 0 at text.now) ≡ take result.kept text.now ++ bytes_of (joined_from 0 result.next (drop result.passed text.now)) }
     ensures places { places_of (joined_from 0 at text.now) ≡ side_by_side at result.kept ++ places_of (joined_from 0 result.next (drop result.passed text.now)) }
     ensures some { 0 < length text.now → 0 < result.passed }
@@ -142,7 +142,7 @@ fn front_of(at: Pos, text: &[u8]) -> Front
 
 /// Where the bytes of a text without its line joins stand.
 pub(crate) fn stretches_of(alloc: Global, text: &[u8]) -> Result<Standing, AllocError>
-    requires short { length text.now ≤ TEXT_LIMIT }
+    requires short { length text.now ≤ text_limit }
     ensures places { IfOk result (λ s. places_along s.stretches.items ≡ places_of (joined text.now)) }
     ensures narrow { IfOk result (λ s. All IsNarrow s.stretches.items) }
     ensures count { IfOk result (λ s. s.count ≡ length (plain text.now)) }
@@ -167,7 +167,7 @@ pub(crate) fn stretches_of(alloc: Global, text: &[u8]) -> Result<Standing, Alloc
 
 /// A text without its line joins.
 pub(crate) fn join(alloc: Global, text: &[u8]) -> Result<Vec<u8>, AllocError>
-    requires short { length text.now ≤ TEXT_LIMIT }
+    requires short { length text.now ≤ text_limit }
     ensures bytes { IfOk result (λ bytes. bytes.items ≡ plain text.now) }
     ensures short { IfOk result (λ bytes. length bytes.items ≤ length text.now) }
 {

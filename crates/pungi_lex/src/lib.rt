@@ -25,7 +25,6 @@ mod stretch;
 mod tokens;
 
 pub use expander::expand;
-pub use frames::TOKEN_LIMIT;
 pub use lex_fault::LexFault;
 pub use macro_fault::MacroFault;
 pub use tokens::{TEXT_LIMIT, lex};

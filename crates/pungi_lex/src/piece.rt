@@ -4,6 +4,7 @@ ghost use Rattle.pungi_lex.specs.declared.start.Start.TheVariants as start;
 ghost use Rattle.pungi_lex.specs.Bytes.{begins, is_blank, is_in_line, is_letter};
 ghost use Rattle.pungi_lex.specs.Start.{Begins};
 ghost use Rattle.pungi_lex.specs.Piece.{length_at, spells, with_texts, NamesWord, NamesText, IsPieceAt};
+ghost use Rattle.pungi_base.specs.Numbers.{keyword_count};
 
 use crate::bytes::{blank_count, line_count, word_count};
 use crate::character::char_behind;
@@ -25,7 +26,7 @@ fn word_kind(
     recent: &mut Recent,
     word: &[u8],
 ) -> Result<Kind, Memory>
-    requires words { KEYWORDS ≤ length names.old }
+    requires words { keyword_count ≤ length names.old }
     requires room { length names.old < 2 ^ 32 - 1 }
     ensures ok { OnOk result (names.new ≡ with_text names.old word.now) }
     ensures kind { IfOk result (λ kind. NamesWord names.new (Some kind) word.now) }
@@ -124,7 +125,7 @@ fn word_piece(
     text: &[u8],
 ) -> Result<(Option<Kind>, usize), Memory>
     requires first { IsTrue (begins is_letter text.now) }
-    requires words { KEYWORDS ≤ length names.old }
+    requires words { keyword_count ≤ length names.old }
     requires room { length names.old < 2 ^ 32 - 1 }
     ensures grows { Extends names.old names.new }
     ensures room { length names.new ≤ length names.old + 1 }
@@ -171,7 +172,7 @@ pub(crate) fn piece_of(
     text: &[u8],
 ) -> Result<Option<(Option<Kind>, usize)>, Memory>
     requires begins { Begins start text.now }
-    requires words { KEYWORDS ≤ length names.old }
+    requires words { keyword_count ≤ length names.old }
     requires room { length names.old < 2 ^ 32 - 1 }
     ensures grows { Extends names.old names.new }
     ensures room { length names.new ≤ length names.old + 1 }

@@ -9,6 +9,8 @@ ghost use Rattle.pungi_lex.specs.Known.{AreKnown};
 ghost use Rattle.pungi_lex.specs.Size.{AreSized};
 ghost use Rattle.pungi_lex.specs.Stretch.{places_along, IsNarrow};
 ghost use Rattle.pungi_lex.specs.Tokens.{AreTokens, AreTokensOf, IsRefused, HasFault, HasNoTokens, is_memory, token_of, fault_at};
+ghost use Rattle.pungi_lex.specs.Limits.{text_limit};
+ghost use Rattle.pungi_base.specs.Numbers.{keyword_count};
 
 use crate::join::{join, stretches_of};
 use crate::lex_fault::LexFault;
@@ -17,7 +19,6 @@ use crate::piece::piece_of;
 use crate::recent::Recent;
 use crate::start::{Start, is_token, start_of};
 use crate::stretch::{Stretch, first_spot, spot_behind};
-use pungi_base::words::KEYWORDS;
 use pungi_base::{Kind, Names, Pos, Token};
 use std::alloc::{AllocError, Global};
 
@@ -75,10 +76,10 @@ fn cut(
     bytes: &[u8],
     stretches: &[Stretch],
 ) -> Result<Vec<Token>, LexFault>
-    requires short { length bytes.now ≤ TEXT_LIMIT }
+    requires short { length bytes.now ≤ text_limit }
     requires same { length (places_along stretches.now) ≡ length bytes.now }
     requires narrow { All IsNarrow stretches.now }
-    requires words { KEYWORDS ≤ length names.old }
+    requires words { keyword_count ≤ length names.old }
     requires room { length names.old < 2 ^ 31 }
     ensures tokens { IfOk result (λ tokens. AreTokens names.old names.new bytes.now (place_in (places_along stretches.now)) tokens.items) }
     ensures few { IfOk result (λ tokens. length tokens.items ≤ length bytes.now) }
@@ -122,8 +123,8 @@ fn are_distinct(names: &Names)
 
 /// The tokens of a text, or what it is refused for.
 fn cut_text(alloc: Global, names: &mut Names, text: &[u8]) -> Result<Vec<Token>, LexFault>
-    requires short { length text.now ≤ TEXT_LIMIT }
-    requires words { KEYWORDS ≤ length names.old }
+    requires short { length text.now ≤ text_limit }
+    requires words { keyword_count ≤ length names.old }
     requires room { length names.old < 2 ^ 31 }
     ensures tokens { IfOk result (λ tokens. AreTokensOf names.old names.new text.now tokens.items) }
     ensures few { IfOk result (λ tokens. length tokens.items ≤ length text.now) }
@@ -144,7 +145,7 @@ fn cut_text(alloc: Global, names: &mut Names, text: &[u8]) -> Result<Vec<Token>,
 /// Cuts a text into its tokens. The names gain its words and the contents of its string literals, in the order in
 /// which they first come; after a refusal, those that were met before it.
 pub fn lex(alloc: Global, names: &mut Names, text: &[u8]) -> Result<Vec<Token>, LexFault>
-    requires short { length text.now ≤ TEXT_LIMIT }
+    requires short { length text.now ≤ text_limit }
     requires words { BeginWithWords names.old }
     requires room { length names.old < 2 ^ 31 }
     ensures tokens { IfOk result (λ tokens. AreTokensOf names.old names.new text.now tokens.items) }

@@ -18,6 +18,7 @@ use Rattle.pungi_resolve.specs.Resolutions.{resolution_of}
 use Rattle.pungi_meaning.specs.Entries.{entry_fits}
 use Rattle.pungi_code.specs.declared.code.Code.{Code}
 use Rattle.pungi_code.specs.Entries.{code_fits}
+use Rattle.pungi_code.specs.Limits.{steps_an_instruction}
 use Rattle.pungi_layout.specs.liveness.Boundaries.{KeepsNothing}
 use Rattle.pungi_layout.specs.code.Codes.{code_for}
 use Rattle.pungi_layout.specs.alike.Correct.{Behaves}
@@ -31,7 +32,7 @@ names_of c = map (λ d. d.name) (definitions c.file.items)
 -- it runs as the function does, it has at most four instructions for each node of the text, no temporary is kept where one statement ends and another
 -- begins, and the same entries fit it, whose arguments are among the locals
 pub record IsLowered (f : ResolvedFunction) (nodes : ℕ) (code : Code) : Type 0 where
-  pub alike : Behaves f code.instrs (length code.vars) 65536
+  pub alike : Behaves f code.instrs (length code.vars) steps_an_instruction
   pub small : length code.instrs ≤ 4 * nodes
   pub keeps : KeepsNothing f code.instrs code.heads code.locals
   pub fits : (statics : ℕ) (entry : Entry) → code_fits statics code entry ≡ entry_fits f.params statics entry

@@ -3,13 +3,14 @@
 --   IsSmallIfPassed f        its tree and its code are within the limits: at most four instructions for a node of the text
 --   IsWellFormedIfPassed f   so is its code, where it calls no function of the file
 --   AgreeIfPassed f g        two of one file read and write each slot with one kind
-use Rattle.std.specs.Prelude.{◌≡◌, ◌*◌, ◌≤◌, ◌^◌, true, length}
+use Rattle.std.specs.Prelude.{◌≡◌, ◌*◌, ◌≤◌, true, length}
 use Rattle.pungi_api.specs.Rows.{are_rows}
 use Rattle.pungi_types.specs.Files.{Definition}
 use Rattle.pungi_types.specs.Names.{Env}
 use Rattle.pungi_types.specs.Nodes.{function_nodes}
 use Rattle.pungi_resolve.specs.Functions.{resolved_in}
 use Rattle.pungi_resolved.specs.Functions.{ResolvedFunction}
+use Rattle.pungi_code.specs.Limits.{most_instructions, steps_an_instruction}
 use Rattle.pungi_code.specs.WellFormed.{IsWellFormed, AgreeOnKinds}
 use Rattle.pungi_resolve.specs.Passed.{IsPassed}
 use Rattle.pungi_layout.specs.code.Sound.{IsStmtSound, stmt_nodes}
@@ -22,7 +23,7 @@ IsSoundIfPassed f = (env : Env) (d : Definition) → IsPassed env d → f ≡ re
 
 abbrev pub IsSmallIfPassed : ResolvedFunction → Type 0
 IsSmallIfPassed f = (env : Env) (d : Definition) → IsPassed env d → f ≡ resolved_in env d
-    → (length f.params ≤ f.locals) × (5 * stmt_nodes f.body ≤ 2 ^ 16) × (length (body_code f) ≤ 4 * function_nodes d) × (length (body_code f) ≤ 2 ^ 14)
+    → (length f.params ≤ f.locals) × (5 * stmt_nodes f.body ≤ steps_an_instruction) × (length (body_code f) ≤ 4 * function_nodes d) × (length (body_code f) ≤ most_instructions)
 
 abbrev pub IsWellFormedIfPassed : ResolvedFunction → Type 0
 IsWellFormedIfPassed f = (env : Env) (d : Definition) → IsPassed env d → are_rows env.file.rows ≡ true → f ≡ resolved_in env d → has_no_call f.body ≡ true → IsWellFormed (code_of f)

@@ -1,9 +1,10 @@
 //! The codes of a file's functions.
-ghost use Rattle.std.specs.Prelude.{◌≡◌, ◌≤◌, ◌+◌, ◌^◌, map, IfOk};
+ghost use Rattle.std.specs.Prelude.{◌≡◌, ◌≤◌, map, IfOk};
 ghost use Rattle.pungi_code.specs.WellFormed.{AreWellFormed};
 ghost use Rattle.pungi_layout.specs.code.Codes.{code_for};
 ghost use Rattle.pungi_lower.specs.Lowered.{AreLowered, names_of};
 ghost use Rattle.pungi_resolve.specs.Resolutions.{IsResolved, resolution_view};
+ghost use Rattle.pungi_types.specs.Limits.{most_statics};
 ghost use Rattle.pungi_types.specs.Refused.{CheckedFile};
 
 use pungi_base::{Memory, Name, Seq};
@@ -27,7 +28,7 @@ pub fn lower(
     ensures names { IfOk result (λ c. c.names ≡ names) }
     ensures statics { IfOk result (λ c. c.statics ≡ statics) }
     ensures lowered { IfOk result (λ c. (file : CheckedFile) → IsResolved file (map resolution_view functions.now) → AreLowered file c.codes) }
-    ensures well_formed { IfOk result (λ c. (file : CheckedFile) → IsResolved file (map resolution_view functions.now) → names ≡ names_of file → statics ≤ 2 ^ 30 + 24 → AreWellFormed c) }
+    ensures well_formed { IfOk result (λ c. (file : CheckedFile) → IsResolved file (map resolution_view functions.now) → names ≡ names_of file → statics ≤ most_statics → AreWellFormed c) }
 {
     let codes = lower_functions(alloc, functions)?;
     Ok(Codes {

@@ -4,6 +4,7 @@ ghost use Rattle.indexmap.specs.IndexMap.{get, IsEmpty};
 ghost use Rattle.indexmap.specs.IndexSet.{contains, IsEmpty as IsEmptySet};
 ghost use Rattle.pungi_api.specs.Rows.{row_in};
 ghost use Rattle.pungi_declared.specs.DeclaredView.{function_view, tag_view, variable_view};
+ghost use Rattle.pungi_base.specs.Numbers.{static_count};
 ghost use Rattle.pungi_names.specs.CallsView.{signature_view, function_signature};
 ghost use Rattle.pungi_names.specs.FieldsView.{kind_in};
 ghost use Rattle.pungi_names.specs.NamesView.{file_of};
@@ -88,7 +89,7 @@ fn fill_values(
     ensures tables { OnOk result ((w : ℕ) → contains nat_eq parts.new.tables w ≡ is_table_name (unit_view kinds.now.cores.unit.now) w) }
     ensures modules { OnOk result ((w : ℕ) → contains nat_eq parts.new.modules w ≡ is_module (unit_view kinds.now.cores.unit.now) w) }
     ensures type_objects { OnOk result (parts.new.type_objects.keys ≡ type_objects_of (unit_view kinds.now.cores.unit.now)) }
-    ensures few { OnOk result (length parts.new.type_objects.keys + 24 < 2 ^ 32) }
+    ensures few { OnOk result (length parts.new.type_objects.keys + static_count < 2 ^ 32) }
 {
     note_structs(alloc, kinds, &mut parts.fields, typedefs, tags)?;
     note_globals(kinds, &mut parts.globals, variables)?;

@@ -15,10 +15,9 @@ use crate::kinds::Kinds;
 use crate::tables::{is_single, is_table};
 use indexmap::{IndexMap, IndexSet};
 use pungi_base::Memory;
-use pungi_base::words::PY_TYPE_OBJECT;
+use pungi_base::words::{PY_MODULE_DEF, PY_TYPE_OBJECT};
 use pungi_declared::Variable;
 use pungi_types::ValueKind;
-use pungi_types::type_words::PY_MODULE_DEF;
 
 #[tactic(auto, using(crate::proofs::SpecLemmas::views))]
 fn note_global(

@@ -7,9 +7,11 @@ ghost use Rattle.pungi_types.specs.Names.{is_table, is_single, is_table_core, is
 ghost use Rattle.pungi_types.specs.TypesView.{core_view};
 
 use crate::cores::Cores;
-use pungi_base::words::{OB_BASE, PY_OBJECT, PY_TYPE_OBJECT, PY_VAR_OBJECT};
+use pungi_base::words::{
+    OB_BASE, PY_GET_SET_DEF, PY_MEMBER_DEF, PY_METHOD_DEF, PY_MODULE_DEF, PY_OBJECT, PY_TYPE_OBJECT,
+    PY_VAR_OBJECT,
+};
 use pungi_tree::{Base, Declr, Spec};
-use pungi_types::type_words::{PY_GET_SET_DEF, PY_MEMBER_DEF, PY_METHOD_DEF, PY_MODULE_DEF};
 use pungi_types::{Core, is_no_function, is_plain};
 
 fn is_table_type(word: u32) -> bool

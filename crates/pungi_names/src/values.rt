@@ -2,6 +2,7 @@
 ghost use Rattle.std.specs.Prelude.{◌≡◌, ◌+◌, ◌<◌, ◌^◌, ◌&&◌, not, nat_le, ℕ, nat_eq, option_map, None, length};
 ghost use Rattle.indexmap.specs.IndexMap.{get};
 ghost use Rattle.indexmap.specs.IndexSet.{contains};
+ghost use Rattle.pungi_base.specs.Numbers.{static_count, first_type_object, statics_end};
 ghost use Rattle.pungi_names.specs.FieldsView.{kind_in};
 ghost use Rattle.pungi_names.specs.StructsView.{kept_or};
 ghost use Rattle.pungi_tree.specs.UnitView.{unit_view};
@@ -11,7 +12,7 @@ ghost use Rattle.pungi_types.specs.Names.{global_kind, is_module, is_table_name,
 use crate::kinds::Kinds;
 use crate::meaning::Meaning;
 use indexmap::{IndexMap, IndexSet};
-use pungi_types::type_words::{FIRST_STATIC, FIRST_TYPE_OBJECT, STATICS_END};
+use pungi_base::words::{FIRST_STATIC, FIRST_TYPE_OBJECT, STATICS, STATICS_END};
 use pungi_types::{ValueKind, is_built_in_static};
 
 /// The variables of a file, its tables, and the fields of its structs.
@@ -28,7 +29,7 @@ pub(crate) struct Values<'u> {
     pub(crate) ghost tables_found: { (w : ℕ) → contains nat_eq tables w ≡ is_table_name (unit_view kinds.cores.unit.now) w },
     pub(crate) ghost modules_found: { (w : ℕ) → contains nat_eq modules w ≡ is_module (unit_view kinds.cores.unit.now) w },
     pub(crate) ghost type_objects_found: { type_objects.keys ≡ type_objects_of (unit_view kinds.cores.unit.now) },
-    pub(crate) ghost few: { length type_objects.keys + 24 < 2 ^ 32 },
+    pub(crate) ghost few: { length type_objects.keys + static_count < 2 ^ 32 },
 }
 
 /// A static that is used without `&`.
@@ -39,7 +40,7 @@ fn is_plain_static(word: u32) -> bool
 }
 
 fn is_built_in_type_object(word: u32) -> bool
-    ensures { result ≡ (nat_le FIRST_TYPE_OBJECT word && not (nat_le STATICS_END word)) }
+    ensures { result ≡ (nat_le first_type_object word && not (nat_le statics_end word)) }
 {
     FIRST_TYPE_OBJECT <= word && !(STATICS_END <= word)
 }
@@ -130,7 +131,7 @@ impl<'u> Values<'u> {
 
     fn place_of(&self, word: u32) -> u32
         ensures place { result ≡ place_among (type_objects_of (unit_view self.now.kinds.cores.unit.now)) word }
-        ensures few { result + 24 < 2 ^ 32 }
+        ensures few { result + static_count < 2 ^ 32 }
     {
         match self.type_objects.get_index_of(&word) {
             Some(place) => place as u32,
@@ -145,7 +146,7 @@ impl<'u> Values<'u> {
         if is_built_in_static(word) {
             word - FIRST_STATIC
         } else {
-            self.place_of(word) + 24
+            self.place_of(word) + STATICS
         }
     }
 

@@ -6,6 +6,7 @@ use Rattle.std.specs.Prelude.{◌≡◌, ℕ, ◌≤◌, List, length, map, Opti
 use Rattle.pungi_api.specs.Rows.{are_rows}
 use Rattle.pungi_types.specs.Files.{SourceFile, Definition, definitions, AreOwn}
 use Rattle.pungi_types.specs.Functions.{refusal}
+use Rattle.pungi_types.specs.Limits.{most_functions}
 use Rattle.pungi_types.specs.Refused.{CheckedFile, IsRefusedSet}
 use Rattle.pungi_resolved.specs.ActionView.{function_view}
 use Rattle.pungi_resolved.specs.Functions.{ResolvedFunction}
@@ -19,10 +20,10 @@ abbrev pub resolution_view : Option Function → Option ResolvedFunction
 resolution_view r = option_map function_view r
 
 -- each function is the one of its name, the refused ones are the least set that holds each in which a rule holds, the rows are well-formed, and there are
--- at most 4,096 functions
+-- no more functions than a file may have
 pub record IsResolved (c : CheckedFile) (functions : List (Option ResolvedFunction)) : Type 0 where
   pub are : functions ≡ map (resolution_of c.file c.refused) (definitions c.file.items)
   pub own : AreOwn (definitions c.file.items) (definitions c.file.items)
   pub set : IsRefusedSet c.file c.refused
   pub rows : IsTrue (are_rows c.file.rows)
-  pub few : length (definitions c.file.items) ≤ 4096
+  pub few : length (definitions c.file.items) ≤ most_functions

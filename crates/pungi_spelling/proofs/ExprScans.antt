@@ -11,7 +11,7 @@ use Rattle.pungi_tree.specs.ExprFlat.{expr_flat, args_flat, more_args_flat, type
 use Rattle.pungi_tree.specs.ExprLevels.{is_empty, tag_ok, void_ok, expr_at, args_ok, type_name_ok, spec_ok, base_ok, field_ok, fields_ok, declr_ok, some_declrs_ok, declrs_ok, tail_ok, sizes_ok, params_ok, param_decl_ok, param_decls_ok, param_declr_ok}
 use Rattle.pungi_tree.specs.Operators.{binary_level, is_assign, prefix_need, is_step, is_aggregate, is_base_word, is_qualifier, all_keys}
 use Rattle.pungi_tree.specs.Syntax.{Expr, word, int, float, char, text, null, paren, unary, post, binary, assign, conditional, comma, cast, size_of_type, call, new, index, dot, arrow, Exprs, no_exprs, expr_and, TypeName, type_name, Spec, spec, Base, words, alias, tagged, tagged_fields, Field, empty, members, Fields, no_fields, field_and, Declr, declr, Declrs, no_declrs, declr_and, Tail, sizes, function, Sizes, no_sizes, open_and, size_and, Params, params, ParamDecl, param_decl, ParamDecls, no_params, param_and, ParamDeclr, named, bare, unused}
-use Rattle.pungi_base.specs.declared.words.TheConstants.{PY_OBJECT_NEW}
+use Rattle.pungi_base.specs.Numbers.{py_object_new}
 use Rattle.pungi_tree.specs.TypeWords.{is_word}
 use Rattle.pungi_tree.specs.Tokens.{key, named_word, keys_flat, texts_flat, consts_flat, stars_flat, tag_flat, void_flat, dots_flat}
 
@@ -102,8 +102,8 @@ mutual
   expr_reads T l a (call p f es) h =
       two (expr_reads T 15 a f (first (expr_at T 15 f) _ (second (nat_le l 15) _ h))) (plain (refl, refl, refl) (two (args_read T a es (second (expr_at T 15 f) _ (second (nat_le l 15) _ h))) (plain (refl, refl, refl) (none a))))
   expr_reads T l a (new p t e) h =
-      plain (refl, refl, refl) (plain (refl, refl, refl) (two (type_name_reads T a t (first (type_name_ok T t) _ (second (is_word T (named_word PY_OBJECT_NEW)) _ (second (nat_le l 16) _ h))))
-      (plain (refl, refl, refl) (two (expr_reads T 1 a e (second (type_name_ok T t) _ (second (is_word T (named_word PY_OBJECT_NEW)) _ (second (nat_le l 16) _ h)))) (plain (refl, refl, refl) (none a))))))
+      plain (refl, refl, refl) (plain (refl, refl, refl) (two (type_name_reads T a t (first (type_name_ok T t) _ (second (is_word T (named_word py_object_new)) _ (second (nat_le l 16) _ h))))
+      (plain (refl, refl, refl) (two (expr_reads T 1 a e (second (type_name_ok T t) _ (second (is_word T (named_word py_object_new)) _ (second (nat_le l 16) _ h)))) (plain (refl, refl, refl) (none a))))))
   expr_reads T l a (index p x y) h =
       two (expr_reads T 15 a x (first (expr_at T 15 x) _ (second (nat_le l 15) _ h))) (plain (refl, refl, refl) (two (expr_reads T 0 a y (second (expr_at T 15 x) _ (second (nat_le l 15) _ h))) (plain (refl, refl, refl) (none a))))
   expr_reads T l a (dot p e n) h = two (expr_reads T 15 a e (first (expr_at T 15 e) _ (second (nat_le l 15) _ h))) (plain (refl, refl, refl) (plain (refl, refl, refl) (none a)))

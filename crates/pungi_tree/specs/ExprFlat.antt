@@ -11,7 +11,7 @@ use Rattle.pungi_base.specs.declared.kind.Kind.{Kind}
 use Rattle.pungi_base.specs.declared.kind.Kind.TheVariants as kind
 use Rattle.pungi_base.specs.declared.names.Name.{Name}
 use Rattle.pungi_base.specs.declared.punct.Punct.TheVariants as puncts
-use Rattle.pungi_base.specs.declared.words.TheConstants.{PY_OBJECT_NEW, PY_UNUSED}
+use Rattle.pungi_base.specs.Numbers.{py_object_new, py_unused}
 use Rattle.pungi_tree.specs.Tokens.{mark, key, named_word, keys_flat, texts_flat, consts_flat, stars_flat, tag_flat, void_flat, dots_flat}
 use Rattle.pungi_tree.specs.Syntax.{Expr, word, int, float, char, text, null, paren, unary, post, binary, assign, conditional, comma, cast, size_of_type, call, new, index, dot, arrow, Exprs, no_exprs, expr_and, TypeName, type_name, Spec, spec, Base, words, alias, tagged, tagged_fields, Field, empty, members, Fields, no_fields, field_and, Declr, declr, Declrs, no_declrs, declr_and, Tail, sizes, function, Sizes, no_sizes, open_and, size_and, Params, params, ParamDecl, param_decl, ParamDecls, no_params, param_and, ParamDeclr, named, bare, unused}
 
@@ -33,7 +33,7 @@ abbrev mutual
   expr_flat (cast p t e) = mark puncts.LeftParen ∷ (type_name_flat t ++ (mark puncts.RightParen ∷ expr_flat e))
   expr_flat (size_of_type p t) = key keys.Sizeof ∷ mark puncts.LeftParen ∷ (type_name_flat t ++ mark puncts.RightParen ∷ [])
   expr_flat (call p f es) = expr_flat f ++ (mark puncts.LeftParen ∷ (args_flat es ++ mark puncts.RightParen ∷ []))
-  expr_flat (new p t e) = kind.Word (named_word PY_OBJECT_NEW) ∷ mark puncts.LeftParen ∷ (type_name_flat t ++ (mark puncts.Comma ∷ (expr_flat e ++ mark puncts.RightParen ∷ [])))
+  expr_flat (new p t e) = kind.Word (named_word py_object_new) ∷ mark puncts.LeftParen ∷ (type_name_flat t ++ (mark puncts.Comma ∷ (expr_flat e ++ mark puncts.RightParen ∷ [])))
   expr_flat (index p a b) = expr_flat a ++ (mark puncts.LeftBracket ∷ (expr_flat b ++ mark puncts.RightBracket ∷ []))
   expr_flat (dot p e n) = expr_flat e ++ (mark puncts.Dot ∷ kind.Word n ∷ [])
   expr_flat (arrow p e n) = expr_flat e ++ (mark puncts.Arrow ∷ kind.Word n ∷ [])
@@ -104,4 +104,4 @@ abbrev mutual
   pub param_declr_flat : ParamDeclr → List Kind
   param_declr_flat (named d) = declr_flat d
   param_declr_flat (bare stars) = stars_flat stars
-  param_declr_flat (unused stars n p) = stars_flat stars ++ (kind.Word (named_word PY_UNUSED) ∷ mark puncts.LeftParen ∷ kind.Word n ∷ mark puncts.RightParen ∷ [])
+  param_declr_flat (unused stars n p) = stars_flat stars ++ (kind.Word (named_word py_unused) ∷ mark puncts.LeftParen ∷ kind.Word n ∷ mark puncts.RightParen ∷ [])

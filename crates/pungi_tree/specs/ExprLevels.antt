@@ -16,7 +16,7 @@ use Rattle.pungi_base.specs.declared.key.Key.{Key}
 use Rattle.pungi_base.specs.declared.key.Key.TheVariants as keys
 use Rattle.pungi_base.specs.declared.names.Name.{Name}
 use Rattle.pungi_base.specs.declared.pos.Pos.{Pos}
-use Rattle.pungi_base.specs.declared.words.TheConstants.{PY_OBJECT_NEW, PY_UNUSED}
+use Rattle.pungi_base.specs.Numbers.{py_object_new, py_unused}
 use Rattle.pungi_tree.specs.Tokens.{named_word}
 use Rattle.pungi_tree.specs.Operators.{binary_level, is_assign, prefix_need, is_step, is_base_word, is_qualifier, is_aggregate, all_keys}
 use Rattle.pungi_tree.specs.TypeWords.{is_type, is_word}
@@ -84,7 +84,7 @@ module _ (types : List Name) where
     expr_at l (cast p t e) = nat_le l 13 && (type_name_ok t && expr_at 13 e)
     expr_at l (size_of_type p t) = nat_le l 14 && type_name_ok t
     expr_at l (call p f es) = nat_le l 15 && (expr_at 15 f && args_ok es)
-    expr_at l (new p t e) = nat_le l 16 && (is_word types (named_word PY_OBJECT_NEW) && (type_name_ok t && expr_at 1 e))
+    expr_at l (new p t e) = nat_le l 16 && (is_word types (named_word py_object_new) && (type_name_ok t && expr_at 1 e))
     expr_at l (index p a b) = nat_le l 15 && (expr_at 15 a && expr_at 0 b)
     expr_at l (dot p e n) = nat_le l 15 && (expr_at 15 e && is_word types n)
     expr_at l (arrow p e n) = nat_le l 15 && (expr_at 15 e && is_word types n)
@@ -146,4 +146,4 @@ module _ (types : List Name) where
     pub param_declr_ok : ParamDeclr → Bool
     param_declr_ok (named d) = declr_ok d
     param_declr_ok (bare stars) = true
-    param_declr_ok (unused stars n p) = is_word types (named_word PY_UNUSED) && is_word types n
+    param_declr_ok (unused stars n p) = is_word types (named_word py_unused) && is_word types n

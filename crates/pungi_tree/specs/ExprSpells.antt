@@ -16,7 +16,7 @@ use Rattle.pungi_base.specs.declared.kind.Kind.TheVariants as kind
 use Rattle.pungi_base.specs.declared.names.Name.{Name}
 use Rattle.pungi_base.specs.declared.pos.Pos.{Pos}
 use Rattle.pungi_base.specs.declared.punct.Punct.TheVariants as puncts
-use Rattle.pungi_base.specs.declared.words.TheConstants.{PY_OBJECT_NEW, PY_UNUSED}
+use Rattle.pungi_base.specs.Numbers.{py_object_new, py_unused}
 use Rattle.pungi_tree.specs.Tokens.{named_word}
 use Rattle.pungi_tree.specs.Placed.{Placed, mark_at, key_at, word_at, text_at, first_place}
 use Rattle.pungi_tree.specs.Syntax.{Expr, word, int, float, char, text, null, paren, unary, post, binary, assign, conditional, comma, cast, size_of_type, call, new, index, dot, arrow, Exprs, no_exprs, expr_and, TypeName, type_name, Spec, spec, Base, words, alias, tagged, tagged_fields, Field, empty, members, Fields, no_fields, field_and, Declr, declr, Declrs, no_declrs, declr_and, Tail, sizes, function, Sizes, no_sizes, open_and, size_and, Params, params, ParamDecl, param_decl, ParamDecls, no_params, param_and, ParamDeclr, named, bare, unused}
@@ -73,7 +73,7 @@ abbrev mutual
   Spells (call p f es) ts rest =
       (inner : List Placed) × (q r : Pos) × (first_place ts ≡ Some p) × Spells f ts (mark_at puncts.LeftParen q ∷ inner) × SpellsArgs es inner (mark_at puncts.RightParen r ∷ rest)
   Spells (new p t e) ts rest =
-      (inner value : List Placed) × (q r s : Pos) × (ts ≡ word_at (named_word PY_OBJECT_NEW) p ∷ mark_at puncts.LeftParen q ∷ inner)
+      (inner value : List Placed) × (q r s : Pos) × (ts ≡ word_at (named_word py_object_new) p ∷ mark_at puncts.LeftParen q ∷ inner)
       × SpellsTypeName t inner (mark_at puncts.Comma r ∷ value) × Spells e value (mark_at puncts.RightParen s ∷ rest)
   Spells (index p a b) ts rest =
       (inner : List Placed) × (q : Pos) × Spells a ts (mark_at puncts.LeftBracket p ∷ inner) × Spells b inner (mark_at puncts.RightBracket q ∷ rest)
@@ -161,4 +161,4 @@ abbrev mutual
   SpellsParamDeclr (named d) ts rest = SpellsDeclr d ts rest
   SpellsParamDeclr (bare stars) ts rest = SpellsStars stars ts rest
   SpellsParamDeclr (unused stars n p) ts rest =
-      (q r s : Pos) × SpellsStars stars ts (word_at (named_word PY_UNUSED) q ∷ mark_at puncts.LeftParen r ∷ word_at n p ∷ mark_at puncts.RightParen s ∷ rest)
+      (q r s : Pos) × SpellsStars stars ts (word_at (named_word py_unused) q ∷ mark_at puncts.LeftParen r ∷ word_at n p ∷ mark_at puncts.RightParen s ∷ rest)

@@ -20,7 +20,7 @@ use Rattle.pungi_base.specs.declared.kind.Kind.TheVariants as kind
 use Rattle.pungi_base.specs.declared.names.Name.{Name}
 use Rattle.pungi_base.specs.declared.punct.Punct.{Punct}
 use Rattle.pungi_base.specs.declared.punct.Punct.TheVariants as puncts
-use Rattle.pungi_base.specs.declared.words.TheConstants.{KEYWORDS, MACROS, TYPE_WORDS}
+use Rattle.pungi_base.specs.Numbers.{keyword_count, macro_count, type_word_count}
 
 abbrev pub braces_after_mark : ℕ → Punct → ℕ
 braces_after_mark n puncts.LeftBrace = suc n
@@ -65,7 +65,7 @@ abbrev pub type_words : List Kind → List Name
 type_words ks = typedef_words 0 ks
 
 abbrev pub is_known_type : Name → Bool
-is_known_type w = nat_le (KEYWORDS + MACROS) w.0 && nat_lt w.0 (KEYWORDS + MACROS + TYPE_WORDS)
+is_known_type w = nat_le (keyword_count + macro_count) w.0 && nat_lt w.0 (keyword_count + macro_count + type_word_count)
 
 abbrev pub is_among : List Name → Name → Bool
 is_among [] w = false

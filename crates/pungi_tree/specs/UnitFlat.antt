@@ -8,7 +8,7 @@ use Rattle.pungi_base.specs.declared.kind.Kind.{Kind}
 use Rattle.pungi_base.specs.declared.kind.Kind.TheVariants as kind
 use Rattle.pungi_base.specs.declared.names.Name.{Name}
 use Rattle.pungi_base.specs.declared.punct.Punct.TheVariants as puncts
-use Rattle.pungi_base.specs.declared.words.TheConstants.{PY_DOC_STRVAR}
+use Rattle.pungi_base.specs.Numbers.{py_doc_strvar}
 use Rattle.pungi_tree.specs.ExprFlat.{spec_flat, params_flat}
 use Rattle.pungi_tree.specs.Tokens.{mark, key, named_word, keys_flat, texts_flat, stars_flat}
 use Rattle.pungi_tree.specs.StmtFlat.{decl_flat, stmt_flat}
@@ -20,7 +20,7 @@ signature_flat qs s stars n ps =
 
 abbrev pub item_flat : Item → List Kind
 item_flat (nothing p) = mark puncts.Semicolon ∷ []
-item_flat (doc p n ts) = kind.Word (named_word PY_DOC_STRVAR) ∷ mark puncts.LeftParen ∷ kind.Word n ∷ mark puncts.Comma ∷ (texts_flat ts ++ mark puncts.RightParen ∷ [])
+item_flat (doc p n ts) = kind.Word (named_word py_doc_strvar) ∷ mark puncts.LeftParen ∷ kind.Word n ∷ mark puncts.Comma ∷ (texts_flat ts ++ mark puncts.RightParen ∷ [])
 item_flat (typedef s stars n p) = key keys.Typedef ∷ (spec_flat s ++ (stars_flat stars ++ kind.Word n ∷ mark puncts.Semicolon ∷ []))
 item_flat (tag qs s) = keys_flat qs ++ (spec_flat s ++ mark puncts.Semicolon ∷ [])
 item_flat (variables d) = decl_flat d

@@ -9,7 +9,7 @@
 use Rattle.std.specs.Prelude.{Bool, true, false, not, ◌&&◌, List, [], ◌∷◌}
 use Rattle.pungi_base.specs.declared.key.Key.{Key}
 use Rattle.pungi_base.specs.declared.names.Name.{Name}
-use Rattle.pungi_base.specs.declared.words.TheConstants.{PY_DOC_STRVAR}
+use Rattle.pungi_base.specs.Numbers.{py_doc_strvar}
 use Rattle.pungi_tree.specs.ExprLevels.{is_empty, spec_ok, params_ok}
 use Rattle.pungi_tree.specs.Tokens.{named_word}
 use Rattle.pungi_tree.specs.Operators.{is_qualifier, all_keys}
@@ -36,7 +36,7 @@ module _ (types : List Name) where
 
   abbrev pub item_ok : Item → Bool
   item_ok (nothing p) = true
-  item_ok (doc p n ts) = is_word types (named_word PY_DOC_STRVAR) && (is_word types n && not (is_empty ts))
+  item_ok (doc p n ts) = is_word types (named_word py_doc_strvar) && (is_word types n && not (is_empty ts))
   item_ok (typedef s stars n p) = spec_ok types s
   item_ok (tag qs s) = all_keys is_qualifier qs && spec_ok types s
   item_ok (variables d) = decl_ok types d

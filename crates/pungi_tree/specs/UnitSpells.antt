@@ -5,7 +5,7 @@ use Rattle.std.specs.Prelude.{◌≡◌, List, [], ◌∷◌}
 use Rattle.pungi_base.specs.declared.key.Key.TheVariants as keys
 use Rattle.pungi_base.specs.declared.pos.Pos.{Pos}
 use Rattle.pungi_base.specs.declared.punct.Punct.TheVariants as puncts
-use Rattle.pungi_base.specs.declared.words.TheConstants.{PY_DOC_STRVAR}
+use Rattle.pungi_base.specs.Numbers.{py_doc_strvar}
 use Rattle.pungi_tree.specs.ExprSpells.{SpellsTexts, SpellsKeys, SpellsStars, SpellsSpec, SpellsParams}
 use Rattle.pungi_tree.specs.Tokens.{named_word}
 use Rattle.pungi_tree.specs.Placed.{Placed, mark_at, key_at, word_at}
@@ -21,7 +21,7 @@ abbrev pub SpellsItem : Item → List Placed → List Placed → Type 0
 SpellsItem (nothing p) ts rest = ts ≡ mark_at puncts.Semicolon p ∷ rest
 SpellsItem (doc p n ns) ts rest =
     (inner : List Placed) × (q r s u : Pos)
-    × (ts ≡ word_at (named_word PY_DOC_STRVAR) q ∷ mark_at puncts.LeftParen r ∷ word_at n p ∷ mark_at puncts.Comma s ∷ inner)
+    × (ts ≡ word_at (named_word py_doc_strvar) q ∷ mark_at puncts.LeftParen r ∷ word_at n p ∷ mark_at puncts.Comma s ∷ inner)
     × SpellsTexts ns inner (mark_at puncts.RightParen u ∷ rest)
 SpellsItem (typedef s stars n p) ts rest =
     (after pointers : List Placed) × (q r : Pos) × (ts ≡ key_at keys.Typedef q ∷ after) × SpellsSpec s after pointers

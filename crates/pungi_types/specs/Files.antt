@@ -11,7 +11,7 @@
 use Rattle.std.specs.Prelude.{◌≡◌, ℕ, Bool, true, false, ◌==◌, ◌||◌, List, [], ◌∷◌, ◌++◌, length, Option, Some, None, if◌then◌else◌}
 use Rattle.pungi_base.specs.declared.names.Name.{Name}
 use Rattle.pungi_base.specs.declared.pos.Pos.{Pos}
-use Rattle.pungi_base.specs.declared.words.TheConstants.{FIRST_FREE}
+use Rattle.pungi_base.specs.Numbers.{first_free}
 use Rattle.pungi_api.specs.declared.row.Row.{Row}
 use Rattle.pungi_tree.specs.Syntax.{Spec, Declr, declr, Tail, sizes, function, Sizes, no_sizes, open_and, size_and, Params, Stmt, VarDecl, var_decl, decl, Item, typedef, variables, head, prototype, function_def}
 
@@ -23,7 +23,7 @@ pub record SourceFile : Type 0 where
   pub first : ℕ
 
 abbrev pub source_file : List (List ℕ) → List Item → List (ℕ × Row) → SourceFile
-source_file texts items rows = record { items = items; rows = rows; texts = texts; first = FIRST_FREE }
+source_file texts items rows = record { items = items; rows = rows; texts = texts; first = first_free }
 
 pub record Typedef : Type 0 where
   pub name : Name

@@ -18,6 +18,7 @@ use Rattle.pungi_types.specs.Exprs.{param_kind}
 use Rattle.pungi_types.specs.Labels.{label_findings, param_count, stmts_locals}
 use Rattle.pungi_types.specs.Nodes.{function_nodes}
 use Rattle.pungi_types.specs.Stmts.{Frame, with_local, declared_n1, declared_n8, spec_pos, in_block, stmts_findings}
+use Rattle.pungi_types.specs.Limits.{most_locals, most_nodes}
 use Rattle.pungi_types.specs.declared.kind.ValueKind.{ValueKind}
 use Rattle.pungi_types.specs.declared.finding.Finding.{Finding}
 
@@ -100,9 +101,9 @@ text_findings env d = result_findings env d and parts_findings (first_frame env 
 abbrev pub params_count : Params → ℕ
 params_count (params ds v dots) = param_count ds
 
--- N15: over 32 locals, N16: over 4,096 nodes
+-- N15: too many locals, N16: too many nodes
 abbrev pub size_findings : Definition → Findings
-size_findings d = when (nat_lt 32 (params_count d.params + body_locals d.body)) d.pos 15 and when (nat_lt 4096 (function_nodes d)) d.pos 16
+size_findings d = when (nat_lt most_locals (params_count d.params + body_locals d.body)) d.pos 15 and when (nat_lt most_nodes (function_nodes d)) d.pos 16
 
 abbrev pub or_sizes : Definition → Findings → Option Finding → Findings
 or_sizes d fs None = size_findings d

@@ -22,8 +22,7 @@ use Rattle.pungi_base.specs.declared.key.Key.TheVariants as keys
 use Rattle.pungi_base.specs.declared.names.Name.{Name}
 use Rattle.pungi_base.specs.declared.pos.Pos.{Pos}
 use Rattle.pungi_tree.specs.Syntax.{Spec, spec, Base, words, alias, tagged, tagged_fields, empty, members, Fields, no_fields, field_and, Declr, Declrs, no_declrs, declr_and, TypeName, type_name, Item}
-use Rattle.pungi_base.specs.declared.words.TheConstants.{PY_OBJECT, PY_VAR_OBJECT, PY_TYPE_OBJECT, PY_SSIZE_T, OB_BASE}
-use Rattle.pungi_types.specs.declared.type_words.TheConstants.{PY_MODULE_DEF, FIRST_TYPE, TYPES_END}
+use Rattle.pungi_base.specs.Numbers.{py_object, py_var_object, py_type_object, py_ssize_t, ob_base, py_module_def, first_type, types_end}
 use Rattle.pungi_types.specs.Tags.{Tag, tags}
 use Rattle.pungi_types.specs.Files.{Typedef, typedefs, declr_name, declr_stars, declr_tail, is_plain_tail}
 use Rattle.pungi_types.specs.declared.kind.ValueKind.{ValueKind}
@@ -68,10 +67,10 @@ tagged_in (t ∷ ts) w = (if is_struct t.of && tag_is t.tag w then Some t.fields
 
 -- `struct PyModuleDef` is `PyModuleDef`; unions are no structs, and a tag that no struct with fields has is no type
 abbrev pub tagged_core : Bool → Key → Name → Core
-tagged_core fielded of n = (if is_struct of then (if n.0 == PY_MODULE_DEF then builtin n else (if fielded then struct_of n else no_core)) else no_core)
+tagged_core fielded of n = (if is_struct of then (if n.0 == py_module_def then builtin n else (if fielded then struct_of n else no_core)) else no_core)
 
 abbrev pub is_listed_type : ℕ → Bool
-is_listed_type w = nat_le FIRST_TYPE w && not (nat_le TYPES_END w)
+is_listed_type w = nat_le first_type w && not (nat_le types_end w)
 
 abbrev pub written_core : Bool → Base → Core
 written_core fielded (words ks) = base_words ks
@@ -150,7 +149,7 @@ first_member (field_and (members qs s no_declrs) fs) = None
 first_member (field_and (members qs s (declr_and d ds)) fs) = Some (record { base = spec_base s; declr = d })
 
 abbrev pub is_head_core : Core → Bool
-is_head_core (builtin n) = n.0 == PY_OBJECT || n.0 == PY_VAR_OBJECT
+is_head_core (builtin n) = n.0 == py_object || n.0 == py_var_object
 is_head_core _ = false
 
 abbrev pub is_zero : ℕ → Bool
@@ -159,7 +158,7 @@ is_zero n = n == 0
 -- `PyObject ob_base` or `PyVarObject ob_base`
 abbrev pub is_head : List Item → Option Member → Bool
 is_head file None = false
-is_head file (Some m) = (declr_name m.declr).0 == OB_BASE && (is_plain_tail (declr_tail m.declr)
+is_head file (Some m) = (declr_name m.declr).0 == ob_base && (is_plain_tail (declr_tail m.declr)
     && (is_zero ((core_of file m.base).stars + declr_stars m.declr) && is_head_core (core_of file m.base).core))
 
 abbrev pub begins_with_head : List Item → Option Fields → Bool
@@ -208,8 +207,8 @@ words_kind ks n =
 -- `Py_ssize_t`, `PyObject *` and `PyTypeObject *`
 abbrev pub listed_kind : ℕ → ℕ → Option ValueKind
 listed_kind w n =
-    (if n == 0 && w == PY_SSIZE_T then Some kinds.Size else
-    (if n == 1 && (w == PY_OBJECT || w == PY_TYPE_OBJECT) then Some (kinds.Object None) else None))
+    (if n == 0 && w == py_ssize_t then Some kinds.Size else
+    (if n == 1 && (w == py_object || w == py_type_object) then Some (kinds.Object None) else None))
 
 abbrev pub core_kind : List Item → Core → ℕ → Option ValueKind
 core_kind file (base_words ks) n = words_kind ks n

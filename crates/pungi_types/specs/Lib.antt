@@ -1,5 +1,6 @@
 pub mod Tags
 pub mod Files
+pub mod Limits
 pub mod Kinds
 pub mod Names
 pub mod Findings

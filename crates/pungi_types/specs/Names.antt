@@ -17,8 +17,7 @@
 use Rattle.std.specs.Prelude.{ℕ, ◌+◌, ◌-◌, ◌==◌, nat_le, Bool, true, false, ◌&&◌, ◌||◌, not, List, [], ◌∷◌, ◌++◌, Option, Some, None, if◌then◌else◌}
 use Rattle.std.specs.List.{list_any}
 use Rattle.pungi_tree.specs.Syntax.{Tail, sizes, function, Item}
-use Rattle.pungi_base.specs.declared.words.TheConstants.{PY_TYPE_OBJECT}
-use Rattle.pungi_types.specs.declared.type_words.TheConstants.{PY_METHOD_DEF, PY_MODULE_DEF, PY_MEMBER_DEF, PY_GET_SET_DEF, FIRST_STATIC, FIRST_TYPE_OBJECT, STATICS_END}
+use Rattle.pungi_base.specs.Numbers.{static_count, py_type_object, py_method_def, py_module_def, py_member_def, py_get_set_def, first_static, first_type_object, statics_end}
 use Rattle.pungi_types.specs.Files.{SourceFile, Variable, variables_of, definitions, definition_in, prototypes, is_place_in, declr_name, declr_stars, declr_tail, is_plain_tail, Definition}
 use Rattle.pungi_types.specs.Kinds.{Core, builtin, core_of, spec_base, declared_kind}
 use Rattle.pungi_types.specs.declared.kind.ValueKind.{ValueKind}
@@ -39,7 +38,7 @@ abbrev pub with_word : List ℕ → ℕ → List ℕ
 with_word ws w = (if is_among ws w then ws else ws ++ w ∷ [])
 
 abbrev pub is_table_type : ℕ → Bool
-is_table_type w = w == PY_TYPE_OBJECT || (w == PY_METHOD_DEF || (w == PY_MODULE_DEF || (w == PY_MEMBER_DEF || w == PY_GET_SET_DEF)))
+is_table_type w = w == py_type_object || (w == py_method_def || (w == py_module_def || (w == py_member_def || w == py_get_set_def)))
 
 abbrev pub is_table_core : Core → Bool
 is_table_core (builtin n) = is_table_type n.0
@@ -73,7 +72,7 @@ global_kind file w = global_in file (variables_of file) w
 abbrev pub type_objects_in : List Item → List ℕ → List Variable → List ℕ
 type_objects_in file seen [] = seen
 type_objects_in file seen (v ∷ vs) =
-    type_objects_in file (if is_single file PY_TYPE_OBJECT v then with_word seen (declr_name v.declr).0 else seen) vs
+    type_objects_in file (if is_single file py_type_object v then with_word seen (declr_name v.declr).0 else seen) vs
 
 abbrev pub type_objects : List Item → List ℕ
 type_objects file = type_objects_in file [] (variables_of file)
@@ -87,7 +86,7 @@ is_table_name file w = table_in file (variables_of file) w
 
 abbrev pub module_in : List Item → List Variable → ℕ → Bool
 module_in file [] w = false
-module_in file (v ∷ vs) w = ((declr_name v.declr).0 == w && is_single file PY_MODULE_DEF v) || module_in file vs w
+module_in file (v ∷ vs) w = ((declr_name v.declr).0 == w && is_single file py_module_def v) || module_in file vs w
 
 abbrev pub is_module : List Item → ℕ → Bool
 is_module file w = module_in file (variables_of file) w
@@ -101,11 +100,11 @@ abbrev pub is_function : List Item → ℕ → Bool
 is_function file w = is_some_definition (definition_in (definitions file) w) || is_place_in (prototypes file) w
 
 abbrev pub is_plain_static : ℕ → Bool
-is_plain_static w = nat_le FIRST_STATIC w && not (nat_le FIRST_TYPE_OBJECT w)
+is_plain_static w = nat_le first_static w && not (nat_le first_type_object w)
 
 -- a type object, which is used with `&`
 abbrev pub is_type_object : List Item → ℕ → Bool
-is_type_object file w = (nat_le FIRST_TYPE_OBJECT w && not (nat_le STATICS_END w)) || is_among (type_objects file) w
+is_type_object file w = (nat_le first_type_object w && not (nat_le statics_end w)) || is_among (type_objects file) w
 
 abbrev pub is_static : List Item → ℕ → Bool
 is_static file w = is_plain_static w || is_type_object file w
@@ -116,7 +115,7 @@ place_among (x ∷ xs) w = (if x == w then 0 else place_among xs w + 1)
 
 -- a built-in static, whether a type object or not
 abbrev pub is_built_in_static : ℕ → Bool
-is_built_in_static w = nat_le FIRST_STATIC w && not (nat_le STATICS_END w)
+is_built_in_static w = nat_le first_static w && not (nat_le statics_end w)
 
 -- a name that the file declares as a table is that, also where it is the name of a built-in static
 abbrev pub is_own_static : List Item → ℕ → Bool
@@ -125,7 +124,7 @@ is_own_static file w = is_plain_static w && not (is_table_name file w)
 -- the number of a static's object
 abbrev pub static_number : List Item → ℕ → ℕ
 static_number file w =
-    (if is_built_in_static w then w - FIRST_STATIC else place_among (type_objects file) w + 24)
+    (if is_built_in_static w then w - first_static else place_among (type_objects file) w + static_count)
 
 abbrev pub local_in : List Local → ℕ → Option Local
 local_in [] w = None

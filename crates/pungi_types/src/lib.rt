@@ -11,7 +11,6 @@ mod lookup;
 pub mod operator;
 mod standing;
 mod tail;
-pub mod type_words;
 mod types;
 mod words;
 

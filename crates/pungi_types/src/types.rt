@@ -6,8 +6,9 @@ ghost use Rattle.pungi_types.specs.Kinds.{tagged_core, written_tag, written_core
 ghost use Rattle.pungi_tree.specs.ExprView.{base_view};
 
 use crate::ValueKind;
-use crate::type_words::{FIRST_TYPE, PY_MODULE_DEF, TYPES_END};
-use pungi_base::words::{PY_OBJECT, PY_SSIZE_T, PY_TYPE_OBJECT};
+use pungi_base::words::{
+    FIRST_TYPE, PY_MODULE_DEF, PY_OBJECT, PY_SSIZE_T, PY_TYPE_OBJECT, TYPES_END,
+};
 use pungi_base::{Key, Name, Pos};
 use pungi_tree::{Base, Spec};
 

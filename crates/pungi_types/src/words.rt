@@ -2,9 +2,9 @@
 ghost use Rattle.std.specs.Prelude.{◌≡◌, OnOk};
 ghost use Rattle.pungi_types.specs.Names.{is_among, with_word, is_built_in_static};
 
-use crate::type_words::{FIRST_STATIC, STATICS_END};
 use indexmap::IndexSet;
 use pungi_base::Memory;
+use pungi_base::words::{FIRST_STATIC, STATICS_END};
 
 /// Whether a word is among these.
 pub fn is_kept(words: &IndexSet<u32>, word: u32) -> bool

@@ -17,6 +17,7 @@ use Rattle.std.specs.Prelude.{◌≡◌, ◌≢◌, ℕ, ◌+◌, ◌<◌, true,
 use Rattle.pungi_base.specs.declared.choice.Choice.{Choice}
 use Rattle.pungi_base.specs.declared.entry.Entry.{Entry}
 use Rattle.pungi_base.specs.declared.fault.Fault.{Fault}
+use Rattle.pungi_base.specs.Numbers.{static_count}
 use Rattle.pungi_base.specs.declared.names.Name.{Name}
 use Rattle.pungi_base.specs.declared.pos.Pos.{Pos}
 use Rattle.pungi_base.specs.declared.value.Value.{Value}
@@ -88,7 +89,7 @@ IsShown n f few many (Some code) v = IsRight n f few many v
 -- ---- files
 
 abbrev pub statics_of : CheckedFile → ℕ
-statics_of c = 24 + length (type_objects c.file.items)
+statics_of c = static_count + length (type_objects c.file.items)
 
 abbrev pub file_codes : CheckedFile → Codes
 file_codes c = record { codes = codes_of c; statics = statics_of c; names = names_of c }

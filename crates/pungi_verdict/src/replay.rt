@@ -1,7 +1,8 @@
 //! Running a witness again by the function itself.
-ghost use Rattle.std.specs.Prelude.{◌≡◌, ℕ, ◌≤◌, ◌<◌, ◌+◌, ◌*◌, ◌^◌, length, IfOk};
+ghost use Rattle.std.specs.Prelude.{◌≡◌, ℕ, ◌≤◌, ◌<◌, ◌+◌, ◌*◌, length, IfOk};
 ghost use Rattle.pungi_resolved.specs.ActionView.{function_view};
 ghost use Rattle.pungi_world.specs.Escapes.{IsBalanced, IsCountable, IsLevel};
+ghost use Rattle.pungi_code.specs.Limits.{most_instructions, steps_an_instruction};
 ghost use Rattle.pungi_code.specs.WellFormed.{IsWellFormed};
 ghost use Rattle.pungi_layout.specs.alike.Correct.{Behaves};
 ghost use Rattle.pungi_verdict.specs.Replays.{IsUneven};
@@ -16,8 +17,8 @@ use std::alloc::Global;
 
 /// How many steps are enough for a function whose code has no loop: an instruction takes at most 65,536.
 fn fuel(code: &Code) -> u32
-    requires { length code.now.instrs ≤ 2 ^ 14 }
-    ensures { result ≡ 65536 * (length code.now.instrs + 2) }
+    requires { length code.now.instrs ≤ most_instructions }
+    ensures { result ≡ steps_an_instruction * (length code.now.instrs + 2) }
 {
     65536 * (code.instrs.len() as u32 + 2)
 }
@@ -66,7 +67,7 @@ pub(crate) fn replay(
     witness: Witness,
 ) -> Result<Fault, Memory>
     requires within { length witness.input.args ≤ (function_view f.now).locals }
-    requires alike { Behaves (function_view f.now) code.now.instrs (length code.now.vars) 65536 }
+    requires alike { Behaves (function_view f.now) code.now.instrs (length code.now.vars) steps_an_instruction }
     requires formed { IsWellFormed code.now }
     requires flat { length code.now.heads ≡ 0 }
     requires uneven { IsUneven code.now witness }

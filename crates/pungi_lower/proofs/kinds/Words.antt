@@ -4,7 +4,7 @@ use Rattle.std.specs.Prelude.{◌&&◌, ◌||◌, ◌==◌, not, nat_lt, int_lt,
 use Rattle.std.proofs.lemmas.Bool.Decides.{nat_tests}
 use Rattle.pungi_base.specs.declared.names.Name.{Name}
 use Rattle.pungi_base.specs.declared.pos.Pos.{Pos}
-use Rattle.pungi_base.specs.declared.words.TheConstants.{PY_OBJECT, PY_TYPE_OBJECT, PY_SSIZE_T}
+use Rattle.pungi_base.specs.Numbers.{py_object, py_type_object, py_ssize_t}
 use Rattle.pungi_tree.specs.Syntax.{Spec, Declr, Fields, no_fields, field_and, empty, members, Item}
 use Rattle.pungi_api.specs.declared.param.Param.{Param}
 use Rattle.pungi_types.specs.declared.kind.ValueKind.{ValueKind}
@@ -103,7 +103,7 @@ core_written file (base_words ks) n =
     (if_written (n == 0 && (only is_long_key ks || both is_long_key is_int_key ks)) (Some kinds.Long) _ refl
     (if_written (n == 0 && only is_void_key ks) (Some kinds.Void) _ refl (if_written (n == 1 && only is_char_key ks) (Some kinds.Text) None refl refl)))
 core_written file (builtin w) n =
-    if_written (n == 0 && w.0 == PY_SSIZE_T) (Some kinds.Size) _ refl (if_written (n == 1 && (w.0 == PY_OBJECT || w.0 == PY_TYPE_OBJECT)) (Some (kinds.Object None)) None refl refl)
+    if_written (n == 0 && w.0 == py_ssize_t) (Some kinds.Size) _ refl (if_written (n == 1 && (w.0 == py_object || w.0 == py_type_object)) (Some (kinds.Object None)) None refl refl)
 core_written file (struct_of w) n = if_written (n == 1 && is_object_struct file w.0) (Some (kinds.Object (Some w))) None refl refl
 core_written file no_core n = refl
 

@@ -13,7 +13,7 @@ use Rattle.pungi_base.specs.declared.names.Name.{Name}
 use Rattle.pungi_base.specs.declared.pos.Pos.{Pos}
 use Rattle.pungi_base.specs.declared.punct.Punct.{Punct}
 use Rattle.pungi_base.specs.declared.punct.Punct.TheVariants as puncts
-use Rattle.pungi_base.specs.declared.words.TheConstants.{PY_OBJECT_NEW}
+use Rattle.pungi_base.specs.Numbers.{py_object_new}
 use Rattle.pungi_parse.specs.tokens.OneToken.{eat, eat_key, eat_prefix}
 use Rattle.pungi_parse.specs.expr.ExprReader.{new_front, cast_front}
 use Rattle.pungi_parse.specs.Reading.{◌>>=◌, chain, when}
@@ -62,7 +62,7 @@ module _ (types : List Name) (ts : List Placed) (n : NoType types ts) where
 
   pub no_new_front : (w : Name) (p : Pos) → is_word types w ≡ true → new_front types (word_at w p ∷ ts) ≡ None
   unfolding new_front chain
-  no_new_front w p h = rw (plain_word_complete types w p ts h, by_front (Pos × List Placed) (λ o. Some (p, o.1))) (when_none (w.0 == PY_OBJECT_NEW))
+  no_new_front w p h = rw (plain_word_complete types w p ts h, by_front (Pos × List Placed) (λ o. Some (p, o.1))) (when_none (w.0 == py_object_new))
 
 is_prefix : Punct → Bool
 is_prefix m = nat_le (prefix_mark_need m) 14
@@ -188,7 +188,7 @@ module _ (types : List Name) where
   expr_no_label l (cast p t e) ts rest w s ok c = no_label ts (rw s.3 refl) w
   expr_no_label l (size_of_type p t) ts rest w s ok c = no_label ts (rw s.3 refl) w
   expr_no_label l (call p f es) ts rest w s ok c = expr_no_label 15 f ts _ w s.4 (and_true _ _ (and_true _ _ ok).1).0 refl
-  expr_no_label l (new p t e) ts rest w s ok c = word_no_label (named_word PY_OBJECT_NEW) p ts (mark_at puncts.LeftParen s.2 ∷ s.0) s.5 refl w
+  expr_no_label l (new p t e) ts rest w s ok c = word_no_label (named_word py_object_new) p ts (mark_at puncts.LeftParen s.2 ∷ s.0) s.5 refl w
   expr_no_label l (index p a b) ts rest w s ok c = expr_no_label 15 a ts _ w s.2 (and_true _ _ (and_true _ _ ok).1).0 refl
   expr_no_label l (dot p e n) ts rest w s ok c = expr_no_label 15 e ts _ w s.1 (and_true _ _ (and_true _ _ ok).1).0 refl
   expr_no_label l (arrow p e n) ts rest w s ok c = expr_no_label 15 e ts _ w s.1 (and_true _ _ (and_true _ _ ok).1).0 refl

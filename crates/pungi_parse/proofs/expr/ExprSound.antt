@@ -6,7 +6,7 @@ use Rattle.pungi_base.specs.declared.key.Key.TheVariants as keys
 use Rattle.pungi_base.specs.declared.names.Name.{Name}
 use Rattle.pungi_base.specs.declared.pos.Pos.{Pos}
 use Rattle.pungi_base.specs.declared.punct.Punct.TheVariants as puncts
-use Rattle.pungi_base.specs.declared.words.TheConstants.{PY_OBJECT_NEW}
+use Rattle.pungi_base.specs.Numbers.{py_object_new}
 use Rattle.pungi_parse.specs.tokens.OneToken.{eat_operator}
 use Rattle.pungi_parse.specs.expr.ExprReader.{more_args, some_args, args_at, new_front, new_at, paren_at, text_at, primary, index_at, call_at, postfix_turn, postfixes, postfix, sizeof_at, unary, cast_front, casted}
 use Rattle.pungi_parse.specs.Reading.{Read, ◌>>=◌}
@@ -40,8 +40,8 @@ none_so_tight l ts h = subst (λ m. eat_operator m ts ≡ None) (sym (at_least_s
 -- `PyObject_New (`
 pub record NewFront (types : List Name) (ts : List Placed) (n : Pos × List Placed) : Type 0 where
   pub place : Pos
-  pub tokens : ts ≡ word_at (named_word PY_OBJECT_NEW) n.0 ∷ mark_at puncts.LeftParen place ∷ n.1
-  pub plain : is_word types (named_word PY_OBJECT_NEW) ≡ true
+  pub tokens : ts ≡ word_at (named_word py_object_new) n.0 ∷ mark_at puncts.LeftParen place ∷ n.1
+  pub plain : is_word types (named_word py_object_new) ≡ true
 
 pub new_front_sound : (types : List Name) (ts : List Placed) (n : Pos × List Placed) → new_front types ts ≡ Some n → NewFront types ts n
 unfolding new_front
@@ -51,8 +51,8 @@ new_front_sound types ts n h =
     let o = bind_some _ _ _ g.1 in
     let b = when_some _ _ _ o.2 in
     let v = plain_word_sound types ts w.0 w.1 in
-    let e : w.0.0 ≡ named_word PY_OBJECT_NEW = is_named w.0.0 PY_OBJECT_NEW g.0 in
-    let t : ts ≡ word_at (named_word PY_OBJECT_NEW) w.0.1 ∷ mark_at puncts.LeftParen o.0.0 ∷ o.0.1 = v.0 ∙ ap (λ z. word_at z w.0.1 ∷ w.0.2) e ∙ ap (λ z. word_at (named_word PY_OBJECT_NEW) w.0.1 ∷ z) (eat_some _ w.0.2 o.0 o.1) in
+    let e : w.0.0 ≡ named_word py_object_new = is_named w.0.0 py_object_new g.0 in
+    let t : ts ≡ word_at (named_word py_object_new) w.0.1 ∷ mark_at puncts.LeftParen o.0.0 ∷ o.0.1 = v.0 ∙ ap (λ z. word_at z w.0.1 ∷ w.0.2) e ∙ ap (λ z. word_at (named_word py_object_new) w.0.1 ∷ z) (eat_some _ w.0.2 o.0 o.1) in
     subst (NewFront types ts) (some_same _ _ b.1) (record { place = o.0.0; tokens = t; plain = subst (λ z. is_word types z ≡ true) e v.1 })
 
 module _ (types : List Name) (d : ℕ) where

@@ -6,7 +6,7 @@ use Rattle.pungi_base.specs.declared.names.Name.{Name}
 use Rattle.pungi_base.specs.declared.pos.Pos.{Pos}
 use Rattle.pungi_base.specs.declared.punct.Punct.{Punct}
 use Rattle.pungi_base.specs.declared.punct.Punct.TheVariants as puncts
-use Rattle.pungi_base.specs.declared.words.TheConstants.{PY_OBJECT_NEW}
+use Rattle.pungi_base.specs.Numbers.{py_object_new}
 use Rattle.pungi_parse.specs.tokens.OneToken.{eat, eat_literal, eat_text}
 use Rattle.pungi_parse.specs.expr.ExprReader.{more_args, some_args, args_at, new_front, new_at, paren_at, primary, index_at, call_at, postfix_turn}
 use Rattle.pungi_parse.specs.expr.ExprReader as reader
@@ -136,14 +136,14 @@ module _ (types : List Name) where
       let r = f n d 0 c.0 _ c.3 (and_true true (expr_at types 0 e) s.allowed).1 (omega (arith, s.deep)) (omega (arith, s.long, ap length c.2)) (ends_at_paren c.1 rest) (omega arith) in
       from_primary types n d q (paren p e) ts rest place (paren_primary (readers types n d) p c.1 e ts c.0 rest c.2 r))
 
-  new_primary : (low : Lower) (p q r x : Pos) (t : TypeName) (e : Expr) (ts inner value rest : List Placed) → ts ≡ word_at (named_word PY_OBJECT_NEW) p ∷ mark_at puncts.LeftParen q ∷ inner → is_word types (named_word PY_OBJECT_NEW) ≡ true → begins_type types inner ≡ true → type_name_at low inner ≡ Some (t, mark_at puncts.Comma r ∷ value) → low.expr 1 value ≡ Some (e, mark_at puncts.RightParen x ∷ rest) → primary types low ts ≡ Some (new p t e, rest)
+  new_primary : (low : Lower) (p q r x : Pos) (t : TypeName) (e : Expr) (ts inner value rest : List Placed) → ts ≡ word_at (named_word py_object_new) p ∷ mark_at puncts.LeftParen q ∷ inner → is_word types (named_word py_object_new) ≡ true → begins_type types inner ≡ true → type_name_at low inner ≡ Some (t, mark_at puncts.Comma r ∷ value) → low.expr 1 value ≡ Some (e, mark_at puncts.RightParen x ∷ rest) → primary types low ts ≡ Some (new p t e, rest)
   unfolding primary new_front new_at plain_word on_some chain when unless
   new_primary low p q r x t e ts inner value rest s ok b h k = rw (s, not_true _ ok, b, h, k) refl
 
   pub new_steps : (p : Pos) (t : TypeName) (e : Expr) → TypeNameReads types t → ExprReads types e → Steps types (new p t e)
   new_steps p t e g f = postfix_steps types (new p t e) (omega arith) (λ n d q ts rest s place none ends.
       let c = s.spells in
-      let a = and_true (is_word types (named_word PY_OBJECT_NEW)) (type_name_ok types t && expr_at types 1 e) (and_true true (is_word types (named_word PY_OBJECT_NEW) && (type_name_ok types t && expr_at types 1 e)) s.allowed).1 in
+      let a = and_true (is_word types (named_word py_object_new)) (type_name_ok types t && expr_at types 1 e) (and_true true (is_word types (named_word py_object_new) && (type_name_ok types t && expr_at types 1 e)) s.allowed).1 in
       let b = and_true (type_name_ok types t) (expr_at types 1 e) a.1 in
       let i = type_name_no_longer t _ _ c.6 in
       let y = g n d c.0 _ c.6 b.0 (omega (arith, s.deep)) (omega (arith, s.long, ap length c.5)) (type_ends_at_comma c.3 c.1) in

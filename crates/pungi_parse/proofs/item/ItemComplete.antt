@@ -8,7 +8,7 @@ use Rattle.pungi_base.specs.declared.key.Key.{Key}
 use Rattle.pungi_base.specs.declared.names.Name.{Name}
 use Rattle.pungi_base.specs.declared.pos.Pos.{Pos}
 use Rattle.pungi_base.specs.declared.punct.Punct.TheVariants as puncts
-use Rattle.pungi_base.specs.declared.words.TheConstants.{PY_DOC_STRVAR}
+use Rattle.pungi_base.specs.Numbers.{py_doc_strvar}
 use Rattle.pungi_parse.specs.tokens.OneToken.{eat}
 use Rattle.pungi_parse.specs.Reading.{chain, on_some, when, unless}
 use Rattle.pungi_parse.specs.types.TypeReader.{plain_word}
@@ -142,9 +142,9 @@ module _ (types : List Name) where
     doc_read : (p : Pos) (w : Name) (ns : List Name) (ts rest : List Placed) → SpellsItem (doc p w ns) ts rest → item_ok types (doc p w ns) ≡ true → item_at types n ts ≡ Some (doc p w ns, rest)
     unfolding item_at doc_front doc_at chain on_some when unless
     doc_read p w ns ts rest s ok =
-        let a = and_true (is_word types (named_word PY_DOC_STRVAR)) (is_word types w && not (is_empty ns)) ok in
+        let a = and_true (is_word types (named_word py_doc_strvar)) (is_word types w && not (is_empty ns)) ok in
         let b = and_true (is_word types w) (not (is_empty ns)) a.1 in
-        let x = plain_word_complete types (named_word PY_DOC_STRVAR) s.1 (mark_at puncts.LeftParen s.2 ∷ word_at w p ∷ mark_at puncts.Comma s.3 ∷ s.0) a.0 in
+        let x = plain_word_complete types (named_word py_doc_strvar) s.1 (mark_at puncts.LeftParen s.2 ∷ word_at w p ∷ mark_at puncts.Comma s.3 ∷ s.0) a.0 in
         let y = plain_word_complete types w p (mark_at puncts.Comma s.3 ∷ s.0) b.0 in
         let z = texts_complete ns s.0 (mark_at puncts.RightParen s.4 ∷ rest) s.6 refl in
         rw (s.5, x, y, z, not_true _ b.1) refl

@@ -7,7 +7,7 @@ use Rattle.pungi_base.specs.declared.key.Key.TheVariants as keys
 use Rattle.pungi_base.specs.declared.names.Name.{Name}
 use Rattle.pungi_base.specs.declared.pos.Pos.{Pos}
 use Rattle.pungi_base.specs.declared.punct.Punct.TheVariants as puncts
-use Rattle.pungi_base.specs.declared.words.TheConstants.{PY_DOC_STRVAR}
+use Rattle.pungi_base.specs.Numbers.{py_doc_strvar}
 use Rattle.pungi_parse.specs.tokens.OneToken.{eat}
 use Rattle.pungi_parse.specs.Reading.{on_some}
 use Rattle.pungi_parse.specs.Readers.{readers}
@@ -38,7 +38,7 @@ ReadsItem types ts x = Reads (SpellsItem x.0 ts x.1) (item_ok types x.0) (item_d
 module _ (types : List Name) where
   -- `PyDoc_STRVAR` and its parenthesis
   abbrev Documented : List Placed → Pos × List Placed → Type 0
-  Documented ts o = (q : Pos) × (ts ≡ word_at (named_word PY_DOC_STRVAR) q ∷ mark_at puncts.LeftParen o.0 ∷ o.1) × (is_word types (named_word PY_DOC_STRVAR) ≡ true)
+  Documented ts o = (q : Pos) × (ts ≡ word_at (named_word py_doc_strvar) q ∷ mark_at puncts.LeftParen o.0 ∷ o.1) × (is_word types (named_word py_doc_strvar) ≡ true)
 
   doc_front_sound : (ts : List Placed) (o : Pos × List Placed) → doc_front types ts ≡ Some o → Documented ts o
   unfolding doc_front
@@ -46,9 +46,9 @@ module _ (types : List Name) where
       let w = bind_some _ _ _ h in
       let g = when_some _ _ _ w.2 in
       let r = plain_word_sound types ts w.0 w.1 in
-      let e : w.0.0.0 ≡ PY_DOC_STRVAR = eq_from _ _ g.0 in
-      let named : w.0.0 ≡ named_word PY_DOC_STRVAR = ap (λ z. named_word z) e in
-      (w.0.1, r.0 ∙ ap (λ z. word_at z w.0.1 ∷ w.0.2) named ∙ ap (λ z. word_at (named_word PY_DOC_STRVAR) w.0.1 ∷ z) (eat_some puncts.LeftParen w.0.2 o g.1), subst (λ z. is_word types z ≡ true) named r.1)
+      let e : w.0.0.0 ≡ py_doc_strvar = eq_from _ _ g.0 in
+      let named : w.0.0 ≡ named_word py_doc_strvar = ap (λ z. named_word z) e in
+      (w.0.1, r.0 ∙ ap (λ z. word_at z w.0.1 ∷ w.0.2) named ∙ ap (λ z. word_at (named_word py_doc_strvar) w.0.1 ∷ z) (eat_some puncts.LeftParen w.0.2 o g.1), subst (λ z. is_word types z ≡ true) named r.1)
 
   doc_sound : (ts : List Placed) (o : Pos × List Placed) (x : Item × List Placed) → doc_front types ts ≡ Some o → doc_at types o.1 ≡ Some x → ReadsItem types ts x
   unfolding doc_at
@@ -60,8 +60,8 @@ module _ (types : List Name) where
       let r = bind_some _ _ _ u.1 in
       let named = plain_word_sound types o.1 w.0 w.1 in
       let ns = texts c.0.1 in
-      let at : ts ≡ word_at (named_word PY_DOC_STRVAR) f.0 ∷ mark_at puncts.LeftParen o.0 ∷ word_at w.0.0 w.0.1 ∷ mark_at puncts.Comma c.0.0 ∷ c.0.1
-      = f.1 ∙ ap (λ z. word_at (named_word PY_DOC_STRVAR) f.0 ∷ mark_at puncts.LeftParen o.0 ∷ z) (named.0 ∙ ap (λ z. word_at w.0.0 w.0.1 ∷ z) (eat_some puncts.Comma w.0.2 c.0 c.1)) in
+      let at : ts ≡ word_at (named_word py_doc_strvar) f.0 ∷ mark_at puncts.LeftParen o.0 ∷ word_at w.0.0 w.0.1 ∷ mark_at puncts.Comma c.0.0 ∷ c.0.1
+      = f.1 ∙ ap (λ z. word_at (named_word py_doc_strvar) f.0 ∷ mark_at puncts.LeftParen o.0 ∷ z) (named.0 ∙ ap (λ z. word_at w.0.0 w.0.1 ∷ z) (eat_some puncts.Comma w.0.2 c.0 c.1)) in
       let s : SpellsItem (doc w.0.1 w.0.0 ns.0) ts r.0.1
       = (c.0.1, f.0, o.0, c.0.0, r.0.0, at, subst (λ z. SpellsTexts ns.0 c.0.1 z) (eat_some puncts.RightParen ns.1 r.0 r.1) (texts_sound c.0.1)) in
       subst (ReadsItem types ts) (some_same (doc w.0.1 w.0.0 ns.0, r.0.1) x r.2)

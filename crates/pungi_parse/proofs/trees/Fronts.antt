@@ -12,7 +12,7 @@ use Rattle.pungi_base.specs.declared.names.Name.{Name}
 use Rattle.pungi_base.specs.declared.pos.Pos.{Pos}
 use Rattle.pungi_base.specs.declared.punct.Punct.{Punct}
 use Rattle.pungi_base.specs.declared.punct.Punct.TheVariants as puncts
-use Rattle.pungi_base.specs.declared.words.TheConstants.{PY_OBJECT_NEW}
+use Rattle.pungi_base.specs.Numbers.{py_object_new}
 use Rattle.pungi_parse.specs.tokens.OneToken.{punct_number, key_number, eat, eat_key, eat_listed, eat_word}
 use Rattle.pungi_parse.specs.Reading.{chain, when}
 use Rattle.pungi_parse.specs.types.TypeReader.{type_word, plain_word, begins_type, begins_decl}
@@ -121,7 +121,7 @@ module _ (types : List Name) where
   expr_begins l (cast p t e) ts rest s ok = subst (ExprBegins types) (sym s.3) (mark_begins puncts.LeftParen p s.0 refl)
   expr_begins l (size_of_type p t) ts rest s ok = subst (ExprBegins types) (sym s.3) (sizeof_begins p (mark_at puncts.LeftParen s.1 ∷ s.0))
   expr_begins l (call p f es) ts rest s ok = expr_begins 15 f ts _ s.4 (and_true _ _ (and_true _ _ ok).1).0
-  expr_begins l (new p t e) ts rest s ok = subst (ExprBegins types) (sym s.5) (word_begins (named_word PY_OBJECT_NEW) p (mark_at puncts.LeftParen s.2 ∷ s.0) (and_true _ _ (and_true _ _ ok).1).0)
+  expr_begins l (new p t e) ts rest s ok = subst (ExprBegins types) (sym s.5) (word_begins (named_word py_object_new) p (mark_at puncts.LeftParen s.2 ∷ s.0) (and_true _ _ (and_true _ _ ok).1).0)
   expr_begins l (index p a b) ts rest s ok = expr_begins 15 a ts _ s.2 (and_true _ _ (and_true _ _ ok).1).0
   expr_begins l (dot p e n) ts rest s ok = expr_begins 15 e ts _ s.1 (and_true _ _ (and_true _ _ ok).1).0
   expr_begins l (arrow p e n) ts rest s ok = expr_begins 15 e ts _ s.1 (and_true _ _ (and_true _ _ ok).1).0

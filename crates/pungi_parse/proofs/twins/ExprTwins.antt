@@ -8,7 +8,7 @@ use Rattle.pungi_base.specs.declared.kind.Kind.TheVariants as kind
 use Rattle.pungi_base.specs.declared.names.Name.{Name}
 use Rattle.pungi_base.specs.declared.pos.Pos.{Pos}
 use Rattle.pungi_base.specs.declared.punct.Punct.TheVariants as puncts
-use Rattle.pungi_base.specs.declared.words.TheConstants.{PY_OBJECT_NEW, PY_UNUSED}
+use Rattle.pungi_base.specs.Numbers.{py_object_new, py_unused}
 use Rattle.pungi_parse.proofs.twins.ExprLikes.{LikeExpr, LikeArgs, LikeTypeName, LikeSpec, LikeBase, LikeField, LikeFields, LikeDeclr, LikeSomeDeclrs, LikeDeclrs, LikeTail, LikeSizes, LikeParams, LikeParamDecl, LikeParamDecls, LikeParamDeclr, void_like}
 use Rattle.pungi_parse.proofs.Tools.{and_true, and_join}
 use Rattle.pungi_parse.proofs.twins.Twin.{Twin, deeper, wider, deeper_two, first_of, two_of, again, ends_with, ends_with_two, same_void, some_place, twin_texts, twin_keys, twin_consts, twin_stars, twin_tag, twin_void, twin_dots}
@@ -123,11 +123,11 @@ module _ (types : List Name) where
         let place = some_place ts i.rest (expr_shorter types 15 i.twin ts i.rest i.spells i.alike.ok) in
         record { twin = call place.0 i.twin j.twin; rest = d.0; spells = (c.0, c.1, d.1, place.1, c.2, d.2); behind = d.3; alike = record { ok = and_join _ _ o.0 (and_join _ _ i.alike.ok j.alike.ok); deep = deeper_two _ _ _ _ i.alike.deep j.alike.deep } }
     twin_expr l (new p t e) ts more h ok =
-        let o = and_true (nat_le l 16) (is_word types (named_word PY_OBJECT_NEW) && (type_name_ok types t && expr_at types 1 e)) ok in
-        let q = and_true (is_word types (named_word PY_OBJECT_NEW)) (type_name_ok types t && expr_at types 1 e) o.1 in
+        let o = and_true (nat_le l 16) (is_word types (named_word py_object_new) && (type_name_ok types t && expr_at types 1 e)) ok in
+        let q = and_true (is_word types (named_word py_object_new)) (type_name_ok types t && expr_at types 1 e) o.1 in
         let r = and_true (type_name_ok types t) (expr_at types 1 e) q.1 in
         let behind = (type_name_flat t ++ (mark puncts.Comma ∷ (expr_flat e ++ mark puncts.RightParen ∷ []))) ++ more in
-        let f = two_of ts (kind.Word (named_word PY_OBJECT_NEW)) (mark puncts.LeftParen) behind h in
+        let f = two_of ts (kind.Word (named_word py_object_new)) (mark puncts.LeftParen) behind h in
         let last = (expr_flat e ++ mark puncts.RightParen ∷ []) ++ more in
         let i = twin_type_name t f.0 (mark puncts.Comma ∷ last) (again _ (type_name_flat t) (mark puncts.Comma ∷ (expr_flat e ++ mark puncts.RightParen ∷ [])) more f.4) r.0 in
         let c = ends_with (mark puncts.Comma) last i in
@@ -329,8 +329,8 @@ module _ (types : List Name) where
         let k = twin_stars ns ts more h in
         record { twin = bare ns; rest = k.0; spells = k.1; behind = k.2; alike = record { ok = refl; deep = refl; nothing = refl } }
     twin_param_declr (unused ns n p) ts more h ok =
-        let k = twin_stars ns ts (kind.Word (named_word PY_UNUSED) ∷ mark puncts.LeftParen ∷ kind.Word n ∷ mark puncts.RightParen ∷ more) (again _ (stars_flat ns) (kind.Word (named_word PY_UNUSED) ∷ mark puncts.LeftParen ∷ kind.Word n ∷ mark puncts.RightParen ∷ []) more h) in
-        let f = two_of k.0 (kind.Word (named_word PY_UNUSED)) (mark puncts.LeftParen) (kind.Word n ∷ mark puncts.RightParen ∷ more) k.2 in
+        let k = twin_stars ns ts (kind.Word (named_word py_unused) ∷ mark puncts.LeftParen ∷ kind.Word n ∷ mark puncts.RightParen ∷ more) (again _ (stars_flat ns) (kind.Word (named_word py_unused) ∷ mark puncts.LeftParen ∷ kind.Word n ∷ mark puncts.RightParen ∷ []) more h) in
+        let f = two_of k.0 (kind.Word (named_word py_unused)) (mark puncts.LeftParen) (kind.Word n ∷ mark puncts.RightParen ∷ more) k.2 in
         let g = two_of f.0 (kind.Word n) (mark puncts.RightParen) more f.4 in
-        let at = f.3 ∙ ap (λ z. word_at (named_word PY_UNUSED) f.1 ∷ mark_at puncts.LeftParen f.2 ∷ z) g.3 in
+        let at = f.3 ∙ ap (λ z. word_at (named_word py_unused) f.1 ∷ mark_at puncts.LeftParen f.2 ∷ z) g.3 in
         record { twin = unused ns n g.1; rest = g.0; spells = (f.1, f.2, g.2, subst (λ z. SpellsStars ns ts z) at k.1); behind = g.4; alike = record { ok = ok; deep = refl; nothing = refl } }

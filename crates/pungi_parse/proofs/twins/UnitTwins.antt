@@ -14,7 +14,7 @@ use Rattle.pungi_base.specs.declared.kind.Kind.TheVariants as kind
 use Rattle.pungi_base.specs.declared.names.Name.{Name}
 use Rattle.pungi_base.specs.declared.pos.Pos.{Pos}
 use Rattle.pungi_base.specs.declared.punct.Punct.TheVariants as puncts
-use Rattle.pungi_base.specs.declared.words.TheConstants.{PY_DOC_STRVAR}
+use Rattle.pungi_base.specs.Numbers.{py_doc_strvar}
 use Rattle.pungi_parse.specs.item.UnitReader.{deepest}
 use Rattle.pungi_parse.specs.Units.{IsUnit, StopsAt}
 use Rattle.pungi_parse.proofs.twins.ExprTwins.{twin_spec, twin_params}
@@ -72,11 +72,11 @@ module _ (types : List Name) where
       let f = first_of ts (mark puncts.Semicolon) more h in
       record { twin = nothing f.1; rest = f.0; spells = f.2; behind = f.3; alike = record { ok = refl; deep = refl } }
   twin_item (doc p n ns) ts more h ok =
-      let f = two_of ts (kind.Word (named_word PY_DOC_STRVAR)) (mark puncts.LeftParen) (kind.Word n ∷ mark puncts.Comma ∷ ((texts_flat ns ++ mark puncts.RightParen ∷ []) ++ more)) h in
+      let f = two_of ts (kind.Word (named_word py_doc_strvar)) (mark puncts.LeftParen) (kind.Word n ∷ mark puncts.Comma ∷ ((texts_flat ns ++ mark puncts.RightParen ∷ []) ++ more)) h in
       let g = two_of f.0 (kind.Word n) (mark puncts.Comma) ((texts_flat ns ++ mark puncts.RightParen ∷ []) ++ more) f.4 in
       let r = twin_texts ns g.0 (mark puncts.RightParen ∷ more) (again _ (texts_flat ns) (mark puncts.RightParen ∷ []) more g.4) in
       let c = first_of r.0 (mark puncts.RightParen) more r.2 in
-      let at = f.3 ∙ ap (λ z. word_at (named_word PY_DOC_STRVAR) f.1 ∷ mark_at puncts.LeftParen f.2 ∷ z) g.3 in
+      let at = f.3 ∙ ap (λ z. word_at (named_word py_doc_strvar) f.1 ∷ mark_at puncts.LeftParen f.2 ∷ z) g.3 in
       record { twin = doc g.1 n ns; rest = c.0; spells = (g.0, f.1, f.2, g.2, c.1, at, subst (λ z. SpellsTexts ns g.0 z) c.2 r.1); behind = c.3; alike = record { ok = ok; deep = refl } }
   twin_item (typedef b ns n p) ts more h ok =
       let name = kind.Word n ∷ mark puncts.Semicolon ∷ [] in

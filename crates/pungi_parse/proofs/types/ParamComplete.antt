@@ -7,7 +7,7 @@ use Rattle.pungi_base.specs.declared.names.Name.{Name}
 use Rattle.pungi_base.specs.declared.pos.Pos.{Pos}
 use Rattle.pungi_base.specs.declared.punct.Punct.{Punct}
 use Rattle.pungi_base.specs.declared.punct.Punct.TheVariants as puncts
-use Rattle.pungi_base.specs.declared.words.TheConstants.{PY_UNUSED}
+use Rattle.pungi_base.specs.Numbers.{py_unused}
 use Rattle.pungi_parse.specs.tokens.OneToken.{eat}
 use Rattle.pungi_parse.specs.Reading.{chain, on_some, when, unless}
 use Rattle.pungi_parse.specs.Readers.{readers}
@@ -58,7 +58,7 @@ module _ (types : List Name) where
   -- a declared name is no `Py_UNUSED (`
   tail_no_unused : (w : Name) (p : Pos) (t : Tail) (ts rest : List Placed) → SpellsTail w p t ts rest → is_word types w ≡ true → ParamEnds rest → unused_front types ts ≡ None
   unfolding unused_front plain_word chain unless
-  tail_no_unused w p (sizes ss) ts rest s ok e = rw (s.1, not_true _ ok, sizes_no_paren ss s.0 rest s.2 e) (when_none (w.0 == PY_UNUSED))
+  tail_no_unused w p (sizes ss) ts rest s ok e = rw (s.1, not_true _ ok, sizes_no_paren ss s.0 rest s.2 e) (when_none (w.0 == py_unused))
     where
       sizes_no_paren : (ss : Sizes) (ts rest : List Placed) → SpellsSizes ss ts rest → ParamEnds rest → eat puncts.LeftParen ts ≡ None
       sizes_no_paren no_sizes ts rest s e = rw s e.no_paren
@@ -88,7 +88,7 @@ module _ (types : List Name) where
   pub param_unused : (ss : List ℕ) (w : Name) (p : Pos) → ParamDeclrReads types (unused ss w p)
   unfolding param_declr_at param_rest begins_name unused_front plain_word on_some chain when unless
   param_unused ss w p n d ts rest s ok deep long e =
-      let a = and_true (is_word types (named_word PY_UNUSED)) (is_word types w) ok in
+      let a = and_true (is_word types (named_word py_unused)) (is_word types w) ok in
       let c = stars_complete ss ts _ s.3 (record { no_star = refl; no_const = refl }) in
       rw (c, not_true _ a.0, not_true _ a.1) refl
 

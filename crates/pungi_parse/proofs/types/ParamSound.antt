@@ -5,7 +5,7 @@ use Rattle.std.specs.Prelude.{◌==◌}
 use Rattle.pungi_base.specs.declared.names.Name.{Name}
 use Rattle.pungi_base.specs.declared.pos.Pos.{Pos}
 use Rattle.pungi_base.specs.declared.punct.Punct.TheVariants as puncts
-use Rattle.pungi_base.specs.declared.words.TheConstants.{PY_UNUSED}
+use Rattle.pungi_base.specs.Numbers.{py_unused}
 use Rattle.pungi_parse.specs.types.TypeReader.{Lower, keywords, stars, unused_front, param_rest, param_declr_at, param, dots_front, more_params, void_front, some_params, params_at}
 use Rattle.pungi_parse.proofs.tokens.Eaten.{eat_some, eat_key_some}
 use Rattle.pungi_parse.proofs.trees.LowSound.{GetsParamDeclr, GetsParamDecl, GetsMoreParams, GetsParams, LowSound}
@@ -28,8 +28,8 @@ is_named n k h = ap named_word (eq_from n.0 k h)
 -- `Py_UNUSED (`
 pub record UnusedFront (types : List Name) (ts : List Placed) (u : Name × Pos × List Placed) : Type 0 where
   pub place : Pos
-  pub tokens : ts ≡ word_at (named_word PY_UNUSED) place ∷ mark_at puncts.LeftParen u.1 ∷ u.2
-  pub plain : is_word types (named_word PY_UNUSED) ≡ true
+  pub tokens : ts ≡ word_at (named_word py_unused) place ∷ mark_at puncts.LeftParen u.1 ∷ u.2
+  pub plain : is_word types (named_word py_unused) ≡ true
 
 pub unused_front_sound : (types : List Name) (ts : List Placed) (u : Name × Pos × List Placed) → unused_front types ts ≡ Some u → UnusedFront types ts u
 unfolding unused_front
@@ -38,8 +38,8 @@ unused_front_sound types ts u h =
     let g = when_some _ _ _ w.2 in
     let o = bind_some _ _ _ g.1 in
     let v = plain_word_sound types ts w.0 w.1 in
-    let e : w.0.0 ≡ named_word PY_UNUSED = is_named w.0.0 PY_UNUSED g.0 in
-    let t : ts ≡ word_at (named_word PY_UNUSED) w.0.1 ∷ mark_at puncts.LeftParen o.0.0 ∷ o.0.1 = v.0 ∙ ap (λ z. word_at z w.0.1 ∷ w.0.2) e ∙ ap (λ z. word_at (named_word PY_UNUSED) w.0.1 ∷ z) (eat_some _ w.0.2 o.0 o.1) in
+    let e : w.0.0 ≡ named_word py_unused = is_named w.0.0 py_unused g.0 in
+    let t : ts ≡ word_at (named_word py_unused) w.0.1 ∷ mark_at puncts.LeftParen o.0.0 ∷ o.0.1 = v.0 ∙ ap (λ z. word_at z w.0.1 ∷ w.0.2) e ∙ ap (λ z. word_at (named_word py_unused) w.0.1 ∷ z) (eat_some _ w.0.2 o.0 o.1) in
     subst (UnusedFront types ts) (some_same _ _ o.2) (record { place = w.0.1; tokens = t; plain = subst (λ z. is_word types z ≡ true) e v.1 })
 
 not_lone : (d : ParamDecl) (ds : ParamDecls) (q : Pos) (ts between after rest : List Placed) → void_front ts ≡ None → SpellsParamDecl d ts between → SpellsMoreParamDecls ds between after → after ≡ mark_at puncts.RightParen q ∷ rest → is_lone_void (param_and d ds) ≡ false
@@ -61,8 +61,8 @@ module _ (types : List Name) (d : ℕ) (low : Lower) (sound : LowSound types d l
         let c = bind_some _ _ _ w.2 in
         let f = unused_front_sound types ts u.0 u.1 in
         let v = plain_word_sound types u.0.2 w.0 w.1 in
-        let e : ts ≡ word_at (named_word PY_UNUSED) f.place ∷ mark_at puncts.LeftParen u.0.1 ∷ word_at w.0.0 w.0.1 ∷ mark_at puncts.RightParen c.0.0 ∷ c.0.1
-        = f.tokens ∙ ap (λ z. word_at (named_word PY_UNUSED) f.place ∷ mark_at puncts.LeftParen u.0.1 ∷ z) (v.0 ∙ ap (λ z. word_at w.0.0 w.0.1 ∷ z) (eat_some _ w.0.2 c.0 c.1)) in
+        let e : ts ≡ word_at (named_word py_unused) f.place ∷ mark_at puncts.LeftParen u.0.1 ∷ word_at w.0.0 w.0.1 ∷ mark_at puncts.RightParen c.0.0 ∷ c.0.1
+        = f.tokens ∙ ap (λ z. word_at (named_word py_unused) f.place ∷ mark_at puncts.LeftParen u.0.1 ∷ z) (v.0 ∙ ap (λ z. word_at w.0.0 w.0.1 ∷ z) (eat_some _ w.0.2 c.0 c.1)) in
         subst (GetsParamDeclr types d start) (some_same _ _ c.2) (record {
           spells = (f.place, u.0.1, c.0.0, subst (λ z. SpellsStars ss start z) e before);
           allowed = and_join _ _ f.plain v.1;

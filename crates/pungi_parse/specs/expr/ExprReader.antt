@@ -17,7 +17,7 @@ use Rattle.pungi_base.specs.declared.kind.Kind.TheVariants as kind
 use Rattle.pungi_base.specs.declared.names.Name.{Name}
 use Rattle.pungi_base.specs.declared.pos.Pos.{Pos}
 use Rattle.pungi_base.specs.declared.punct.Punct.TheVariants as puncts
-use Rattle.pungi_base.specs.declared.words.TheConstants.{PY_OBJECT_NEW}
+use Rattle.pungi_base.specs.Numbers.{py_object_new}
 use Rattle.pungi_parse.specs.tokens.OneToken.{eat, eat_key, eat_literal, eat_prefix, eat_operator, eat_assign, eat_step, eat_word}
 use Rattle.pungi_parse.specs.Reading.{Read, ◌>>=◌, chain, on_some, when, unless}
 use Rattle.pungi_parse.specs.types.TypeReader.{Lower, texts, plain_word, begins_type, type_name_at}
@@ -30,7 +30,7 @@ use Rattle.pungi_tree.specs.Syntax.{Expr, word, text, paren, unary as prefix, po
 module _ (types : List Name) where
   unfoldable pub new_front : List Placed → Option (Pos × List Placed)
   new_front ts =
-      plain_word types ts >>= λ w. when (w.0.0 == PY_OBJECT_NEW) (eat puncts.LeftParen w.2 >>= λ o. when (begins_type types o.1) (Some (w.1, o.1)))
+      plain_word types ts >>= λ w. when (w.0.0 == py_object_new) (eat puncts.LeftParen w.2 >>= λ o. when (begins_type types o.1) (Some (w.1, o.1)))
 
   unfoldable pub cast_front : List Placed → Option (Pos × List Placed)
   cast_front ts = eat puncts.LeftParen ts >>= λ o. when (begins_type types o.1) (Some o)

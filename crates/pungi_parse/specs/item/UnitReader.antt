@@ -13,7 +13,7 @@ use Rattle.pungi_base.specs.declared.key.Key.TheVariants as keys
 use Rattle.pungi_base.specs.declared.names.Name.{Name}
 use Rattle.pungi_base.specs.declared.pos.Pos.{Pos}
 use Rattle.pungi_base.specs.declared.punct.Punct.TheVariants as puncts
-use Rattle.pungi_base.specs.declared.words.TheConstants.{PY_DOC_STRVAR}
+use Rattle.pungi_base.specs.Numbers.{py_doc_strvar}
 use Rattle.pungi_parse.specs.tokens.OneToken.{eat, eat_key, eat_word}
 use Rattle.pungi_parse.specs.Reading.{Read, ◌>>=◌, chain, on_some, when, unless}
 use Rattle.pungi_parse.specs.Readers.{readers}
@@ -29,7 +29,7 @@ deepest = 256
 
 module _ (types : List Name) where
   unfoldable pub doc_front : List Placed → Option (Pos × List Placed)
-  doc_front ts = plain_word types ts >>= λ w. when (w.0.0 == PY_DOC_STRVAR) (eat puncts.LeftParen w.2)
+  doc_front ts = plain_word types ts >>= λ w. when (w.0.0 == py_doc_strvar) (eat puncts.LeftParen w.2)
 
   unfoldable pub doc_at : List Placed → Read Item
   doc_at ts =

@@ -22,7 +22,7 @@ use Rattle.pungi_base.specs.declared.key.Key.TheVariants as keys
 use Rattle.pungi_base.specs.declared.names.Name.{Name}
 use Rattle.pungi_base.specs.declared.pos.Pos.{Pos}
 use Rattle.pungi_base.specs.declared.punct.Punct.TheVariants as puncts
-use Rattle.pungi_base.specs.declared.words.TheConstants.{PY_UNUSED}
+use Rattle.pungi_base.specs.Numbers.{py_unused}
 use Rattle.pungi_parse.specs.tokens.OneToken.{eat, eat_key, eat_word, eat_text, eat_listed}
 use Rattle.pungi_parse.specs.Reading.{Read, ◌>>=◌, chain, on_some, when, unless}
 use Rattle.pungi_tree.specs.ExprLevels.{is_empty}
@@ -89,7 +89,7 @@ module _ (types : List Name) where
   -- `Py_UNUSED`, the word in its parentheses, and the tokens after them
   unfoldable pub unused_front : List Placed → Option (Name × Pos × List Placed)
   unused_front ts =
-      plain_word ts >>= λ u. when (u.0.0 == PY_UNUSED) (eat puncts.LeftParen u.2 >>= λ o. Some (u.0, o.0, o.1))
+      plain_word ts >>= λ u. when (u.0.0 == py_unused) (eat puncts.LeftParen u.2 >>= λ o. Some (u.0, o.0, o.1))
 
   module _ (low : Lower) where
     -- the brackets of an array, at most `k` of them

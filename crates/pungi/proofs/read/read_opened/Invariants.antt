@@ -1,5 +1,5 @@
 use Rattle.std.proofs.Common.{◌≡◌, ◌≤◌, ◌<◌, ◌+◌, ◌-◌, vec_len}
-use Rattle.pungi.specs.declared.read.TheConstants.{FILE_LIMIT}
+use Rattle.pungi.specs.Limits.{file_limit}
 use Rattle.pungi.proofs.LeftToRead.{Left}
 use Rattle.pungi.proofs.read.read_opened.Given as goal
 
@@ -13,4 +13,4 @@ invariant-reads g l = record {
 }
 
 abbrev pub decreases-reads : goal.decreases-reads
-decreases-reads g l = FILE_LIMIT + 1 - vec_len l.bytes
+decreases-reads g l = file_limit + 1 - vec_len l.bytes

@@ -1,12 +1,12 @@
 use Rattle.std.proofs.Common.{map}
 use Rattle.std.specs.Prelude.{string_bytes}
 use Rattle.pungi_base.specs.Shelf.{Rose}
-use Rattle.pungi.proofs.Causes.{file_refused, file_judged}
+use Rattle.pungi.proofs.Causes.{file_is_refused, file_judged}
 use Rattle.pungi.proofs.top.pungi.Goals as goal
 
 pub returns-in-Ok-write_all-clause-file : goal.returns-in-Ok-write_all-clause-file
 returns-in-Ok-write_all-clause-file g c = λ text is refused read cut memory.
-    file_refused (map string_bytes c.args.words.now) (g.F.Shelf.texts c.args.shelf.now) (Rose (g.F.Shelf.faults c.args.shelf.now) (g.F.Shelf.faults c.decide.new.shelf))
+    file_is_refused (map string_bytes c.args.words.now) (g.F.Shelf.texts c.args.shelf.now) (Rose (g.F.Shelf.faults c.args.shelf.now) (g.F.Shelf.faults c.decide.new.shelf))
     c.in-Ok.answer.status c.in-Ok.answer.text.items c.in-Ok.ensures.answer text is refused read
 
 pub returns-in-Ok-write_all-clause-judged : goal.returns-in-Ok-write_all-clause-judged

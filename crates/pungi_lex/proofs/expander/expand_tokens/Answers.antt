@@ -1,6 +1,6 @@
 use Rattle.std.proofs.Common.{◌≡◌, ◌<◌, ◌≤◌, ◌+◌, length, arith}
 use Rattle.std.proofs.lemmas.Bool.Decides.{nat_tests}
-use Rattle.pungi_lex.specs.declared.frames.TheConstants.{TOKEN_LIMIT}
+use Rattle.pungi_lex.specs.Limits.{token_limit}
 use Rattle.pungi_lex.proofs.RunLemmas.{at_end, at_kept, at_plain, at_line, line_refused, plain_refused}
 use Rattle.pungi_lex.proofs.expander.expand_tokens.Goals as goal
 
@@ -43,7 +43,7 @@ returns-in-Err-expand_token-clause-fault c = λ other.
 
 pub parts-preserved-then-length-gt0 : goal.parts-preserved-then-length-gt0
 parts-preserved-then-length-gt0 c =
-    let few : c.parts.count + c.stay_count-length.result ≤ TOKEN_LIMIT = omega (arith, c.stay_count-length.ensures.few, c.parts.invariant.few) in
+    let few : c.parts.count + c.stay_count-length.result ≤ token_limit = omega (arith, c.stay_count-length.ensures.few, c.parts.invariant.few) in
     record {
       progress = at_kept (length c.args.names.now) c.args.tokens.now c.split_at.result.1.now c.split_at-then-length-gt0.result.0.now c.parts.done c.stay_count-length.result c.parts.table.items c.parts.count c.parts.out.items c.extend_from_slice.new.self.items
           c.split_at.ensures.back c.split_at-then-length-gt0.ensures.front c.stay_count-length.ensures.within c.stay_count-length.ensures.stay few c.in_ok-extend_from_slice.ensures.items c.parts.invariant.progress;

@@ -1,5 +1,5 @@
 use Rattle.std.proofs.Common.{◌-◌, ◌≤◌, length}
-use Rattle.pungi_lex.specs.declared.frames.TheConstants.{TOKEN_LIMIT}
+use Rattle.pungi_lex.specs.Limits.{token_limit}
 use Rattle.pungi_lex.proofs.RunLemmas.{Progress}
 use Rattle.pungi_lex.proofs.expander.expand_tokens.Given as goal
 
@@ -7,7 +7,7 @@ abbrev pub invariant-parts : goal.invariant-parts
 invariant-parts l = record {
   progress : Progress (length l.names) l.tokens l.done l.table.items l.count l.out.items;
   within : l.done ≤ length l.tokens;
-  few : l.count ≤ TOKEN_LIMIT;
+  few : l.count ≤ token_limit;
 }
 
 abbrev pub decreases-parts : goal.decreases-parts

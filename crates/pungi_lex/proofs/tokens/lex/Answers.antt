@@ -1,13 +1,13 @@
 use Rattle.std.proofs.Common.{◌≤◌, ℕ, List, length, ap, arith}
 use Rattle.std.proofs.lemmas.List.{length-take}
-use Rattle.pungi_base.specs.declared.words.TheConstants.{KEYWORDS}
+use Rattle.pungi_base.specs.Numbers.{keyword_count}
 use Rattle.pungi_base.specs.Words.{BeginWithWords, builtin_words}
 use Rattle.pungi_lex.proofs.Exact.{faults_none, faults_once, tokens_once}
 use Rattle.pungi_lex.proofs.KnownTokens.{tokens_known}
 use Rattle.pungi_lex.proofs.SizedTokens.{tokens_sized}
 use Rattle.pungi_lex.proofs.tokens.lex.Goals as goal
 
-keywords_within : (names : List (List ℕ)) → BeginWithWords names → KEYWORDS ≤ length names
+keywords_within : (names : List (List ℕ)) → BeginWithWords names → keyword_count ≤ length names
 keywords_within names words = omega (arith, ap length words, length-take (length builtin_words) names)
 
 pub cut_text-requires-clause-words : goal.cut_text-requires-clause-words
