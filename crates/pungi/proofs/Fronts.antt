@@ -27,6 +27,7 @@ use Rattle.pungi_check.specs.declared.checked.Checked.{Checked}
 use Rattle.pungi_types.specs.Files.{SourceFile}
 use Rattle.pungi_types.specs.Findings.{least}
 use Rattle.pungi_types.specs.Refused.{IsRefusedSet}
+use Rattle.pungi_verdict.specs.Verdicts.{IsJudged}
 use Rattle.pungi.specs.declared.file_fault.FileFault.{FileFault}
 use Rattle.pungi.specs.declared.file_fault.FileFault.TheVariants as fault
 use Rattle.pungi.specs.Examine.{IsReport, IsReportOn}
@@ -196,14 +197,14 @@ unit_refused text names items found spelled only holds told h =
 
 -- the report on a file that is accepted
 pub report_on : (text : List ℕ) (names : List (List ℕ)) (items : List Item) (x : Checked) (status : ℕ) (report : List ℕ) → IsUnitOf text names items
-    → (checked_view x).file ≡ file_known names items → IsChecked x → IsReportOn names (checked_view x) status report → IsReport text status report
+    → (checked_view x).file ≡ file_known names items → IsChecked x → IsReportOn IsJudged names (checked_view x) status report → IsReport text status report
 report_on text names items x status report spelled same found is = record {
   names = names;
   items = items;
   file = record { spelled = spelled; distinct = subst (λ (f : SourceFile). least (faults f) ≡ None) same found.none };
   refused = x.refused.keys;
   least = subst (λ (f : SourceFile). IsRefusedSet f x.refused.keys) same found.set;
-  report = subst (λ (f : SourceFile). IsReportOn names (record { file = f; refused = x.refused.keys }) status report) same is;
+  report = subst (λ (f : SourceFile). IsReportOn IsJudged names (record { file = f; refused = x.refused.keys }) status report) same is;
 }
 
 -- a text that is refused for this fault

@@ -16,7 +16,8 @@ use Rattle.pungi_tree.specs.UnitFlat.{signature_flat, item_flat, items_flat}
 use Rattle.pungi_report.specs.Text.{IsLine, IsPrintable}
 use Rattle.pungi_types.specs.Files.{Definition, definitions}
 use Rattle.pungi_types.specs.Refused.{CheckedFile}
-use Rattle.pungi_verdict.specs.Verdicts.{IsJudged, IsReportable}
+use Rattle.pungi_verdict.specs.Sound.{IsSound}
+use Rattle.pungi_verdict.specs.Verdicts.{IsReportable}
 use Rattle.pungi.specs.Front.{AreKnownKinds}
 
 -- the words of tokens, one after another
@@ -61,11 +62,11 @@ verdict_printable names (verdict.Faulty fault) h = h
 verdict_printable names (verdict.Unknown because) h = subst (λ (w : Why). IsPrintable names (verdict.Unknown w)) (sym h) tt
 verdict_printable names (verdict.Refused at rule) h = tt
 
-printable : (names : List (List ℕ)) (c : CheckedFile) (d : Definition) (line : Name × Verdict) → d.name.0 < length names → IsJudged c d line → IsReportable line.1 → IsLine names line
+printable : (names : List (List ℕ)) (c : CheckedFile) (d : Definition) (line : Name × Verdict) → d.name.0 < length names → IsSound c d line → IsReportable line.1 → IsLine names line
 printable names c d line known judged h = (subst (λ (m : Name). m.0 < length names) (sym judged.0) known, verdict_printable names line.1 h)
 
 lines_printable : (names : List (List ℕ)) (c : CheckedFile) (ds : List Definition) (lines : List (Name × Verdict)) → All (IsNamed (length names)) ds
-    → AllZip (IsJudged c) ds lines → All (λ (line : Name × Verdict). IsReportable line.1) lines → All (IsLine names) lines
+    → AllZip (IsSound c) ds lines → All (λ (line : Name × Verdict). IsReportable line.1) lines → All (IsLine names) lines
 lines_printable names c [] [] known judged h = All-nil (IsLine names)
 lines_printable names c [] (line ∷ lines) known judged h = absurd judged
 lines_printable names c (d ∷ ds) [] known judged h = absurd judged
@@ -74,6 +75,6 @@ lines_printable names c (d ∷ ds) (line ∷ lines) known judged h =
     (lines_printable names c ds lines (λ k e lt. known (suc k) e (omega (arith, lt))) judged.1 (λ k e lt. h (suc k) e (omega (arith, lt))))
 
 pub all_printable : (names : List (List ℕ)) (c : CheckedFile) (lines : List (Name × Verdict)) → AreKnownKinds (length names) (items_flat c.file.items)
-    → AllZip (IsJudged c) (definitions c.file.items) lines → All (λ (line : Name × Verdict). IsReportable line.1) lines → All (IsLine names) lines
+    → AllZip (IsSound c) (definitions c.file.items) lines → All (λ (line : Name × Verdict). IsReportable line.1) lines → All (IsLine names) lines
 all_printable names c lines known judged h =
     lines_printable names c (definitions c.file.items) lines (all_named (length names) c.file.items (known_of (length names) (items_flat c.file.items) known)) judged h

@@ -4,6 +4,7 @@
 --   IsRefusedText text           a file with this text is refused
 --   IsFileText words texts text  the shelf shows its texts, and this is the one of the file that the words name
 --   IsReported status            one of the statuses of a report
+--   HasSoundReport words texts status answer    the answer is a sound report on the file that the words name
 --   Answers words texts unread status answer
 --                                a status other than the two of a cut answer and of want of memory, with the text that
 --                                goes with it. Each status has its cause
@@ -13,7 +14,7 @@ use Rattle.std.specs.Prelude.{◌≡◌, ◌⊎◌, ℕ, ◌≤◌, ◌<◌, Lis
 use Rattle.pungi_base.specs.Witness.{line_end}
 use Rattle.pungi.specs.Limits.{file_limit}
 use Rattle.pungi.specs.Status.{all_clean, some_faulty, some_open, words_refused, file_unread, file_refused}
-use Rattle.pungi.specs.Examine.{IsReport}
+use Rattle.pungi.specs.Examine.{IsReport, IsSoundReport}
 use Rattle.pungi.specs.Front.{IsNoFile, IsRefusedAs}
 use Rattle.pungi.specs.Read.{IsRead}
 use Rattle.pungi.specs.Settings.{file_word}
@@ -39,6 +40,9 @@ IsFileText words (Some texts) text = (file : List ℕ) × (file_word words ≡ S
 
 abbrev pub IsReported : ℕ → Type 0
 IsReported status = (status ≡ all_clean) ⊎ (status ≡ some_faulty) ⊎ (status ≡ some_open)
+
+abbrev pub HasSoundReport : List (List ℕ) → Option (List ℕ → Option (List ℕ)) → ℕ → List ℕ → Type 0
+HasSoundReport words texts status answer = (file : List ℕ) × (text : List ℕ) × (file_word words ≡ Some file) × IsRead texts file text × IsSoundReport text status answer
 
 pub record Answers (words : List (List ℕ)) (texts : Option (List ℕ → Option (List ℕ))) (unread : Type 0) (status : ℕ) (answer : List ℕ) : Type 0 where
   pub one : (status ≡ all_clean) ⊎ (status ≡ some_faulty) ⊎ (status ≡ some_open) ⊎ (status ≡ words_refused) ⊎ (status ≡ file_unread) ⊎ (status ≡ file_refused)

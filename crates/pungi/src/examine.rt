@@ -2,6 +2,7 @@ ghost use Rattle.std.specs.Prelude.{◌≡◌, ◌⊎◌, ◌≤◌, length, IfO
 ghost use Rattle.std.specs.List.{list_any};
 ghost use Rattle.pungi_check.specs.Found.{checked_view, IsChecked};
 ghost use Rattle.pungi_tree.specs.UnitFlat.{items_flat};
+ghost use Rattle.pungi_verdict.specs.Verdicts.{IsJudged};
 ghost use Rattle.pungi.specs.Examine.{IsReport, IsReportOn, is_faulty, is_open, status_of};
 ghost use Rattle.pungi.specs.Front.{AreKnownKinds, IsRefusedAs};
 ghost use Rattle.pungi.specs.Limits.{file_limit};
@@ -66,7 +67,7 @@ fn status(lines: &[(Name, Verdict)]) -> u8
 fn reported(alloc: Global, names: &Names, checked: &Checked<'_>) -> Result<Answer, Memory>
     requires checked { IsChecked checked.now }
     requires known { AreKnownKinds (length names.now) (items_flat (checked_view checked.now).file.items) }
-    ensures { IfOk result (λ a. (a.status ≤ some_open) × IsReportOn names.now (checked_view checked.now) a.status a.text.items) }
+    ensures { IfOk result (λ a. (a.status ≤ some_open) × IsReportOn IsJudged names.now (checked_view checked.now) a.status a.text.items) }
 {
     let lines = judge_all(alloc, checked)?;
     Ok(Answer {

@@ -2,7 +2,7 @@ ghost use Rattle.std.specs.Prelude.{◌≡◌, ◌≢◌, ℕ, ◌≤◌, ◌++�
 ghost use Rattle.pungi_base.specs.Shelf.{Rose};
 ghost use Rattle.pungi_base.specs.Sink.{Takes};
 ghost use Rattle.pungi_tree.specs.Syntax.{Item};
-ghost use Rattle.pungi.specs.Answer.{Answers, IsOpened, IsFileText, IsRefusedText, IsReported};
+ghost use Rattle.pungi.specs.Answer.{Answers, HasSoundReport, IsOpened, IsFileText, IsRefusedText, IsReported};
 ghost use Rattle.pungi.specs.Front.{IsFile};
 ghost use Rattle.pungi.specs.Settings.{file_word};
 ghost use Rattle.pungi.specs.Limits.{file_limit};
@@ -54,6 +54,11 @@ fn decide<F: Shelf>(alloc: Global, words: &[String], shelf: &mut F) -> Result<An
 /// references that escaped. Where it calls one faulty, the printed run is a run of that meaning that returns, and the
 /// printed object is the lowest whose change there differs from its escapes.
 pub fn pungi<F: Shelf, O: Sink>(alloc: Global, words: &[String], shelf: &mut F, out: &mut O) -> u8
+    // Safety: of a function that the report calls clean or faulty it is true.
+    ensures sound { IsReported result → (text : List ℕ)
+        × HasSoundReport (map string_bytes words.now) (F.texts shelf.old) result text
+        × Takes (O.taken out.old) (O.taken out.new) text }
+
     // The status has its cause, and the text that goes with it was written whole.
     ensures answer { result ≢ answer_cut → result ≢ memory_wanted → (text : List ℕ)
         × Answers (map string_bytes words.now) (F.texts shelf.old) (Rose (F.faults shelf.old) (F.faults shelf.new)) result text

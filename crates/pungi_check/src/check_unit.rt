@@ -1,8 +1,9 @@
 //! A unit is checked as a whole, and then function by function.
-ghost use Rattle.std.specs.Prelude.{◌≡◌, ◌+◌, ◌≤◌, None, length, IfOk, IfErr, OnOk, IsTrue, map};
+ghost use Rattle.std.specs.Prelude.{◌≡◌, ◌+◌, ◌≤◌, None, length, IfOk, IfErr, OnOk, IsTrue, map, true};
+ghost use Rattle.std.specs.List.{list_all};
 ghost use Rattle.pungi_check.specs.Duplicates.{faults};
 ghost use Rattle.pungi_check.specs.Faults.{IsFaultOf};
-ghost use Rattle.pungi_check.specs.Found.{IsFound, IsChecked, checked_view};
+ghost use Rattle.pungi_check.specs.Found.{IsFound, IsChecked, checked_view, is_sound_function};
 ghost use Rattle.pungi_check.specs.Graph.{graph_of, node_view};
 ghost use Rattle.pungi_check.specs.declared.fault.UnitFault.TheVariants.{DuplicateName, TooManyFunctions};
 ghost use Rattle.pungi_api.specs.Rows.{are_rows};
@@ -126,6 +127,7 @@ fn find(alloc: Global, names: &UnitNames<'_>, list: &[&FunctionDef]) -> Result<F
     ensures set { IfOk result (λ f. IsRefusedSet (file_of names.now) f.refused.keys) }
     ensures refusals { IfOk result (λ f. f.refusals.items ≡ map (refusal (file_of names.now) f.refused.keys) (definitions (file_of names.now).items)) }
     ensures resolved { IfOk result (λ f. map resolution_view f.resolved.items ≡ map (resolution_of (file_of names.now) f.refused.keys) (definitions (file_of names.now).items)) }
+    ensures sound { IfOk result (λ f. list_all is_sound_function (map resolution_view f.resolved.items) ≡ true) }
 {
     let graph = graph(alloc, names, list)?;
     let refused = refused_set(alloc, names, list, &graph)?;

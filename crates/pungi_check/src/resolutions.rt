@@ -1,5 +1,7 @@
 //! What each function does in which no rule holds.
-ghost use Rattle.std.specs.Prelude.{◌≡◌, Some, IfOk, map};
+ghost use Rattle.std.specs.Prelude.{◌≡◌, Some, IfOk, map, true};
+ghost use Rattle.std.specs.List.{list_all};
+ghost use Rattle.pungi_check.specs.Found.{is_sound_function};
 ghost use Rattle.pungi_declared.specs.DeclaredView.{function_view};
 ghost use Rattle.pungi_names.specs.NamesView.{file_of};
 ghost use Rattle.pungi_resolve.specs.Resolutions.{resolution_of, resolution_view};
@@ -17,7 +19,7 @@ use pungi_tree::FunctionDef;
 use pungi_types::Finding;
 use std::alloc::Global;
 
-/// What a function does, where it has no finding.
+/// What a function does, where it has no finding: each of its words and operators has a meaning.
 fn resolution(
     alloc: Global,
     names: &UnitNames<'_>,
@@ -28,7 +30,8 @@ fn resolution(
     requires own { definition_in (definitions (file_of names.now).items) (definition_view f.now).name.0 ≡ Some (definition_view f.now) }
     requires others { Holds (file_of names.now) refused.now.keys }
     requires found { finding ≡ refusal (file_of names.now) refused.now.keys (definition_view f.now) }
-    ensures { IfOk result (λ r. resolution_view r ≡ resolution_of (file_of names.now) refused.now.keys (definition_view f.now)) }
+    ensures function { IfOk result (λ r. resolution_view r ≡ resolution_of (file_of names.now) refused.now.keys (definition_view f.now)) }
+    ensures sound { IfOk result (λ r. is_sound_function (resolution_view r) ≡ true) }
 {
     if finding.is_some() {
         return Ok(None);
@@ -42,7 +45,7 @@ fn resolution(
     Ok(Some(function))
 }
 
-/// What the functions of a list do, where these are their findings.
+/// What the functions of a list do, where these are their findings. Each word and operator in them has a meaning.
 pub(crate) fn resolutions(
     alloc: Global,
     names: &UnitNames<'_>,
@@ -53,7 +56,8 @@ pub(crate) fn resolutions(
     requires own { AreOwn (definitions (file_of names.now).items) (map function_view list.now) }
     requires others { Holds (file_of names.now) refused.now.keys }
     requires found { refusals.now ≡ map (refusal (file_of names.now) refused.now.keys) (map function_view list.now) }
-    ensures { IfOk result (λ all. map resolution_view all.items ≡ map (resolution_of (file_of names.now) refused.now.keys) (map function_view list.now)) }
+    ensures functions { IfOk result (λ all. map resolution_view all.items ≡ map (resolution_of (file_of names.now) refused.now.keys) (map function_view list.now)) }
+    ensures sound { IfOk result (λ all. list_all is_sound_function (map resolution_view all.items) ≡ true) }
 {
     let mut all = Vec::new(alloc);
     for (i, f) in list.iter().enumerate() {

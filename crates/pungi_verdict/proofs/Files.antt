@@ -1,19 +1,21 @@
 -- The functions of a file, their codes, and the verdicts on them one after another.
-use Rattle.std.proofs.Common.{◌≡◌, ℕ, zero, suc, ◌+◌, ◌<◌, ◌≤◌, arith, List, [], ◌∷◌, ◌++◌, length, get_or, drop, map, option_map, slice_get, Option, Some, None, refl, sym, ap, ◌∙◌, subst, append_assoc, drop-cons}
+use Rattle.std.proofs.Common.{◌≡◌, ℕ, zero, suc, ◌+◌, ◌<◌, ◌≤◌, ◌^◌, true, arith, List, [], ◌∷◌, ◌++◌, length, get_or, drop, map, option_map, slice_get, Option, Some, None, refl, sym, ap, ◌∙◌, subst, append_assoc, drop-cons}
 use Rattle.std.specs.Prelude.{is_some, if◌then◌else◌}
-use Rattle.std.specs.List.{AllZip}
+use Rattle.std.specs.List.{AllZip, list_all}
 use Rattle.std.proofs.lemmas.List.{append-nil, drop_all}
 use Rattle.std.proofs.lemmas.Option.{slice_get-map, slice_get-get_or, get_or_from_slice_get}
 use Rattle.pungi_base.specs.declared.names.Name.{Name}
+use Rattle.pungi_base.specs.declared.pos.Pos.{Pos}
 use Rattle.pungi_base.specs.declared.verdict.Verdict.{Verdict}
 use Rattle.pungi_base.specs.declared.verdict.Verdict.TheVariants as verdict
-use Rattle.pungi_check.specs.Found.{checked_view, IsChecked}
+use Rattle.pungi_check.specs.Found.{checked_view, is_sound_function, IsChecked}
 use Rattle.pungi_check.specs.declared.checked.Checked.{Checked}
 use Rattle.pungi_types.specs.declared.finding.Finding.{Finding}
 use Rattle.pungi_types.specs.Files.{Definition, definitions}
 use Rattle.pungi_types.specs.Functions.{refusal}
 use Rattle.pungi_types.specs.Nodes.{function_nodes}
 use Rattle.pungi_resolve.specs.Functions.{resolved}
+use Rattle.pungi_resolve.specs.Sound.{is_sound_action}
 use Rattle.pungi_resolved.specs.Functions.{ResolvedFunction}
 use Rattle.pungi_resolved.specs.ActionView.{function_view}
 use Rattle.pungi_resolved.specs.declared.function.Function.{Function}
@@ -27,8 +29,12 @@ use Rattle.pungi_layout.specs.code.Codes.{code_for}
 use Rattle.pungi_lower.specs.Lowered.{codes_of, names_of, IsLowered, AreLowered}
 use Rattle.pungi_explore.specs.Explored.{IsFew, IsMany}
 use Rattle.pungi_verdict.specs.Replays.{IsGiven}
-use Rattle.pungi_verdict.specs.Verdicts.{IsRight, IsShown, object_code, statics_of, file_codes, HasFewTraces, HasManyTraces, IsReported, IsVerdict, IsJudged}
-use Rattle.pungi_verdict.proofs.Forms.{object-is}
+use Rattle.pungi_verdict.specs.Causes.{file_codes, object_code, HasFewTraces, HasManyTraces, IsDecided, IsCausedBy, IsCausedIn}
+use Rattle.pungi_verdict.specs.Refusals.{IsRefusedAt}
+use Rattle.pungi_verdict.specs.Sound.{statics_of, IsTrueOf}
+use Rattle.pungi_verdict.specs.Verdicts.{IsJudged}
+use Rattle.pungi_verdict.proofs.Forms.{and-left, and-right, object-is}
+use Rattle.pungi_verdict.proofs.Meaning.{has-meaning}
 
 -- ---- the function and the code of a place
 
@@ -82,6 +88,18 @@ none-there c fs i d same at is none =
     let no : None ≡ Some (resolved c.file c.refused d) = function-is c fs i d None same at is none in
     absurd (cc)
 
+-- each word and operator of the function at a place has a meaning
+sound-among : (fs : List (Option ResolvedFunction)) (i : ℕ) (f : ResolvedFunction) → list_all is_sound_function fs ≡ true → slice_get fs i ≡ Some (Some f) → is_sound_action f.body ≡ true
+sound-among [] i f all at = absurd (cc)
+sound-among (o ∷ fs) zero f all at =
+    let first : is_sound_function o ≡ true = and-left (is_sound_function o) (list_all is_sound_function fs) all in
+    subst (λ (x : Option ResolvedFunction). is_sound_function x ≡ true) (same-some o (Some f) at) first
+sound-among (o ∷ fs) (suc i) f all at = sound-among fs i f (and-right (is_sound_function o) (list_all is_sound_function fs) all) at
+
+pub sound-there : (fs : List (Option Function)) (i : ℕ) (f : Function) → list_all is_sound_function (map resolution_view fs) ≡ true → slice_get fs i ≡ Some (Some f)
+    → is_sound_action (function_view f).body ≡ true
+sound-there fs i f all at = sound-among (map resolution_view fs) i (function_view f) all (mapped-at resolution_view fs i (Some f) at)
+
 -- the code of a place
 pub code-here : (c : CheckedFile) (i : ℕ) (d : Definition) → slice_get (definitions c.file.items) i ≡ Some d → refusal c.file c.refused d ≡ None
     → slice_get (codes_of c) i ≡ Some (code_for (Some (resolved c.file c.refused d)))
@@ -97,45 +115,61 @@ joined-is (Some o) code e = ap (λ (x : Option Code). Some x) e
 -- ---- what is known of a function and its code
 
 pub given : (c : CheckedFile) (codes : Codes) (i : ℕ) (d : Definition) (f : ResolvedFunction) → AreLowered c codes.codes → AreWellFormed codes → slice_get (definitions c.file.items) i ≡ Some d
-    → f ≡ resolved c.file c.refused d → (code : Code) → object_code codes.statics (code_at codes i) ≡ Some code → IsGiven codes.statics f code
-given c codes i d f lowered formed at is code e =
+    → f ≡ resolved c.file c.refused d → is_sound_action f.body ≡ true → codes.statics ≤ 2 ^ 30 + 24
+    → (code : Code) → object_code codes.statics (code_at codes i) ≡ Some code → IsGiven codes.statics f code
+given c codes i d f lowered formed at is words few code e =
     let h = object-is codes.statics (code_at codes i) code e in
     let there : slice_get codes.codes i ≡ Some (Some code) = joined-is (slice_get codes.codes i) code h.0 in
+    let low : IsLowered f (function_nodes d) code = subst (λ (g : ResolvedFunction). IsLowered g (function_nodes d) code) (sym is) (lowered i d code at there) in
     record {
+      meant = has-meaning codes.statics f (function_nodes d) code low h.1 words few;
       nodes = function_nodes d;
-      lowered = subst (λ (g : ResolvedFunction). IsLowered g (function_nodes d) code) (sym is) (lowered i d code at there);
+      lowered = low;
       formed = formed.each i code there;
       object = h.1;
     }
 
 -- ---- verdicts
 
-right-more : (n : ℕ) (f : ResolvedFunction) (few less many more : Type 0) (v : Verdict) → (few → less) → (many → more) → IsRight n f few many v → IsRight n f less more v
-right-more n f few less many more verdict.Clean g k h = (h.0, g h.1)
-right-more n f few less many more (verdict.Faulty fault) g k h = h
-right-more n f few less many more (verdict.Unknown because) g k h = (h.0, k h.1)
-right-more n f few less many more (verdict.Refused at rule) g k h = h
+decided-more : (few less many more : Type 0) (v : Verdict) → (few → less) → (many → more) → IsDecided few many v → IsDecided less more v
+decided-more few less many more verdict.Clean g k h = g h
+decided-more few less many more (verdict.Faulty fault) g k h = tt
+decided-more few less many more (verdict.Unknown because) g k h = (h.0, k h.1)
+decided-more few less many more (verdict.Refused at rule) g k h = h
 
-shown-more : (n : ℕ) (f : ResolvedFunction) (few less many more : Type 0) (o : Option Code) (v : Verdict) → (few → less) → (many → more) → IsShown n f few many o v → IsShown n f less more o v
-shown-more n f few less many more None v g k h = h
-shown-more n f few less many more (Some code) v g k h = right-more n f few less many more v g k h
+caused-more : (few less many more : Type 0) (o : Option Code) (v : Verdict) → (few → less) → (many → more) → IsCausedBy few many o v → IsCausedBy less more o v
+caused-more few less many more None v g k h = h
+caused-more few less many more (Some code) v g k h = decided-more few less many more v g k h
+
+-- what is decided is not refused
+pub decided-stands : (few many : Type 0) (name : Pos) (v : Verdict) → IsDecided few many v → IsRefusedAt name None v
+decided-stands few many name verdict.Clean h = tt
+decided-stands few many name (verdict.Faulty fault) h = tt
+decided-stands few many name (verdict.Unknown because) h = tt
+decided-stands few many name (verdict.Refused at rule) h = absurd h
 
 pub judged-verdict : (c : CheckedFile) (codes : Codes) (i : ℕ) (d : Definition) (f : ResolvedFunction) (v : Verdict) → codes ≡ file_codes c → slice_get (definitions c.file.items) i ≡ Some d
-    → refusal c.file c.refused d ≡ None → f ≡ resolved c.file c.refused d → IsShown codes.statics f (IsFew codes i) (IsMany codes i) (object_code codes.statics (code_at codes i)) v → IsVerdict c d v
-judged-verdict c codes i d f v same at none is h =
+    → refusal c.file c.refused d ≡ None → f ≡ resolved c.file c.refused d → IsTrueOf codes.statics f v → IsRefusedAt f.pos None v
+    → IsCausedBy (IsFew codes i) (IsMany codes i) (object_code codes.statics (code_at codes i)) v → IsJudged c d (d.name, v)
+judged-verdict c codes i d f v same at none is true_of refused caused =
     let g = resolved c.file c.refused d in
     let n = statics_of c in
-    let in_file : IsShown n f (IsFew (file_codes c) i) (IsMany (file_codes c) i) (object_code n (code_at (file_codes c) i)) v =
-    subst (λ (cs : Codes). IsShown cs.statics f (IsFew cs i) (IsMany cs i) (object_code cs.statics (code_at cs i)) v) same h in
-    let of_it : IsShown n g (IsFew (file_codes c) i) (IsMany (file_codes c) i) (object_code n (code_at (file_codes c) i)) v =
-    subst (λ (x : ResolvedFunction). IsShown n x (IsFew (file_codes c) i) (IsMany (file_codes c) i) (object_code n (code_at (file_codes c) i)) v) is in_file in
+    let in_file : IsTrueOf n f v = subst (λ (cs : Codes). IsTrueOf cs.statics f v) same true_of in
+    let sound : IsTrueOf n g v = subst (λ (x : ResolvedFunction). IsTrueOf n x v) is in_file in
+    let at_name : IsRefusedAt d.pos None v = subst (λ (x : ResolvedFunction). IsRefusedAt x.pos None v) is refused in
+    let by_codes : IsCausedBy (IsFew (file_codes c) i) (IsMany (file_codes c) i) (object_code n (code_at (file_codes c) i)) v =
+    subst (λ (cs : Codes). IsCausedBy (IsFew cs i) (IsMany cs i) (object_code cs.statics (code_at cs i)) v) same caused in
     let its_code : code_at (file_codes c) i ≡ code_for (Some g) = ap flatten (code-here c i d at none) in
-    let by_code : IsShown n g (IsFew (file_codes c) i) (IsMany (file_codes c) i) (object_code n (code_for (Some g))) v =
-    subst (λ (o : Option Code). IsShown n g (IsFew (file_codes c) i) (IsMany (file_codes c) i) (object_code n o) v) its_code of_it in
-    let shown : IsShown n g (HasFewTraces c d) (HasManyTraces c d) (object_code n (code_for (Some g))) v =
-    shown-more n g (IsFew (file_codes c) i) (HasFewTraces c d) (IsMany (file_codes c) i) (HasManyTraces c d) (object_code n (code_for (Some g))) v
+    let by_code : IsCausedBy (IsFew (file_codes c) i) (IsMany (file_codes c) i) (object_code n (code_for (Some g))) v =
+    subst (λ (o : Option Code). IsCausedBy (IsFew (file_codes c) i) (IsMany (file_codes c) i) (object_code n o) v) its_code by_codes in
+    let in_it : IsCausedIn c d None v =
+    caused-more (IsFew (file_codes c) i) (HasFewTraces c d) (IsMany (file_codes c) i) (HasManyTraces c d) (object_code n (code_for (Some g))) v
     (λ few. record { place = i; is = at; few = few }) (λ many. record { place = i; is = at; many = many }) by_code in
-    subst (λ (o : Option Finding). IsReported c d o v) (sym none) shown
+    record {
+      sound = (refl, sound);
+      refused = subst (λ (o : Option Finding). IsRefusedAt d.pos o v) (sym none) at_name;
+      caused = subst (λ (o : Option Finding). IsCausedIn c d o v) (sym none) in_it;
+    }
 
 -- the finding of the function at a place
 pub finding-here : (c : CheckedFile) (fs : List (Option Finding)) (i : ℕ) (o : Option Finding) → fs ≡ map (refusal c.file c.refused) (definitions c.file.items) → i < length (definitions c.file.items)
@@ -147,8 +181,12 @@ finding-here c fs i o same lt is d at =
     mapped-at (refusal c.file c.refused) (definitions c.file.items) i d at in
     same-some (refusal c.file c.refused d) o (sym there ∙ ap (λ (l : List (Option Finding)). slice_get l i) (sym same) ∙ here)
 
-pub refused-verdict : (c : CheckedFile) (e : Finding) (d : Definition) → refusal c.file c.refused d ≡ Some e → IsVerdict c d (verdict.Refused e.pos e.rule)
-refused-verdict c e d found = subst (λ (o : Option Finding). IsReported c d o (verdict.Refused e.pos e.rule)) (sym found) refl
+pub refused-verdict : (c : CheckedFile) (e : Finding) (d : Definition) → refusal c.file c.refused d ≡ Some e → IsJudged c d (d.name, verdict.Refused e.pos e.rule)
+refused-verdict c e d found = record {
+  sound = (refl, tt);
+  refused = subst (λ (o : Option Finding). IsRefusedAt d.pos o (verdict.Refused e.pos e.rule)) (sym found) refl;
+  caused = subst (λ (o : Option Finding). IsCausedIn c d o (verdict.Refused e.pos e.rule)) (sym found) tt;
+}
 
 -- the definition at a place
 pub defined-at : (ds : List Definition) (i : ℕ) → i < length ds → (d : Definition) × (slice_get ds i ≡ Some d)
@@ -189,7 +227,7 @@ pub names-long : (ds : List Definition) (names : List Name) → names ≡ map (�
 names-long ds names same = ap (λ (ns : List Name). length ns) same ∙ mapped-long (λ (d : Definition). d.name) ds
 
 pub judged-next : (c : CheckedFile) (names : List Name) (i : ℕ) (n : Name) (v : Verdict) (lines more : List (Name × Verdict)) → names ≡ map (λ (d : Definition). d.name) (definitions c.file.items)
-    → i < length names → slice_get names i ≡ Some n → ((d : Definition) → slice_get (definitions c.file.items) i ≡ Some d → IsVerdict c d v)
+    → i < length names → slice_get names i ≡ Some n → ((d : Definition) → slice_get (definitions c.file.items) i ≡ Some d → IsJudged c d (d.name, v))
     → ((more : List (Name × Verdict)) → AllZip (IsJudged c) (drop i (definitions c.file.items)) more → AllZip (IsJudged c) (definitions c.file.items) (lines ++ more))
     → AllZip (IsJudged c) (drop (i + 1) (definitions c.file.items)) more → AllZip (IsJudged c) (definitions c.file.items) ((lines ++ (n, v) ∷ []) ++ more)
 judged-next c names i n v lines more same lt here right so_far rest =
@@ -198,7 +236,8 @@ judged-next c names i n v lines more same lt here right so_far rest =
     let d = defined-at (definitions c.file.items) i inside in
     let named : n ≡ d.0.name = name-is (definitions c.file.items) names i n d.0 same here d.1 in
     subst (λ (l : List (Name × Verdict)). AllZip (IsJudged c) (definitions c.file.items) l) (sym (append_assoc lines ((n, v) ∷ []) more))
-    (so_far ((n, v) ∷ more) (subst (λ (l : List Definition). AllZip (IsJudged c) l ((n, v) ∷ more)) (sym (left-from (definitions c.file.items) i d.0 inside d.1)) ((named, right d.0 d.1), rest)))
+    (so_far ((n, v) ∷ more) (subst (λ (l : List Definition). AllZip (IsJudged c) l ((n, v) ∷ more)) (sym (left-from (definitions c.file.items) i d.0 inside d.1))
+    (subst (λ (m : Name). IsJudged c d.0 (m, v)) (sym named) (right d.0 d.1), rest)))
 
 -- ---- codes
 

@@ -1,18 +1,20 @@
 -- Codes of the object form.
-use Rattle.std.proofs.Common.{◌≡◌, ℕ, Bool, true, false, length, Option, Some, None, refl, ap, subst, ◌∙◌}
+use Rattle.std.proofs.Common.{◌≡◌, ℕ, Bool, true, false, length, take, Option, Some, None, refl, ap, subst, ◌∙◌}
 use Rattle.std.specs.Prelude.{◌&&◌, ◌==◌, if◌then◌else◌}
+use Rattle.std.specs.List.{list_all}
 use Rattle.std.proofs.lemmas.Bool.Decides.{nat_tests}
 use Rattle.std.proofs.Common.{arith}
 use Rattle.pungi_code.specs.declared.code.Code.{Code}
-use Rattle.pungi_symbol.specs.runs.ObjectForm.{has_object_form}
+use Rattle.pungi_code.specs.declared.code.Line.{Line}
+use Rattle.pungi_symbol.specs.runs.ObjectForm.{is_pointer_param, is_object_instr, has_object_form}
 use Rattle.pungi_verdict.specs.ObjectForm.{has_no_head, has_pointers, are_signed, is_object_code}
-use Rattle.pungi_verdict.specs.Verdicts.{object_code}
+use Rattle.pungi_verdict.specs.Causes.{object_code}
 
-and-left : (a b : Bool) → (a && b) ≡ true → a ≡ true
+pub and-left : (a b : Bool) → (a && b) ≡ true → a ≡ true
 and-left true b e = refl
 and-left false b e = absurd (cc)
 
-and-right : (a b : Bool) → (a && b) ≡ true → b ≡ true
+pub and-right : (a b : Bool) → (a && b) ≡ true → b ≡ true
 and-right true b e = e
 and-right false b e = absurd (cc)
 
@@ -55,3 +57,7 @@ object-none n o code e h =
 
 pub object-missing : (n : ℕ) (o : Option Code) → o ≡ None → object_code n o ≡ None
 object-missing n o e = ap (λ (x : Option Code). object_code n x) e
+
+-- the parameters of a code of the object form are pointers
+pub pointers : (n : ℕ) (code : Code) → is_object_code n code ≡ true → list_all is_pointer_param (take code.params code.vars) ≡ true
+pointers n code e = and-left (list_all is_pointer_param (take code.params code.vars)) (list_all (λ (line : Line). is_object_instr n line.instr) code.instrs) (formed n code e)

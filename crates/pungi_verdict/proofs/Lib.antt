@@ -3,4 +3,7 @@ pub mod Forward
 pub mod Transport
 pub mod Weighed
 pub mod Files
+pub mod Meaning
+pub mod Lines
+pub mod Whole
 pub mod Reportable

@@ -1,44 +1,45 @@
 -- Verdicts that are right can be reported.
-use Rattle.std.proofs.Common.{◌≡◌, ℕ, List, [], ◌∷◌, Option, Some, None, sym, subst}
+use Rattle.std.proofs.Common.{◌≡◌, ℕ, List, [], ◌∷◌, Option, Some, None}
 use Rattle.std.specs.List.{All, AllZip}
 use Rattle.std.proofs.lemmas.List.Elements.{All-cons, All-nil}
 use Rattle.pungi_base.specs.declared.names.Name.{Name}
-use Rattle.pungi_base.specs.declared.pos.Pos.{Pos}
-use Rattle.pungi_base.specs.declared.rule.Rule.{Rule}
 use Rattle.pungi_base.specs.declared.verdict.Verdict.{Verdict}
 use Rattle.pungi_base.specs.declared.verdict.Verdict.TheVariants as verdict
+use Rattle.pungi_base.specs.declared.why.Why.{Why}
+use Rattle.pungi_base.specs.declared.why.Why.TheVariants as why
 use Rattle.pungi_types.specs.declared.finding.Finding.{Finding}
 use Rattle.pungi_types.specs.Files.{Definition}
 use Rattle.pungi_types.specs.Functions.{refusal}
+use Rattle.pungi_types.specs.Refused.{CheckedFile}
 use Rattle.pungi_resolve.specs.Functions.{resolved}
 use Rattle.pungi_resolved.specs.Functions.{ResolvedFunction}
-use Rattle.pungi_types.specs.Refused.{CheckedFile}
 use Rattle.pungi_code.specs.declared.code.Code.{Code}
 use Rattle.pungi_layout.specs.code.Codes.{code_for}
-use Rattle.pungi_verdict.specs.Verdicts.{IsRight, IsShown, object_code, statics_of, HasFewTraces, HasManyTraces, IsReported, IsJudged, IsReportable}
+use Rattle.pungi_verdict.specs.Causes.{object_code, HasFewTraces, HasManyTraces, IsCausedBy, IsCausedIn}
+use Rattle.pungi_verdict.specs.Refusals.{IsRefusedAt}
+use Rattle.pungi_verdict.specs.Sound.{statics_of, IsTrueOf}
+use Rattle.pungi_verdict.specs.Verdicts.{IsJudged, IsReportable}
 
-refused-reportable : (v : Verdict) (at : Pos) (rule : Rule) → v ≡ verdict.Refused at rule → IsReportable v
-refused-reportable v at rule is = subst (λ (x : Verdict). IsReportable x) (sym is) tt
+by-code : (few many : Type 0) (o : Option Code) (because : Why) → IsCausedBy few many o (verdict.Unknown because) → because ≡ why.Traces
+by-code few many None because h = absurd h
+by-code few many (Some code) because h = h.0
 
-right-reportable : (n : ℕ) (f : ResolvedFunction) (few many : Type 0) (v : Verdict) → IsRight n f few many v → IsReportable v
-right-reportable n f few many verdict.Clean right = tt
-right-reportable n f few many (verdict.Faulty fault) right = right.returns.all_used
-right-reportable n f few many (verdict.Unknown because) right = right.0
-right-reportable n f few many (verdict.Refused at rule) right = absurd right
+by-traces : (c : CheckedFile) (d : Definition) (o : Option Finding) (because : Why) → IsRefusedAt d.pos o (verdict.Unknown because) → IsCausedIn c d o (verdict.Unknown because) → because ≡ why.Traces
+by-traces c d (Some e) because refused caused = absurd (cc)
+by-traces c d None because refused caused =
+    by-code (HasFewTraces c d) (HasManyTraces c d) (object_code (statics_of c) (code_for (Some (resolved c.file c.refused d)))) because caused
 
-shown-reportable : (n : ℕ) (f : ResolvedFunction) (few many : Type 0) (o : Option Code) (v : Verdict) → IsShown n f few many o v → IsReportable v
-shown-reportable n f few many None v shown = refused-reportable v f.pos (record { 0 = 0 }) shown
-shown-reportable n f few many (Some code) v shown = right-reportable n f few many v shown
-
-told-reportable : (c : CheckedFile) (d : Definition) (o : Option Finding) (v : Verdict) → IsReported c d o v → IsReportable v
-told-reportable c d (Some e) v told = refused-reportable v e.pos e.rule told
-told-reportable c d None v told =
-    let f = resolved c.file c.refused d in
-    shown-reportable (statics_of c) f (HasFewTraces c d) (HasManyTraces c d) (object_code (statics_of c) (code_for (Some f))) v told
+right-reportable : (c : CheckedFile) (d : Definition) (n : ℕ) (f : ResolvedFunction) (o : Option Finding) (v : Verdict) → IsTrueOf n f v → IsRefusedAt d.pos o v → IsCausedIn c d o v → IsReportable v
+right-reportable c d n f o verdict.Clean true_of refused caused = tt
+right-reportable c d n f o (verdict.Faulty fault) true_of refused caused = true_of.1.returns.all_used
+right-reportable c d n f o (verdict.Unknown because) true_of refused caused = by-traces c d o because refused caused
+right-reportable c d n f o (verdict.Refused at rule) true_of refused caused = tt
 
 pub reportable : (c : CheckedFile) (ds : List Definition) (lines : List (Name × Verdict)) → AllZip (IsJudged c) ds lines → All (λ (line : Name × Verdict). IsReportable line.1) lines
 reportable c [] [] judged = All-nil (λ (line : Name × Verdict). IsReportable line.1)
 reportable c [] (line ∷ lines) judged = absurd judged
 reportable c (d ∷ ds) [] judged = absurd judged
 reportable c (d ∷ ds) (line ∷ lines) judged =
-    All-cons (λ (line : Name × Verdict). IsReportable line.1) line lines (told-reportable c d (refusal c.file c.refused d) line.1 judged.0.1) (reportable c ds lines judged.1)
+    let here = judged.0 in
+    All-cons (λ (line : Name × Verdict). IsReportable line.1) line lines
+    (right-reportable c d (statics_of c) (resolved c.file c.refused d) (refusal c.file c.refused d) line.1 here.sound.1 here.refused here.caused) (reportable c ds lines judged.1)

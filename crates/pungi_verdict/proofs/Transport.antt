@@ -15,7 +15,7 @@ use Rattle.pungi_layout.specs.alike.Correct.{Behaves, first_regs, source, target
 use Rattle.pungi_lower.specs.Lowered.{IsLowered}
 use Rattle.pungi_explore.specs.Explored.{AreBalanced, IsFaultRun}
 use Rattle.pungi_verdict.specs.Replays.{IsUneven}
-use Rattle.pungi_verdict.specs.Verdicts.{IsClean}
+use Rattle.pungi_verdict.specs.Sound.{IsClean}
 use Rattle.pungi_verdict.proofs.Forward.{leads-on, run-over}
 
 returned-over : (e : End) (world : World) (value : Option Value) (p : Pos) (used : List Pos) → e ≡ Returned world value p used → IsOver e

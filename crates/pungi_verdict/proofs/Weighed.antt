@@ -10,7 +10,7 @@ use Rattle.pungi_world.specs.Escapes.{IsBalanced}
 use Rattle.pungi_meaning.specs.Run.{Returned, Stopped, NeedsChoice, OutOfFuel, run_of}
 use Rattle.pungi_code.specs.declared.code.Code.{Code}
 use Rattle.pungi_verdict.specs.Replays.{IsUneven}
-use Rattle.pungi_verdict.specs.Verdicts.{ReportsLowest, IsReturnOf}
+use Rattle.pungi_verdict.specs.Sound.{ReportsLowest, IsReturnOf}
 
 -- ---- a return is one return
 

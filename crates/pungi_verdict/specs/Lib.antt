@@ -1,3 +1,6 @@
+pub mod Sound
+pub mod Refusals
+pub mod Causes
+pub mod Verdicts
 pub mod ObjectForm
 pub mod Replays
-pub mod Verdicts

@@ -1,5 +1,5 @@
 //! The verdicts on the functions of a checked file.
-ghost use Rattle.std.specs.Prelude.{◌≡◌, ◌<◌, ◌+◌, length, map, slice_get, Some, IfOk};
+ghost use Rattle.std.specs.Prelude.{◌≡◌, ◌<◌, ◌+◌, length, map, slice_get, Some, None, IfOk};
 ghost use Rattle.std.specs.List.{All, AllZip};
 ghost use Rattle.pungi_check.specs.Found.{checked_view, IsChecked};
 ghost use Rattle.pungi_code.specs.declared.code.Code.{Code as CodeOf};
@@ -10,7 +10,10 @@ ghost use Rattle.pungi_resolved.specs.ActionView.{function_view};
 ghost use Rattle.pungi_types.specs.Files.{Definition, definitions};
 ghost use Rattle.pungi_explore.specs.Explored.{IsFew, IsMany};
 ghost use Rattle.pungi_verdict.specs.Replays.{IsGiven};
-ghost use Rattle.pungi_verdict.specs.Verdicts.{IsRight, IsShown, object_code, file_codes, IsVerdict, IsJudged, IsReportable};
+ghost use Rattle.pungi_verdict.specs.Causes.{IsCaused, IsCausedBy, IsDecided, object_code, file_codes};
+ghost use Rattle.pungi_verdict.specs.Refusals.{IsRefused, IsRefusedAt};
+ghost use Rattle.pungi_verdict.specs.Sound.{IsSound, IsTrueOf};
+ghost use Rattle.pungi_verdict.specs.Verdicts.{IsJudged, IsReportable};
 
 use crate::object_form::is_object_code;
 use crate::replay::replay;
@@ -32,7 +35,8 @@ fn judge_code(
 ) -> Result<Verdict, Memory>
     requires code { code_at codes.now i ≡ Some code.now }
     requires given { IsGiven codes.now.statics (function_view f.now) code.now }
-    ensures { IfOk result (λ v. IsRight codes.now.statics (function_view f.now) (IsFew codes.now i) (IsMany codes.now i) v) }
+    ensures sound { IfOk result (λ v. IsTrueOf codes.now.statics (function_view f.now) v) }
+    ensures decided { IfOk result (λ v. IsDecided (IsFew codes.now i) (IsMany codes.now i) v) }
 {
     let explored = explore(alloc, codes, i)?;
     match explored {
@@ -50,7 +54,9 @@ fn judge_code(
 fn judge(alloc: Global, codes: &Codes, i: usize, f: &Function) -> Result<Verdict, Memory>
     requires there { i < length codes.now.codes }
     requires given { (code : CodeOf) → object_code codes.now.statics (code_at codes.now i) ≡ Some code → IsGiven codes.now.statics (function_view f.now) code }
-    ensures { IfOk result (λ v. IsShown codes.now.statics (function_view f.now) (IsFew codes.now i) (IsMany codes.now i) (object_code codes.now.statics (code_at codes.now i)) v) }
+    ensures sound { IfOk result (λ v. IsTrueOf codes.now.statics (function_view f.now) v) }
+    ensures refused { IfOk result (λ v. IsRefusedAt (function_view f.now).pos None v) }
+    ensures caused { IfOk result (λ v. IsCausedBy (IsFew codes.now i) (IsMany codes.now i) (object_code codes.now.statics (code_at codes.now i)) v) }
 {
     if let Some(code) = &codes.codes.as_slice()[i] {
         if is_object_code(codes.statics, code) {
@@ -67,7 +73,7 @@ fn verdict(alloc: Global, checked: &Checked<'_>, codes: &Codes, i: usize) -> Res
     requires codes { codes.now ≡ file_codes (checked_view checked.now) }
     requires lowered { AreLowered (checked_view checked.now) codes.now.codes }
     requires formed { AreWellFormed codes.now }
-    ensures { IfOk result (λ v. (d : Definition) → slice_get (definitions (checked_view checked.now).file.items) i ≡ Some d → IsVerdict (checked_view checked.now) d v) }
+    ensures { IfOk result (λ v. (d : Definition) → slice_get (definitions (checked_view checked.now).file.items) i ≡ Some d → IsJudged (checked_view checked.now) d (d.name, v)) }
 {
     match checked.refusals[i] {
         Some(finding) => Ok(Verdict::Refused(finding.pos, finding.rule)),
@@ -118,14 +124,23 @@ fn codes(alloc: Global, checked: &Checked<'_>) -> Result<Codes, Memory>
     Ok(codes)
 }
 
-/// The verdict on each function of a checked file, by its name, in the order of the file. A function in which a rule holds
-/// is refused by the rule. Of the others only those are judged whose code has the object form: a clean one has no run that
-/// returns and isn't balanced, from any entry and with any choices, and at most 16,384 traces; a faulty one has the run
-/// of its fault, which reports the lowest object whose change there differs from its escapes; of one that is neither
-/// there are more than 16,384 traces. Each verdict can be reported.
+/// The verdict on each function of a checked file, by its name, in the order of the file.
 pub fn judge_all(alloc: Global, checked: &Checked<'_>) -> Result<Vec<(Name, Verdict)>, Memory>
     requires { IsChecked checked.now }
-    ensures judged { IfOk result (λ lines. AllZip (IsJudged (checked_view checked.now)) (definitions (checked_view checked.now).file.items) lines.items) }
+
+    // What a verdict says of a function is true: of a clean one each run that returns is balanced, from any entry and
+    // with any choices; of a faulty one the run of its fault is not, and the fault reports the lowest object whose
+    // change there differs from its escapes.
+    ensures sound { IfOk result (λ lines. AllZip (IsSound (checked_view checked.now)) (definitions (checked_view checked.now).file.items) lines.items) }
+
+    // A function in which a rule holds is refused by the rule, and no other is but by rule 0.
+    ensures refused { IfOk result (λ lines. AllZip (IsRefused (checked_view checked.now)) (definitions (checked_view checked.now).file.items) lines.items) }
+
+    // Of those in which no rule holds exactly the ones are judged whose code has the object form. Such a function is
+    // unknown only where it has more than 16,384 traces, and clean only where it has at most so many.
+    ensures caused { IfOk result (λ lines. AllZip (IsCaused (checked_view checked.now)) (definitions (checked_view checked.now).file.items) lines.items) }
+
+    // Each verdict can be reported.
     ensures reportable { IfOk result (λ lines. All (λ line. IsReportable line.1) lines.items) }
 {
     let codes = codes(alloc, checked)?;

@@ -6,7 +6,7 @@ ghost use Rattle.pungi_code.specs.Limits.{most_instructions, steps_an_instructio
 ghost use Rattle.pungi_code.specs.WellFormed.{IsWellFormed};
 ghost use Rattle.pungi_layout.specs.alike.Correct.{Behaves};
 ghost use Rattle.pungi_verdict.specs.Replays.{IsUneven};
-ghost use Rattle.pungi_verdict.specs.Verdicts.{ReportsLowest, IsReturnOf};
+ghost use Rattle.pungi_verdict.specs.Sound.{ReportsLowest, IsReturnOf};
 
 use pungi_base::{Fault, Memory, Pos, Seq, Value, Witness};
 use pungi_code::Code;

@@ -21,6 +21,7 @@ returns-clause-found c =
           ∙ ap (λ (ds : List Definition). map (λ (d : Definition). d.name) ds) c.requires.listed;
       refusals_are = c.in_ok-found.ensures.refusals;
       resolved_are = c.in_ok-found.ensures.resolved;
+      sound = c.in_ok-found.ensures.sound;
       rows = c.requires.rows;
       statics_are = c.in_ok-statics.ensures.counted;
       few_statics = c.in_ok-statics.ensures.few;

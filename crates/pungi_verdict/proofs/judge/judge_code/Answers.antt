@@ -7,11 +7,16 @@ use Rattle.pungi_verdict.proofs.Forms.{flat, formed}
 use Rattle.pungi_verdict.proofs.Transport.{clean, uneven-of, within-of}
 use Rattle.pungi_verdict.proofs.judge.judge_code.Goals as goal
 
-pub returns-in-AllBalanced : goal.returns-in-AllBalanced
-returns-in-AllBalanced c =
+pub returns-in-AllBalanced-clause-sound : goal.returns-in-AllBalanced-clause-sound
+returns-in-AllBalanced-clause-sound c =
     let form : HasForm c.args.codes.now c.args.i c.args.code.now = record { is = c.requires.code; form = formed c.args.codes.now.statics c.args.code.now c.requires.given.object } in
     let shown = subst (λ (e : Explored). IsExplored c.args.codes.now c.args.i e) c.in-AllBalanced.is c.in_ok-explored.ensures.shown in
-    (clean c.args.codes.now.statics (function_view c.args.f.now) c.requires.given.nodes c.args.code.now c.requires.given.lowered (shown c.args.code.now form).0, λ code has. (shown code has).1)
+    (c.requires.given.meant, clean c.args.codes.now.statics (function_view c.args.f.now) c.requires.given.nodes c.args.code.now c.requires.given.lowered (shown c.args.code.now form).0)
+
+pub returns-in-AllBalanced-clause-decided : goal.returns-in-AllBalanced-clause-decided
+returns-in-AllBalanced-clause-decided c =
+    let shown = subst (λ (e : Explored). IsExplored c.args.codes.now c.args.i e) c.in-AllBalanced.is c.in_ok-explored.ensures.shown in
+    λ code has. (shown code has).1
 
 pub replay-requires-clause-within : goal.replay-requires-clause-within
 replay-requires-clause-within c =
@@ -28,5 +33,5 @@ replay-requires-clause-uneven c =
     let shown = subst (λ (e : Explored). IsExplored c.args.codes.now c.args.i e) c.in-Fault.is c.in_ok-explored.ensures.shown in
     uneven-of c.args.codes.now.statics c.args.code.now c.in-Fault.witness (shown c.args.code.now form)
 
-pub returns-in-TooMany : goal.returns-in-TooMany
-returns-in-TooMany c = (refl, subst (λ (e : Explored). IsExplored c.args.codes.now c.args.i e) c.in-TooMany.is c.in_ok-explored.ensures.shown)
+pub returns-in-TooMany-clause-decided : goal.returns-in-TooMany-clause-decided
+returns-in-TooMany-clause-decided c = (refl, subst (λ (e : Explored). IsExplored c.args.codes.now c.args.i e) c.in-TooMany.is c.in_ok-explored.ensures.shown)

@@ -1,12 +1,13 @@
-use Rattle.std.proofs.Common.{◌≡◌, ◌<◌, ℕ, length, slice_get, Option, Some, None, ap, subst, ◌∙◌, arith}
+use Rattle.std.proofs.Common.{◌≡◌, ◌<◌, ◌≤◌, ◌+◌, ◌^◌, ℕ, length, slice_get, Option, Some, None, ap, sym, subst, ◌∙◌, arith}
 use Rattle.pungi_base.specs.declared.verdict.Verdict.{Verdict}
 use Rattle.pungi_base.specs.declared.verdict.Verdict.TheVariants as verdict
 use Rattle.pungi_types.specs.Files.{Definition, definitions}
 use Rattle.pungi_resolved.specs.ActionView.{function_view}
 use Rattle.pungi_resolved.specs.declared.function.Function.{Function}
 use Rattle.pungi_check.specs.Found.{checked_view}
-use Rattle.pungi_verdict.specs.Verdicts.{IsVerdict}
-use Rattle.pungi_verdict.proofs.Files.{at-index, functions-long, function-there, none-there, finding-here, defined-at, same-at, given, judged-verdict, refused-verdict}
+use Rattle.pungi_code.specs.declared.code.Codes.{Codes}
+use Rattle.pungi_verdict.specs.Verdicts.{IsJudged}
+use Rattle.pungi_verdict.proofs.Files.{at-index, functions-long, function-there, none-there, finding-here, defined-at, same-at, sound-there, given, judged-verdict, refused-verdict}
 use Rattle.pungi_verdict.proofs.judge.verdict.Goals as goal
 
 pub returns-in-Some : goal.returns-in-Some
@@ -26,7 +27,10 @@ judge-requires-clause-given c =
     let at = at-index fs c.args.i c.index-in-None.result.now lt c.index-in-None.ensures in
     let its : slice_get fs c.args.i ≡ Some (Some c.in-Some-index.f) = at ∙ ap (λ (o : Option Function). Some o) c.in-Some-index.is in
     let is = function-there view fs c.args.i here.0 c.in-Some-index.f c.requires.checked.resolved_are its here.1 none in
-    given view c.args.codes.now c.args.i here.0 (function_view c.in-Some-index.f) c.requires.lowered c.requires.formed here.1 is
+    let words = sound-there fs c.args.i c.in-Some-index.f c.requires.checked.sound its in
+    let few : c.args.codes.now.statics ≤ 2 ^ 30 + 24 =
+    subst (λ (n : ℕ). n ≤ 2 ^ 30 + 24) (c.requires.checked.statics_are ∙ sym (ap (λ (cs : Codes). cs.statics) c.requires.codes)) c.requires.checked.few_statics in
+    given view c.args.codes.now c.args.i here.0 (function_view c.in-Some-index.f) c.requires.lowered c.requires.formed here.1 is words few
 
 pub unreachable-requires : goal.unreachable-requires
 unreachable-requires c =
@@ -50,4 +54,5 @@ returns-in_ok-judge-in-Some-index c = λ d at.
     let there = at-index fs c.args.i c.index-in-None.result.now lt c.index-in-None.ensures in
     let its : slice_get fs c.args.i ≡ Some (Some c.in-Some-index.f) = there ∙ ap (λ (o : Option Function). Some o) c.in-Some-index.is in
     let is = function-there view fs c.args.i d c.in-Some-index.f c.requires.checked.resolved_are its at none in
-    judged-verdict view c.args.codes.now c.args.i d (function_view c.in-Some-index.f) c.in_ok-judge-in-Some-index.field-0 c.requires.codes at none is c.in_ok-judge-in-Some-index.ensures
+    judged-verdict view c.args.codes.now c.args.i d (function_view c.in-Some-index.f) c.in_ok-judge-in-Some-index.field-0 c.requires.codes at none is
+    c.in_ok-judge-in-Some-index.ensures.sound c.in_ok-judge-in-Some-index.ensures.refused c.in_ok-judge-in-Some-index.ensures.caused

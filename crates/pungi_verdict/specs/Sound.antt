@@ -1,0 +1,75 @@
+-- What a verdict says of a function: that its meaning is clean, or faulty. Nothing here is about how that is found.
+--   HasMeaning n f              each word and operator of a function has a meaning, and there is an entry to it, where there are n static objects
+--   IsClean n f                 each run that returns, from each entry and with each list of choices, returns balanced
+--   ReportsLowest w v fault     where this value is returned in this world, a fault names the lowest object that isn't
+--                               level, with its change and escapes
+--   IsReturnOf f fault          the run of a fault returns, and is not balanced
+--   IsFaultOf n f fault         so does it, from an entry of the function
+--   statics_of c                the static objects of a file
+--   IsTrueOf n f v              what a verdict says of a function: clean and faulty speak of a function with a meaning, and are true of it
+--   IsSound c d line            a line has the name of a function, and what its verdict says of the function is true
+use Rattle.std.specs.Prelude.{◌≡◌, ◌≢◌, ℕ, ◌+◌, ◌<◌, true, List, length, Option}
+use Rattle.pungi_base.specs.declared.choice.Choice.{Choice}
+use Rattle.pungi_base.specs.declared.entry.Entry.{Entry}
+use Rattle.pungi_base.specs.declared.fault.Fault.{Fault}
+use Rattle.pungi_base.specs.Numbers.{static_count}
+use Rattle.pungi_base.specs.declared.names.Name.{Name}
+use Rattle.pungi_base.specs.declared.pos.Pos.{Pos}
+use Rattle.pungi_base.specs.declared.value.Value.{Value}
+use Rattle.pungi_base.specs.declared.verdict.Verdict.{Verdict}
+use Rattle.pungi_base.specs.declared.verdict.Verdict.TheVariants as verdict
+use Rattle.pungi_types.specs.Files.{Definition}
+use Rattle.pungi_types.specs.Names.{type_objects}
+use Rattle.pungi_types.specs.Refused.{CheckedFile}
+use Rattle.pungi_resolve.specs.Functions.{resolved}
+use Rattle.pungi_resolve.specs.Sound.{is_sound_action}
+use Rattle.pungi_resolved.specs.Functions.{ResolvedFunction}
+use Rattle.pungi_world.specs.declared.world.World.{World}
+use Rattle.pungi_world.specs.World.{account_of}
+use Rattle.pungi_world.specs.Escapes.{escaped_of, IsLevel, IsBalanced}
+use Rattle.pungi_meaning.specs.Entries.{entry_fits}
+use Rattle.pungi_meaning.specs.Run.{run_of, Returned}
+
+-- without it no run could return, and each function would be clean
+pub record HasMeaning (n : ℕ) (f : ResolvedFunction) : Type 0 where
+  pub words : is_sound_action f.body ≡ true
+  pub entry : Entry
+  pub fits : entry_fits f.params n entry ≡ true
+
+abbrev pub IsClean : ℕ → ResolvedFunction → Type 0
+IsClean n f = (entry : Entry) → entry_fits f.params n entry ≡ true → (choices : List Choice) (steps : ℕ) (world : World) (value : Option Value) (p : Pos) (used : List Pos)
+    → (run_of f entry choices steps).end ≡ Returned world value p used → IsBalanced world value
+
+pub record ReportsLowest (world : World) (value : Option Value) (fault : Fault) : Type 0 where
+  pub object : fault.object < length world.accounts
+  pub change : fault.change ≡ (account_of world fault.object).change
+  pub escaped : fault.escaped ≡ escaped_of world fault.object value
+  pub differ : fault.change ≢ fault.escaped
+  pub lowest : (k : ℕ) → k < fault.object → IsLevel world value k
+
+-- It returns where the fault says, after each choice was used where the fault says, and the fault names the lowest
+-- object that isn't level.
+pub record IsReturnOf (f : ResolvedFunction) (fault : Fault) : Type 0 where
+  pub steps : ℕ
+  pub world : World
+  pub value : Option Value
+  pub run : (run_of f fault.witness.input fault.witness.choices steps).end ≡ Returned world value fault.pos fault.used
+  pub all_used : length fault.used ≡ length fault.witness.choices
+  pub told : ReportsLowest world value fault
+
+pub record IsFaultOf (n : ℕ) (f : ResolvedFunction) (fault : Fault) : Type 0 where
+  pub entry : entry_fits f.params n fault.witness.input ≡ true
+  pub returns : IsReturnOf f fault
+
+abbrev pub statics_of : CheckedFile → ℕ
+statics_of c = static_count + length (type_objects c.file.items)
+
+-- unknown and refused say nothing of what the function does
+abbrev pub IsTrueOf : ℕ → ResolvedFunction → Verdict → Type 0
+IsTrueOf n f verdict.Clean = HasMeaning n f × IsClean n f
+IsTrueOf n f (verdict.Faulty fault) = HasMeaning n f × IsFaultOf n f fault
+IsTrueOf n f (verdict.Unknown because) = Unit {0}
+IsTrueOf n f (verdict.Refused at rule) = Unit {0}
+
+abbrev pub IsSound : CheckedFile → Definition → Name × Verdict → Type 0
+IsSound c d line = (line.0 ≡ d.name) × IsTrueOf (statics_of c) (resolved c.file c.refused d) line.1
