@@ -1,6 +1,5 @@
-ghost use Rattle.std.specs.Prelude.{◌≡◌, ◌≢◌, ℕ, ◌≤◌, ◌++◌, List, length, map, string_bytes, IfOk, IsNone, OnErr};
+ghost use Rattle.std.specs.Prelude.{◌≡◌, ◌≢◌, ℕ, ◌≤◌, ◌<◌, ◌++◌, List, length, map, string_bytes, IfOk, IsNone, OnErr};
 ghost use Rattle.pungi_base.specs.Shelf.{Rose};
-ghost use Rattle.pungi_base.specs.Sink.{Takes};
 ghost use Rattle.pungi_tree.specs.Syntax.{Item};
 ghost use Rattle.pungi.specs.Answer.{Answers, IsOpened, IsFileText, IsRefusedText, IsReported};
 ghost use Rattle.pungi.specs.Front.{IsFile};
@@ -17,10 +16,10 @@ use std::alloc::Global;
 
 /// What the program returns.
 fn decide<F: Shelf>(alloc: Global, words: &[String], shelf: &mut F) -> Result<Answer, Memory>
-    ensures answer { IfOk result (λ a. Answers (map string_bytes words.now) (F.texts shelf.old) (Rose (F.faults shelf.old) (F.faults shelf.new)) a.status a.text.items) }
+    ensures answer { IfOk result (λ a. Answers (map string_bytes words.now) (F.texts shelf.old) (F.rest shelf.new) (F.gave shelf.new) (F.faults shelf.old) (F.faults shelf.new) a.status a.text.items) }
     ensures asked { IfOk result (λ a. IsOpened (map string_bytes words.now) a.status (F.given shelf.old) (F.given shelf.new)) }
     ensures unasked { OnErr result (IsOpened (map string_bytes words.now) MEMORY_WANTED (F.given shelf.old) (F.given shelf.new)) }
-    ensures later { F.faults shelf.old ≤ F.faults shelf.new }
+    ensures steady { OnErr result (F.faults shelf.new ≡ F.faults shelf.old) }
     ensures texts { F.texts shelf.new ≡ F.texts shelf.old }
 {
     let Some(file) = file_word(words) else {
@@ -30,15 +29,17 @@ fn decide<F: Shelf>(alloc: Global, words: &[String], shelf: &mut F) -> Result<An
             "usage: pungi [--config FILE] FILE.c, or pungi --trial N",
         );
     };
+    // Made first, so that a call that fails never ends in want of memory.
+    let unread = unread_answer(alloc, file)?;
     match shelf.open(alloc, file) {
         Ok(()) => {}
-        Err(OpenFault::Failed) => return unread_answer(alloc, file),
+        Err(OpenFault::Failed) => return Ok(unread),
         Err(OpenFault::Memory) => return Err(Memory),
     }
     let text = match read_opened(alloc, shelf, file) {
         Ok(Reading::Text(text)) => text,
         Ok(Reading::Long) => return message(alloc, FILE_REFUSED, "file refused over 1048576 bytes"),
-        Err(OpenFault::Failed) => return unread_answer(alloc, file),
+        Err(OpenFault::Failed) => return Ok(unread),
         Err(OpenFault::Memory) => return Err(Memory),
     };
     examine(alloc, &text)
@@ -54,30 +55,32 @@ fn decide<F: Shelf>(alloc: Global, words: &[String], shelf: &mut F) -> Result<An
 pub fn pungi<F: Shelf, O: Sink>(alloc: Global, words: &[String], shelf: &mut F, out: &mut O) -> u8
     // The status has its cause, and the text that goes with it was written whole.
     ensures answer { result ≢ ANSWER_CUT → result ≢ MEMORY_WANTED → (text : List ℕ)
-        × Answers (map string_bytes words.now) (F.texts shelf.old) (Rose (F.faults shelf.old) (F.faults shelf.new)) result text
-        × Takes (O.taken out.old) (O.taken out.new) text }
+        × Answers (map string_bytes words.now) (F.texts shelf.old) (F.rest shelf.new) (F.gave shelf.new) (F.faults shelf.old) (F.faults shelf.new) result text
+        × (O.taken out.new ≡ O.taken out.old ++ text) }
 
     // A write failed: the sink's count rose, and a front of the text was taken.
     ensures cut { result ≡ ANSWER_CUT → Rose (O.faults out.old) (O.faults out.new)
         × ((status : ℕ) × (front : List ℕ) × (rest : List ℕ)
-        × Answers (map string_bytes words.now) (F.texts shelf.old) (Rose (F.faults shelf.old) (F.faults shelf.new)) status (front ++ rest)
-        × Takes (O.taken out.old) (O.taken out.new) front) }
+        × Answers (map string_bytes words.now) (F.texts shelf.old) (F.rest shelf.new) (F.gave shelf.new) (F.faults shelf.old) (F.faults shelf.new) status (front ++ rest)
+        × (0 < length rest) × (O.taken out.new ≡ O.taken out.old ++ front)) }
 
-    // For want of memory nothing was written, and no write was tried that failed.
-    ensures memory { result ≡ MEMORY_WANTED → (O.taken out.new ≡ O.taken out.old) × (O.faults out.new ≡ O.faults out.old) }
+    // No write failed otherwise.
+    ensures uncut { result ≢ ANSWER_CUT → O.faults out.new ≡ O.faults out.old }
 
-    // No file was opened but the one that the words name.
+    // For want of memory nothing was written, and no call on the shelf failed.
+    ensures memory { result ≡ MEMORY_WANTED → (O.taken out.new ≡ O.taken out.old) × (F.faults shelf.new ≡ F.faults shelf.old) }
+
+    // The file that the words name was opened, once, or none where nothing is said of it.
     ensures asked { IsOpened (map string_bytes words.now) result (F.given shelf.old) (F.given shelf.new) }
 
     // Where a cause holds, its status comes, unless a call failed or memory ran out.
     ensures words { IsNone (file_word (map string_bytes words.now)) → result ≢ ANSWER_CUT → result ≢ MEMORY_WANTED → result ≡ WORDS_REFUSED }
-    ensures file { (text : List ℕ) → IsFileText (map string_bytes words.now) (F.texts shelf.old) text → IsRefusedText text
+    ensures file { (text : List ℕ) → IsFileText (map string_bytes words.now) (F.texts shelf.old) (F.gave shelf.new) text → IsRefusedText text
         → result ≢ FILE_UNREAD → result ≢ ANSWER_CUT → result ≢ MEMORY_WANTED → result ≡ FILE_REFUSED }
-    ensures judged { (text : List ℕ) → IsFileText (map string_bytes words.now) (F.texts shelf.old) text → length text ≤ FILE_LIMIT
+    ensures judged { (text : List ℕ) → IsFileText (map string_bytes words.now) (F.texts shelf.old) (F.gave shelf.new) text → length text ≤ FILE_LIMIT
         → (names : List (List ℕ)) → (items : List Item) → IsFile text names items
         → result ≢ FILE_UNREAD → result ≢ ANSWER_CUT → result ≢ MEMORY_WANTED → IsReported result }
 
-    ensures later { F.faults shelf.old ≤ F.faults shelf.new }
     ensures texts { F.texts shelf.new ≡ F.texts shelf.old }
 {
     match decide(alloc, words, shelf) {

@@ -1,6 +1,5 @@
 pub mod Names
 pub mod Shelf
-pub mod Sink
 pub mod Token
 pub mod Witness
 pub mod Words
