@@ -43,8 +43,8 @@ sound_report text status bytes is =
       };
     }
 
-pub sound_answer : (words : List (List ℕ)) (texts : Option (List ℕ → Option (List ℕ))) (unread : Type 0) (status : ℕ) (answer : List ℕ) → Answers words texts unread status answer
-    → IsReported status → HasSoundReport words texts status answer
-sound_answer words texts unread status answer a reported =
+pub sound_answer : (words : List (List ℕ)) (texts : Option (List ℕ → Option (List ℕ))) (rest : Option (List ℕ)) (gave : List ℕ) (before after status : ℕ) (answer : List ℕ)
+    → Answers words texts rest gave before after status answer → IsReported status → HasSoundReport words texts rest gave status answer
+sound_answer words texts rest gave before after status answer a reported =
     let r = a.report reported in
-    (r.0, r.1, r.2, r.3, sound_report r.1 status answer r.5)
+    (r.0, r.1, r.2, sound_report gave status answer r.4)

@@ -1,5 +1,6 @@
 -- What is known of the files of the system.
---   left_of opened  what is left to read: nothing where no file was opened, and unknown of one that was
+--   left_of opened  what is left to read: unknown of a file that is open, and nothing where none is, since a file is
+--                   closed at its end
 use Rattle.std.specs.Prelude.{ℕ, List, [], Option, None, Some}
 
 abbrev pub left_of : {A : Type 0} → Option A → Option (List ℕ)

@@ -1,15 +1,22 @@
 -- What was read of a file.
---   IsRead texts file text        the text that was read: where the shelf shows its texts, the one of that name
---   IsReading texts file reading  the text of that name within the limit, or that it is over the limit
-use Rattle.std.specs.Prelude.{◌≡◌, ℕ, ◌≤◌, ◌<◌, List, length, Option, None, Some}
-use Rattle.pungi.specs.Limits.{file_limit}
+--   IsFront texts file bytes       where the shelf shows its texts, the one of that name begins with these bytes
+--   IsWhole texts rest file bytes  the bytes are all of the file: nothing is left to read, and where the shelf shows its
+--                                  texts, they are the one of that name
+--   IsReading texts rest file gave reading
+--                                  the bytes that the shelf gave, which are all of the file and within the limit; or that
+--                                  they are over the limit
+use Rattle.std.specs.Prelude.{◌≡◌, ℕ, ◌≤◌, ◌<◌, List, [], ◌++◌, length, Option, None, Some}
 use Rattle.pungi.specs.declared.read.Reading.{Reading}
 use Rattle.pungi.specs.declared.read.Reading.TheVariants.{Text, Long}
 
-abbrev pub IsRead : Option (List ℕ → Option (List ℕ)) → List ℕ → List ℕ → Type 0
-IsRead None file text = Unit {0}
-IsRead (Some texts) file text = texts file ≡ Some text
+abbrev pub IsFront : Option (List ℕ → Option (List ℕ)) → List ℕ → List ℕ → Type 0
+IsFront None file bytes = Unit {0}
+IsFront (Some texts) file bytes = (behind : List ℕ) × (texts file ≡ Some (bytes ++ behind))
 
-abbrev pub IsReading : Option (List ℕ → Option (List ℕ)) → List ℕ → Reading → Type 0
-IsReading texts file (Text bytes) = IsRead texts file bytes.items × (length bytes.items ≤ file_limit)
-IsReading texts file Long = (text : List ℕ) × IsRead texts file text × (file_limit < length text)
+abbrev pub IsWhole : Option (List ℕ → Option (List ℕ)) → Option (List ℕ) → List ℕ → List ℕ → Type 0
+IsWhole None rest file bytes = rest ≡ Some []
+IsWhole (Some texts) rest file bytes = (rest ≡ Some []) × (texts file ≡ Some bytes)
+
+abbrev pub IsReading : Option (List ℕ → Option (List ℕ)) → Option (List ℕ) → List ℕ → List ℕ → Reading → Type 0
+IsReading texts rest file gave (Text bytes) = (bytes.items ≡ gave) × IsWhole texts rest file gave × (length gave ≤ file_limit)
+IsReading texts rest file gave Long = IsFront texts file gave × (file_limit < length gave)

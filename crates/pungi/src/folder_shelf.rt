@@ -1,16 +1,19 @@
 ghost use Rattle.std.specs.Prelude.{◌≡◌, [], None, Some};
 ghost use Rattle.pungi.specs.FolderShelf.{left_of};
 
-use pungi_base::{Failed, OpenFault, Shelf};
+use pungi_base::{Failed, History, OpenFault, Shelf};
 use std::alloc::Global;
 use std::fs::File;
 use std::io::Read;
 
-/// The files of the system, by their paths. It shows nothing of what they hold.
+/// The files of the system, by their paths. What a file holds is known only as far as it was read. A file is closed at
+/// its end.
 #[derive(Drop)]
 pub struct FolderShelf<'a> {
     files: &'a HostRuntime,
     opened: Option<File>,
+    gave: History,
+    given: History,
     faults: u64,
 }
 
@@ -18,11 +21,15 @@ impl<'a> FolderShelf<'a> {
     /// A shelf that opened no file yet, so that nothing is left to read, and where no call failed.
     pub fn new(files: &'a HostRuntime) -> FolderShelf<'a>
         ensures rest { ⟦<FolderShelf<'a> as Shelf>⟧.rest result ≡ Some [] }
+        ensures gave { ⟦<FolderShelf<'a> as Shelf>⟧.gave result ≡ [] }
+        ensures given { ⟦<FolderShelf<'a> as Shelf>⟧.given result ≡ [] }
         ensures faults { ⟦<FolderShelf<'a> as Shelf>⟧.faults result ≡ 0 }
     {
         FolderShelf {
             files,
             opened: None,
+            gave: History::new(),
+            given: History::new(),
             faults: 0,
         }
     }
@@ -33,14 +40,18 @@ impl Shelf for FolderShelf<'_> {
 
     ghost rest = { λ s. left_of s.opened };
 
-    ghost given = { λ _. None };
+    ghost gave = { λ s. s.gave.bytes };
+
+    ghost given = { λ s. s.given.pieces };
 
     ghost faults = { λ s. s.faults };
 
     fn open(&mut self, _alloc: Global, name: &str) -> Result<(), OpenFault> {
+        self.given.add(name.as_bytes());
         match File::open(self.files, name) {
             Ok(file) => {
                 self.opened = Some(file);
+                self.gave = History::new();
                 Ok(())
             }
             Err(_) => {
@@ -55,7 +66,14 @@ impl Shelf for FolderShelf<'_> {
             return Ok(0);
         };
         match file.read(buf) {
-            Ok(count) => Ok(count),
+            Ok(0) if !buf.is_empty() => {
+                self.opened = None;
+                Ok(0)
+            }
+            Ok(count) => {
+                self.gave.add(&buf[..count]);
+                Ok(count)
+            }
             Err(_) => {
                 self.faults = self.faults.saturating_add(1);
                 Err(Failed)

@@ -1,32 +1,41 @@
-ghost use Rattle.std.specs.Prelude.{◌≡◌, None};
+ghost use Rattle.std.specs.Prelude.{◌≡◌, []};
 
-use pungi_base::{Failed, Sink};
+use pungi_base::{Failed, History, Sink};
 use std::io::{Stdout, Write};
 
-/// The standard output. It shows nothing of the bytes that it took.
+/// The standard output. Of the bytes that the system took it keeps what clauses see.
 #[derive(Drop)]
 pub struct OutSink {
     out: Stdout,
+    taken: History,
     faults: u64,
 }
 
 impl OutSink {
-    /// A sink where no call failed yet.
+    /// A sink that took nothing yet, and where no call failed.
     pub fn new(out: Stdout) -> OutSink
-        ensures { ⟦<OutSink as Sink>⟧.faults result ≡ 0 }
+        ensures taken { ⟦<OutSink as Sink>⟧.taken result ≡ [] }
+        ensures faults { ⟦<OutSink as Sink>⟧.faults result ≡ 0 }
     {
-        OutSink { out, faults: 0 }
+        OutSink {
+            out,
+            taken: History::new(),
+            faults: 0,
+        }
     }
 }
 
 impl Sink for OutSink {
-    ghost taken = { λ _. None };
+    ghost taken = { λ s. s.taken.bytes };
 
     ghost faults = { λ s. s.faults };
 
     fn write(&mut self, piece: &[u8]) -> Result<usize, Failed> {
         match self.out.write(piece) {
-            Ok(count) if count > 0 || piece.is_empty() => Ok(count),
+            Ok(count) if count > 0 || piece.is_empty() => {
+                self.taken.add(&piece[..count]);
+                Ok(count)
+            }
             _ => {
                 self.faults = self.faults.saturating_add(1);
                 Err(Failed)

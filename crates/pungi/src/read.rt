@@ -1,4 +1,4 @@
-ghost use Rattle.std.specs.Prelude.{◌≡◌, ◌≤◌, vec_len, IfOk, Err};
+ghost use Rattle.std.specs.Prelude.{◌≡◌, [], vec_len, IfOk, Err};
 ghost use Rattle.pungi_base.specs.Shelf.{Rose, Opens};
 ghost use Rattle.pungi.specs.Read.{IsReading};
 
@@ -29,10 +29,11 @@ fn room(alloc: Global, size: usize) -> Result<Vec<u8>, AllocError>
 
 /// Reads the opened text of a name, to its end or until it is over the limit.
 pub fn read_opened<F: Shelf>(alloc: Global, shelf: &mut F, name: &str) -> Result<Reading, OpenFault>
-    requires { Opens (F.texts shelf.old) name.now (F.rest shelf.old) }
-    ensures ok { IfOk result (IsReading (F.texts shelf.old) name.now) }
+    requires opened { Opens (F.texts shelf.old) name.now (F.rest shelf.old) }
+    requires unread { F.gave shelf.old ≡ [] }
+    ensures ok { IfOk result (IsReading (F.texts shelf.old) (F.rest shelf.new) name.now (F.gave shelf.new)) }
+    ensures steady { (result ≡ Err OpenFault.Failed → ⊥) → F.faults shelf.new ≡ F.faults shelf.old }
     ensures failed { result ≡ Err OpenFault.Failed → Rose (F.faults shelf.old) (F.faults shelf.new) }
-    ensures later { F.faults shelf.old ≤ F.faults shelf.new }
     ensures texts { F.texts shelf.new ≡ F.texts shelf.old }
     ensures given { F.given shelf.new ≡ F.given shelf.old }
 {

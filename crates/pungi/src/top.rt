@@ -1,6 +1,5 @@
-ghost use Rattle.std.specs.Prelude.{◌≡◌, ◌≢◌, ℕ, ◌≤◌, ◌++◌, List, length, map, string_bytes, IfOk, IsNone, OnErr};
+ghost use Rattle.std.specs.Prelude.{◌≡◌, ◌≢◌, ℕ, ◌≤◌, ◌<◌, ◌++◌, List, length, map, string_bytes, IfOk, IsNone, OnErr};
 ghost use Rattle.pungi_base.specs.Shelf.{Rose};
-ghost use Rattle.pungi_base.specs.Sink.{Takes};
 ghost use Rattle.pungi_tree.specs.Syntax.{Item};
 ghost use Rattle.pungi.specs.Answer.{Answers, HasSoundReport, IsOpened, IsFileText, IsRefusedText, IsReported};
 ghost use Rattle.pungi.specs.Front.{IsFile};
@@ -19,10 +18,10 @@ use std::alloc::Global;
 
 /// What the program returns.
 fn decide<F: Shelf>(alloc: Global, words: &[String], shelf: &mut F) -> Result<Answer, Memory>
-    ensures answer { IfOk result (λ a. Answers (map string_bytes words.now) (F.texts shelf.old) (Rose (F.faults shelf.old) (F.faults shelf.new)) a.status a.text.items) }
+    ensures answer { IfOk result (λ a. Answers (map string_bytes words.now) (F.texts shelf.old) (F.rest shelf.new) (F.gave shelf.new) (F.faults shelf.old) (F.faults shelf.new) a.status a.text.items) }
     ensures asked { IfOk result (λ a. IsOpened (map string_bytes words.now) a.status (F.given shelf.old) (F.given shelf.new)) }
     ensures unasked { OnErr result (IsOpened (map string_bytes words.now) memory_wanted (F.given shelf.old) (F.given shelf.new)) }
-    ensures later { F.faults shelf.old ≤ F.faults shelf.new }
+    ensures steady { OnErr result (F.faults shelf.new ≡ F.faults shelf.old) }
     ensures texts { F.texts shelf.new ≡ F.texts shelf.old }
 {
     let Some(file) = file_word(words) else {
@@ -32,15 +31,17 @@ fn decide<F: Shelf>(alloc: Global, words: &[String], shelf: &mut F) -> Result<An
             "usage: pungi [--config FILE] FILE.c, or pungi --trial N",
         );
     };
+    // Made first, so that a call that fails never ends in want of memory.
+    let unread = unread_answer(alloc, file)?;
     match shelf.open(alloc, file) {
         Ok(()) => {}
-        Err(OpenFault::Failed) => return unread_answer(alloc, file),
+        Err(OpenFault::Failed) => return Ok(unread),
         Err(OpenFault::Memory) => return Err(Memory),
     }
     let text = match read_opened(alloc, shelf, file) {
         Ok(Reading::Text(text)) => text,
         Ok(Reading::Long) => return message(alloc, FILE_REFUSED, "file refused over 1048576 bytes"),
-        Err(OpenFault::Failed) => return unread_answer(alloc, file),
+        Err(OpenFault::Failed) => return Ok(unread),
         Err(OpenFault::Memory) => return Err(Memory),
     };
     examine(alloc, &text)
@@ -56,35 +57,37 @@ fn decide<F: Shelf>(alloc: Global, words: &[String], shelf: &mut F) -> Result<An
 pub fn pungi<F: Shelf, O: Sink>(alloc: Global, words: &[String], shelf: &mut F, out: &mut O) -> u8
     // Safety: of a function that the report calls clean or faulty it is true.
     ensures sound { IsReported result → (text : List ℕ)
-        × HasSoundReport (map string_bytes words.now) (F.texts shelf.old) result text
-        × Takes (O.taken out.old) (O.taken out.new) text }
+        × HasSoundReport (map string_bytes words.now) (F.texts shelf.old) (F.rest shelf.new) (F.gave shelf.new) result text
+        × (O.taken out.new ≡ O.taken out.old ++ text) }
 
     // The status has its cause, and the text that goes with it was written whole.
     ensures answer { result ≢ answer_cut → result ≢ memory_wanted → (text : List ℕ)
-        × Answers (map string_bytes words.now) (F.texts shelf.old) (Rose (F.faults shelf.old) (F.faults shelf.new)) result text
-        × Takes (O.taken out.old) (O.taken out.new) text }
+        × Answers (map string_bytes words.now) (F.texts shelf.old) (F.rest shelf.new) (F.gave shelf.new) (F.faults shelf.old) (F.faults shelf.new) result text
+        × (O.taken out.new ≡ O.taken out.old ++ text) }
 
     // A write failed: the sink's count rose, and a front of the text was taken.
     ensures cut { result ≡ answer_cut → Rose (O.faults out.old) (O.faults out.new)
         × ((status : ℕ) × (front : List ℕ) × (rest : List ℕ)
-        × Answers (map string_bytes words.now) (F.texts shelf.old) (Rose (F.faults shelf.old) (F.faults shelf.new)) status (front ++ rest)
-        × Takes (O.taken out.old) (O.taken out.new) front) }
+        × Answers (map string_bytes words.now) (F.texts shelf.old) (F.rest shelf.new) (F.gave shelf.new) (F.faults shelf.old) (F.faults shelf.new) status (front ++ rest)
+        × (0 < length rest) × (O.taken out.new ≡ O.taken out.old ++ front)) }
 
-    // For want of memory nothing was written, and no write was tried that failed.
-    ensures memory { result ≡ memory_wanted → (O.taken out.new ≡ O.taken out.old) × (O.faults out.new ≡ O.faults out.old) }
+    // No write failed otherwise.
+    ensures uncut { result ≢ answer_cut → O.faults out.new ≡ O.faults out.old }
 
-    // No file was opened but the one that the words name.
+    // For want of memory nothing was written, and no call on the shelf failed.
+    ensures memory { result ≡ memory_wanted → (O.taken out.new ≡ O.taken out.old) × (F.faults shelf.new ≡ F.faults shelf.old) }
+
+    // The file that the words name was opened, once, or none where nothing is said of it.
     ensures asked { IsOpened (map string_bytes words.now) result (F.given shelf.old) (F.given shelf.new) }
 
     // Where a cause holds, its status comes, unless a call failed or memory ran out.
     ensures words { IsNone (file_word (map string_bytes words.now)) → result ≢ answer_cut → result ≢ memory_wanted → result ≡ words_refused }
-    ensures file { (text : List ℕ) → IsFileText (map string_bytes words.now) (F.texts shelf.old) text → IsRefusedText text
+    ensures file { (text : List ℕ) → IsFileText (map string_bytes words.now) (F.texts shelf.old) (F.gave shelf.new) text → IsRefusedText text
         → result ≢ file_unread → result ≢ answer_cut → result ≢ memory_wanted → result ≡ file_refused }
-    ensures judged { (text : List ℕ) → IsFileText (map string_bytes words.now) (F.texts shelf.old) text → length text ≤ file_limit
+    ensures judged { (text : List ℕ) → IsFileText (map string_bytes words.now) (F.texts shelf.old) (F.gave shelf.new) text → length text ≤ file_limit
         → (names : List (List ℕ)) → (items : List Item) → IsFile text names items
         → result ≢ file_unread → result ≢ answer_cut → result ≢ memory_wanted → IsReported result }
 
-    ensures later { F.faults shelf.old ≤ F.faults shelf.new }
     ensures texts { F.texts shelf.new ≡ F.texts shelf.old }
 {
     match decide(alloc, words, shelf) {

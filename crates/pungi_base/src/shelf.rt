@@ -1,6 +1,6 @@
-ghost use Rattle.std.specs.Prelude.{◌≡◌, ℕ, ◌≤◌, ◌∷◌, [], ◌++◌, List, length, OnOk, OnErr, IfOk, IsErrOf, Option, option_map};
+ghost use Rattle.std.specs.Prelude.{◌≡◌, ℕ, ◌≤◌, ◌<◌, ◌∷◌, [], ◌++◌, List, length, OnOk, OnErr, IfOk, Option, Some};
 ghost use Rattle.std.specs.Io.KnownBytes.{ReadConsumes};
-ghost use Rattle.pungi_base.specs.Shelf.{Rose, Opens};
+ghost use Rattle.pungi_base.specs.Shelf.{Rose, Grew, Opens};
 ghost use Rattle.pungi_base.specs.declared.shelf.OpenFault.TheVariants.{Memory as OpenMemory};
 
 use std::alloc::{AllocError, AllocFailed, Global};
@@ -42,28 +42,34 @@ pub trait Shelf {
     /// What is left of the opened text, where it is known.
     ghost rest: { Self → Option (List ℕ) };
 
-    /// The names that `open` was given so far, where they are known.
-    ghost given: { Self → Option (List (List ℕ)) };
+    /// The bytes that `read` gave since a text was opened last.
+    ghost gave: { Self → List ℕ };
+
+    /// The names that `open` was given so far.
+    ghost given: { Self → List (List ℕ) };
 
     /// How often a call failed. At most 2^64 - 1.
     ghost faults: { Self → ℕ };
 
     /// Opens the text of a name.
     fn open(&mut self, alloc: Global, name: &str) -> Result<(), OpenFault>
-        ensures ok { OnOk result (Opens (texts self.old) name.now (rest self.new)) }
-        ensures err { OnErr result (rest self.new ≡ rest self.old) }
-        ensures given { (result ≡ Err OpenFault.Memory → ⊥) → given self.new ≡ option_map (λ names. names ++ name.now ∷ []) (given self.old) }
-        ensures memory { result ≡ Err OpenFault.Memory → (given self.new ≡ given self.old) × (faults self.new ≡ faults self.old) }
+        ensures ok { OnOk result (Opens (texts self.old) name.now (rest self.new) × (gave self.new ≡ [])) }
+        ensures err { OnErr result ((rest self.new ≡ rest self.old) × (gave self.new ≡ gave self.old)) }
+        ensures given { (result ≡ Err OpenFault.Memory → ⊥) → given self.new ≡ given self.old ++ name.now ∷ [] }
+        ensures memory { result ≡ Err OpenFault.Memory → given self.new ≡ given self.old }
         ensures texts { texts self.new ≡ texts self.old }
-        ensures later { faults self.old ≤ faults self.new }
+        ensures steady { (result ≡ Err OpenFault.Failed → ⊥) → faults self.new ≡ faults self.old }
         ensures failed { result ≡ Err OpenFault.Failed → Rose (faults self.old) (faults self.new) };
 
-    /// Copies the next bytes into the front of the buffer, and returns how many.
+    /// Copies the next bytes into the front of the buffer, and returns how many. None where the buffer has room means
+    /// that nothing is left.
     fn read(&mut self, buf: &mut [u8]) -> Result<usize, Failed>
         ensures within { IfOk result (λ count. count ≤ length buf.new) }
         ensures bytes { ReadConsumes (rest self.old) (rest self.new) result buf.new }
+        ensures gave { Grew (gave self.old) (gave self.new) result buf.new }
+        ensures end { IfOk result (λ count. count ≡ 0 → 0 < length buf.new → rest self.new ≡ Some []) }
         ensures given { given self.new ≡ given self.old }
         ensures texts { texts self.new ≡ texts self.old }
-        ensures later { faults self.old ≤ faults self.new }
+        ensures steady { OnOk result (faults self.new ≡ faults self.old) }
         ensures failed { OnErr result (Rose (faults self.old) (faults self.new)) };
 }

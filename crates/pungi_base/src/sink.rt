@@ -1,13 +1,12 @@
-ghost use Rattle.std.specs.Prelude.{◌≡◌, ℕ, ◌≤◌, ◌<◌, List, length, OnErr, IfOk, Option};
-ghost use Rattle.pungi_base.specs.Shelf.{Rose};
-ghost use Rattle.pungi_base.specs.Sink.{WriteTakes};
+ghost use Rattle.std.specs.Prelude.{◌≡◌, ℕ, ◌≤◌, ◌<◌, List, length, OnOk, OnErr, IfOk};
+ghost use Rattle.pungi_base.specs.Shelf.{Rose, Grew};
 
 use crate::Failed;
 
 /// Where bytes are written to.
 pub trait Sink {
-    /// The bytes taken so far, where they are known.
-    ghost taken: { Self → Option (List ℕ) };
+    /// The bytes taken so far.
+    ghost taken: { Self → List ℕ };
 
     /// How often a call failed. At most 2^64 - 1.
     ghost faults: { Self → ℕ };
@@ -16,7 +15,7 @@ pub trait Sink {
     fn write(&mut self, piece: &[u8]) -> Result<usize, Failed>
         ensures within { IfOk result (λ count. count ≤ length piece.now) }
         ensures some { IfOk result (λ count. 0 < length piece.now → 0 < count) }
-        ensures bytes { WriteTakes (taken self.old) (taken self.new) result piece.now }
-        ensures later { faults self.old ≤ faults self.new }
+        ensures bytes { Grew (taken self.old) (taken self.new) result piece.now }
+        ensures steady { OnOk result (faults self.new ≡ faults self.old) }
         ensures failed { OnErr result (Rose (faults self.old) (faults self.new)) };
 }

@@ -2,11 +2,13 @@
 --   text_named texts name     the text of a name among pairs of names and texts
 --   pair_of t, pairs_of texts such pairs, as contracts read them
 --   left_at texts i from      what is left of the text at a place, and nothing past the last text
---   ShelfState                its texts, the calls that fail, how many calls and faults came, the names given, and what is left to read
+--   ShelfState                its texts, the calls that fail, how many calls and faults came, the names given, what is left to read, and what
+--                             was read since a text was opened last
 --   open_fails s name         an open fails at its call, or where the name isn't there
---   shelf_gave s name         the name counts as given
+--   shelf_asked s name        the name counts as given
 --   shelf_failed s            after a call that failed
---   shelf_left s rest         after a call that leaves this to read
+--   shelf_opened s rest       after an open that leaves this to read
+--   shelf_read s piece rest   after a read that gave a piece and leaves this to read
 use Rattle.std.specs.Prelude.{ℕ, Bool, ◌||◌, List, [], ◌∷◌, ◌++◌, drop, map, slice_get, Option, None, Some, is_none, if◌then◌else◌, String, Vec, string_bytes}
 use Rattle.std.specs.Option.{option_map_or}
 use Rattle.std.specs.declared.alloc.Global.{Global}
@@ -33,15 +35,19 @@ pub record ShelfState : Type 0 where
   pub faults : ℕ
   pub given : List (List ℕ)
   pub rest : List ℕ
+  pub gave : List ℕ
 
 abbrev pub open_fails : ShelfState → List ℕ → Bool
 open_fails s name = is_failing s.failing s.calls || is_none (text_named s.texts name)
 
-abbrev pub shelf_gave : ShelfState → List ℕ → ShelfState
-shelf_gave s name = record s { given = s.given ++ name ∷ [] }
+abbrev pub shelf_asked : ShelfState → List ℕ → ShelfState
+shelf_asked s name = record s { given = s.given ++ name ∷ [] }
 
 abbrev pub shelf_failed : ShelfState → ShelfState
 shelf_failed s = record s { calls = next_call s.calls; faults = next_call s.faults }
 
-abbrev pub shelf_left : ShelfState → List ℕ → ShelfState
-shelf_left s rest = record s { calls = next_call s.calls; rest = rest }
+abbrev pub shelf_opened : ShelfState → List ℕ → ShelfState
+shelf_opened s rest = record s { calls = next_call s.calls; rest = rest; gave = [] }
+
+abbrev pub shelf_read : ShelfState → List ℕ → List ℕ → ShelfState
+shelf_read s piece rest = record s { calls = next_call s.calls; rest = rest; gave = s.gave ++ piece }

@@ -1,5 +1,5 @@
 -- A shelf in memory that never fails, as its callers see it.
---   SureState               its texts, the names given, and what is left to read
+--   SureState               its texts, the names given, what is left to read, and what was read since a text was opened last
 --   sure_text texts name    each name has a text: its own, or the empty one
 use Rattle.std.specs.Prelude.{ℕ, List, [], Option, Some, unwrap_or}
 use Rattle.pungi_in_memory.specs.MemShelf.{text_named}
@@ -8,6 +8,7 @@ pub record SureState : Type 0 where
   pub texts : List (List ℕ × List ℕ)
   pub given : List (List ℕ)
   pub rest : List ℕ
+  pub gave : List ℕ
 
 abbrev pub sure_text : List (List ℕ × List ℕ) → List ℕ → Option (List ℕ)
 sure_text texts name = Some (unwrap_or (text_named texts name) [])

@@ -1,11 +1,11 @@
-ghost use Rattle.std.specs.Prelude.{◌≡◌, ◌≤◌, ◌<◌, ◌+◌, ◌^◌, ℕ, [], ◌∷◌, ◌++◌, List, length, take, drop, min, IfOk, IfErr, OnErr, OnOk, MatchOption, MatchResult, Some, None, true, false, is_err, option_map, Err, slice_get};
+ghost use Rattle.std.specs.Prelude.{◌≡◌, ◌≤◌, ◌<◌, ◌+◌, ◌^◌, ℕ, [], ◌∷◌, ◌++◌, List, length, take, drop, min, IfOk, IfErr, OnErr, OnOk, MatchOption, MatchResult, Some, None, true, false, is_err, Err, slice_get};
 ghost use Rattle.std.specs.Io.KnownBytes.{ReadConsumes};
 ghost use Rattle.std.specs.Option.{option_map_or};
-ghost use Rattle.pungi_base.specs.Shelf.{Rose, Opens};
-ghost use Rattle.pungi_in_memory.specs.MemShelf.{ShelfState, text_named, pairs_of, left_at, open_fails, shelf_failed, shelf_gave, shelf_left};
+ghost use Rattle.pungi_base.specs.Shelf.{Rose, Grew, Opens};
+ghost use Rattle.pungi_in_memory.specs.MemShelf.{ShelfState, text_named, pairs_of, left_at, open_fails, shelf_asked, shelf_failed, shelf_opened, shelf_read};
 ghost use Rattle.pungi_in_memory.specs.Calls.{is_failing};
 
-use pungi_base::{Failed, OpenFault, Shelf};
+use pungi_base::{Failed, History, OpenFault, Shelf};
 use std::alloc::Global;
 use std::marker::Model;
 
@@ -19,6 +19,7 @@ pub struct MemShelf {
     given: Vec<Vec<u8>>,
     opened: usize,
     at: usize,
+    gave: History,
 }
 
 impl Model for MemShelf {
@@ -27,7 +28,7 @@ impl Model for MemShelf {
 
     ghost Value = { ShelfState };
 
-    ghost view = { λ s. record { texts = pairs_of s.texts.items; failing = s.failing.items; calls = s.calls; faults = s.faults; given = map (λ n. n.items) s.given.items; rest = left_at s.texts.items s.opened s.at } };
+    ghost view = { λ s. record { texts = pairs_of s.texts.items; failing = s.failing.items; calls = s.calls; faults = s.faults; given = map (λ n. n.items) s.given.items; rest = left_at s.texts.items s.opened s.at; gave = s.gave.bytes } };
 }
 
 /// The place of the text of a name.
@@ -74,7 +75,7 @@ pub(crate) fn copy_front(rest: &[u8], buf: &mut [u8]) -> usize
 impl MemShelf {
     /// A shelf with these texts by their names, of which the calls with these numbers fail, counted from 1.
     pub fn new(alloc: Global, texts: Vec<(String, Vec<u8>)>, failing: Vec<u64>) -> MemShelf
-        ensures { result ≡ record { texts = pairs_of texts.items; failing = failing.items; calls = 0; faults = 0; given = []; rest = [] } }
+        ensures { result ≡ record { texts = pairs_of texts.items; failing = failing.items; calls = 0; faults = 0; given = []; rest = []; gave = [] } }
     {
         let opened = texts.len();
         MemShelf {
@@ -85,6 +86,7 @@ impl MemShelf {
             given: Vec::new(alloc),
             opened,
             at: 0,
+            gave: History::new(),
         }
     }
 }
@@ -94,23 +96,25 @@ impl Shelf for MemShelf {
 
     ghost rest = { λ s. Some s.rest };
 
-    ghost given = { λ s. Some s.given };
+    ghost gave = { λ s. s.gave };
+
+    ghost given = { λ s. s.given };
 
     ghost faults = { λ s. s.faults };
 
     fn open(&mut self, alloc: Global, name: &str) -> Result<(), OpenFault>
-        ensures ok { OnOk result (Opens (Some (text_named self.old.texts)) name.now (Some self.new.rest)) }
-        ensures err { OnErr result (Some self.new.rest ≡ Some self.old.rest) }
-        ensures given { (result ≡ Err OpenFault.Memory → ⊥) → Some self.new.given ≡ option_map (λ names. names ++ name.now ∷ []) (Some self.old.given) }
-        ensures memory { result ≡ Err OpenFault.Memory → (Some self.new.given ≡ Some self.old.given) × (self.new.faults ≡ self.old.faults) }
+        ensures ok { OnOk result (Opens (Some (text_named self.old.texts)) name.now (Some self.new.rest) × (self.new.gave ≡ [])) }
+        ensures err { OnErr result ((Some self.new.rest ≡ Some self.old.rest) × (self.new.gave ≡ self.old.gave)) }
+        ensures given { (result ≡ Err OpenFault.Memory → ⊥) → self.new.given ≡ self.old.given ++ name.now ∷ [] }
+        ensures memory { result ≡ Err OpenFault.Memory → self.new.given ≡ self.old.given }
         ensures texts { Some (text_named self.new.texts) ≡ Some (text_named self.old.texts) }
-        ensures later { self.old.faults ≤ self.new.faults }
+        ensures steady { (result ≡ Err OpenFault.Failed → ⊥) → self.new.faults ≡ self.old.faults }
         ensures failed { result ≡ Err OpenFault.Failed → Rose self.old.faults self.new.faults }
 
         ensures exact { OnOk result (open_fails self.old name.now ≡ false) }
         ensures fails { result ≡ Err OpenFault.Failed → open_fails self.old name.now ≡ true }
-        ensures opened { OnOk result (self.new ≡ shelf_left (shelf_gave self.old name.now) self.new.rest) }
-        ensures refused { result ≡ Err OpenFault.Failed → self.new ≡ shelf_failed (shelf_gave self.old name.now) }
+        ensures opened { OnOk result (self.new ≡ shelf_opened (shelf_asked self.old name.now) self.new.rest) }
+        ensures refused { result ≡ Err OpenFault.Failed → self.new ≡ shelf_failed (shelf_asked self.old name.now) }
         ensures unchanged { result ≡ Err OpenFault.Memory → self.new ≡ self.old }
     {
         let given = Vec::from_slice(alloc, name.as_bytes())?;
@@ -128,6 +132,7 @@ impl Shelf for MemShelf {
             Some(place) => {
                 self.opened = place;
                 self.at = 0;
+                self.gave = History::new();
                 Ok(())
             }
         }
@@ -136,15 +141,17 @@ impl Shelf for MemShelf {
     fn read(&mut self, buf: &mut [u8]) -> Result<usize, Failed>
         ensures within { IfOk result (λ count. count ≤ length buf.new) }
         ensures bytes { ReadConsumes (Some self.old.rest) (Some self.new.rest) result buf.new }
-        ensures given { Some self.new.given ≡ Some self.old.given }
+        ensures gave { Grew self.old.gave self.new.gave result buf.new }
+        ensures end { IfOk result (λ count. count ≡ 0 → 0 < length buf.new → Some self.new.rest ≡ Some []) }
+        ensures given { self.new.given ≡ self.old.given }
         ensures texts { Some (text_named self.new.texts) ≡ Some (text_named self.old.texts) }
-        ensures later { self.old.faults ≤ self.new.faults }
+        ensures steady { OnOk result (self.new.faults ≡ self.old.faults) }
         ensures failed { OnErr result (Rose self.old.faults self.new.faults) }
 
         ensures fails { is_err result ≡ is_failing self.old.failing self.old.calls }
         ensures err { OnErr result (self.new ≡ shelf_failed self.old) }
         ensures count { IfOk result (λ count. count ≡ min (length buf.old) (length self.old.rest)) }
-        ensures left { IfOk result (λ count. self.new ≡ shelf_left self.old (drop count self.old.rest)) }
+        ensures left { IfOk result (λ count. self.new ≡ shelf_read self.old (take count buf.new) (drop count self.old.rest)) }
     {
         self.calls = self.calls.saturating_add(1);
         if self.failing.contains(&self.calls) {
@@ -152,6 +159,7 @@ impl Shelf for MemShelf {
             return Err(Failed);
         }
         let count = copy_front(rest_of(&self.texts, self.opened, self.at), buf);
+        self.gave.add(&buf[..count]);
         self.at += count;
         Ok(count)
     }

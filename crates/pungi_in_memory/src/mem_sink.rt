@@ -1,6 +1,5 @@
-ghost use Rattle.std.specs.Prelude.{◌≡◌, ◌≤◌, ◌<◌, ◌+◌, ℕ, [], List, length, take, IfOk, OnErr, OnOk, Some, is_err, OnErr};
-ghost use Rattle.pungi_base.specs.Shelf.{Rose};
-ghost use Rattle.pungi_base.specs.Sink.{WriteTakes};
+ghost use Rattle.std.specs.Prelude.{◌≡◌, ◌≤◌, ◌<◌, ◌+◌, ℕ, [], List, length, take, IfOk, OnErr, OnOk, is_err};
+ghost use Rattle.pungi_base.specs.Shelf.{Rose, Grew};
 ghost use Rattle.pungi_in_memory.specs.MemSink.{SinkState, write_fails, write_count, sink_failed, sink_wrote};
 
 use pungi_base::{Failed, Memory, Sink};
@@ -61,15 +60,15 @@ impl MemSink {
 }
 
 impl Sink for MemSink {
-    ghost taken = { λ s. Some s.bytes };
+    ghost taken = { λ s. s.bytes };
 
     ghost faults = { λ s. s.faults };
 
     fn write(&mut self, piece: &[u8]) -> Result<usize, Failed>
         ensures within { IfOk result (λ count. count ≤ length piece.now) }
         ensures some { IfOk result (λ count. 0 < length piece.now → 0 < count) }
-        ensures bytes { WriteTakes (Some self.old.bytes) (Some self.new.bytes) result piece.now }
-        ensures later { self.old.faults ≤ self.new.faults }
+        ensures bytes { Grew self.old.bytes self.new.bytes result piece.now }
+        ensures steady { OnOk result (self.new.faults ≡ self.old.faults) }
         ensures failed { OnErr result (Rose self.old.faults self.new.faults) }
 
         ensures fails { is_err result ≡ write_fails self.old piece.now }

@@ -1,9 +1,8 @@
-ghost use Rattle.std.specs.Prelude.{◌≡◌, ◌≤◌, ◌<◌, [], List, length, false, IfOk, OnErr, Ok};
-ghost use Rattle.pungi_base.specs.Shelf.{Rose};
-ghost use Rattle.pungi_base.specs.Sink.{WriteTakes};
-ghost use Rattle.pungi_in_memory.specs.SureSink.{KeptState, kept_bytes, kept_wrote};
+ghost use Rattle.std.specs.Prelude.{◌≡◌, ◌≤◌, ◌<◌, ℕ, [], List, length, IfOk, OnOk, OnErr, Ok};
+ghost use Rattle.pungi_base.specs.Shelf.{Rose, Grew};
+ghost use Rattle.pungi_in_memory.specs.SureSink.{KeptState, kept_wrote};
 
-use pungi_base::{Failed, Memory, Sink};
+use pungi_base::{Failed, History, Memory, Sink};
 use std::alloc::Global;
 use std::marker::Model;
 
@@ -12,7 +11,7 @@ use std::marker::Model;
 pub struct SureSink {
     room: usize,
     bytes: Vec<u8>,
-    more: bool,
+    taken: History,
 }
 
 impl Model for SureSink {
@@ -21,7 +20,7 @@ impl Model for SureSink {
 
     ghost Value = { KeptState };
 
-    ghost view = { λ s. record { room = s.room; bytes = s.bytes.items; more = s.more } };
+    ghost view = { λ s. record { room = s.room; bytes = s.bytes.items; taken = s.taken.bytes } };
 
     ghost invariant = { λ s. (vec_len s.bytes ≤ s.room) × (s.room ≤ vec_capacity s.bytes) };
 }
@@ -29,13 +28,13 @@ impl Model for SureSink {
 impl SureSink {
     /// A sink that keeps so many bytes.
     pub fn new(alloc: Global, room: usize) -> Result<SureSink, Memory>
-        ensures { IfOk result (λ sink. sink ≡ record { room = room; bytes = []; more = false }) }
+        ensures { IfOk result (λ sink. sink ≡ record { room = room; bytes = []; taken = [] }) }
     {
         let bytes = Vec::with_capacity(alloc, room)?;
         Ok(SureSink {
             room,
             bytes,
-            more: false,
+            taken: History::new(),
         })
     }
 
@@ -48,26 +47,24 @@ impl SureSink {
 }
 
 impl Sink for SureSink {
-    ghost taken = { kept_bytes };
+    ghost taken = { λ s. s.taken };
 
     ghost faults = { λ _. 0 };
 
     fn write(&mut self, piece: &[u8]) -> Result<usize, Failed>
         ensures within { IfOk result (λ count. count ≤ length piece.now) }
         ensures some { IfOk result (λ count. 0 < length piece.now → 0 < count) }
-        ensures bytes { WriteTakes (kept_bytes self.old) (kept_bytes self.new) result piece.now }
-        ensures later { 0 ≤ 0 }
+        ensures bytes { Grew self.old.taken self.new.taken result piece.now }
+        ensures steady { OnOk result (let none : ℕ = 0 in none ≡ none) }
         ensures failed { OnErr result (Rose 0 0) }
 
         ensures all { result ≡ Ok (length piece.now) }
         ensures next { self.new ≡ kept_wrote self.old piece.now }
     {
         let room = self.room - self.bytes.len();
-        if room < piece.len() {
-            self.more = true;
-        }
         let count = piece.len().min(room);
         self.bytes.extend_from_slice(&piece[..count]).unwrap();
+        self.taken.add(piece);
         Ok(piece.len())
     }
 }

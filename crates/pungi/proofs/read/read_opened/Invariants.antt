@@ -1,4 +1,4 @@
-use Rattle.std.proofs.Common.{◌≡◌, ◌≤◌, ◌<◌, ◌+◌, ◌-◌, vec_len}
+use Rattle.std.proofs.Common.{◌≡◌, ◌<◌, ◌+◌, ◌-◌, vec_len}
 use Rattle.pungi.specs.Limits.{file_limit}
 use Rattle.pungi.proofs.LeftToRead.{Left}
 use Rattle.pungi.proofs.read.read_opened.Given as goal
@@ -6,10 +6,11 @@ use Rattle.pungi.proofs.read.read_opened.Given as goal
 abbrev pub invariant-reads : goal.invariant-reads
 invariant-reads g l = record {
   left : Left (g.F.Shelf.texts l.fn.shelf) l.name (g.F.Shelf.rest l.shelf) l.bytes.items;
+  gave : l.bytes.items ≡ g.F.Shelf.gave l.shelf;
   texts : g.F.Shelf.texts l.shelf ≡ g.F.Shelf.texts l.fn.shelf;
   given : g.F.Shelf.given l.shelf ≡ g.F.Shelf.given l.fn.shelf;
   room : 0 < vec_len l.piece;
-  later : g.F.Shelf.faults l.fn.shelf ≤ g.F.Shelf.faults l.shelf;
+  steady : g.F.Shelf.faults l.shelf ≡ g.F.Shelf.faults l.fn.shelf;
 }
 
 abbrev pub decreases-reads : goal.decreases-reads

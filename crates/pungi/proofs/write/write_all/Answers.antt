@@ -1,5 +1,5 @@
-use Rattle.std.proofs.Common.{◌++◌, take, arith}
-use Rattle.pungi.proofs.LeftToRead.{takes_on, split_on}
+use Rattle.std.proofs.Common.{◌++◌, take, ◌∙◌}
+use Rattle.pungi.proofs.LeftToRead.{taken_on, split_on}
 use Rattle.pungi.proofs.write.write_all.Goals as goal
 
 pub pieces-preserved : goal.pieces-preserved
@@ -10,7 +10,7 @@ pieces-preserved g c =
       taken = (
         so_far.0 ++ piece,
         split_on c.args.text.now so_far.0 c.pieces.rest.now c.split_at.result.0.now c.split_at.result.1.now c.in_ok-count.count so_far.1 c.split_at.ensures.front c.split_at.ensures.back,
-        takes_on (g.O.Sink.taken c.args.out.now) (g.O.Sink.taken c.pieces.out) (g.O.Sink.taken c.write.new.self) so_far.0 piece so_far.2 c.in_ok-count.ensures.bytes,
+        taken_on (g.O.Sink.taken c.args.out.now) (g.O.Sink.taken c.pieces.out) (g.O.Sink.taken c.write.new.self) so_far.0 piece so_far.2 c.in_ok-count.ensures.bytes,
       );
-      later = omega (arith, c.pieces.invariant.later, c.in_ok-count.ensures.later);
+      steady = c.in_ok-count.ensures.steady ∙ c.pieces.invariant.steady;
     }

@@ -1,12 +1,11 @@
-use Rattle.std.proofs.Common.{◌≡◌, ℕ, ◌≤◌, List, ◌++◌, length}
-use Rattle.pungi_base.specs.Sink.{Takes}
+use Rattle.std.proofs.Common.{◌≡◌, ℕ, List, ◌++◌, length}
 use Rattle.pungi.proofs.write.write_all.Given as goal
 
 -- the bytes so far were taken
 abbrev pub invariant-pieces : goal.invariant-pieces
 invariant-pieces g l = record {
-  taken : (front : List ℕ) × (l.text ≡ front ++ l.rest) × Takes (g.O.Sink.taken l.fn.out) (g.O.Sink.taken l.out) front;
-  later : g.O.Sink.faults l.fn.out ≤ g.O.Sink.faults l.out;
+  taken : (front : List ℕ) × (l.text ≡ front ++ l.rest) × (g.O.Sink.taken l.out ≡ g.O.Sink.taken l.fn.out ++ front);
+  steady : g.O.Sink.faults l.out ≡ g.O.Sink.faults l.fn.out;
 }
 
 abbrev pub decreases-pieces : goal.decreases-pieces
