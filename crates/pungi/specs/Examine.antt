@@ -1,17 +1,21 @@
 -- The report on the text of a file.
 --   checked_file names items refused    what is known of a file, where these functions are refused
 --   is_faulty, is_open, status_of the status that goes with verdicts: whether one is faulty, or else one is neither clean nor faulty
---   IsReportOn names c status report    the report on a checked file: one right verdict for each function that it defines, and the status that goes with it
+--   IsReportOn names c status report    the report on a checked file: one right verdict for each function that it defines,
+--                                 and the status that goes with it. No other lines print so: whatever lines print
+--                                 so, under whatever names, say the same
 --   IsReport text status bytes    the report on the file that the text is
 use Rattle.std.specs.Prelude.{◌≡◌, ℕ, Bool, true, false, List, if◌then◌else◌}
-use Rattle.std.specs.List.{AllZip, list_any}
+use Rattle.std.specs.List.{All, AllZip, list_any}
 use Rattle.pungi_base.specs.declared.names.Name.{Name}
 use Rattle.pungi_base.specs.declared.verdict.Verdict.{Verdict}
 use Rattle.pungi_base.specs.declared.verdict.Verdict.TheVariants as verdict
 use Rattle.pungi_tree.specs.Syntax.{Item}
 use Rattle.pungi_types.specs.Files.{definitions}
 use Rattle.pungi_types.specs.Refused.{CheckedFile, IsRefusedSet}
-use Rattle.pungi_report.specs.Text.{report_text}
+use Rattle.pungi_report.specs.Fits.{FitsLine}
+use Rattle.pungi_report.specs.Same.{IsSameLine}
+use Rattle.pungi_report.specs.Text.{report_text, IsLine}
 use Rattle.pungi_verdict.specs.Verdicts.{IsJudged}
 use Rattle.pungi.specs.Front.{IsFile, file_known}
 use Rattle.pungi.specs.declared.status.TheConstants.{ALL_CLEAN, SOME_FAULTY, SOME_OPEN}
@@ -39,6 +43,10 @@ pub record IsReportOn (names : List (List ℕ)) (c : CheckedFile) (status : ℕ)
   pub judged : AllZip (IsJudged c) (definitions c.file.items) lines
   pub counted : status ≡ status_of lines
   pub printed : report ≡ report_text names lines
+  pub readable : All (IsLine names) lines
+  pub fits : All FitsLine lines
+  pub only : (others : List (List ℕ)) (more : List (Name × Verdict)) → All (IsLine others) more → All FitsLine more → report ≡ report_text others more
+      → AllZip (IsSameLine names others) lines more
 
 pub record IsReport (text : List ℕ) (status : ℕ) (bytes : List ℕ) : Type 0 where
   pub names : List (List ℕ)
