@@ -153,9 +153,10 @@ is_unit old new text tokens expanded items r shallow unit = record {
   unit = unit;
 }
 
-pub known_kinds : (n : ℕ) (tokens : List Token) → AreKnown n tokens → AreKnownKinds n (kinds (placed tokens))
-known_kinds n [] a = All-nil (λ (k : Kind). IsKnown n k)
-known_kinds n (t ∷ tokens) a = All-cons (λ (k : Kind). IsKnown n k) t.kind (kinds (placed tokens)) (a 0 t (omega arith)) (known_kinds n tokens (λ k d lt. a (suc k) d (omega (arith, lt))))
+pub known_kinds : (names : List (List ℕ)) (tokens : List Token) → AreKnown names tokens → AreKnownKinds names (kinds (placed tokens))
+known_kinds names [] a = All-nil (λ (k : Kind). IsKnown names k)
+known_kinds names (t ∷ tokens) a =
+    All-cons (λ (k : Kind). IsKnown names k) t.kind (kinds (placed tokens)) (a 0 t (omega arith)) (known_kinds names tokens (λ k d lt. a (suc k) d (omega (arith, lt))))
 
 pub kinds_length : (tokens : List Token) → length (kinds (placed tokens)) ≡ length tokens
 kinds_length [] = refl

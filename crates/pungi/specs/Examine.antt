@@ -6,16 +6,19 @@
 --   IsReportOf P text status bytes    a report on the file that the text is
 --   IsReport text status bytes    the report on it, with right lines
 --   IsSoundReport text status bytes    one in which no line is false of its function: what it calls clean is clean, and what it calls faulty has the fault
+--                                 No other lines print so: whatever lines print so, under whatever names, say the same
 use Rattle.std.specs.Prelude.{◌≡◌, ℕ, Bool, true, false, List, if◌then◌else◌}
-use Rattle.std.specs.List.{AllZip, list_any}
+use Rattle.std.specs.List.{All, AllZip, list_any}
 use Rattle.pungi_base.specs.declared.names.Name.{Name}
 use Rattle.pungi_base.specs.declared.verdict.Verdict.{Verdict}
 use Rattle.pungi_base.specs.declared.verdict.Verdict.TheVariants as verdict
 use Rattle.pungi_tree.specs.Syntax.{Item}
 use Rattle.pungi_types.specs.Files.{Definition, definitions}
 use Rattle.pungi_types.specs.Refused.{CheckedFile, IsRefusedSet}
-use Rattle.pungi_report.specs.Text.{report_text}
+use Rattle.pungi_report.specs.Text.{report_text, IsLine}
 use Rattle.pungi_verdict.specs.Sound.{IsSound}
+use Rattle.pungi_report.specs.Fits.{FitsLine}
+use Rattle.pungi_report.specs.Same.{IsSameLine}
 use Rattle.pungi_verdict.specs.Verdicts.{IsJudged}
 use Rattle.pungi.specs.Front.{IsFile, file_known}
 use Rattle.pungi.specs.Status.{all_clean, some_faulty, some_open}
@@ -43,6 +46,10 @@ pub record IsReportOn (P : CheckedFile → Definition → Name × Verdict → Ty
   pub judged : AllZip (P c) (definitions c.file.items) lines
   pub counted : status ≡ status_of lines
   pub printed : report ≡ report_text names lines
+  pub readable : All (IsLine names) lines
+  pub fits : All FitsLine lines
+  pub only : (others : List (List ℕ)) (more : List (Name × Verdict)) → All (IsLine others) more → All FitsLine more → report ≡ report_text others more
+      → AllZip (IsSameLine names others) lines more
 
 pub record IsReportOf (P : CheckedFile → Definition → Name × Verdict → Type 0) (text : List ℕ) (status : ℕ) (bytes : List ℕ) : Type 0 where
   pub names : List (List ℕ)

@@ -7,7 +7,7 @@
 --   file_known names items    what is known of a file of these names and items
 --   IsUnitFault file fault    why what is known of a text is no file
 --   IsFaultOf text fault      why a text is refused, by its tokens, by its macros, by its grammar, or by its names
---   AreKnownKinds names ks    the words and texts of tokens are among so many names
+--   AreKnownKinds names ks    the words of tokens are words of C, and their string literals have texts
 --   lex_reason, macro_reason, parse_reason, unit_reason, reason_of      the place of a fault and its reason, unless it
 --                                                                       is want of memory
 --   refused_text at reason    the line of a refusal
@@ -79,7 +79,7 @@ IsFaultOf text (fault.Parse found) = (names : List (List ℕ)) × (tokens expand
     × IsExpanded (length names) tokens expanded × IsParseFault (placed expanded) found
 IsFaultOf text (fault.Unit found) = (names : List (List ℕ)) × (items : List Item) × IsUnitOf text names items × IsUnitFault (file_known names items) found
 
-abbrev pub AreKnownKinds : ℕ → List Kind → Type 0
+abbrev pub AreKnownKinds : List (List ℕ) → List Kind → Type 0
 AreKnownKinds names ks = All (λ k. IsKnown names k) ks
 
 abbrev pub lex_reason : LexFault → Option (Pos × List ℕ)

@@ -16,7 +16,7 @@ use crate::status::{ALL_CLEAN, SOME_FAULTY, SOME_OPEN};
 use pungi_api::Table;
 use pungi_base::{Memory, Name, Names, Verdict};
 use pungi_check::{Checked, check};
-use pungi_report::report;
+use pungi_report::{report, report_is_read_back};
 use pungi_verdict::judge_all;
 use std::alloc::Global;
 
@@ -66,10 +66,11 @@ fn status(lines: &[(Name, Verdict)]) -> u8
 /// The report on a checked file, with the status that goes with it.
 fn reported(alloc: Global, names: &Names, checked: &Checked<'_>) -> Result<Answer, Memory>
     requires checked { IsChecked checked.now }
-    requires known { AreKnownKinds (length names.now) (items_flat (checked_view checked.now).file.items) }
+    requires known { AreKnownKinds names.now (items_flat (checked_view checked.now).file.items) }
     ensures { IfOk result (λ a. (a.status ≤ some_open) × IsReportOn IsJudged names.now (checked_view checked.now) a.status a.text.items) }
 {
     let lines = judge_all(alloc, checked)?;
+    report_is_read_back();
     Ok(Answer {
         status: status(&lines),
         text: report(alloc, names, &lines)?,

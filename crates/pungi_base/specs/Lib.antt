@@ -1,3 +1,4 @@
+pub mod CWords
 pub mod Names
 pub mod Numbers
 pub mod Shelf

@@ -16,3 +16,4 @@ pub mod RunLemmas
 pub mod SizedTokens
 pub mod StartLemmas
 pub mod StretchLemmas
+pub mod WordPieces

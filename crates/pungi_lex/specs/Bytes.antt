@@ -1,41 +1,22 @@
 -- Bytes by what they may stand for (C11 5.2.1), and tests on the front of a text.
---   is_one_of bytes b       b is one of these bytes
---   is_from_to ends b       b is from the first to the last of two bytes
---   is_blank, is_digit, is_octal_digit, is_hex_digit, is_letter, is_word_byte, is_in_line  what one byte may stand for
+--   is_one_of, is_from_to, is_digit, is_letter, is_word_byte   as in words of C
+--   is_blank, is_octal_digit, is_hex_digit, is_in_line   what one byte may stand for
 --   begins test text        a byte that passes the test comes next
 --   begins_with front text  the text begins with these bytes
 --   front_of, after_front   the bytes at the front that pass a test, and what follows them
-use Rattle.std.specs.Prelude.{ℕ, ◌==◌, Bool, true, false, not, ◌&&◌, ◌||◌, List, [], ◌∷◌, nat_le, take, drop, codes}
+use Rattle.std.specs.Prelude.{ℕ, ◌==◌, Bool, true, false, not, ◌&&◌, ◌||◌, List, [], ◌∷◌, take, drop, codes}
 use Rattle.std.specs.List.{prefix_len}
-
-abbrev pub is_one_of : List ℕ → ℕ → Bool
-is_one_of [] b = false
-is_one_of (a ∷ []) b = b == a
-is_one_of (a ∷ c ∷ bytes) b = b == a || is_one_of (c ∷ bytes) b
-
-abbrev pub is_from_to : List ℕ → ℕ → Bool
-is_from_to [] b = false
-is_from_to (first ∷ []) b = false
-is_from_to (first ∷ last ∷ bytes) b = nat_le first b && nat_le b last
+pub use Rattle.pungi_base.specs.CWords.{is_one_of, is_from_to, is_digit, is_letter, is_word_byte}
 
 -- space, horizontal tab, line feed, vertical tab, form feed and carriage return
 abbrev pub is_blank : ℕ → Bool
 is_blank b = is_one_of (codes " ") b || is_from_to (codes "\t\r") b
-
-abbrev pub is_digit : ℕ → Bool
-is_digit b = is_from_to (codes "09") b
 
 abbrev pub is_octal_digit : ℕ → Bool
 is_octal_digit b = is_from_to (codes "07") b
 
 abbrev pub is_hex_digit : ℕ → Bool
 is_hex_digit b = is_digit b || is_from_to (codes "AF") b || is_from_to (codes "af") b
-
-abbrev pub is_letter : ℕ → Bool
-is_letter b = is_from_to (codes "AZ") b || is_from_to (codes "az") b || is_one_of (codes "_") b
-
-abbrev pub is_word_byte : ℕ → Bool
-is_word_byte b = is_letter b || is_digit b
 
 -- any byte of a line but its end
 abbrev pub is_in_line : ℕ → Bool

@@ -77,7 +77,7 @@ pub fn expand(alloc: Global, names: &Names, tokens: &[Token]) -> Result<Vec<Toke
     ensures expanded { IfOk result (λ out. IsExpanded (length names.now) tokens.now out.items) }
     ensures only { (other : List TheToken) → IsExpanded (length names.now) tokens.now other → IfOk result (λ out. other ≡ out.items) }
     ensures within { IfOk result (λ out. length out.items ≤ token_limit) }
-    ensures known { AreKnown (length names.now) tokens.now → IfOk result (λ out. AreKnown (length names.now) out.items) }
+    ensures known { AreKnown names.now tokens.now → IfOk result (λ out. AreKnown names.now out.items) }
     ensures fault { IfErr result (λ fault. is_want_of_memory fault ≡ false → HasMacroFault (length names.now) tokens.now fault) }
     ensures first { (other : TheMacroFault) → HasMacroFault (length names.now) tokens.now other → IfErr result (λ fault. is_want_of_memory fault ≡ false → other ≡ fault) }
     ensures none { IfErr result (λ fault. is_want_of_memory fault ≡ false → HasNoExpansion (length names.now) tokens.now) }

@@ -151,7 +151,7 @@ pub fn lex(alloc: Global, names: &mut Names, text: &[u8]) -> Result<Vec<Token>, 
     ensures tokens { IfOk result (λ tokens. AreTokensOf names.old names.new text.now tokens.items) }
     ensures only { (after : List (List ℕ)) → (tokens : List TheToken) → AreTokensOf names.old after text.now tokens → IfOk result (λ found. (after ≡ names.new) × (tokens ≡ found.items)) }
     ensures few { IfOk result (λ tokens. length tokens.items ≤ length text.now) }
-    ensures known { IfOk result (λ tokens. AreKnown (length names.new) tokens.items) }
+    ensures known { IfOk result (λ tokens. AreKnown names.new tokens.items) }
     ensures sized { IfOk result (λ tokens. AreSized tokens.items) }
     ensures fault { IfErr result (λ fault. is_memory fault ≡ false → HasFault text.now fault) }
     ensures first { (other : TheLexFault) → HasFault text.now other → IfErr result (λ fault. is_memory fault ≡ false → other ≡ fault) }

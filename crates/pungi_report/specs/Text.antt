@@ -6,10 +6,10 @@
 --   refusal_text at rule          what follows the name of a refused function
 --   verdict_text names n v        the block of a function of this name with this verdict
 --   report_text names lines       all blocks
---   IsNamedWhy names why          the function that the reason names has a text
+--   IsNamedWhy names why          the function that the reason names has a word of C as its text
 --   IsPrintable names v           so it has, and a fault has a place for each of its choices
---   IsLine names line             a name that has a text, and a verdict that may be printed
-use Rattle.std.specs.Prelude.{◌≡◌, ◌<◌, ℕ, List, [], ◌∷◌, ◌++◌, length, get_or, codes}
+--   IsLine names line             a name whose text is a word of C, and a verdict that may be printed
+use Rattle.std.specs.Prelude.{◌≡◌, ℕ, List, [], ◌∷◌, ◌++◌, length, get_or, codes}
 use Rattle.std.specs.List.{flat_map}
 use Rattle.std.specs.Fmt.{decimal, signed_decimal}
 use Rattle.pungi_base.specs.declared.names.Name.{Name}
@@ -20,6 +20,7 @@ use Rattle.pungi_base.specs.declared.why.Why.{Why}
 use Rattle.pungi_base.specs.declared.why.Why.TheVariants as why
 use Rattle.pungi_base.specs.declared.verdict.Verdict.{Verdict}
 use Rattle.pungi_base.specs.declared.verdict.Verdict.TheVariants as verdict
+use Rattle.pungi_base.specs.CWords.{IsCWord}
 use Rattle.pungi_base.specs.Witness.{place_text, witness_text, line_end}
 
 abbrev pub name_text : List (List ℕ) → Name → List ℕ
@@ -60,7 +61,7 @@ IsNamedWhy names why.Shapes = Unit {0}
 IsNamedWhy names (why.Range at vector) = Unit {0}
 IsNamedWhy names (why.Number at) = Unit {0}
 IsNamedWhy names (why.Loop at) = Unit {0}
-IsNamedWhy names (why.Call at n) = n.0 < length names
+IsNamedWhy names (why.Call at n) = IsCWord names n.0
 
 abbrev pub IsPrintable : List (List ℕ) → Verdict → Type 0
 IsPrintable names verdict.Clean = Unit {0}
@@ -69,4 +70,4 @@ IsPrintable names (verdict.Unknown reason) = IsNamedWhy names reason
 IsPrintable names (verdict.Refused at rule) = Unit {0}
 
 abbrev pub IsLine : List (List ℕ) → Name × Verdict → Type 0
-IsLine names line = (line.0.0 < length names) × IsPrintable names line.1
+IsLine names line = IsCWord names line.0.0 × IsPrintable names line.1

@@ -1,7 +1,9 @@
 ghost use Rattle.std.specs.Prelude.{◌≡◌, ◌<◌, ◌++◌, length, string_bytes, OnOk, IfOk};
 ghost use Rattle.std.specs.List.{All};
 ghost use Rattle.pungi_report.specs.Text.{name_text, why_text, object_text, counts_text, fault_text, refusal_text, verdict_text, report_text, IsNamedWhy, IsPrintable, IsLine};
+ghost use Rattle.pungi_report.specs.Fits.{FitsLine};
 
+use crate::fits::lines_fit;
 use pungi_base::{Fault, Memory, Name, Names, Pos, Rule, Verdict, Why};
 use std::alloc::Global;
 
@@ -109,8 +111,10 @@ fn push_verdict(
 /// The text of the report on functions of these names with these verdicts, in their order.
 pub fn report(alloc: Global, names: &Names, lines: &[(Name, Verdict)]) -> Result<Vec<u8>, Memory>
     requires { All (IsLine names.now) lines.now }
-    ensures { IfOk result (λ text. text.items ≡ report_text names.now lines.now) }
+    ensures text { IfOk result (λ text. text.items ≡ report_text names.now lines.now) }
+    ensures fits { All FitsLine lines.now }
 {
+    lines_fit(lines);
     let mut text = Vec::new(alloc);
     for line in lines {
         push_verdict(alloc, &mut text, names, line.0, &line.1)?;

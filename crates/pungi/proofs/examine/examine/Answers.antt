@@ -1,4 +1,4 @@
-use Rattle.std.proofs.Common.{ℕ, List, inl, inr, length, ap, sym, subst, ◌∙◌}
+use Rattle.std.proofs.Common.{ℕ, List, inl, inr, ap, sym, subst, ◌∙◌}
 use Rattle.std.proofs.lemmas.Result.{IfOk-weaker}
 use Rattle.pungi_api.specs.declared.row.Row.{Row}
 use Rattle.pungi_tree.specs.UnitFlat.{items_flat}
@@ -17,7 +17,7 @@ returns-in-Err c =
 
 pub reported-requires-clause-known : goal.reported-requires-clause-known
 reported-requires-clause-known c =
-    subst (λ (f : SourceFile). AreKnownKinds (length c.unit_of.new.names) (items_flat f.items)) (sym c.in-Ok-check.ensures.file) c.in-Ok.ensures.known
+    subst (λ (f : SourceFile). AreKnownKinds c.unit_of.new.names (items_flat f.items)) (sym c.in-Ok-check.ensures.file) c.in-Ok.ensures.known
 
 pub returns-in-Ok-check : goal.returns-in-Ok-check
 returns-in-Ok-check c =

@@ -1,0 +1,3 @@
+mod Blocks
+mod Pieces
+mod Runs
