@@ -40,6 +40,9 @@ sound_report text status bytes is =
         judged = all_sound _ _ report.lines report.judged;
         counted = report.counted;
         printed = report.printed;
+        readable = report.readable;
+        fits = report.fits;
+        only = report.only;
       };
     }
 

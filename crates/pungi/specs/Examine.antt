@@ -1,12 +1,13 @@
 -- The report on the text of a file.
 --   checked_file names items refused    what is known of a file, where these functions are refused
 --   is_faulty, is_open, status_of the status that goes with verdicts: whether one is faulty, or else one is neither clean nor faulty
---   IsReportOn P names c status report    a report on a checked file: a line for each function that it defines, of which P holds, and the status that goes
---                                         with them
+--   IsReportOn P names c status report    a report on a checked file: a line for each function that it defines, of which P
+--                                 holds, and the status that goes with them. No other lines print so: whatever lines
+--                                 print so, under whatever names, say the same
 --   IsReportOf P text status bytes    a report on the file that the text is
 --   IsReport text status bytes    the report on it, with right lines
---   IsSoundReport text status bytes    one in which no line is false of its function: what it calls clean is clean, and what it calls faulty has the fault
---                                 No other lines print so: whatever lines print so, under whatever names, say the same
+--   IsSoundReport text status bytes    one in which no line is false of its function: what it calls clean is clean, and
+--                                 what it calls faulty has the fault
 use Rattle.std.specs.Prelude.{◌≡◌, ℕ, Bool, true, false, List, if◌then◌else◌}
 use Rattle.std.specs.List.{All, AllZip, list_any}
 use Rattle.pungi_base.specs.declared.names.Name.{Name}
