@@ -41,7 +41,7 @@ impl<'u> Cores<'u> {
     fn word_core(&self, word: Name) -> Followed<'_>
         ensures { known (followed_view result) ≡ known (core_of (unit_view self.now.unit.now) (word_base word.0)) }
     {
-        if is_listed_type(word.0) {
+        if is_listed_type(word) {
             return Followed {
                 core: Core::Listed(word),
                 stars: 0,

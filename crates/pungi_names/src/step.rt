@@ -63,7 +63,7 @@ pub(crate) fn next_step<'u>(
     requires tags { FindsTags (contains nat_eq tags.now) (unit_view unit.now) }
     ensures { IsStep (known_at (unit_view unit.now)) word result }
 {
-    if is_listed_type(word) {
+    if is_listed_type(Name(word)) {
         return Step::Ends(TypedefTarget {
             core: Core::Listed(Name(word)),
             stars: 0,

@@ -10,4 +10,4 @@ pub returns : goal.returns
 returns c =
     let n = c.args.self.now in
     let env = file_env (file_of n.names.now) n.refused.now.keys n.own in
-    c.takes_arguments.ensures ∙ ap takes_seen c.called.ensures ∙ takes-seen env (callee_of env c.args.word)
+    c.takes_arguments.ensures ∙ ap takes_seen c.called.ensures ∙ takes-seen env (callee_of env c.args.word.0)
