@@ -9,7 +9,7 @@ ghost use Rattle.pungi_types.specs.Limits.{most_functions};
 
 use crate::name_use::{NameUse, Use};
 use indexmap::IndexSet;
-use pungi_base::Memory;
+use pungi_base::{Memory, Name};
 use pungi_names::UnitNames;
 use pungi_tree::FunctionDef;
 use pungi_types::{Finding, is_built_in_static, is_kept, keep, note};
@@ -19,8 +19,8 @@ use std::alloc::Global;
 const MOST_FUNCTIONS: usize = 4096;
 
 /// Whether a word is the name of a row or a built-in static.
-fn is_taken(names: &UnitNames<'_>, word: u32) -> bool
-    ensures { result ≡ is_taken (file_of names.now).rows word }
+fn is_taken(names: &UnitNames<'_>, word: Name) -> bool
+    ensures { result ≡ is_taken (file_of names.now).rows word.0 }
 {
     names.is_row(word) || is_built_in_static(word)
 }
@@ -36,7 +36,7 @@ pub(crate) fn note_definitions(
 {
     let mut seen = IndexSet::new(alloc);
     for f in functions {
-        let word = f.name.0;
+        let word = f.name;
         note(
             first,
             is_kept(&seen, word) || is_taken(names, word),
@@ -66,7 +66,7 @@ pub(crate) fn note_variables(
     ensures { first.new ≡ least_from first.old (variable_faults (file_of names.now) (map name_use_view list.now.items)) }
 {
     for u in list {
-        let holds = is_variable_use(u.as_what) && is_taken(names, u.name.0);
+        let holds = is_variable_use(u.as_what) && is_taken(names, u.name);
         note(first, holds, u.pos, 1);
     }
 }

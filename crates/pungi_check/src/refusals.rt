@@ -28,7 +28,7 @@ pub(crate) fn finding(
     let here = FileNames {
         names,
         refused,
-        own: f.name.0,
+        own: f.name,
     };
     refusal(alloc, &here, f)
 }

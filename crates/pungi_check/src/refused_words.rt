@@ -5,16 +5,16 @@ ghost use Rattle.pungi_types.specs.Names.{with_word};
 ghost use Rattle.pungi_check.specs.Graph.{with_marked};
 
 use indexmap::IndexSet;
-use pungi_base::Memory;
+use pungi_base::{Memory, Name};
 use pungi_tree::FunctionDef;
 use std::alloc::Global;
 
 /// Adds a word, where it is marked.
-fn add(words: &mut IndexSet<u32>, mark: bool, word: u32) -> Result<(), Memory>
-    ensures { OnOk result (words.new.keys ≡ (if mark then with_word words.old.keys word else words.old.keys)) }
+fn add(words: &mut IndexSet<u32>, mark: bool, word: Name) -> Result<(), Memory>
+    ensures { OnOk result (words.new.keys ≡ (if mark then with_word words.old.keys word.0 else words.old.keys)) }
 {
     if mark {
-        words.insert(word)?;
+        words.insert(word.0)?;
     }
     Ok(())
 }
@@ -35,7 +35,7 @@ pub(crate) fn refused_words(
 {
     let mut words = IndexSet::new(alloc);
     for (i, f) in list.iter().enumerate() {
-        add(&mut words, is_marked(marks, i), f.name.0)?;
+        add(&mut words, is_marked(marks, i), f.name)?;
     }
     Ok(words)
 }

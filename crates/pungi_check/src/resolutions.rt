@@ -39,7 +39,7 @@ fn resolution(
     let here = FileNames {
         names,
         refused,
-        own: f.name.0,
+        own: f.name,
     };
     let function = resolve(alloc, &here, f)?;
     Ok(Some(function))

@@ -29,8 +29,8 @@ fn is_struct(of: Key) -> bool
     }
 }
 
-fn is_seen(seen: &KeptTags, of: Key, word: u32) -> bool
-    ensures { result ≡ is_among (tags_of (kept_tags seen.now) (is_struct of)) word }
+fn is_seen(seen: &KeptTags, of: Key, word: Name) -> bool
+    ensures { result ≡ is_among (tags_of (kept_tags seen.now) (is_struct of)) word.0 }
 {
     if is_struct(of) {
         is_kept(&seen.structs, word)
@@ -39,8 +39,8 @@ fn is_seen(seen: &KeptTags, of: Key, word: u32) -> bool
     }
 }
 
-fn see(seen: &mut KeptTags, of: Key, word: u32) -> Result<(), Memory>
-    ensures { OnOk result (kept_tags seen.new ≡ with_tag (kept_tags seen.old) (is_struct of) word) }
+fn see(seen: &mut KeptTags, of: Key, word: Name) -> Result<(), Memory>
+    ensures { OnOk result (kept_tags seen.new ≡ with_tag (kept_tags seen.old) (is_struct of) word.0) }
 {
     if is_struct(of) {
         keep(&mut seen.structs, word)
@@ -61,8 +61,8 @@ fn note_tag(
     match tag {
         None => Ok(()),
         Some((name, pos)) => {
-            note(first, is_seen(seen, of, name.0), pos, 1);
-            see(seen, of, name.0)
+            note(first, is_seen(seen, of, name), pos, 1);
+            see(seen, of, name)
         }
     }
 }

@@ -7,7 +7,7 @@ ghost use Rattle.pungi_types.specs.Findings.{least_from, when};
 
 use crate::name_use::{NameUse, Use};
 use indexmap::IndexSet;
-use pungi_base::Memory;
+use pungi_base::{Memory, Name};
 use pungi_types::{Finding, is_kept, keep, note};
 use std::alloc::Global;
 
@@ -20,8 +20,8 @@ pub struct KeptUses {
 }
 
 /// Whether a word was seen as the name of something else.
-fn is_used_otherwise(seen: &KeptUses, word: u32, as_what: Use) -> bool
-    ensures { result ≡ used_in (words_of seen.now) word (use_view as_what) }
+fn is_used_otherwise(seen: &KeptUses, word: Name, as_what: Use) -> bool
+    ensures { result ≡ used_in (words_of seen.now) word.0 (use_view as_what) }
 {
     match as_what {
         Use::Function => is_kept(&seen.variables, word) || is_kept(&seen.tables, word),
@@ -31,8 +31,8 @@ fn is_used_otherwise(seen: &KeptUses, word: u32, as_what: Use) -> bool
 }
 
 /// Keeps the word of a name under its use.
-fn see(seen: &mut KeptUses, word: u32, as_what: Use) -> Result<(), Memory>
-    ensures { OnOk result (words_of seen.new ≡ with_use (words_of seen.old) word (use_view as_what)) }
+fn see(seen: &mut KeptUses, word: Name, as_what: Use) -> Result<(), Memory>
+    ensures { OnOk result (words_of seen.new ≡ with_use (words_of seen.old) word.0 (use_view as_what)) }
 {
     match as_what {
         Use::Function => keep(&mut seen.functions, word),
@@ -47,11 +47,11 @@ fn note_use(seen: &mut KeptUses, first: &mut Option<Finding>, name: &NameUse) ->
 {
     note(
         first,
-        is_used_otherwise(seen, name.name.0, name.as_what),
+        is_used_otherwise(seen, name.name, name.as_what),
         name.pos,
         1,
     );
-    see(seen, name.name.0, name.as_what)
+    see(seen, name.name, name.as_what)
 }
 
 fn note_all(

@@ -19,7 +19,7 @@ pub(crate) fn note_typedefs(
 {
     let mut seen = IndexSet::new(alloc);
     for t in list {
-        let word = t.name.0;
+        let word = t.name;
         note(
             first,
             is_kept(&seen, word) || is_listed_type(word),

@@ -8,7 +8,7 @@ use Rattle.pungi_types.specs.Kinds.{Core, base_words, builtin, struct_of, no_cor
 use Rattle.pungi_names.specs.Depth.{nowhere, with_stars, known, known_at, found_within}
 use Rattle.pungi_names.specs.Finds.{reached_view}
 use Rattle.pungi_names.specs.Walk.{AllReach, ReachesSome}
-use Rattle.pungi_names.specs.declared.step.DeclaredLocal.{DeclaredLocal}
+use Rattle.pungi_names.specs.declared.step.TypedefTarget.{TypedefTarget}
 use Rattle.pungi_names.proofs.StepLemmas.{missing}
 
 either : (b : Bool) → cond b nowhere nowhere ≡ nowhere
@@ -19,12 +19,12 @@ nothing : {A : Type 0} (o : Option A) → false ≡ is_some o → o ≡ None
 nothing None e = refl
 nothing (Some x) e = absurd cc
 
-pub followed-found : (file : List Item) (find : ℕ → Option DeclaredLocal) → AllReach (known_at file) (λ w. option_map reached_view (find w))
+pub followed-found : (file : List Item) (find : ℕ → Option TypedefTarget) → AllReach (known_at file) (λ w. option_map reached_view (find w))
     → ((w : ℕ) → is_some (find w) ≡ is_some (typedef_in (typedefs file) w))
     → (w : ℕ) → is_listed_type w ≡ false → (n : ℕ) → found_within (option_map reached_view (find w)) n ≡ known_at file n w
 followed-found file find reach all w h n = at (find w) (reach w) (all w)
   where
-    at : (o : Option DeclaredLocal) → ReachesSome (known_at file) w (option_map reached_view o) → is_some o ≡ is_some (typedef_in (typedefs file) w)
+    at : (o : Option TypedefTarget) → ReachesSome (known_at file) w (option_map reached_view o) → is_some o ≡ is_some (typedef_in (typedefs file) w)
         → found_within (option_map reached_view o) n ≡ known_at file n w
     at None r e = sym (missing file w h (nothing (typedef_in (typedefs file) w) e) n ∙ either (nat_le 0 n))
     at (Some x) r e = sym (r n)

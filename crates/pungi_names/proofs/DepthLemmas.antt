@@ -3,7 +3,7 @@ use Rattle.std.proofs.Common.{◌≡◌, ℕ, zero, suc, ◌+◌, ◌==◌, Bool
 use Rattle.std.specs.Prelude.{nat_le}
 use Rattle.std.proofs.lemmas.Bool.Decides.{nat_tests}
 use Rattle.pungi_types.specs.Kinds.{Core, base_words, builtin, struct_of, no_core, Followed, more_stars}
-use Rattle.pungi_names.specs.Depth.{DeclaredLocal, nowhere, with_stars, known, after_typedef, Reaches, Leads}
+use Rattle.pungi_names.specs.Depth.{TypedefTarget, nowhere, with_stars, known, after_typedef, Reaches, Leads}
 use Rattle.pungi_names.specs.Walk.{on_path, IsPath}
 
 within_one_more : (d n : ℕ) → nat_le (d + 1) (suc n) ≡ nat_le d n
@@ -26,7 +26,7 @@ behind-choice : (b : Bool) (k : ℕ) (f : Followed) → after_typedef k (cond b 
 behind-choice true k f = sym (behind-known k f)
 behind-choice false k f = refl
 
-pub one_more : (step : ℕ → ℕ → Followed) (w k v : ℕ) (r : DeclaredLocal) → Leads step w k v → Reaches step v r
+pub one_more : (step : ℕ → ℕ → Followed) (w k v : ℕ) (r : TypedefTarget) → Leads step w k v → Reaches step v r
     → Reaches step w (record { depth = r.depth + 1; at = more_stars k r.at })
 one_more step w k v r l h zero = l.first ∙ sym (ap (λ b. cond b (known (more_stars k r.at)) nowhere) (not_within r.depth))
 one_more step w k v r l h (suc n) =

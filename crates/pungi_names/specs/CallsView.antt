@@ -14,4 +14,4 @@ abbrev pub function_signature : List Item → Definition → ℕ × (List Want �
 function_signature file d = (d.name.0, (params_wants file d.params, type_kind file (spec_base d.result) d.stars))
 
 abbrev pub signature_view : Signature → ℕ × (List Want × Option ValueKind)
-signature_view s = (s.name, (s.wants.items, s.result_kind))
+signature_view s = (s.name.0, (s.wants.items, s.result_kind))

@@ -1,5 +1,5 @@
 -- How far typedefs lead (C11 6.7.8).
---   DeclaredLocal      what the word of a typedef stands for, and how many typedefs lead there
+--   TypedefTarget      what the word of a typedef stands for, and how many typedefs lead there
 --   nowhere            no type
 --   with_stars c n     a type with so many stars; those of no type count nothing
 --   known f            a type, where the stars of no type count nothing
@@ -19,7 +19,7 @@ use Rattle.pungi_base.specs.declared.names.Name.{Name}
 use Rattle.pungi_tree.specs.Syntax.{Base, alias, tagged_fields, Item}
 use Rattle.pungi_types.specs.Kinds.{Core, base_words, builtin, struct_of, no_core, Followed, core_alone, core_at, written_core, is_struct}
 
-pub record DeclaredLocal : Type 0 where
+pub record TypedefTarget : Type 0 where
   pub depth : ℕ
   pub at : Followed
 
@@ -44,15 +44,15 @@ word_base w = alias (record { 0 = w })
 abbrev pub known_at : List Item → ℕ → ℕ → Followed
 known_at file n w = known (core_at n file (word_base w))
 
-abbrev pub reached_within : DeclaredLocal → ℕ → Followed
+abbrev pub reached_within : TypedefTarget → ℕ → Followed
 reached_within r n = (if nat_le r.depth n then known r.at else nowhere)
 
-abbrev pub found_within : Option DeclaredLocal → ℕ → Followed
+abbrev pub found_within : Option TypedefTarget → ℕ → Followed
 found_within None n = nowhere
 found_within (Some r) n = reached_within r n
 
 -- `step n w` is what the word is when typedefs are followed at most n times
-abbrev pub Reaches : (ℕ → ℕ → Followed) → ℕ → DeclaredLocal → Type 0
+abbrev pub Reaches : (ℕ → ℕ → Followed) → ℕ → TypedefTarget → Type 0
 Reaches step w r = (n : ℕ) → step n w ≡ reached_within r n
 
 -- one typedef more: nothing at first, then what the word after it is

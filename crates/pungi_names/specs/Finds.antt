@@ -11,11 +11,11 @@ use Rattle.pungi_types.specs.Tags.{tags}
 use Rattle.pungi_types.specs.TypesView.{core_view, typedef_view}
 use Rattle.pungi_types.specs.declared.types.Typedef.{Typedef}
 use Rattle.pungi_names.specs.Depth as depth
-use Rattle.pungi_names.specs.declared.step.DeclaredLocal.{DeclaredLocal}
+use Rattle.pungi_names.specs.declared.step.TypedefTarget.{TypedefTarget}
 use Rattle.pungi_names.specs.declared.step.Step.{Step}
 use Rattle.pungi_names.specs.declared.step.Step.TheVariants as steps
 
-abbrev pub reached_view : DeclaredLocal → depth.DeclaredLocal
+abbrev pub reached_view : TypedefTarget → depth.TypedefTarget
 reached_view r = record { depth = r.depth; at = record { core = core_view r.core; stars = r.stars } }
 
 abbrev pub FindsTypedefs : (ℕ → Option Typedef) → List Item → Type 0

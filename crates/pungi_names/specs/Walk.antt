@@ -6,7 +6,7 @@
 --   EndsAt step ps v o  where a walk ends: at what the word reaches, or at a word that was walked by
 use Rattle.std.specs.Prelude.{◌≡◌, ℕ, ◌==◌, Bool, false, ◌||◌, List, [], ◌∷◌, Option, Some, None, IsTrue}
 use Rattle.pungi_types.specs.Kinds.{Followed}
-use Rattle.pungi_names.specs.Depth.{DeclaredLocal, Reaches, Leads}
+use Rattle.pungi_names.specs.Depth.{TypedefTarget, Reaches, Leads}
 
 abbrev pub on_path : List (ℕ × ℕ) → ℕ → Bool
 on_path [] w = false
@@ -16,13 +16,13 @@ abbrev pub IsPath : (ℕ → ℕ → Followed) → ℕ → List (ℕ × ℕ) →
 IsPath step s [] v = s ≡ v
 IsPath step s (p ∷ ps) v = Leads step p.0 p.1 v × IsPath step s ps p.0
 
-abbrev pub ReachesSome : (ℕ → ℕ → Followed) → ℕ → Option DeclaredLocal → Type 0
+abbrev pub ReachesSome : (ℕ → ℕ → Followed) → ℕ → Option TypedefTarget → Type 0
 ReachesSome step w None = Unit {0}
 ReachesSome step w (Some r) = Reaches step w r
 
-abbrev pub AllReach : (ℕ → ℕ → Followed) → (ℕ → Option DeclaredLocal) → Type 0
+abbrev pub AllReach : (ℕ → ℕ → Followed) → (ℕ → Option TypedefTarget) → Type 0
 AllReach step find = (w : ℕ) → ReachesSome step w (find w)
 
-abbrev pub EndsAt : (ℕ → ℕ → Followed) → List (ℕ × ℕ) → ℕ → Option DeclaredLocal → Type 0
+abbrev pub EndsAt : (ℕ → ℕ → Followed) → List (ℕ × ℕ) → ℕ → Option TypedefTarget → Type 0
 EndsAt step ps v None = IsTrue (on_path ps v)
 EndsAt step ps v (Some r) = Reaches step v r

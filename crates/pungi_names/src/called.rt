@@ -8,6 +8,7 @@ ghost use Rattle.pungi_types.specs.Names.{is_among};
 use crate::signature::Signature;
 use indexmap::IndexSet;
 use pungi_api::{Answer, Form, Row, Special};
+use pungi_base::Name;
 use pungi_types::{ValueKind, Want};
 
 /// What stands before the parenthesis of a call.
@@ -53,10 +54,10 @@ fn row_kind(row: &Row) -> ValueKind
 }
 
 /// Whether a function is another one that is refused.
-fn is_refused(own: u32, refused: &IndexSet<u32>, name: u32) -> bool
-    ensures { result ≡ is_refused_seen own refused.now.keys name }
+fn is_refused(own: Name, refused: &IndexSet<u32>, name: Name) -> bool
+    ensures { result ≡ is_refused_seen own.0 refused.now.keys name.0 }
 {
-    !(name == own) && refused.contains(&name)
+    !(name.0 == own.0) && refused.contains(&name.0)
 }
 
 impl<'n> Called<'n> {
@@ -71,8 +72,8 @@ impl<'n> Called<'n> {
         }
     }
 
-    pub(crate) fn result_kind(&self, own: u32, refused: &IndexSet<u32>) -> Option<ValueKind>
-        ensures { result ≡ result_seen own refused.now.keys (called_view self.now) }
+    pub(crate) fn result_kind(&self, own: Name, refused: &IndexSet<u32>) -> Option<ValueKind>
+        ensures { result ≡ result_seen own.0 refused.now.keys (called_view self.now) }
     {
         match *self {
             Called::Value => None,
@@ -110,8 +111,8 @@ impl<'n> Called<'n> {
         }
     }
 
-    pub(crate) fn is_unknown(&self, own: u32, refused: &IndexSet<u32>) -> bool
-        ensures { result ≡ is_unknown_seen own refused.now.keys (called_view self.now) }
+    pub(crate) fn is_unknown(&self, own: Name, refused: &IndexSet<u32>) -> bool
+        ensures { result ≡ is_unknown_seen own.0 refused.now.keys (called_view self.now) }
     {
         match *self {
             Called::Value => false,

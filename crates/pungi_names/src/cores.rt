@@ -7,7 +7,7 @@ ghost use Rattle.pungi_names.specs.Finds.{FindsTags, reached_view};
 ghost use Rattle.pungi_tree.specs.UnitView.{unit_view};
 ghost use Rattle.pungi_types.specs.Kinds.{is_listed_type, written_tag, is_fielded, core_of};
 
-use crate::step::DeclaredLocal;
+use crate::step::TypedefTarget;
 use crate::written::alias_of;
 use indexmap::{IndexMap, IndexSet};
 use pungi_base::Name;
@@ -27,7 +27,7 @@ pub(crate) struct Cores<'u> {
     pub(crate) unit: &'u Unit,
     /// The tags of structs with fields.
     pub(crate) tags: IndexSet<u32>,
-    pub(crate) reached: IndexMap<u32, DeclaredLocal<'u>>,
+    pub(crate) reached: IndexMap<u32, TypedefTarget<'u>>,
     /// How many typedefs the file has.
     pub(crate) count: usize,
     pub(crate) ghost tags_found: { FindsTags (contains nat_eq tags) (unit_view unit.now) },
@@ -41,7 +41,7 @@ impl<'u> Cores<'u> {
     fn word_core(&self, word: Name) -> Followed<'_>
         ensures { known (followed_view result) ≡ known (core_of (unit_view self.now.unit.now) (word_base word.0)) }
     {
-        if is_listed_type(word.0) {
+        if is_listed_type(word) {
             return Followed {
                 core: Core::Listed(word),
                 stars: 0,
@@ -56,7 +56,7 @@ impl<'u> Cores<'u> {
         }
     }
 
-    fn within<'a>(&self, reached: &DeclaredLocal<'a>) -> Followed<'a>
+    fn within<'a>(&self, reached: &TypedefTarget<'a>) -> Followed<'a>
         ensures { known (followed_view result) ≡ reached_within (reached_view reached.now) self.now.count }
     {
         if reached.depth <= self.count {

@@ -14,7 +14,7 @@ use crate::first::keep_first;
 use crate::kinds::Kinds;
 use crate::tables::{is_single, is_table};
 use indexmap::{IndexMap, IndexSet};
-use pungi_base::Memory;
+use pungi_base::{Memory, Name};
 use pungi_base::words::{PY_MODULE_DEF, PY_TYPE_OBJECT};
 use pungi_declared::Variable;
 use pungi_types::ValueKind;
@@ -84,7 +84,7 @@ fn note_module(
 ) -> Result<(), Memory>
     ensures { OnOk result ((w : ℕ) → contains nat_eq modules.new w ≡ (contains nat_eq modules.old w || ((declr_name (variable_view variable.now).declr).0 == w && is_single (unit_view kinds.now.cores.unit.now) PY_MODULE_DEF (variable_view variable.now)))) }
 {
-    if is_single(&kinds.cores, PY_MODULE_DEF, variable.spec, variable.declr) {
+    if is_single(&kinds.cores, Name(PY_MODULE_DEF), variable.spec, variable.declr) {
         modules.insert(variable.declr.name.0)?;
     }
     Ok(())
@@ -114,7 +114,7 @@ fn note_type_object(
 ) -> Result<(), Memory>
     ensures { OnOk result (objects.new.keys ≡ (if is_single (unit_view kinds.now.cores.unit.now) PY_TYPE_OBJECT (variable_view variable.now) then with_word objects.old.keys (declr_name (variable_view variable.now).declr).0 else objects.old.keys)) }
 {
-    if is_single(&kinds.cores, PY_TYPE_OBJECT, variable.spec, variable.declr) {
+    if is_single(&kinds.cores, Name(PY_TYPE_OBJECT), variable.spec, variable.declr) {
         objects.insert(variable.declr.name.0)?;
     }
     Ok(())

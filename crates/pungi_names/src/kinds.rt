@@ -7,6 +7,7 @@ ghost use Rattle.pungi_types.specs.Kinds.{is_object_struct};
 
 use crate::cores::{Cores, Followed};
 use indexmap::IndexMap;
+use pungi_base::Name;
 use pungi_tree::{Declr, ParamDeclr, Spec};
 use pungi_types::{Core, ValueKind, is_plain, listed_kind, not_void, words_kind};
 
@@ -26,10 +27,10 @@ impl<'u> Kinds<'u> {
     ghost use Rattle.pungi_types.specs.Exprs.{param_kind};
     ghost use Rattle.pungi_types.specs.Kinds.{core_kind, type_kind, declared_kind, spec_base};
 
-    fn is_object(&self, word: u32) -> bool
-        ensures { result ≡ is_object_struct (unit_view self.now.cores.unit.now) word }
+    fn is_object(&self, word: Name) -> bool
+        ensures { result ≡ is_object_struct (unit_view self.now.cores.unit.now) word.0 }
     {
-        match self.objects.get(&word) {
+        match self.objects.get(&word.0) {
             Some(is_object) => *is_object,
             None => false,
         }
@@ -40,9 +41,9 @@ impl<'u> Kinds<'u> {
     {
         match followed.core {
             Core::Words(keys) => words_kind(keys, stars),
-            Core::Listed(name) => listed_kind(name.0, stars),
+            Core::Listed(name) => listed_kind(name, stars),
             Core::Struct(name) => {
-                if stars == 1 && self.is_object(name.0) {
+                if stars == 1 && self.is_object(name) {
                     Some(ValueKind::Object(Some(name)))
                 } else {
                     None

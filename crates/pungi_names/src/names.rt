@@ -16,7 +16,7 @@ use crate::tables::is_table;
 use crate::values::Values;
 use indexmap::{IndexMap, IndexSet};
 use pungi_api::Table;
-use pungi_base::Names;
+use pungi_base::{Name, Names};
 use pungi_tree::{Declr, Spec};
 
 /// The names that a file declares, and the rows of the API, each found at once.
@@ -68,17 +68,17 @@ impl<'u> UnitNames<'u> {
     }
 
     /// Whether a word names a static object.
-    pub fn is_static(&self, word: u32) -> bool
-        ensures { result ≡ is_static (file_of self.now).items word }
+    pub fn is_static(&self, word: Name) -> bool
+        ensures { result ≡ is_static (file_of self.now).items word.0 }
     {
         self.values.is_static(word)
     }
 
     /// Whether a word names a row.
-    pub fn is_row(&self, word: u32) -> bool
-        ensures { result ≡ is_some (row_in (file_of self.now).rows word) }
+    pub fn is_row(&self, word: Name) -> bool
+        ensures { result ≡ is_some (row_in (file_of self.now).rows word.0) }
     {
-        self.calls.contains_key(&word)
+        self.calls.contains_key(&word.0)
     }
 
     /// How many type objects the file has.
@@ -88,21 +88,21 @@ impl<'u> UnitNames<'u> {
         self.values.type_object_count()
     }
 
-    fn is_defined(&self, word: u32) -> bool
-        ensures { result ≡ is_some (definition_in (definitions (file_of self.now).items) word) }
+    fn is_defined(&self, word: Name) -> bool
+        ensures { result ≡ is_some (definition_in (definitions (file_of self.now).items) word.0) }
     {
-        self.signatures.contains_key(&word)
+        self.signatures.contains_key(&word.0)
     }
 
     /// Whether a word names a function of the file.
-    pub(crate) fn is_function(&self, word: u32) -> bool
-        ensures { result ≡ is_function (file_of self.now).items word }
+    pub(crate) fn is_function(&self, word: Name) -> bool
+        ensures { result ≡ is_function (file_of self.now).items word.0 }
     {
-        self.is_defined(word) || self.prototypes.contains(&word)
+        self.is_defined(word) || self.prototypes.contains(&word.0)
     }
 
-    fn variable_meaning(&self, word: u32) -> Meaning
-        ensures { meaning_view result ≡ global_or (file_of self.now).items word (global_kind (file_of self.now).items word) }
+    fn variable_meaning(&self, word: Name) -> Meaning
+        ensures { meaning_view result ≡ global_or (file_of self.now).items word.0 (global_kind (file_of self.now).items word.0) }
     {
         match self.values.global_kind(word) {
             Some(kind) => Meaning::Global(kind),
@@ -111,8 +111,8 @@ impl<'u> UnitNames<'u> {
     }
 
     /// What a word of the file is where it stands as a value.
-    pub(crate) fn meaning(&self, word: u32) -> Meaning
-        ensures { meaning_view result ≡ local_or (file_of self.now).items word None }
+    pub(crate) fn meaning(&self, word: Name) -> Meaning
+        ensures { meaning_view result ≡ local_or (file_of self.now).items word.0 None }
     {
         if self.is_function(word) {
             Meaning::Function
@@ -121,8 +121,8 @@ impl<'u> UnitNames<'u> {
         }
     }
 
-    fn value_called(&self, word: u32) -> Called<'_>
-        ensures { called_view result ≡ seen (file_of self.now).items (value_or_none (file_of self.now).items word) }
+    fn value_called(&self, word: Name) -> Called<'_>
+        ensures { called_view result ≡ seen (file_of self.now).items (value_or_none (file_of self.now).items word.0) }
     {
         if self.values.global_kind(word).is_some() || self.values.is_own_static(word) {
             Called::Value
@@ -131,20 +131,20 @@ impl<'u> UnitNames<'u> {
         }
     }
 
-    fn row_called(&self, word: u32) -> Called<'_>
-        ensures { called_view result ≡ seen (file_of self.now).items (row_or (file_of self.now).items word (row_in (file_of self.now).rows word)) }
+    fn row_called(&self, word: Name) -> Called<'_>
+        ensures { called_view result ≡ seen (file_of self.now).items (row_or (file_of self.now).items word.0 (row_in (file_of self.now).rows word.0)) }
     {
-        match self.calls.get(&word) {
+        match self.calls.get(&word.0) {
             Some(call) => Called::Row(call.row, call.wants.as_slice()),
             None => self.value_called(word),
         }
     }
 
     /// What a word of the file is where it is called.
-    pub(crate) fn called(&self, word: u32) -> Called<'_>
-        ensures { called_view result ≡ seen (file_of self.now).items (file_callee (file_of self.now) word) }
+    pub(crate) fn called(&self, word: Name) -> Called<'_>
+        ensures { called_view result ≡ seen (file_of self.now).items (file_callee (file_of self.now) word.0) }
     {
-        match self.signatures.get(&word) {
+        match self.signatures.get(&word.0) {
             Some(signature) => Called::Defined(signature),
             None => self.row_called(word),
         }

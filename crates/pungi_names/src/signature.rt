@@ -7,7 +7,7 @@ ghost use Rattle.pungi_types.specs.Exprs.{kind_want, param_wants, params_wants};
 ghost use Rattle.pungi_types.specs.TypesView.{definition_view};
 
 use crate::kinds::Kinds;
-use pungi_base::Memory;
+use pungi_base::{Memory, Name};
 use pungi_tree::{FunctionDef, ParamDecl, Params};
 use pungi_types::{ValueKind, Want};
 use std::alloc::Global;
@@ -15,7 +15,7 @@ use std::alloc::Global;
 /// What a call of a function takes, and the kind of its result.
 #[derive(Drop)]
 pub(crate) struct Signature {
-    pub(crate) name: u32,
+    pub(crate) name: Name,
     pub(crate) wants: Vec<Want>,
     pub(crate) result_kind: Option<ValueKind>,
 }
@@ -56,7 +56,7 @@ pub(crate) fn function_signature(
 {
     let wants = params_wants(alloc, kinds, &function.params)?;
     Ok(Signature {
-        name: function.name.0,
+        name: function.name,
         wants,
         result_kind: kinds.type_kind(&function.result, function.stars.len()),
     })

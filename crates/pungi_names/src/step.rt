@@ -17,7 +17,7 @@ use pungi_types::{Core, Typedef, is_listed_type};
 
 /// What the word of a typedef stands for, and how many typedefs lead there.
 #[derive(Clone, Copy)]
-pub(crate) struct DeclaredLocal<'u> {
+pub(crate) struct TypedefTarget<'u> {
     pub(crate) core: Core<'u>,
     pub(crate) stars: usize,
     pub(crate) depth: usize,
@@ -26,7 +26,7 @@ pub(crate) struct DeclaredLocal<'u> {
 /// What a word is at once, or the word that it leads to with so many stars more.
 #[derive(Clone, Copy)]
 pub(crate) enum Step<'u> {
-    Ends(DeclaredLocal<'u>),
+    Ends(TypedefTarget<'u>),
     Leads(usize, u32),
 }
 
@@ -40,7 +40,7 @@ fn typedef_step<'u>(unit: &Unit, tags: &IndexSet<u32>, word: u32, found: &Typede
     let _ = word;
     match alias_of(&found.spec.base) {
         Some(next) => Step::Leads(found.stars, next.0),
-        None => Step::Ends(DeclaredLocal {
+        None => Step::Ends(TypedefTarget {
             core: own_core(
                 tags.contains(&struct_word(found.name, &found.spec.base).0),
                 found.name,
@@ -63,8 +63,8 @@ pub(crate) fn next_step<'u>(
     requires tags { FindsTags (contains nat_eq tags.now) (unit_view unit.now) }
     ensures { IsStep (known_at (unit_view unit.now)) word result }
 {
-    if is_listed_type(word) {
-        return Step::Ends(DeclaredLocal {
+    if is_listed_type(Name(word)) {
+        return Step::Ends(TypedefTarget {
             core: Core::Listed(Name(word)),
             stars: 0,
             depth: 0,
@@ -72,7 +72,7 @@ pub(crate) fn next_step<'u>(
     }
     match typedefs.get(&word) {
         Some(found) => typedef_step(unit, tags, word, found),
-        None => Step::Ends(DeclaredLocal {
+        None => Step::Ends(TypedefTarget {
             core: Core::Other,
             stars: 0,
             depth: 0,

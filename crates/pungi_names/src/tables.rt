@@ -7,6 +7,7 @@ ghost use Rattle.pungi_types.specs.Names.{is_table, is_single, is_table_core, is
 ghost use Rattle.pungi_types.specs.TypesView.{core_view};
 
 use crate::cores::Cores;
+use pungi_base::Name;
 use pungi_base::words::{
     OB_BASE, PY_GET_SET_DEF, PY_MEMBER_DEF, PY_METHOD_DEF, PY_MODULE_DEF, PY_OBJECT, PY_TYPE_OBJECT,
     PY_VAR_OBJECT,
@@ -14,19 +15,19 @@ use pungi_base::words::{
 use pungi_tree::{Base, Declr, Spec};
 use pungi_types::{Core, is_no_function, is_plain};
 
-fn is_table_type(word: u32) -> bool
-    ensures { result ≡ is_table_type word }
+fn is_table_type(word: Name) -> bool
+    ensures { result ≡ is_table_type word.0 }
 {
-    word == PY_TYPE_OBJECT
-        || (word == PY_METHOD_DEF
-            || (word == PY_MODULE_DEF || (word == PY_MEMBER_DEF || word == PY_GET_SET_DEF)))
+    word.0 == PY_TYPE_OBJECT
+        || (word.0 == PY_METHOD_DEF
+            || (word.0 == PY_MODULE_DEF || (word.0 == PY_MEMBER_DEF || word.0 == PY_GET_SET_DEF)))
 }
 
 fn is_table_core(core: &Core) -> bool
     ensures { result ≡ is_table_core (core_view core.now) }
 {
     match core {
-        Core::Listed(name) => is_table_type(name.0),
+        Core::Listed(name) => is_table_type(name),
         Core::Words(_) => false,
         Core::Struct(_) => false,
         Core::Other => false,
@@ -44,11 +45,11 @@ fn is_head_core(core: &Core) -> bool
     }
 }
 
-fn is_core(word: u32, core: &Core) -> bool
-    ensures { result ≡ is_core word (core_view core.now) }
+fn is_core(word: Name, core: &Core) -> bool
+    ensures { result ≡ is_core word.0 (core_view core.now) }
 {
     match core {
-        Core::Listed(name) => name.0 == word,
+        Core::Listed(name) => name.0 == word.0,
         Core::Words(_) => false,
         Core::Struct(_) => false,
         Core::Other => false,
@@ -87,8 +88,8 @@ fn is_head_base(cores: &Cores, base: &Base, stars: usize) -> bool
     )
 }
 
-fn is_core_base(cores: &Cores, word: u32, base: &Base) -> bool
-    ensures { result ≡ is_core word (core_of (unit_view cores.now.unit.now) (base_view base.now)).core }
+fn is_core_base(cores: &Cores, word: Name, base: &Base) -> bool
+    ensures { result ≡ is_core word.0 (core_of (unit_view cores.now.unit.now) (base_view base.now)).core }
 {
     let followed = cores.core_of(base);
     is_core(word, &followed.core)
@@ -104,8 +105,8 @@ pub(crate) fn is_table(cores: &Cores, spec: &Spec, declr: &Declr) -> bool
 
 /// Whether it is a table of this type that is no array.
 #[tactic(auto, using(crate::proofs::SpecLemmas::views))]
-pub(crate) fn is_single(cores: &Cores, word: u32, spec: &Spec, declr: &Declr) -> bool
-    ensures { result ≡ is_single (unit_view cores.now.unit.now) word (record { spec = spec_view spec.now; declr = declr_view declr.now }) }
+pub(crate) fn is_single(cores: &Cores, word: Name, spec: &Spec, declr: &Declr) -> bool
+    ensures { result ≡ is_single (unit_view cores.now.unit.now) word.0 (record { spec = spec_view spec.now; declr = declr_view declr.now }) }
 {
     is_table(cores, spec, declr) && (is_plain(declr) && is_core_base(cores, word, &spec.base))
 }

@@ -14,7 +14,7 @@ ghost use Rattle.pungi_types.specs.TypesView.{typedef_view};
 
 use crate::cores::Cores;
 use crate::first::keep_first;
-use crate::step::DeclaredLocal;
+use crate::step::TypedefTarget;
 use crate::walk::follow;
 use indexmap::{IndexMap, IndexSet};
 use pungi_base::{Key, Memory};
@@ -64,8 +64,8 @@ fn reach_word<'u>(
     unit: &Unit,
     first: &IndexMap<u32, Typedef<'u>>,
     tags: &IndexSet<u32>,
-    done: &mut IndexMap<u32, DeclaredLocal<'u>>,
-    all: &mut IndexMap<u32, DeclaredLocal<'u>>,
+    done: &mut IndexMap<u32, TypedefTarget<'u>>,
+    all: &mut IndexMap<u32, TypedefTarget<'u>>,
     word: u32,
 ) -> Result<(), Memory>
     requires first { FindsTypedefs (get nat_eq first.now) (unit_view unit.now) }
@@ -88,8 +88,8 @@ fn reach_words<'u>(
     typedefs: &Vec<Typedef<'u>>,
     first: &IndexMap<u32, Typedef<'u>>,
     tags: &IndexSet<u32>,
-    done: &mut IndexMap<u32, DeclaredLocal<'u>>,
-    all: &mut IndexMap<u32, DeclaredLocal<'u>>,
+    done: &mut IndexMap<u32, TypedefTarget<'u>>,
+    all: &mut IndexMap<u32, TypedefTarget<'u>>,
 ) -> Result<(), Memory>
     requires first { FindsTypedefs (get nat_eq first.now) (unit_view unit.now) }
     requires tags { FindsTags (contains nat_eq tags.now) (unit_view unit.now) }
@@ -111,7 +111,7 @@ fn reached_words<'u>(
     typedefs: &Vec<Typedef<'u>>,
     first: &IndexMap<u32, Typedef<'u>>,
     tags: &IndexSet<u32>,
-) -> Result<IndexMap<u32, DeclaredLocal<'u>>, Memory>
+) -> Result<IndexMap<u32, TypedefTarget<'u>>, Memory>
     requires first { FindsTypedefs (get nat_eq first.now) (unit_view unit.now) }
     requires tags { FindsTags (contains nat_eq tags.now) (unit_view unit.now) }
     ensures reach { IfOk result (λ all. AllReach (known_at (unit_view unit.now)) (λ w. option_map reached_view (get nat_eq all w))) }

@@ -13,6 +13,7 @@ use crate::kinds::Kinds;
 use crate::meaning::Meaning;
 use indexmap::{IndexMap, IndexSet};
 use pungi_base::words::{FIRST_STATIC, FIRST_TYPE_OBJECT, STATICS, STATICS_END};
+use pungi_base::Name;
 use pungi_types::{ValueKind, is_built_in_static};
 
 /// The variables of a file, its tables, and the fields of its structs.
@@ -33,22 +34,22 @@ pub(crate) struct Values<'u> {
 }
 
 /// A static that is used without `&`.
-fn is_plain_static(word: u32) -> bool
-    ensures { result ≡ is_plain_static word }
+fn is_plain_static(word: Name) -> bool
+    ensures { result ≡ is_plain_static word.0 }
 {
-    FIRST_STATIC <= word && !(FIRST_TYPE_OBJECT <= word)
+    FIRST_STATIC <= word.0 && !(FIRST_TYPE_OBJECT <= word.0)
 }
 
-fn is_built_in_type_object(word: u32) -> bool
-    ensures { result ≡ (nat_le first_type_object word && not (nat_le statics_end word)) }
+fn is_built_in_type_object(word: Name) -> bool
+    ensures { result ≡ (nat_le first_type_object word.0 && not (nat_le statics_end word.0)) }
 {
-    FIRST_TYPE_OBJECT <= word && !(STATICS_END <= word)
+    FIRST_TYPE_OBJECT <= word.0 && !(STATICS_END <= word.0)
 }
 
-fn kind_of_field(fields: &IndexMap<u32, Option<ValueKind>>, word: u32) -> Option<ValueKind>
-    ensures { result ≡ kind_in word fields.now }
+fn kind_of_field(fields: &IndexMap<u32, Option<ValueKind>>, word: Name) -> Option<ValueKind>
+    ensures { result ≡ kind_in word.0 fields.now }
 {
-    match fields.get(&word) {
+    match fields.get(&word.0) {
         Some(kind) => *kind,
         None => None,
     }
@@ -59,21 +60,21 @@ impl<'u> Values<'u> {
     ghost use Rattle.pungi_types.specs.Kinds.{field_kind};
     ghost use Rattle.pungi_types.specs.Names.{is_among, is_type_object, is_static, is_own_static, static_number, static_or_unknown, place_among};
 
-    fn field_of_struct(&self, name: u32, word: u32) -> Option<ValueKind>
-        ensures { result ≡ field_in_some (unit_view self.now.kinds.cores.unit.now) (struct_fields (unit_view self.now.kinds.cores.unit.now) name) word }
+    fn field_of_struct(&self, name: Name, word: Name) -> Option<ValueKind>
+        ensures { result ≡ field_in_some (unit_view self.now.kinds.cores.unit.now) (struct_fields (unit_view self.now.kinds.cores.unit.now) name.0) word.0 }
     {
-        match self.fields.get(&name) {
+        match self.fields.get(&name.0) {
             Some(fields) => kind_of_field(fields, word),
             None => None,
         }
     }
 
     /// The kind of a field of the struct of a pointer.
-    pub(crate) fn field_kind(&self, base: Option<ValueKind>, word: u32) -> Option<ValueKind>
-        ensures { result ≡ field_kind (unit_view self.now.kinds.cores.unit.now) base word }
+    pub(crate) fn field_kind(&self, base: Option<ValueKind>, word: Name) -> Option<ValueKind>
+        ensures { result ≡ field_kind (unit_view self.now.kinds.cores.unit.now) base word.0 }
     {
         match base {
-            Some(ValueKind::Object(Some(name))) => self.field_of_struct(name.0, word),
+            Some(ValueKind::Object(Some(name))) => self.field_of_struct(name, word),
             Some(ValueKind::Object(None)) => None,
             Some(ValueKind::Int) => None,
             Some(ValueKind::Long) => None,
@@ -86,38 +87,38 @@ impl<'u> Values<'u> {
     }
 
     /// The kind of a variable.
-    pub(crate) fn global_kind(&self, word: u32) -> Option<ValueKind>
-        ensures { result ≡ global_kind (unit_view self.now.kinds.cores.unit.now) word }
+    pub(crate) fn global_kind(&self, word: Name) -> Option<ValueKind>
+        ensures { result ≡ global_kind (unit_view self.now.kinds.cores.unit.now) word.0 }
     {
-        match self.globals.get(&word) {
+        match self.globals.get(&word.0) {
             Some(kind) => *kind,
             None => None,
         }
     }
 
     /// Whether a word names a table of type `PyModuleDef`.
-    pub(crate) fn is_module(&self, word: u32) -> bool
-        ensures { result ≡ is_module (unit_view self.now.kinds.cores.unit.now) word }
+    pub(crate) fn is_module(&self, word: Name) -> bool
+        ensures { result ≡ is_module (unit_view self.now.kinds.cores.unit.now) word.0 }
     {
-        self.modules.contains(&word)
+        self.modules.contains(&word.0)
     }
 
-    fn has_type_object(&self, word: u32) -> bool
-        ensures { result ≡ is_among (type_objects_of (unit_view self.now.kinds.cores.unit.now)) word }
+    fn has_type_object(&self, word: Name) -> bool
+        ensures { result ≡ is_among (type_objects_of (unit_view self.now.kinds.cores.unit.now)) word.0 }
     {
-        self.type_objects.contains(&word)
+        self.type_objects.contains(&word.0)
     }
 
     /// Whether a word names a type object.
-    pub(crate) fn is_type_object(&self, word: u32) -> bool
-        ensures { result ≡ is_type_object (unit_view self.now.kinds.cores.unit.now) word }
+    pub(crate) fn is_type_object(&self, word: Name) -> bool
+        ensures { result ≡ is_type_object (unit_view self.now.kinds.cores.unit.now) word.0 }
     {
         is_built_in_type_object(word) || self.has_type_object(word)
     }
 
     /// Whether a word names a static object.
-    pub(crate) fn is_static(&self, word: u32) -> bool
-        ensures { result ≡ is_static (unit_view self.now.kinds.cores.unit.now) word }
+    pub(crate) fn is_static(&self, word: Name) -> bool
+        ensures { result ≡ is_static (unit_view self.now.kinds.cores.unit.now) word.0 }
     {
         is_plain_static(word) || self.is_type_object(word)
     }
@@ -129,37 +130,37 @@ impl<'u> Values<'u> {
         self.type_objects.len() as u32
     }
 
-    fn place_of(&self, word: u32) -> u32
-        ensures place { result ≡ place_among (type_objects_of (unit_view self.now.kinds.cores.unit.now)) word }
+    fn place_of(&self, word: Name) -> u32
+        ensures place { result ≡ place_among (type_objects_of (unit_view self.now.kinds.cores.unit.now)) word.0 }
         ensures few { result + static_count < 2 ^ 32 }
     {
-        match self.type_objects.get_index_of(&word) {
+        match self.type_objects.get_index_of(&word.0) {
             Some(place) => place as u32,
             None => self.type_objects.len() as u32,
         }
     }
 
     /// The number of a static's object.
-    pub(crate) fn static_number(&self, word: u32) -> u32
-        ensures { result ≡ static_number (unit_view self.now.kinds.cores.unit.now) word }
+    pub(crate) fn static_number(&self, word: Name) -> u32
+        ensures { result ≡ static_number (unit_view self.now.kinds.cores.unit.now) word.0 }
     {
         if is_built_in_static(word) {
-            word - FIRST_STATIC
+            word.0 - FIRST_STATIC
         } else {
             self.place_of(word) + STATICS
         }
     }
 
     /// Whether a word names a static that is used without `&`, and is no table of the file.
-    pub(crate) fn is_own_static(&self, word: u32) -> bool
-        ensures { result ≡ is_own_static (unit_view self.now.kinds.cores.unit.now) word }
+    pub(crate) fn is_own_static(&self, word: Name) -> bool
+        ensures { result ≡ is_own_static (unit_view self.now.kinds.cores.unit.now) word.0 }
     {
-        is_plain_static(word) && !self.tables.contains(&word)
+        is_plain_static(word) && !self.tables.contains(&word.0)
     }
 
     /// What a word is that names neither a function nor a variable.
-    pub(crate) fn static_meaning(&self, word: u32) -> Meaning
-        ensures { meaning_view result ≡ static_or_unknown (unit_view self.now.kinds.cores.unit.now) word }
+    pub(crate) fn static_meaning(&self, word: Name) -> Meaning
+        ensures { meaning_view result ≡ static_or_unknown (unit_view self.now.kinds.cores.unit.now) word.0 }
     {
         if self.is_own_static(word) {
             Meaning::Static(self.static_number(word))

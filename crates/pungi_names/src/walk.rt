@@ -8,7 +8,7 @@ ghost use Rattle.pungi_names.specs.Walk.{AllReach, IsPath, EndsAt};
 ghost use Rattle.pungi_names.specs.WalkView.{IsWalk, one_more};
 ghost use Rattle.pungi_tree.specs.UnitView.{unit_view};
 
-use crate::step::{DeclaredLocal, Step, next_step};
+use crate::step::{TypedefTarget, Step, next_step};
 use indexmap::{IndexMap, IndexSet};
 use pungi_base::Memory;
 use pungi_tree::Unit;
@@ -21,7 +21,7 @@ use std::alloc::Global;
 pub(crate) struct Walk<'u> {
     pub(crate) path: Vec<(u32, usize)>,
     pub(crate) at: u32,
-    pub(crate) end: Option<DeclaredLocal<'u>>,
+    pub(crate) end: Option<TypedefTarget<'u>>,
 }
 
 /// Walks on to a word whose end is known, or in a circle: the word where the walk ends, and what that word reaches.
@@ -29,11 +29,11 @@ fn walk_on<'u>(
     unit: &Unit,
     typedefs: &IndexMap<u32, Typedef<'u>>,
     tags: &IndexSet<u32>,
-    done: &IndexMap<u32, DeclaredLocal<'u>>,
+    done: &IndexMap<u32, TypedefTarget<'u>>,
     path: &mut Vec<(u32, usize)>,
     seen: &mut IndexSet<u32>,
     start: u32,
-) -> Result<(u32, Option<DeclaredLocal<'u>>), Memory>
+) -> Result<(u32, Option<TypedefTarget<'u>>), Memory>
     requires typedefs { FindsTypedefs (get nat_eq typedefs.now) (unit_view unit.now) }
     requires tags { FindsTags (contains nat_eq tags.now) (unit_view unit.now) }
     requires done { AllReach (known_at (unit_view unit.now)) (λ w. option_map reached_view (get nat_eq done.now w)) }
@@ -67,7 +67,7 @@ fn walk_from<'u>(
     unit: &Unit,
     typedefs: &IndexMap<u32, Typedef<'u>>,
     tags: &IndexSet<u32>,
-    done: &IndexMap<u32, DeclaredLocal<'u>>,
+    done: &IndexMap<u32, TypedefTarget<'u>>,
     start: u32,
 ) -> Result<Walk<'u>, Memory>
     requires typedefs { FindsTypedefs (get nat_eq typedefs.now) (unit_view unit.now) }
@@ -89,7 +89,7 @@ fn walk_from<'u>(
 }
 
 /// What stands after one typedef more.
-fn one_more(stars: usize, reached: DeclaredLocal) -> Result<DeclaredLocal, Memory>
+fn one_more(stars: usize, reached: TypedefTarget) -> Result<TypedefTarget, Memory>
     ensures { IfOk result (λ more. reached_view more ≡ one_more stars (reached_view reached.entry)) }
 {
     let Some(all_stars) = reached.stars.checked_add(stars) else {
@@ -98,7 +98,7 @@ fn one_more(stars: usize, reached: DeclaredLocal) -> Result<DeclaredLocal, Memor
     let Some(depth) = reached.depth.checked_add(1) else {
         return Err(Memory);
     };
-    Ok(DeclaredLocal {
+    Ok(TypedefTarget {
         core: reached.core,
         stars: all_stars,
         depth,
@@ -108,12 +108,12 @@ fn one_more(stars: usize, reached: DeclaredLocal) -> Result<DeclaredLocal, Memor
 /// Goes back along a walk that began at a word, and keeps what each word on it reaches.
 fn go_back<'u>(
     unit: &Unit,
-    done: &mut IndexMap<u32, DeclaredLocal<'u>>,
+    done: &mut IndexMap<u32, TypedefTarget<'u>>,
     start: u32,
     walked: Vec<(u32, usize)>,
     end: u32,
-    end_reached: DeclaredLocal<'u>,
-) -> Result<DeclaredLocal<'u>, Memory>
+    end_reached: TypedefTarget<'u>,
+) -> Result<TypedefTarget<'u>, Memory>
     requires path { IsPath (known_at (unit_view unit.now)) start (reverse walked.items) end }
     requires end { Reaches (known_at (unit_view unit.now)) end (reached_view end_reached) }
     requires done { AllReach (known_at (unit_view unit.now)) (λ w. option_map reached_view (get nat_eq done.old w)) }
@@ -140,9 +140,9 @@ pub(crate) fn follow<'u>(
     unit: &Unit,
     typedefs: &IndexMap<u32, Typedef<'u>>,
     tags: &IndexSet<u32>,
-    done: &mut IndexMap<u32, DeclaredLocal<'u>>,
+    done: &mut IndexMap<u32, TypedefTarget<'u>>,
     start: u32,
-) -> Result<DeclaredLocal<'u>, Memory>
+) -> Result<TypedefTarget<'u>, Memory>
     requires typedefs { FindsTypedefs (get nat_eq typedefs.now) (unit_view unit.now) }
     requires tags { FindsTags (contains nat_eq tags.now) (unit_view unit.now) }
     requires done { AllReach (known_at (unit_view unit.now)) (λ w. option_map reached_view (get nat_eq done.old w)) }
@@ -153,7 +153,7 @@ pub(crate) fn follow<'u>(
     match walked.end {
         Some(reached) => go_back(unit, done, start, walked.path, walked.at, reached),
         None => {
-            let nowhere = DeclaredLocal {
+            let nowhere = TypedefTarget {
                 core: Core::Other,
                 stars: 0,
                 depth: 0,

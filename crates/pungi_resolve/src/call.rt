@@ -49,7 +49,7 @@ fn call_row<N: Lookup>(
     ensures value { IfOk result (λ x. boxed_view x.value ≡ call_value pos (callee_of (N.env names.now) name.0) name (values_of (map value_view args.items))) }
     ensures kind { IfOk result (λ x. x.kind ≡ kind) }
 {
-    match names.row(name.0) {
+    match names.row(name) {
         None => unreachable!(),
         Some(row) => {
             let shape = shape_of(alloc, row)?;
@@ -73,7 +73,7 @@ pub(crate) fn call<N: Lookup>(
 {
     match &f.node {
         ExprNode::Word(name) => {
-            if names.is_defined_call(name.0) {
+            if names.is_defined_call(name) {
                 Typed::new(alloc, pos, ValueNode::Called(*name, args), kind)
             } else {
                 call_row(alloc, names, pos, *name, args, kind)

@@ -229,7 +229,7 @@ fn resolve_place<N: Lookup>(alloc: Global, names: &N, e: &Expr) -> Result<TypedP
     match &e.node {
         ExprNode::Word(name) => Ok(TypedPlace {
             place: word_place(names, e.pos, *name),
-            kind: names.word_kind(name.0),
+            kind: names.word_kind(name),
         }),
         ExprNode::Arrow(a, name) => resolve_field(alloc, names, e.pos, a, *name),
         _ => unreachable!(),
@@ -250,7 +250,7 @@ fn resolve_field<N: Lookup>(
     ensures kind { IfOk result (λ x. x.kind ≡ field_kind (N.env names.now).file.items (kind_of (N.env names.now) (expr_view a.now)) name.0) }
 {
     let base = resolve_expr(alloc, names, a)?;
-    let kind = names.field_kind(base.kind, name.0);
+    let kind = names.field_kind(base.kind, name);
     let place = field_of(pos, base, name);
     Ok(TypedPlace { place, kind })
 }

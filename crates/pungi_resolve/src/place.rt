@@ -35,7 +35,7 @@ pub(crate) fn word_place<N: Lookup>(names: &N, pos: Pos, name: Name) -> Place
     requires { is_sound_place (word_place pos (meaning_of (N.env names.now) name.0) name) ≡ true }
     ensures { place_view result ≡ word_place pos (meaning_of (N.env names.now) name.0) name }
 {
-    match names.standing(name.0) {
+    match names.standing(name) {
         Standing::Local(number) => Place::Local(pos, number),
         Standing::Global => Place::Global(pos, name),
         Standing::Static(_) | Standing::Other => unreachable!(),

@@ -32,8 +32,8 @@ pub(crate) fn word<N: Lookup>(
     ensures value { IfOk result (λ x. boxed_view x.value ≡ word_value pos name (meaning_of (N.env names.now) name.0) (meaning_kind (meaning_of (N.env names.now) name.0))) }
     ensures kind { IfOk result (λ x. x.kind ≡ meaning_kind (meaning_of (N.env names.now) name.0)) }
 {
-    let kind = names.word_kind(name.0);
-    match names.standing(name.0) {
+    let kind = names.word_kind(name);
+    match names.standing(name) {
         Standing::Static(number) => Typed::new(alloc, pos, ValueNode::Static(number), kind),
         Standing::Local(number) => read_as(alloc, pos, kind, Place::Local(pos, number)),
         Standing::Global => read_as(alloc, pos, kind, Place::Global(pos, name)),
@@ -111,7 +111,7 @@ pub(crate) fn address<N: Lookup>(
     let kind = unary_kind(Prefix::Address, names_type_object(names, a), false, None);
     match &a.node {
         ExprNode::Word(name) => {
-            let number = names.static_number(name.0);
+            let number = names.static_number(name);
             Typed::new(alloc, pos, ValueNode::Static(number), kind)
         }
         _ => unreachable!(),

@@ -28,7 +28,7 @@ pub(crate) fn note_name<N: Lookup>(
 )
     ensures { first.new ≡ least_from first.old (declared_n8 (N.env names.now) block.now.keys name pos) }
 {
-    let taken = is_kept(block, name.0) || names.is_taken(name.0);
+    let taken = is_kept(block, name) || names.is_taken(name);
     note(first, taken, pos, 8);
 }
 
@@ -85,7 +85,7 @@ fn check_var<N: Lookup>(
 {
     let kind = check_declr(names, walk, block, quals, spec, &var.declr);
     walk.declare(var.declr.name, kind)?;
-    keep(block, var.declr.name.0)?;
+    keep(block, var.declr.name)?;
     check_initial(names, walk, kind, var.declr.pos, &var.value);
     Ok(())
 }

@@ -7,7 +7,7 @@ ghost use Rattle.pungi_scope.specs.Frames.{labels_of};
 ghost use Rattle.pungi_tree.specs.StmtView.{stmt_view, stmts_of};
 
 use indexmap::IndexSet;
-use pungi_base::Memory;
+use pungi_base::{Memory, Name};
 use pungi_tree::{Stmt, StmtNode};
 use pungi_types::{Finding, is_kept, keep, note};
 use std::alloc::Global;
@@ -22,8 +22,8 @@ pub(crate) enum Labels<'a> {
 }
 
 /// Whether a label is in one of the blocks.
-pub(crate) fn has_label(labels: &Labels<'_>, word: u32) -> bool
-    ensures { result ≡ is_among (labels_of labels.now) word }
+pub(crate) fn has_label(labels: &Labels<'_>, word: Name) -> bool
+    ensures { result ≡ is_among (labels_of labels.now) word.0 }
 {
     match labels {
         Labels::Outside => false,
@@ -49,7 +49,7 @@ fn own_labels(kept: &mut IndexSet<u32>, s: &Stmt) -> Result<(), Memory>
         | StmtNode::Case(_, inner)
         | StmtNode::Default(inner) => own_labels(kept, inner),
         StmtNode::Label(name, inner) => {
-            keep(kept, name.0)?;
+            keep(kept, *name)?;
             own_labels(kept, inner)
         }
         StmtNode::Block(_, _)
@@ -116,8 +116,8 @@ fn note_labels(
             Ok(())
         }
         StmtNode::Label(name, inner) => {
-            note(first, is_kept(kept, name.0), s.pos, 7);
-            keep(kept, name.0)?;
+            note(first, is_kept(kept, *name), s.pos, 7);
+            keep(kept, *name)?;
             note_labels(kept, first, inner)?;
             Ok(())
         }

@@ -55,10 +55,10 @@ impl LocalNames {
     }
 
     /// The latest local of this name.
-    pub fn get(&self, word: u32) -> Option<Local>
-        ensures { result ≡ local_in self.now word }
+    pub fn get(&self, word: Name) -> Option<Local>
+        ensures { result ≡ local_in self.now word.0 }
     {
-        self.latest.get(&word).copied()
+        self.latest.get(&word.0).copied()
     }
 
     /// A local comes into force, and hides those of the same name.
@@ -95,17 +95,17 @@ impl LocalNames {
 }
 
 /// Puts back what was found under a word before.
-fn restore(latest: &mut IndexMap<u32, Local>, word: u32, hidden: Option<Local>)
-    requires { IsTrue (is_some (get nat_eq latest.old word)) }
-    ensures there { get nat_eq latest.new word ≡ hidden }
-    ensures others { (q : ℕ) → (word == q) ≡ false → get nat_eq latest.new q ≡ get nat_eq latest.old q }
+fn restore(latest: &mut IndexMap<u32, Local>, word: Name, hidden: Option<Local>)
+    requires { IsTrue (is_some (get nat_eq latest.old word.0)) }
+    ensures there { get nat_eq latest.new word.0 ≡ hidden }
+    ensures others { (q : ℕ) → (word.0 == q) ≡ false → get nat_eq latest.new q ≡ get nat_eq latest.old q }
 {
     match hidden {
         None => {
-            latest.swap_remove(&word);
+            latest.swap_remove(&word.0);
         }
         Some(local) => {
-            if let Some(found) = latest.get_mut(&word) {
+            if let Some(found) = latest.get_mut(&word.0) {
                 *found = local;
             }
         }

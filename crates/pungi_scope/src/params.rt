@@ -55,7 +55,7 @@ fn declare_param<N: Lookup>(
             };
             note_name(&scope, block, &mut walk.first, declr.name, declr.pos);
             walk.declare(declr.name, kind)?;
-            keep(block, declr.name.0)?;
+            keep(block, declr.name)?;
             Ok(())
         }
         ParamDeclr::Bare(_) | ParamDeclr::Unused { .. } => {

@@ -2,6 +2,7 @@ ghost use Rattle.pungi_scope.specs.ScopeEnv.{inner_env};
 
 use crate::LocalNames;
 use pungi_api::Row;
+use pungi_base::Name;
 use pungi_tree::Spec;
 use pungi_types::{Lookup, Standing, ValueKind, Want};
 
@@ -15,42 +16,42 @@ pub struct Scope<'a, N> {
 impl<N: Lookup> Lookup for Scope<'_, N> {
     ghost env = { λ s. inner_env (N.env s.names.now) s.locals.now };
 
-    fn word_kind(&self, word: u32) -> Option<ValueKind> {
+    fn word_kind(&self, word: Name) -> Option<ValueKind> {
         match self.locals.get(word) {
             Some(local) => local.kind,
             None => self.names.word_kind(word),
         }
     }
 
-    fn is_slot(&self, word: u32) -> bool {
+    fn is_slot(&self, word: Name) -> bool {
         match self.locals.get(word) {
             Some(_) => true,
             None => self.names.is_slot(word),
         }
     }
 
-    fn is_function(&self, word: u32) -> bool {
+    fn is_function(&self, word: Name) -> bool {
         match self.locals.get(word) {
             Some(_) => false,
             None => self.names.is_function(word),
         }
     }
 
-    fn is_unknown(&self, word: u32) -> bool {
+    fn is_unknown(&self, word: Name) -> bool {
         match self.locals.get(word) {
             Some(_) => false,
             None => self.names.is_unknown(word),
         }
     }
 
-    fn is_type_object(&self, word: u32) -> bool {
+    fn is_type_object(&self, word: Name) -> bool {
         match self.locals.get(word) {
             Some(_) => false,
             None => self.names.is_type_object(word),
         }
     }
 
-    fn is_module(&self, word: u32) -> bool {
+    fn is_module(&self, word: Name) -> bool {
         match self.locals.get(word) {
             Some(_) => false,
             None => self.names.is_module(word),
@@ -61,68 +62,68 @@ impl<N: Lookup> Lookup for Scope<'_, N> {
         self.names.type_kind(spec, stars)
     }
 
-    fn field_kind(&self, base: Option<ValueKind>, word: u32) -> Option<ValueKind> {
+    fn field_kind(&self, base: Option<ValueKind>, word: Name) -> Option<ValueKind> {
         self.names.field_kind(base, word)
     }
 
-    fn wants(&self, word: u32) -> &[Want] {
+    fn wants(&self, word: Name) -> &[Want] {
         match self.locals.get(word) {
             Some(_) => &[],
             None => self.names.wants(word),
         }
     }
 
-    fn result_kind(&self, word: u32) -> Option<ValueKind> {
+    fn result_kind(&self, word: Name) -> Option<ValueKind> {
         match self.locals.get(word) {
             Some(_) => None,
             None => self.names.result_kind(word),
         }
     }
 
-    fn is_value_called(&self, word: u32) -> bool {
+    fn is_value_called(&self, word: Name) -> bool {
         match self.locals.get(word) {
             Some(_) => true,
             None => self.names.is_value_called(word),
         }
     }
 
-    fn takes_arguments(&self, word: u32) -> bool {
+    fn takes_arguments(&self, word: Name) -> bool {
         match self.locals.get(word) {
             Some(_) => false,
             None => self.names.takes_arguments(word),
         }
     }
 
-    fn is_unknown_call(&self, word: u32) -> bool {
+    fn is_unknown_call(&self, word: Name) -> bool {
         match self.locals.get(word) {
             Some(_) => false,
             None => self.names.is_unknown_call(word),
         }
     }
 
-    fn is_taken(&self, word: u32) -> bool {
+    fn is_taken(&self, word: Name) -> bool {
         self.names.is_taken(word)
     }
 
-    fn standing(&self, word: u32) -> Standing {
+    fn standing(&self, word: Name) -> Standing {
         match self.locals.get(word) {
             Some(local) => Standing::Local(local.number),
             None => self.names.standing(word),
         }
     }
 
-    fn static_number(&self, word: u32) -> u32 {
+    fn static_number(&self, word: Name) -> u32 {
         self.names.static_number(word)
     }
 
-    fn row(&self, word: u32) -> Option<&Row> {
+    fn row(&self, word: Name) -> Option<&Row> {
         match self.locals.get(word) {
             Some(_) => None,
             None => self.names.row(word),
         }
     }
 
-    fn is_defined_call(&self, word: u32) -> bool {
+    fn is_defined_call(&self, word: Name) -> bool {
         match self.locals.get(word) {
             Some(_) => false,
             None => self.names.is_defined_call(word),

@@ -237,7 +237,7 @@ fn check_part<N: Lookup>(
         }
         StmtNode::Label(_, inner) => { check_part(names, &in_label(around), walk, inner) }
         StmtNode::Goto(name, pos) => {
-            let known = has_label(&around.labels, name.0);
+            let known = has_label(&around.labels, *name);
             note_at(walk, !known, *pos, 6);
             Ok(())
         }

@@ -17,7 +17,7 @@ use crate::operator::{
     steps_pointer, unary_kind, unary_wrong, wants_module,
 };
 use crate::{Finding, ValueKind};
-use pungi_base::{Kind, Pos, Punct};
+use pungi_base::{Kind, Name, Pos, Punct};
 use pungi_tree::{Expr, ExprNode, TypeName};
 
 type Known = Option<ValueKind>;
@@ -27,7 +27,7 @@ pub fn is_place<N: Lookup>(names: &N, e: &Expr) -> bool
     ensures { result ≡ is_place (N.env names.now) (expr_view e.now) }
 {
     match &e.node {
-        ExprNode::Word(name) => names.is_slot(name.0),
+        ExprNode::Word(name) => names.is_slot(*name),
         ExprNode::Arrow(_, _) => true,
         _ => false,
     }
@@ -38,7 +38,7 @@ pub fn names_type_object<N: Lookup>(names: &N, e: &Expr) -> bool
     ensures { result ≡ names_type_object (N.env names.now) (expr_view e.now) }
 {
     match &e.node {
-        ExprNode::Word(name) => names.is_type_object(name.0),
+        ExprNode::Word(name) => names.is_type_object(*name),
         _ => false,
     }
 }
@@ -49,7 +49,7 @@ pub fn is_module_address<N: Lookup>(names: &N, e: &Expr) -> bool
 {
     match &e.node {
         ExprNode::Unary(Kind::Punct(Punct::And), a) => match &a.node {
-            ExprNode::Word(name) => names.is_module(name.0),
+            ExprNode::Word(name) => names.is_module(*name),
             _ => false,
         },
         _ => false,
@@ -63,7 +63,7 @@ pub fn check_expr<N: Lookup>(names: &N, first: &mut Option<Finding>, e: &Expr) -
     ensures found { first.new ≡ least_from first.old (expr_findings (N.env names.now) (expr_view e.now)) }
 {
     match &e.node {
-        ExprNode::Word(name) => word(names, first, e.pos, name.0),
+        ExprNode::Word(name) => word(names, first, e.pos, *name),
         ExprNode::Int {
             value,
             long,
@@ -141,7 +141,7 @@ pub fn check_expr<N: Lookup>(names: &N, first: &mut Option<Finding>, e: &Expr) -
         }
         ExprNode::Arrow(a, name) => {
             let kind = check_expr(names, first, a);
-            let field = names.field_kind(kind, name.0);
+            let field = names.field_kind(kind, name);
             note_used(first, kind, a);
             note(first, field.is_none(), e.pos, 12);
             field
@@ -149,9 +149,9 @@ pub fn check_expr<N: Lookup>(names: &N, first: &mut Option<Finding>, e: &Expr) -
     }
 }
 
-fn word<N: Lookup>(names: &N, first: &mut Option<Finding>, pos: Pos, word: u32) -> Known
-    ensures kind { result ≡ meaning_kind (meaning_of (N.env names.now) word) }
-    ensures found { first.new ≡ least_from first.old (word_findings (meaning_of (N.env names.now) word) pos) }
+fn word<N: Lookup>(names: &N, first: &mut Option<Finding>, pos: Pos, word: Name) -> Known
+    ensures kind { result ≡ meaning_kind (meaning_of (N.env names.now) word.0) }
+    ensures found { first.new ≡ least_from first.old (word_findings (meaning_of (N.env names.now) word.0) pos) }
 {
     note(first, names.is_function(word), pos, 3);
     note(first, names.is_unknown(word), pos, 9);
@@ -336,7 +336,7 @@ pub fn callee_wants<'a, N: Lookup>(names: &'a N, f: &Expr) -> &'a [Want]
     ensures { result.now ≡ wants (N.env names.now) (callee (N.env names.now) (expr_view f.now)) }
 {
     match &f.node {
-        ExprNode::Word(name) => names.wants(name.0),
+        ExprNode::Word(name) => names.wants(*name),
         _ => &[],
     }
 }
@@ -345,7 +345,7 @@ fn is_unknown_callee<N: Lookup>(names: &N, f: &Expr) -> bool
     ensures { result ≡ is_unknown_call (N.env names.now) (callee (N.env names.now) (expr_view f.now)) }
 {
     match &f.node {
-        ExprNode::Word(name) => names.is_unknown_call(name.0),
+        ExprNode::Word(name) => names.is_unknown_call(*name),
         _ => false,
     }
 }
@@ -355,7 +355,7 @@ fn is_wrong_call<N: Lookup>(names: &N, f: &Expr, met: bool) -> bool
 {
     match &f.node {
         ExprNode::Word(name) => {
-            names.is_value_called(name.0) || (names.takes_arguments(name.0) && !met)
+            names.is_value_called(*name) || (names.takes_arguments(*name) && !met)
         }
         _ => false,
     }
@@ -366,7 +366,7 @@ pub fn call_kind<N: Lookup>(names: &N, f: &Expr, met: bool) -> Known
     ensures { result ≡ (if is_word (expr_view f.now) && met then result_kind (N.env names.now) (callee (N.env names.now) (expr_view f.now)) else None) }
 {
     match &f.node {
-        ExprNode::Word(name) if met => names.result_kind(name.0),
+        ExprNode::Word(name) if met => names.result_kind(*name),
         _ => None,
     }
 }

@@ -3,6 +3,7 @@ ghost use Rattle.pungi_tree.specs.ExprView.{spec_view};
 
 use crate::{Standing, ValueKind};
 use pungi_api::Row;
+use pungi_base::Name;
 use pungi_tree::Spec;
 
 /// What an argument is to be.
@@ -24,63 +25,63 @@ pub trait Lookup {
 
     ghost env: { Self → Env };
 
-    fn word_kind(&self, word: u32) -> Option<ValueKind>
-        ensures { result ≡ meaning_kind (meaning_of (env self.now) word) };
+    fn word_kind(&self, word: Name) -> Option<ValueKind>
+        ensures { result ≡ meaning_kind (meaning_of (env self.now) word.0) };
 
-    fn is_slot(&self, word: u32) -> bool
-        ensures { result ≡ is_slot (meaning_of (env self.now) word) };
+    fn is_slot(&self, word: Name) -> bool
+        ensures { result ≡ is_slot (meaning_of (env self.now) word.0) };
 
-    fn is_function(&self, word: u32) -> bool
-        ensures { result ≡ is_function_meaning (meaning_of (env self.now) word) };
+    fn is_function(&self, word: Name) -> bool
+        ensures { result ≡ is_function_meaning (meaning_of (env self.now) word.0) };
 
-    fn is_unknown(&self, word: u32) -> bool
-        ensures { result ≡ is_unknown (meaning_of (env self.now) word) };
+    fn is_unknown(&self, word: Name) -> bool
+        ensures { result ≡ is_unknown (meaning_of (env self.now) word.0) };
 
-    fn is_type_object(&self, word: u32) -> bool
-        ensures { result ≡ (is_none (local_in (env self.now).locals word) && is_type_object (env self.now).file.items word) };
+    fn is_type_object(&self, word: Name) -> bool
+        ensures { result ≡ (is_none (local_in (env self.now).locals word.0) && is_type_object (env self.now).file.items word.0) };
 
-    fn is_module(&self, word: u32) -> bool
-        ensures { result ≡ (is_none (local_in (env self.now).locals word) && is_module_of (env self.now).file.items word) };
+    fn is_module(&self, word: Name) -> bool
+        ensures { result ≡ (is_none (local_in (env self.now).locals word.0) && is_module_of (env self.now).file.items word.0) };
 
     /// The kind of a type with so many stars.
     fn type_kind(&self, spec: &Spec, stars: usize) -> Option<ValueKind>
         ensures { result ≡ type_kind (env self.now).file.items (spec_base (spec_view spec.now)) stars };
 
-    fn field_kind(&self, base: Option<ValueKind>, word: u32) -> Option<ValueKind>
-        ensures { result ≡ field_kind (env self.now).file.items base word };
+    fn field_kind(&self, base: Option<ValueKind>, word: Name) -> Option<ValueKind>
+        ensures { result ≡ field_kind (env self.now).file.items base word.0 };
 
-    fn wants(&self, word: u32) -> &[Want]
-        ensures { result.now ≡ wants_of (env self.now) (callee_of (env self.now) word) };
+    fn wants(&self, word: Name) -> &[Want]
+        ensures { result.now ≡ wants_of (env self.now) (callee_of (env self.now) word.0) };
 
-    fn result_kind(&self, word: u32) -> Option<ValueKind>
-        ensures { result ≡ result_kind_of (env self.now) (callee_of (env self.now) word) };
+    fn result_kind(&self, word: Name) -> Option<ValueKind>
+        ensures { result ≡ result_kind_of (env self.now) (callee_of (env self.now) word.0) };
 
-    fn is_value_called(&self, word: u32) -> bool
-        ensures { result ≡ is_value_called (callee_of (env self.now) word) };
+    fn is_value_called(&self, word: Name) -> bool
+        ensures { result ≡ is_value_called (callee_of (env self.now) word.0) };
 
-    fn takes_arguments(&self, word: u32) -> bool
-        ensures { result ≡ takes_arguments (callee_of (env self.now) word) };
+    fn takes_arguments(&self, word: Name) -> bool
+        ensures { result ≡ takes_arguments (callee_of (env self.now) word.0) };
 
-    fn is_unknown_call(&self, word: u32) -> bool
-        ensures { result ≡ is_unknown_call (env self.now) (callee_of (env self.now) word) };
+    fn is_unknown_call(&self, word: Name) -> bool
+        ensures { result ≡ is_unknown_call (env self.now) (callee_of (env self.now) word.0) };
 
     /// Whether it is the name of a function, row or static.
-    fn is_taken(&self, word: u32) -> bool
-        ensures { result ≡ is_taken (env self.now) word };
+    fn is_taken(&self, word: Name) -> bool
+        ensures { result ≡ is_taken (env self.now) word.0 };
 
     /// What it is as a value.
-    fn standing(&self, word: u32) -> Standing
-        ensures { result ≡ standing_of (meaning_of (env self.now) word) };
+    fn standing(&self, word: Name) -> Standing
+        ensures { result ≡ standing_of (meaning_of (env self.now) word.0) };
 
     /// The number of a static's object.
-    fn static_number(&self, word: u32) -> u32
-        ensures { result ≡ static_number (env self.now).file.items word };
+    fn static_number(&self, word: Name) -> u32
+        ensures { result ≡ static_number (env self.now).file.items word.0 };
 
     /// The row that is called by this word.
-    fn row(&self, word: u32) -> Option<&Row>
-        ensures { option_map (λ r. r.now) result ≡ row_called (callee_of (env self.now) word) };
+    fn row(&self, word: Name) -> Option<&Row>
+        ensures { option_map (λ r. r.now) result ≡ row_called (callee_of (env self.now) word.0) };
 
     /// Whether a function of the file is called by this word.
-    fn is_defined_call(&self, word: u32) -> bool
-        ensures { result ≡ is_defined (callee_of (env self.now) word) };
+    fn is_defined_call(&self, word: Name) -> bool
+        ensures { result ≡ is_defined (callee_of (env self.now) word.0) };
 }

@@ -46,12 +46,12 @@ pub fn words_kind(keys: &[Key], stars: usize) -> Known
 }
 
 /// The kind of a type that is known before a text is read, with so many stars.
-pub fn listed_kind(word: u32, stars: usize) -> Known
-    ensures { result ≡ listed_kind word stars }
+pub fn listed_kind(word: Name, stars: usize) -> Known
+    ensures { result ≡ listed_kind word.0 stars }
 {
-    if stars == 0 && word == PY_SSIZE_T {
+    if stars == 0 && word.0 == PY_SSIZE_T {
         Some(ValueKind::Size)
-    } else if stars == 1 && (word == PY_OBJECT || word == PY_TYPE_OBJECT) {
+    } else if stars == 1 && (word.0 == PY_OBJECT || word.0 == PY_TYPE_OBJECT) {
         Some(ValueKind::Object(None))
     } else {
         None
@@ -69,10 +69,10 @@ pub fn not_void(kind: Known) -> Known
 }
 
 /// Whether a word is the name of a type that is known before a text is read.
-pub fn is_listed_type(word: u32) -> bool
-    ensures { result ≡ is_listed_type word }
+pub fn is_listed_type(word: Name) -> bool
+    ensures { result ≡ is_listed_type word.0 }
 {
-    FIRST_TYPE <= word && !(TYPES_END <= word)
+    FIRST_TYPE <= word.0 && !(TYPES_END <= word.0)
 }
 
 fn tagged_core(fielded: bool, of: Key, name: Name) -> Core<'static>
@@ -106,7 +106,7 @@ pub fn written_core(fielded: bool, base: &Base) -> Core<'_>
     match base {
         Base::Words(keys) => Core::Words(keys.as_slice()),
         Base::Alias(name) => {
-            if is_listed_type(name.0) {
+            if is_listed_type(*name) {
                 Core::Listed(*name)
             } else {
                 Core::Other

@@ -18,7 +18,7 @@ loop-word-preserved c =
     let popped : reverse c.loop-word.path.items ≡ (w, k) ∷ reverse c.pop.new.self.items = ap reverse c.in-Some.ensures.items ∙ reverse-append c.pop.new.self.items ((w, k) ∷ []) in
     let P : List (ℕ × ℕ) → Type 0 = λ ps. IsPath step c.args.start ps c.loop-word.at in
     let path = subst P popped c.loop-word.invariant.path in
-    let R : depth.DeclaredLocal → Type 0 = λ r. Reaches step w r in
+    let R : depth.TypedefTarget → Type 0 = λ r. Reaches step w r in
     let reached = subst R (sym c.in_ok-reached.ensures) (one_more step w k c.loop-word.at (reached_view c.loop-word.reached) path.0 c.loop-word.invariant.reached) in
     record {
       path = path.1;

@@ -9,5 +9,5 @@ use Rattle.pungi_names.proofs.file_names.FileNamesLookup.is_defined_call.Goals a
 pub returns : goal.returns
 returns c =
     let n = c.args.self.now in
-    let env = file_env (file_of n.names.now) n.refused.now.keys n.own in
-    c.is_defined.ensures ∙ ap is_defined_seen c.called.ensures ∙ defined-seen env (callee_of env c.args.word)
+    let env = file_env (file_of n.names.now) n.refused.now.keys n.own.0 in
+    c.is_defined.ensures ∙ ap is_defined_seen c.called.ensures ∙ defined-seen env (callee_of env c.args.word.0)

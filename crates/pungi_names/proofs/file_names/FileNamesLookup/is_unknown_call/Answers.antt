@@ -9,5 +9,5 @@ use Rattle.pungi_names.proofs.file_names.FileNamesLookup.is_unknown_call.Goals a
 pub returns : goal.returns
 returns c =
     let n = c.args.self.now in
-    let env = file_env (file_of n.names.now) n.refused.now.keys n.own in
-    c.is_unknown.ensures ∙ ap (is_unknown_seen n.own n.refused.now.keys) c.called.ensures ∙ unknown-seen env (callee_of env c.args.word)
+    let env = file_env (file_of n.names.now) n.refused.now.keys n.own.0 in
+    c.is_unknown.ensures ∙ ap (is_unknown_seen n.own.0 n.refused.now.keys) c.called.ensures ∙ unknown-seen env (callee_of env c.args.word.0)

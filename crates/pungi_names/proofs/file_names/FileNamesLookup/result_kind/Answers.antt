@@ -9,5 +9,5 @@ use Rattle.pungi_names.proofs.file_names.FileNamesLookup.result_kind.Goals as go
 pub returns : goal.returns
 returns c =
     let n = c.args.self.now in
-    let env = file_env (file_of n.names.now) n.refused.now.keys n.own in
-    c.result_kind.ensures ∙ ap (result_seen n.own n.refused.now.keys) c.called.ensures ∙ result-seen env (callee_of env c.args.word)
+    let env = file_env (file_of n.names.now) n.refused.now.keys n.own.0 in
+    c.result_kind.ensures ∙ ap (result_seen n.own.0 n.refused.now.keys) c.called.ensures ∙ result-seen env (callee_of env c.args.word.0)
