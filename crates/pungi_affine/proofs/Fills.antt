@@ -6,7 +6,8 @@ use Rattle.pungi_affine.specs.Forms.{Line, lines, line_of, fill}
 use Rattle.pungi_affine.specs.declared.row.Row.{Row}
 use Rattle.pungi_affine.proofs.LineLemmas.{lines_more}
 
-pub fill_push : (v : ℕ → ℤ) (ls : List Line) (l : Line) (i : ℕ) → fill v (ls ++ l ∷ []) i ≡ fill v ls i +ℤ (v l.pivot *ℤ at l.entries i)
+pub fill_push : (v : ℕ → ℤ) (ls : List Line) (l : Line) (i : ℕ)
+    → fill v (ls ++ l ∷ []) i ≡ fill v ls i +ℤ (v l.pivot *ℤ at l.entries i)
 fill_push v [] l i = omega (arith, ints)
 fill_push v (k ∷ ls) l i = (let h = fill_push v ls l i in omega (arith, ints, h))
 

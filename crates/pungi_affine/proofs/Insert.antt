@@ -1,5 +1,6 @@
 -- The new row in its place among the changed old ones.
-use Rattle.std.proofs.Common.{◌≡◌, ℕ, ◌+◌, ◌-◌, ◌<◌, ◌≤◌, ◌⊎◌, inl, inr, ℤ, pos, ◌-ℤ◌, ◌*ℤ◌, ◌<ℤ◌, List, length, cond, ltb, arith, ◌∙◌, ap}
+use Rattle.std.proofs.Common.{◌≡◌, ℕ, ◌+◌, ◌-◌, ◌<◌, ◌≤◌, ◌⊎◌, inl, inr, ℤ, pos, ◌-ℤ◌, ◌*ℤ◌, ◌<ℤ◌, List, length, cond}
+use Rattle.std.proofs.Common.{ltb, arith, ◌∙◌, ap}
 use Rattle.std.specs.List.{insert}
 use Rattle.std.proofs.lemmas.Bool.{cases_lt, cases_eq}
 use Rattle.std.proofs.lemmas.Int.{ints}
@@ -37,16 +38,24 @@ module _ (ms : List Line) (p : ℕ) (n : Line) (le : p ≤ length ms) where
     | inl l ↦ inr (j, omega (arith, le, l), shifted_low p j l)
     | inr l ↦ elim (cases_eq j p) [
       | inl e ↦ inl e
-      | inr ne ↦ (let m : j ≡ p → ⊥ = ne in inr (j - 1, omega (arith, lt, l, m), shifted_high p (j - 1) (omega (arith, l, m)) ∙ omega (arith, l, m)))
+      | inr ne ↦ (let m : j ≡ p → ⊥ = ne in inr (
+        j - 1,
+        omega (arith, lt, l, m),
+        shifted_high p (j - 1)
+            (omega (arith, l, m)) ∙ omega (arith, l, m),
+      ))
     ]
   ]
 
-pub steps_insert : (w : ℕ) (d : ℤ) (ls : List Line) (v : ℕ → ℤ) (d' : ℤ) (ms : List Line) (p : ℕ) (n : Line) (u : ℕ → ℤ) (h : ℤ) (q : ℕ)
-    → (h ≡ pos 0 → ⊥) → ((i : ℕ) → i < w → residual d ls v i ≡ h *ℤ u i) → q < w → pos 0 <ℤ u q → ((i : ℕ) → i < q → u i ≡ pos 0)
+pub steps_insert : (w : ℕ) (d : ℤ) (ls : List Line) (v : ℕ → ℤ) (d' : ℤ) (ms : List Line) (p : ℕ) (n : Line)
+    (u : ℕ → ℤ) (h : ℤ) (q : ℕ)
+    → (h ≡ pos 0 → ⊥) → ((i : ℕ) → i < w → residual d ls v i ≡ h *ℤ u i) → q < w → pos 0 <ℤ u q
+    → ((i : ℕ) → i < q → u i ≡ pos 0)
     → d' ≡ d *ℤ u q → length ms ≡ length ls → p ≤ length ms
     → n.pivot ≡ q → ((i : ℕ) → i < w → at n.entries i ≡ d *ℤ u i)
     → ((k : ℕ) → k < length ls → (line ms k).pivot ≡ (line ls k).pivot)
-    → ((k i : ℕ) → k < length ls → i < w → at (line ms k).entries i ≡ (u q *ℤ at (line ls k).entries i) -ℤ (at (line ls k).entries q *ℤ u i))
+    → ((k i : ℕ) → k < length ls → i < w → at (line ms k).entries i
+    ≡ (u q *ℤ at (line ls k).entries i) -ℤ (at (line ls k).entries q *ℤ u i))
     → Steps w d ls v d' (insert ms p n)
 steps_insert w d ls v d' ms p n u h q h_not u_is q_in q_entry q_first d_is len le n_pivot n_row o_pivot o_row = record {
   u = u;
@@ -69,13 +78,21 @@ steps_insert w d ls v d' ms p n u h q h_not u_is q_in q_entry q_first d_is len l
     | inr o ↦ inr (o.0, (let f = o.1 in omega (arith, len, f)), o.2)
   ];
   new_pivot = ap (λ l. l.pivot) (insert_at ms p n le) ∙ n_pivot;
-  new_row = λ i lt. (let e : at (line (insert ms p n) p).entries i ≡ at n.entries i = ap (λ l. at l.entries i) (insert_at ms p n le) in let f = n_row i lt in omega (arith, ints, e, f));
+  new_row = λ i lt. (let e : at (line (insert ms p n) p).entries i
+      ≡ at n.entries i = ap (λ l. at l.entries i) (insert_at ms p n le) in let f = n_row i lt in omega
+      (arith, ints, e, f));
   old_pivot = λ k lt. ap (λ l. l.pivot) (old k lt) ∙ o_pivot k lt;
-  old_row = λ k i lt i_lt. (let e : at (line (insert ms p n) (shifted p k)).entries i ≡ at (line ms k).entries i = ap (λ l. at l.entries i) (old k lt) in let f = o_row k i lt i_lt in omega (arith, ints, e, f));
+  old_row = λ k i lt i_lt. (let e : at (line (insert ms p n) (shifted p k)).entries i
+      ≡ at (line ms k).entries i = ap (λ l. at l.entries i) (old k lt) in let f = o_row k i lt i_lt in omega
+      (arith, ints, e, f));
 }
   where
     old : (k : ℕ) → k < length ls → line (insert ms p n) (shifted p k) ≡ line ms k
     old k lt = insert_old ms p n le k (omega (arith, len, lt))
 
     below : (k : ℕ) → shifted p k ≤ k + 1
-    below k = elim (cases_lt k p) [ inl l ↦ (let e = shifted_low p k l in omega (arith, e)) | inr l ↦ (let e = shifted_high p k l in omega (arith, e)) ]
+    below k = elim (cases_lt k p) [
+      | inl l ↦ (let e = shifted_low p k l in omega (arith, e))
+      | inr l ↦
+          (let e = shifted_high p k l in omega (arith, e))
+    ]

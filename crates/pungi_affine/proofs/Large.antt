@@ -19,8 +19,10 @@ module _ (w : ℕ) (d : ℤ) (ls : List Line) (form : IsForm w d ls) (co : IsCop
   large_has h =
       let f = pivot_of w d ls form h.q h.pivot in
       let e : h.d ≡ d = same_scale h.d h.least in
-      let r1 : IsScaledRow w (InSpan w (vectors ls)) d h.q h.r = subst (λ (x : ℤ). IsScaledRow w (InSpan w (vectors ls)) x h.q h.r) e h.row in
-      let r2 : IsScaledRow w (InSpan w (vectors ls)) d (line ls f.0).pivot h.r = subst (λ (x : ℕ). IsScaledRow w (InSpan w (vectors ls)) d x h.r) (sym f.2) r1 in
+      let r1 : IsScaledRow w (InSpan w (vectors ls)) d h.q h.r = subst (λ (x : ℤ). IsScaledRow w
+      (InSpan w (vectors ls)) x h.q h.r) e h.row in
+      let r2 : IsScaledRow w (InSpan w (vectors ls)) d (line ls f.0).pivot h.r = subst
+      (λ (x : ℕ). IsScaledRow w (InSpan w (vectors ls)) d x h.r) (sym f.2) r1 in
       let same = same_row w d ls form h.r f.0 f.1 r2 h.i h.within in
       record { k = f.0; k_in = f.1; i = h.i; i_in = h.within; outside = subst (λ (x : ℤ). IsOutside x) same h.large }
 

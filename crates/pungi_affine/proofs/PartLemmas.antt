@@ -1,5 +1,6 @@
 -- A vector without the common divisor of its entries.
-use Rattle.std.proofs.Common.{◌≡◌, ◌∙◌, ℕ, ◌<◌, inl, inr, ℤ, pos, neg_ℤ, ◌*ℤ◌, ◌<ℤ◌, List, ◌++◌, length, take, sym, subst, arith}
+use Rattle.std.proofs.Common.{◌≡◌, ◌∙◌, ℕ, ◌<◌, inl, inr, ℤ, pos, neg_ℤ, ◌*ℤ◌, ◌<ℤ◌, List, ◌++◌, length, take, sym}
+use Rattle.std.proofs.Common.{subst, arith}
 use Rattle.std.proofs.lemmas.Int.{ints}
 use Rattle.std.proofs.Math.Seq.{take-append_seam}
 use Rattle.pungi_domain.specs.Vectors.{at}
@@ -11,19 +12,23 @@ use Rattle.pungi_affine.proofs.Next.{factor_positive}
 use Rattle.pungi_affine.proofs.Reduced.{neg_mul}
 
 -- the quotients by the common divisor
-pub quotients_part : (ys part : List ℤ) (g : ℤ) (q : ℕ) → pos 0 <ℤ g → IsDivisor ys g → length part ≡ length ys → q < length ys → pos 0 <ℤ at ys q
+pub quotients_part : (ys part : List ℤ) (g : ℤ) (q : ℕ) → pos 0 <ℤ g → IsDivisor ys g → length part ≡ length ys
+    → q < length ys → pos 0 <ℤ at ys q
     → ((i : ℕ) → i < length part → g *ℤ at part i ≡ at ys i) → IsPart ys q part
 quotients_part ys part g q gt div len q_lt entry is = record {
   lengths = len;
   times = g;
   not_zero = λ e. absurd (omega (arith, ints, gt, e));
   exact = λ i lt. sym (is i (omega (arith, len, lt)));
-  positive = factor_positive g (at part q) gt (let e = is q (omega (arith, len, q_lt)) in omega (arith, ints, e, entry));
-  coprime = λ m e all. divisor_out g m e gt (div.combines (m *ℤ g) e (λ i lt. quotients_coprime g gt m e (at ys i) (at part i) (sym (is i (omega (arith, len, lt)))) (all i lt)));
+  positive = factor_positive g (at part q) gt (let e = is q (omega (arith, len, q_lt)) in omega
+      (arith, ints, e, entry));
+  coprime = λ m e all. divisor_out g m e gt (div.combines (m *ℤ g) e (λ i lt. quotients_coprime g gt m e (at ys i)
+      (at part i) (sym (is i (omega (arith, len, lt)))) (all i lt)));
 }
 
 -- a part of the opposite is one
-pub negated_part : (xs ys part : List ℤ) (q : ℕ) → length ys ≡ length xs → ((i : ℕ) → i < length ys → at ys i ≡ neg_ℤ (at xs i)) → IsPart ys q part → IsPart xs q part
+pub negated_part : (xs ys part : List ℤ) (q : ℕ) → length ys ≡ length xs
+    → ((i : ℕ) → i < length ys → at ys i ≡ neg_ℤ (at xs i)) → IsPart ys q part → IsPart xs q part
 negated_part xs ys part q len neg h = record {
   lengths = h.lengths ∙ len;
   times = neg_ℤ h.times;
@@ -38,12 +43,14 @@ negated_part xs ys part q len neg h = record {
   coprime = λ m e all. h.coprime m e (λ i lt. all i (omega (arith, len, lt)));
 }
 
-pub pivot_part : (xs part : List ℤ) (q : ℕ) → q < length xs → ((i : ℕ) → i < q → at xs i ≡ pos 0) → IsPart xs q part → IsPivotPart xs q part
+pub pivot_part : (xs part : List ℤ) (q : ℕ) → q < length xs → ((i : ℕ) → i < q → at xs i ≡ pos 0) → IsPart xs q part
+    → IsPivotPart xs q part
 pivot_part xs part q lt zero h = record {
   within = lt;
   before = λ i i_lt.
       let l : i < length xs = omega (arith, lt, i_lt) in
-      elim (product_zero h.times (at part i) (sym (h.exact i l) ∙ zero i i_lt)) [ inl e ↦ absurd (h.not_zero e) | inr e ↦ e ];
+      elim (product_zero h.times (at part i) (sym (h.exact i l) ∙ zero i i_lt))
+      [ inl e ↦ absurd (h.not_zero e) | inr e ↦ e ];
   is = h;
 }
 

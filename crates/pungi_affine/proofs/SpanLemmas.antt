@@ -1,5 +1,6 @@
 -- What the kept rows say of the span: its pivots, and the equations that all its vectors meet.
-use Rattle.std.proofs.Common.{◌≡◌, ◌∙◌, ℕ, zero, suc, ◌<◌, ◌≤◌, ℤ, pos, List, [], ◌∷◌, refl, length, map, sym, arith, slice_index_or}
+use Rattle.std.proofs.Common.{◌≡◌, ◌∙◌, ℕ, zero, suc, ◌<◌, ◌≤◌, ℤ, pos, List, [], ◌∷◌, refl, length, map, sym, arith}
+use Rattle.std.proofs.Common.{slice_index_or}
 use Rattle.std.proofs.lemmas.Int.{ints}
 use Rattle.std.proofs.lemmas.List.{length-map}
 use Rattle.pungi_domain.specs.Vectors.{Vector, at, dot}
@@ -46,8 +47,13 @@ dimension_is w d ls form = record {
   all = λ q p. let f = pivot_of w d ls form q p in (f.0, f.1, pivot_at ls f.0 f.1 ∙ f.2);
 }
 
-pub all_meet : (w : ℕ) (ls : List Line) (e : List ℤ) → length e ≡ w → ((k : ℕ) → k < length ls → dot e (at (line ls k).entries) ≡ pos 0) → (v : Vector) → InSpan w (vectors ls) v → dot e v ≡ pos 0
-all_meet w ls e width h v m = member_meets w e (vectors ls) v (omega (arith, width)) (λ k d lt. let k_lt : k < length ls = (let n = vectors_length ls in omega (arith, n, lt)) in rw (vectors_at ls k d k_lt) (h k k_lt)) m
+pub all_meet : (w : ℕ) (ls : List Line) (e : List ℤ) → length e ≡ w
+    → ((k : ℕ) → k < length ls → dot e (at (line ls k).entries) ≡ pos 0) → (v : Vector) → InSpan w (vectors ls) v
+    → dot e v ≡ pos 0
+all_meet w ls e width h v m =
+    member_meets w e (vectors ls) v (omega (arith, width)) (λ k d lt. let k_lt : k
+    < length ls = (let n = vectors_length ls in omega (arith, n, lt)) in rw (vectors_at ls k d k_lt) (h k k_lt)) m
 
-pub one_fails : (w : ℕ) (d : ℤ) (ls : List Line) (e : List ℤ) (k : ℕ) → IsForm w d ls → k < length ls → (dot e (at (line ls k).entries) ≡ pos 0 → ⊥) → (v : Vector) × InSpan w (vectors ls) v × (dot e v ≡ pos 0 → ⊥)
+pub one_fails : (w : ℕ) (d : ℤ) (ls : List Line) (e : List ℤ) (k : ℕ) → IsForm w d ls → k < length ls
+    → (dot e (at (line ls k).entries) ≡ pos 0 → ⊥) → (v : Vector) × InSpan w (vectors ls) v × (dot e v ≡ pos 0 → ⊥)
 one_fails w d ls e k form lt n = (at (line ls k).entries, row_in w d ls form k lt, n)

@@ -1,5 +1,6 @@
 -- The rows of all coordinates are kept as they are, and any vector is a member of their span; what a unit vector adds.
-use Rattle.std.proofs.Common.{◌≡◌, ◌∙◌, ℕ, ◌+◌, ◌<◌, ◌≤◌, inl, inr, ℤ, pos, ◌+ℤ◌, ◌-ℤ◌, ◌*ℤ◌, List, [], ◌∷◌, ◌++◌, length, refl, sym, ap, subst, arith}
+use Rattle.std.proofs.Common.{◌≡◌, ◌∙◌, ℕ, ◌+◌, ◌<◌, ◌≤◌, inl, inr, ℤ, pos, ◌+ℤ◌, ◌-ℤ◌, ◌*ℤ◌, List, [], ◌∷◌, ◌++◌}
+use Rattle.std.proofs.Common.{length, refl, sym, ap, subst, arith}
 use Rattle.std.proofs.lemmas.Int.{ints}
 use Rattle.std.proofs.lemmas.Bool.{cases_eq}
 use Rattle.std.proofs.lemmas.Bool.Decides.{nat_tests}
@@ -26,8 +27,12 @@ unit_box c i = elim (cases_eq i c) [
   | inr ne ↦ subst (λ (z : ℤ). IsBox z) (sym (unit_other c i ne)) (omega (arith, ints), omega (arith, ints))
 ]
 
-pub units_more : (w k : ℕ) (ls : List Line) (l : Line) → length ls ≡ k → ((j : ℕ) → j < k → IsUnitLine w j (line ls j)) → IsUnitLine w k l → (j : ℕ) → j < k + 1 → IsUnitLine w j (line (ls ++ l ∷ []) j)
-units_more w k ls l e h last j lt = each_more (λ i x. IsUnitLine w i x) ls l (λ i i_lt. h i (omega (arith, e, i_lt))) (subst (λ (n : ℕ). IsUnitLine w n l) (sym e) last) j (let m = more_lines ls l in omega (arith, m, e, lt))
+pub units_more : (w k : ℕ) (ls : List Line) (l : Line) → length ls ≡ k
+    → ((j : ℕ) → j < k → IsUnitLine w j (line ls j)) → IsUnitLine w k l → (j : ℕ) → j < k + 1
+    → IsUnitLine w j (line (ls ++ l ∷ []) j)
+units_more w k ls l e h last j lt =
+    each_more (λ i x. IsUnitLine w i x) ls l (λ i i_lt. h i (omega (arith, e, i_lt)))
+    (subst (λ (n : ℕ). IsUnitLine w n l) (sym e) last) j (let m = more_lines ls l in omega (arith, m, e, lt))
 
 module _ (w : ℕ) (narrow : w ≤ 256) (ls : List Line) (u : AreUnits w ls) where
   in_w : (k : ℕ) → k < length ls → k < w
@@ -44,8 +49,10 @@ module _ (w : ℕ) (narrow : w ≤ 256) (ls : List Line) (u : AreUnits w ls) whe
     positive = omega (arith, ints);
     within = λ k lt. (let p = pivot_at k lt in let l = in_w k lt in omega (arith, p, l));
     own = λ k lt. ap (at (line ls k).entries) (pivot_at k lt) ∙ at_row k k lt (in_w k lt) ∙ unit_own k;
-    others = λ j k j_lt k_lt ne. ap (at (line ls k).entries) (pivot_at j j_lt) ∙ at_row k j k_lt (in_w j j_lt) ∙ unit_other k j ne;
-    before = λ k i lt i_lt. (let p = pivot_at k lt in let l = in_w k lt in at_row k i lt (omega (arith, p, l, i_lt)) ∙ unit_other k i (λ e. absurd (omega (arith, e, p, i_lt))));
+    others = λ j k j_lt k_lt ne. ap (at (line ls k).entries) (pivot_at j j_lt) ∙ at_row k j k_lt (in_w j j_lt)
+        ∙ unit_other k j ne;
+    before = λ k i lt i_lt. (let p = pivot_at k lt in let l = in_w k lt in at_row k i lt (omega (arith, p, l, i_lt))
+        ∙ unit_other k i (λ e. absurd (omega (arith, e, p, i_lt))));
   }
 
   pub units_kept : IsKept w (pos 1) ls
@@ -53,18 +60,23 @@ module _ (w : ℕ) (narrow : w ≤ 256) (ls : List Line) (u : AreUnits w ls) whe
     narrow = narrow;
     few = (let n = u.count in omega (arith, n));
     form = units_form;
-    order = λ j k lt k_lt. (let a = pivot_at j (omega (arith, lt, k_lt)) in let b = pivot_at k k_lt in omega (arith, a, b, lt));
+    order = λ j k lt k_lt. (let a = pivot_at j (omega (arith, lt, k_lt)) in let b = pivot_at k k_lt in omega
+        (arith, a, b, lt));
     coprime = λ m e h all. record { by = h.by; is = (let x = h.is in omega (arith, ints, x)) };
     scale = (omega (arith, ints), omega (arith, ints));
     widths = λ k lt. (u.each k (in_w k lt)).lengths;
-    small = λ k lt i i_lt. subst (λ (z : ℤ). IsBox z) (sym (at_row k i lt (let l = (u.each k (in_w k lt)).lengths in omega (arith, l, i_lt)))) (unit_box k i);
+    small = λ k lt i i_lt. subst (λ (z : ℤ). IsBox z) (sym (at_row k i lt (let l = (u.each k (in_w k lt)).lengths in
+        omega (arith, l, i_lt)))) (unit_box k i);
   }
 
   pub units_all : (v : Vector) → InSpan w (vectors ls) v
   units_all v = passes_in w (pos 1) ls units_form v (λ i lt.
       let i_l : i < length ls = (let n = u.count in omega (arith, n, lt)) in
-      let f = fill_one_by ls v i i i_l (λ j j_lt ne. ap (λ z. v (line ls j).pivot *ℤ z) (at_row j i j_lt lt ∙ unit_other j i (λ e. ne (sym e))) ∙ mul_zero (v (line ls j).pivot)) in
-      let g : v (line ls i).pivot *ℤ at (line ls i).entries i ≡ v i *ℤ pos 1 = ap (λ p. v p *ℤ at (line ls i).entries i) (pivot_at i i_l) ∙ ap (λ z. v i *ℤ z) (at_row i i i_l lt ∙ unit_own i) in
+      let f = fill_one_by ls v i i i_l (λ j j_lt ne. ap (λ z. v (line ls j).pivot *ℤ z)
+      (at_row j i j_lt lt ∙ unit_other j i (λ e. ne (sym e))) ∙ mul_zero (v (line ls j).pivot)) in
+      let g : v (line ls i).pivot *ℤ at (line ls i).entries i
+      ≡ v i *ℤ pos 1 = ap (λ p. v p *ℤ at (line ls i).entries i) (pivot_at i i_l)
+      ∙ ap (λ z. v i *ℤ z) (at_row i i i_l lt ∙ unit_own i) in
       let c = mul_comm (v i) (pos 1) in
       omega (arith, ints, f, g, c))
 
@@ -77,10 +89,16 @@ freed_plus w c S v h = record {
   part_in = h.1;
   factor = v c -ℤ h.0 c;
   exact = λ i lt. elim (cases_eq i c) [
-    | inl e ↦ subst (λ (j : ℕ). pos 1 *ℤ v j ≡ h.0 j +ℤ ((v c -ℤ h.0 c) *ℤ unit c j)) (sym e) (let a : (v c -ℤ h.0 c) *ℤ unit c c ≡ (v c -ℤ h.0 c) *ℤ pos 1 = ap (λ z. (v c -ℤ h.0 c) *ℤ z) (unit_own c) in omega (arith, ints, a))
-    | inr ne ↦ (let a : (v c -ℤ h.0 c) *ℤ unit c i ≡ (v c -ℤ h.0 c) *ℤ pos 0 = ap (λ z. (v c -ℤ h.0 c) *ℤ z) (unit_other c i ne) in let b = mul_zero (v c -ℤ h.0 c) in let e = h.2 i ne in omega (arith, ints, a, b, e))
+    | inl e ↦ subst (λ (j : ℕ). pos 1 *ℤ v j ≡ h.0 j +ℤ ((v c -ℤ h.0 c) *ℤ unit c j)) (sym e)
+        (let a : (v c -ℤ h.0 c) *ℤ unit c c ≡ (v c -ℤ h.0 c) *ℤ pos 1 = ap (λ z. (v c -ℤ h.0 c) *ℤ z) (unit_own c) in
+        omega (arith, ints, a))
+    | inr ne ↦ (let a : (v c -ℤ h.0 c) *ℤ unit c i ≡ (v c -ℤ h.0 c) *ℤ pos 0 = ap (λ z. (v c -ℤ h.0 c) *ℤ z)
+        (unit_other c i ne) in let b = mul_zero (v c -ℤ h.0 c) in let e = h.2 i ne in omega (arith, ints, a, b, e))
   ];
 }
 
-pub freed_least : (w c : ℕ) (S T : Vectors) → S (λ i. pos 0) → SameMembers (Plus w S (unit c)) T → Follows w (Freed c S) T
-freed_least w c S T zeros s e len meets v m = plus_meets w S (unit c) e len (λ x p. meets x (x, p, λ i ne. refl)) (meets (unit c) ((λ i. pos 0), zeros, λ i ne. unit_other c i ne)) v (s.back v m)
+pub freed_least : (w c : ℕ) (S T : Vectors) → S (λ i. pos 0) → SameMembers (Plus w S (unit c)) T
+    → Follows w (Freed c S) T
+freed_least w c S T zeros s e len meets v m =
+    plus_meets w S (unit c) e len (λ x p. meets x (x, p, λ i ne. refl)) (meets (unit c)
+    ((λ i. pos 0), zeros, λ i ne. unit_other c i ne)) v (s.back v m)

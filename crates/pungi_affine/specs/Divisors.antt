@@ -27,4 +27,6 @@ pub record IsDivisor (xs : List ℤ) (g : ℤ) : Type 0 where
 pub record IsShared (d : ℤ) (ls : List Line) (g : ℤ) : Type 0 where
   pub scale : Divides g d
   pub rows : (k : ℕ) → k < length ls → (i : ℕ) → i < length (line ls k).entries → Divides g (at (line ls k).entries i)
-  pub combines : (m e : ℤ) → Divides m (e *ℤ d) → ((k : ℕ) → k < length ls → (i : ℕ) → i < length (line ls k).entries → Divides m (e *ℤ at (line ls k).entries i)) → Divides m (e *ℤ g)
+  pub combines : (m e : ℤ) → Divides m (e *ℤ d)
+      → ((k : ℕ) → k < length ls → (i : ℕ) → i < length (line ls k).entries
+      → Divides m (e *ℤ at (line ls k).entries i)) → Divides m (e *ℤ g)

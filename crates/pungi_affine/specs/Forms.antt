@@ -1,5 +1,5 @@
--- The form in which a span is kept: the reduced row echelon form with one common scale in place of ones at the pivots, and
--- no common divisor of the scale and all entries.
+-- The form in which a span is kept: the reduced row echelon form with one common scale in place of ones at the pivots,
+-- and no common divisor of the scale and all entries.
 --   Line                a row with its pivot
 --   no_line, line ls k  the line past the end of a list; a line of it
 --   vectors ls          their entries
@@ -37,14 +37,17 @@ pub record IsForm (w : ℕ) (d : ℤ) (ls : List Line) : Type 0 where
   pub positive : pos 0 <ℤ d
   pub within : (k : ℕ) → k < length ls → (line ls k).pivot < w
   pub own : (k : ℕ) → k < length ls → at (line ls k).entries (line ls k).pivot ≡ d
-  pub others : (j k : ℕ) → j < length ls → k < length ls → (j ≡ k → ⊥) → at (line ls k).entries (line ls j).pivot ≡ pos 0
+  pub others : (j k : ℕ) → j < length ls → k < length ls → (j ≡ k → ⊥)
+      → at (line ls k).entries (line ls j).pivot ≡ pos 0
   pub before : (k i : ℕ) → k < length ls → i < (line ls k).pivot → at (line ls k).entries i ≡ pos 0
 
 abbrev pub IsOrdered : List Line → Type 0
 IsOrdered ls = (j k : ℕ) → j < k → k < length ls → (line ls j).pivot < (line ls k).pivot
 
 abbrev pub IsCoprime : ℕ → ℤ → List Line → Type 0
-IsCoprime w d ls = (m e : ℤ) → Divides m (e *ℤ d) → ((k i : ℕ) → k < length ls → i < w → Divides m (e *ℤ at (line ls k).entries i)) → Divides m e
+IsCoprime w d ls =
+    (m e : ℤ) → Divides m (e *ℤ d) → ((k i : ℕ) → k < length ls → i < w → Divides m (e *ℤ at (line ls k).entries i))
+    → Divides m e
 
 abbrev pub line_of : Row → Line
 line_of r = record { pivot = r.pivot; entries = r.entries.items }

@@ -1,5 +1,6 @@
 -- The vectors of a span that meet an equation.
---   AreSums t e ls s        s has for each row its coefficients times entries, summed up, times the number t, which isn't 0
+--   AreSums t e ls s        s has for each row its coefficients times entries, summed up, times the number t, which
+--                           isn't 0
 --   IsLastOf s p            p is the last place with an entry other than 0
 --   LastOf s o              o is the last place with an entry other than 0; `None` where all are 0
 --   IsCrossed a l b k m     m is the a-fold of the row l less the b-fold of the row k, at the pivot of l

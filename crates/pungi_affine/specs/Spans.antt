@@ -1,7 +1,7 @@
 -- Spans of vectors over the fractions.
 --   comb cs vs i       the sum of multiples of the vectors, at a coordinate
---   InSpan w vs v      some whole multiple of v, by a number other than 0, is a sum of whole multiples of the vectors, up to
---                      the width w
+--   InSpan w vs v      some whole multiple of v, by a number other than 0, is a sum of whole multiples of the vectors,
+--                      up to the width w
 --   SameMembers S T    S and T have the same vectors
 --   IsDimension w S n  S has n pivots
 use Rattle.std.specs.Prelude.{◌≡◌, ℕ, ◌<◌, ℤ, pos, ◌+ℤ◌, ◌*ℤ◌, List, [], ◌∷◌, length}

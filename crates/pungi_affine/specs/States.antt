@@ -2,8 +2,8 @@
 --   SpanState            these three
 --   span_rank s          how many rows it has
 --   SpanMember s v       v is a vector of the span
---   IsKept w d ls        the rows are the reduced form with the least scale, in the order of the pivots; there are at most 256
---                        coordinates, not fewer than rows, and no entry is over 2^31 in absolute value
+--   IsKept w d ls        the rows are the reduced form with the least scale, in the order of the pivots; there are at
+--                        most 256 coordinates, not fewer than rows, and no entry is over 2^31 in absolute value
 use Rattle.std.specs.Prelude.{◌≡◌, ℕ, ◌<◌, ◌≤◌, ℤ, List, length}
 use Rattle.pungi_domain.specs.Vectors.{Vector}
 use Rattle.pungi_affine.specs.Spans.{InSpan}

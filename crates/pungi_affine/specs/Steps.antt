@@ -1,7 +1,8 @@
 -- Adding a vector to a form.
 --   residual d ls v i        what is left of the d-fold of v without the rows
---   Steps w d ls v d' ls'    the rows after v was added: u is the residual but for a factor h, q the first coordinate at which it
---                            isn't 0; g is taken out of all; the new row and the old ones have each their place
+--   Steps w d ls v d' ls'    the rows after v was added: u is the residual but for a factor h, q the first coordinate
+--                            at which it isn't 0; g is taken out of all; the new row and the old ones have each their
+--                            place
 --   HasOutside w ls          an entry of a row is over 2^31 in absolute value
 use Rattle.std.specs.Prelude.{◌≡◌, ◌⊎◌, ℕ, ◌<◌, ℤ, pos, ◌-ℤ◌, ◌*ℤ◌, ◌<ℤ◌, List, length}
 use Rattle.pungi_domain.specs.Vectors.{at}

@@ -22,7 +22,8 @@ fn with_small(alloc: Global, span: &Span, v: &[i64]) -> Result<Option<Span>, Dom
     requires width { length v.now ≡ span.now.width }
     requires small { WithinBox v.now }
     ensures adds { IfOk result (λ o. AddsTo span.now (at v.now) o) }
-    ensures range { RangeIs true (LargeRow span.now.width (Plus span.now.width (SpanMember span.now) (at v.now))) result }
+    ensures range { RangeIs true (LargeRow span.now.width (Plus span.now.width (SpanMember span.now) (at v.now)))
+        result }
 {
     let rows = span.rows.as_slice();
     let left = left_over(alloc, span.scale, rows, v)?;

@@ -122,7 +122,8 @@ pub(crate) fn extended_form(
 ) -> Result<WideForm, AllocError>
     requires d { IsBox d }
     requires within { new.now.pivot < length new.now.entries.items }
-    requires widths { (k : ℕ) → k < length (lines rows.now) → length (line (lines rows.now) k).entries ≡ length new.now.entries.items }
+    requires widths { (k : ℕ) → k < length (lines rows.now)
+        → length (line (lines rows.now) k).entries ≡ length new.now.entries.items }
     requires new { (j : ℕ) → j < length new.now.entries.items → IsWide (at new.now.entries.items j) }
     requires rows { (k : ℕ) → k < length (lines rows.now) → WithinBox (line (lines rows.now) k).entries }
     ensures { IfOk result (λ f. IsExtended d (lines rows.now) (wide_line new.now) f.scale (wide_lines f.rows.items)) }

@@ -52,7 +52,9 @@ fn divided(alloc: Global, row: &WideRow, g: i128) -> Result<WideRow, AllocError>
 
 fn divided_rows(alloc: Global, rows: &[WideRow], g: i128) -> Result<Vec<WideRow>, AllocError>
     requires g { pos 0 <ℤ g }
-    requires divides { (k : ℕ) → k < length (wide_lines rows.now) → (i : ℕ) → i < length (line (wide_lines rows.now) k).entries → Divides g (at (line (wide_lines rows.now) k).entries i) }
+    requires divides { (k : ℕ) → k < length (wide_lines rows.now) → (i : ℕ)
+        → i < length (line (wide_lines rows.now) k).entries
+        → Divides g (at (line (wide_lines rows.now) k).entries i) }
     ensures { IfOk result (λ v. AreQuotients g (wide_lines rows.now) (wide_lines v.items)) }
 {
     let mut quotients = Vec::new(alloc);

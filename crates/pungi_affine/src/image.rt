@@ -1,7 +1,8 @@
 //! The images of a span's rows under a matrix.
 ghost use Rattle.std.specs.Prelude.{◌≡◌, ℕ, ◌<◌, ◌≤◌, ◌^◌, ℤ, pos, ◌*ℤ◌, length, true, IfOk};
 ghost use Rattle.std.specs.List.{All};
-ghost use Rattle.pungi_domain.specs.Vectors.{at, row_sum, image, IsMatrixRow, IsMatrix, Image, IsWithin, Vector, Follows};
+ghost use Rattle.pungi_domain.specs.Vectors.{at, row_sum, image, IsMatrixRow, IsMatrix, Image, IsWithin, Vector};
+ghost use Rattle.pungi_domain.specs.Vectors.{Follows};
 ghost use Rattle.pungi_domain.specs.Spans.{LargeMap};
 ghost use Rattle.pungi_domain.specs.Domain.{RangeIs};
 ghost use Rattle.pungi_affine.specs.Forms.{lines, line, line_of, WithinBox};
@@ -73,7 +74,8 @@ fn row_images(
     rows: &[Row],
     matrix: &[Seq<(u32, i64)>],
 ) -> Result<Vec<Given>, AllocError>
-    requires matrix { (k : ℕ) → k < length (lines rows.now) → IsMatrix (length (line (lines rows.now) k).entries) matrix.now }
+    requires matrix { (k : ℕ) → k < length (lines rows.now)
+        → IsMatrix (length (line (lines rows.now) k).entries) matrix.now }
     requires narrow { (k : ℕ) → k < length (lines rows.now) → length (line (lines rows.now) k).entries ≤ 256 }
     requires small { (k : ℕ) → k < length (lines rows.now) → WithinBox (line (lines rows.now) k).entries }
     ensures { IfOk result (λ v. AreImagesOf matrix.now (lines rows.now) v.items) }
@@ -91,7 +93,8 @@ pub(crate) fn image_span(alloc: Global, span: &Span, matrix: &Matrix) -> Result<
     requires narrow { length matrix.now.rows ≤ 256 }
     ensures width { IfOk result (λ s. s.width ≡ length matrix.now.rows) }
     ensures members { IfOk result (λ s. (v : Vector) → SpanMember span.now v → SpanMember s (image matrix.now.rows v)) }
-    ensures least { IfOk result (λ s. Follows (length matrix.now.rows) (Image matrix.now.rows (SpanMember span.now)) (SpanMember s)) }
+    ensures least { IfOk result (λ s. Follows (length matrix.now.rows) (Image matrix.now.rows (SpanMember span.now))
+        (SpanMember s)) }
     ensures range { RangeIs true (LargeMap span.now.width matrix.now.rows (SpanMember span.now)) result }
 {
     let images = row_images(alloc, span.rows.as_slice(), matrix.rows.as_slice())?;

@@ -1,4 +1,5 @@
-//! Spans of vectors of whole numbers, with exact arithmetic within 128 bits: the abstract domain of affine relations (Karr
+//! Spans of vectors of whole numbers, with exact arithmetic within 128 bits: the abstract domain of affine relations
+//! (Karr
 //! 1976), on vectors whose leading coordinate stands for the constant.
 #![tactic(auto)]
 

@@ -24,7 +24,8 @@ use std::alloc::{AllocError, Global};
 fn row_sums(alloc: Global, rows: &[Row], coefficients: &[i64]) -> Result<Vec<i128>, AllocError>
     requires narrow { length coefficients.now ≤ 256 }
     requires tight { IsNarrow coefficients.now }
-    requires widths { (k : ℕ) → k < length (lines rows.now) → length (line (lines rows.now) k).entries ≡ length coefficients.now }
+    requires widths { (k : ℕ) → k < length (lines rows.now)
+        → length (line (lines rows.now) k).entries ≡ length coefficients.now }
     requires small { (k : ℕ) → k < length (lines rows.now) → WithinBox (line (lines rows.now) k).entries }
     ensures { IfOk result (λ s. AreSums (pos 1) coefficients.now (lines rows.now) s.items) }
 {
@@ -74,11 +75,13 @@ fn turned_sums(sums: Vec<i128>, p: usize) -> Vec<i128>
 
 /// An entry of the row at k less the one at p, so that it meets the equation.
 fn crossed_entry(sums: &[i128], p: usize, rows: &[Row], k: usize, i: usize) -> i128
-    requires within { (p < length (lines rows.now)) × (k < length (lines rows.now)) × (length sums.now ≡ length (lines rows.now)) }
+    requires within { (p < length (lines rows.now)) × (k < length (lines rows.now))
+        × (length sums.now ≡ length (lines rows.now)) }
     requires i { (j : ℕ) → j < length (lines rows.now) → i < length (line (lines rows.now) j).entries }
     requires wide { (j : ℕ) → j < length sums.now → IsWide (at sums.now j) }
     requires small { (j : ℕ) → j < length (lines rows.now) → WithinBox (line (lines rows.now) j).entries }
-    ensures value { result ≡ crossed_entry (at sums.now p) (line (lines rows.now) k) (at sums.now k) (line (lines rows.now) p) i }
+    ensures value { result ≡ crossed_entry (at sums.now p) (line (lines rows.now) k) (at sums.now k)
+        (line (lines rows.now) p) i }
     ensures within { IsWithin (2 ^ 126 + 2 ^ 91) result }
 {
     times(sums, p, &rows[k], i) - times(sums, k, &rows[p], i)
@@ -91,11 +94,14 @@ fn crossed_row(
     rows: &[Row],
     k: usize,
 ) -> Result<WideRow, AllocError>
-    requires within { (p < length (lines rows.now)) × (k < length (lines rows.now)) × (length sums.now ≡ length (lines rows.now)) }
-    requires widths { (j : ℕ) → j < length (lines rows.now) → length (line (lines rows.now) j).entries ≡ length (line (lines rows.now) k).entries }
+    requires within { (p < length (lines rows.now)) × (k < length (lines rows.now))
+        × (length sums.now ≡ length (lines rows.now)) }
+    requires widths { (j : ℕ) → j < length (lines rows.now)
+        → length (line (lines rows.now) j).entries ≡ length (line (lines rows.now) k).entries }
     requires wide { (j : ℕ) → j < length sums.now → IsWide (at sums.now j) }
     requires small { (j : ℕ) → j < length (lines rows.now) → WithinBox (line (lines rows.now) j).entries }
-    ensures { IfOk result (λ r. IsCrossed (at sums.now p) (line (lines rows.now) k) (at sums.now k) (line (lines rows.now) p) (wide_line r)) }
+    ensures { IfOk result (λ r. IsCrossed (at sums.now p) (line (lines rows.now) k) (at sums.now k)
+        (line (lines rows.now) p) (wide_line r)) }
 {
     let mut entries = Vec::new(alloc);
     for i in 0..rows[k].entries.len() {
@@ -114,7 +120,8 @@ fn crossed_rows(
     rows: &[Row],
 ) -> Result<Vec<WideRow>, AllocError>
     requires within { (p < length (lines rows.now)) × (length sums.now ≡ length (lines rows.now)) }
-    requires widths { (j k : ℕ) → j < length (lines rows.now) → k < length (lines rows.now) → length (line (lines rows.now) j).entries ≡ length (line (lines rows.now) k).entries }
+    requires widths { (j k : ℕ) → j < length (lines rows.now) → k < length (lines rows.now)
+        → length (line (lines rows.now) j).entries ≡ length (line (lines rows.now) k).entries }
     requires wide { (j : ℕ) → j < length sums.now → IsWide (at sums.now j) }
     requires small { (j : ℕ) → j < length (lines rows.now) → WithinBox (line (lines rows.now) j).entries }
     ensures { IfOk result (λ v. AreCrossed sums.now p (lines rows.now) (wide_lines v.items)) }
@@ -136,7 +143,8 @@ fn met_form(
 ) -> Result<WideForm, AllocError>
     requires d { IsBox d }
     requires within { (p < length (lines rows.now)) × (length sums.now ≡ length (lines rows.now)) }
-    requires widths { (j k : ℕ) → j < length (lines rows.now) → k < length (lines rows.now) → length (line (lines rows.now) j).entries ≡ length (line (lines rows.now) k).entries }
+    requires widths { (j k : ℕ) → j < length (lines rows.now) → k < length (lines rows.now)
+        → length (line (lines rows.now) j).entries ≡ length (line (lines rows.now) k).entries }
     requires wide { (j : ℕ) → j < length sums.now → IsWide (at sums.now j) }
     requires small { (j : ℕ) → j < length (lines rows.now) → WithinBox (line (lines rows.now) j).entries }
     ensures { IfOk result (λ f. IsMetForm d (lines rows.now) sums.now p f.scale (wide_lines f.rows.items)) }
@@ -157,7 +165,8 @@ pub(crate) fn meeting_span(
 ) -> Result<Span, DomainFault>
     requires { IsEquation span.now.width equation.now.coefficients }
     ensures width { IfOk result (λ s. s.width ≡ span.now.width) }
-    ensures members { IfOk result (λ s. SameMembers (Meeting equation.now.coefficients (SpanMember span.now)) (SpanMember s)) }
+    ensures members { IfOk result (λ s. SameMembers (Meeting equation.now.coefficients (SpanMember span.now))
+        (SpanMember s)) }
     ensures range { RangeIs true (LargeMeet span.now.width equation.now.coefficients (SpanMember span.now)) result }
 {
     let rows = span.rows.as_slice();

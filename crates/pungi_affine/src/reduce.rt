@@ -30,7 +30,12 @@ fn row_part(alloc: Global, row: &WideRow) -> Result<Vec<i128>, AllocError>
 /// The span of a form that may be kept.
 fn kept_span(alloc: Global, width: u32, form: &WideForm) -> Result<Span, AllocError>
     requires { IsKept width form.now.scale (wide_lines form.now.rows.items) }
-    ensures { IfOk result (λ s. s ≡ record { width = width; scale = form.now.scale; lines = wide_lines form.now.rows.items }) }
+    ensures { IfOk result (λ s. s ≡ record {
+      width = width;
+      scale = form.now.scale;
+      lines = wide_lines
+          form.now.rows.items;
+    }) }
 {
     let rows = narrowed_rows(alloc, form.rows.as_slice())?;
     Ok(Span {
@@ -45,7 +50,8 @@ pub(crate) fn reduced_span(alloc: Global, width: u32, form: &WideForm) -> Result
     requires { IsWideForm width form.now.scale (wide_lines form.now.rows.items) }
     ensures width { IfOk result (λ s. s.width ≡ width) }
     ensures count { IfOk result (λ s. length s.lines ≡ length (wide_lines form.now.rows.items)) }
-    ensures members { IfOk result (λ s. SameMembers (InSpan width (vectors (wide_lines form.now.rows.items))) (SpanMember s)) }
+    ensures members { IfOk result (λ s. SameMembers (InSpan width (vectors (wide_lines form.now.rows.items)))
+        (SpanMember s)) }
     ensures range { RangeIs true (LargeRow width (InSpan width (vectors (wide_lines form.now.rows.items)))) result }
 {
     let least = least_form(alloc, width, form)?;

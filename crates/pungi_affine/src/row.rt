@@ -63,10 +63,13 @@ fn row_meets(rows: &[Row], coefficients: &[i64], k: usize) -> bool
 /// Whether all rows meet an equation.
 pub(crate) fn rows_meet(rows: &[Row], coefficients: &[i64]) -> bool
     requires narrow { length coefficients.now ≤ 256 }
-    requires widths { (k : ℕ) → k < length (lines rows.now) → length (line (lines rows.now) k).entries ≡ length coefficients.now }
+    requires widths { (k : ℕ) → k < length (lines rows.now)
+        → length (line (lines rows.now) k).entries ≡ length coefficients.now }
     requires small { (k : ℕ) → k < length (lines rows.now) → WithinBox (line (lines rows.now) k).entries }
-    ensures yes { result ≡ true → (k : ℕ) → k < length (lines rows.now) → dot coefficients.now (at (line (lines rows.now) k).entries) ≡ pos 0 }
-    ensures no { result ≡ false → (k : ℕ) × (k < length (lines rows.now)) × (dot coefficients.now (at (line (lines rows.now) k).entries) ≡ pos 0 → ⊥) }
+    ensures yes { result ≡ true → (k : ℕ) → k < length (lines rows.now)
+        → dot coefficients.now (at (line (lines rows.now) k).entries) ≡ pos 0 }
+    ensures no { result ≡ false → (k : ℕ) × (k < length (lines rows.now))
+        × (dot coefficients.now (at (line (lines rows.now) k).entries) ≡ pos 0 → ⊥) }
 {
     for k in 0..rows.len() {
         if !row_meets(rows, coefficients, k) {

@@ -1,4 +1,5 @@
-ghost use Rattle.std.specs.Prelude.{◌≡◌, ℕ, ◌+◌, ◌<◌, ◌≤◌, ◌^◌, ℤ, pos, [], true, false, length, take, IfOk, OnOk, OnErr};
+ghost use Rattle.std.specs.Prelude.{◌≡◌, ℕ, ◌+◌, ◌<◌, ◌≤◌, ◌^◌, ℤ, pos, [], true, false, length, take, IfOk, OnOk};
+ghost use Rattle.std.specs.Prelude.{OnErr};
 ghost use Rattle.pungi_domain.specs.Vectors.{Vector, at, dot, IsEquation, IsWithin, Meeting, Freed, Either, Follows};
 ghost use Rattle.pungi_domain.specs.Domain.{RangeIs};
 ghost use Rattle.pungi_domain.specs.Spans.{Never, Plus, LargeSum, LargeFree, LargeMeet, LargeGrow};
@@ -104,7 +105,8 @@ impl Span {
         requires { coordinate < self.now.width }
         ensures width { IfOk result (λ s. s.width ≡ self.now.width) }
         ensures members { IfOk result (λ s. (v : Vector) → Freed coordinate (SpanMember self.now) v → SpanMember s v) }
-        ensures least { IfOk result (λ s. Follows self.now.width (Freed coordinate (SpanMember self.now)) (SpanMember s)) }
+        ensures least { IfOk result (λ s. Follows self.now.width (Freed coordinate (SpanMember self.now))
+            (SpanMember s)) }
         ensures range { RangeIs true (LargeFree self.now.width coordinate (SpanMember self.now)) result }
     {
         freed_span(alloc, self, coordinate)
@@ -114,7 +116,8 @@ impl Span {
     pub fn meet(&self, alloc: Global, equation: &Equation) -> Result<Span, DomainFault>
         requires { IsEquation self.now.width equation.now.coefficients }
         ensures width { IfOk result (λ s. s.width ≡ self.now.width) }
-        ensures members { IfOk result (λ s. SameMembers (Meeting equation.now.coefficients (SpanMember self.now)) (SpanMember s)) }
+        ensures members { IfOk result (λ s. SameMembers (Meeting equation.now.coefficients (SpanMember self.now))
+            (SpanMember s)) }
         ensures range { RangeIs true (LargeMeet self.now.width equation.now.coefficients (SpanMember self.now)) result }
     {
         meeting_span(alloc, self, equation)
@@ -129,7 +132,8 @@ impl Span {
         ensures unchanged { result ≡ Ok false → self.new ≡ self.old }
         ensures rose { result ≡ Ok true → length self.old.lines < length self.new.lines }
         ensures bounded { length self.new.lines ≤ self.new.width }
-        ensures least { OnOk result (Follows self.old.width (Either (SpanMember self.old) (SpanMember from.now)) (SpanMember self.new)) }
+        ensures least { OnOk result (Follows self.old.width (Either (SpanMember self.old) (SpanMember from.now))
+            (SpanMember self.new)) }
         ensures range { RangeIs true (LargeGrow self.old.width (SpanMember self.old) (SpanMember from.now)) result }
         ensures err { OnErr result (self.new ≡ self.old) }
     {
@@ -144,9 +148,11 @@ impl Span {
         requires width { length vector.now ≡ self.old.width }
         requires within { (i : ℕ) → i < length vector.now → IsWithin (2 ^ 126) (at vector.now i) }
         ensures width { self.new.width ≡ self.old.width }
-        ensures members { OnOk result (SameMembers (Plus self.old.width (SpanMember self.old) (at vector.now)) (SpanMember self.new)) }
+        ensures members { OnOk result (SameMembers (Plus self.old.width (SpanMember self.old) (at vector.now))
+            (SpanMember self.new)) }
         ensures unchanged { result ≡ Ok false → (self.new ≡ self.old) × SpanMember self.old (at vector.now) }
-        ensures grew { result ≡ Ok true → (length self.new.lines ≡ length self.old.lines + 1) × (SpanMember self.old (at vector.now) → ⊥) }
+        ensures grew { result ≡ Ok true → (length self.new.lines ≡ length self.old.lines + 1)
+            × (SpanMember self.old (at vector.now) → ⊥) }
         ensures range { RangeIs true (LargeSum self.old.width (SpanMember self.old) (at vector.now)) result }
         ensures err { OnErr result (self.new ≡ self.old) }
     {
@@ -167,8 +173,10 @@ impl Span {
     /// Whether all vectors of the span meet an equation.
     pub fn holds(&self, equation: &Equation) -> bool
         requires { IsEquation self.now.width equation.now.coefficients }
-        ensures members { result ≡ true → (v : Vector) → SpanMember self.now v → dot equation.now.coefficients v ≡ pos 0 }
-        ensures least { result ≡ false → (v : Vector) × SpanMember self.now v × (dot equation.now.coefficients v ≡ pos 0 → ⊥) }
+        ensures members { result ≡ true → (v : Vector) → SpanMember self.now v
+            → dot equation.now.coefficients v ≡ pos 0 }
+        ensures least { result ≡ false → (v : Vector) × SpanMember self.now v
+            × (dot equation.now.coefficients v ≡ pos 0 → ⊥) }
     {
         rows_meet(self.rows.as_slice(), equation.coefficients.as_slice())
     }

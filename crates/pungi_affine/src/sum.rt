@@ -28,9 +28,11 @@ pub(crate) struct Grown {
 
 fn step(alloc: Global, grown: Grown, vector: &Given) -> Result<Grown, DomainFault>
     requires width { length vector.now.entries.items ≡ grown.span.width }
-    requires within { (i : ℕ) → i < length vector.now.entries.items → IsWithin (2 ^ 126) (at vector.now.entries.items i) }
+    requires within { (i : ℕ) → i < length vector.now.entries.items
+        → IsWithin (2 ^ 126) (at vector.now.entries.items i) }
     ensures step { IfOk result (λ g. IsStep grown.span grown.changed (at vector.now.entries.items) g.span g.changed) }
-    ensures range { RangeIs true (LargeSum grown.span.width (SpanMember grown.span) (at vector.now.entries.items)) result }
+    ensures range { RangeIs true (LargeSum grown.span.width (SpanMember grown.span) (at vector.now.entries.items))
+        result }
 {
     let more = with_vector(alloc, &grown.span, vector.entries.as_slice())?;
     let Some(span) = more else {
@@ -45,7 +47,8 @@ fn step(alloc: Global, grown: Grown, vector: &Given) -> Result<Grown, DomainFaul
 /// The span with the vectors added in order.
 pub(crate) fn with_all(alloc: Global, span: Span, vectors: &[Given]) -> Result<Grown, DomainFault>
     requires widths { (k : ℕ) → k < length vectors.now → length (given_at vectors.now k) ≡ span.width }
-    requires within { (k : ℕ) → k < length vectors.now → (i : ℕ) → i < length (given_at vectors.now k) → IsWithin (2 ^ 126) (at (given_at vectors.now k) i) }
+    requires within { (k : ℕ) → k < length vectors.now → (i : ℕ) → i < length (given_at vectors.now k)
+        → IsWithin (2 ^ 126) (at (given_at vectors.now k) i) }
     ensures sum { IfOk result (λ g. IsSum span (given_vectors vectors.now) g.span g.changed) }
     ensures range { RangeIs true (LargeSums span.width (SpanMember span) (given_vectors vectors.now)) result }
 {

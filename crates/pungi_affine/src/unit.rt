@@ -52,7 +52,8 @@ pub(crate) fn whole(alloc: Global, width: u32) -> Result<Span, AllocError>
 pub(crate) fn freed_span(alloc: Global, span: &Span, c: u32) -> Result<Span, DomainFault>
     requires { c < span.now.width }
     ensures width { IfOk result (λ s. s.width ≡ span.now.width) }
-    ensures members { IfOk result (λ s. SameMembers (Plus span.now.width (SpanMember span.now) (unit c)) (SpanMember s)) }
+    ensures members { IfOk result (λ s. SameMembers (Plus span.now.width (SpanMember span.now) (unit c))
+        (SpanMember s)) }
     ensures range { RangeIs true (LargeFree span.now.width c (SpanMember span.now)) result }
 {
     let row = unit_row(alloc, span.width, c)?;

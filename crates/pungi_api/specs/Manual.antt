@@ -1,7 +1,8 @@
 -- The API calls, one a line, as the manual describes them (Python/C API Reference Manual 3.11).
 --   Argument             a parameter of a call, and whether the call takes over the reference that is passed for it
 --   object, object_or_null    a pointer to an object, not NULL; one that may be NULL
---   int, long, size, text, module_def    an `int`, a `long`, a `Py_ssize_t`, a text that isn't NULL, and the address of a
+--   int, long, size, text, module_def    an `int`, a `long`, a `Py_ssize_t`, a text that isn't NULL, and the address of
+--                                        a
 --                        `PyModuleDef`
 --   stolen               an object whose reference is taken over, also where the call fails
 --   stolen_on_success    one whose reference is taken over only where the call succeeds
@@ -62,11 +63,28 @@ abbrev pub call : ℕ → List ℕ → Answer → List Argument → Call
 call number name a arguments = record {
   number = number;
   name = name;
-  row = record { form = form.Plain; params = map (λ (x : Argument). x.param) arguments; takes = map (λ (x : Argument). x.take) arguments; answer = a };
+  row = record {
+    form = form.Plain;
+    params = map (λ (x : Argument). x.param) arguments;
+    takes = map
+        (λ (x : Argument). x.take) arguments;
+    answer = a;
+  };
 }
 
 abbrev pub special_call : ℕ → List ℕ → Special → Call
-special_call number name s = record { number = number; name = name; row = record { form = form.Special s; params = []; takes = []; answer = answer.Null } }
+special_call number name s =
+    record {
+      number = number;
+      name = name;
+      row = record {
+        form = form.Special s;
+        params = [];
+        takes = [];
+        answer
+            = answer.Null;
+      };
+    }
 
 abbrev pub plain_calls : List Call
 plain_calls =

@@ -7,13 +7,14 @@
 --   is_object p, has_success a      an object or NULL; a return value that shows whether the call succeeded
 --   may_take a p t, may_take_all    whether a parameter may be taken over so, and each of them
 --   is_empty, fits_form        the parts of what follows
---   is_row row                 a plain row has an entry of what is taken over for each parameter, and only objects are taken over,
---                              on success only where success can be seen; a special row leaves these empty
+--   is_row row                 a plain row has an entry of what is taken over for each parameter, and only objects are
+--                              taken over, on success only where success can be seen; a special row leaves these empty
 --   are_rows rows              each is such a row
 --   is_plain_form f, are_plain_rows rows        each is such a row, and plain
 --   named_row r                a row under the number of its name
 --   are_new rows more          none of these names stands before
-use Rattle.std.specs.Prelude.{ℕ, ◌==◌, Bool, true, false, ◌&&◌, List, [], ◌∷◌, ◌++◌, length, take, map, Option, None, Some, is_none}
+use Rattle.std.specs.Prelude.{ℕ, ◌==◌, Bool, true, false, ◌&&◌, List, [], ◌∷◌, ◌++◌, length, take, map, Option, None}
+use Rattle.std.specs.Prelude.{Some, is_none}
 use Rattle.std.specs.List.{list_all}
 use Rattle.std.specs.Map.{lookup}
 use Rattle.pungi_base.specs.declared.names.Name.{Name}
@@ -42,7 +43,16 @@ abbrev pub takes_of : ℕ → Take → List Take
 takes_of n third = take n (takes.Never ∷ takes.Never ∷ third ∷ [])
 
 abbrev pub plain_row : PlainRow → ℕ × Row
-plain_row p = (p.0, record { form = form.Plain; params = params_of p.1; takes = takes_of (length (params_of p.1)) p.2; answer = p.3 })
+plain_row p = (
+  p.0,
+  record {
+    form = form.Plain;
+    params = params_of p.1;
+    takes = takes_of (length (params_of p.1)) p.2;
+    answer
+        = p.3;
+  },
+)
 
 abbrev pub special_row : SpecialRow → ℕ × Row
 special_row s = (s.0, record { form = form.Special s.1; params = []; takes = []; answer = answer.Null })

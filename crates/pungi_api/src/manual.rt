@@ -158,8 +158,8 @@ pub static SPECIAL_ROWS: [SpecialRow; 6] = [
     SpecialRow(words::PY_XNEW_REF, Special::XNewRef),
 ];
 
-/// The rows are those that the definitions spell, each under the number that its name has among the words, and the plain
-/// rows are all words of plain rows, in their order.
+/// The rows are those that the definitions spell, each under the number that its name has among the words, and the
+/// plain rows are all words of plain rows, in their order.
 pub fn rows_have_their_names()
     ensures plain_rows { map plain_row PLAIN_ROWS ≡ map builtin_row plain_calls }
     ensures special_rows { map special_row SPECIAL_ROWS ≡ map builtin_row special_calls }

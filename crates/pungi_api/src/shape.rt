@@ -3,8 +3,8 @@ use pungi_base::Seq;
 use pungi_format::{InFormat, OutUnit};
 
 /// What a call of the API does, whatever its values: its row, the units of its format, and how many variables it
-/// writes. Arguments that say no more than this have no values: the format, the name of a struct type, the constants that
-/// count, the variables that are written, and the `NULL` that ends a list.
+/// writes. Arguments that say no more than this have no values: the format, the name of a struct type, the constants
+/// that count, the variables that are written, and the `NULL` that ends a list.
 #[derive(Debug, Drop)]
 pub struct Shape {
     pub row: Row,

@@ -1,7 +1,9 @@
-ghost use Rattle.std.specs.Prelude.{◌≡◌, ◌++◌, ◌∷◌, [], length, map, option_map, slice_get, is_none, IfOk, IfSome, OnOk, IsTrue};
+ghost use Rattle.std.specs.Prelude.{◌≡◌, ◌++◌, ◌∷◌, [], length, map, option_map, slice_get, is_none, IfOk, IfSome};
+ghost use Rattle.std.specs.Prelude.{OnOk, IsTrue};
 ghost use Rattle.std.specs.Option.{option_copied};
 ghost use Rattle.indexmap.specs.IndexMap.{get, keys};
-ghost use Rattle.pungi_api.specs.Rows.{plain_row, special_row, params_of, takes_of, builtin_rows, row_in, is_row, are_rows, are_plain_rows, named_row, are_new};
+ghost use Rattle.pungi_api.specs.Rows.{plain_row, special_row, params_of, takes_of, builtin_rows, row_in, is_row};
+ghost use Rattle.pungi_api.specs.Rows.{are_rows, are_plain_rows, named_row, are_new};
 
 use crate::manual::{PLAIN_ROWS, PlainRow, SPECIAL_ROWS, Signature, SpecialRow};
 use crate::{Answer, Form, Param, Row, Take};

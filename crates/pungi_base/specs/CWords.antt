@@ -5,7 +5,8 @@
 --   is_word_byte          either
 --   is_c_word text        a letter, and then letters and digits
 --   IsCWord names n       the name of this number has a text, and it is a word of C
-use Rattle.std.specs.Prelude.{◌≡◌, ◌<◌, ℕ, ◌==◌, Bool, true, false, ◌&&◌, ◌||◌, List, [], ◌∷◌, length, get_or, nat_le, codes}
+use Rattle.std.specs.Prelude.{◌≡◌, ◌<◌, ℕ, ◌==◌, Bool, true, false, ◌&&◌, ◌||◌, List, [], ◌∷◌, length, get_or, nat_le}
+use Rattle.std.specs.Prelude.{codes}
 use Rattle.std.specs.List.{list_all}
 
 abbrev pub is_one_of : List ℕ → ℕ → Bool

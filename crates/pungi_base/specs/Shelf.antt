@@ -1,10 +1,11 @@
 -- What calls on a shelf or a sink do.
 --   Rose before now                 a count of faults is one more than before, or stands at the end of its type
---   Grew before after result piece  what was passed on so far grew by the first bytes of a piece at `Ok`, as many as the
---                                   call returned, and by nothing at `Err`
+--   Grew before after result piece  what was passed on so far grew by the first bytes of a piece at `Ok`, as many as
+--                                   the call returned, and by nothing at `Err`
 --   Opens texts name rest           what is left to read is the text of that name; where no texts are known, nothing is
 --                                   known of it
-use Rattle.std.specs.Prelude.{◌≡◌, ℕ, ◌+◌, ◌-◌, ◌^◌, min, List, ◌++◌, take, Option, None, Some, IsSome, Result, MatchResult}
+use Rattle.std.specs.Prelude.{◌≡◌, ℕ, ◌+◌, ◌-◌, ◌^◌, min, List, ◌++◌, take, Option, None, Some, IsSome, Result}
+use Rattle.std.specs.Prelude.{MatchResult}
 
 abbrev pub Rose : ℕ → ℕ → Type 0
 Rose before now = now ≡ min (before + 1) (2 ^ 64 - 1)

@@ -96,9 +96,15 @@ punct_text punct.HashHash = codes "##"
 
 abbrev pub puncts : List Punct
 puncts =
-    punct.LeftParen ∷ punct.RightParen ∷ punct.LeftBracket ∷ punct.RightBracket ∷ punct.LeftBrace ∷ punct.RightBrace ∷ punct.Semicolon ∷ punct.Comma ∷
-    punct.Dot ∷ punct.Arrow ∷ punct.PlusPlus ∷ punct.MinusMinus ∷ punct.And ∷ punct.Star ∷ punct.Plus ∷ punct.Minus ∷ punct.Tilde ∷ punct.Not ∷
-    punct.Slash ∷ punct.Percent ∷ punct.ShiftLeft ∷ punct.ShiftRight ∷ punct.Less ∷ punct.Greater ∷ punct.LessEqual ∷ punct.GreaterEqual ∷
-    punct.Equal ∷ punct.NotEqual ∷ punct.Caret ∷ punct.Or ∷ punct.AndAnd ∷ punct.OrOr ∷ punct.Question ∷ punct.Colon ∷ punct.Assign ∷
-    punct.PlusAssign ∷ punct.MinusAssign ∷ punct.StarAssign ∷ punct.SlashAssign ∷ punct.PercentAssign ∷ punct.ShiftLeftAssign ∷
-    punct.ShiftRightAssign ∷ punct.AndAssign ∷ punct.CaretAssign ∷ punct.OrAssign ∷ punct.Ellipsis ∷ punct.Hash ∷ punct.HashHash ∷ []
+    punct.LeftParen ∷ punct.RightParen ∷ punct.LeftBracket ∷ punct.RightBracket ∷ punct.LeftBrace ∷ punct.RightBrace
+    ∷ punct.Semicolon ∷ punct.Comma ∷
+    punct.Dot ∷ punct.Arrow ∷ punct.PlusPlus ∷ punct.MinusMinus ∷ punct.And ∷ punct.Star ∷ punct.Plus ∷ punct.Minus
+    ∷ punct.Tilde ∷ punct.Not ∷
+    punct.Slash ∷ punct.Percent ∷ punct.ShiftLeft ∷ punct.ShiftRight ∷ punct.Less ∷ punct.Greater ∷ punct.LessEqual
+    ∷ punct.GreaterEqual ∷
+    punct.Equal ∷ punct.NotEqual ∷ punct.Caret ∷ punct.Or ∷ punct.AndAnd ∷ punct.OrOr ∷ punct.Question ∷ punct.Colon
+    ∷ punct.Assign ∷
+    punct.PlusAssign ∷ punct.MinusAssign ∷ punct.StarAssign ∷ punct.SlashAssign ∷ punct.PercentAssign
+    ∷ punct.ShiftLeftAssign ∷
+    punct.ShiftRightAssign ∷ punct.AndAssign ∷ punct.CaretAssign ∷ punct.OrAssign ∷ punct.Ellipsis ∷ punct.Hash
+    ∷ punct.HashHash ∷ []

@@ -43,4 +43,5 @@ choice_line c = codes "  " ++ place_text c.0 ++ codes " " ++ choice_text c.1 ++ 
 
 abbrev pub witness_text : Witness → List Pos → List ℕ
 witness_text w used =
-    codes "  objects " ++ decimal w.input.objects ++ line_end ++ flat_map argument_line w.input.args ++ flat_map choice_line (zip used w.choices)
+    codes "  objects " ++ decimal w.input.objects ++ line_end ++ flat_map argument_line w.input.args
+    ++ flat_map choice_line (zip used w.choices)

@@ -13,54 +13,80 @@ use Rattle.std.specs.Prelude.{◌≡◌, ℕ, List, [], ◌∷◌, ◌++◌, len
 
 abbrev pub keywords : List (List ℕ)
 keywords =
-    codes "int" ∷ codes "long" ∷ codes "short" ∷ codes "char" ∷ codes "unsigned" ∷ codes "signed" ∷ codes "float" ∷ codes "double" ∷ codes "void" ∷
-    codes "_Bool" ∷ codes "struct" ∷ codes "union" ∷ codes "enum" ∷ codes "typedef" ∷ codes "static" ∷ codes "extern" ∷ codes "inline" ∷
-    codes "const" ∷ codes "volatile" ∷ codes "register" ∷ codes "if" ∷ codes "else" ∷ codes "while" ∷ codes "do" ∷ codes "for" ∷ codes "switch" ∷
-    codes "case" ∷ codes "default" ∷ codes "break" ∷ codes "continue" ∷ codes "return" ∷ codes "goto" ∷ codes "sizeof" ∷ codes "NULL" ∷ []
+    codes "int" ∷ codes "long" ∷ codes "short" ∷ codes "char" ∷ codes "unsigned" ∷ codes "signed" ∷ codes "float"
+    ∷ codes "double" ∷ codes "void" ∷
+    codes "_Bool" ∷ codes "struct" ∷ codes "union" ∷ codes "enum" ∷ codes "typedef" ∷ codes "static"
+    ∷ codes "extern" ∷ codes "inline" ∷
+    codes "const" ∷ codes "volatile" ∷ codes "register" ∷ codes "if" ∷ codes "else" ∷ codes "while" ∷ codes "do"
+    ∷ codes "for" ∷ codes "switch" ∷
+    codes "case" ∷ codes "default" ∷ codes "break" ∷ codes "continue" ∷ codes "return" ∷ codes "goto"
+    ∷ codes "sizeof" ∷ codes "NULL" ∷ []
 
 abbrev pub macros : List (List ℕ)
 macros =
-    codes "Py_RETURN_NONE" ∷ codes "Py_RETURN_TRUE" ∷ codes "Py_RETURN_FALSE" ∷ codes "Py_BEGIN_ALLOW_THREADS" ∷ codes "Py_END_ALLOW_THREADS" ∷
-    codes "PyMODINIT_FUNC" ∷ codes "PyObject_HEAD" ∷ codes "PyObject_VAR_HEAD" ∷ codes "Py_LT" ∷ codes "Py_LE" ∷ codes "Py_EQ" ∷ codes "Py_NE" ∷
+    codes "Py_RETURN_NONE" ∷ codes "Py_RETURN_TRUE" ∷ codes "Py_RETURN_FALSE" ∷ codes "Py_BEGIN_ALLOW_THREADS"
+    ∷ codes "Py_END_ALLOW_THREADS" ∷
+    codes "PyMODINIT_FUNC" ∷ codes "PyObject_HEAD" ∷ codes "PyObject_VAR_HEAD" ∷ codes "Py_LT" ∷ codes "Py_LE"
+    ∷ codes "Py_EQ" ∷ codes "Py_NE" ∷
     codes "Py_GT" ∷ codes "Py_GE" ∷ []
 
 abbrev pub type_words : List (List ℕ)
 type_words =
-    codes "PyObject" ∷ codes "PyVarObject" ∷ codes "PyTypeObject" ∷ codes "PyMethodDef" ∷ codes "PyModuleDef" ∷ codes "PyModuleDef_Slot" ∷
-    codes "PyMemberDef" ∷ codes "PyGetSetDef" ∷ codes "PyNumberMethods" ∷ codes "PySequenceMethods" ∷ codes "PyMappingMethods" ∷ codes "PyType_Slot" ∷
-    codes "PyType_Spec" ∷ codes "PyCFunction" ∷ codes "Py_ssize_t" ∷ codes "Py_hash_t" ∷ codes "Py_buffer" ∷ codes "PyThreadState" ∷
-    codes "PyGILState_STATE" ∷ codes "size_t" ∷ codes "ssize_t" ∷ codes "int8_t" ∷ codes "int16_t" ∷ codes "int32_t" ∷ codes "int64_t" ∷
+    codes "PyObject" ∷ codes "PyVarObject" ∷ codes "PyTypeObject" ∷ codes "PyMethodDef" ∷ codes "PyModuleDef"
+    ∷ codes "PyModuleDef_Slot" ∷
+    codes "PyMemberDef" ∷ codes "PyGetSetDef" ∷ codes "PyNumberMethods" ∷ codes "PySequenceMethods"
+    ∷ codes "PyMappingMethods" ∷ codes "PyType_Slot" ∷
+    codes "PyType_Spec" ∷ codes "PyCFunction" ∷ codes "Py_ssize_t" ∷ codes "Py_hash_t" ∷ codes "Py_buffer"
+    ∷ codes "PyThreadState" ∷
+    codes "PyGILState_STATE" ∷ codes "size_t" ∷ codes "ssize_t" ∷ codes "int8_t" ∷ codes "int16_t" ∷ codes "int32_t"
+    ∷ codes "int64_t" ∷
     codes "uint8_t" ∷ codes "uint16_t" ∷ codes "uint32_t" ∷ codes "uint64_t" ∷ codes "bool" ∷ codes "FILE" ∷ []
 
 abbrev pub statics : List (List ℕ)
 statics =
-    codes "Py_None" ∷ codes "Py_True" ∷ codes "Py_False" ∷ codes "PyExc_Exception" ∷ codes "PyExc_TypeError" ∷ codes "PyExc_ValueError" ∷
-    codes "PyExc_RuntimeError" ∷ codes "PyExc_KeyError" ∷ codes "PyExc_IndexError" ∷ codes "PyExc_AttributeError" ∷ codes "PyExc_OverflowError" ∷
+    codes "Py_None" ∷ codes "Py_True" ∷ codes "Py_False" ∷ codes "PyExc_Exception" ∷ codes "PyExc_TypeError"
+    ∷ codes "PyExc_ValueError" ∷
+    codes "PyExc_RuntimeError" ∷ codes "PyExc_KeyError" ∷ codes "PyExc_IndexError" ∷ codes "PyExc_AttributeError"
+    ∷ codes "PyExc_OverflowError" ∷
     codes "PyExc_MemoryError" ∷ codes "PyExc_StopIteration" ∷ codes "PyExc_ImportError" ∷ codes "PyExc_SystemError" ∷
-    codes "PyExc_NotImplementedError" ∷ codes "PyExc_OSError" ∷ codes "PyExc_ZeroDivisionError" ∷ codes "PyList_Type" ∷ codes "PyTuple_Type" ∷
+    codes "PyExc_NotImplementedError" ∷ codes "PyExc_OSError" ∷ codes "PyExc_ZeroDivisionError"
+    ∷ codes "PyList_Type" ∷ codes "PyTuple_Type" ∷
     codes "PyDict_Type" ∷ codes "PyUnicode_Type" ∷ codes "PyLong_Type" ∷ codes "PyBytes_Type" ∷ []
 
 abbrev pub plain_rows : List (List ℕ)
 plain_rows =
-    codes "PyLong_FromLong" ∷ codes "PyUnicode_FromString" ∷ codes "PyBytes_FromString" ∷ codes "PyList_New" ∷ codes "PyTuple_New" ∷
-    codes "PyDict_New" ∷ codes "PyObject_Str" ∷ codes "PyObject_Repr" ∷ codes "PyObject_GetAttr" ∷ codes "PyObject_GetAttrString" ∷
-    codes "PyObject_GetItem" ∷ codes "PyObject_GetIter" ∷ codes "PyObject_CallObject" ∷ codes "PyObject_Call" ∷ codes "PySequence_GetItem" ∷
-    codes "PySequence_Fast" ∷ codes "PyNumber_Add" ∷ codes "PyNumber_Subtract" ∷ codes "PyNumber_Multiply" ∷ codes "PyDict_Keys" ∷
-    codes "PyDict_Values" ∷ codes "PyDict_Items" ∷ codes "PyImport_ImportModule" ∷ codes "PyIter_Next" ∷ codes "PyModule_Create" ∷
-    codes "PyList_GetItem" ∷ codes "PyTuple_GetItem" ∷ codes "PyDict_GetItem" ∷ codes "PyDict_GetItemString" ∷ codes "PyDict_GetItemWithError" ∷
-    codes "PyImport_AddModule" ∷ codes "PyErr_Occurred" ∷ codes "PyModule_GetDict" ∷ codes "PySequence_Fast_GET_ITEM" ∷ codes "PyList_GET_ITEM" ∷
-    codes "PyTuple_GET_ITEM" ∷ codes "PyList_SetItem" ∷ codes "PyTuple_SetItem" ∷ codes "PyModule_AddObject" ∷ codes "PyModule_AddObjectRef" ∷
-    codes "PyList_Append" ∷ codes "PyList_Insert" ∷ codes "PyDict_SetItem" ∷ codes "PyDict_SetItemString" ∷ codes "PyDict_DelItem" ∷
+    codes "PyLong_FromLong" ∷ codes "PyUnicode_FromString" ∷ codes "PyBytes_FromString" ∷ codes "PyList_New"
+    ∷ codes "PyTuple_New" ∷
+    codes "PyDict_New" ∷ codes "PyObject_Str" ∷ codes "PyObject_Repr" ∷ codes "PyObject_GetAttr"
+    ∷ codes "PyObject_GetAttrString" ∷
+    codes "PyObject_GetItem" ∷ codes "PyObject_GetIter" ∷ codes "PyObject_CallObject" ∷ codes "PyObject_Call"
+    ∷ codes "PySequence_GetItem" ∷
+    codes "PySequence_Fast" ∷ codes "PyNumber_Add" ∷ codes "PyNumber_Subtract" ∷ codes "PyNumber_Multiply"
+    ∷ codes "PyDict_Keys" ∷
+    codes "PyDict_Values" ∷ codes "PyDict_Items" ∷ codes "PyImport_ImportModule" ∷ codes "PyIter_Next"
+    ∷ codes "PyModule_Create" ∷
+    codes "PyList_GetItem" ∷ codes "PyTuple_GetItem" ∷ codes "PyDict_GetItem" ∷ codes "PyDict_GetItemString"
+    ∷ codes "PyDict_GetItemWithError" ∷
+    codes "PyImport_AddModule" ∷ codes "PyErr_Occurred" ∷ codes "PyModule_GetDict"
+    ∷ codes "PySequence_Fast_GET_ITEM" ∷ codes "PyList_GET_ITEM" ∷
+    codes "PyTuple_GET_ITEM" ∷ codes "PyList_SetItem" ∷ codes "PyTuple_SetItem" ∷ codes "PyModule_AddObject"
+    ∷ codes "PyModule_AddObjectRef" ∷
+    codes "PyList_Append" ∷ codes "PyList_Insert" ∷ codes "PyDict_SetItem" ∷ codes "PyDict_SetItemString"
+    ∷ codes "PyDict_DelItem" ∷
     codes "PyObject_SetAttr" ∷ codes "PyObject_SetAttrString" ∷ codes "PyObject_SetItem" ∷ codes "PySequence_SetItem" ∷
     codes "PyModule_AddIntConstant" ∷ codes "PyType_Ready" ∷ codes "PyObject_IsTrue" ∷ codes "PyObject_IsInstance" ∷
-    codes "PyObject_RichCompareBool" ∷ codes "PyObject_Size" ∷ codes "PySequence_Size" ∷ codes "PySequence_Length" ∷ codes "PyLong_AsLong" ∷
-    codes "PyList_SET_ITEM" ∷ codes "PyTuple_SET_ITEM" ∷ codes "PyErr_SetString" ∷ codes "PyErr_SetNone" ∷ codes "PyErr_Clear" ∷
+    codes "PyObject_RichCompareBool" ∷ codes "PyObject_Size" ∷ codes "PySequence_Size" ∷ codes "PySequence_Length"
+    ∷ codes "PyLong_AsLong" ∷
+    codes "PyList_SET_ITEM" ∷ codes "PyTuple_SET_ITEM" ∷ codes "PyErr_SetString" ∷ codes "PyErr_SetNone"
+    ∷ codes "PyErr_Clear" ∷
     codes "PyErr_NoMemory" ∷ []
 
 abbrev pub special_rows : List (List ℕ)
 special_rows =
-    codes "Py_INCREF" ∷ codes "Py_DECREF" ∷ codes "Py_XINCREF" ∷ codes "Py_XDECREF" ∷ codes "Py_CLEAR" ∷ codes "Py_NewRef" ∷ codes "Py_XNewRef" ∷
-    codes "PyObject_New" ∷ codes "PyTuple_Pack" ∷ codes "PyObject_CallFunctionObjArgs" ∷ codes "PyErr_Format" ∷ codes "PyArg_ParseTuple" ∷
+    codes "Py_INCREF" ∷ codes "Py_DECREF" ∷ codes "Py_XINCREF" ∷ codes "Py_XDECREF" ∷ codes "Py_CLEAR"
+    ∷ codes "Py_NewRef" ∷ codes "Py_XNewRef" ∷
+    codes "PyObject_New" ∷ codes "PyTuple_Pack" ∷ codes "PyObject_CallFunctionObjArgs" ∷ codes "PyErr_Format"
+    ∷ codes "PyArg_ParseTuple" ∷
     codes "PyArg_UnpackTuple" ∷ codes "PyDict_Next" ∷ codes "Py_BuildValue" ∷ []
 
 abbrev pub other_words : List (List ℕ)

@@ -28,6 +28,7 @@ impl History {
 
     /// Adds a piece at the end.
     pub fn add(&mut self, _piece: &[u8])
-        ensures { (self.new.pieces ≡ self.old.pieces ++ _piece.now ∷ []) × (self.new.bytes ≡ self.old.bytes ++ _piece.now) }
+        ensures { (self.new.pieces ≡ self.old.pieces ++ _piece.now ∷ [])
+            × (self.new.bytes ≡ self.old.bytes ++ _piece.now) }
     {}
 }

@@ -24,7 +24,8 @@ fn push_arguments(text: &mut String, args: &[Value]) -> Result<(), Memory>
 
 fn push_choices(text: &mut String, used: &[Pos], choices: &[Choice]) -> Result<(), Memory>
     requires { length used.now ≡ length choices.now }
-    ensures { OnOk result (string_bytes text.new ≡ string_bytes text.old ++ flat_map choice_line (zip used.now choices.now)) }
+    ensures { OnOk result (string_bytes text.new ≡ string_bytes text.old
+        ++ flat_map choice_line (zip used.now choices.now)) }
 {
     for (i, choice) in choices.iter().enumerate() {
         let pos = used[i];

@@ -1,6 +1,17 @@
 //! The words that are known before a text is read, by their numbers among all names.
 ghost use Rattle.std.specs.Prelude.{◌≡◌, codes};
-ghost use Rattle.pungi_base.specs.Numbers.{IsCount, IsNumber, word_count, keyword_count, macro_count, type_word_count, static_count, plain_static_count, first_type, types_end, first_static, first_type_object, statics_end, first_free, py_return_none, py_return_true, py_return_false, py_begin_allow_threads, py_end_allow_threads, py_modinit_func, py_object_head, py_object_var_head, py_lt, py_le, py_eq, py_ne, py_gt, py_ge, py_object, py_var_object, py_type_object, py_method_def, py_module_def, py_member_def, py_get_set_def, py_ssize_t, py_none, py_true, py_false, py_long_from_long, py_incref, py_decref, py_xincref, py_xdecref, py_clear, py_new_ref, py_xnew_ref, py_object_new, py_tuple_pack, py_object_call_function_obj_args, py_err_format, py_arg_parse_tuple, py_arg_unpack_tuple, py_dict_next, py_build_value, ob_base, py_doc_strvar, py_unused, include_word, define_word};
+ghost use Rattle.pungi_base.specs.Numbers.{IsCount, IsNumber, word_count, keyword_count, macro_count, type_word_count};
+ghost use Rattle.pungi_base.specs.Numbers.{static_count, plain_static_count, first_type, types_end, first_static};
+ghost use Rattle.pungi_base.specs.Numbers.{first_type_object, statics_end, first_free, py_return_none, py_return_true};
+ghost use Rattle.pungi_base.specs.Numbers.{py_return_false, py_begin_allow_threads, py_end_allow_threads};
+ghost use Rattle.pungi_base.specs.Numbers.{py_modinit_func, py_object_head, py_object_var_head, py_lt, py_le, py_eq};
+ghost use Rattle.pungi_base.specs.Numbers.{py_ne, py_gt, py_ge, py_object, py_var_object, py_type_object};
+ghost use Rattle.pungi_base.specs.Numbers.{py_method_def, py_module_def, py_member_def, py_get_set_def, py_ssize_t};
+ghost use Rattle.pungi_base.specs.Numbers.{py_none, py_true, py_false, py_long_from_long, py_incref, py_decref};
+ghost use Rattle.pungi_base.specs.Numbers.{py_xincref, py_xdecref, py_clear, py_new_ref, py_xnew_ref, py_object_new};
+ghost use Rattle.pungi_base.specs.Numbers.{py_tuple_pack, py_object_call_function_obj_args, py_err_format};
+ghost use Rattle.pungi_base.specs.Numbers.{py_arg_parse_tuple, py_arg_unpack_tuple, py_dict_next, py_build_value};
+ghost use Rattle.pungi_base.specs.Numbers.{ob_base, py_doc_strvar, py_unused, include_word, define_word};
 ghost use Rattle.pungi_base.specs.Words.{HasNumber, builtin_words, keywords, macros, type_words, statics};
 
 /// How many words are known. Every other name of a text has a number from here on.
@@ -174,9 +185,9 @@ pub const INCLUDE: u32 = 185;
 /// The number of `define`.
 pub const DEFINE: u32 = 186;
 
-/// The constants are the numbers that the definitions spell: of each kind of words as many as its list has, and each word
-/// that has a name here at its place in the list of words. A range begins at its first word and ends before the word
-/// after it.
+/// The constants are the numbers that the definitions spell: of each kind of words as many as its list has, and each
+/// word that has a name here at its place in the list of words. A range begins at its first word and ends before the
+/// word after it.
 pub fn words_have_their_numbers()
     ensures words { IsCount WORDS word_count builtin_words }
     ensures keywords { IsCount KEYWORDS keyword_count keywords }
@@ -193,7 +204,8 @@ pub fn words_have_their_numbers()
     ensures py_return_none { IsNumber PY_RETURN_NONE py_return_none (codes "Py_RETURN_NONE") }
     ensures py_return_true { IsNumber PY_RETURN_TRUE py_return_true (codes "Py_RETURN_TRUE") }
     ensures py_return_false { IsNumber PY_RETURN_FALSE py_return_false (codes "Py_RETURN_FALSE") }
-    ensures py_begin_allow_threads { IsNumber PY_BEGIN_ALLOW_THREADS py_begin_allow_threads (codes "Py_BEGIN_ALLOW_THREADS") }
+    ensures py_begin_allow_threads { IsNumber PY_BEGIN_ALLOW_THREADS py_begin_allow_threads
+        (codes "Py_BEGIN_ALLOW_THREADS") }
     ensures py_end_allow_threads { IsNumber PY_END_ALLOW_THREADS py_end_allow_threads (codes "Py_END_ALLOW_THREADS") }
     ensures py_modinit_func { IsNumber PY_MODINIT_FUNC py_modinit_func (codes "PyMODINIT_FUNC") }
     ensures py_object_head { IsNumber PY_OBJECT_HEAD py_object_head (codes "PyObject_HEAD") }
@@ -225,7 +237,8 @@ pub fn words_have_their_numbers()
     ensures py_xnew_ref { IsNumber PY_XNEW_REF py_xnew_ref (codes "Py_XNewRef") }
     ensures py_object_new { IsNumber PY_OBJECT_NEW py_object_new (codes "PyObject_New") }
     ensures py_tuple_pack { IsNumber PY_TUPLE_PACK py_tuple_pack (codes "PyTuple_Pack") }
-    ensures py_object_call_function_obj_args { IsNumber PY_OBJECT_CALL_FUNCTION_OBJ_ARGS py_object_call_function_obj_args (codes "PyObject_CallFunctionObjArgs") }
+    ensures py_object_call_function_obj_args { IsNumber PY_OBJECT_CALL_FUNCTION_OBJ_ARGS
+        py_object_call_function_obj_args (codes "PyObject_CallFunctionObjArgs") }
     ensures py_err_format { IsNumber PY_ERR_FORMAT py_err_format (codes "PyErr_Format") }
     ensures py_arg_parse_tuple { IsNumber PY_ARG_PARSE_TUPLE py_arg_parse_tuple (codes "PyArg_ParseTuple") }
     ensures py_arg_unpack_tuple { IsNumber PY_ARG_UNPACK_TUPLE py_arg_unpack_tuple (codes "PyArg_UnpackTuple") }

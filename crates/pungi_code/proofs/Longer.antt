@@ -1,5 +1,6 @@
 -- More fuel changes nothing of a run of a code that is over.
-use Rattle.std.proofs.Common.{◌≡◌, ℕ, zero, suc, ◌+◌, ◌<◌, ◌≤◌, ℤ, List, [], ◌∷◌, Option, Some, None, Result, Ok, Err, refl, sym, ap, ◌∙◌, subst, arith, ⊎_elim, Bool, true, false, if◌then◌else◌}
+use Rattle.std.proofs.Common.{◌≡◌, ℕ, zero, suc, ◌+◌, ◌<◌, ◌≤◌, ℤ, List, [], ◌∷◌, Option, Some, None, Result, Ok, Err}
+use Rattle.std.proofs.Common.{refl, sym, ap, ◌∙◌, subst, arith, ⊎_elim, Bool, true, false, if◌then◌else◌}
 use Rattle.std.specs.Prelude.{slice_get}
 use Rattle.std.proofs.lemmas.Bool.{cases_lt}
 use Rattle.pungi_base.specs.declared.choice.Choice.{Choice}
@@ -20,8 +21,10 @@ use Rattle.pungi_meaning.specs.Todo.{Operation, Computed, Fitted, Compared, Load
 use Rattle.pungi_meaning.specs.Run.{Run, End, end_at_once, with_operations, Stopped, OutOfFuel}
 use Rattle.pungi_code.specs.declared.code.Line.{Line}
 use Rattle.pungi_code.specs.declared.instr.Instr.{Instr}
-use Rattle.pungi_code.specs.declared.instr.Instr.TheVariants.{Set, Arith, Fit, Compare, Load, Store, Api, Call, Unset, Jump, Branch, Return, Fall}
-use Rattle.pungi_code.specs.Registers.{Regs, Next, put, content_of, with_value, all_values, with_values, choices_left, after_effect, put_answer, with_outputs}
+use Rattle.pungi_code.specs.declared.instr.Instr.TheVariants.{Set, Arith, Fit, Compare, Load, Store, Api, Call, Unset}
+use Rattle.pungi_code.specs.declared.instr.Instr.TheVariants.{Jump, Branch, Return, Fall}
+use Rattle.pungi_code.specs.Registers.{Regs, Next, put, content_of, with_value, all_values, with_values, choices_left}
+use Rattle.pungi_code.specs.Registers.{after_effect, put_answer, with_outputs}
 use Rattle.pungi_code.specs.Perform.{with_number, slot_of, with_slot, perform}
 use Rattle.pungi_code.specs.Run.{fetch, exec}
 use Rattle.pungi_code.specs.Alike.{IsOver}
@@ -30,72 +33,96 @@ use Rattle.pungi_code.specs.Alike.{IsOver}
 abbrev pub Extends : Next → Next → Type 0
 Extends f g = (pc : ℕ) (m : Regs) (o : Run) → IsOver o.end → f pc m ≡ o → g pc m ≡ o
 
-value_extends : (c : Content) (p : Pos) (f g : Value → Run) (o : Run) → ((x : Value) → f x ≡ o → g x ≡ o) → with_value c p f ≡ o → with_value c p g ≡ o
+value_extends : (c : Content) (p : Pos) (f g : Value → Run) (o : Run) → ((x : Value) → f x ≡ o → g x ≡ o)
+    → with_value c p f ≡ o → with_value c p g ≡ o
 value_extends content.Unset p f g o h e = e
 value_extends (content.Holds x) p f g o h e = h x e
 
-values_extend : (c : Option (List Value)) (p : Pos) (f g : List Value → Run) (o : Run) → ((x : List Value) → f x ≡ o → g x ≡ o) → with_values c p f ≡ o → with_values c p g ≡ o
+values_extend : (c : Option (List Value)) (p : Pos) (f g : List Value → Run) (o : Run)
+    → ((x : List Value) → f x ≡ o → g x ≡ o) → with_values c p f ≡ o → with_values c p g ≡ o
 values_extend None p f g o h e = e
 values_extend (Some x) p f g o h e = h x e
 
-computing_extends : (n : Option ℤ) (p : Pos) (f g : ℤ → Run) (o : Run) → ((x : ℤ) → f x ≡ o → g x ≡ o) → with_number p n f ≡ o → with_number p n g ≡ o
+computing_extends : (n : Option ℤ) (p : Pos) (f g : ℤ → Run) (o : Run) → ((x : ℤ) → f x ≡ o → g x ≡ o)
+    → with_number p n f ≡ o → with_number p n g ≡ o
 computing_extends None p f g o h e = e
 computing_extends (Some x) p f g o h e = h x e
 
-if_extends : (b : Bool) (f g : Run) (p : Pos) (o : Run) → (f ≡ o → g ≡ o) → (if b then f else end_at_once (Stopped p)) ≡ o → (if b then g else end_at_once (Stopped p)) ≡ o
+if_extends : (b : Bool) (f g : Run) (p : Pos) (o : Run) → (f ≡ o → g ≡ o)
+    → (if b then f else end_at_once (Stopped p)) ≡ o → (if b then g else end_at_once (Stopped p)) ≡ o
 if_extends true f g p o h e = h e
 if_extends false f g p o h e = e
 
-slot_extends : (s : Option (Slot × Param)) (p : Pos) (f g : Slot → Param → Run) (o : Run) → ((x : Slot) (k : Param) → f x k ≡ o → g x k ≡ o) → with_slot s p f ≡ o → with_slot s p g ≡ o
+slot_extends : (s : Option (Slot × Param)) (p : Pos) (f g : Slot → Param → Run) (o : Run)
+    → ((x : Slot) (k : Param) → f x k ≡ o → g x k ≡ o) → with_slot s p f ≡ o → with_slot s p g ≡ o
 slot_extends None p f g o h e = e
 slot_extends (Some x) p f g o h e = h x.0 x.1 e
 
-reacting_extends : (r : Result (Effect × World) Halt) (p : Pos) (m : Regs) (f g : Effect → Regs → Run) (o : Run) → ((x : Effect) (q : Regs) → f x q ≡ o → g x q ≡ o) → after_effect p r m f ≡ o → after_effect p r m g ≡ o
+reacting_extends : (r : Result (Effect × World) Halt) (p : Pos) (m : Regs) (f g : Effect → Regs → Run) (o : Run)
+    → ((x : Effect) (q : Regs) → f x q ≡ o → g x q ≡ o) → after_effect p r m f ≡ o → after_effect p r m g ≡ o
 reacting_extends (Ok r) p m f g o h e = h r.0 _ e
 reacting_extends (Err halt.Stopped) p m f g o h e = e
 reacting_extends (Err halt.NeedsChoice) p m f g o h e = e
 reacting_extends (Err halt.Memory) p m f g o h e = e
 
-noted_extends : (f g : Next) → Extends f g → (ops : List Operation) (pc : ℕ) (m : Regs) (o : Run) → IsOver o.end → with_operations ops (f pc m) ≡ o → with_operations ops (g pc m) ≡ o
+noted_extends : (f g : Next) → Extends f g → (ops : List Operation) (pc : ℕ) (m : Regs) (o : Run) → IsOver o.end
+    → with_operations ops (f pc m) ≡ o → with_operations ops (g pc m) ≡ o
 noted_extends f g h ops pc m o end_at_once e =
     let is : IsOver (f pc m).end = subst IsOver (sym (ap (λ (r : Run). r.end) e)) end_at_once in
     ap (with_operations ops) (h pc m (f pc m) is refl) ∙ e
 
-perform_extends : (choices : List Choice) (f g : Next) → Extends f g → (i : Instr) (p : Pos) (pc : ℕ) (m : Regs) (o : Run) → IsOver o.end → perform choices i p f pc m ≡ o → perform choices i p g pc m ≡ o
+perform_extends : (choices : List Choice) (f g : Next) → Extends f g
+    → (i : Instr) (p : Pos) (pc : ℕ) (m : Regs) (o : Run) → IsOver o.end → perform choices i p f pc m ≡ o
+    → perform choices i p g pc m ≡ o
 perform_extends choices f g h (Set x a) p pc m o is e =
     value_extends (content_of a m.vars) p _ _ o (λ v d. h (pc + 1) (put x (content.Holds v) m) o is d) e
 perform_extends choices f g h (Arith x kind op a b) p pc m o is e =
-    value_extends (content_of a m.vars) p _ _ o (λ v d. value_extends (content_of b m.vars) p _ _ o (λ w c. computing_extends (arithmetic op kind (number_of v) (number_of w)) p _ _ o (λ n q. noted_extends f g h (Computed p op kind (number_of v) (number_of w) ∷ []) (pc + 1) _ o is q) c) d) e
+    value_extends (content_of a m.vars) p _ _ o (λ v d. value_extends (content_of b m.vars) p _ _ o
+    (λ w c. computing_extends (arithmetic op kind (number_of v) (number_of w)) p _ _ o
+    (λ n q. noted_extends f g h (Computed p op kind (number_of v) (number_of w) ∷ []) (pc + 1) _ o is q) c) d) e
 perform_extends choices f g h (Fit x kind a) p pc m o is e =
-    value_extends (content_of a m.vars) p _ _ o (λ v d. if_extends (fits kind (number_of v)) _ _ p o (λ c. noted_extends f g h (Fitted p kind (number_of v) ∷ []) (pc + 1) _ o is c) d) e
+    value_extends (content_of a m.vars) p _ _ o (λ v d. if_extends (fits kind (number_of v)) _ _ p o
+    (λ c. noted_extends f g h (Fitted p kind (number_of v) ∷ []) (pc + 1) _ o is c) d) e
 perform_extends choices f g h (Compare x c a b) p pc m o is e =
-    value_extends (content_of a m.vars) p _ _ o (λ v d. value_extends (content_of b m.vars) p _ _ o (λ w q. noted_extends f g h (Compared p c v w ∷ []) (pc + 1) _ o is q) d) e
+    value_extends (content_of a m.vars) p _ _ o (λ v d. value_extends (content_of b m.vars) p _ _ o
+    (λ w q. noted_extends f g h (Compared p c v w ∷ []) (pc + 1) _ o is q) d) e
 perform_extends choices f g h (Load x place) p pc m o is e =
-    slot_extends (slot_of place m.vars) p _ _ o (λ s k d. reacting_extends (load_effect m.world s k (choices_left choices m)) p m _ _ o (λ x' q c. noted_extends f g h (Loaded p s x'.value ∷ []) (pc + 1) _ o is c) d) e
+    slot_extends (slot_of place m.vars) p _ _ o (λ s k d. reacting_extends
+    (load_effect m.world s k (choices_left choices m)) p m _ _ o (λ x' q c. noted_extends f g h
+    (Loaded p s x'.value ∷ []) (pc + 1) _ o is c) d) e
 perform_extends choices f g h (Store place a) p pc m o is e =
-    value_extends (content_of a m.vars) p _ _ o (λ v b. slot_extends (slot_of place m.vars) p _ _ o (λ s k d. reacting_extends (store_effect m.world s k v (choices_left choices m)) p m _ _ o (λ x' q c. noted_extends f g h (Stored p s v ∷ []) (pc + 1) _ o is c) d) b) e
+    value_extends (content_of a m.vars) p _ _ o (λ v b. slot_extends (slot_of place m.vars) p _ _ o
+    (λ s k d. reacting_extends (store_effect m.world s k v (choices_left choices m)) p m _ _ o
+    (λ x' q c. noted_extends f g h (Stored p s v ∷ []) (pc + 1) _ o is c) d) b) e
 perform_extends choices f g h (Api x shape as' outs) p pc m o is e =
-    values_extend (all_values as' m.vars) p _ _ o (λ vs d. reacting_extends (call_effect m.world shape vs (choices_left choices m)) p m _ _ o (λ x' q c. noted_extends f g h (Called p shape vs x' ∷ []) (pc + 1) _ o is c) d) e
+    values_extend (all_values as' m.vars) p _ _ o (λ vs d. reacting_extends
+    (call_effect m.world shape vs (choices_left choices m)) p m _ _ o (λ x' q c. noted_extends f g h
+    (Called p shape vs x' ∷ []) (pc + 1) _ o is c) d) e
 perform_extends choices f g h (Call x n as') p pc m o is e = e
 perform_extends choices f g h (Unset x) p pc m o is e = h (pc + 1) (put x content.Unset m) o is e
 perform_extends choices f g h (Jump to) p pc m o is e = h to.0 m o is e
-perform_extends choices f g h (Branch a this other) p pc m o is e = value_extends (content_of a m.vars) p _ _ o (λ v d. h _ m o is d) e
+perform_extends choices f g h (Branch a this other) p pc m o is e =
+    value_extends (content_of a m.vars) p _ _ o (λ v d. h _ m o is d) e
 perform_extends choices f g h (Return None) p pc m o is e = e
 perform_extends choices f g h (Return (Some a)) p pc m o is e = e
 perform_extends choices f g h Fall p pc m o is e = e
 
-fetch_extends : (choices : List Choice) (f g : Next) → Extends f g → (l : Option Line) (pc : ℕ) (m : Regs) (o : Run) → IsOver o.end → fetch choices l f pc m ≡ o → fetch choices l g pc m ≡ o
+fetch_extends : (choices : List Choice) (f g : Next) → Extends f g → (l : Option Line) (pc : ℕ) (m : Regs) (o : Run)
+    → IsOver o.end → fetch choices l f pc m ≡ o → fetch choices l g pc m ≡ o
 fetch_extends choices f g h None pc m o is e = e
 fetch_extends choices f g h (Some l) pc m o is e = perform_extends choices f g h l.instr l.pos pc m o is e
 
-pub longer : (choices : List Choice) (code : List Line) (m n : ℕ) → m ≤ n → Extends (exec choices code m) (exec choices code n)
+pub longer : (choices : List Choice) (code : List Line) (m n : ℕ) → m ≤ n
+    → Extends (exec choices code m) (exec choices code n)
 longer choices code zero n le pc s o is e = absurd (subst IsOver (sym (ap (λ (r : Run). r.end) e)) is)
 longer choices code (suc m) zero le pc s o is e = absurd (omega arith)
 longer choices code (suc m) (suc n) le pc s o is e =
-    fetch_extends choices (exec choices code m) (exec choices code n) (longer choices code m n (omega arith)) (slice_get code pc) pc s o is e
+    fetch_extends choices (exec choices code m) (exec choices code n) (longer choices code m n (omega arith))
+    (slice_get code pc) pc s o is e
 
 -- a run has one end
-pub one_end : (choices : List Choice) (code : List Line) (m n pc : ℕ) (r : Regs) (o p : Run) → IsOver o.end → IsOver p.end → exec choices code m pc r ≡ o → exec choices code n pc r ≡ p → o ≡ p
+pub one_end : (choices : List Choice) (code : List Line) (m n pc : ℕ) (r : Regs) (o p : Run) → IsOver o.end
+    → IsOver p.end → exec choices code m pc r ≡ o → exec choices code n pc r ≡ p → o ≡ p
 one_end choices code m n pc r o p over_o over_p e f =
     ⊎_elim
     (λ lt. sym (longer choices code m n (omega arith) pc r o over_o e) ∙ f)

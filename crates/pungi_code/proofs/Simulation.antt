@@ -1,5 +1,6 @@
 -- Where each step of a function is done by instructions of a code, so is each run, and both runs are alike.
-use Rattle.std.proofs.Common.{◌≡◌, ℕ, zero, suc, ◌+◌, ◌*◌, ◌<◌, ◌≤◌, List, [], ◌∷◌, Option, refl, sym, ap, ◌∙◌, subst, arith, ⊎_elim}
+use Rattle.std.proofs.Common.{◌≡◌, ℕ, zero, suc, ◌+◌, ◌*◌, ◌<◌, ◌≤◌, List, [], ◌∷◌, Option, refl, sym, ap, ◌∙◌, subst}
+use Rattle.std.proofs.Common.{arith, ⊎_elim}
 use Rattle.std.proofs.lemmas.Bool.{cases_lt}
 use Rattle.std.proofs.Math.Nat.{mul-le-mul_left}
 use Rattle.pungi_base.specs.declared.choice.Choice.{Choice}
@@ -7,7 +8,8 @@ use Rattle.pungi_base.specs.declared.pos.Pos.{Pos}
 use Rattle.pungi_base.specs.declared.value.Value.{Value}
 use Rattle.pungi_world.specs.declared.world.World.{World}
 use Rattle.pungi_meaning.specs.Todo.{Operation, Todo, State, Step, Goes, Returns, Stops, Wants}
-use Rattle.pungi_meaning.specs.Run.{Run, End, Returned, Stopped, NeedsChoice, OutOfFuel, end_at_once, with_operations, run_after, act, run_from}
+use Rattle.pungi_meaning.specs.Run.{Run, End, Returned, Stopped, NeedsChoice, OutOfFuel, end_at_once, with_operations}
+use Rattle.pungi_meaning.specs.Run.{run_after, act, run_from}
 use Rattle.pungi_code.specs.declared.code.Line.{Line}
 use Rattle.pungi_code.specs.Registers.{Regs}
 use Rattle.pungi_code.specs.Run.{exec}
@@ -59,31 +61,44 @@ module _ (choices : List Choice) (code : List Line) (Stands : List Todo → Stat
     abbrev pub Follows : Run → ℕ → ℕ → ℕ → Regs → Type 0
     Follows r n w pc m = (j : ℕ) × (r.end ≡ OutOfFuel → n ≤ most * j + w) × (exec choices code j pc m ≡ r)
 
-    more : (ops : List Operation) (r : Run) (n w v b pc : ℕ) (m : Regs) (k : List Todo) (s : State) (g : GoesOn ops k s b pc m) → v + 1 ≤ w + most * b → Follows r n v g.place g.regs → Follows (with_operations ops r) (suc n) w pc m
+    more : (ops : List Operation) (r : Run) (n w v b pc : ℕ) (m : Regs) (k : List Todo) (s : State)
+        (g : GoesOn ops k s b pc m) → v + 1 ≤ w + most * b → Follows r n v g.place g.regs
+        → Follows (with_operations ops r) (suc n) w pc m
     more ops r n w v b pc m k s g le f =
         let least : b ≤ g.count = g.least in
         let c : most * b ≤ most * g.count = mul-le-mul_left most least in
         let d : most * (g.count + f.0) ≡ most * g.count + most * f.0 = omega arith in
-        let h : most * ahead g.count f.0 ≡ most * (g.count + f.0) = ap (λ x. most * x) (ahead_is g.count f.0) in
-        (ahead g.count f.0, λ out. let l : n ≤ most * f.0 + v = f.1 out in omega (arith, le, l, c, d, h), g.by f.0 ∙ ap (with_operations ops) f.2)
+        let h : most * ahead g.count f.0 ≡ most * (g.count + f.0) = ap (λ x. most * x) (ahead_is g.count f.0) in (
+          ahead g.count f.0,
+          λ out. let l : n ≤ most * f.0 + v = f.1 out in omega (arith, le, l, c, d, h),
+          g.by f.0
+              ∙ ap (with_operations ops) f.2,
+        )
 
-    after_step : (st : Step) (n w b pc : ℕ) (m : Regs) → Leads st b pc m → Lighter (w + most * b) st → ((k : List Todo) (s : State) (to : ℕ) (r : Regs) → Stands k s to r → Follows (run_from choices n k s) n (weight k) to r) → Follows (run_after (run_from choices n) st) (suc n) w pc m
+    after_step : (st : Step) (n w b pc : ℕ) (m : Regs) → Leads st b pc m → Lighter (w + most * b) st
+        → ((k : List Todo) (s : State) (to : ℕ) (r : Regs) → Stands k s to r
+        → Follows (run_from choices n k s) n (weight k) to r)
+        → Follows (run_after (run_from choices n) st) (suc n) w pc m
     after_step (Goes ops k s) n w b pc m g l next =
         more ops (run_from choices n k s) n w (weight k) b pc m k s g l (next k s g.place g.regs g.stands)
     after_step (Returns x v p used) n w b pc m g l next = (g.0, λ out. absurd (subst IsOver out tt), g.1)
     after_step (Stops p) n w b pc m g l next = (g.0, λ out. absurd (subst IsOver out tt), g.1)
     after_step Wants n w b pc m g l next = (g.0, λ out. absurd (subst IsOver out tt), g.1)
 
-    module _ (simulates : (k : List Todo) (s : State) (pc : ℕ) (m : Regs) → Stands k s pc m → Simulates (act choices k s) (weight k) pc m) where
-      pub follows : (n : ℕ) (k : List Todo) (s : State) (pc : ℕ) (m : Regs) → Stands k s pc m → Follows (run_from choices n k s) n (weight k) pc m
+    module _ (simulates : (k : List Todo) (s : State) (pc : ℕ) (m : Regs) → Stands k s pc m
+        → Simulates (act choices k s) (weight k) pc m) where
+      pub follows : (n : ℕ) (k : List Todo) (s : State) (pc : ℕ) (m : Regs) → Stands k s pc m
+          → Follows (run_from choices n k s) n (weight k) pc m
       follows zero k s pc m h = (0, λ out. omega arith, refl)
       follows (suc n) k s pc m h =
           let i = simulates k s pc m h in
-          after_step (act choices k s) n (weight k) i.jumps pc m i.leads i.lighter (λ k' s' to r h'. follows n k' s' to r h')
+          after_step (act choices k s) n (weight k) i.jumps pc m i.leads i.lighter
+          (λ k' s' to r h'. follows n k' s' to r h')
 
     -- ---- whole runs
 
-    goes_by : (r : Run) (n w pc : ℕ) (m : Regs) → w ≤ most → r.end ≡ OutOfFuel → Follows r n w pc m → (j : ℕ) × (n ≤ most * (j + 1)) × (exec choices code j pc m ≡ r)
+    goes_by : (r : Run) (n w pc : ℕ) (m : Regs) → w ≤ most → r.end ≡ OutOfFuel → Follows r n w pc m
+        → (j : ℕ) × (n ≤ most * (j + 1)) × (exec choices code j pc m ≡ r)
     goes_by r n w pc m le h f =
         let d : most * (f.0 + 1) ≡ most * f.0 + most = omega arith in
         let l : n ≤ most * f.0 + w = f.1 h in
@@ -100,18 +115,25 @@ module _ (choices : List Choice) (code : List Line) (Stands : List Todo → Stat
         (λ ge. ge)
         (cases_lt j i)
 
-    only_by : (d : End) (r : Run) (i w pc : ℕ) (m : Regs) (o : Run) → 1 ≤ most → r.end ≡ d → w ≤ most → IsOver o.end → exec choices code i pc m ≡ o → Follows r (most * (i + 1)) w pc m → r ≡ o
+    only_by : (d : End) (r : Run) (i w pc : ℕ) (m : Regs) (o : Run) → 1 ≤ most → r.end ≡ d → w ≤ most → IsOver o.end
+        → exec choices code i pc m ≡ o → Follows r (most * (i + 1)) w pc m → r ≡ o
     only_by OutOfFuel r i w pc m o some is le end_at_once h f =
         let le' = enough_steps i f.0 w some le (f.1 is) in
         let same = longer choices code i f.0 le' pc m o end_at_once h in
         absurd (subst IsOver (ap (λ (x : Run). x.end) (sym same ∙ f.2) ∙ is) end_at_once)
-    only_by (Returned x v p used) r i w pc m o some is le end_at_once h f = one_end choices code f.0 i pc m r o (subst IsOver (sym is) tt) end_at_once f.2 h
-    only_by (Stopped p) r i w pc m o some is le end_at_once h f = one_end choices code f.0 i pc m r o (subst IsOver (sym is) tt) end_at_once f.2 h
-    only_by NeedsChoice r i w pc m o some is le end_at_once h f = one_end choices code f.0 i pc m r o (subst IsOver (sym is) tt) end_at_once f.2 h
+    only_by (Returned x v p used) r i w pc m o some is le end_at_once h f = one_end choices code f.0 i pc m r o
+        (subst IsOver (sym is) tt) end_at_once f.2 h
+    only_by (Stopped p) r i w pc m o some is le end_at_once h f = one_end choices code f.0 i pc m r o
+        (subst IsOver (sym is) tt) end_at_once f.2 h
+    only_by NeedsChoice r i w pc m o some is le end_at_once h f = one_end choices code f.0 i pc m r o
+        (subst IsOver (sym is) tt) end_at_once f.2 h
 
-    pub alike_by : (k : List Todo) (s : State) (w pc : ℕ) (m : Regs) → 1 ≤ most → w ≤ most → ((n : ℕ) → Follows (run_from choices n k s) n w pc m) → Alike (λ n. run_from choices n k s) (λ n. exec choices code n pc m) most
+    pub alike_by : (k : List Todo) (s : State) (w pc : ℕ) (m : Regs) → 1 ≤ most → w ≤ most
+        → ((n : ℕ) → Follows (run_from choices n k s) n w pc m)
+        → Alike (λ n. run_from choices n k s) (λ n. exec choices code n pc m) most
     alike_by k s w pc m some le f = record {
       ends = λ n h. ((f n).0, (f n).2);
       goes_on = λ n h. goes_by (run_from choices n k s) n w pc m le h (f n);
-      ends_only = λ i h. only_by (run_from choices (most * (i + 1)) k s).end (run_from choices (most * (i + 1)) k s) i w pc m (exec choices code i pc m) some refl le h refl (f (most * (i + 1)));
+      ends_only = λ i h. only_by (run_from choices (most * (i + 1)) k s).end (run_from choices (most * (i + 1)) k s)
+          i w pc m (exec choices code i pc m) some refl le h refl (f (most * (i + 1)));
     }

@@ -1,5 +1,6 @@
 -- The values of atoms, one after another.
-use Rattle.std.proofs.Common.{◌≡◌, ℕ, suc, ◌+◌, ◌<◌, List, [], ◌∷◌, ◌++◌, length, drop, get_or, Option, Some, None, option_map, refl, ap, sym, ◌∙◌, append_assoc, arith}
+use Rattle.std.proofs.Common.{◌≡◌, ℕ, suc, ◌+◌, ◌<◌, List, [], ◌∷◌, ◌++◌, length, drop, get_or, Option, Some, None}
+use Rattle.std.proofs.Common.{option_map, refl, ap, sym, ◌∙◌, append_assoc, arith}
 use Rattle.pungi_base.specs.declared.value.Value.{Value}
 use Rattle.pungi_world.specs.declared.content.Content.{Content}
 use Rattle.pungi_world.specs.declared.content.Content.TheVariants.{Unset, Holds}
@@ -9,7 +10,8 @@ use Rattle.pungi_code.specs.Registers.{both_values}
 abbrev pub known_before : List Value → Option (List Value) → Option (List Value)
 known_before vs o = option_map (λ ws. vs ++ ws) o
 
-pub values_step : (vs : List Value) (v : Value) (o : Option (List Value)) → known_before vs (both_values (Holds v) o) ≡ known_before (vs ++ v ∷ []) o
+pub values_step : (vs : List Value) (v : Value) (o : Option (List Value))
+    → known_before vs (both_values (Holds v) o) ≡ known_before (vs ++ v ∷ []) o
 values_step vs v None = refl
 values_step vs v (Some ws) = ap Some (sym (append_assoc vs (v ∷ []) ws))
 

@@ -1,5 +1,5 @@
--- What the definitions say of small codes, by computing: how each run ends, and what it does before. The codes are written by hand
--- for the functions beside them, and the expected ends come from a reading of those.
+-- What the definitions say of small codes, by computing: how each run ends, and what it does before. The codes are
+-- written by hand for the functions beside them, and the expected ends come from a reading of those.
 use Rattle.std.proofs.Common.{◌≡◌, refl, ℕ, List, [], ◌∷◌, length, Option, Some, None, true, false, pos, negsuc, ℤ}
 use Rattle.pungi_base.specs.declared.choice.Choice.{Choice}
 use Rattle.pungi_base.specs.declared.choice.Choice.TheVariants as choice
@@ -29,7 +29,8 @@ use Rattle.pungi_code.specs.declared.atom.Var.{Var}
 use Rattle.pungi_code.specs.declared.code.Code.{Code}
 use Rattle.pungi_code.specs.declared.code.Line.{Line}
 use Rattle.pungi_code.specs.declared.instr.Instr.{Instr}
-use Rattle.pungi_code.specs.declared.instr.Instr.TheVariants.{Set, Arith, Fit, Compare, Load, Store, Api, Call, Unset, Jump, Branch, Return, Fall}
+use Rattle.pungi_code.specs.declared.instr.Instr.TheVariants.{Set, Arith, Fit, Compare, Load, Store, Api, Call, Unset}
+use Rattle.pungi_code.specs.declared.instr.Instr.TheVariants.{Jump, Branch, Return, Fall}
 use Rattle.pungi_code.specs.declared.instr.Label.{Label}
 use Rattle.pungi_code.specs.declared.place.Place.TheVariants.{Global, Field}
 use Rattle.pungi_code.specs.Run.{run_of_code}
@@ -79,7 +80,9 @@ run_with code x choices fuel = run_of_code (Some code) (record { objects = 26; a
 
 -- int f(int n) { return n + 1; }
 abbrev next : Code
-next = code_of (line 25 (Arith (v 1) kinds.Int ops.Add (var 0) (atom.Int (pos 1))) ∷ line 16 (Return (Some (var 1))) ∷ []) (param.Int ∷ param.Int ∷ [])
+next =
+    code_of (line 25 (Arith (v 1) kinds.Int ops.Add (var 0) (atom.Int (pos 1))) ∷ line 16 (Return (Some (var 1)))
+    ∷ []) (param.Int ∷ param.Int ∷ [])
 
 next_of_5 : told (run_with next (value.Int (pos 5)) [] 2).end ≡ gives (Some (value.Int (pos 6))) (at 16) []
 next_of_5 = refl
@@ -95,9 +98,13 @@ next_without_fuel = refl
 
 -- int f(long n) { int i; i = n; return i < 3; }
 abbrev narrow : Code
-narrow = code_of (line 24 (Unset (v 1)) ∷ line 29 (Fit (v 2) kinds.Int (var 0)) ∷ line 29 (Set (v 1) (var 2)) ∷ line 43 (Compare (v 3) cmps.Less (var 1) (atom.Int (pos 3))) ∷ line 34 (Return (Some (var 3))) ∷ []) (param.Long ∷ param.Int ∷ param.Int ∷ param.Int ∷ [])
+narrow =
+    code_of (line 24 (Unset (v 1)) ∷ line 29 (Fit (v 2) kinds.Int (var 0)) ∷ line 29 (Set (v 1) (var 2))
+    ∷ line 43 (Compare (v 3) cmps.Less (var 1) (atom.Int (pos 3))) ∷ line 34 (Return (Some (var 3))) ∷ [])
+    (param.Long ∷ param.Int ∷ param.Int ∷ param.Int ∷ [])
 
-narrow_does : (run_with narrow (value.Int (pos 2)) [] 9).ops ≡ Fitted (at 29) kinds.Int (pos 2) ∷ Compared (at 43) cmps.Less (value.Int (pos 2)) (value.Int (pos 3)) ∷ []
+narrow_does : (run_with narrow (value.Int (pos 2)) [] 9).ops
+    ≡ Fitted (at 29) kinds.Int (pos 2) ∷ Compared (at 43) cmps.Less (value.Int (pos 2)) (value.Int (pos 3)) ∷ []
 narrow_does = refl
 
 narrow_of_4 : told (run_with narrow (value.Int (pos 4)) [] 9).end ≡ gives (Some (value.Int (pos 0))) (at 34) []
@@ -108,12 +115,17 @@ narrow_past_the_range = refl
 
 -- int f(int n) { int s = 0; while (n) { s = s + n; n = n - 1; } return s; }
 abbrev summing : Code
-summing = code_of (line 24 (Set (v 1) (atom.Int (pos 0))) ∷ line 27 (Branch (var 0) (to 2) (to 5)) ∷ line 45 (Arith (v 1) kinds.Int ops.Add (var 1) (var 0)) ∷ line 56 (Arith (v 0) kinds.Int ops.Sub (var 0) (atom.Int (pos 1))) ∷ line 27 (Jump (to 1)) ∷ line 63 (Return (Some (var 1))) ∷ []) (param.Int ∷ param.Int ∷ [])
+summing =
+    code_of (line 24 (Set (v 1) (atom.Int (pos 0))) ∷ line 27 (Branch (var 0) (to 2) (to 5))
+    ∷ line 45 (Arith (v 1) kinds.Int ops.Add (var 1) (var 0))
+    ∷ line 56 (Arith (v 0) kinds.Int ops.Sub (var 0) (atom.Int (pos 1))) ∷ line 27 (Jump (to 1))
+    ∷ line 63 (Return (Some (var 1))) ∷ []) (param.Int ∷ param.Int ∷ [])
 
 sum_of_3 : told (run_with summing (value.Int (pos 3)) [] 100).end ≡ gives (Some (value.Int (pos 6))) (at 63) []
 sum_of_3 = refl
 
-sum_does : (run_with summing (value.Int (pos 1)) [] 100).ops ≡ Computed (at 45) ops.Add kinds.Int (pos 0) (pos 1) ∷ Computed (at 56) ops.Sub kinds.Int (pos 1) (pos 1) ∷ []
+sum_does : (run_with summing (value.Int (pos 1)) [] 100).ops
+    ≡ Computed (at 45) ops.Add kinds.Int (pos 0) (pos 1) ∷ Computed (at 56) ops.Sub kinds.Int (pos 1) (pos 1) ∷ []
 sum_does = refl
 
 sum_without_end : told (run_with summing (value.Int (negsuc 0)) [] 200).end ≡ goes_on
@@ -130,7 +142,9 @@ unset_stops = refl
 
 -- int f(int n) { if (n) return 1; }
 abbrev falling : Code
-falling = code_of (line 16 (Branch (var 0) (to 1) (to 2)) ∷ line 23 (Return (Some (atom.Int (pos 1)))) ∷ line 33 Fall ∷ []) (param.Int ∷ [])
+falling =
+    code_of (line 16 (Branch (var 0) (to 1) (to 2)) ∷ line 23 (Return (Some (atom.Int (pos 1)))) ∷ line 33 Fall
+    ∷ []) (param.Int ∷ [])
 
 falls : told (run_with falling (value.Int (pos 0)) [] 9).end ≡ stops (at 33)
 falls = refl
@@ -154,12 +168,15 @@ inc_ref = record { form = form.Special special.IncRef; params = []; takes = []; 
 
 -- PyObject *f(PyObject *x) { return PyLong_FromLong(1); }
 abbrev making : Code
-making = code_of (line 35 (Api (Some (v 1)) (shape_of from_long) (atom.Int (pos 1) ∷ []) []) ∷ line 28 (Return (Some (var 1))) ∷ []) (param.ObjectOrNull ∷ param.ObjectOrNull ∷ [])
+making =
+    code_of (line 35 (Api (Some (v 1)) (shape_of from_long) (atom.Int (pos 1) ∷ []) [])
+    ∷ line 28 (Return (Some (var 1))) ∷ []) (param.ObjectOrNull ∷ param.ObjectOrNull ∷ [])
 
 makes_none : told (run_with making value.Null (choice.Null ∷ []) 9).end ≡ gives (Some value.Null) (at 28) (at 35 ∷ [])
 makes_none = refl
 
-makes_one : told (run_with making value.Null (choice.Object 26 ∷ []) 9).end ≡ gives (Some (value.Object 26)) (at 28) (at 35 ∷ [])
+makes_one : told (run_with making value.Null (choice.Object 26 ∷ []) 9).end
+    ≡ gives (Some (value.Object 26)) (at 28) (at 35 ∷ [])
 makes_one = refl
 
 makes_by_a_choice : told (run_with making value.Null [] 9).end ≡ wants
@@ -167,7 +184,9 @@ makes_by_a_choice = refl
 
 -- void f(PyObject *x) { Py_INCREF(x); }
 abbrev counting : Code
-counting = code_of (line 23 (Api None (shape_of inc_ref) (var 0 ∷ []) []) ∷ line 37 (Return None) ∷ []) (param.ObjectOrNull ∷ [])
+counting =
+    code_of (line 23 (Api None (shape_of inc_ref) (var 0 ∷ []) []) ∷ line 37 (Return None) ∷ [])
+    (param.ObjectOrNull ∷ [])
 
 counts : told (run_with counting (value.Object 25) [] 9).end ≡ gives None (at 37) []
 counts = refl
@@ -180,12 +199,18 @@ counts_no_null = refl
 
 -- void f(Box *x) { x->first = x->second; }
 abbrev moving : Code
-moving = code_of (line 30 (Load (v 1) (Field (var 0) (name 400) (name 402) param.ObjectOrNull)) ∷ line 19 (Store (Field (var 0) (name 400) (name 401) param.ObjectOrNull) (var 1)) ∷ line 40 (Return None) ∷ []) (param.ObjectOrNull ∷ param.ObjectOrNull ∷ [])
+moving =
+    code_of (line 30 (Load (v 1) (Field (var 0) (name 400) (name 402) param.ObjectOrNull))
+    ∷ line 19 (Store (Field (var 0) (name 400) (name 401) param.ObjectOrNull) (var 1)) ∷ line 40 (Return None) ∷ [])
+    (param.ObjectOrNull ∷ param.ObjectOrNull ∷ [])
 
-moves_one : told (run_with moving (value.Object 24) (choice.Object 25 ∷ choice.Null ∷ []) 9).end ≡ gives None (at 40) (at 30 ∷ at 19 ∷ [])
+moves_one : told (run_with moving (value.Object 24) (choice.Object 25 ∷ choice.Null ∷ []) 9).end
+    ≡ gives None (at 40) (at 30 ∷ at 19 ∷ [])
 moves_one = refl
 
-moves_what_is_there : (run_with moving (value.Object 24) (choice.Object 25 ∷ choice.Null ∷ []) 9).ops ≡ Loaded (at 30) (slot.Field 24 (name 400) (name 402)) (Some (value.Object 25)) ∷ Stored (at 19) (slot.Field 24 (name 400) (name 401)) (value.Object 25) ∷ []
+moves_what_is_there : (run_with moving (value.Object 24) (choice.Object 25 ∷ choice.Null ∷ []) 9).ops
+    ≡ Loaded (at 30) (slot.Field 24 (name 400) (name 402)) (Some (value.Object 25))
+    ∷ Stored (at 19) (slot.Field 24 (name 400) (name 401)) (value.Object 25) ∷ []
 moves_what_is_there = refl
 
 moves_no_null : told (run_with moving value.Null [] 9).end ≡ stops (at 30)

@@ -1,7 +1,8 @@
 -- Two runs that are alike, where one makes steps and the other instructions.
 --   IsOver e                      a run has an end
---   Alike source target most      one ends where and as the other ends, and before it both do the same operations in the same
---                                 order; at most so many steps of the first are one instruction of the second apart
+--   Alike source target most      one ends where and as the other ends, and before it both do the same operations in
+--                                 the same order; at most so many steps of the first are one instruction of the second
+--                                 apart
 use Rattle.std.specs.Prelude.{◌≡◌, ◌≢◌, ℕ, ◌+◌, ◌*◌, ◌≤◌}
 use Rattle.pungi_meaning.specs.Run.{Run, End, Returned, Stopped, NeedsChoice, OutOfFuel}
 

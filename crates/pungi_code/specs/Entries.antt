@@ -29,4 +29,6 @@ hold_values n (k ∷ ks) [] = false
 hold_values n (k ∷ ks) (v ∷ vs) = holds_value n k v && hold_values n ks vs
 
 abbrev pub code_fits : ℕ → Code → Entry → Bool
-code_fits statics code entry = nat_le statics entry.objects && (nat_lt entry.objects (2 ^ 31) && hold_values entry.objects (take code.params code.vars) entry.args)
+code_fits statics code entry =
+    nat_le statics entry.objects && (nat_lt entry.objects (2 ^ 31)
+    && hold_values entry.objects (take code.params code.vars) entry.args)

@@ -3,7 +3,8 @@
 --   field_of, slot_of place vars    the slot that a place is, and what it holds; `None` where the base is no object
 --   with_slot o p go            the run goes on with the slot, where there is one
 --   load, store, call           a load, a store, a call of the API
---   perform choices i p next pc m    an instruction that stands at a place of the code and does a node at a place of the text
+--   perform choices i p next pc m    an instruction that stands at a place of the code and does a node at a place of
+--                                    the text
 -- A function of the file has no code to be called yet: its call stops.
 use Rattle.std.specs.Prelude.{ℕ, ◌+◌, ℤ, List, [], ◌∷◌, Option, Some, None, if◌then◌else◌}
 use Rattle.pungi_base.specs.declared.choice.Choice.{Choice}
@@ -27,8 +28,10 @@ use Rattle.pungi_code.specs.declared.atom.Var.{Var}
 use Rattle.pungi_code.specs.declared.place.Place.{Place}
 use Rattle.pungi_code.specs.declared.place.Place.TheVariants.{Global, Field}
 use Rattle.pungi_code.specs.declared.instr.Instr.{Instr}
-use Rattle.pungi_code.specs.declared.instr.Instr.TheVariants.{Set, Arith, Fit, Compare, Load, Store, Api, Call, Unset, Jump, Branch, Return, Fall}
-use Rattle.pungi_code.specs.Registers.{Regs, Next, put, content_of, with_value, all_values, with_values, choices_left, after_effect, put_answer, with_outputs}
+use Rattle.pungi_code.specs.declared.instr.Instr.TheVariants.{Set, Arith, Fit, Compare, Load, Store, Api, Call, Unset}
+use Rattle.pungi_code.specs.declared.instr.Instr.TheVariants.{Jump, Branch, Return, Fall}
+use Rattle.pungi_code.specs.Registers.{Regs, Next, put, content_of, with_value, all_values, with_values, choices_left}
+use Rattle.pungi_code.specs.Registers.{after_effect, put_answer, with_outputs}
 
 abbrev pub with_number : Pos → Option ℤ → (ℤ → Run) → Run
 with_number p None go = end_at_once (Stopped p)
@@ -48,27 +51,41 @@ with_slot (Some s) p go = go s.0 s.1
 
 abbrev pub load : List Choice → Var → Pos → Next → ℕ → Regs → Slot → Param → Run
 load choices x p next pc m s kind =
-    after_effect p (load_effect m.world s kind (choices_left choices m)) m (λ e r. with_operations (Loaded p s e.value ∷ []) (next (pc + 1) (put_answer (Some x) e.value r)))
+    after_effect p (load_effect m.world s kind (choices_left choices m)) m
+    (λ e r. with_operations (Loaded p s e.value ∷ []) (next (pc + 1) (put_answer (Some x) e.value r)))
 
 abbrev pub store : List Choice → Pos → Next → ℕ → Regs → Value → Slot → Param → Run
 store choices p next pc m v s kind =
-    after_effect p (store_effect m.world s kind v (choices_left choices m)) m (λ e r. with_operations (Stored p s v ∷ []) (next (pc + 1) r))
+    after_effect p (store_effect m.world s kind v (choices_left choices m)) m
+    (λ e r. with_operations (Stored p s v ∷ []) (next (pc + 1) r))
 
 abbrev pub call : List Choice → Option Var → Shape → List (Option Var) → Pos → Next → ℕ → Regs → List Value → Run
 call choices x shape outs p next pc m vs =
-    after_effect p (call_effect m.world shape vs (choices_left choices m)) m (λ e r. with_operations (Called p shape vs e ∷ []) (next (pc + 1) (with_outputs outs e.outputs (put_answer x e.value r))))
+    after_effect p (call_effect m.world shape vs (choices_left choices m)) m
+    (λ e r. with_operations (Called p shape vs e ∷ []) (next (pc
+    + 1) (with_outputs outs e.outputs (put_answer x e.value r))))
 
 abbrev pub perform : List Choice → Instr → Pos → Next → ℕ → Regs → Run
-perform choices (Set x a) p next pc m = with_value (content_of a m.vars) p (λ v. next (pc + 1) (put x (content.Holds v) m))
+perform choices (Set x a) p next pc m =
+    with_value (content_of a m.vars) p (λ v. next (pc + 1) (put x (content.Holds v) m))
 perform choices (Arith x kind o a b) p next pc m =
-    with_value (content_of a m.vars) p (λ v. with_value (content_of b m.vars) p (λ w. with_number p (arithmetic o kind (number_of v) (number_of w)) (λ n. with_operations (Computed p o kind (number_of v) (number_of w) ∷ []) (next (pc + 1) (put x (content.Holds (value.Int n)) m)))))
+    with_value (content_of a m.vars) p (λ v. with_value (content_of b m.vars) p
+    (λ w. with_number p (arithmetic o kind (number_of v) (number_of w)) (λ n. with_operations
+    (Computed p o kind (number_of v) (number_of w) ∷ []) (next (pc
+    + 1) (put x (content.Holds (value.Int n)) m)))))
 perform choices (Fit x kind a) p next pc m =
-    with_value (content_of a m.vars) p (λ v. if fits kind (number_of v) then with_operations (Fitted p kind (number_of v) ∷ []) (next (pc + 1) (put x (content.Holds (value.Int (number_of v))) m)) else end_at_once (Stopped p))
+    with_value (content_of a m.vars) p (λ v. if fits kind (number_of v) then with_operations
+    (Fitted p kind (number_of v) ∷ []) (next (pc + 1) (put x (content.Holds (value.Int (number_of v))) m)) else
+    end_at_once (Stopped p))
 perform choices (Compare x c a b) p next pc m =
-    with_value (content_of a m.vars) p (λ v. with_value (content_of b m.vars) p (λ w. with_operations (Compared p c v w ∷ []) (next (pc + 1) (put x (content.Holds (truth (holds c v w))) m))))
+    with_value (content_of a m.vars) p (λ v. with_value (content_of b m.vars) p
+    (λ w. with_operations (Compared p c v w ∷ []) (next (pc
+    + 1) (put x (content.Holds (truth (holds c v w))) m))))
 perform choices (Load x place) p next pc m = with_slot (slot_of place m.vars) p (load choices x p next pc m)
-perform choices (Store place a) p next pc m = with_value (content_of a m.vars) p (λ v. with_slot (slot_of place m.vars) p (store choices p next pc m v))
-perform choices (Api x shape as' outs) p next pc m = with_values (all_values as' m.vars) p (call choices x shape outs p next pc m)
+perform choices (Store place a) p next pc m =
+    with_value (content_of a m.vars) p (λ v. with_slot (slot_of place m.vars) p (store choices p next pc m v))
+perform choices (Api x shape as' outs) p next pc m =
+    with_values (all_values as' m.vars) p (call choices x shape outs p next pc m)
 perform choices (Call x f as') p next pc m = end_at_once (Stopped p)
 perform choices (Unset x) p next pc m = next (pc + 1) (put x content.Unset m)
 perform choices (Jump to) p next pc m = next to.0 m

@@ -13,7 +13,8 @@
 --   is_argument vars p a, are_arguments    an atom may be passed for a parameter
 --   form_params, wanted_params row  what a call of a row takes
 --   answer_param a, form_answer, row_answer row    what it returns
---   is_answer vars row x, is_output the variable that an answer goes to, where there is one, may hold it; one that a call writes is there
+--   is_answer vars row x, is_output the variable that an answer goes to, where there is one, may hold it; one that a
+--   call writes is there
 --   is_label code l                 a label is a place of the code
 --   is_sound code i                 an instruction names variables, labels and kinds that are there
 --   leads_on i                      the instruction after this one may come next
@@ -25,7 +26,9 @@
 --   is_same_slot p q                a global of one name; a field of one name of structs of one tag
 --   HaveOneKind p q, AgreeOnKinds a b    such have one kind, where both are there; all those of two codes
 --   AreWellFormed codes             so are all codes of a file, and each slot has one kind in all of them
-use Rattle.std.specs.Prelude.{◌≡◌, ℕ, ◌+◌, ◌<◌, ◌≤◌, ◌^◌, ◌-◌, ◌==◌, nat_lt, nat_le, ℤ, pos, negsuc, int_le, Bool, true, false, ◌&&◌, ◌||◌, not, List, [], ◌∷◌, length, get_or, slice_get, Option, Some, None, if◌then◌else◌}
+use Rattle.std.specs.Prelude.{◌≡◌, ℕ, ◌+◌, ◌<◌, ◌≤◌, ◌^◌, ◌-◌, ◌==◌, nat_lt, nat_le, ℤ, pos, negsuc, int_le, Bool, true}
+use Rattle.std.specs.Prelude.{false, ◌&&◌, ◌||◌, not, List, [], ◌∷◌, length, get_or, slice_get, Option, Some, None}
+use Rattle.std.specs.Prelude.{if◌then◌else◌}
 use Rattle.std.specs.List.{list_any, list_all}
 use Rattle.pungi_api.specs.declared.param.Param.{Param}
 use Rattle.pungi_api.specs.declared.param.Param.TheVariants as param
@@ -48,7 +51,8 @@ use Rattle.pungi_code.specs.declared.code.Codes.{Codes}
 use Rattle.pungi_code.specs.declared.code.Head.{Head}
 use Rattle.pungi_code.specs.declared.code.Line.{Line}
 use Rattle.pungi_code.specs.declared.instr.Instr.{Instr}
-use Rattle.pungi_code.specs.declared.instr.Instr.TheVariants.{Set, Arith, Fit, Compare, Load, Store, Api, Call, Unset, Jump, Branch, Return, Fall}
+use Rattle.pungi_code.specs.declared.instr.Instr.TheVariants.{Set, Arith, Fit, Compare, Load, Store, Api, Call, Unset}
+use Rattle.pungi_code.specs.declared.instr.Instr.TheVariants.{Jump, Branch, Return, Fall}
 use Rattle.pungi_code.specs.declared.instr.Label.{Label}
 use Rattle.pungi_code.specs.Limits.{most_arguments, most_instructions, most_variables}
 use Rattle.pungi_code.specs.declared.place.Place.{Place}
@@ -99,7 +103,8 @@ is_condition vars a = is_number vars a || (atom_is vars param.ObjectOrNull a || 
 
 abbrev pub are_alike : List Param → Atom → Atom → Bool
 are_alike vars a b =
-    (is_number vars a && is_number vars b) || ((atom_is vars param.ObjectOrNull a && atom_is vars param.ObjectOrNull b) || (atom_is vars param.TextOrNull a && atom_is vars param.TextOrNull b))
+    (is_number vars a && is_number vars b) || ((atom_is vars param.ObjectOrNull a
+    && atom_is vars param.ObjectOrNull b) || (atom_is vars param.TextOrNull a && atom_is vars param.TextOrNull b))
 
 abbrev pub is_order : Cmp → Bool
 is_order cmps.Equal = false
@@ -124,7 +129,8 @@ is_slot_kind k = is_integer k || (is_object k || is_text k)
 
 abbrev pub is_place : List Param → Place → Param → Bool
 is_place vars (Global n k) kind = is_slot_kind k && (is_wide k kind && is_wide kind k)
-is_place vars (Field base tag field k) kind = atom_is vars param.ObjectOrNull base && (is_slot_kind k && (is_wide k kind && is_wide kind k))
+is_place vars (Field base tag field k) kind =
+    atom_is vars param.ObjectOrNull base && (is_slot_kind k && (is_wide k kind && is_wide kind k))
 
 abbrev pub place_kind : Place → Param
 place_kind (Global n k) = k
@@ -179,13 +185,20 @@ is_label code l = nat_lt l.0 (length code.instrs)
 
 abbrev pub is_sound : Code → Instr → Bool
 is_sound code (Set x a) = is_var code.vars x && atom_is code.vars (var_kind code.vars x) a
-is_sound code (Arith x kind o a b) = is_var code.vars x && (counts_in kind (var_kind code.vars x) && (is_number code.vars a && is_number code.vars b))
+is_sound code (Arith x kind o a b) =
+    is_var code.vars x && (counts_in kind (var_kind code.vars x)
+    && (is_number code.vars a && is_number code.vars b))
 is_sound code (Fit x kind a) = is_var code.vars x && (counts_in kind (var_kind code.vars x) && is_number code.vars a)
-is_sound code (Compare x c a b) = is_var code.vars x && (is_integer (var_kind code.vars x) && (if is_order c then is_number code.vars a && is_number code.vars b else are_alike code.vars a b))
-is_sound code (Load x place) = is_var code.vars x && (is_place code.vars place (place_kind place) && is_wide (place_kind place) (var_kind code.vars x))
+is_sound code (Compare x c a b) =
+    is_var code.vars x && (is_integer (var_kind code.vars x)
+    && (if is_order c then is_number code.vars a && is_number code.vars b else are_alike code.vars a b))
+is_sound code (Load x place) =
+    is_var code.vars x && (is_place code.vars place (place_kind place)
+    && is_wide (place_kind place) (var_kind code.vars x))
 is_sound code (Store place a) = is_place code.vars place (place_kind place) && atom_is code.vars (place_kind place) a
 is_sound code (Api x shape as' outs) =
-    is_answer code.vars shape.row x && (are_arguments code.vars (wanted_params shape.row) as' && (list_all (λ o. is_output code.vars o) outs && nat_le (length as') most_arguments))
+    is_answer code.vars shape.row x && (are_arguments code.vars (wanted_params shape.row) as'
+    && (list_all (λ o. is_output code.vars o) outs && nat_le (length as') most_arguments))
 is_sound code (Call x f as') = false
 is_sound code (Unset x) = is_var code.vars x
 is_sound code (Jump to) = is_label code to
@@ -221,8 +234,10 @@ pub record IsWellFormed (code : Code) : Type 0 where
   pub vars : length code.vars ≤ most_variables
   pub few : length code.instrs ≤ most_instructions
   pub sound : (place : ℕ) (line : Line) → slice_get code.instrs place ≡ Some line → is_sound code line.instr ≡ true
-  pub last : (place : ℕ) (line : Line) → slice_get code.instrs place ≡ Some line → leads_on line.instr ≡ true → place + 1 < length code.instrs
-  pub back : (place : ℕ) (line : Line) → slice_get code.instrs place ≡ Some line → goes_back code.heads place line.instr ≡ true
+  pub last : (place : ℕ) (line : Line) → slice_get code.instrs place ≡ Some line → leads_on line.instr ≡ true
+      → place + 1 < length code.instrs
+  pub back : (place : ℕ) (line : Line) → slice_get code.instrs place ≡ Some line
+      → goes_back code.heads place line.instr ≡ true
 
 -- ---- all codes of a file
 
@@ -241,11 +256,14 @@ HaveOneKind (Some p) (Some q) = is_same_slot p q ≡ true → place_kind p ≡ p
 HaveOneKind p q = Unit {0}
 
 abbrev pub AgreeOnKinds : Code → Code → Type 0
-AgreeOnKinds a b = (i j : ℕ) (l m : Line) → slice_get a.instrs i ≡ Some l → slice_get b.instrs j ≡ Some m → HaveOneKind (place_of l.instr) (place_of m.instr)
+AgreeOnKinds a b =
+    (i j : ℕ) (l m : Line) → slice_get a.instrs i ≡ Some l → slice_get b.instrs j ≡ Some m
+    → HaveOneKind (place_of l.instr) (place_of m.instr)
 
 pub record AreWellFormed (codes : Codes) : Type 0 where
   pub each : (f : ℕ) (code : Code) → slice_get codes.codes f ≡ Some (Some code) → IsWellFormed code
-  pub kinds : (f g : ℕ) (a b : Code) → slice_get codes.codes f ≡ Some (Some a) → slice_get codes.codes g ≡ Some (Some b) → AgreeOnKinds a b
+  pub kinds : (f g : ℕ) (a b : Code) → slice_get codes.codes f ≡ Some (Some a)
+      → slice_get codes.codes g ≡ Some (Some b) → AgreeOnKinds a b
   pub names : length codes.names ≡ length codes.codes
   pub few : length codes.codes ≤ most_functions
   pub statics : codes.statics ≤ most_statics

@@ -26,7 +26,8 @@ fn call(
     args: &[Value],
 ) -> Result<After, Memory>
     requires { pc < 2 ^ 63 }
-    ensures { IfOk result (λ after. Does (λ next. call choices.now x shape.now outs.now pos next pc (regs_of m.old) args.now) after m.new) }
+    ensures { IfOk result (λ after. Does (λ next. call choices.now x shape.now outs.now pos next pc (regs_of m.old)
+        args.now) after m.new) }
 {
     if !is_defined_form(shape.row.form) {
         return Ok(After::Stops(pos));
@@ -59,7 +60,8 @@ pub fn call_api(
     pc: usize,
 ) -> Result<After, Memory>
     requires { pc < 2 ^ 63 }
-    ensures { IfOk result (λ after. Does (λ next. with_values (all_values args.now (regs_of m.old).vars) pos (call choices.now x shape.now outs.now pos next pc (regs_of m.old))) after m.new) }
+    ensures { IfOk result (λ after. Does (λ next. with_values (all_values args.now (regs_of m.old).vars) pos
+        (call choices.now x shape.now outs.now pos next pc (regs_of m.old))) after m.new) }
 {
     match values_of(alloc, args, &m.vars)? {
         Some(values) => call(m, alloc, choices, x, shape, outs, pos, pc, &values),

@@ -13,7 +13,8 @@ use std::alloc::Global;
 
 /// The instruction at this place, if there is one.
 fn line_at(instrs: &[Line], pc: usize) -> Option<&Line>
-    ensures { MatchOption result (slice_get instrs.now pc ≡ None) (λ l. (slice_get instrs.now pc ≡ Some l.now) × (pc < length instrs.now)) }
+    ensures { MatchOption result (slice_get instrs.now pc ≡ None) (λ l. (slice_get instrs.now pc ≡ Some l.now)
+        × (pc < length instrs.now)) }
 {
     if pc < instrs.len() {
         Some(&instrs[pc])
@@ -108,7 +109,8 @@ fn run_code(
     choices: &[Choice],
     fuel: u32,
 ) -> Result<Outcome, Memory>
-    ensures end { IfOk result (λ outcome. end_of outcome ≡ (exec choices.now code.now.instrs fuel 0 (start code.now entry.now)).end) }
+    ensures end { IfOk result (λ outcome. end_of outcome
+        ≡ (exec choices.now code.now.instrs fuel 0 (start code.now entry.now)).end) }
     ensures counted { IfOk result (λ outcome. IsCounted outcome) }
 {
     let mut m = begin(alloc, code, entry)?;
@@ -126,7 +128,8 @@ pub fn code_run(
     choices: &[Choice],
     fuel: u32,
 ) -> Result<Outcome, Memory>
-    ensures end { IfOk result (λ outcome. end_of outcome ≡ (run_of_code (code_at codes.now f) entry.now choices.now fuel).end) }
+    ensures end { IfOk result (λ outcome. end_of outcome
+        ≡ (run_of_code (code_at codes.now f) entry.now choices.now fuel).end) }
     ensures counted { IfOk result (λ outcome. IsCounted outcome) }
 {
     match code_at(codes, f) {

@@ -1,6 +1,8 @@
 // One instruction.
 ghost use Rattle.std.specs.Prelude.{◌≡◌, ◌<◌, ◌+◌, ◌^◌, [], IfOk};
-ghost use Rattle.pungi_code.specs.declared.instr.Instr.TheVariants.{Arith as ArithOf, Fit as FitOf, Compare as CompareOf, Branch as BranchOf, Return as ReturnOf};
+ghost use Rattle.pungi_code.specs.declared.instr.Instr.TheVariants.{Arith as ArithOf, Fit as FitOf};
+ghost use Rattle.pungi_code.specs.declared.instr.Instr.TheVariants.{Compare as CompareOf, Branch as BranchOf};
+ghost use Rattle.pungi_code.specs.declared.instr.Instr.TheVariants.{Return as ReturnOf};
 ghost use Rattle.pungi_code.specs.declared.registers.After.TheVariants.{Goes as GoesTo};
 ghost use Rattle.pungi_code.specs.Machine.{regs_of, Does};
 ghost use Rattle.pungi_code.specs.Perform.{perform as performed, load, store, slot_of, with_slot};
@@ -119,7 +121,8 @@ fn load_place(
     pc: usize,
 ) -> Result<After, Memory>
     requires { pc < 2 ^ 63 }
-    ensures { IfOk result (λ after. Does (λ next. with_slot (slot_of place (regs_of m.old).vars) pos (load choices.now x pos next pc (regs_of m.old))) after m.new) }
+    ensures { IfOk result (λ after. Does (λ next. with_slot (slot_of place (regs_of m.old).vars) pos
+        (load choices.now x pos next pc (regs_of m.old))) after m.new) }
 {
     match slot_of(place, &m.vars) {
         Some((slot, kind)) => load(m, alloc, choices, x, pos, pc, slot, kind),
@@ -137,7 +140,9 @@ fn store_place(
     pc: usize,
 ) -> Result<After, Memory>
     requires { pc < 2 ^ 63 }
-    ensures { IfOk result (λ after. Does (λ next. with_value (content_of a (regs_of m.old).vars) pos (λ v. with_slot (slot_of place (regs_of m.old).vars) pos (store choices.now pos next pc (regs_of m.old) v))) after m.new) }
+    ensures { IfOk result (λ after. Does (λ next. with_value (content_of a (regs_of m.old).vars) pos
+        (λ v. with_slot (slot_of place (regs_of m.old).vars) pos (store choices.now pos next pc (regs_of m.old) v)))
+        after m.new) }
 {
     let Content::Holds(value) = content_of(a, &m.vars) else {
         return Ok(After::Stops(pos));
@@ -157,7 +162,8 @@ pub fn perform(
     pc: usize,
 ) -> Result<After, Memory>
     requires { pc < 2 ^ 63 }
-    ensures { IfOk result (λ after. Does (λ next. performed choices.now line.now.instr line.now.pos next pc (regs_of m.old)) after m.new) }
+    ensures { IfOk result (λ after. Does (λ next. performed choices.now line.now.instr line.now.pos next pc
+        (regs_of m.old)) after m.new) }
 {
     let pos = line.pos;
     match &line.instr {

@@ -46,7 +46,8 @@ pub fn load(
     kind: Param,
 ) -> Result<After, Memory>
     requires { pc < 2 ^ 63 }
-    ensures { IfOk result (λ after. Does (λ next. load choices.now x pos next pc (regs_of m.old) slot kind) after m.new) }
+    ensures { IfOk result (λ after. Does (λ next. load choices.now x pos next pc (regs_of m.old) slot kind) after
+        m.new) }
 {
     let rest = unused(choices, m.used.len());
     match m.world.load(alloc, slot, kind, rest) {
@@ -73,7 +74,8 @@ pub fn store(
     kind: Param,
 ) -> Result<After, Memory>
     requires { pc < 2 ^ 63 }
-    ensures { IfOk result (λ after. Does (λ next. store choices.now pos next pc (regs_of m.old) value slot kind) after m.new) }
+    ensures { IfOk result (λ after. Does (λ next. store choices.now pos next pc (regs_of m.old) value slot kind)
+        after m.new) }
 {
     let rest = unused(choices, m.used.len());
     match m.world.store(alloc, slot, kind, value, rest) {

@@ -1,8 +1,10 @@
 //! Structs and unions with fields in expressions, types and declarators.
 ghost use Rattle.std.specs.Prelude.{◌≡◌, ◌++◌, OnOk, map};
 ghost use Rattle.pungi_declared.specs.DeclaredView.{tag_view};
-ghost use Rattle.pungi_tree.specs.ExprView.{expr_view, exprs_of, spec_view, field_view, fields_of, declr_view, declrs_of, sizes_of, optional_view, param_decl_view, param_decls_of};
-ghost use Rattle.pungi_types.specs.Tags.{expr_tags, exprs_tags, spec_tags, field_tags, fields_tags, declr_tags, declrs_tags, sizes_tags, param_decl_tags, param_decls_tags};
+ghost use Rattle.pungi_tree.specs.ExprView.{expr_view, exprs_of, spec_view, field_view, fields_of, declr_view};
+ghost use Rattle.pungi_tree.specs.ExprView.{declrs_of, sizes_of, optional_view, param_decl_view, param_decls_of};
+ghost use Rattle.pungi_types.specs.Tags.{expr_tags, exprs_tags, spec_tags, field_tags, fields_tags, declr_tags};
+ghost use Rattle.pungi_types.specs.Tags.{declrs_tags, sizes_tags, param_decl_tags, param_decls_tags};
 
 use crate::Tag;
 use crate::tag::put;
@@ -51,7 +53,8 @@ pub(crate) fn expr<'u>(out: &mut Vec<Tag<'u>>, e: &'u Expr) -> Result<(), Memory
 
 #[cycle(expr_tags)]
 fn exprs<'u>(out: &mut Vec<Tag<'u>>, list: &'u Vec<Expr>) -> Result<(), Memory>
-    ensures { OnOk result (map tag_view out.new.items ≡ map tag_view out.old.items ++ exprs_tags (exprs_of (map expr_view list.now.items))) }
+    ensures { OnOk result (map tag_view out.new.items ≡ map tag_view out.old.items
+        ++ exprs_tags (exprs_of (map expr_view list.now.items))) }
 {
     for e in list {
         expr(out, e)?;
@@ -86,7 +89,8 @@ pub(crate) fn spec<'u>(out: &mut Vec<Tag<'u>>, s: &'u Spec) -> Result<(), Memory
 
 #[cycle(expr_tags)]
 fn fields<'u>(out: &mut Vec<Tag<'u>>, list: &'u Vec<Field>) -> Result<(), Memory>
-    ensures { OnOk result (map tag_view out.new.items ≡ map tag_view out.old.items ++ fields_tags (fields_of (map field_view list.now.items))) }
+    ensures { OnOk result (map tag_view out.new.items ≡ map tag_view out.old.items
+        ++ fields_tags (fields_of (map field_view list.now.items))) }
 {
     for f in list {
         field(out, f)?;
@@ -113,7 +117,8 @@ fn field<'u>(out: &mut Vec<Tag<'u>>, f: &'u Field) -> Result<(), Memory>
 
 #[cycle(expr_tags)]
 fn declrs<'u>(out: &mut Vec<Tag<'u>>, list: &'u Vec<Declr>) -> Result<(), Memory>
-    ensures { OnOk result (map tag_view out.new.items ≡ map tag_view out.old.items ++ declrs_tags (declrs_of (map declr_view list.now.items))) }
+    ensures { OnOk result (map tag_view out.new.items ≡ map tag_view out.old.items
+        ++ declrs_tags (declrs_of (map declr_view list.now.items))) }
 {
     for d in list {
         declr(out, d)?;
@@ -133,7 +138,8 @@ pub(crate) fn declr<'u>(out: &mut Vec<Tag<'u>>, d: &'u Declr) -> Result<(), Memo
 
 #[cycle(expr_tags)]
 fn sizes<'u>(out: &mut Vec<Tag<'u>>, list: &'u Vec<Option<Expr>>) -> Result<(), Memory>
-    ensures { OnOk result (map tag_view out.new.items ≡ map tag_view out.old.items ++ sizes_tags (sizes_of (map optional_view list.now.items))) }
+    ensures { OnOk result (map tag_view out.new.items ≡ map tag_view out.old.items
+        ++ sizes_tags (sizes_of (map optional_view list.now.items))) }
 {
     for size in list {
         if let Some(e) = size {
@@ -145,7 +151,8 @@ fn sizes<'u>(out: &mut Vec<Tag<'u>>, list: &'u Vec<Option<Expr>>) -> Result<(), 
 
 #[cycle(expr_tags)]
 pub(crate) fn params<'u>(out: &mut Vec<Tag<'u>>, list: &'u Vec<ParamDecl>) -> Result<(), Memory>
-    ensures { OnOk result (map tag_view out.new.items ≡ map tag_view out.old.items ++ param_decls_tags (param_decls_of (map param_decl_view list.now.items))) }
+    ensures { OnOk result (map tag_view out.new.items ≡ map tag_view out.old.items
+        ++ param_decls_tags (param_decls_of (map param_decl_view list.now.items))) }
 {
     for d in list {
         param(out, d)?;
@@ -155,7 +162,8 @@ pub(crate) fn params<'u>(out: &mut Vec<Tag<'u>>, list: &'u Vec<ParamDecl>) -> Re
 
 #[cycle(expr_tags)]
 fn param<'u>(out: &mut Vec<Tag<'u>>, d: &'u ParamDecl) -> Result<(), Memory>
-    ensures { OnOk result (map tag_view out.new.items ≡ map tag_view out.old.items ++ param_decl_tags (param_decl_view d.now)) }
+    ensures { OnOk result (map tag_view out.new.items ≡ map tag_view out.old.items
+        ++ param_decl_tags (param_decl_view d.now)) }
 {
     spec(out, &d.spec)?;
     match &d.declr {

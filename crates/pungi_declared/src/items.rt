@@ -43,7 +43,8 @@ fn put_variables<'u>(
     spec: &'u Spec,
     vars: &'u Vec<VarDecl>,
 ) -> Result<(), Memory>
-    ensures { OnOk result (map variable_view out.new.items ≡ map variable_view out.old.items ++ decl_variables (spec_view spec.now) (map var_decl_view vars.now.items)) }
+    ensures { OnOk result (map variable_view out.new.items
+        ≡ map variable_view out.old.items ++ decl_variables (spec_view spec.now) (map var_decl_view vars.now.items)) }
 {
     for var in vars {
         out.push(Variable {
@@ -82,7 +83,8 @@ pub fn definitions<'u>(alloc: Global, unit: &'u Unit) -> Result<Vec<&'u Function
 
 /// Adds a name to a list, at its end.
 fn put_place(out: &mut Vec<Place>, name: Name, pos: Pos) -> Result<(), Memory>
-    ensures { OnOk result (map place_view out.new.items ≡ map place_view out.old.items ++ record { name = name; pos = pos } ∷ []) }
+    ensures { OnOk result (map place_view out.new.items
+        ≡ map place_view out.old.items ++ record { name = name; pos = pos } ∷ []) }
 {
     out.push(Place { name, pos })?;
     Ok(())

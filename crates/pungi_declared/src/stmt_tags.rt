@@ -11,7 +11,8 @@ use pungi_base::Memory;
 use pungi_tree::{Decl, Expr, ForStart, Init, Stmt, StmtNode, VarDecl};
 
 fn optional<'u>(out: &mut Vec<Tag<'u>>, e: &'u Option<Expr>) -> Result<(), Memory>
-    ensures { OnOk result (map tag_view out.new.items ≡ map tag_view out.old.items ++ option_tags (optional_view e.now)) }
+    ensures { OnOk result (map tag_view out.new.items ≡ map tag_view out.old.items
+        ++ option_tags (optional_view e.now)) }
 {
     match e {
         None => Ok(()),
@@ -20,7 +21,8 @@ fn optional<'u>(out: &mut Vec<Tag<'u>>, e: &'u Option<Expr>) -> Result<(), Memor
 }
 
 fn vars<'u>(out: &mut Vec<Tag<'u>>, list: &'u Vec<VarDecl>) -> Result<(), Memory>
-    ensures { OnOk result (map tag_view out.new.items ≡ map tag_view out.old.items ++ vars_tags (map var_decl_view list.now.items)) }
+    ensures { OnOk result (map tag_view out.new.items ≡ map tag_view out.old.items
+        ++ vars_tags (map var_decl_view list.now.items)) }
 {
     for var in list {
         declr(out, &var.declr)?;
@@ -39,7 +41,8 @@ pub(crate) fn decl<'u>(out: &mut Vec<Tag<'u>>, d: &'u Decl) -> Result<(), Memory
 }
 
 fn start<'u>(out: &mut Vec<Tag<'u>>, s: &'u ForStart) -> Result<(), Memory>
-    ensures { OnOk result (map tag_view out.new.items ≡ map tag_view out.old.items ++ start_tags (for_start_view s.now)) }
+    ensures { OnOk result (map tag_view out.new.items ≡ map tag_view out.old.items
+        ++ start_tags (for_start_view s.now)) }
 {
     match s {
         ForStart::Decl(d) => decl(out, d),
@@ -53,7 +56,8 @@ fn for_head<'u>(
     test: &'u Option<Expr>,
     step: &'u Option<Expr>,
 ) -> Result<(), Memory>
-    ensures { OnOk result (map tag_view out.new.items ≡ map tag_view out.old.items ++ (start_tags (for_start_view first.now)
+    ensures { OnOk result (map tag_view out.new.items ≡ map tag_view out.old.items
+        ++ (start_tags (for_start_view first.now)
         ++ (option_tags (optional_view test.now) ++ option_tags (optional_view step.now)))) }
 {
     start(out, first)?;
@@ -97,7 +101,8 @@ pub(crate) fn stmt<'u>(out: &mut Vec<Tag<'u>>, s: &'u Stmt) -> Result<(), Memory
 
 #[cycle(stmt_tags)]
 fn stmts<'u>(out: &mut Vec<Tag<'u>>, list: &'u Vec<Stmt>) -> Result<(), Memory>
-    ensures { OnOk result (map tag_view out.new.items ≡ map tag_view out.old.items ++ stmts_tags (stmts_of (map stmt_view list.now.items))) }
+    ensures { OnOk result (map tag_view out.new.items ≡ map tag_view out.old.items
+        ++ stmts_tags (stmts_of (map stmt_view list.now.items))) }
 {
     for s in list {
         stmt(out, s)?;

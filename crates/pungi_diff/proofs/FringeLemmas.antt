@@ -1,5 +1,7 @@
 -- The fringe of a search: the nodes that are to be done.
-use Rattle.std.proofs.Common.{◌≡◌, ◌∙◌, ℕ, zero, ◌+◌, ◌<◌, ◌≤◌, ◌⊎◌, inl, inr, ℤ, pos, ◌≤ℤ◌, ◌<ℤ◌, List, [], ◌∷◌, ◌++◌, length, slice_index, slice_set, refl, sym, arith, get_or-set_other, get_or-set_same, length-set, length-append, Bool, true, false, negsuc}
+use Rattle.std.proofs.Common.{◌≡◌, ◌∙◌, ℕ, zero, ◌+◌, ◌<◌, ◌≤◌, ◌⊎◌, inl, inr, ℤ, pos, ◌≤ℤ◌, ◌<ℤ◌, List, [], ◌∷◌, ◌++◌}
+use Rattle.std.proofs.Common.{length, slice_index, slice_set, refl, sym, arith, get_or-set_other, get_or-set_same}
+use Rattle.std.proofs.Common.{length-set, length-append, Bool, true, false, negsuc}
 use Rattle.std.specs.Int.Signed.{lt_z}
 use Rattle.std.specs.List.{Contains}
 use Rattle.std.proofs.lemmas.Int.{ints}
@@ -9,7 +11,8 @@ use Rattle.std.proofs.lemmas.List.Elements.{All-push, Contains-append_left, Cont
 use Rattle.std.proofs.lemmas.List.Sums.{sum_by-cons, sum_by-set}
 use Rattle.pungi_diff.specs.declared.constraint.Constraint.{Constraint}
 use Rattle.pungi_diff.specs.Constraint.{at}
-use Rattle.pungi_diff.specs.Search.{Fringe, IsOpen, IsLeastIn, IsLeastOpen, NoneIn, NoneOpen, Lowers, idle_one, idle_count}
+use Rattle.pungi_diff.specs.Search.{Fringe, IsOpen, IsLeastIn, IsLeastOpen, NoneIn, NoneOpen, Lowers, idle_one}
+use Rattle.pungi_diff.specs.Search.{idle_count}
 
 idle_below : (z : ℤ) → z <ℤ pos 0 → idle_one z ≡ 0
 idle_below z h = grind (arith, ints)
@@ -26,7 +29,8 @@ idle_most z = go (lt_z z (pos 0)) refl
 
 idle_length : (gap : List ℤ) → idle_count gap ≤ length gap
 idle_length [] = omega arith
-idle_length (z ∷ gap) = let e = sum_by-cons idle_one z gap in let h = idle_length gap in let m = idle_most z in omega (arith, e, h, m)
+idle_length (z ∷ gap) =
+    let e = sum_by-cons idle_one z gap in let h = idle_length gap in let m = idle_most z in omega (arith, e, h, m)
 
 some_idle : (gap : List ℤ) (u : ℕ) → u < length gap → pos 0 ≤ℤ at gap u → 0 < idle_count gap
 some_idle gap u lt h =
@@ -89,19 +93,23 @@ module _ (gap : List ℤ) (rank fringe : List ℕ) (f : Fringe gap rank fringe) 
           go false e = let k = l.below in let m : pos 0 ≤ℤ at gap u = grind (arith, ints) in omega (arith, ints, k, m)
 
   -- a gap falls below 0
-  pub fringe_grows : (x : ℕ) (next : ℤ) → x < length gap → pos 0 ≤ℤ at gap x → next <ℤ pos 0 → Fringe (slice_set gap x next) rank (fringe ++ x ∷ [])
+  pub fringe_grows : (x : ℕ) (next : ℤ) → x < length gap → pos 0 ≤ℤ at gap x → next <ℤ pos 0
+      → Fringe (slice_set gap x next) rank (fringe ++ x ∷ [])
   fringe_grows x next lt idle below = record {
     within = rw (length-set gap x next) (All-push (λ u. u < length gap) fringe x f.within lt);
     covers = λ u u_lt op h. elim (cases_eq u x) [
       | inl e ↦ rw e (Contains-push fringe x)
-      | inr ne ↦ Contains-append_left fringe (x ∷ []) u (f.covers u (rw (length-set gap x next) at u_lt) op (rw (get_or-set_other gap x u next (pos 0) ne) at h))
+      | inr ne ↦ Contains-append_left fringe (x ∷ []) u (f.covers u (rw (length-set gap x next) at u_lt) op
+          (rw (get_or-set_other gap x u next (pos 0) ne) at h))
     ];
     few = rw (length-set gap x next, length-append fringe (x ∷ []))
-        (let e = sum_by-set idle_one gap x next (pos 0) lt in let a = idle_above (at gap x) idle in let b = idle_below next below in let k = f.few in omega (arith, e, a, b, k));
+        (let e = sum_by-set idle_one gap x next (pos 0) lt in let a = idle_above (at gap x) idle in let b
+        = idle_below next below in let k = f.few in omega (arith, e, a, b, k));
   }
 
   -- a gap falls, and isn't below 0 for the first time
-  fringe_keeps : (x : ℕ) (next : ℤ) → x < length gap → next <ℤ at gap x → (at gap x <ℤ pos 0) ⊎ (pos 0 ≤ℤ next) → Fringe (slice_set gap x next) rank fringe
+  fringe_keeps : (x : ℕ) (next : ℤ) → x < length gap → next <ℤ at gap x → (at gap x <ℤ pos 0) ⊎ (pos 0 ≤ℤ next)
+      → Fringe (slice_set gap x next) rank fringe
   fringe_keeps x next lt less or = record {
     within = rw (length-set gap x next) f.within;
     covers = λ u u_lt op h. elim (cases_eq u x) [
@@ -111,36 +119,46 @@ module _ (gap : List ℤ) (rank fringe : List ℕ) (f : Fringe gap rank fringe) 
     few = rw (length-set gap x next) (fewer or);
   }
     where
-      here : (at gap x <ℤ pos 0) ⊎ (pos 0 ≤ℤ next) → (u : ℕ) → u ≡ x → IsOpen rank u → at (slice_set gap x next) u <ℤ pos 0 → Contains fringe u
+      here : (at gap x <ℤ pos 0) ⊎ (pos 0 ≤ℤ next) → (u : ℕ) → u ≡ x → IsOpen rank u
+          → at (slice_set gap x next) u <ℤ pos 0 → Contains fringe u
       here (inl below) u e op h = f.covers u (rw e lt) op (rw e below)
-      here (inr above) u e op h = let k : next <ℤ pos 0 = rw (e, get_or-set_same gap x next (pos 0) lt) at h in absurd (omega (arith, ints, above, k))
+      here (inr above) u e op h = let k : next <ℤ pos 0 = rw (e, get_or-set_same gap x next (pos 0) lt) at h in
+          absurd (omega (arith, ints, above, k))
 
       fewer : (at gap x <ℤ pos 0) ⊎ (pos 0 ≤ℤ next) → length fringe + idle_count (slice_set gap x next) ≤ length gap
       fewer (inl below) =
-          let e = sum_by-set idle_one gap x next (pos 0) lt in let a = idle_below (at gap x) below in let b = idle_below next (omega (arith, ints, less, below)) in let k = f.few in omega (arith, e, a, b, k)
+          let e = sum_by-set idle_one gap x next (pos 0) lt in let a = idle_below (at gap x) below in let b
+          = idle_below next (omega (arith, ints, less, below)) in let k = f.few in omega (arith, e, a, b, k)
       fewer (inr above) =
-          let e = sum_by-set idle_one gap x next (pos 0) lt in let a = idle_above (at gap x) (omega (arith, ints, less, above)) in let b = idle_most next in let k = f.few in omega (arith, e, a, b, k)
+          let e = sum_by-set idle_one gap x next (pos 0) lt in let a = idle_above (at gap x)
+          (omega (arith, ints, less, above)) in let b = idle_most next in let k = f.few in omega
+          (arith, e, a, b, k)
 
   -- there is room for a node that comes in
   pub fringe_room : (x room : ℕ) → x < length gap → pos 0 ≤ℤ at gap x → length gap ≤ room → length fringe < room
   fringe_room x room lt idle le = let a = some_idle gap x lt idle in let k = f.few in omega (arith, a, k, le)
 
-  pub fringe_lowers : (via via' : List Constraint) (gap' : List ℤ) (k : Constraint) (next : ℤ) → k.x < length gap → Lowers gap via k next gap' via'
+  pub fringe_lowers : (via via' : List Constraint) (gap' : List ℤ) (k : Constraint) (next : ℤ) → k.x < length gap
+      → Lowers gap via k next gap' via'
       → (at gap k.x <ℤ pos 0) ⊎ (pos 0 ≤ℤ at gap' k.x) → Fringe gap' rank fringe
   fringe_lowers via via' gap' k next lt (inl l) or =
       let here : at gap' k.x ≡ next = rw (l.1) (get_or-set_same gap k.x next (pos 0) lt) in
       rw (l.1) (fringe_keeps k.x next lt l.0 (rw here at or))
   fringe_lowers via via' gap' k next lt (inr l) or = rw (l.1) f
 
-  pub fringe_pushed : (via via' : List Constraint) (gap' : List ℤ) (k : Constraint) (next : ℤ) → k.x < length gap → Lowers gap via k next gap' via'
+  pub fringe_pushed : (via via' : List Constraint) (gap' : List ℤ) (k : Constraint) (next : ℤ) → k.x < length gap
+      → Lowers gap via k next gap' via'
       → pos 0 ≤ℤ at gap k.x → at gap' k.x <ℤ pos 0 → Fringe gap' rank (fringe ++ k.x ∷ [])
   fringe_pushed via via' gap' k next lt (inl l) idle below =
       let here : at gap' k.x ≡ next = rw (l.1) (get_or-set_same gap k.x next (pos 0) lt) in
       rw (l.1) (fringe_grows k.x next lt idle (rw here at below))
-  fringe_pushed via via' gap' k next lt (inr l) idle below = let e : at gap k.x <ℤ pos 0 = rw (l.1) at below in absurd (omega (arith, ints, e, idle))
+  fringe_pushed via via' gap' k next lt (inr l) idle below = let e : at gap k.x <ℤ pos 0 = rw (l.1) at below in
+      absurd (omega (arith, ints, e, idle))
 
   -- the node at a place is done and leaves the fringe
-  pub fringe_settled : (place turn : ℕ) (fringe' : List ℕ) → place < length fringe → IsOpen rank (slice_index fringe place) → turn < length rank → slice_index fringe place < length rank → length fringe' + 1 ≡ length fringe
+  pub fringe_settled : (place turn : ℕ) (fringe' : List ℕ) → place < length fringe
+      → IsOpen rank (slice_index fringe place) → turn < length rank → slice_index fringe place < length rank
+      → length fringe' + 1 ≡ length fringe
       → (place + 1 < length fringe → slice_index fringe' place ≡ slice_index fringe (length fringe'))
       → ((p : ℕ) → (p ≡ place → ⊥) → p + 1 < length fringe → slice_index fringe' p ≡ slice_index fringe p)
       → Fringe gap (slice_set rank (slice_index fringe place) turn) fringe'
@@ -151,7 +169,8 @@ module _ (gap : List ℤ) (rank fringe : List ℕ) (f : Fringe gap rank fringe) 
     ]);
     covers = λ u u_lt op' h. elim (cases_eq u (slice_index fringe place)) [
       | inl e ↦ absurd (
-          let r : slice_index (slice_set rank (slice_index fringe place) turn) u ≡ turn = rw e (get_or-set_same rank (slice_index fringe place) turn 0 from_lt) in
+          let r : slice_index (slice_set rank (slice_index fringe place) turn) u
+          ≡ turn = rw e (get_or-set_same rank (slice_index fringe place) turn 0 from_lt) in
           let l = length-set rank (slice_index fringe place) turn in
           omega (arith, op', r, l, turn_lt)
           )

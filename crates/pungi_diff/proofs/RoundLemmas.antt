@@ -1,5 +1,6 @@
 -- Walks along constraints.
-use Rattle.std.proofs.Common.{◌≡◌, ◌∙◌, ℕ, ◌<◌, inl, inr, ℤ, pos, ◌+ℤ◌, ◌≤ℤ◌, ◌<ℤ◌, List, [], ◌∷◌, ◌++◌, length, refl, sym, ap, arith, slice_index_or, slice_index, length-append}
+use Rattle.std.proofs.Common.{◌≡◌, ◌∙◌, ℕ, ◌<◌, inl, inr, ℤ, pos, ◌+ℤ◌, ◌≤ℤ◌, ◌<ℤ◌, List, [], ◌∷◌, ◌++◌, length, refl}
+use Rattle.std.proofs.Common.{sym, ap, arith, slice_index_or, slice_index, length-append}
 use Rattle.std.specs.List.{All, Contains}
 use Rattle.std.proofs.lemmas.Int.{ints}
 use Rattle.std.proofs.lemmas.List.Elements.{All-drop, All-contains, All-push, Contains-append_left, Contains-push}
@@ -26,15 +27,18 @@ walk_sum v u w (k ∷ ks) p h =
     omega (arith, ints, a, e, b)
 
 -- so no round of them has a sum below 0
-pub no_round : (v : ℕ → ℤ) (held : List Constraint) (new : Constraint) → Solves v (held ++ new ∷ []) → (ks : List Constraint) → GoesRound held new ks → ⊥
+pub no_round : (v : ℕ → ℤ) (held : List Constraint) (new : Constraint) → Solves v (held ++ new ∷ [])
+    → (ks : List Constraint) → GoesRound held new ks → ⊥
 no_round v held new h ks g =
-    let all : All (Meets v) ks = λ k d lt. All-contains (Meets v) (held ++ new ∷ []) (slice_index_or ks k d) h (g.among k d lt) in
+    let all : All (Meets v) ks = λ k d lt. All-contains (Meets v) (held ++ new ∷ []) (slice_index_or ks k d) h
+    (g.among k d lt) in
     let s = walk_sum v new.y new.y ks g.round all in
     let b = g.below in
     absurd (omega (arith, ints, s, b))
 
 -- the walk begins at y
-pub walk_starts : (held : List Constraint) (value : List ℤ) (rank : List ℕ) (gap : List ℤ) (new : Constraint) → new.y < length value → at gap new.y <ℤ pos 0 → Walked held value rank gap new [] new.y
+pub walk_starts : (held : List Constraint) (value : List ℤ) (rank : List ℕ) (gap : List ℤ) (new : Constraint)
+    → new.y < length value → at gap new.y <ℤ pos 0 → Walked held value rank gap new [] new.y
 walk_starts held value rank gap new lt b = record {
   path = refl;
   among = λ k d lt'. absurd (omega arith);
@@ -45,8 +49,10 @@ walk_starts held value rank gap new lt b = record {
 }
 
 -- one step of the walk
-pub walk_goes : (held : List Constraint) (value : List ℤ) (rank : List ℕ) (gap : List ℤ) (new : Constraint) (ks : List Constraint) (u : ℕ) (by : Constraint)
-    → length rank ≡ length value → Walked held value rank gap new ks u → HasVia held value rank gap by u → Walked held value rank gap new (ks ++ by ∷ []) by.y
+pub walk_goes : (held : List Constraint) (value : List ℤ) (rank : List ℕ) (gap : List ℤ) (new : Constraint)
+    (ks : List Constraint) (u : ℕ) (by : Constraint)
+    → length rank ≡ length value → Walked held value rank gap new ks u → HasVia held value rank gap by u
+    → Walked held value rank gap new (ks ++ by ∷ []) by.y
 walk_goes held value rank gap new ks u by ranks w h = record {
   path = Path-push new.y u ks by w.path h.to;
   among = All-push (Contains held) ks by w.among h.held_by;
@@ -56,17 +62,24 @@ walk_goes held value rank gap new ks u by ranks w h = record {
   short = inr (
       let a = h.rank_less in
       let b : slice_index rank by.y < length rank = h.comes in
-      rw (length-append ks (by ∷ [])) (elim w.short [ inl z ↦ omega (arith, z, b, ranks) | inr s ↦ omega (arith, s, a) ])
+      rw (length-append ks (by ∷ [])) (elim w.short [
+        | inl z ↦ omega (arith, z, b, ranks)
+        | inr s ↦ omega
+            (arith, s, a)
+      ])
       );
 }
 
 -- the walk ends at x, and the new constraint closes it
-pub walk_ends : (held : List Constraint) (value : List ℤ) (rank : List ℕ) (gap : List ℤ) (via : List Constraint) (new : Constraint) (ks : List Constraint) (u t : ℕ)
-    → Searching held value rank gap via new t → at gap new.y <ℤ pos 0 → Walked held value rank gap new ks u → u ≡ new.x → GoesRound held new (ks ++ new ∷ [])
+pub walk_ends : (held : List Constraint) (value : List ℤ) (rank : List ℕ) (gap : List ℤ) (via : List Constraint)
+    (new : Constraint) (ks : List Constraint) (u t : ℕ)
+    → Searching held value rank gap via new t → at gap new.y <ℤ pos 0 → Walked held value rank gap new ks u
+    → u ≡ new.x → GoesRound held new (ks ++ new ∷ [])
 walk_ends held value rank gap via new ks u t r below w e = record {
   round = Path-push new.y u ks new w.path (sym e);
   among = All-push (Contains (held ++ new ∷ [])) ks new
-      (λ k d lt. Contains-append_left held (new ∷ []) (slice_index_or ks k d) (w.among k d lt)) (Contains-push held new);
+      (λ k d lt. Contains-append_left held (new ∷ []) (slice_index_or ks k d) (w.among k d lt))
+      (Contains-push held new);
   with_new = Contains-push ks new;
   below = (
       let a = w.sum in

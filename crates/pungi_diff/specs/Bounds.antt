@@ -9,7 +9,8 @@
 --   MeetsIf v k result          whether values meet a constraint
 --   Extends held new value ..   the values meet the new constraint too, or the round shows that none do
 --   Moves value values          each value less that of node 0
-use Rattle.std.specs.Prelude.{◌≡◌, ℕ, ◌<◌, ◌≤◌, ℤ, pos, ◌≤ℤ◌, ◌<ℤ◌, List, [], ◌∷◌, ◌++◌, length, Result, Ok, Err, Bool, true, false, ◌+ℤ◌, ◌-ℤ◌}
+use Rattle.std.specs.Prelude.{◌≡◌, ℕ, ◌<◌, ◌≤◌, ℤ, pos, ◌≤ℤ◌, ◌<ℤ◌, List, [], ◌∷◌, ◌++◌, length, Result, Ok, Err, Bool}
+use Rattle.std.specs.Prelude.{true, false, ◌+ℤ◌, ◌-ℤ◌}
 use Rattle.std.specs.List.{All}
 use Rattle.pungi_diff.specs.declared.constraint.Constraint.{Constraint}
 use Rattle.pungi_diff.specs.Constraint.{at, Meets, Solves, InRange, IsStep}
@@ -28,9 +29,11 @@ pub record Kept (held : List Constraint) (value : List ℤ) : Type 0 where
   pub steps : All IsStep held
   pub solves : Solves (at value) held
   pub top : (u : ℕ) → u < length value → at value u ≤ℤ pos 0
-  pub greatest : (s : ℕ → ℤ) → Solves s held → ((u : ℕ) → u < length value → s u ≤ℤ pos 0) → (u : ℕ) → u < length value → s u ≤ℤ at value u
+  pub greatest : (s : ℕ → ℤ) → Solves s held → ((u : ℕ) → u < length value → s u ≤ℤ pos 0) → (u : ℕ)
+      → u < length value → s u ≤ℤ at value u
 
-pub record Roomy (nodes : ℕ) (value gap : List ℤ) (rank : List ℕ) (via : List Constraint) (fringe_room round_room : ℕ) : Type 0 where
+pub record Roomy (nodes : ℕ) (value gap : List ℤ) (rank : List ℕ) (via : List Constraint)
+    (fringe_room round_room : ℕ) : Type 0 where
   pub values : length value ≡ nodes
   pub gaps : length gap ≡ length value
   pub ranks : length rank ≡ length value

@@ -20,7 +20,8 @@ abbrev pub IsLatest : List Constraint → ℕ → ℕ → Option ℕ → Type 0
 IsLatest list y m None = (j : ℕ) → j < m → (nth list j).y ≡ y → ⊥
 IsLatest list y m (Some k) = (k < m) × ((nth list k).y ≡ y) × ((j : ℕ) → k < j → j < m → (nth list j).y ≡ y → ⊥)
 
-pub record Linked (room : ℕ) (list : List Constraint) (list_room : ℕ) (latest earlier : List (Option ℕ)) (earlier_room : ℕ) : Type 0 where
+pub record Linked (room : ℕ) (list : List Constraint) (list_room : ℕ) (latest earlier : List (Option ℕ))
+    (earlier_room : ℕ) : Type 0 where
   pub few : room ≤ 65536
   pub holds : length list ≤ room
   pub list_fits : room ≤ list_room

@@ -2,7 +2,8 @@
 --   Path u ks w              the constraints lead from u to w, each from where the one before it ended
 --   total ks                 the sum of their bounds
 --   GoesRound held new ks    the new one, alone or with some held, goes round with a sum below 0
---   Walked held .. ks u      the constraints that a search wrote, walked from the y of the new one as far as a node that is lowered
+--   Walked held .. ks u      the constraints that a search wrote, walked from the y of the new one as far as a node
+--                            that is lowered
 use Rattle.std.specs.Prelude.{◌≡◌, ◌⊎◌, ◌+◌, ◌<◌, ◌≤◌, length, slice_index, ℕ, ℤ, pos, ◌+ℤ◌, ◌<ℤ◌, List, [], ◌∷◌, ◌++◌}
 use Rattle.pungi_diff.specs.Constraint.{at}
 use Rattle.pungi_diff.specs.Search.{lowered}
@@ -23,7 +24,8 @@ pub record GoesRound (held : List Constraint) (new : Constraint) (ks : List Cons
   pub with_new : Contains ks new
   pub below : total ks <ℤ pos 0
 
-pub record Walked (held : List Constraint) (value : List ℤ) (rank : List ℕ) (gap : List ℤ) (new : Constraint) (ks : List Constraint) (u : ℕ) : Type 0 where
+pub record Walked (held : List Constraint) (value : List ℤ) (rank : List ℕ) (gap : List ℤ) (new : Constraint)
+    (ks : List Constraint) (u : ℕ) : Type 0 where
   pub path : Path new.y ks u
   pub among : All (Contains held) ks
   pub sum : lowered value gap new.y ≡ lowered value gap u +ℤ total ks

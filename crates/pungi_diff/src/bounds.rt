@@ -1,4 +1,5 @@
-ghost use Rattle.std.specs.Prelude.{◌≡◌, ℕ, ◌+◌, ◌<◌, ◌≤◌, ◌^◌, ℤ, pos, neg_ℤ, ◌≤ℤ◌, length, [], IfOk, vec_capacity, replicate};
+ghost use Rattle.std.specs.Prelude.{◌≡◌, ℕ, ◌+◌, ◌<◌, ◌≤◌, ◌^◌, ℤ, pos, neg_ℤ, ◌≤ℤ◌, length, [], IfOk, vec_capacity};
+ghost use Rattle.std.specs.Prelude.{replicate};
 ghost use Rattle.pungi_diff.specs.Bounds.{Adds, Extends, Kept, MeetsIf, Moves, Solution};
 ghost use Rattle.pungi_diff.specs.Constraint.{at, IsSmall, IsStep};
 
@@ -29,9 +30,16 @@ impl Model for Bounds {
 
     ghost Value = { State };
 
-    ghost view = { λ b. record { nodes = b.held.nodes; room = b.held.room; held = b.held.list; cycle = b.round.items } };
+    ghost view = { λ b. record {
+      nodes = b.held.nodes;
+      room = b.held.room;
+      held = b.held.list;
+      cycle = b.round.items;
+    } };
 
-    ghost invariant = { λ b. Kept b.held.list b.value.items × Roomy b.held.nodes b.value.items b.gap.items b.rank.items b.via.items (vec_capacity b.fringe) (vec_capacity b.round) };
+    ghost invariant = { λ b. Kept b.held.list b.value.items
+        × Roomy b.held.nodes b.value.items b.gap.items b.rank.items b.via.items (vec_capacity b.fringe)
+        (vec_capacity b.round) };
 }
 
 fn is_met(value: &[i128], new: &Constraint) -> bool

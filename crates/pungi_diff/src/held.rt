@@ -26,7 +26,8 @@ impl Model for Held {
 
     ghost view = { λ h. record { nodes = length h.latest.items; room = h.room; list = h.constraints.items } };
 
-    ghost invariant = { λ h. Linked h.room h.constraints.items (vec_capacity h.constraints) h.latest.items h.earlier.items (vec_capacity h.earlier) };
+    ghost invariant = { λ h. Linked h.room h.constraints.items (vec_capacity h.constraints) h.latest.items
+        h.earlier.items (vec_capacity h.earlier) };
 }
 
 impl Held {

@@ -1,8 +1,10 @@
 //! The least lowering of values that meets one more constraint, by Dijkstra's algorithm: a lowered node lowers others
 //! through the constraints on it, the node that falls most first.
-ghost use Rattle.std.specs.Prelude.{◌≡◌, ℕ, ◌+◌, ◌<◌, ◌≤◌, ◌^◌, ℤ, pos, ◌+ℤ◌, ◌-ℤ◌, ◌≤ℤ◌, neg_ℤ, [], ◌∷◌, length, slice_index, slice_set, All, MatchOption, vec_capacity};
+ghost use Rattle.std.specs.Prelude.{◌≡◌, ℕ, ◌+◌, ◌<◌, ◌≤◌, ◌^◌, ℤ, pos, ◌+ℤ◌, ◌-ℤ◌, ◌≤ℤ◌, neg_ℤ, [], ◌∷◌, length};
+ghost use Rattle.std.specs.Prelude.{slice_index, slice_set, All, MatchOption, vec_capacity};
 ghost use Rattle.pungi_diff.specs.Constraint.{at, InRange, IsSmall, IsStep, Small, Solves};
-ghost use Rattle.pungi_diff.specs.Search.{Ends, Fringe, IsDone, IsLeastIn, Lowers, NoneIn, Reaches, Relaxes, Searching, lowered, want};
+ghost use Rattle.pungi_diff.specs.Search.{Ends, Fringe, IsDone, IsLeastIn, Lowers, NoneIn, Reaches, Relaxes, Searching};
+ghost use Rattle.pungi_diff.specs.Search.{lowered, want};
 
 use crate::Constraint;
 use crate::held::Held;
@@ -39,7 +41,8 @@ fn want(value: &[i128], gap: &[i128], from: usize, k: &Constraint) -> i128
 
 /// Lowers the gap of the constraint's node x, where that is more than what is wanted.
 fn lower(value: &[i128], gap: &mut [i128], via: &mut [Constraint], from: usize, k: &Constraint)
-    requires within { (from < length value.now) × (from < length gap.old) × (k.now.x < length value.now) × (k.now.x < length gap.old) × (k.now.x < length via.old) }
+    requires within { (from < length value.now) × (from < length gap.old) × (k.now.x < length value.now)
+        × (k.now.x < length gap.old) × (k.now.x < length via.old) }
     requires value { IsSmall (at value.now from) }
     requires gap { (at gap.old from ≤ℤ pos 0) × (neg_ℤ (pos (2 ^ 84)) ≤ℤ at gap.old from) }
     requires c { IsStep k.now }
@@ -65,7 +68,8 @@ fn reach(
     from: usize,
     k: &Constraint,
 )
-    requires within { (from < length value.now) × (from < length gap.old) × (k.now.x < length value.now) × (k.now.x < length gap.old) × (k.now.x < length via.old) }
+    requires within { (from < length value.now) × (from < length gap.old) × (k.now.x < length value.now)
+        × (k.now.x < length gap.old) × (k.now.x < length via.old) }
     requires value { IsSmall (at value.now from) }
     requires gap { (at gap.old from ≤ℤ pos 0) × (neg_ℤ (pos (2 ^ 84)) ≤ℤ at gap.old from) }
     requires c { IsStep k.now }
@@ -144,7 +148,8 @@ fn settle(
     requires fringe { Fringe gap.old rank.old fringe.old.items }
     requires room { length value.now ≤ vec_capacity fringe.old }
     ensures rank { rank.new ≡ slice_set rank.old (slice_index fringe.old.items place) turn }
-    ensures relaxes { Relaxes held.now.list value.now rank.new gap.old via.old gap.new via.new (slice_index fringe.old.items place) }
+    ensures relaxes { Relaxes held.now.list value.now rank.new gap.old via.old gap.new via.new
+        (slice_index fringe.old.items place) }
     ensures small { Small value.now gap.new held.now.list }
     ensures fringe { Fringe gap.new rank.new fringe.new.items }
     ensures room { vec_capacity fringe.new ≡ vec_capacity fringe.old }
@@ -233,7 +238,8 @@ pub fn begin(
 /// The values, each lowered by its gap.
 pub fn apply(value: &mut [i128], gap: &[i128])
     requires gaps { length gap.now ≡ length value.old }
-    requires small { (u : ℕ) → u < length value.old → IsSmall (at value.old u) × (at gap.now u ≤ℤ pos 0) × (neg_ℤ (pos (2 ^ 84)) ≤ℤ at gap.now u) }
+    requires small { (u : ℕ) → u < length value.old
+        → IsSmall (at value.old u) × (at gap.now u ≤ℤ pos 0) × (neg_ℤ (pos (2 ^ 84)) ≤ℤ at gap.now u) }
     ensures { (u : ℕ) → u < length value.new → at value.new u ≡ lowered value.old gap.now u }
 {
     for (i, v) in value.iter_mut().enumerate() {

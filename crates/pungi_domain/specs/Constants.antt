@@ -1,5 +1,6 @@
 -- What the functions over lists of constants answer, where cs are the constants known of the coordinates.
---   IsSettled e cs i        what an equation makes of coordinate i is known: its coefficient is 0, or its constant is known
+--   IsSettled e cs i        what an equation makes of coordinate i is known: its coefficient is 0, or its constant is
+--                           known
 --   IsOpen e cs i           it is not known
 --   IsOnlyOpen e cs n o     of the first n coordinates all are settled, but for the one in o
 --   IsUnsettled e cs u      where the equation is open
@@ -8,13 +9,16 @@
 --   AllKnown cs row n       the first n sources of the row have a known constant
 --   IsRowConstant cs row c  all sources have one, and c is what the row makes of them
 --   IsRelated cs l row c    c is so for the row, and it is 0 or row l makes 1
---   IsImageConstant cs rows i o  the leading coordinate of an image is once itself, another one's constant is so related
+--   IsImageConstant cs rows i o  the leading coordinate of an image is once itself, another one's constant is so
+--                                related
 --   AreImages cs rows o     this holds of each coordinate of an image
---   IsJoinedAt old from i new changed   whether the constant of a coordinate was dropped, since the others don't have it
+--   IsJoinedAt old from i new changed   whether the constant of a coordinate was dropped, since the others don't have
+--                                       it
 --   AreJoinedBelow old from n new changed   for the first n coordinates the new constants are those on which both agree
 --   AreJoined old from new changed      for all coordinates
 --   Tells cs e p c          coordinate p alone is open, and the equation gives it the constant c
-use Rattle.std.specs.Prelude.{◌≡◌, ◌⊎◌, ℕ, ◌<◌, ◌^◌, ℤ, pos, ◌+ℤ◌, ◌*ℤ◌, List, [], length, Option, None, Some, IsSome, Bool, true, false, is_none, count_by, slice_set}
+use Rattle.std.specs.Prelude.{◌≡◌, ◌⊎◌, ℕ, ◌<◌, ◌^◌, ℤ, pos, ◌+ℤ◌, ◌*ℤ◌, List, [], length, Option, None, Some, IsSome}
+use Rattle.std.specs.Prelude.{Bool, true, false, is_none, count_by, slice_set}
 use Rattle.std.specs.List.{slice_index_or}
 use Rattle.pungi_domain.specs.Vectors.{at, IsWithin, row_sum, dot}
 use Rattle.pungi_domain.specs.Flat.{constant_at, value_at}
@@ -60,14 +64,16 @@ row_at rows i = slice_index_or rows i []
 
 abbrev pub IsImageConstant : List (Option ℤ) → List (List (ℕ × ℤ)) → ℕ → Option ℤ → Type 0
 IsImageConstant cs rows i None = 0 < i
-IsImageConstant cs rows i (Some c) = ((i ≡ 0) × (c ≡ pos 1)) ⊎ ((0 < i) × IsRelated cs (row_at rows 0) (row_at rows i) c)
+IsImageConstant cs rows i (Some c) =
+    ((i ≡ 0) × (c ≡ pos 1)) ⊎ ((0 < i) × IsRelated cs (row_at rows 0) (row_at rows i) c)
 
 pub record AreImages (cs : List (Option ℤ)) (rows : List (List (ℕ × ℤ))) (images : List (Option ℤ)) : Type 0 where
   pub lengths : length images ≡ length rows
   pub each : (i : ℕ) → i < length rows → IsImageConstant cs rows i (constant_at images i)
 
 abbrev pub IsJoinedAt : List (Option ℤ) → List (Option ℤ) → ℕ → List (Option ℤ) → Bool → Type 0
-IsJoinedAt old from i new true = (new ≡ slice_set old i None) × IsSome (constant_at old i) × (constant_at old i ≡ constant_at from i → ⊥)
+IsJoinedAt old from i new true =
+    (new ≡ slice_set old i None) × IsSome (constant_at old i) × (constant_at old i ≡ constant_at from i → ⊥)
 IsJoinedAt old from i new false = (new ≡ old) × ((constant_at old i ≡ None) ⊎ (constant_at old i ≡ constant_at from i))
 
 pub record AreJoinedBelow (old from : List (Option ℤ)) (n : ℕ) (new : List (Option ℤ)) (changed : Bool) : Type 0 where

@@ -1,6 +1,6 @@
 -- What the clauses of a domain say.
---   RangeIs least Large result   from a domain of least values the fault Range comes exactly where the call is large, and
---                                with such a row; from another one it never comes. Memory may run out at any time.
+--   RangeIs least Large result   from a domain of least values the fault Range comes exactly where the call is large,
+--                                and with such a row; from another one it never comes. Memory may run out at any time.
 use Rattle.std.specs.Prelude.{ℤ, Bool, true, false, List, Result, Ok, Err}
 use Rattle.pungi_domain.specs.declared.domain_fault.DomainFault.{DomainFault}
 use Rattle.pungi_domain.specs.declared.domain_fault.DomainFault.TheVariants.{Range, Memory}

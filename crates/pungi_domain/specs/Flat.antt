@@ -1,6 +1,6 @@
 -- The domain of constants: what a value knows is which coordinates are a constant multiple of the leading one.
---   FlatState           the width, and for each coordinate its constant, if one is known; None where only the vector 0 is
---                       described
+--   FlatState           the width, and for each coordinate its constant, if one is known; None where only the vector 0
+--                       is described
 --   constant_at cs i    the constant of a coordinate, if one is known
 --   or_zero o           the constant, or 0
 --   value_at cs         the vector with leading coordinate 1 that has the known constants, and 0 elsewhere
@@ -8,12 +8,14 @@
 --   MeetsConstants w cs v  each coordinate of v whose constant is known is that multiple of the leading one
 --   MeetsAll w o v      v is the vector 0 where only it is described, else it meets the constants
 --   FlatMember s v      v is described by s
---   rank_of o, flat_rank s   0 where only the vector 0 is described, else one more than how many coordinates have no constant
+--   rank_of o, flat_rank s   0 where only the vector 0 is described, else one more than how many coordinates have no
+--                            constant
 --   IsSmall o           the constant, if one is known, lies within 2^31
 --   IsFlat w o          these are constants of w coordinates, if any vector but 0 is described
---   AreConstants w cs   there are w coordinates, at most 256; each constant lies within 2^31, and the leading coordinate is
---                       once itself
-use Rattle.std.specs.Prelude.{◌≡◌, ℕ, ◌+◌, ◌<◌, ◌≤◌, ◌^◌, ℤ, pos, ◌*ℤ◌, List, length, Option, None, Some, is_none, count_by}
+--   AreConstants w cs   there are w coordinates, at most 256; each constant lies within 2^31, and the leading
+--                       coordinate is once itself
+use Rattle.std.specs.Prelude.{◌≡◌, ℕ, ◌+◌, ◌<◌, ◌≤◌, ◌^◌, ℤ, pos, ◌*ℤ◌, List, length, Option, None, Some, is_none}
+use Rattle.std.specs.Prelude.{count_by}
 use Rattle.std.specs.List.{slice_index_or}
 use Rattle.pungi_domain.specs.Vectors.{Vector, IsWithin}
 

@@ -16,7 +16,8 @@ constant_zero : (o : Option ℤ) → IsConstant o (pos 0) (pos 0)
 constant_zero None = tt
 constant_zero (Some c) = sym (mul_zero c)
 
-constant_sum : (o : Option ℤ) (a b l m x y : ℤ) → IsConstant o l x → IsConstant o m y → IsConstant o ((a *ℤ l) +ℤ (b *ℤ m)) ((a *ℤ x) +ℤ (b *ℤ y))
+constant_sum : (o : Option ℤ) (a b l m x y : ℤ) → IsConstant o l x → IsConstant o m y
+    → IsConstant o ((a *ℤ l) +ℤ (b *ℤ m)) ((a *ℤ x) +ℤ (b *ℤ y))
 constant_sum None a b l m x y h k = h
 constant_sum (Some c) a b l m x y h k =
     let e : a *ℤ x ≡ c *ℤ (a *ℤ l) = ap (λ z. a *ℤ z) h ∙ mul_swap a c l in
@@ -31,10 +32,12 @@ flat_zero s = go s.constants
     go None = λ i lt. refl
     go (Some cs) = λ i lt. constant_zero (constant_at cs i)
 
-pub flat_sum : (s : FlatState) (a b : ℤ) (u v : Vector) → FlatMember s u → FlatMember s v → FlatMember s (λ i. (a *ℤ u i) +ℤ (b *ℤ v i))
+pub flat_sum : (s : FlatState) (a b : ℤ) (u v : Vector) → FlatMember s u → FlatMember s v
+    → FlatMember s (λ i. (a *ℤ u i) +ℤ (b *ℤ v i))
 flat_sum s a b u v = go s.constants
   where
-    go : (o : Option (List (Option ℤ))) → MeetsAll s.width o u → MeetsAll s.width o v → MeetsAll s.width o (λ i. (a *ℤ u i) +ℤ (b *ℤ v i))
+    go : (o : Option (List (Option ℤ))) → MeetsAll s.width o u → MeetsAll s.width o v
+        → MeetsAll s.width o (λ i. (a *ℤ u i) +ℤ (b *ℤ v i))
     go None p q = λ i lt.
         let e : a *ℤ u i ≡ pos 0 = ap (λ z. a *ℤ z) (p i lt) ∙ mul_zero a in
         let f : b *ℤ v i ≡ pos 0 = ap (λ z. b *ℤ z) (q i lt) ∙ mul_zero b in
@@ -46,4 +49,5 @@ flat_same s u v e = go s.constants
   where
     go : (o : Option (List (Option ℤ))) → MeetsAll s.width o u → MeetsAll s.width o v
     go None p = λ i lt. e i lt ∙ p i lt
-    go (Some cs) p = λ i lt. constant_same (constant_at cs i) (u 0) (v 0) (u i) (v i) (e 0 (omega (arith, lt))) (e i lt) (p i lt)
+    go (Some cs) p = λ i lt. constant_same (constant_at cs i) (u 0) (v 0) (u i) (v i) (e 0 (omega (arith, lt)))
+        (e i lt) (p i lt)

@@ -30,7 +30,8 @@ width_to p (Exit k) = slice_index_or p.exits k 0
 abbrev pub FitsAction : ℕ → ℕ → Action → Type 0
 FitsAction w z (Map m) = (length m.rows ≡ z) × IsMatrix w m.rows
 FitsAction w z (Free c) = (z ≡ w) × (0 < c) × (c < w)
-FitsAction w z (Call callee class onto) = (w ≤ z) × (length onto ≡ z - w) × ((i : ℕ) → i < z - w → slice_index_or onto i 0 ≡ w + i)
+FitsAction w z (Call callee class onto) =
+    (w ≤ z) × (length onto ≡ z - w) × ((i : ℕ) → i < z - w → slice_index_or onto i 0 ≡ w + i)
 
 pub record FitsEdge (p : AffineProgram) (e : AffineEdge) : Type 0 where
   pub from : e.from < length p.widths

@@ -21,7 +21,8 @@
 --   LargeFree w c S r   adding that vector is
 --   LargeMeet w e S r   the span of those vectors of S that meet e is
 --   Never r             nothing is
-use Rattle.std.specs.Prelude.{◌≡◌, ◌⊎◌, ℕ, ◌<◌, ◌^◌, ◌==◌, ℤ, pos, neg_ℤ, ◌+ℤ◌, ◌*ℤ◌, ◌≤ℤ◌, ◌<ℤ◌, List, [], ◌∷◌, length, map, cond}
+use Rattle.std.specs.Prelude.{◌≡◌, ◌⊎◌, ℕ, ◌<◌, ◌^◌, ◌==◌, ℤ, pos, neg_ℤ, ◌+ℤ◌, ◌*ℤ◌, ◌≤ℤ◌, ◌<ℤ◌, List, [], ◌∷◌, length}
+use Rattle.std.specs.Prelude.{map, cond}
 use Rattle.std.specs.List.{slice_index_or}
 use Rattle.pungi_domain.specs.Vectors.{Vector, Vectors, at, image, Meeting}
 
@@ -111,7 +112,9 @@ abbrev pub LargeGrow : ℕ → Vectors → Vectors → List ℤ → Type 0
 LargeGrow w S T r = (rows : List Vector) × AreScaledRows w T rows × LargeSums w S rows r
 
 abbrev pub LargeMap : ℕ → List (List (ℕ × ℤ)) → Vectors → List ℤ → Type 0
-LargeMap w matrix S r = (rows : List Vector) × AreScaledRows w S rows × LargeSums (length matrix) (Zero (length matrix)) (map (image matrix) rows) r
+LargeMap w matrix S r =
+    (rows : List Vector) × AreScaledRows w S rows
+    × LargeSums (length matrix) (Zero (length matrix)) (map (image matrix) rows) r
 
 abbrev pub unit : ℕ → Vector
 unit c i = cond (i == c) (pos 1) (pos 0)

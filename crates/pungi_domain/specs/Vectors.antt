@@ -65,4 +65,5 @@ abbrev pub Either : Vectors → Vectors → Vectors
 Either S T v = S v ⊎ T v
 
 abbrev pub Follows : ℕ → Vectors → Vectors → Type 0
-Follows w S T = (e : List ℤ) → length e ≡ w → ((v : Vector) → S v → dot e v ≡ pos 0) → (u : Vector) → T u → dot e u ≡ pos 0
+Follows w S T =
+    (e : List ℤ) → length e ≡ w → ((v : Vector) → S v → dot e v ≡ pos 0) → (u : Vector) → T u → dot e u ≡ pos 0

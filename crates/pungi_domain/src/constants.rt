@@ -1,9 +1,11 @@
 //! Lists of known constants, one a coordinate.
-ghost use Rattle.std.specs.Prelude.{◌≡◌, ◌⊎◌, ℕ, ◌+◌, ◌<◌, ◌≤◌, ◌^◌, ℤ, pos, ◌+ℤ◌, ◌*ℤ◌, true, false, length, IfOk, IfSome, None, Some, IsSome, count_by, is_none};
+ghost use Rattle.std.specs.Prelude.{◌≡◌, ◌⊎◌, ℕ, ◌+◌, ◌<◌, ◌≤◌, ◌^◌, ℤ, pos, ◌+ℤ◌, ◌*ℤ◌, true, false, length, IfOk};
+ghost use Rattle.std.specs.Prelude.{IfSome, None, Some, IsSome, count_by, is_none};
 ghost use Rattle.pungi_domain.specs.Vectors.{Vector, image, at, IsWithin, dot, row_sum, IsMatrix};
 ghost use Rattle.std.specs.List.{All};
 ghost use Rattle.pungi_domain.specs.Flat.{MeetsConstants, constant_at, value_at, IsSmall, AreConstants};
-ghost use Rattle.pungi_domain.specs.Constants.{IsUnsettled, Tells, IsSettled, IsOpen, IsRowTerm, IsRowConstant, IsRelated, IsImageConstant, AreImages, IsJoinedAt, AreJoined};
+ghost use Rattle.pungi_domain.specs.Constants.{IsUnsettled, Tells, IsSettled, IsOpen, IsRowTerm, IsRowConstant};
+ghost use Rattle.pungi_domain.specs.Constants.{IsRelated, IsImageConstant, AreImages, IsJoinedAt, AreJoined};
 
 use crate::DomainFault;
 use pungi_base::{Memory, Seq};
@@ -27,7 +29,8 @@ pub(crate) fn all_free(alloc: Global, width: u32) -> Result<Seq<Option<i64>>, Me
 /// Each coordinate but the leading one is 0.
 pub(crate) fn all_zero(alloc: Global, width: u32) -> Result<Seq<Option<i64>>, Memory>
     requires { width ≤ 256 }
-    ensures { IfOk result (λ cs. AreConstants width cs × ((i : ℕ) → 0 < i → i < width → constant_at cs i ≡ Some (pos 0))) }
+    ensures { IfOk result (λ cs. AreConstants width cs
+        × ((i : ℕ) → 0 < i → i < width → constant_at cs i ≡ Some (pos 0))) }
 {
     let mut constants = vec![in alloc; Some(0); width as usize]?;
     if width > 0 {
@@ -178,7 +181,8 @@ pub(crate) fn meet_constants(
     requires constants { AreConstants (length constants.now) constants.now }
     requires width { length coefficients.now ≡ length constants.now }
     ensures constants { IfOk result (AreConstants (length constants.now)) }
-    ensures members { IfOk result (λ new. (v : Vector) → MeetsConstants (length constants.now) constants.now v → dot coefficients.now v ≡ pos 0 → MeetsConstants (length constants.now) new v) }
+    ensures members { IfOk result (λ new. (v : Vector) → MeetsConstants (length constants.now) constants.now v
+        → dot coefficients.now v ≡ pos 0 → MeetsConstants (length constants.now) new v) }
 {
     let mut met = constants.copy(alloc)?;
     let Some(told) = tell(constants.as_slice(), coefficients) else {
@@ -205,8 +209,10 @@ fn meets_constants(constants: &[Option<i64>], coefficients: &[i64]) -> bool
 pub(crate) fn constants_hold(constants: &[Option<i64>], coefficients: &[i64]) -> bool
     requires constants { AreConstants (length constants.now) constants.now }
     requires width { length coefficients.now ≡ length constants.now }
-    ensures yes { result ≡ true → (v : Vector) → MeetsConstants (length constants.now) constants.now v → dot coefficients.now v ≡ pos 0 }
-    ensures no { result ≡ false → (v : Vector) × MeetsConstants (length constants.now) constants.now v × (dot coefficients.now v ≡ pos 0 → ⊥) }
+    ensures yes { result ≡ true → (v : Vector) → MeetsConstants (length constants.now) constants.now v
+        → dot coefficients.now v ≡ pos 0 }
+    ensures no { result ≡ false → (v : Vector) × MeetsConstants (length constants.now) constants.now v
+        × (dot coefficients.now v ≡ pos 0 → ⊥) }
 {
     match find_unsettled(constants, coefficients) {
         Unsettled::Nowhere => meets_constants(constants, coefficients),
@@ -288,7 +294,8 @@ pub(crate) fn image_constants(
     requires within { All (λ row. All (λ p. p.0 < length constants.now) row) rows.now }
     requires small { (i : ℕ) → i < length constants.now → IsSmall (constant_at constants.now i) }
     ensures constants { IfOk result (AreConstants (length rows.now)) }
-    ensures members { IfOk result (λ images. (v : Vector) → MeetsConstants (length constants.now) constants.now v → MeetsConstants (length rows.now) images (image rows.now v)) }
+    ensures members { IfOk result (λ images. (v : Vector) → MeetsConstants (length constants.now) constants.now v
+        → MeetsConstants (length rows.now) images (image rows.now v)) }
 {
     let mut images = Vec::with_capacity(alloc, rows.len())?;
     for i in 0..rows.len() {
@@ -325,8 +332,10 @@ fn join_at(constants: &mut Seq<Option<i64>>, others: &[Option<i64>], i: usize) -
 pub(crate) fn join(constants: &mut Seq<Option<i64>>, others: &[Option<i64>]) -> bool
     requires { length others.now ≡ length constants.old }
     ensures joined { AreJoined constants.old others.now constants.new result }
-    ensures kept { (v : Vector) → MeetsConstants (length constants.old) constants.old v → MeetsConstants (length constants.old) constants.new v }
-    ensures taken { (v : Vector) → MeetsConstants (length constants.old) others.now v → MeetsConstants (length constants.old) constants.new v }
+    ensures kept { (v : Vector) → MeetsConstants (length constants.old) constants.old v
+        → MeetsConstants (length constants.old) constants.new v }
+    ensures taken { (v : Vector) → MeetsConstants (length constants.old) others.now v
+        → MeetsConstants (length constants.old) constants.new v }
 {
     let mut changed = false;
     for i in 0..others.len() {

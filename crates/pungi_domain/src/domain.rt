@@ -1,5 +1,7 @@
-ghost use Rattle.std.specs.Prelude.{◌≡◌, ℕ, ◌+◌, ◌<◌, ◌≤◌, ℤ, pos, ◌+ℤ◌, ◌*ℤ◌, length, Bool, true, false, IfOk, OnOk, OnErr};
-ghost use Rattle.pungi_domain.specs.Vectors.{Vector, dot, image, IsEquation, IsMatrix, Image, Freed, Meeting, Either, Follows};
+ghost use Rattle.std.specs.Prelude.{◌≡◌, ℕ, ◌+◌, ◌<◌, ◌≤◌, ℤ, pos, ◌+ℤ◌, ◌*ℤ◌, length, Bool, true, false, IfOk, OnOk};
+ghost use Rattle.std.specs.Prelude.{OnErr};
+ghost use Rattle.pungi_domain.specs.Vectors.{Vector, dot, image, IsEquation, IsMatrix, Image, Freed, Meeting, Either};
+ghost use Rattle.pungi_domain.specs.Vectors.{Follows};
 ghost use Rattle.pungi_domain.specs.Spans.{Zero, LargeGrow, LargeMap, LargeFree, LargeMeet, Never};
 ghost use Rattle.pungi_domain.specs.Domain.{RangeIs};
 
@@ -52,7 +54,8 @@ pub trait Domain: Sized + Drop {
         ensures unchanged { result ≡ Ok false → self.new ≡ self.old }
         ensures rose { result ≡ Ok true → rank self.old < rank self.new }
         ensures bounded { rank self.new ≤ width_of self.new + 1 }
-        ensures least { least ≡ true → OnOk result (Follows (width_of self.old) (Either (member self.old) (member from.now)) (member self.new)) }
+        ensures least { least ≡ true → OnOk result (Follows (width_of self.old)
+            (Either (member self.old) (member from.now)) (member self.new)) }
         ensures range { RangeIs least (LargeGrow (width_of self.old) (member self.old) (member from.now)) result }
         ensures err { OnErr result (self.new ≡ self.old) };
 
@@ -62,7 +65,8 @@ pub trait Domain: Sized + Drop {
         requires narrow { length matrix.now.rows ≤ 256 }
         ensures width { IfOk result (λ s. width_of s ≡ length matrix.now.rows) }
         ensures members { IfOk result (λ s. (v : Vector) → member self.now v → member s (image matrix.now.rows v)) }
-        ensures least { least ≡ true → IfOk result (λ s. Follows (length matrix.now.rows) (Image matrix.now.rows (member self.now)) (member s)) }
+        ensures least { least ≡ true → IfOk result (λ s. Follows (length matrix.now.rows)
+            (Image matrix.now.rows (member self.now)) (member s)) }
         ensures range { RangeIs least (LargeMap (width_of self.now) matrix.now.rows (member self.now)) result };
 
     /// Describes the members with any number at a coordinate.
@@ -71,22 +75,27 @@ pub trait Domain: Sized + Drop {
         requires within { coordinate < width_of self.now }
         ensures width { IfOk result (λ s. width_of s ≡ width_of self.now) }
         ensures members { IfOk result (λ s. (v : Vector) → Freed coordinate (member self.now) v → member s v) }
-        ensures least { least ≡ true → IfOk result (λ s. Follows (width_of self.now) (Freed coordinate (member self.now)) (member s)) }
+        ensures least { least ≡ true → IfOk result (λ s. Follows (width_of self.now)
+            (Freed coordinate (member self.now)) (member s)) }
         ensures range { RangeIs least (LargeFree (width_of self.now) coordinate (member self.now)) result };
 
     /// Describes the members that meet an equation.
     fn meet(&self, alloc: Global, equation: &Equation) -> Result<Self, DomainFault>
         requires { IsEquation (width_of self.now) equation.now.coefficients }
         ensures width { IfOk result (λ s. width_of s ≡ width_of self.now) }
-        ensures members { IfOk result (λ s. (v : Vector) → Meeting equation.now.coefficients (member self.now) v → member s v) }
-        ensures least { least ≡ true → IfOk result (λ s. Follows (width_of self.now) (Meeting equation.now.coefficients (member self.now)) (member s)) }
-        ensures range { RangeIs least (LargeMeet (width_of self.now) equation.now.coefficients (member self.now)) result };
+        ensures members { IfOk result (λ s. (v : Vector) → Meeting equation.now.coefficients (member self.now) v
+            → member s v) }
+        ensures least { least ≡ true → IfOk result (λ s. Follows (width_of self.now)
+            (Meeting equation.now.coefficients (member self.now)) (member s)) }
+        ensures range { RangeIs least (LargeMeet (width_of self.now) equation.now.coefficients (member self.now))
+            result };
 
     /// Whether all members are known to meet an equation.
     fn holds(&self, equation: &Equation) -> bool
         requires { IsEquation (width_of self.now) equation.now.coefficients }
         ensures members { result ≡ true → (v : Vector) → member self.now v → dot equation.now.coefficients v ≡ pos 0 }
-        ensures least { least ≡ true → result ≡ false → (v : Vector) × member self.now v × (dot equation.now.coefficients v ≡ pos 0 → ⊥) };
+        ensures least { least ≡ true → result ≡ false
+            → (v : Vector) × member self.now v × (dot equation.now.coefficients v ≡ pos 0 → ⊥) };
 
     /// Only the coordinates below the width count.
     ghost same: { (s : Self) (u v : ℕ → ℤ) → ((i : ℕ) → i < width_of s → v i ≡ u i) → member s u → member s v };
@@ -95,7 +104,8 @@ pub trait Domain: Sized + Drop {
     ghost zero: { (s : Self) → member s (λ _. pos 0) };
 
     /// Members are closed under sums and whole multiples.
-    ghost sum: { (s : Self) (a b : ℤ) (u v : ℕ → ℤ) → member s u → member s v → member s (λ i. (a *ℤ u i) +ℤ (b *ℤ v i)) };
+    ghost sum: { (s : Self) (a b : ℤ) (u v : ℕ → ℤ) → member s u → member s v
+        → member s (λ i. (a *ℤ u i) +ℤ (b *ℤ v i)) };
 }
 
 /// A domain of least values.

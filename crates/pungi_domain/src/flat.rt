@@ -1,4 +1,5 @@
-ghost use Rattle.std.specs.Prelude.{◌≡◌, ℕ, ◌+◌, ◌<◌, ◌≤◌, ℤ, pos, ◌+ℤ◌, ◌*ℤ◌, length, Bool, true, false, IfOk, OnOk, OnErr};
+ghost use Rattle.std.specs.Prelude.{◌≡◌, ℕ, ◌+◌, ◌<◌, ◌≤◌, ℤ, pos, ◌+ℤ◌, ◌*ℤ◌, length, Bool, true, false, IfOk, OnOk};
+ghost use Rattle.std.specs.Prelude.{OnErr};
 ghost use Rattle.std.specs.Prelude.{Some, None};
 ghost use Rattle.pungi_domain.specs.Flat.{FlatMember, flat_rank, AreConstants};
 ghost use Rattle.pungi_domain.specs.Vectors.{Vector, dot, IsEquation};
@@ -124,9 +125,12 @@ impl Domain for Flat {
 
     fn holds(&self, equation: &Equation) -> bool
         requires { IsEquation self.now.width equation.now.coefficients }
-        ensures members { result ≡ true → (v : Vector) → FlatMember self.now v → dot equation.now.coefficients v ≡ pos 0 }
-        ensures least { false ≡ true → result ≡ false → (v : Vector) × FlatMember self.now v × (dot equation.now.coefficients v ≡ pos 0 → ⊥) }
-        ensures only { result ≡ false → (v : Vector) × FlatMember self.now v × (dot equation.now.coefficients v ≡ pos 0 → ⊥) }
+        ensures members { result ≡ true → (v : Vector) → FlatMember self.now v
+            → dot equation.now.coefficients v ≡ pos 0 }
+        ensures least { false ≡ true → result ≡ false
+            → (v : Vector) × FlatMember self.now v × (dot equation.now.coefficients v ≡ pos 0 → ⊥) }
+        ensures only { result ≡ false → (v : Vector) × FlatMember self.now v
+            × (dot equation.now.coefficients v ≡ pos 0 → ⊥) }
     {
         let Some(constants) = &self.constants else {
             return true;

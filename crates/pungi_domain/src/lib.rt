@@ -1,5 +1,5 @@
-//! Affine programs over vectors of whole numbers, and the abstract domains that describe sets of such vectors: the trait
-//! of a domain with its laws, and the domain of one constant a coordinate (Karr 1976; Kildall 1973).
+//! Affine programs over vectors of whole numbers, and the abstract domains that describe sets of such vectors: the
+//! trait of a domain with its laws, and the domain of one constant a coordinate (Karr 1976; Kildall 1973).
 #![tactic(auto)]
 
 mod action;

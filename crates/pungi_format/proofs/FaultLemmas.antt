@@ -1,5 +1,6 @@
 -- A reading of a text from the left, as far as it has come without a fault.
-use Rattle.std.proofs.Common.{◌≡◌, ◌∙◌, ℕ, ◌+◌, ◌<◌, List, [], ◌∷◌, ◌++◌, length, take, drop, slice_index, None, refl, sym, ap, add-one}
+use Rattle.std.proofs.Common.{◌≡◌, ◌∙◌, ℕ, ◌+◌, ◌<◌, List, [], ◌∷◌, ◌++◌, length, take, drop, slice_index, None, refl}
+use Rattle.std.proofs.Common.{sym, ap, add-one}
 use Rattle.std.specs.Option.{option_or}
 use Rattle.std.proofs.Math.Seq.{drop-cons}
 use Rattle.std.proofs.lemmas.List.{take_more}
@@ -16,7 +17,8 @@ pub none_yet : (rule : Rule) (text : List ℕ) → NoFaultBefore rule text 0
 none_yet rule text = record { left = refl }
 
 here : (rule : Rule) (text : List ℕ) (i : ℕ) → i < length text → NoFaultBefore rule text i
-    → option_or (rule (take i text) (slice_index text i)) (first_after rule (take (i + 1) text) (drop (i + 1) text)) ≡ first_fault rule text
+    → option_or (rule (take i text) (slice_index text i)) (first_after rule (take (i + 1) text) (drop (i + 1) text))
+    ≡ first_fault rule text
 here rule text i lt h =
     let d : drop i text ≡ slice_index text i ∷ drop (i + 1) text = step_drop text i lt in
     let t : take (i + 1) text ≡ take i text ++ slice_index text i ∷ [] = take_more text i 0 lt in

@@ -1,5 +1,7 @@
 -- A format that takes arguments apart, read as far as a place.
-use Rattle.std.proofs.Common.{◌≡◌, ◌∙◌, ℕ, ◌+◌, ◌<◌, ◌==◌, Bool, true, false, List, [], ◌∷◌, ◌++◌, length, take, drop, slice_index, Option, None, Some, is_some, refl, sym, ap, arith, append_assoc, length-append, ◌||◌}
+use Rattle.std.proofs.Common.{◌≡◌, ◌∙◌, ℕ, ◌+◌, ◌<◌, ◌==◌, Bool, true, false, List, [], ◌∷◌, ◌++◌, length, take, drop}
+use Rattle.std.proofs.Common.{slice_index, Option, None, Some, is_some, refl, sym, ap, arith, append_assoc}
+use Rattle.std.proofs.Common.{length-append, ◌||◌}
 use Rattle.std.specs.Option.{option_to_list}
 use Rattle.std.proofs.lemmas.List.{take_more}
 use Rattle.std.proofs.lemmas.List.Folds.{list_any-append}
@@ -22,13 +24,17 @@ pub record ReadAsFar (text : List ℕ) (units : List InUnit) (required : Option 
 pub begun : (text : List ℕ) → ReadAsFar text [] None 0
 begun text = record { spelled = refl; counted = omega arith; bar = refl; faults = none_yet in_rule text }
 
-more_bar : (text : List ℕ) (i : ℕ) → i < length text → has_bar (take (i + 1) text) ≡ (has_bar (take i text) || (slice_index text i == bar_byte || false))
-more_bar text i lt = rw (take_more text i 0 lt) (list_any-append (λ b. b == bar_byte) (take i text) (slice_index text i ∷ []))
+more_bar : (text : List ℕ) (i : ℕ) → i < length text
+    → has_bar (take (i + 1) text) ≡ (has_bar (take i text) || (slice_index text i == bar_byte || false))
+more_bar text i lt =
+    rw (take_more text i 0 lt) (list_any-append (λ b. b == bar_byte) (take i text) (slice_index text i ∷ []))
 
 -- a byte that is no bar
-pub unit_read : (text : List ℕ) (units : List InUnit) (required : Option ℕ) (i : ℕ) (o : Option InUnit) → i < length text → ReadAsFar text units required i
+pub unit_read : (text : List ℕ) (units : List InUnit) (required : Option ℕ) (i : ℕ) (o : Option InUnit)
+    → i < length text → ReadAsFar text units required i
     → in_rule (take i text) (slice_index text i) ≡ None → (slice_index text i == bar_byte) ≡ false
-    → o ≡ unit_before (slice_index text i) (drop (i + 1) text) → ReadAsFar text (units ++ option_to_list o) required (i + 1)
+    → o ≡ unit_before (slice_index text i) (drop (i + 1) text)
+    → ReadAsFar text (units ++ option_to_list o) required (i + 1)
 unit_read text units required i o lt r none no_bar is = record {
   spelled = rw (append_assoc, is, ← step_drop_units) r.spelled;
   counted = counts required r.counted;
@@ -39,7 +45,8 @@ unit_read text units required i o lt r none no_bar is = record {
     step : drop i text ≡ slice_index text i ∷ drop (i + 1) text
     step = step_drop text i lt
 
-    step_drop_units : units_of (drop i text) ≡ option_to_list (unit_before (slice_index text i) (drop (i + 1) text)) ++ units_of (drop (i + 1) text)
+    step_drop_units : units_of (drop i text) ≡ option_to_list (unit_before (slice_index text i) (drop (i + 1) text))
+        ++ units_of (drop (i + 1) text)
     step_drop_units = ap units_of step
 
     step_required : required_of (drop i text) ≡ length (option_to_list o) + required_of (drop (i + 1) text)
@@ -49,7 +56,8 @@ unit_read text units required i o lt r none no_bar is = record {
     or_false true = refl
     or_false false = refl
 
-    counts : (required : Option ℕ) → Counts required units (drop i text) text → Counts required (units ++ option_to_list o) (drop (i + 1) text) text
+    counts : (required : Option ℕ) → Counts required units (drop i text) text
+        → Counts required (units ++ option_to_list o) (drop (i + 1) text) text
     counts (Some n) h = h
     counts None h = omega (arith, h, step_required, length-append units (option_to_list o))
 
@@ -61,11 +69,14 @@ no_bar_before before none = go (has_bar before) refl
     go false e = e
 
 -- the bar
-pub bar_read : (text : List ℕ) (units : List InUnit) (required : Option ℕ) (i : ℕ) → i < length text → ReadAsFar text units required i
-    → in_rule (take i text) (slice_index text i) ≡ None → slice_index text i ≡ bar_byte → ReadAsFar text units (Some (length units)) (i + 1)
+pub bar_read : (text : List ℕ) (units : List InUnit) (required : Option ℕ) (i : ℕ) → i < length text
+    → ReadAsFar text units required i
+    → in_rule (take i text) (slice_index text i) ≡ None → slice_index text i ≡ bar_byte
+    → ReadAsFar text units (Some (length units)) (i + 1)
 bar_read text units required i lt r none is = record {
   spelled = (let e : units_of (drop i text) ≡ units_of (drop (i + 1) text) = ap units_of step in rw (← e) r.spelled);
-  counted = (let e : required_of (drop i text) ≡ 0 = ap required_of step in counts required r.counted (r.bar ∙ none_before) e);
+  counted = (let e : required_of (drop i text) ≡ 0 = ap required_of step in counts required r.counted
+      (r.bar ∙ none_before) e);
   bar = sym (more_bar text i lt ∙ rw (none_before, is) refl);
   faults = none_here in_rule text i lt r.faults none;
 }
@@ -76,6 +87,7 @@ bar_read text units required i lt r none is = record {
     none_before : has_bar (take i text) ≡ false
     none_before = no_bar_before (take i text) (rw is at none)
 
-    counts : (required : Option ℕ) → Counts required units (drop i text) text → is_some required ≡ false → required_of (drop i text) ≡ 0 → length units ≡ required_of text
+    counts : (required : Option ℕ) → Counts required units (drop i text) text → is_some required ≡ false
+        → required_of (drop i text) ≡ 0 → length units ≡ required_of text
     counts (Some n) h some e = absurd cc
     counts None h some e = omega (arith, h, e)

@@ -14,7 +14,8 @@
 --   units_format, in_format text   the units of that part, and of a format, where no fault is
 --   ReadsUnits text result         the answer for the part of a format that has its units
 --   Parses text result             the answer for a format: its units, or its first fault
-use Rattle.std.specs.Prelude.{◌≡◌, ℕ, ◌+◌, ◌-◌, ◌==◌, Bool, ◌&&◌, ◌||◌, List, [], ◌∷◌, ◌++◌, length, slice_index, Option, None, Some, is_some, if◌then◌else◌, Result, Ok, Err, codes}
+use Rattle.std.specs.Prelude.{◌≡◌, ℕ, ◌+◌, ◌-◌, ◌==◌, Bool, ◌&&◌, ◌||◌, List, [], ◌∷◌, ◌++◌, length, slice_index}
+use Rattle.std.specs.Prelude.{Option, None, Some, is_some, if◌then◌else◌, Result, Ok, Err, codes}
 use Rattle.std.specs.Option.{option_to_list}
 use Rattle.std.specs.List.{before_first, list_any}
 use Rattle.pungi_format.specs.declared.in_unit.InUnit.{InUnit}

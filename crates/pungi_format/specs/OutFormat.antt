@@ -15,7 +15,8 @@
 --   out_units text               the units of a text
 --   Closes groups b new result   an answer of whether a closing bracket matches; if so, its open one is gone
 --   Builds text result           the answer for a format: its units, or its first fault
-use Rattle.std.specs.Prelude.{◌≡◌, ℕ, ◌+◌, ◌==◌, Bool, true, false, ◌||◌, List, [], ◌∷◌, length, drop, Option, None, Some, is_some, if◌then◌else◌, Result, Ok, Err, codes, Vec}
+use Rattle.std.specs.Prelude.{◌≡◌, ℕ, ◌+◌, ◌==◌, Bool, true, false, ◌||◌, List, [], ◌∷◌, length, drop, Option, None}
+use Rattle.std.specs.Prelude.{Some, is_some, if◌then◌else◌, Result, Ok, Err, codes, Vec}
 use Rattle.std.specs.Option.{option_or}
 use Rattle.std.specs.List.{filter_map}
 use Rattle.std.specs.declared.alloc.Global.{Global}

@@ -15,12 +15,14 @@ use pungi_resolved::Function;
 pub fn layout_is_alike(f: &Function)
     requires sound { IsStmtSound (function_view f.now).locals (function_view f.now).body }
     requires nodes { 5 * stmt_nodes (function_view f.now).body ≤ steps_an_instruction }
-    ensures { Behaves (function_view f.now) (body_code (function_view f.now)) ((function_view f.now).locals + temps_of (function_view f.now)) steps_an_instruction }
+    ensures { Behaves (function_view f.now) (body_code (function_view f.now))
+        ((function_view f.now).locals + temps_of (function_view f.now)) steps_an_instruction }
 {}
 
-/// The law of its temporaries: where one instruction leads to another, and no statement has own nodes at the places of both,
-/// and at each loop's head, no path reads a temporary before it writes it.
+/// The law of its temporaries: where one instruction leads to another, and no statement has own nodes at the places of
+/// both, and at each loop's head, no path reads a temporary before it writes it.
 pub fn layout_keeps_nothing(f: &Function)
     requires { IsStmtSound (function_view f.now).locals (function_view f.now).body }
-    ensures { KeepsNothing (function_view f.now) (body_code (function_view f.now)) (heads_of (function_view f.now)) (function_view f.now).locals }
+    ensures { KeepsNothing (function_view f.now) (body_code (function_view f.now)) (heads_of (function_view f.now))
+        (function_view f.now).locals }
 {}

@@ -1,5 +1,6 @@
 -- A piece has one kind under names that are distinct.
-use Rattle.std.proofs.Common.{◌≡◌, ◌<◌, ℕ, zero, suc, true, false, List, [], ◌∷◌, Option, Some, None, refl, sym, ap, subst, ◌∙◌, arith, lit<}
+use Rattle.std.proofs.Common.{◌≡◌, ◌<◌, ℕ, zero, suc, true, false, List, [], ◌∷◌, Option, Some, None, refl, sym, ap}
+use Rattle.std.proofs.Common.{subst, ◌∙◌, arith, lit<}
 use Rattle.std.specs.Prelude.{slice_get}
 use Rattle.std.specs.List.{AllByRecursion, IsDistinct}
 use Rattle.std.specs.Str.{bytes_eq}
@@ -21,30 +22,41 @@ use Rattle.pungi_lex.proofs.MarkLemmas.{mark_of, spelled}
 
 -- ---- a text has one number among distinct names
 
-differs_at : (texts : List (List ℕ)) (n : ℕ) (text other : List ℕ) → AllByRecursion (λ y. bytes_eq text y ≡ false) texts → slice_get texts n ≡ Some other → bytes_eq text other ≡ false
+differs_at : (texts : List (List ℕ)) (n : ℕ) (text other : List ℕ)
+    → AllByRecursion (λ y. bytes_eq text y ≡ false) texts → slice_get texts n ≡ Some other
+    → bytes_eq text other ≡ false
 differs_at [] n text other all e = absurd cc
-differs_at (t ∷ texts) zero text other all e = let is : t ≡ other = cc in subst (λ (x : List ℕ). bytes_eq text x ≡ false) is all.0
+differs_at (t ∷ texts) zero text other all e =
+    let is : t ≡ other = cc in subst (λ (x : List ℕ). bytes_eq text x ≡ false) is all.0
 differs_at (t ∷ texts) (suc n) text other all e = differs_at texts n text other all.1 e
 
-never_later : (texts : List (List ℕ)) (n : ℕ) (text other : List ℕ) → AllByRecursion (λ y. bytes_eq text y ≡ false) texts → slice_get texts n ≡ Some other → text ≡ other → ⊥
+never_later : (texts : List (List ℕ)) (n : ℕ) (text other : List ℕ)
+    → AllByRecursion (λ y. bytes_eq text y ≡ false) texts → slice_get texts n ≡ Some other → text ≡ other → ⊥
 never_later texts n text other all e same =
     let differs : bytes_eq text other ≡ false = differs_at texts n text other all e in
     let equals : bytes_eq text other ≡ true = (bytes_eq-Decides text other).1 same in
     cc
 
-number_once : (names : List (List ℕ)) (n m : ℕ) (text : List ℕ) → AreDistinct names → slice_get names n ≡ Some text → slice_get names m ≡ Some text → n ≡ m
+number_once : (names : List (List ℕ)) (n m : ℕ) (text : List ℕ) → AreDistinct names → slice_get names n ≡ Some text
+    → slice_get names m ≡ Some text → n ≡ m
 unfolding IsDistinct
 number_once [] n m text distinct one other = absurd cc
 number_once (t ∷ names) zero zero text distinct one other = refl
-number_once (t ∷ names) zero (suc m) text distinct one other = let is : t ≡ text = cc in absurd (never_later names m t text distinct.0 other is)
-number_once (t ∷ names) (suc n) zero text distinct one other = let is : t ≡ text = cc in absurd (never_later names n t text distinct.0 one is)
-number_once (t ∷ names) (suc n) (suc m) text distinct one other = ap suc (number_once names n m text distinct.1 one other)
+number_once (t ∷ names) zero (suc m) text distinct one other =
+    let is : t ≡ text = cc in absurd (never_later names m t text distinct.0 other is)
+number_once (t ∷ names) (suc n) zero text distinct one other =
+    let is : t ≡ text = cc in absurd (never_later names n t text distinct.0 one is)
+number_once (t ∷ names) (suc n) (suc m) text distinct one other =
+    ap suc (number_once names n m text distinct.1 one other)
 
 -- ---- keywords and punctuators differ in their numbers and spellings
 
 abbrev keys : List Key
 keys =
-    key.Int ∷ key.Long ∷ key.Short ∷ key.Char ∷ key.Unsigned ∷ key.Signed ∷ key.Float ∷ key.Double ∷ key.Void ∷ key.Bool ∷ key.Struct ∷ key.Union ∷ key.Enum ∷ key.Typedef ∷ key.Static ∷ key.Extern ∷ key.Inline ∷ key.Const ∷ key.Volatile ∷ key.Register ∷ key.If ∷ key.Else ∷ key.While ∷ key.Do ∷ key.For ∷ key.Switch ∷ key.Case ∷ key.Default ∷ key.Break ∷ key.Continue ∷ key.Return ∷ key.Goto ∷ key.Sizeof ∷ key.Null ∷ []
+    key.Int ∷ key.Long ∷ key.Short ∷ key.Char ∷ key.Unsigned ∷ key.Signed ∷ key.Float ∷ key.Double ∷ key.Void
+    ∷ key.Bool ∷ key.Struct ∷ key.Union ∷ key.Enum ∷ key.Typedef ∷ key.Static ∷ key.Extern ∷ key.Inline
+    ∷ key.Const ∷ key.Volatile ∷ key.Register ∷ key.If ∷ key.Else ∷ key.While ∷ key.Do ∷ key.For ∷ key.Switch
+    ∷ key.Case ∷ key.Default ∷ key.Break ∷ key.Continue ∷ key.Return ∷ key.Goto ∷ key.Sizeof ∷ key.Null ∷ []
 
 key_back : (k : Key) → slice_get keys (key_number k) ≡ Some k
 key_back key.Int = refl
@@ -129,11 +141,15 @@ name_once a b e = λ i. record { 0 = e i }
 
 -- ---- one kind
 
-word_once : (names : List (List ℕ)) (a b : Option Kind) (word : List ℕ) → AreDistinct names → NamesWord names a word → NamesWord names b word → a ≡ b
+word_once : (names : List (List ℕ)) (a b : Option Kind) (word : List ℕ) → AreDistinct names → NamesWord names a word
+    → NamesWord names b word → a ≡ b
 word_once names None b word distinct s t = absurd s
 word_once names (Some (kind.Key x)) None word distinct s t = absurd t
-word_once names (Some (kind.Key x)) (Some (kind.Key y)) word distinct s t = ap (λ (k : Key). Some (kind.Key k)) (key_once x y (number_once names (key_number x) (key_number y) word distinct s t))
-word_once names (Some (kind.Key x)) (Some (kind.Word y)) word distinct s t = absurd (omega (arith, key_below x, t.1, number_once names (key_number x) y.0 word distinct s t.0))
+word_once names (Some (kind.Key x)) (Some (kind.Key y)) word distinct s t =
+    ap (λ (k : Key). Some (kind.Key k)) (key_once x y (number_once names (key_number x) (key_number y) word distinct
+    s t))
+word_once names (Some (kind.Key x)) (Some (kind.Word y)) word distinct s t =
+    absurd (omega (arith, key_below x, t.1, number_once names (key_number x) y.0 word distinct s t.0))
 word_once names (Some (kind.Key x)) (Some (kind.Int y y2 y3)) word distinct s t = absurd t
 word_once names (Some (kind.Key x)) (Some kind.Float) word distinct s t = absurd t
 word_once names (Some (kind.Key x)) (Some (kind.Char y)) word distinct s t = absurd t
@@ -141,8 +157,10 @@ word_once names (Some (kind.Key x)) (Some (kind.Text y)) word distinct s t = abs
 word_once names (Some (kind.Key x)) (Some (kind.Punct y)) word distinct s t = absurd t
 word_once names (Some (kind.Key x)) (Some kind.Header) word distinct s t = absurd t
 word_once names (Some (kind.Word x)) None word distinct s t = absurd t
-word_once names (Some (kind.Word x)) (Some (kind.Key y)) word distinct s t = absurd (omega (arith, key_below y, s.1, number_once names (key_number y) x.0 word distinct t s.0))
-word_once names (Some (kind.Word x)) (Some (kind.Word y)) word distinct s t = ap (λ (n : Name). Some (kind.Word n)) (name_once x y (number_once names x.0 y.0 word distinct s.0 t.0))
+word_once names (Some (kind.Word x)) (Some (kind.Key y)) word distinct s t =
+    absurd (omega (arith, key_below y, s.1, number_once names (key_number y) x.0 word distinct t s.0))
+word_once names (Some (kind.Word x)) (Some (kind.Word y)) word distinct s t =
+    ap (λ (n : Name). Some (kind.Word n)) (name_once x y (number_once names x.0 y.0 word distinct s.0 t.0))
 word_once names (Some (kind.Word x)) (Some (kind.Int y y2 y3)) word distinct s t = absurd t
 word_once names (Some (kind.Word x)) (Some kind.Float) word distinct s t = absurd t
 word_once names (Some (kind.Word x)) (Some (kind.Char y)) word distinct s t = absurd t
@@ -156,7 +174,8 @@ word_once names (Some (kind.Text x)) b word distinct s t = absurd s
 word_once names (Some (kind.Punct x)) b word distinct s t = absurd s
 word_once names (Some kind.Header) b word distinct s t = absurd s
 
-text_once : (names : List (List ℕ)) (a b : Option Kind) (text : List ℕ) → AreDistinct names → NamesText names a text → NamesText names b text → a ≡ b
+text_once : (names : List (List ℕ)) (a b : Option Kind) (text : List ℕ) → AreDistinct names → NamesText names a text
+    → NamesText names b text → a ≡ b
 text_once names None b text distinct s t = absurd s
 text_once names (Some (kind.Key x)) b text distinct s t = absurd s
 text_once names (Some (kind.Word x)) b text distinct s t = absurd s
@@ -169,7 +188,8 @@ text_once names (Some (kind.Text x)) (Some (kind.Word y)) text distinct s t = ab
 text_once names (Some (kind.Text x)) (Some (kind.Int y y2 y3)) text distinct s t = absurd t
 text_once names (Some (kind.Text x)) (Some kind.Float) text distinct s t = absurd t
 text_once names (Some (kind.Text x)) (Some (kind.Char y)) text distinct s t = absurd t
-text_once names (Some (kind.Text x)) (Some (kind.Text y)) text distinct s t = ap (λ (n : Name). Some (kind.Text n)) (name_once x y (number_once names x.0 y.0 text distinct s t))
+text_once names (Some (kind.Text x)) (Some (kind.Text y)) text distinct s t =
+    ap (λ (n : Name). Some (kind.Text n)) (name_once x y (number_once names x.0 y.0 text distinct s t))
 text_once names (Some (kind.Text x)) (Some (kind.Punct y)) text distinct s t = absurd t
 text_once names (Some (kind.Text x)) (Some kind.Header) text distinct s t = absurd t
 text_once names (Some (kind.Punct x)) b text distinct s t = absurd s
@@ -190,11 +210,13 @@ mark_once (Some (kind.Punct x)) (Some (kind.Int y y2 y3)) piece s t = absurd t
 mark_once (Some (kind.Punct x)) (Some kind.Float) piece s t = absurd t
 mark_once (Some (kind.Punct x)) (Some (kind.Char y)) piece s t = absurd t
 mark_once (Some (kind.Punct x)) (Some (kind.Text y)) piece s t = absurd t
-mark_once (Some (kind.Punct x)) (Some (kind.Punct y)) piece s t = ap (λ (p : Punct). Some (kind.Punct p)) (punct_once x y (s ∙ sym t))
+mark_once (Some (kind.Punct x)) (Some (kind.Punct y)) piece s t =
+    ap (λ (p : Punct). Some (kind.Punct p)) (punct_once x y (s ∙ sym t))
 mark_once (Some (kind.Punct x)) (Some kind.Header) piece s t = absurd t
 mark_once (Some kind.Header) b piece s t = absurd s
 
-pub kind_once : (names : List (List ℕ)) (st : Start) (a b : Option Kind) (piece : List ℕ) → AreNames names → IsKind names st a piece → IsKind names st b piece → a ≡ b
+pub kind_once : (names : List (List ℕ)) (st : Start) (a b : Option Kind) (piece : List ℕ) → AreNames names
+    → IsKind names st a piece → IsKind names st b piece → a ≡ b
 kind_once names start.Header a b piece are s t = s ∙ sym t
 kind_once names start.Blank a b piece are s t = s ∙ sym t
 kind_once names start.LineComment a b piece are s t = s ∙ sym t

@@ -1,5 +1,6 @@
 -- The punctuator that is looked up is the longest that begins the text.
-use Rattle.std.proofs.Common.{◌≡◌, ℕ, ◌<◌, ◌≤◌, Bool, true, false, ◌==◌, ◌&&◌, cond, List, [], ◌∷◌, ◌++◌, length, take, Option, Some, None, zero, suc, eq-eqb, refl, sym, ap, ◌∙◌, arith}
+use Rattle.std.proofs.Common.{◌≡◌, ℕ, ◌<◌, ◌≤◌, Bool, true, false, ◌==◌, ◌&&◌, cond, List, [], ◌∷◌, ◌++◌, length, take}
+use Rattle.std.proofs.Common.{Option, Some, None, zero, suc, eq-eqb, refl, sym, ap, ◌∙◌, arith}
 use Rattle.std.specs.Prelude.{IfSome, MatchOption, slice_get}
 use Rattle.std.proofs.lemmas.Bool.Decides.{nat_tests}
 use Rattle.pungi_base.specs.declared.punct.Punct.{Punct}
@@ -86,21 +87,28 @@ front (a ∷ s) (b ∷ text) h =
     let r = front s text (and_right (a == b) (begins_with s text) h) in
     (r.0, λ i. sym head i ∷ r.1 i)
 
-three_of : (t u v : Bool) (p : Punct) → cond t (Some punct.ShiftLeftAssign) (cond u (Some punct.ShiftRightAssign) (cond v (Some punct.Ellipsis) None)) ≡ Some p → length (punct_text p) ≡ 3
+three_of : (t u v : Bool) (p : Punct) → cond t (Some punct.ShiftLeftAssign)
+    (cond u (Some punct.ShiftRightAssign) (cond v (Some punct.Ellipsis) None)) ≡ Some p → length (punct_text p) ≡ 3
 three_of true u v p e = let is : punct.ShiftLeftAssign ≡ p = cc in sym (ap (λ (x : Punct). length (punct_text x)) is)
-three_of false true v p e = let is : punct.ShiftRightAssign ≡ p = cc in sym (ap (λ (x : Punct). length (punct_text x)) is)
+three_of false true v p e =
+    let is : punct.ShiftRightAssign ≡ p = cc in sym (ap (λ (x : Punct). length (punct_text x)) is)
 three_of false false true p e = let is : punct.Ellipsis ≡ p = cc in sym (ap (λ (x : Punct). length (punct_text x)) is)
 three_of false false false p e = absurd cc
 
 three_long : (a b c : ℕ) (p : Punct) → mark_three a b c ≡ Some p → length (punct_text p) ≡ 3
-three_long a b c p e = three_of (a == 60 && b == 60 && c == 61) (a == 62 && b == 62 && c == 61) (a == 46 && b == 46 && c == 46) p e
+three_long a b c p e =
+    three_of (a == 60 && b == 60 && c == 61) (a == 62 && b == 62 && c == 61) (a == 46 && b == 46 && c == 46) p e
 
 -- what is taken where a punctuator of two bytes is there
-two_or : (three : Option Punct) (q p : Punct) (one : Option Punct) → or_else three (or_else (Some q) one) ≡ Some p → length (punct_text q) ≡ 2 → ((x : Punct) → three ≡ Some x → length (punct_text x) ≡ 3) → 2 ≤ length (punct_text p)
+two_or : (three : Option Punct) (q p : Punct) (one : Option Punct) → or_else three (or_else (Some q) one) ≡ Some p
+    → length (punct_text q) ≡ 2 → ((x : Punct) → three ≡ Some x → length (punct_text x) ≡ 3)
+    → 2 ≤ length (punct_text p)
 two_or None q p one e two long = let is : q ≡ p = cc in omega (arith, two, ap (λ (x : Punct). length (punct_text x)) is)
-two_or (Some x) q p one e two long = let is : x ≡ p = cc in omega (arith, long x refl, ap (λ (x : Punct). length (punct_text x)) is)
+two_or (Some x) q p one e two long =
+    let is : x ≡ p = cc in omega (arith, long x refl, ap (λ (x : Punct). length (punct_text x)) is)
 
-taken : (s rest : List ℕ) (q p : Punct) → mark_of s ≡ Some q → punct_text q ≡ s → mark_at (s ++ rest) ≡ Some p → 0 < length (punct_text p) → length s ≤ length (punct_text p)
+taken : (s rest : List ℕ) (q p : Punct) → mark_of s ≡ Some q → punct_text q ≡ s → mark_at (s ++ rest) ≡ Some p
+    → 0 < length (punct_text p) → length s ≤ length (punct_text p)
 taken [] rest q p is spelling e some = omega arith
 taken (a ∷ []) rest q p is spelling e some = omega arith
 taken (a ∷ b ∷ []) [] q p is spelling e some =
@@ -108,14 +116,17 @@ taken (a ∷ b ∷ []) [] q p is spelling e some =
     let same : q ≡ p = cc in
     omega (arith, ap length spelling, ap (λ (x : Punct). length (punct_text x)) same)
 taken (a ∷ b ∷ []) (c ∷ rest) q p is spelling e some =
-    two_or (mark_three a b c) q p (mark_one a) (sym (ap (λ (x : Option Punct). or_else (mark_three a b c) (or_else x (mark_one a))) is) ∙ e) (ap length spelling) (λ x h. three_long a b c x h)
+    two_or (mark_three a b c) q p (mark_one a) (sym (ap (λ (x : Option Punct). or_else (mark_three a b c)
+    (or_else x (mark_one a))) is) ∙ e) (ap length spelling) (λ x h. three_long a b c x h)
 taken (a ∷ b ∷ c ∷ []) rest q p is spelling e some =
-    let both : Some q ≡ Some p = sym (ap (λ (x : Option Punct). or_else x (or_else (mark_two a b) (mark_one a))) is) ∙ e in
+    let both : Some q ≡ Some p = sym (ap (λ (x : Option Punct). or_else x (or_else (mark_two a b) (mark_one a))) is)
+    ∙ e in
     let same : q ≡ p = cc in
     omega (arith, ap length spelling, ap (λ (x : Punct). length (punct_text x)) same)
 taken (a ∷ b ∷ c ∷ d ∷ s) rest q p is spelling e some = absurd cc
 
-longest : (q p : Punct) (text : List ℕ) → begins_with (punct_text q) text ≡ true → mark_at text ≡ Some p → 0 < length (punct_text p) → length (punct_text q) ≤ length (punct_text p)
+longest : (q p : Punct) (text : List ℕ) → begins_with (punct_text q) text ≡ true → mark_at text ≡ Some p
+    → 0 < length (punct_text p) → length (punct_text q) ≤ length (punct_text p)
 longest q p text begins e some =
     let r = front (punct_text q) text begins in
     taken (punct_text q) r.0 q p (spelled q) refl (ap mark_at (sym r.1) ∙ e) some
@@ -222,7 +233,8 @@ indexed punct.Ellipsis = refl
 indexed punct.Hash = refl
 indexed punct.HashHash = refl
 
-at_most : (among : List Punct) (text : List ℕ) (n : ℕ) (p : Punct) → slice_get among n ≡ Some p → begun text p ≤ longest_among among text
+at_most : (among : List Punct) (text : List ℕ) (n : ℕ) (p : Punct) → slice_get among n ≡ Some p
+    → begun text p ≤ longest_among among text
 at_most [] text n p e = absurd cc
 at_most (q ∷ among) text zero p e = let is : q ≡ p = cc in omega (arith, ap (begun text) is)
 at_most (q ∷ among) text (suc n) p e = let rest = at_most among text n p e in omega arith
@@ -232,7 +244,8 @@ bounded [] text n each = omega arith
 bounded (q ∷ among) text n each = omega (arith, each q, bounded among text n each)
 
 -- what begins with a punctuator, or doesn't
-begun_within : (text : List ℕ) (q : Punct) (n : ℕ) (b : Bool) → begins_with (punct_text q) text ≡ b → (b ≡ true → length (punct_text q) ≤ n) → begun text q ≤ n
+begun_within : (text : List ℕ) (q : Punct) (n : ℕ) (b : Bool) → begins_with (punct_text q) text ≡ b
+    → (b ≡ true → length (punct_text q) ≤ n) → begun text q ≤ n
 begun_within text q n true e h = rw e (h refl)
 begun_within text q n false e h = rw e (omega arith)
 
@@ -258,13 +271,18 @@ or_none_right (Some p) y e = absurd cc
 none_taken : (s rest : List ℕ) (q : Punct) → mark_of s ≡ Some q → mark_at (s ++ rest) ≡ None → ⊥
 none_taken [] rest q is e = absurd cc
 none_taken (a ∷ []) [] q is e = let both : Some q ≡ None = sym is ∙ e in cc
-none_taken (a ∷ []) (b ∷ []) q is e = let both : Some q ≡ None = sym is ∙ or_none_right (mark_two a b) (mark_one a) e in cc
+none_taken (a ∷ []) (b ∷ []) q is e =
+    let both : Some q ≡ None = sym is ∙ or_none_right (mark_two a b) (mark_one a) e in cc
 none_taken (a ∷ []) (b ∷ c ∷ rest) q is e =
-    let both : Some q ≡ None = sym is ∙ or_none_right (mark_two a b) (mark_one a) (or_none_right (mark_three a b c) (or_else (mark_two a b) (mark_one a)) e) in cc
+    let both : Some q ≡ None = sym is ∙ or_none_right (mark_two a b) (mark_one a)
+    (or_none_right (mark_three a b c) (or_else (mark_two a b) (mark_one a)) e) in cc
 none_taken (a ∷ b ∷ []) [] q is e = let both : Some q ≡ None = sym is ∙ or_none_left (mark_two a b) (mark_one a) e in cc
 none_taken (a ∷ b ∷ []) (c ∷ rest) q is e =
-    let both : Some q ≡ None = sym is ∙ or_none_left (mark_two a b) (mark_one a) (or_none_right (mark_three a b c) (or_else (mark_two a b) (mark_one a)) e) in cc
-none_taken (a ∷ b ∷ c ∷ []) rest q is e = let both : Some q ≡ None = sym is ∙ or_none_left (mark_three a b c) (or_else (mark_two a b) (mark_one a)) e in cc
+    let both : Some q ≡ None = sym is ∙ or_none_left (mark_two a b) (mark_one a)
+    (or_none_right (mark_three a b c) (or_else (mark_two a b) (mark_one a)) e) in cc
+none_taken (a ∷ b ∷ c ∷ []) rest q is e =
+    let both : Some q ≡ None = sym is ∙ or_none_left (mark_three a b c) (or_else (mark_two a b) (mark_one a)) e in
+    cc
 none_taken (a ∷ b ∷ c ∷ d ∷ s) rest q is e = absurd cc
 
 none_begins : (q : Punct) (text : List ℕ) → mark_at text ≡ None → begins_with (punct_text q) text ≡ true → ⊥
@@ -272,14 +290,21 @@ none_begins q text none begins =
     let r = front (punct_text q) text begins in
     none_taken (punct_text q) r.0 q (spelled q) (ap mark_at (sym r.1) ∙ none)
 
-pub mark_is : (found : Option Punct) (text : List ℕ) → found ≡ mark_at text → IfSome found (λ p. punct_text p ≡ take (length (punct_text p)) text) → IfSome found (λ p. 0 < length (punct_text p))
+pub mark_is : (found : Option Punct) (text : List ℕ) → found ≡ mark_at text
+    → IfSome found (λ p. punct_text p ≡ take (length (punct_text p)) text)
+    → IfSome found (λ p. 0 < length (punct_text p))
     → MatchOption found (mark_len text ≡ 0) (λ p. length (punct_text p) ≡ mark_len text)
 unfolding mark_len
 mark_is None text is spelling some =
-    omega (arith, bounded puncts text 0 (λ q. begun_within text q 0 (begins_with (punct_text q) text) refl (λ begins. absurd (none_begins q text (sym is) begins))))
+    omega (
+      arith,
+      bounded puncts text 0 (λ q. begun_within text q 0 (begins_with (punct_text q) text) refl
+          (λ begins. absurd (none_begins q text (sym is) begins))),
+    )
 mark_is (Some p) text is spelling some =
     let n = length (punct_text p) in
     let here : begun text p ≡ n = rw (begins_taken (punct_text p) text spelling) refl in
     let least : begun text p ≤ longest_among puncts text = at_most puncts text (index p) p (indexed p) in
-    let most : longest_among puncts text ≤ n = bounded puncts text n (λ q. begun_within text q n (begins_with (punct_text q) text) refl (λ begins. longest q p text begins (sym is) some)) in
+    let most : longest_among puncts text ≤ n = bounded puncts text n (λ q. begun_within text q n
+    (begins_with (punct_text q) text) refl (λ begins. longest q p text begins (sym is) some)) in
     omega (arith, here, least, most)

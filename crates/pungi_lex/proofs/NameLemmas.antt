@@ -15,5 +15,6 @@ numbered (t ∷ texts) zero text is =
     ap (λ (b : Bool). b || has_text texts text) ((bytes_eq-Decides text t).1 same)
 numbered (t ∷ texts) (suc n) text is = or_right (bytes_eq text t) (has_text texts text) (numbered texts n text is)
 
-pub numbered_stays : (texts : List (List ℕ)) (n : ℕ) (text : List ℕ) → slice_get texts n ≡ Some text → texts ≡ with_text texts text
+pub numbered_stays : (texts : List (List ℕ)) (n : ℕ) (text : List ℕ) → slice_get texts n ≡ Some text
+    → texts ≡ with_text texts text
 numbered_stays texts n text is = rw (numbered texts n text is) refl

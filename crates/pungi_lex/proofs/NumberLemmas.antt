@@ -14,7 +14,9 @@ value_grows base n (b ∷ xs) some =
     let rest = value_grows base (base * n + d) xs some in
     omega arith
 
-front_below : (base n i : ℕ) (xs : List ℕ) → 1 ≤ base → fold (λ (m : ℕ) (b : ℕ). base * m + digit_value b) n (take i xs) ≤ fold (λ (m : ℕ) (b : ℕ). base * m + digit_value b) n xs
+front_below : (base n i : ℕ) (xs : List ℕ) → 1 ≤ base
+    → fold (λ (m : ℕ) (b : ℕ). base * m + digit_value b) n (take i xs)
+    ≤ fold (λ (m : ℕ) (b : ℕ). base * m + digit_value b) n xs
 front_below base n zero xs some = value_grows base n xs some
 front_below base n (suc i) [] some = omega arith
 front_below base n (suc i) (b ∷ xs) some = front_below base (base * n + digit_value b) i xs some

@@ -4,7 +4,8 @@
 --   escape_value b     what \b stands for, where it is one of \n \t \r \0 \\ \' \"
 --   char_after text    the value of a character and the length of its spelling, by what follows its first quote
 --   char_value c, char_length c  the one and the other
-use Rattle.std.specs.Prelude.{ℕ, ◌==◌, Bool, not, ◌&&◌, List, [], ◌∷◌, Option, Some, None, option_map, codes, if◌then◌else◌}
+use Rattle.std.specs.Prelude.{ℕ, ◌==◌, Bool, not, ◌&&◌, List, [], ◌∷◌, Option, Some, None, option_map, codes}
+use Rattle.std.specs.Prelude.{if◌then◌else◌}
 use Rattle.pungi_lex.specs.Bytes.{is_one_of, is_from_to}
 
 abbrev pub is_plain : ℕ → Bool

@@ -11,7 +11,8 @@
 --   IsJointAt body n      the n-th token is the first ##
 --   Defines macros name at body r   what this definition makes of the macros, or what it is refused for
 --   Obeys macros hash words r       what a directive makes of the macros, or what it is refused for
-use Rattle.std.specs.Prelude.{◌≡◌, ◌≢◌, ◌⊎◌, ◌<◌, ℕ, true, List, [], ◌∷◌, length, drop, map, get_or, set, Some, Result, Ok, Err}
+use Rattle.std.specs.Prelude.{◌≡◌, ◌≢◌, ◌⊎◌, ◌<◌, ℕ, true, List, [], ◌∷◌, length, drop, map, get_or, set, Some, Result}
+use Rattle.std.specs.Prelude.{Ok, Err}
 use Rattle.pungi_base.specs.declared.pos.Pos.{Pos}
 use Rattle.pungi_base.specs.declared.kind.Kind.{Kind}
 use Rattle.pungi_base.specs.declared.kind.Kind.TheVariants as kind
@@ -51,21 +52,30 @@ IsFunctionLike [] = ⊥
 IsFunctionLike (t ∷ body) = (t.kind ≡ kind.Punct punct.LeftParen) × (t.touching ≡ true)
 
 abbrev pub Redefines : Macros → ℕ → List Kind → Type 0
-Redefines macros name body = (is_predefined name ≡ true) ⊎ ((old : List Kind) × (body_of macros name ≡ Some old) × (old ≢ body))
+Redefines macros name body =
+    (is_predefined name ≡ true) ⊎ ((old : List Kind) × (body_of macros name ≡ Some old) × (old ≢ body))
 
 abbrev pub HasNoJointBelow : List Token → ℕ → Type 0
 HasNoJointBelow body n = (i : ℕ) → i < n → (t : Token) → t ≡ get_or body i t → t.kind ≢ kind.Punct punct.HashHash
 
 abbrev pub IsJointAt : List Token → ℕ → Type 0
-IsJointAt body n = (n < length body) × HasNoJointBelow body n × ((t : Token) → t ≡ get_or body n t → t.kind ≡ kind.Punct punct.HashHash)
+IsJointAt body n =
+    (n < length body) × HasNoJointBelow body n
+    × ((t : Token) → t ≡ get_or body n t → t.kind ≡ kind.Punct punct.HashHash)
 
 pub data Defines (macros : Macros) (name : ℕ) (at : Pos) : List Token → Result Macros MacroFault → Type 0 where
-  Define : (body : List Token) → (IsFunctionLike body → ⊥) → (Redefines macros name (kinds_in body) → ⊥) → HasNoJointBelow body (length body) → Defines macros name at body (Ok (set macros name (Some (kinds_in body))))
+  Define : (body : List Token) → (IsFunctionLike body → ⊥) → (Redefines macros name (kinds_in body) → ⊥)
+      → HasNoJointBelow body (length body) → Defines macros name at body (Ok (set macros name (Some (kinds_in body))))
   OfFunction : (body : List Token) → IsFunctionLike body → Defines macros name at body (Err (fault.FunctionMacro at))
-  Again : (body : List Token) → (IsFunctionLike body → ⊥) → Redefines macros name (kinds_in body) → Defines macros name at body (Err (fault.Redefined at))
-  Joint : (body : List Token) (i : ℕ) (t : Token) → (IsFunctionLike body → ⊥) → (Redefines macros name (kinds_in body) → ⊥) → IsJointAt body i → t ≡ get_or body i t → Defines macros name at body (Err (fault.Directive t.pos))
+  Again : (body : List Token) → (IsFunctionLike body → ⊥) → Redefines macros name (kinds_in body)
+      → Defines macros name at body (Err (fault.Redefined at))
+  Joint : (body : List Token) (i : ℕ) (t : Token) → (IsFunctionLike body → ⊥)
+      → (Redefines macros name (kinds_in body) → ⊥) → IsJointAt body i → t ≡ get_or body i t
+      → Defines macros name at body (Err (fault.Directive t.pos))
 
 pub data Obeys (macros : Macros) (hash : Token) : List Token → Result Macros MacroFault → Type 0 where
   Inclusion : (words : List Token) → IsInclusion words → Obeys macros hash words (Ok macros)
-  Definition : (words : List Token) (name : ℕ) (at : Pos) (r : Result Macros MacroFault) → (IsInclusion words → ⊥) → IsDefinitionOf name at words → Defines macros name at (drop 2 words) r → Obeys macros hash words r
-  Other : (words : List Token) → (IsInclusion words → ⊥) → (IsDefinition words → ⊥) → Obeys macros hash words (Err (fault.Directive hash.pos))
+  Definition : (words : List Token) (name : ℕ) (at : Pos) (r : Result Macros MacroFault) → (IsInclusion words → ⊥)
+      → IsDefinitionOf name at words → Defines macros name at (drop 2 words) r → Obeys macros hash words r
+  Other : (words : List Token) → (IsInclusion words → ⊥) → (IsDefinition words → ⊥)
+      → Obeys macros hash words (Err (fault.Directive hash.pos))

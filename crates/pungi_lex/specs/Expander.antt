@@ -40,14 +40,18 @@ starts_first (t ∷ tokens) = t.first
 abbrev pub ArePartsBefore : List Part → List Token → Type 0
 ArePartsBefore [] rest = Unit {0}
 ArePartsBefore (Directed hash words ∷ parts) rest =
-    IsHash hash × IsTrue (list_all (λ (t : Token). not t.first) words) × IsTrue (starts_first (tokens_in parts ++ rest)) × ArePartsBefore parts rest
+    IsHash hash × IsTrue (list_all (λ (t : Token). not t.first) words)
+    × IsTrue (starts_first (tokens_in parts ++ rest)) × ArePartsBefore parts rest
 ArePartsBefore (Plain token ∷ parts) rest = (IsHash token → ⊥) × ArePartsBefore parts rest
 
 pub data Runs : Macros → ℕ → List Part → List Token → Macros → ℕ → Type 0 where
   Ends : (macros : Macros) (n : ℕ) → Runs macros n [] [] macros n
-  Directs : (macros next last : Macros) (n m : ℕ) (hash : Token) (words : List Token) (parts : List Part) (out : List Token) → Obeys macros hash words (Ok next) → Runs next n parts out last m
+  Directs : (macros next last : Macros) (n m : ℕ) (hash : Token) (words : List Token) (parts : List Part)
+      (out : List Token) → Obeys macros hash words (Ok next) → Runs next n parts out last m
       → Runs macros n (Directed hash words ∷ parts) out last m
-  Expanded : (macros last : Macros) (n k m : ℕ) (t : Token) (kinds : List Kind) (parts : List Part) (out : List Token) → Expands macros (t.kind ∷ []) kinds k → n + k ≤ token_limit → Runs macros (n + k) parts out last m
+  Expanded : (macros last : Macros) (n k m : ℕ) (t : Token) (kinds : List Kind) (parts : List Part)
+      (out : List Token) → Expands macros (t.kind ∷ []) kinds k → n + k ≤ token_limit
+      → Runs macros (n + k) parts out last m
       → Runs macros n (Plain t ∷ parts) (placed t kinds ++ out) last m
 
 pub record IsExpanded (names : ℕ) (tokens out : List Token) : Type 0 where
@@ -59,8 +63,10 @@ pub record IsExpanded (names : ℕ) (tokens out : List Token) : Type 0 where
   pub runs : Runs (predefined names) 0 parts out last count
 
 pub data Refuses (macros : Macros) (n : ℕ) : Part → MacroFault → Type 0 where
-  OfDirective : (hash : Token) (words : List Token) (found : MacroFault) → Obeys macros hash words (Err found) → Refuses macros n (Directed hash words) found
-  OfCount : (t : Token) (kinds : List Kind) (k : ℕ) → Expands macros (t.kind ∷ []) kinds k → token_limit < n + k → Refuses macros n (Plain t) (fault.TooManyTokens t.pos)
+  OfDirective : (hash : Token) (words : List Token) (found : MacroFault) → Obeys macros hash words (Err found)
+      → Refuses macros n (Directed hash words) found
+  OfCount : (t : Token) (kinds : List Kind) (k : ℕ) → Expands macros (t.kind ∷ []) kinds k → token_limit < n + k
+      → Refuses macros n (Plain t) (fault.TooManyTokens t.pos)
 
 pub record HasMacroFault (names : ℕ) (tokens : List Token) (found : MacroFault) : Type 0 where
   pub parts : List Part

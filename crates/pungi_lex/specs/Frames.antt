@@ -14,16 +14,22 @@ use Rattle.pungi_lex.specs.Directive.{IsHash}
 use Rattle.pungi_lex.specs.Macros.{Macros, Expands, word_number, body_of, replacement, placed}
 
 abbrev pub Emits : Bool → Token → Kind → Macros → Macros → List Token → List Token → List Frame → List Frame → Type 0
-Emits false t k m after ts later fs frames = (replacement m k ≡ None) × (after ≡ m) × (later ≡ ts ++ placed t (k ∷ [])) × (frames ≡ fs)
+Emits false t k m after ts later fs frames =
+    (replacement m k ≡ None) × (after ≡ m) × (later ≡ ts ++ placed t (k ∷ [])) × (frames ≡ fs)
 Emits true t k m after ts later fs frames =
-    (name : ℕ) × (body : List Kind) × (word_number k ≡ Some name) × (body_of m name ≡ Some body) × (name < length m) × (after ≡ set m name None) × (later ≡ ts)
+    (name : ℕ) × (body : List Kind) × (word_number k ≡ Some name) × (body_of m name ≡ Some body) × (name < length m)
+    × (after ≡ set m name None) × (later ≡ ts)
     × (frames ≡ fs ++ (record { name = name; body = body; next = 0 }) ∷ [])
 
 abbrev pub Stays : Macros → Token → Type 0
 Stays macros t = (IsHash t → ⊥) × (replacement macros t.kind ≡ None)
 
 abbrev pub IsReplaced : Macros → ℕ → Token → List Token → List Token → ℕ → Type 0
-IsReplaced macros used t before after count = (kinds : List Kind) × (k : ℕ) × Expands macros (t.kind ∷ []) kinds k × (after ≡ before ++ placed t kinds) × (count ≡ used + k)
+IsReplaced macros used t before after count =
+    (kinds : List Kind) × (k : ℕ) × Expands macros (t.kind ∷ []) kinds k × (after ≡ before ++ placed t kinds)
+    × (count ≡ used + k)
 
 abbrev pub IsOverLimit : Macros → ℕ → Token → MacroFault → Type 0
-IsOverLimit macros used t found = (kinds : List Kind) × (k : ℕ) × Expands macros (t.kind ∷ []) kinds k × (token_limit < used + k) × (found ≡ fault.TooManyTokens t.pos)
+IsOverLimit macros used t found =
+    (kinds : List Kind) × (k : ℕ) × Expands macros (t.kind ∷ []) kinds k × (token_limit < used + k)
+    × (found ≡ fault.TooManyTokens t.pos)

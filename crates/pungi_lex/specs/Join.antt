@@ -18,7 +18,9 @@ abbrev pub first_place : Pos
 first_place = record { line = 1; col = 1 }
 
 abbrev pub after_byte : Pos → ℕ → Pos
-after_byte at b = if is_one_of (codes "\n") b then record { line = at.line + 1; col = 1 } else record { line = at.line; col = at.col + 1 }
+after_byte at b =
+    if is_one_of (codes "\n") b then record { line = at.line + 1; col = 1 } else record
+    { line = at.line; col = at.col + 1 }
 
 abbrev pub join_length : List ℕ → ℕ
 join_length text = if begins_with (codes "\\\n") text then 2 else if begins_with (codes "\\\r\n") text then 3 else 0
@@ -35,7 +37,8 @@ kept left b at = if left == 0 then (record { byte = b; at = at }) ∷ [] else []
 
 abbrev pub joined_from : ℕ → Pos → List ℕ → List Placed
 joined_from left at [] = []
-joined_from left at (b ∷ rest) = kept (still left (b ∷ rest)) b at ++ joined_from (still left (b ∷ rest) - 1) (after_byte at b) rest
+joined_from left at (b ∷ rest) =
+    kept (still left (b ∷ rest)) b at ++ joined_from (still left (b ∷ rest) - 1) (after_byte at b) rest
 
 abbrev pub joined : List ℕ → List Placed
 joined text = joined_from 0 first_place text

@@ -37,9 +37,12 @@ replacement macros k = body_at macros (word_number k)
 
 pub data Expands : Macros → List Kind → List Kind → ℕ → Type 0 where
   Nothing : (macros : Macros) → Expands macros [] [] 0
-  Kept : (macros : Macros) (k : Kind) (ks out : List Kind) (n : ℕ) → replacement macros k ≡ None → Expands macros ks out n → Expands macros (k ∷ ks) (k ∷ out) (1 + n)
-  Replaced : (macros : Macros) (k : Kind) (name : ℕ) (body ks inner out : List Kind) (m n : ℕ) → word_number k ≡ Some name → body_of macros name ≡ Some body
-      → Expands (set macros name None) body inner m → Expands macros ks out n → Expands macros (k ∷ ks) (inner ++ out) (1 + (m + n))
+  Kept : (macros : Macros) (k : Kind) (ks out : List Kind) (n : ℕ) → replacement macros k ≡ None
+      → Expands macros ks out n → Expands macros (k ∷ ks) (k ∷ out) (1 + n)
+  Replaced : (macros : Macros) (k : Kind) (name : ℕ) (body ks inner out : List Kind) (m n : ℕ)
+      → word_number k ≡ Some name → body_of macros name ≡ Some body
+      → Expands (set macros name None) body inner m → Expands macros ks out n
+      → Expands macros (k ∷ ks) (inner ++ out) (1 + (m + n))
 
 abbrev pub placed : Token → List Kind → List Token
 placed token kinds = map (λ k. record token { kind = k }) kinds

@@ -37,14 +37,21 @@ mark_one a =
     else None
 
 abbrev pub mark_two : ℕ → ℕ → Option Punct
-mark_two a b = if is_one_of (codes "-") a then (if is_one_of (codes ">") b then Some punct.Arrow else if is_one_of (codes "-") b then Some punct.MinusMinus else if is_one_of (codes "=") b then Some punct.MinusAssign else None)
-    else if is_one_of (codes "+") a then (if is_one_of (codes "+") b then Some punct.PlusPlus else if is_one_of (codes "=") b then Some punct.PlusAssign else None)
-    else if is_one_of (codes "<") a then (if is_one_of (codes "<") b then Some punct.ShiftLeft else if is_one_of (codes "=") b then Some punct.LessEqual else None)
-    else if is_one_of (codes ">") a then (if is_one_of (codes ">") b then Some punct.ShiftRight else if is_one_of (codes "=") b then Some punct.GreaterEqual else None)
+mark_two a b =
+    if is_one_of (codes "-") a then (if is_one_of (codes ">") b then Some punct.Arrow else if is_one_of (codes "-")
+    b then Some punct.MinusMinus else if is_one_of (codes "=") b then Some punct.MinusAssign else None)
+    else if is_one_of (codes "+") a then (if is_one_of (codes "+") b then Some punct.PlusPlus else if is_one_of
+    (codes "=") b then Some punct.PlusAssign else None)
+    else if is_one_of (codes "<") a then (if is_one_of (codes "<") b then Some punct.ShiftLeft else if is_one_of
+    (codes "=") b then Some punct.LessEqual else None)
+    else if is_one_of (codes ">") a then (if is_one_of (codes ">") b then Some punct.ShiftRight else if is_one_of
+    (codes "=") b then Some punct.GreaterEqual else None)
     else if is_one_of (codes "=") a then (if is_one_of (codes "=") b then Some punct.Equal else None)
     else if is_one_of (codes "!") a then (if is_one_of (codes "=") b then Some punct.NotEqual else None)
-    else if is_one_of (codes "&") a then (if is_one_of (codes "&") b then Some punct.AndAnd else if is_one_of (codes "=") b then Some punct.AndAssign else None)
-    else if is_one_of (codes "|") a then (if is_one_of (codes "|") b then Some punct.OrOr else if is_one_of (codes "=") b then Some punct.OrAssign else None)
+    else if is_one_of (codes "&") a then (if is_one_of (codes "&") b then Some punct.AndAnd else if is_one_of
+    (codes "=") b then Some punct.AndAssign else None)
+    else if is_one_of (codes "|") a then (if is_one_of (codes "|") b then Some punct.OrOr else if is_one_of
+    (codes "=") b then Some punct.OrAssign else None)
     else if is_one_of (codes "*") a then (if is_one_of (codes "=") b then Some punct.StarAssign else None)
     else if is_one_of (codes "/") a then (if is_one_of (codes "=") b then Some punct.SlashAssign else None)
     else if is_one_of (codes "%") a then (if is_one_of (codes "=") b then Some punct.PercentAssign else None)
@@ -54,7 +61,8 @@ mark_two a b = if is_one_of (codes "-") a then (if is_one_of (codes ">") b then 
 abbrev pub mark_three : ℕ → ℕ → ℕ → Option Punct
 mark_three a b c =
     if is_one_of (codes "<") a && is_one_of (codes "<") b && is_one_of (codes "=") c then Some punct.ShiftLeftAssign
-    else if is_one_of (codes ">") a && is_one_of (codes ">") b && is_one_of (codes "=") c then Some punct.ShiftRightAssign
+    else if is_one_of (codes ">") a && is_one_of (codes ">") b
+    && is_one_of (codes "=") c then Some punct.ShiftRightAssign
     else if is_one_of (codes ".") a && is_one_of (codes ".") b && is_one_of (codes ".") c then Some punct.Ellipsis
     else None
 

@@ -4,7 +4,8 @@
 --   spelling_len prev text, number_count text  how long the spelling is that goes on, and that begins a text
 --   zero_byte, upper_a, lower_a    the bytes of 0, A and a
 --   digit_value b, value_in base digits    the value of a digit, and of digits
---   is_u, is_l, is_unsigned_suffix, is_long_suffix, is_mixed_suffix    parts of a suffix: one of u U, one of l L, the one, l L ll LL, and both in either order
+--   is_u, is_l, is_unsigned_suffix, is_long_suffix, is_mixed_suffix    parts of a suffix: one of u U, one of l L, the
+--                                                                      one, l L ll LL, and both in either order
 --   is_suffix suffix     nothing, or at most one u or U and at most one of l L ll LL, in either order
 --   suffix_unsigned, suffix_long    what a suffix says
 --   is_past_int, is_in_unsigned value    an `int` doesn't hold it; an `unsigned int` does then (at 32 bits)
@@ -15,10 +16,12 @@
 --                                                                                                  constant
 --   is_float piece       digits with one point or an exponent or both, and at most one of f F l L after
 --   number_kind piece    what a whole spelling is: a floating constant, an integer constant, or neither
-use Rattle.std.specs.Prelude.{ℕ, ◌+◌, ◌*◌, ◌-◌, ◌^◌, ◌==◌, pos, Bool, true, false, not, ◌&&◌, ◌||◌, List, [], ◌∷◌, fold, drop, nat_le, Option, Some, None, codes, if◌then◌else◌}
+use Rattle.std.specs.Prelude.{ℕ, ◌+◌, ◌*◌, ◌-◌, ◌^◌, ◌==◌, pos, Bool, true, false, not, ◌&&◌, ◌||◌, List, [], ◌∷◌, fold}
+use Rattle.std.specs.Prelude.{drop, nat_le, Option, Some, None, codes, if◌then◌else◌}
 use Rattle.pungi_base.specs.declared.kind.Kind.{Kind}
 use Rattle.pungi_base.specs.declared.kind.Kind.TheVariants as kind
-use Rattle.pungi_lex.specs.Bytes.{is_one_of, is_digit, is_octal_digit, is_hex_digit, is_word_byte, begins, begins_with, front_of, after_front}
+use Rattle.pungi_lex.specs.Bytes.{is_one_of, is_digit, is_octal_digit, is_hex_digit, is_word_byte, begins, begins_with}
+use Rattle.pungi_lex.specs.Bytes.{front_of, after_front}
 
 -- ---- the spelling
 
@@ -53,7 +56,8 @@ lower_a = 97
 
 -- the value of a digit, also of a hexadecimal one
 abbrev pub digit_value : ℕ → ℕ
-digit_value b = if is_digit b then b - zero_byte else if nat_le lower_a b then 10 + (b - lower_a) else 10 + (b - upper_a)
+digit_value b =
+    if is_digit b then b - zero_byte else if nat_le lower_a b then 10 + (b - lower_a) else 10 + (b - upper_a)
 
 abbrev pub value_in : ℕ → List ℕ → ℕ
 value_in base digits = fold (λ value b. base * value + digit_value b) 0 digits
@@ -104,7 +108,8 @@ is_in_unsigned value = is_past_int value && nat_le (value + 1) (2 ^ 32)
 abbrev pub int_kind : Bool → ℕ → List ℕ → Option Kind
 int_kind decimal value suffix =
     if is_suffix suffix && nat_le (value + 1) (2 ^ 127)
-    then Some (kind.Int (pos value) (suffix_long suffix || is_past_int value) (suffix_unsigned suffix || (not decimal && not (suffix_long suffix) && is_in_unsigned value)))
+    then Some (kind.Int (pos value) (suffix_long suffix || is_past_int value)
+    (suffix_unsigned suffix || (not decimal && not (suffix_long suffix) && is_in_unsigned value)))
     else None
 
 abbrev pub begins_hex : List ℕ → Bool
@@ -112,13 +117,17 @@ begins_hex piece = begins_with (codes "0x") piece || begins_with (codes "0X") pi
 
 -- what follows 0x
 abbrev pub hex_of : List ℕ → Option Kind
-hex_of piece = if begins is_hex_digit piece then int_kind false (value_in 16 (front_of is_hex_digit piece)) (after_front is_hex_digit piece) else None
+hex_of piece =
+    if begins is_hex_digit piece then int_kind false (value_in 16 (front_of is_hex_digit piece))
+    (after_front is_hex_digit piece) else None
 
 abbrev pub int_of : List ℕ → Option Kind
 int_of piece =
     if begins_hex piece then hex_of (drop 2 piece)
-    else if begins_with (codes "0") piece then int_kind false (value_in 8 (front_of is_octal_digit piece)) (after_front is_octal_digit piece)
-    else if begins is_digit piece then int_kind true (value_in 10 (front_of is_digit piece)) (after_front is_digit piece)
+    else if begins_with (codes "0") piece then int_kind false (value_in 8 (front_of is_octal_digit piece))
+    (after_front is_octal_digit piece)
+    else if begins is_digit piece then int_kind true (value_in 10 (front_of is_digit piece))
+    (after_front is_digit piece)
     else None
 
 -- ---- floating constants
@@ -136,16 +145,21 @@ after_sign (b ∷ rest) = if is_sign b then rest else b ∷ rest
 -- e or E, maybe a sign, at least one digit, and a suffix
 abbrev pub ends_in_exponent : List ℕ → Bool
 ends_in_exponent [] = false
-ends_in_exponent (b ∷ rest) = is_exponent_letter b && begins is_digit (after_sign rest) && is_float_suffix (after_front is_digit (after_sign rest))
+ends_in_exponent (b ∷ rest) =
+    is_exponent_letter b && begins is_digit (after_sign rest)
+    && is_float_suffix (after_front is_digit (after_sign rest))
 
 -- a point, digits, maybe an exponent, and a suffix; at least one digit before the point, as `some` says, or after it
 abbrev pub ends_in_fraction : Bool → List ℕ → Bool
 ends_in_fraction some [] = false
 ends_in_fraction some (b ∷ rest) =
-    is_one_of (codes ".") b && (some || begins is_digit rest) && (is_float_suffix (after_front is_digit rest) || ends_in_exponent (after_front is_digit rest))
+    is_one_of (codes ".") b && (some || begins is_digit rest)
+    && (is_float_suffix (after_front is_digit rest) || ends_in_exponent (after_front is_digit rest))
 
 abbrev pub is_float : List ℕ → Bool
-is_float piece = ends_in_fraction (begins is_digit piece) (after_front is_digit piece) || (begins is_digit piece && ends_in_exponent (after_front is_digit piece))
+is_float piece =
+    ends_in_fraction (begins is_digit piece) (after_front is_digit piece)
+    || (begins is_digit piece && ends_in_exponent (after_front is_digit piece))
 
 abbrev pub number_kind : List ℕ → Option Kind
 number_kind piece = if is_float piece then Some kind.Float else int_of piece

@@ -1,11 +1,13 @@
 -- The longest spelling at a place (C11 6.4), and what it is.
 --   length_at start text           how long the piece at the front of a text is where this begins, if it is there
---   NamesWord names kind piece, NamesText names kind text, IsMark kind piece    a keyword or a word; a string literal; a punctuator
+--   NamesWord names kind piece, NamesText names kind text, IsMark kind piece    a keyword or a word; a string literal;
+--   a punctuator
 --   IsKind names start kind piece   the kind of this piece under these names; None for blanks and comments
 --   spells start piece              what a piece adds to the names: a word its spelling, a string literal its content
 --   with_texts names texts          these names, and after them those of the texts that are new, in order
 --   IsPieceAt names start text kind n   the piece at the front of a text has this kind and n bytes
-use Rattle.std.specs.Prelude.{◌≡◌, ◌≤◌, ◌<◌, ◌==◌, ℕ, false, List, [], ◌∷◌, length, take, drop, fold, Option, Some, None, is_some, option_map, slice_get, if◌then◌else◌}
+use Rattle.std.specs.Prelude.{◌≡◌, ◌≤◌, ◌<◌, ◌==◌, ℕ, false, List, [], ◌∷◌, length, take, drop, fold, Option, Some}
+use Rattle.std.specs.Prelude.{None, is_some, option_map, slice_get, if◌then◌else◌}
 use Rattle.std.specs.List.{prefix_len}
 use Rattle.pungi_base.specs.declared.kind.Kind.{Kind}
 use Rattle.pungi_base.specs.declared.kind.Kind.TheVariants as kind
@@ -28,7 +30,8 @@ length_at start.Blank text = Some (prefix_len is_blank text)
 length_at start.LineComment text = Some (prefix_len is_in_line text)
 length_at start.Comment text = add_to 2 (close_count (drop 2 text))
 length_at start.Word text = Some (prefix_len is_word_byte text)
-length_at start.Number text = if is_some (number_kind (take (number_count text) text)) then Some (number_count text) else None
+length_at start.Number text =
+    if is_some (number_kind (take (number_count text) text)) then Some (number_count text) else None
 length_at start.Char text = char_length (char_after (drop 1 text))
 length_at start.Text text = add_to 1 (quote_count false (drop 1 text))
 length_at start.Mark text = if mark_len text == 0 then None else Some (mark_len text)
@@ -97,7 +100,8 @@ spells start.Nothing piece = []
 abbrev pub with_texts : List (List ℕ) → List (List ℕ) → List (List ℕ)
 with_texts names texts = fold with_text names texts
 
-pub record IsPieceAt (names : List (List ℕ)) (start : Start) (text : List ℕ) (found : Option Kind) (count : ℕ) : Type 0 where
+pub record IsPieceAt (names : List (List ℕ)) (start : Start) (text : List ℕ) (found : Option Kind) (count : ℕ) :
+    Type 0 where
   pub measured : length_at start text ≡ Some count
   pub some : 0 < count
   pub within : count ≤ length text

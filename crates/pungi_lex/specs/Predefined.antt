@@ -5,12 +5,16 @@
 --   word n, returned object, headed struct    bodies: a word; a return of a new reference; `struct ob_base;`
 --   first_body n        what this name stands for before a text
 --   predefined count    the macros before a text, of so many names
-use Rattle.std.specs.Prelude.{ℕ, zero, suc, ◌+◌, ◌==◌, pos, Bool, false, ◌&&◌, List, [], ◌∷◌, ◌++◌, nat_le, Option, Some, None, if◌then◌else◌}
+use Rattle.std.specs.Prelude.{ℕ, zero, suc, ◌+◌, ◌==◌, pos, Bool, false, ◌&&◌, List, [], ◌∷◌, ◌++◌, nat_le, Option}
+use Rattle.std.specs.Prelude.{Some, None, if◌then◌else◌}
 use Rattle.pungi_base.specs.declared.kind.Kind.{Kind}
 use Rattle.pungi_base.specs.declared.kind.Kind.TheVariants as kind
 use Rattle.pungi_base.specs.declared.key.Key.TheVariants as key
 use Rattle.pungi_base.specs.declared.punct.Punct.TheVariants as punct
-use Rattle.pungi_base.specs.Numbers.{keyword_count, macro_count, py_return_none, py_return_true, py_return_false, py_begin_allow_threads, py_end_allow_threads, py_modinit_func, py_object_head, py_object_var_head, py_lt, py_le, py_eq, py_ne, py_gt, py_ge, py_object, py_var_object, py_none, py_true, py_false, py_new_ref, ob_base}
+use Rattle.pungi_base.specs.Numbers.{keyword_count, macro_count, py_return_none, py_return_true, py_return_false}
+use Rattle.pungi_base.specs.Numbers.{py_begin_allow_threads, py_end_allow_threads, py_modinit_func, py_object_head}
+use Rattle.pungi_base.specs.Numbers.{py_object_var_head, py_lt, py_le, py_eq, py_ne, py_gt, py_ge, py_object}
+use Rattle.pungi_base.specs.Numbers.{py_var_object, py_none, py_true, py_false, py_new_ref, ob_base}
 use Rattle.pungi_lex.specs.Macros.{Macros}
 
 abbrev pub is_predefined : ℕ → Bool
@@ -21,7 +25,9 @@ word n = kind.Word (record { 0 = n })
 
 -- return Py_NewRef(object)
 abbrev pub returned : ℕ → List Kind
-returned object = kind.Key key.Return ∷ word py_new_ref ∷ kind.Punct punct.LeftParen ∷ word object ∷ kind.Punct punct.RightParen ∷ []
+returned object =
+    kind.Key key.Return ∷ word py_new_ref ∷ kind.Punct punct.LeftParen ∷ word object ∷ kind.Punct punct.RightParen
+    ∷ []
 
 -- struct ob_base;
 abbrev pub headed : ℕ → List Kind

@@ -2,7 +2,8 @@
 --   quote_count taken text    how many bytes there are up to the quote that ends a literal and with it, if it ends;
 --                          taken says that a backslash took the first byte with it
 --   content piece          what stands between the quotes, escapes as written
-use Rattle.std.specs.Prelude.{ℕ, ◌-◌, Bool, not, ◌&&◌, List, [], ◌∷◌, length, take, drop, Option, Some, None, codes, if◌then◌else◌}
+use Rattle.std.specs.Prelude.{ℕ, ◌-◌, Bool, not, ◌&&◌, List, [], ◌∷◌, length, take, drop, Option, Some, None, codes}
+use Rattle.std.specs.Prelude.{if◌then◌else◌}
 use Rattle.pungi_lex.specs.Bytes.{is_one_of}
 use Rattle.pungi_lex.specs.Lengths.{add_to}
 

@@ -1,4 +1,5 @@
--- The sizes of integer constants (C11 6.4.4.1: an integer constant that has no suffix and that `int` holds has type `int`).
+-- The sizes of integer constants (C11 6.4.4.1: an integer constant that has no suffix and that `int` holds has type
+-- `int`).
 --   IsSized kind       an integer constant isn't negative, and one that is not long is below 2 to the 31
 --   AreSized tokens    so is each of these tokens
 use Rattle.std.specs.Prelude.{◌≡◌, ◌<◌, ◌^◌, ℕ, pos, false, List}

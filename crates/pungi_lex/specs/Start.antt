@@ -5,7 +5,8 @@
 --   starts_bare text, start_of line text  what begins here, without a look at the line, and as far as the line has come
 --   is_token start       what begins so is a token: no blanks, and no comment
 --   Begins start text    what is sure of a text where this begins
-use Rattle.std.specs.Prelude.{ℕ, Bool, true, false, ◌&&◌, ◌||◌, IsTrue, ◌≤◌, ◌<◌, length, List, [], ◌∷◌, codes, if◌then◌else◌}
+use Rattle.std.specs.Prelude.{ℕ, Bool, true, false, ◌&&◌, ◌||◌, IsTrue, ◌≤◌, ◌<◌, length, List, [], ◌∷◌, codes}
+use Rattle.std.specs.Prelude.{if◌then◌else◌}
 use Rattle.pungi_lex.specs.declared.line.Line.{Line}
 use Rattle.pungi_lex.specs.declared.line.Line.TheVariants as lines
 use Rattle.pungi_lex.specs.declared.start.Start.{Start}

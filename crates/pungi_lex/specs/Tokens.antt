@@ -3,13 +3,14 @@
 --   text_of pieces            the bytes of these pieces
 --   IsCut names line ps rest  a text is these pieces and then rest, each piece the longest at its place
 --   line_after line pieces    how far the line has come after these pieces
---   token_of, tokens_of       the token of a kind; those among pieces, each with its place, whether it is the first on its
---                             line, and whether it touches the token before
+--   token_of, tokens_of       the token of a kind; those among pieces, each with its place, whether it is the first on
+--                             its line, and whether it touches the token before
 --   spelled pieces            the words and the contents of string literals among pieces, in order
 --   AreTokens before after bytes place tokens   the tokens of bytes with their places
 --   AreTokensOf before after text tokens   the tokens of a text, under the names before it and those after it
 --   fault_at start at         what a place is refused as where nothing of its sort is whole
---   IsStuck bytes place fault, IsRefused bytes place fault    the bytes are cut as far as a place and no piece is whole there; so
+--   IsStuck bytes place fault, IsRefused bytes place fault    the bytes are cut as far as a place and no piece is whole
+--                                                             there; so
 --                             they are, but for want of memory
 --   HasFault text fault       the text is cut as far as a place, and nothing of what begins there is whole
 --   HasNoTokens before text   the text has no tokens under these names
@@ -66,7 +67,8 @@ spelled [] = []
 spelled (p ∷ pieces) = spells p.start p.bytes ++ spelled pieces
 
 -- the tokens of bytes with their places
-pub record AreTokens (before after : List (List ℕ)) (bytes : List ℕ) (place : ℕ → Pos) (tokens : List Token) : Type 0 where
+pub record AreTokens (before after : List (List ℕ)) (bytes : List ℕ) (place : ℕ → Pos) (tokens : List Token) : Type
+    0 where
   pub pieces : List Piece
   pub whole : bytes ≡ text_of pieces ++ []
   pub cut : IsCut after lines.Fresh pieces []

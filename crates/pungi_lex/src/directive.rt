@@ -1,8 +1,10 @@
-ghost use Rattle.std.specs.Prelude.{◌≡◌, ◌≢◌, ◌<◌, length, map, get_or, true, false, Some, None, Ok, Err, IfOk, IfErr, IsTrue, MatchOption, []};
+ghost use Rattle.std.specs.Prelude.{◌≡◌, ◌≢◌, ◌<◌, length, map, get_or, true, false, Some, None, Ok, Err, IfOk, IfErr};
+ghost use Rattle.std.specs.Prelude.{IsTrue, MatchOption, []};
 ghost use Rattle.pungi_base.specs.declared.kind.Kind.TheVariants as kind;
 ghost use Rattle.pungi_base.specs.declared.punct.Punct.TheVariants as punct;
 ghost use Rattle.pungi_lex.specs.declared.macro_fault.MacroFault.TheVariants as fault;
-ghost use Rattle.pungi_lex.specs.Directive.{IsHash, IsWord, IsFunctionLike, Redefines, HasNoJointBelow, IsJointAt, Defines, Obeys, IsInclusion, IsDefinition, IsDefinitionOf, kinds_in};
+ghost use Rattle.pungi_lex.specs.Directive.{IsHash, IsWord, IsFunctionLike, Redefines, HasNoJointBelow, IsJointAt};
+ghost use Rattle.pungi_lex.specs.Directive.{Defines, Obeys, IsInclusion, IsDefinition, IsDefinitionOf, kinds_in};
 ghost use Rattle.pungi_lex.specs.MacroFault.{is_want_of_memory};
 ghost use Rattle.pungi_lex.specs.Predefined.{is_predefined};
 
@@ -202,7 +204,8 @@ fn define(
     body: &[Token],
 ) -> Result<(), MacroFault>
     ensures defined { IfOk result (λ _. Defines table.old.items name at body.now (Ok table.new.items)) }
-    ensures fault { IfErr result (λ found. is_want_of_memory found ≡ false → Defines table.old.items name at body.now (Err found)) }
+    ensures fault { IfErr result (λ found. is_want_of_memory found ≡ false
+        → Defines table.old.items name at body.now (Err found)) }
 {
     if is_function_like(body) {
         return Err(MacroFault::FunctionMacro(at));
@@ -260,7 +263,8 @@ pub(crate) fn obey(
     words: &[Token],
 ) -> Result<(), MacroFault>
     ensures obeyed { IfOk result (λ _. Obeys table.old.items hash.now words.now (Ok table.new.items)) }
-    ensures fault { IfErr result (λ found. is_want_of_memory found ≡ false → Obeys table.old.items hash.now words.now (Err found)) }
+    ensures fault { IfErr result (λ found. is_want_of_memory found ≡ false
+        → Obeys table.old.items hash.now words.now (Err found)) }
 {
     if is_inclusion(words) {
         return Ok(());

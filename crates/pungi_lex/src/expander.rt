@@ -31,7 +31,8 @@ fn line_count(tokens: &[Token]) -> usize
 fn expand_tokens(alloc: Global, names: &Names, tokens: &[Token]) -> Result<Vec<Token>, MacroFault>
     requires few { length names.now < 2 ^ 32 }
     ensures expanded { IfOk result (λ out. IsExpanded (length names.now) tokens.now out.items) }
-    ensures fault { IfErr result (λ fault. is_want_of_memory fault ≡ false → HasMacroFault (length names.now) tokens.now fault) }
+    ensures fault { IfErr result (λ fault. is_want_of_memory fault ≡ false
+        → HasMacroFault (length names.now) tokens.now fault) }
 {
     let mut table = predefined(alloc, names.len() as u32)?;
     let mut out = Vec::with_capacity(alloc, tokens.len() + tokens.len() / TOKENS_A_MACRO)?;
@@ -75,12 +76,16 @@ pub fn expand(alloc: Global, names: &Names, tokens: &[Token]) -> Result<Vec<Toke
     requires words { BeginWithWords names.now }
     requires few { length names.now < 2 ^ 32 }
     ensures expanded { IfOk result (λ out. IsExpanded (length names.now) tokens.now out.items) }
-    ensures only { (other : List TheToken) → IsExpanded (length names.now) tokens.now other → IfOk result (λ out. other ≡ out.items) }
+    ensures only { (other : List TheToken) → IsExpanded (length names.now) tokens.now other
+        → IfOk result (λ out. other ≡ out.items) }
     ensures within { IfOk result (λ out. length out.items ≤ token_limit) }
     ensures known { AreKnown names.now tokens.now → IfOk result (λ out. AreKnown names.now out.items) }
-    ensures fault { IfErr result (λ fault. is_want_of_memory fault ≡ false → HasMacroFault (length names.now) tokens.now fault) }
-    ensures first { (other : TheMacroFault) → HasMacroFault (length names.now) tokens.now other → IfErr result (λ fault. is_want_of_memory fault ≡ false → other ≡ fault) }
-    ensures none { IfErr result (λ fault. is_want_of_memory fault ≡ false → HasNoExpansion (length names.now) tokens.now) }
+    ensures fault { IfErr result (λ fault. is_want_of_memory fault ≡ false
+        → HasMacroFault (length names.now) tokens.now fault) }
+    ensures first { (other : TheMacroFault) → HasMacroFault (length names.now) tokens.now other
+        → IfErr result (λ fault. is_want_of_memory fault ≡ false → other ≡ fault) }
+    ensures none { IfErr result (λ fault. is_want_of_memory fault ≡ false
+        → HasNoExpansion (length names.now) tokens.now) }
 {
     expand_tokens(alloc, names, tokens)
 }

@@ -37,7 +37,8 @@ fn emit(
     token: &Token,
     kind: Kind,
 ) -> Result<bool, AllocError>
-    ensures { IfOk result (λ opened. Emits opened token.now kind table.old.items table.new.items out.old.items out.new.items stack.old.items stack.new.items) }
+    ensures { IfOk result (λ opened. Emits opened token.now kind table.old.items table.new.items out.old.items
+        out.new.items stack.old.items stack.new.items) }
 {
     match take_body(table, kind) {
         None => {
@@ -64,10 +65,12 @@ fn expand_word(
     token: &Token,
 ) -> Result<usize, MacroFault>
     requires { used ≤ token_limit }
-    ensures replaced { IfOk result (λ count. IsReplaced table.old.items used token.now out.old.items out.new.items count) }
+    ensures replaced { IfOk result (λ count. IsReplaced table.old.items used token.now out.old.items out.new.items
+        count) }
     ensures within { IfOk result (λ count. count ≤ token_limit) }
     ensures same { OnOk result (table.new.items ≡ table.old.items) }
-    ensures over { IfErr result (λ fault. is_want_of_memory fault ≡ false → IsOverLimit table.old.items used token.now fault) }
+    ensures over { IfErr result (λ fault. is_want_of_memory fault ≡ false
+        → IsOverLimit table.old.items used token.now fault) }
 {
     if used == TOKEN_LIMIT {
         return Err(MacroFault::TooManyTokens(token.pos));
@@ -109,10 +112,12 @@ pub(crate) fn expand_token(
     token: &Token,
 ) -> Result<usize, MacroFault>
     requires { used ≤ token_limit }
-    ensures replaced { IfOk result (λ count. IsReplaced table.old.items used token.now out.old.items out.new.items count) }
+    ensures replaced { IfOk result (λ count. IsReplaced table.old.items used token.now out.old.items out.new.items
+        count) }
     ensures within { IfOk result (λ count. count ≤ token_limit) }
     ensures same { OnOk result (table.new.items ≡ table.old.items) }
-    ensures over { IfErr result (λ fault. is_want_of_memory fault ≡ false → IsOverLimit table.old.items used token.now fault) }
+    ensures over { IfErr result (λ fault. is_want_of_memory fault ≡ false
+        → IsOverLimit table.old.items used token.now fault) }
 {
     if used < TOKEN_LIMIT && !is_word(token.kind) {
         out.push(*token)?;

@@ -101,8 +101,10 @@ fn front_of(at: Pos, text: &[u8]) -> Front
     requires short { length text.now ≤ text_limit }
     requires line { at.line + 1 < 2 ^ 32 }
     requires col { at.col + text_limit < 2 ^ 32 - 1 }
-    ensures bytes { bytes_of (joined_from 0 at text.now) ≡ take result.kept text.now ++ bytes_of (joined_from 0 result.next (drop result.passed text.now)) }
-    ensures places { places_of (joined_from 0 at text.now) ≡ side_by_side at result.kept ++ places_of (joined_from 0 result.next (drop result.passed text.now)) }
+    ensures bytes { bytes_of (joined_from 0 at text.now)
+        ≡ take result.kept text.now ++ bytes_of (joined_from 0 result.next (drop result.passed text.now)) }
+    ensures places { places_of (joined_from 0 at text.now)
+        ≡ side_by_side at result.kept ++ places_of (joined_from 0 result.next (drop result.passed text.now)) }
     ensures some { 0 < length text.now → 0 < result.passed }
     ensures kept { result.kept ≤ result.passed }
     ensures within { result.passed ≤ length text.now }

@@ -40,7 +40,9 @@ impl Body {
 
 /// Takes the body of a word out of the table, if it has one there.
 pub(crate) fn take_body(table: &mut Vec<Option<Body>>, kind: Kind) -> Option<(u32, Body)>
-    ensures { MatchOption result ((replacement table.old.items kind ≡ None) × (table.new.items ≡ table.old.items)) (λ found. (word_number kind ≡ Some found.0) × (body_of table.old.items found.0 ≡ Some found.1) × (table.new.items ≡ set table.old.items found.0 None) × (found.0 < length table.old.items)) }
+    ensures { MatchOption result ((replacement table.old.items kind ≡ None) × (table.new.items ≡ table.old.items))
+        (λ found. (word_number kind ≡ Some found.0) × (body_of table.old.items found.0 ≡ Some found.1)
+        × (table.new.items ≡ set table.old.items found.0 None) × (found.0 < length table.old.items)) }
 {
     match kind {
         Kind::Word(name) => {

@@ -170,7 +170,8 @@ fn mark_found(text: &[u8]) -> Option<Punct>
 /// The longest punctuator at the front of a text.
 #[inline(always)]
 pub(crate) fn longest_mark(text: &[u8]) -> Option<Punct>
-    ensures longest { MatchOption result (mark_len text.now ≡ 0) (λ punct. length (punct_text punct) ≡ mark_len text.now) }
+    ensures longest { MatchOption result (mark_len text.now ≡ 0) (λ punct. length (punct_text punct)
+        ≡ mark_len text.now) }
     ensures spelled { IfSome result (λ punct. punct_text punct ≡ take (length (punct_text punct)) text.now) }
     ensures within { IfSome result (λ punct. length (punct_text punct) ≤ length text.now) }
     ensures some { IfSome result (λ punct. 0 < length (punct_text punct)) }

@@ -1,6 +1,10 @@
 ghost use Rattle.std.specs.Prelude.{◌≡◌, ◌≤◌, ◌<◌, ◌^◌, length, MatchOption, codes};
 ghost use Rattle.pungi_lex.specs.Bytes.{begins, begins_with, after_front, is_digit, is_hex_digit};
-ghost use Rattle.pungi_lex.specs.Number.{goes_on, is_sign as sign, is_u, is_l, is_exponent_letter as exponent_letter, digit_value, number_count, value_in, int_kind, int_of, hex_of, is_float, is_float_suffix, is_unsigned_suffix, is_long_suffix as long_suffix, is_mixed_suffix, is_suffix, ends_in_exponent, ends_in_fraction, after_sign, begins_hex, number_kind};
+ghost use Rattle.pungi_lex.specs.Number.{goes_on, is_sign as sign, is_u, is_l, is_exponent_letter as exponent_letter};
+ghost use Rattle.pungi_lex.specs.Number.{digit_value, number_count, value_in, int_kind, int_of, hex_of, is_float};
+ghost use Rattle.pungi_lex.specs.Number.{is_float_suffix, is_unsigned_suffix, is_long_suffix as long_suffix};
+ghost use Rattle.pungi_lex.specs.Number.{is_mixed_suffix, is_suffix, ends_in_exponent, ends_in_fraction, after_sign};
+ghost use Rattle.pungi_lex.specs.Number.{begins_hex, number_kind};
 
 use crate::bytes::{digit_count, hex_count, is_digit, is_hex_digit, is_word_byte, octal_count};
 use pungi_base::Kind;
@@ -72,7 +76,8 @@ fn digit_value(b: u8) -> u8
 fn value_of(base: u128, digits: &[u8]) -> Option<u128>
     requires some { 0 < base }
     requires small { base ≤ 16 }
-    ensures { MatchOption result (2 ^ 127 ≤ value_in base digits.now) (λ value. (value ≡ value_in base digits.now) × (value < 2 ^ 127)) }
+    ensures { MatchOption result (2 ^ 127 ≤ value_in base digits.now) (λ value. (value ≡ value_in base digits.now)
+        × (value < 2 ^ 127)) }
 {
     let mut value = 0u128;
     for b in digits {

@@ -1,4 +1,5 @@
-ghost use Rattle.std.specs.Prelude.{◌≡◌, ◌≤◌, ◌<◌, ◌+◌, ◌-◌, ◌^◌, ℕ, List, length, take, IfOk, OnOk, OnErr, IfSome, IsTrue, None, Some, MatchOption};
+ghost use Rattle.std.specs.Prelude.{◌≡◌, ◌≤◌, ◌<◌, ◌+◌, ◌-◌, ◌^◌, ℕ, List, length, take, IfOk, OnOk, OnErr, IfSome};
+ghost use Rattle.std.specs.Prelude.{IsTrue, None, Some, MatchOption};
 ghost use Rattle.pungi_base.specs.Names.{with_text, AreNames, Extends};
 ghost use Rattle.pungi_lex.specs.declared.start.Start.TheVariants as start;
 ghost use Rattle.pungi_lex.specs.Bytes.{begins, is_blank, is_in_line, is_letter};
@@ -76,7 +77,8 @@ fn line_comment_piece(text: &[u8]) -> (Option<Kind>, usize)
 
 fn comment_piece(text: &[u8]) -> Option<(Option<Kind>, usize)>
     requires { 2 ≤ length text.now }
-    ensures { (names : List (List ℕ)) → MatchOption result (length_at start.Comment text.now ≡ None) (λ piece. IsPieceAt names start.Comment text.now piece.0 piece.1) }
+    ensures { (names : List (List ℕ)) → MatchOption result (length_at start.Comment text.now ≡ None)
+        (λ piece. IsPieceAt names start.Comment text.now piece.0 piece.1) }
 {
     let (_, behind) = text.split_at(2);
     match close_count(behind) {
@@ -87,7 +89,8 @@ fn comment_piece(text: &[u8]) -> Option<(Option<Kind>, usize)>
 
 fn number_piece(text: &[u8]) -> Option<(Option<Kind>, usize)>
     requires { 0 < length text.now }
-    ensures { (names : List (List ℕ)) → MatchOption result (length_at start.Number text.now ≡ None) (λ piece. IsPieceAt names start.Number text.now piece.0 piece.1) }
+    ensures { (names : List (List ℕ)) → MatchOption result (length_at start.Number text.now ≡ None)
+        (λ piece. IsPieceAt names start.Number text.now piece.0 piece.1) }
 {
     let count = number_count(text);
     let (spelling, _) = text.split_at(count);
@@ -99,7 +102,8 @@ fn number_piece(text: &[u8]) -> Option<(Option<Kind>, usize)>
 
 fn char_piece(text: &[u8]) -> Option<(Option<Kind>, usize)>
     requires { 0 < length text.now }
-    ensures { (names : List (List ℕ)) → MatchOption result (length_at start.Char text.now ≡ None) (λ piece. IsPieceAt names start.Char text.now piece.0 piece.1) }
+    ensures { (names : List (List ℕ)) → MatchOption result (length_at start.Char text.now ≡ None)
+        (λ piece. IsPieceAt names start.Char text.now piece.0 piece.1) }
 {
     let (_, behind) = text.split_at(1);
     match char_behind(behind) {
@@ -110,7 +114,8 @@ fn char_piece(text: &[u8]) -> Option<(Option<Kind>, usize)>
 
 fn mark_piece(text: &[u8]) -> Option<(Option<Kind>, usize)>
     requires { 0 < length text.now }
-    ensures { (names : List (List ℕ)) → MatchOption result (length_at start.Mark text.now ≡ None) (λ piece. IsPieceAt names start.Mark text.now piece.0 piece.1) }
+    ensures { (names : List (List ℕ)) → MatchOption result (length_at start.Mark text.now ≡ None)
+        (λ piece. IsPieceAt names start.Mark text.now piece.0 piece.1) }
 {
     match longest_mark(text) {
         None => None,
@@ -130,7 +135,8 @@ fn word_piece(
     ensures grows { Extends names.old names.new }
     ensures room { length names.new ≤ length names.old + 1 }
     ensures piece { IfOk result (λ piece. IsPieceAt names.new start.Word text.now piece.0 piece.1) }
-    ensures added { IfOk result (λ piece. names.new ≡ with_texts names.old (spells start.Word (take piece.1 text.now))) }
+    ensures added { IfOk result (λ piece. names.new ≡ with_texts names.old
+        (spells start.Word (take piece.1 text.now))) }
     ensures names { AreNames names.old → AreNames names.new }
 {
     let count = word_count(text);
@@ -148,8 +154,10 @@ fn text_piece(
     requires room { length names.old < 2 ^ 32 - 1 }
     ensures grows { Extends names.old names.new }
     ensures room { length names.new ≤ length names.old + 1 }
-    ensures piece { IfOk result (λ found. MatchOption found (length_at start.Text text.now ≡ None) (λ piece. IsPieceAt names.new start.Text text.now piece.0 piece.1)) }
-    ensures added { IfOk result (λ found. IfSome found (λ piece. names.new ≡ with_texts names.old (spells start.Text (take piece.1 text.now)))) }
+    ensures piece { IfOk result (λ found. MatchOption found (length_at start.Text text.now ≡ None)
+        (λ piece. IsPieceAt names.new start.Text text.now piece.0 piece.1)) }
+    ensures added { IfOk result (λ found. IfSome found (λ piece. names.new
+        ≡ with_texts names.old (spells start.Text (take piece.1 text.now)))) }
     ensures names { AreNames names.old → AreNames names.new }
 {
     let (_, behind) = text.split_at(1);
@@ -176,8 +184,10 @@ pub(crate) fn piece_of(
     requires room { length names.old < 2 ^ 32 - 1 }
     ensures grows { Extends names.old names.new }
     ensures room { length names.new ≤ length names.old + 1 }
-    ensures piece { IfOk result (λ found. MatchOption found (length_at start text.now ≡ None) (λ piece. IsPieceAt names.new start text.now piece.0 piece.1)) }
-    ensures added { IfOk result (λ found. IfSome found (λ piece. names.new ≡ with_texts names.old (spells start (take piece.1 text.now)))) }
+    ensures piece { IfOk result (λ found. MatchOption found (length_at start text.now ≡ None)
+        (λ piece. IsPieceAt names.new start text.now piece.0 piece.1)) }
+    ensures added { IfOk result (λ found. IfSome found (λ piece. names.new
+        ≡ with_texts names.old (spells start (take piece.1 text.now)))) }
     ensures names { AreNames names.old → AreNames names.new }
 {
     match start {

@@ -1,5 +1,6 @@
 ghost use Rattle.std.specs.Prelude.{◌≡◌, IfOk};
-ghost use Rattle.pungi_lex.specs.Predefined.{predefined as first_macros, first_body, returned, headed, number as number_kinds};
+ghost use Rattle.pungi_lex.specs.Predefined.{predefined as first_macros, first_body, returned, headed};
+ghost use Rattle.pungi_lex.specs.Predefined.{number as number_kinds};
 
 use crate::macros::Body;
 use pungi_base::words::{

@@ -8,7 +8,8 @@ ghost use Rattle.pungi_lex.specs.Join.{place_in};
 ghost use Rattle.pungi_lex.specs.Known.{AreKnown};
 ghost use Rattle.pungi_lex.specs.Size.{AreSized};
 ghost use Rattle.pungi_lex.specs.Stretch.{places_along, IsNarrow};
-ghost use Rattle.pungi_lex.specs.Tokens.{AreTokens, AreTokensOf, IsRefused, HasFault, HasNoTokens, is_memory, token_of, fault_at};
+ghost use Rattle.pungi_lex.specs.Tokens.{AreTokens, AreTokensOf, IsRefused, HasFault, HasNoTokens, is_memory, token_of};
+ghost use Rattle.pungi_lex.specs.Tokens.{fault_at};
 ghost use Rattle.pungi_lex.specs.Limits.{text_limit};
 ghost use Rattle.pungi_base.specs.Numbers.{keyword_count};
 
@@ -81,7 +82,8 @@ fn cut(
     requires narrow { All IsNarrow stretches.now }
     requires words { keyword_count ≤ length names.old }
     requires room { length names.old < 2 ^ 31 }
-    ensures tokens { IfOk result (λ tokens. AreTokens names.old names.new bytes.now (place_in (places_along stretches.now)) tokens.items) }
+    ensures tokens { IfOk result (λ tokens. AreTokens names.old names.new bytes.now
+        (place_in (places_along stretches.now)) tokens.items) }
     ensures few { IfOk result (λ tokens. length tokens.items ≤ length bytes.now) }
     ensures refused { IfErr result (λ fault. IsRefused bytes.now (place_in (places_along stretches.now)) fault) }
     ensures grows { Extends names.old names.new }
@@ -149,12 +151,14 @@ pub fn lex(alloc: Global, names: &mut Names, text: &[u8]) -> Result<Vec<Token>, 
     requires words { BeginWithWords names.old }
     requires room { length names.old < 2 ^ 31 }
     ensures tokens { IfOk result (λ tokens. AreTokensOf names.old names.new text.now tokens.items) }
-    ensures only { (after : List (List ℕ)) → (tokens : List TheToken) → AreTokensOf names.old after text.now tokens → IfOk result (λ found. (after ≡ names.new) × (tokens ≡ found.items)) }
+    ensures only { (after : List (List ℕ)) → (tokens : List TheToken) → AreTokensOf names.old after text.now tokens
+        → IfOk result (λ found. (after ≡ names.new) × (tokens ≡ found.items)) }
     ensures few { IfOk result (λ tokens. length tokens.items ≤ length text.now) }
     ensures known { IfOk result (λ tokens. AreKnown names.new tokens.items) }
     ensures sized { IfOk result (λ tokens. AreSized tokens.items) }
     ensures fault { IfErr result (λ fault. is_memory fault ≡ false → HasFault text.now fault) }
-    ensures first { (other : TheLexFault) → HasFault text.now other → IfErr result (λ fault. is_memory fault ≡ false → other ≡ fault) }
+    ensures first { (other : TheLexFault) → HasFault text.now other
+        → IfErr result (λ fault. is_memory fault ≡ false → other ≡ fault) }
     ensures none { IfErr result (λ fault. is_memory fault ≡ false → HasNoTokens names.old text.now) }
     ensures grows { Extends names.old names.new }
     ensures names { AreNames names.new }

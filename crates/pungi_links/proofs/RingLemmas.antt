@@ -1,5 +1,6 @@
 -- Lists that follow successors, and rings.
-use Rattle.std.proofs.Common.{◌≡◌, ◌∙◌, ℕ, zero, suc, ◌+◌, ◌<◌, ◌≤◌, ◌⊎◌, inl, inr, ◌==◌, Bool, true, false, List, [], ◌∷◌, ◌++◌, length, slice_index, refl, sym, ap, arith, subst}
+use Rattle.std.proofs.Common.{◌≡◌, ◌∙◌, ℕ, zero, suc, ◌+◌, ◌<◌, ◌≤◌, ◌⊎◌, inl, inr, ◌==◌, Bool, true, false, List, []}
+use Rattle.std.proofs.Common.{◌∷◌, ◌++◌, length, slice_index, refl, sym, ap, arith, subst}
 use Rattle.std.specs.Prelude.{if◌then◌else◌}
 use Rattle.std.proofs.lemmas.Bool.{cases_eq}
 use Rattle.std.proofs.lemmas.Bool.Decides.{nat_tests}
@@ -25,7 +26,11 @@ pub stands_or_not : (x : ℕ) (xs : List ℕ) → Stands x xs ⊎ (Stands x xs �
 stands_or_not x [] = inr (λ h. h)
 stands_or_not x (y ∷ ys) = elim (cases_eq x y) [
   | inl e ↦ inl (inl e)
-  | inr ne ↦ elim (stands_or_not x ys) [ inl h ↦ inl (inr h) | inr no_more ↦ inr (λ h. elim h [ inl e ↦ ne e | inr m ↦ no_more m ]) ]
+  | inr ne ↦ elim (stands_or_not x ys) [
+    | inl h ↦ inl (inr h)
+    | inr no_more ↦ inr
+        (λ h. elim h [ inl e ↦ ne e | inr m ↦ no_more m ])
+  ]
 ]
 
 -- no repeat
@@ -43,7 +48,8 @@ distinct_apart [] ys x d h k = h
 distinct_apart (y ∷ xs) ys x d (inl e) k = d.0 (stands_right y xs ys (rw (← e) k))
 distinct_apart (y ∷ xs) ys x d (inr h) k = distinct_apart xs ys x d.1 h k
 
-pub distinct_append : (xs ys : List ℕ) → NoRepeat xs → NoRepeat ys → ((x : ℕ) → Stands x xs → Stands x ys → ⊥) → NoRepeat (xs ++ ys)
+pub distinct_append : (xs ys : List ℕ) → NoRepeat xs → NoRepeat ys → ((x : ℕ) → Stands x xs → Stands x ys → ⊥)
+    → NoRepeat (xs ++ ys)
 distinct_append [] ys d e apart = e
 distinct_append (x ∷ xs) ys d e apart = (
   λ h. elim (stands_cases x xs ys h) [ inl l ↦ d.0 l | inr r ↦ apart x (inl refl) r ],
@@ -61,7 +67,8 @@ unfolding take_away
 less_one n [] = omega arith
 less_one n (x ∷ xs) = go (x == n) refl (less_one n xs)
   where
-    go : (b : Bool) → (x == n) ≡ b → length xs ≤ length (take_away n xs) + 1 → length (x ∷ xs) ≤ length (take_away n (x ∷ xs)) + 1
+    go : (b : Bool) → (x == n) ≡ b → length xs ≤ length (take_away n xs) + 1
+        → length (x ∷ xs) ≤ length (take_away n (x ∷ xs)) + 1
     go true e h = rw e (omega arith)
     go false e h = rw e (omega (arith, h))
 
@@ -70,9 +77,11 @@ unfolding take_away
 stands_before n y [] h = h
 stands_before n y (x ∷ xs) h = go (x == n) refl h (stands_before n y xs)
   where
-    go : (b : Bool) → (x == n) ≡ b → Stands y (take_away n (x ∷ xs)) → (Stands y (take_away n xs) → Stands y xs) → Stands y (x ∷ xs)
+    go : (b : Bool) → (x == n) ≡ b → Stands y (take_away n (x ∷ xs)) → (Stands y (take_away n xs) → Stands y xs)
+        → Stands y (x ∷ xs)
     go true e h rec = inr (rw e at h)
-    go false e h rec = let k : (y ≡ x) ⊎ Stands y (take_away n xs) = rw e at h in elim k [ inl f ↦ inl f | inr m ↦ inr (rec m) ]
+    go false e h rec = let k : (y ≡ x) ⊎ Stands y (take_away n xs) = rw e at h in elim k
+        [ inl f ↦ inl f | inr m ↦ inr (rec m) ]
 
 taken_distinct : (n : ℕ) (xs : List ℕ) → NoRepeat xs → NoRepeat (take_away n xs)
 unfolding take_away
@@ -89,7 +98,8 @@ taken_below n y [] d h is = h
 taken_below n y (x ∷ xs) d h is = go (x == n) refl h (λ m. taken_below n y xs d.1 m is)
   where
     go : (b : Bool) → (x == n) ≡ b → Stands y (take_away n (x ∷ xs)) → (Stands y (take_away n xs) → ⊥) → ⊥
-    go true e h rec = let k : Stands y xs = rw e at h in let f : x ≡ n = grind (arith, nat_tests) in let P : ℕ → Type 0 = λ z. Stands z xs in d.0 (subst P (is ∙ sym f) k)
+    go true e h rec = let k : Stands y xs = rw e at h in let f : x ≡ n = grind (arith, nat_tests) in let P : ℕ
+        → Type 0 = λ z. Stands z xs in d.0 (subst P (is ∙ sym f) k)
     go false e h rec =
         let k : (y ≡ x) ⊎ Stands y (take_away n xs) = rw e at h in
         let ne : x ≡ n → ⊥ = grind (arith, nat_tests) in
@@ -99,22 +109,26 @@ pub at_most : (n : ℕ) (xs : List ℕ) → NoRepeat xs → ((x : ℕ) → Stand
 at_most zero [] d below = omega arith
 at_most zero (x ∷ xs) d below = let h = below x (inl refl) in absurd (omega (arith, h))
 at_most (suc n) xs d below =
-    let rest = at_most n (take_away n xs) (taken_distinct n xs d) (λ y h. let a = below y (stands_before n y xs h) in let ne : y ≡ n → ⊥ = taken_below n y xs d h in omega (arith, a, ne)) in
+    let rest = at_most n (take_away n xs) (taken_distinct n xs d) (λ y h. let a = below y (stands_before n y xs h)
+    in let ne : y ≡ n → ⊥ = taken_below n y xs d h in omega (arith, a, ne)) in
     let more = less_one n xs in
     omega (arith, rest, more)
 
 -- leading
 
-pub leads_append : (next : List ℕ) (a : ℕ) (xs : List ℕ) (b : ℕ) (ys : List ℕ) (c : ℕ) → Leads next a xs b → Leads next b ys c → Leads next a (xs ++ ys) c
+pub leads_append : (next : List ℕ) (a : ℕ) (xs : List ℕ) (b : ℕ) (ys : List ℕ) (c : ℕ) → Leads next a xs b
+    → Leads next b ys c → Leads next a (xs ++ ys) c
 leads_append next a [] b ys c l m = rw l m
 leads_append next a (x ∷ xs) b ys c l m = (l.0, leads_append next (slice_index next a) xs b ys c l.1 m)
 
 -- where the second part begins
-pub leads_split : (next : List ℕ) (a : ℕ) (xs : List ℕ) (y : ℕ) (ys : List ℕ) (c : ℕ) → Leads next a (xs ++ y ∷ ys) c → Leads next a xs y × Leads next y (y ∷ ys) c
+pub leads_split : (next : List ℕ) (a : ℕ) (xs : List ℕ) (y : ℕ) (ys : List ℕ) (c : ℕ)
+    → Leads next a (xs ++ y ∷ ys) c → Leads next a xs y × Leads next y (y ∷ ys) c
 leads_split next a [] y ys c l = (sym l.0, (refl, rw (l.0) l.1))
 leads_split next a (x ∷ xs) y ys c l = let r = leads_split next (slice_index next a) xs y ys c l.1 in ((l.0, r.0), r.1)
 
-pub leads_same : (next next' : List ℕ) (a : ℕ) (xs : List ℕ) (b : ℕ) → ((x : ℕ) → Stands x xs → slice_index next' x ≡ slice_index next x) → Leads next a xs b → Leads next' a xs b
+pub leads_same : (next next' : List ℕ) (a : ℕ) (xs : List ℕ) (b : ℕ)
+    → ((x : ℕ) → Stands x xs → slice_index next' x ≡ slice_index next x) → Leads next a xs b → Leads next' a xs b
 leads_same next next' a [] b same l = l
 leads_same next next' a (x ∷ xs) b same l =
     let e : slice_index next' a ≡ slice_index next a = rw (l.0) at (same x (inl refl)) in
@@ -128,12 +142,14 @@ pub last_stands : (x : ℕ) (xs : List ℕ) → Stands (last_of x xs) (x ∷ xs)
 last_stands x [] = inl refl
 last_stands x (y ∷ ys) = inr (last_stands y ys)
 
-pub last_leads : (next : List ℕ) (a x : ℕ) (xs : List ℕ) (b : ℕ) → Leads next a (x ∷ xs) b → slice_index next (last_of x xs) ≡ b
+pub last_leads : (next : List ℕ) (a x : ℕ) (xs : List ℕ) (b : ℕ) → Leads next a (x ∷ xs) b
+    → slice_index next (last_of x xs) ≡ b
 last_leads next a x [] b l = rw (l.0) (l.1)
 last_leads next a x (y ∷ ys) b l = last_leads next (slice_index next a) y ys b l.1
 
 -- the last one leads elsewhere
-pub leads_turned : (next next' : List ℕ) (a x : ℕ) (xs : List ℕ) (b b' : ℕ) → NoRepeat (x ∷ xs) → ((y : ℕ) → Stands y (x ∷ xs) → (y ≡ last_of x xs → ⊥) → slice_index next' y ≡ slice_index next y)
+pub leads_turned : (next next' : List ℕ) (a x : ℕ) (xs : List ℕ) (b b' : ℕ) → NoRepeat (x ∷ xs)
+    → ((y : ℕ) → Stands y (x ∷ xs) → (y ≡ last_of x xs → ⊥) → slice_index next' y ≡ slice_index next y)
     → slice_index next' (last_of x xs) ≡ b' → Leads next a (x ∷ xs) b → Leads next' a (x ∷ xs) b'
 leads_turned next next' a x [] b b' d same turned l = (l.0, rw (← l.0) turned)
 leads_turned next next' a x (y ∷ ys) b b' d same turned l =
@@ -143,7 +159,8 @@ leads_turned next next' a x (y ∷ ys) b b' d same turned l =
     (l.0, rw e (leads_turned next next' (slice_index next a) y ys b b' d.1 (λ z h k. same z (inr h) k) turned l.1))
 
 -- two ways to the same place
-leads_unique : (next : List ℕ) (c : ℕ) (xs ys : List ℕ) (a : ℕ) → Leads next c xs a → Leads next c ys a → (Stands a xs → ⊥) → (Stands a ys → ⊥) → xs ≡ ys
+leads_unique : (next : List ℕ) (c : ℕ) (xs ys : List ℕ) (a : ℕ) → Leads next c xs a → Leads next c ys a
+    → (Stands a xs → ⊥) → (Stands a ys → ⊥) → xs ≡ ys
 leads_unique next c [] [] a l m out out' = refl
 leads_unique next c [] (y ∷ ys) a l m out out' = absurd (out' (inl (sym l ∙ sym m.0)))
 leads_unique next c (x ∷ xs) [] a l m out out' = absurd (out (inl (sym m ∙ sym l.0)))
@@ -157,7 +174,8 @@ pub ring_unique : (next : List ℕ) (a : ℕ) (xs ys : List ℕ) → IsRing next
 ring_unique next a [] ys r s = let h = r.some in absurd (omega (arith, h))
 ring_unique next a (x ∷ xs) [] r s = let h = s.some in absurd (omega (arith, h))
 ring_unique next a (x ∷ xs) (y ∷ ys) r s =
-    let rest = leads_unique next (slice_index next a) xs ys a r.leads.1 s.leads.1 (λ h. r.distinct.0 (rw (r.leads.0) h)) (λ h. s.distinct.0 (rw (s.leads.0) h)) in
+    let rest = leads_unique next (slice_index next a) xs ys a r.leads.1 s.leads.1
+    (λ h. r.distinct.0 (rw (r.leads.0) h)) (λ h. s.distinct.0 (rw (s.leads.0) h)) in
     rw (r.leads.0, s.leads.0, rest) refl
 
 pub split_at : (c : ℕ) (xs : List ℕ) → Stands c xs → (us : List ℕ) × (vs : List ℕ) × (xs ≡ us ++ c ∷ vs)
@@ -166,24 +184,38 @@ split_at c (x ∷ xs) (inl e) = ([], xs, rw e refl)
 split_at c (x ∷ xs) (inr h) = let s = split_at c xs h in (x ∷ s.0, s.1, ap (λ l. x ∷ l) s.2)
 
 -- a ring read from another of its members on
-pub ring_from : (next : List ℕ) (a c : ℕ) (us vs : List ℕ) → IsRing next a (us ++ c ∷ vs) → IsRing next c ((c ∷ vs) ++ us)
+pub ring_from : (next : List ℕ) (a c : ℕ) (us vs : List ℕ) → IsRing next a (us ++ c ∷ vs)
+    → IsRing next c ((c ∷ vs) ++ us)
 ring_from next a c us vs r = record {
   leads = (let s = leads_split next a us c vs a r.leads in leads_append next c (c ∷ vs) a us c s.1 s.0);
   some = omega arith;
-  distinct = distinct_append (c ∷ vs) us (distinct_right us (c ∷ vs) r.distinct) (distinct_left us (c ∷ vs) r.distinct) (λ x h k. distinct_apart us (c ∷ vs) x r.distinct k h);
-  within = λ x h. r.within x (elim (stands_cases x (c ∷ vs) us h) [ inl l ↦ stands_right x us (c ∷ vs) l | inr m ↦ stands_left x us (c ∷ vs) m ]);
+  distinct = distinct_append (c ∷ vs) us (distinct_right us (c ∷ vs) r.distinct)
+      (distinct_left us (c ∷ vs) r.distinct) (λ x h k. distinct_apart us (c ∷ vs) x r.distinct k h);
+  within = λ x h. r.within x (elim (stands_cases x (c ∷ vs) us h) [
+    | inl l ↦ stands_right x us (c ∷ vs) l
+    | inr m ↦
+        stands_left x us (c ∷ vs) m
+  ]);
 }
 
 -- another member has a ring of the same members
-pub ring_of : (next : List ℕ) (a c : ℕ) (xs : List ℕ) → IsRing next a xs → Stands c xs → (ys : List ℕ) × IsRing next c ys × ((x : ℕ) → Stands x xs → Stands x ys) × ((x : ℕ) → Stands x ys → Stands x xs)
+pub ring_of : (next : List ℕ) (a c : ℕ) (xs : List ℕ) → IsRing next a xs → Stands c xs
+    → (ys : List ℕ) × IsRing next c ys × ((x : ℕ) → Stands x xs → Stands x ys)
+    × ((x : ℕ) → Stands x ys → Stands x xs)
 ring_of next a c xs r h =
     let s = split_at c xs h in
     let r' : IsRing next a (s.0 ++ c ∷ s.1) = rw (s.2) at r in
     let P : ℕ → List ℕ → Type 0 = λ x l. Stands x l in (
       (c ∷ s.1) ++ s.0,
       ring_from next a c s.0 s.1 r',
-      λ x k. elim (stands_cases x s.0 (c ∷ s.1) (subst (P x) (s.2) k)) [ inl l ↦ stands_right x (c ∷ s.1) s.0 l | inr m ↦ stands_left x (c ∷ s.1) s.0 m ],
-      λ x k. subst (P x) (sym (s.2)) (elim (stands_cases x (c ∷ s.1) s.0 k) [ inl l ↦ stands_right x s.0 (c ∷ s.1) l | inr m ↦ stands_left x s.0 (c ∷ s.1) m ]),
+      λ x k. elim (stands_cases x s.0 (c ∷ s.1) (subst (P x) (s.2) k)) [
+        | inl l ↦ stands_right x (c ∷ s.1) s.0 l
+        | inr m ↦ stands_left x (c ∷ s.1) s.0 m
+      ],
+      λ x k. subst (P x) (sym (s.2)) (elim (stands_cases x (c ∷ s.1) s.0 k) [
+        | inl l ↦ stands_right x s.0 (c ∷ s.1) l
+        | inr m ↦ stands_left x s.0 (c ∷ s.1) m
+      ]),
     )
 
 pub ring_begins : (next : List ℕ) (a : ℕ) (xs : List ℕ) → IsRing next a xs → Stands a xs
@@ -191,26 +223,33 @@ ring_begins next a [] r = let h = r.some in absurd (omega (arith, h))
 ring_begins next a (x ∷ xs) r = inl (sym (r.leads.0))
 
 -- a member of one's ring has one in its own ring
-pub ring_mutual : (next : List ℕ) (a c : ℕ) (xs zs : List ℕ) → IsRing next a xs → IsRing next c zs → Stands a zs → Stands c xs
+pub ring_mutual : (next : List ℕ) (a c : ℕ) (xs zs : List ℕ) → IsRing next a xs → IsRing next c zs → Stands a zs
+    → Stands c xs
 ring_mutual next a c xs zs r s h =
     let t = ring_of next c a zs s h in
     let P : List ℕ → Type 0 = λ l. Stands c l in
     subst P (ring_unique next a t.0 xs t.1 r) (t.2 c (ring_begins next c zs s))
 
 -- rings that have a member in common
-pub ring_joint : (next : List ℕ) (a b z : ℕ) (xs ys : List ℕ) → IsRing next a xs → IsRing next b ys → Stands z xs → Stands z ys → Stands b xs
+pub ring_joint : (next : List ℕ) (a b z : ℕ) (xs ys : List ℕ) → IsRing next a xs → IsRing next b ys → Stands z xs
+    → Stands z ys → Stands b xs
 ring_joint next a b z xs ys r s h k = let t = ring_of next a z xs r h in t.3 b (ring_mutual next z b t.0 ys t.1 s k)
 
-next_stands : (next : List ℕ) (b : ℕ) (ys : List ℕ) (d c : ℕ) → Leads next b ys d → Stands c ys → Stands (slice_index next c) ys ⊎ (slice_index next c ≡ d)
+next_stands : (next : List ℕ) (b : ℕ) (ys : List ℕ) (d c : ℕ) → Leads next b ys d → Stands c ys
+    → Stands (slice_index next c) ys ⊎ (slice_index next c ≡ d)
 next_stands next b [] d c l h = absurd h
 next_stands next b (y ∷ []) d c l (inl e) = inr (ap (slice_index next) (e ∙ l.0) ∙ l.1)
 next_stands next b (y ∷ []) d c l (inr h) = absurd h
 next_stands next b (y ∷ z ∷ zs) d c l (inl e) = inl (inr (inl (ap (slice_index next) (e ∙ l.0) ∙ sym l.1.0)))
-next_stands next b (y ∷ z ∷ zs) d c l (inr h) = elim (next_stands next (slice_index next b) (z ∷ zs) d c l.1 h) [ inl m ↦ inl (inr m) | inr e ↦ inr e ]
+next_stands next b (y ∷ z ∷ zs) d c l (inr h) =
+    elim (next_stands next (slice_index next b) (z ∷ zs) d c l.1 h) [ inl m ↦ inl (inr m) | inr e ↦ inr e ]
 
 -- the successor of a member is one
-pub ring_next : (next : List ℕ) (a c : ℕ) (xs : List ℕ) → IsRing next a xs → Stands c xs → Stands (slice_index next c) xs
-ring_next next a c xs r h = let P : ℕ → Type 0 = λ z. Stands z xs in elim (next_stands next a xs a c r.leads h) [ inl m ↦ m | inr e ↦ subst P (sym e) (ring_begins next a xs r) ]
+pub ring_next : (next : List ℕ) (a c : ℕ) (xs : List ℕ) → IsRing next a xs → Stands c xs
+    → Stands (slice_index next c) xs
+ring_next next a c xs r h =
+    let P : ℕ → Type 0 = λ z. Stands z xs in elim (next_stands next a xs a c r.leads h)
+    [ inl m ↦ m | inr e ↦ subst P (sym e) (ring_begins next a xs r) ]
 
 -- a ring has at most as many members as there are
 pub ring_short : (next : List ℕ) (a : ℕ) (xs : List ℕ) → IsRing next a xs → length xs ≤ length next

@@ -5,7 +5,8 @@
 --   IsPending s              the numbers of the list are below the limit, and none stands twice
 --   Puts old i new result    the number is last, if it wasn't in the list; otherwise nothing changes
 --   Takes old new result     the first number is removed, if there is one
-use Rattle.std.specs.Prelude.{◌≡◌, ℕ, ◌+◌, ◌<◌, List, [], ◌∷◌, ◌++◌, length, slice_index, Bool, true, false, Option, None, Some}
+use Rattle.std.specs.Prelude.{◌≡◌, ℕ, ◌+◌, ◌<◌, List, [], ◌∷◌, ◌++◌, length, slice_index, Bool, true, false, Option}
+use Rattle.std.specs.Prelude.{None, Some}
 use Rattle.pungi_links.specs.Ring.{Stands, NoRepeat, IsRing, way}
 
 pub record PendingState : Type 0 where

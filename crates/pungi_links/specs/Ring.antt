@@ -34,7 +34,8 @@ AreRings next = (a : ℕ) → a < length next → (xs : List ℕ) × IsRing next
 pub record IsPartition (next : List ℕ) : Type 0 where
   pub each : AreRings next
   pub one : (a : ℕ) (xs ys : List ℕ) → IsRing next a xs → IsRing next a ys → xs ≡ ys
-  pub joint : (a b x : ℕ) (xs ys : List ℕ) → IsRing next a xs → IsRing next b ys → Stands b xs → Stands x xs → Stands x ys
+  pub joint : (a b x : ℕ) (xs ys : List ℕ) → IsRing next a xs → IsRing next b ys → Stands b xs → Stands x xs
+      → Stands x ys
 
 abbrev pub walk : ℕ → List ℕ → ℕ → ℕ → List ℕ
 walk zero next c a = []

@@ -1,5 +1,6 @@
 -- The codes of a checked file: each function in which no rule holds is passed, and its code is well-formed.
-use Rattle.std.proofs.Common.{◌≡◌, ℕ, zero, suc, ◌+◌, ◌*◌, ◌≤◌, ◌^◌, ◌++◌, arith, length, Bool, true, false, List, [], ◌∷◌, Option, Some, None, map, option_map, slice_get, refl, sym, ap, subst, ◌∙◌}
+use Rattle.std.proofs.Common.{◌≡◌, ℕ, zero, suc, ◌+◌, ◌*◌, ◌≤◌, ◌^◌, ◌++◌, arith, length, Bool, true, false, List, []}
+use Rattle.std.proofs.Common.{◌∷◌, Option, Some, None, map, option_map, slice_get, refl, sym, ap, subst, ◌∙◌}
 use Rattle.std.specs.Prelude.{is_some, if◌then◌else◌}
 use Rattle.pungi_base.specs.declared.entry.Entry.{Entry}
 use Rattle.pungi_base.specs.declared.names.Name.{Name}
@@ -36,7 +37,8 @@ use Rattle.pungi_lower.proofs.TypedLaws.{agree_if_passed}
 
 -- ---- each function in which no rule holds is passed
 
-own-at : (whole ds : List Definition) (i : ℕ) (d : Definition) → AreOwn whole ds → slice_get ds i ≡ Some d → definition_in whole d.name.0 ≡ Some d
+own-at : (whole ds : List Definition) (i : ℕ) (d : Definition) → AreOwn whole ds → slice_get ds i ≡ Some d
+    → definition_in whole d.name.0 ≡ Some d
 own-at whole [] i d own e = absurd (cc)
 own-at whole (x ∷ ds) zero d own e =
     let s : Some x ≡ Some d = e in
@@ -44,9 +46,16 @@ own-at whole (x ∷ ds) zero d own e =
     subst (λ (y : Definition). definition_in whole y.name.0 ≡ Some y) same own.0
 own-at whole (x ∷ ds) (suc i) d own e = own-at whole ds i d own.1 e
 
-pub passed-all : (c : CheckedFile) → AreOwn (definitions c.file.items) (definitions c.file.items) → IsRefusedSet c.file c.refused → IsEachPassed c
+pub passed-all : (c : CheckedFile) → AreOwn (definitions c.file.items) (definitions c.file.items)
+    → IsRefusedSet c.file c.refused → IsEachPassed c
 passed-all c own set = λ i d at none.
-    record { outside = refl; own = own-at (definitions c.file.items) (definitions c.file.items) i d own at; others = set.holds; passed = none }
+    record {
+      outside = refl;
+      own = own-at (definitions c.file.items) (definitions c.file.items) i d own at;
+      others
+          = set.holds;
+      passed = none;
+    }
 
 -- ---- the function of a code
 
@@ -64,18 +73,21 @@ code-where true k code e =
     let same : k ≡ code = cc in
     (refl, same)
 
-none-where : (r : Option Finding) (f : ResolvedFunction) (code : Code) → code_for (if is_some r then None else Some f) ≡ Some code → (r ≡ None) × (code_for (Some f) ≡ Some code)
+none-where : (r : Option Finding) (f : ResolvedFunction) (code : Code)
+    → code_for (if is_some r then None else Some f) ≡ Some code → (r ≡ None) × (code_for (Some f) ≡ Some code)
 none-where (Some x) f code e = absurd (cc)
 none-where None f code e = (refl, e)
 
-source-of : (c : CheckedFile) (d : Definition) (code : Code) → code_for (resolution_of c.file c.refused d) ≡ Some code → Source c (d ∷ []) 0 code
+source-of : (c : CheckedFile) (d : Definition) (code : Code)
+    → code_for (resolution_of c.file c.refused d) ≡ Some code → Source c (d ∷ []) 0 code
 source-of c d code e =
     let f = resolved c.file c.refused d in
     let passed = none-where (refusal c.file c.refused d) f code e in
     let there = code-where (has_no_call f.body) (code_of f) code passed.1 in
     record { d = d; at = refl; none = passed.0; free = there.0; is = there.1 }
 
-source-at : (c : CheckedFile) (ds : List Definition) (i : ℕ) (code : Code) → slice_get (map code_for (map (resolution_of c.file c.refused) ds)) i ≡ Some (Some code) → Source c ds i code
+source-at : (c : CheckedFile) (ds : List Definition) (i : ℕ) (code : Code)
+    → slice_get (map code_for (map (resolution_of c.file c.refused) ds)) i ≡ Some (Some code) → Source c ds i code
 source-at c [] i code e = absurd (cc)
 source-at c (x ∷ ds) zero code e =
     let s : Some (code_for (resolution_of c.file c.refused x)) ≡ Some (Some code) = e in
@@ -89,12 +101,14 @@ source-at c (x ∷ ds) (suc i) code e =
 
 -- ---- the codes
 
-within-locals : (f : ResolvedFunction) → HasLocals f → (statics : ℕ) (entry : Entry) → entry_fits f.params statics entry ≡ true → length entry.args ≤ f.locals
+within-locals : (f : ResolvedFunction) → HasLocals f → (statics : ℕ) (entry : Entry)
+    → entry_fits f.params statics entry ≡ true → length entry.args ≤ f.locals
 within-locals f locals statics entry fits =
     let few = fit-count statics f.params entry fits in
     omega (arith, few, locals)
 
-lowered-one : (c : CheckedFile) (d : Definition) (code : Code) → IsPassed (file_env c.file c.refused d.name.0) d → code_of (resolved c.file c.refused d) ≡ code
+lowered-one : (c : CheckedFile) (d : Definition) (code : Code) → IsPassed (file_env c.file c.refused d.name.0) d
+    → code_of (resolved c.file c.refused d) ≡ code
     → IsLowered (resolved c.file c.refused d) (function_nodes d) code
 lowered-one c d code passed is =
     let env = file_env c.file c.refused d.name.0 in
@@ -107,12 +121,14 @@ lowered-one c d code passed is =
       alike = subst (λ (m : ℕ). Behaves f (body_code f) m 65536) (sym long) alike;
       small = code-few env d;
       keeps = keeps_nothing f sound;
-      fits = λ statics entry. entries_alike statics f.params (map kind_held (stmt_declared f.body) ++ temp_kinds (stmt_nodes f.body)) entry;
+      fits = λ statics entry. entries_alike statics f.params (map kind_held (stmt_declared f.body)
+          ++ temp_kinds (stmt_nodes f.body)) entry;
       within = λ statics entry fits. within-locals f (function-locals env d) statics entry fits;
     } in
     subst (λ (k : Code). IsLowered f (function_nodes d) k) is lowered
 
-pub all-lowered : (c : CheckedFile) → AreOwn (definitions c.file.items) (definitions c.file.items) → IsRefusedSet c.file c.refused → AreLowered c (codes_of c)
+pub all-lowered : (c : CheckedFile) → AreOwn (definitions c.file.items) (definitions c.file.items)
+    → IsRefusedSet c.file c.refused → AreLowered c (codes_of c)
 all-lowered c own set = λ i d code at e.
     let h = source-at c (definitions c.file.items) i code e in
     let both : Some h.d ≡ Some d = sym h.at ∙ at in
@@ -120,40 +136,54 @@ all-lowered c own set = λ i d code at e.
     let one = lowered-one c h.d code (passed-all c own set i h.d h.at h.none) h.is in
     subst (λ (x : Definition). IsLowered (resolved c.file c.refused x) (function_nodes x) code) same one
 
-each-well-formed : (c : CheckedFile) → AreOwn (definitions c.file.items) (definitions c.file.items) → IsRefusedSet c.file c.refused → are_rows c.file.rows ≡ true
+each-well-formed : (c : CheckedFile) → AreOwn (definitions c.file.items) (definitions c.file.items)
+    → IsRefusedSet c.file c.refused → are_rows c.file.rows ≡ true
     → (i : ℕ) (code : Code) → slice_get (codes_of c) i ≡ Some (Some code) → IsWellFormed code
 each-well-formed c own set rows = λ i code e.
     let h = source-at c (definitions c.file.items) i code e in
     let passed = passed-all c own set i h.d h.at h.none in
-    subst (λ (k : Code). IsWellFormed k) h.is (function-well-formed (file_env c.file c.refused h.d.name.0) h.d passed rows h.free)
+    subst (λ (k : Code). IsWellFormed k) h.is (function-well-formed (file_env c.file c.refused h.d.name.0) h.d
+    passed rows h.free)
 
-all-agree : (c : CheckedFile) → AreOwn (definitions c.file.items) (definitions c.file.items) → IsRefusedSet c.file c.refused → are_rows c.file.rows ≡ true
-    → (i j : ℕ) (a b : Code) → slice_get (codes_of c) i ≡ Some (Some a) → slice_get (codes_of c) j ≡ Some (Some b) → AgreeOnKinds a b
+all-agree : (c : CheckedFile) → AreOwn (definitions c.file.items) (definitions c.file.items)
+    → IsRefusedSet c.file c.refused → are_rows c.file.rows ≡ true
+    → (i j : ℕ) (a b : Code) → slice_get (codes_of c) i ≡ Some (Some a) → slice_get (codes_of c) j ≡ Some (Some b)
+    → AgreeOnKinds a b
 all-agree c own set rows = λ i j a b x y.
     let g = source-at c (definitions c.file.items) i a x in
     let h = source-at c (definitions c.file.items) j b y in
     let p = passed-all c own set i g.d g.at g.none in
     let q = passed-all c own set j h.d h.at h.none in
     let both : AgreeOnKinds (code_of (resolved c.file c.refused g.d)) (code_of (resolved c.file c.refused h.d)) =
-    agree_if_passed (resolved c.file c.refused g.d) (resolved c.file c.refused h.d) (file_env c.file c.refused g.d.name.0) (file_env c.file c.refused h.d.name.0) g.d
+    agree_if_passed (resolved c.file c.refused g.d) (resolved c.file c.refused h.d)
+    (file_env c.file c.refused g.d.name.0) (file_env c.file c.refused h.d.name.0) g.d
     h.d refl p q rows rows refl refl g.free h.free in
-    subst (λ (k : Code). AgreeOnKinds k b) g.is (subst (λ (k : Code). AgreeOnKinds (code_of (resolved c.file c.refused g.d)) k) h.is both)
+    subst (λ (k : Code). AgreeOnKinds k b) g.is (subst (λ (k : Code). AgreeOnKinds
+    (code_of (resolved c.file c.refused g.d)) k) h.is both)
 
 mapped : {A B : Type 0} (f : A → B) (xs : List A) → length (map f xs) ≡ length xs
 mapped f [] = refl
 mapped f (x ∷ xs) = ap suc (mapped f xs)
 
 -- the codes of a file of which this is known, with the names of its functions
-pub all-well-formed : (c : CheckedFile) (codes : Codes) → AreOwn (definitions c.file.items) (definitions c.file.items) → IsRefusedSet c.file c.refused → are_rows c.file.rows ≡ true
-    → length (definitions c.file.items) ≤ 4096 → codes.codes ≡ codes_of c → codes.names ≡ names_of c → codes.statics ≤ 2 ^ 30 + 24 → AreWellFormed codes
+pub all-well-formed : (c : CheckedFile) (codes : Codes)
+    → AreOwn (definitions c.file.items) (definitions c.file.items) → IsRefusedSet c.file c.refused
+    → are_rows c.file.rows ≡ true
+    → length (definitions c.file.items) ≤ 4096 → codes.codes ≡ codes_of c → codes.names ≡ names_of c
+    → codes.statics ≤ 2 ^ 30 + 24 → AreWellFormed codes
 all-well-formed c codes own set rows few is names statics =
     let long : length (codes_of c) ≡ length (definitions c.file.items) =
-    mapped code_for (map (resolution_of c.file c.refused) (definitions c.file.items)) ∙ mapped (resolution_of c.file c.refused) (definitions c.file.items) in
-    let named : length (names_of c) ≡ length (definitions c.file.items) = mapped (λ (d : Definition). d.name) (definitions c.file.items) in
+    mapped code_for (map (resolution_of c.file c.refused) (definitions c.file.items))
+    ∙ mapped (resolution_of c.file c.refused) (definitions c.file.items) in
+    let named : length (names_of c) ≡ length (definitions c.file.items) = mapped (λ (d : Definition). d.name)
+    (definitions c.file.items) in
     record {
-      each = λ f code e. each-well-formed c own set rows f code (ap (λ (cs : List (Option Code)). slice_get cs f) (sym is) ∙ e);
-      kinds = λ f g a b x y. all-agree c own set rows f g a b (ap (λ (cs : List (Option Code)). slice_get cs f) (sym is) ∙ x) (ap (λ (cs : List (Option Code)). slice_get cs g) (sym is) ∙ y);
-      names = ap (λ (ns : List Name). length ns) names ∙ named ∙ sym long ∙ ap (λ (cs : List (Option Code)). length cs) (sym is);
+      each = λ f code e. each-well-formed c own set rows f code (ap (λ (cs : List (Option Code)). slice_get cs f)
+          (sym is) ∙ e);
+      kinds = λ f g a b x y. all-agree c own set rows f g a b (ap (λ (cs : List (Option Code)). slice_get cs f)
+          (sym is) ∙ x) (ap (λ (cs : List (Option Code)). slice_get cs g) (sym is) ∙ y);
+      names = ap (λ (ns : List Name). length ns) names ∙ named ∙ sym long
+          ∙ ap (λ (cs : List (Option Code)). length cs) (sym is);
       few = subst (λ (n : ℕ). n ≤ 4096) (sym long ∙ ap (λ (cs : List (Option Code)). length cs) (sym is)) few;
       statics = statics;
     }
@@ -163,11 +193,13 @@ all-well-formed c codes own set rows few is names statics =
 same-codes : (c : CheckedFile) (fs : List (Option ResolvedFunction)) → IsResolved c fs → map code_for fs ≡ codes_of c
 same-codes c fs is = ap (λ (rs : List (Option ResolvedFunction)). map code_for rs) is.are
 
-pub made-lowered : (c : CheckedFile) (fs : List (Option ResolvedFunction)) (codes : List (Option Code)) → codes ≡ map code_for fs → IsResolved c fs → AreLowered c codes
+pub made-lowered : (c : CheckedFile) (fs : List (Option ResolvedFunction)) (codes : List (Option Code))
+    → codes ≡ map code_for fs → IsResolved c fs → AreLowered c codes
 made-lowered c fs codes made is =
     subst (λ (cs : List (Option Code)). AreLowered c cs) (sym (made ∙ same-codes c fs is)) (all-lowered c is.own is.set)
 
-pub made-well-formed : (c : CheckedFile) (fs : List (Option ResolvedFunction)) (codes : Codes) → codes.codes ≡ map code_for fs → IsResolved c fs → codes.names ≡ names_of c
+pub made-well-formed : (c : CheckedFile) (fs : List (Option ResolvedFunction)) (codes : Codes)
+    → codes.codes ≡ map code_for fs → IsResolved c fs → codes.names ≡ names_of c
     → codes.statics ≤ 2 ^ 30 + 24 → AreWellFormed codes
 made-well-formed c fs codes made is names statics =
     all-well-formed c codes is.own is.set is.rows is.few (made ∙ same-codes c fs is) names statics

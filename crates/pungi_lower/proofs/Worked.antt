@@ -1,4 +1,5 @@
--- What the definitions say of small functions, by computing: the words of the tables of Worked*, which hold functions and how their runs end.
+-- What the definitions say of small functions, by computing: the words of the tables of Worked*, which hold functions
+-- and how their runs end.
 use Rattle.std.proofs.Common.{ℕ, List, [], ◌∷◌, Option, Some, None}
 use Rattle.pungi_base.specs.declared.choice.Choice.{Choice}
 use Rattle.pungi_base.specs.declared.entry.Entry.{Entry}
@@ -45,4 +46,5 @@ run_of_last (Some f) entry choices fuel = (run_of f entry choices fuel).end
 
 -- how a run of it ends
 abbrev pub last_run : List plain.Item → ℕ → List Value → List Choice → ℕ → End
-last_run file objects args choices fuel = run_of_last (last_function file) (record { objects = objects; args = args }) choices fuel
+last_run file objects args choices fuel =
+    run_of_last (last_function file) (record { objects = objects; args = args }) choices fuel

@@ -16,4 +16,5 @@ run_of_last (Some f) entry choices fuel = (target (body_code f) (f.locals + temp
 
 -- how a run of the code of the file's last function ends
 abbrev pub last_run : List Item → ℕ → List Value → List Choice → ℕ → End
-last_run file objects args choices fuel = run_of_last (last_function file) (record { objects = objects; args = args }) choices fuel
+last_run file objects args choices fuel =
+    run_of_last (last_function file) (record { objects = objects; args = args }) choices fuel

@@ -1,4 +1,5 @@
--- What the definitions say of small functions, by computing: how each run ends. The expected ends come from a reading of the rules.
+-- What the definitions say of small functions, by computing: how each run ends. The expected ends come from a reading
+-- of the rules.
 use Rattle.std.proofs.Common.{◌≡◌, refl, ℕ, List, [], ◌∷◌, Some, None, true, false, pos, negsuc, ℤ}
 use Rattle.pungi_base.specs.declared.choice.Choice.TheVariants as choice
 use Rattle.pungi_base.specs.declared.key.Key.TheVariants as keys
@@ -30,7 +31,23 @@ held_then slot entry now = record { slot = slot; at_entry = entry; held = now }
 
 -- int f(int n) { int s = 0; while (n) { s = s + n; n = n - 1; } return s; }
 abbrev pub file_0 : List plain.Item
-file_0 = plain.function_def (plain.head ([]) (plain.spec (at 1 1) (plain.words (keys.Int ∷ [])) 0) ([]) (name 374) (at 1 5) (plain.params (plain.param_and (plain.param_decl ([]) (plain.spec (at 1 7) (plain.words (keys.Int ∷ [])) 0) (plain.named (plain.declr ([]) (name 375) (at 1 11) (plain.sizes plain.no_sizes)))) plain.no_params) false None)) (plain.block (at 1 14) (plain.stmt_and (plain.declare (at 1 16) (plain.decl ([]) (plain.spec (at 1 16) (plain.words (keys.Int ∷ [])) 0) ((plain.var_decl (plain.declr ([]) (name 376) (at 1 20) (plain.sizes plain.no_sizes)) (Some (plain.value (plain.int (at 1 24) (pos 0) false false)))) ∷ []))) (plain.stmt_and (plain.while (at 1 27) (plain.word (at 1 34) (name 375)) (plain.block (at 1 37) (plain.stmt_and (plain.do_expr (at 1 39) (Some (plain.assign (at 1 41) puncts.Assign (plain.word (at 1 39) (name 376)) (plain.binary (at 1 45) puncts.Plus (plain.word (at 1 43) (name 376)) (plain.word (at 1 47) (name 375)))))) (plain.stmt_and (plain.do_expr (at 1 50) (Some (plain.assign (at 1 52) puncts.Assign (plain.word (at 1 50) (name 375)) (plain.binary (at 1 56) puncts.Minus (plain.word (at 1 54) (name 375)) (plain.int (at 1 58) (pos 1) false false))))) plain.no_stmts)) (at 1 61))) (plain.stmt_and (plain.return (at 1 63) (Some (plain.word (at 1 70) (name 376)))) plain.no_stmts))) (at 1 73)) ∷ []
+file_0 =
+    plain.function_def (plain.head ([]) (plain.spec (at 1 1) (plain.words (keys.Int ∷ [])) 0) ([]) (name 374)
+    (at 1 5) (plain.params (plain.param_and (plain.param_decl ([]) (plain.spec (at 1 7)
+    (plain.words (keys.Int ∷ [])) 0) (plain.named (plain.declr ([]) (name 375) (at 1 11)
+    (plain.sizes plain.no_sizes)))) plain.no_params) false None)) (plain.block (at 1 14)
+    (plain.stmt_and (plain.declare (at 1 16) (plain.decl ([]) (plain.spec (at 1 16) (plain.words (keys.Int ∷ [])) 0)
+    ((plain.var_decl (plain.declr ([]) (name 376) (at 1 20) (plain.sizes plain.no_sizes))
+    (Some (plain.value (plain.int (at 1 24) (pos 0) false false)))) ∷ [])))
+    (plain.stmt_and (plain.while (at 1 27) (plain.word (at 1 34) (name 375))
+    (plain.block (at 1 37) (plain.stmt_and (plain.do_expr (at 1 39) (Some (plain.assign (at 1 41) puncts.Assign
+    (plain.word (at 1 39) (name 376)) (plain.binary (at 1 45) puncts.Plus (plain.word (at 1 43) (name 376))
+    (plain.word (at 1 47) (name 375)))))) (plain.stmt_and (plain.do_expr (at 1 50)
+    (Some (plain.assign (at 1 52) puncts.Assign (plain.word (at 1 50) (name 375))
+    (plain.binary (at 1 56) puncts.Minus (plain.word (at 1 54) (name 375))
+    (plain.int (at 1 58) (pos 1) false false))))) plain.no_stmts)) (at 1 61)))
+    (plain.stmt_and (plain.return (at 1 63) (Some (plain.word (at 1 70) (name 376)))) plain.no_stmts))) (at 1 73))
+    ∷ []
 
 run_0 : told (last_run file_0 24 ((value.Int (pos 3)) ∷ []) ([]) 200) ≡ gives (Some (value.Int (pos 6))) (at 1 63) ([])
 run_0 = refl
@@ -42,16 +59,47 @@ run_1 = refl
 -- typedef struct { PyObject_HEAD PyObject *first; } Box;
 -- void f(Box *self, PyObject *x) { PyObject *tmp = self->first; Py_INCREF(x); self->first = x; Py_XDECREF(tmp); }
 abbrev pub file_2 : List plain.Item
-file_2 = plain.typedef (plain.spec (at 1 9) (plain.tagged_fields keys.Struct None (plain.field_and (plain.members ([]) (plain.spec (at 1 18) (plain.alias (name 48)) 0) (plain.declr_and (plain.declr ([]) (name 182) (at 1 18) (plain.sizes plain.no_sizes)) plain.no_declrs)) (plain.field_and (plain.members ([]) (plain.spec (at 1 32) (plain.alias (name 48)) 0) (plain.declr_and (plain.declr (0 ∷ []) (name 374) (at 1 42) (plain.sizes plain.no_sizes)) plain.no_declrs)) plain.no_fields))) 0) ([]) (name 375) (at 1 51) ∷ plain.function_def (plain.head ([]) (plain.spec (at 2 1) (plain.words (keys.Void ∷ [])) 0) ([]) (name 376) (at 2 6) (plain.params (plain.param_and (plain.param_decl ([]) (plain.spec (at 2 8) (plain.alias (name 375)) 0) (plain.named (plain.declr (0 ∷ []) (name 377) (at 2 13) (plain.sizes plain.no_sizes)))) (plain.param_and (plain.param_decl ([]) (plain.spec (at 2 19) (plain.alias (name 48)) 0) (plain.named (plain.declr (0 ∷ []) (name 378) (at 2 29) (plain.sizes plain.no_sizes)))) plain.no_params)) false None)) (plain.block (at 2 32) (plain.stmt_and (plain.declare (at 2 34) (plain.decl ([]) (plain.spec (at 2 34) (plain.alias (name 48)) 0) ((plain.var_decl (plain.declr (0 ∷ []) (name 379) (at 2 44) (plain.sizes plain.no_sizes)) (Some (plain.value (plain.arrow (at 2 54) (plain.word (at 2 50) (name 377)) (name 374))))) ∷ []))) (plain.stmt_and (plain.do_expr (at 2 63) (Some (plain.call (at 2 63) (plain.word (at 2 63) (name 167)) (plain.expr_and (plain.word (at 2 73) (name 378)) plain.no_exprs)))) (plain.stmt_and (plain.do_expr (at 2 77) (Some (plain.assign (at 2 89) puncts.Assign (plain.arrow (at 2 81) (plain.word (at 2 77) (name 377)) (name 374)) (plain.word (at 2 91) (name 378))))) (plain.stmt_and (plain.do_expr (at 2 94) (Some (plain.call (at 2 94) (plain.word (at 2 94) (name 170)) (plain.expr_and (plain.word (at 2 105) (name 379)) plain.no_exprs)))) plain.no_stmts)))) (at 2 111)) ∷ []
+file_2 =
+    plain.typedef (plain.spec (at 1 9) (plain.tagged_fields keys.Struct None
+    (plain.field_and (plain.members ([]) (plain.spec (at 1 18) (plain.alias (name 48)) 0)
+    (plain.declr_and (plain.declr ([]) (name 182) (at 1 18) (plain.sizes plain.no_sizes)) plain.no_declrs))
+    (plain.field_and (plain.members ([]) (plain.spec (at 1 32) (plain.alias (name 48)) 0)
+    (plain.declr_and (plain.declr (0 ∷ []) (name 374) (at 1 42) (plain.sizes plain.no_sizes)) plain.no_declrs))
+    plain.no_fields))) 0) ([]) (name 375) (at 1 51) ∷ plain.function_def (plain.head ([])
+    (plain.spec (at 2 1) (plain.words (keys.Void ∷ [])) 0) ([]) (name 376) (at 2 6)
+    (plain.params (plain.param_and (plain.param_decl ([]) (plain.spec (at 2 8) (plain.alias (name 375)) 0)
+    (plain.named (plain.declr (0 ∷ []) (name 377) (at 2 13) (plain.sizes plain.no_sizes))))
+    (plain.param_and (plain.param_decl ([]) (plain.spec (at 2 19) (plain.alias (name 48)) 0)
+    (plain.named (plain.declr (0 ∷ []) (name 378) (at 2 29) (plain.sizes plain.no_sizes)))) plain.no_params)) false
+    None)) (plain.block (at 2 32) (plain.stmt_and (plain.declare (at 2 34)
+    (plain.decl ([]) (plain.spec (at 2 34) (plain.alias (name 48)) 0) ((plain.var_decl
+    (plain.declr (0 ∷ []) (name 379) (at 2 44) (plain.sizes plain.no_sizes))
+    (Some (plain.value (plain.arrow (at 2 54) (plain.word (at 2 50) (name 377)) (name 374))))) ∷ [])))
+    (plain.stmt_and (plain.do_expr (at 2 63) (Some (plain.call (at 2 63) (plain.word (at 2 63) (name 167))
+    (plain.expr_and (plain.word (at 2 73) (name 378)) plain.no_exprs)))) (plain.stmt_and
+    (plain.do_expr (at 2 77) (Some (plain.assign (at 2 89) puncts.Assign (plain.arrow (at 2 81)
+    (plain.word (at 2 77) (name 377)) (name 374)) (plain.word (at 2 91) (name 378)))))
+    (plain.stmt_and (plain.do_expr (at 2 94) (Some (plain.call (at 2 94) (plain.word (at 2 94) (name 170))
+    (plain.expr_and (plain.word (at 2 105) (name 379)) plain.no_exprs)))) plain.no_stmts)))) (at 2 111)) ∷ []
 
-run_2 : told (last_run file_2 26 ((value.Object 24) ∷ (value.Object 25) ∷ []) (choice.Null ∷ []) 100) ≡ gives None (at 2 111) (at 2 54 ∷ [])
+run_2 : told (last_run file_2 26 ((value.Object 24) ∷ (value.Object 25) ∷ []) (choice.Null ∷ []) 100)
+    ≡ gives None (at 2 111) (at 2 54 ∷ [])
 run_2 = refl
 
 -- PyObject *f(PyObject *self, PyObject *args) { return PyLong_FromLong(1); }
 abbrev pub file_3 : List plain.Item
-file_3 = plain.function_def (plain.head ([]) (plain.spec (at 1 1) (plain.alias (name 48)) 0) (0 ∷ []) (name 374) (at 1 11) (plain.params (plain.param_and (plain.param_decl ([]) (plain.spec (at 1 13) (plain.alias (name 48)) 0) (plain.named (plain.declr (0 ∷ []) (name 375) (at 1 23) (plain.sizes plain.no_sizes)))) (plain.param_and (plain.param_decl ([]) (plain.spec (at 1 29) (plain.alias (name 48)) 0) (plain.named (plain.declr (0 ∷ []) (name 376) (at 1 39) (plain.sizes plain.no_sizes)))) plain.no_params)) false None)) (plain.block (at 1 45) (plain.stmt_and (plain.return (at 1 47) (Some (plain.call (at 1 54) (plain.word (at 1 54) (name 103)) (plain.expr_and (plain.int (at 1 70) (pos 1) false false) plain.no_exprs)))) plain.no_stmts) (at 1 74)) ∷ []
+file_3 =
+    plain.function_def (plain.head ([]) (plain.spec (at 1 1) (plain.alias (name 48)) 0) (0 ∷ []) (name 374)
+    (at 1 11) (plain.params (plain.param_and (plain.param_decl ([]) (plain.spec (at 1 13) (plain.alias (name 48)) 0)
+    (plain.named (plain.declr (0 ∷ []) (name 375) (at 1 23) (plain.sizes plain.no_sizes))))
+    (plain.param_and (plain.param_decl ([]) (plain.spec (at 1 29) (plain.alias (name 48)) 0)
+    (plain.named (plain.declr (0 ∷ []) (name 376) (at 1 39) (plain.sizes plain.no_sizes)))) plain.no_params)) false
+    None)) (plain.block (at 1 45) (plain.stmt_and (plain.return (at 1 47) (Some
+    (plain.call (at 1 54) (plain.word (at 1 54) (name 103)) (plain.expr_and
+    (plain.int (at 1 70) (pos 1) false false) plain.no_exprs)))) plain.no_stmts) (at 1 74)) ∷ []
 
-run_3 : told (last_run file_3 24 (value.Null ∷ value.Null ∷ []) (choice.Null ∷ []) 100) ≡ gives (Some value.Null) (at 1 47) (at 1 54 ∷ [])
+run_3 : told (last_run file_3 24 (value.Null ∷ value.Null ∷ []) (choice.Null ∷ []) 100)
+    ≡ gives (Some value.Null) (at 1 47) (at 1 54 ∷ [])
 run_3 = refl
 
 -- PyObject *f(PyObject *self, PyObject *args) { return PyLong_FromLong(1); }
@@ -67,7 +115,22 @@ run_5 = refl
 -- typedef struct { PyObject_HEAD PyObject *first; long hits; int few; } Box;
 -- long f(Box *b) { return b->hits; }
 abbrev pub file_6 : List plain.Item
-file_6 = plain.typedef (plain.spec (at 1 9) (plain.tagged_fields keys.Struct None (plain.field_and (plain.members ([]) (plain.spec (at 1 18) (plain.alias (name 48)) 0) (plain.declr_and (plain.declr ([]) (name 182) (at 1 18) (plain.sizes plain.no_sizes)) plain.no_declrs)) (plain.field_and (plain.members ([]) (plain.spec (at 1 32) (plain.alias (name 48)) 0) (plain.declr_and (plain.declr (0 ∷ []) (name 374) (at 1 42) (plain.sizes plain.no_sizes)) plain.no_declrs)) (plain.field_and (plain.members ([]) (plain.spec (at 1 49) (plain.words (keys.Long ∷ [])) 0) (plain.declr_and (plain.declr ([]) (name 375) (at 1 54) (plain.sizes plain.no_sizes)) plain.no_declrs)) (plain.field_and (plain.members ([]) (plain.spec (at 1 60) (plain.words (keys.Int ∷ [])) 0) (plain.declr_and (plain.declr ([]) (name 376) (at 1 64) (plain.sizes plain.no_sizes)) plain.no_declrs)) plain.no_fields))))) 0) ([]) (name 377) (at 1 71) ∷ plain.function_def (plain.head ([]) (plain.spec (at 2 1) (plain.words (keys.Long ∷ [])) 0) ([]) (name 378) (at 2 6) (plain.params (plain.param_and (plain.param_decl ([]) (plain.spec (at 2 8) (plain.alias (name 377)) 0) (plain.named (plain.declr (0 ∷ []) (name 379) (at 2 13) (plain.sizes plain.no_sizes)))) plain.no_params) false None)) (plain.block (at 2 16) (plain.stmt_and (plain.return (at 2 18) (Some (plain.arrow (at 2 26) (plain.word (at 2 25) (name 379)) (name 375)))) plain.no_stmts) (at 2 34)) ∷ []
+file_6 =
+    plain.typedef (plain.spec (at 1 9) (plain.tagged_fields keys.Struct None
+    (plain.field_and (plain.members ([]) (plain.spec (at 1 18) (plain.alias (name 48)) 0)
+    (plain.declr_and (plain.declr ([]) (name 182) (at 1 18) (plain.sizes plain.no_sizes)) plain.no_declrs))
+    (plain.field_and (plain.members ([]) (plain.spec (at 1 32) (plain.alias (name 48)) 0)
+    (plain.declr_and (plain.declr (0 ∷ []) (name 374) (at 1 42) (plain.sizes plain.no_sizes)) plain.no_declrs))
+    (plain.field_and (plain.members ([]) (plain.spec (at 1 49) (plain.words (keys.Long ∷ [])) 0)
+    (plain.declr_and (plain.declr ([]) (name 375) (at 1 54) (plain.sizes plain.no_sizes)) plain.no_declrs))
+    (plain.field_and (plain.members ([]) (plain.spec (at 1 60) (plain.words (keys.Int ∷ [])) 0)
+    (plain.declr_and (plain.declr ([]) (name 376) (at 1 64) (plain.sizes plain.no_sizes)) plain.no_declrs))
+    plain.no_fields))))) 0) ([]) (name 377) (at 1 71) ∷ plain.function_def
+    (plain.head ([]) (plain.spec (at 2 1) (plain.words (keys.Long ∷ [])) 0) ([]) (name 378) (at 2 6)
+    (plain.params (plain.param_and (plain.param_decl ([]) (plain.spec (at 2 8) (plain.alias (name 377)) 0)
+    (plain.named (plain.declr (0 ∷ []) (name 379) (at 2 13) (plain.sizes plain.no_sizes)))) plain.no_params) false
+    None)) (plain.block (at 2 16) (plain.stmt_and (plain.return (at 2 18) (Some
+    (plain.arrow (at 2 26) (plain.word (at 2 25) (name 379)) (name 375)))) plain.no_stmts) (at 2 34)) ∷ []
 
 run_6 : told (last_run file_6 24 (value.Null ∷ []) ((choice.Int (pos 1)) ∷ []) 50) ≡ stops (at 2 26)
 run_6 = refl
@@ -75,9 +138,25 @@ run_6 = refl
 -- typedef struct { PyObject_HEAD PyObject *first; long hits; int few; } Box;
 -- int f(Box *b) { return b->few; }
 abbrev pub file_7 : List plain.Item
-file_7 = plain.typedef (plain.spec (at 1 9) (plain.tagged_fields keys.Struct None (plain.field_and (plain.members ([]) (plain.spec (at 1 18) (plain.alias (name 48)) 0) (plain.declr_and (plain.declr ([]) (name 182) (at 1 18) (plain.sizes plain.no_sizes)) plain.no_declrs)) (plain.field_and (plain.members ([]) (plain.spec (at 1 32) (plain.alias (name 48)) 0) (plain.declr_and (plain.declr (0 ∷ []) (name 374) (at 1 42) (plain.sizes plain.no_sizes)) plain.no_declrs)) (plain.field_and (plain.members ([]) (plain.spec (at 1 49) (plain.words (keys.Long ∷ [])) 0) (plain.declr_and (plain.declr ([]) (name 375) (at 1 54) (plain.sizes plain.no_sizes)) plain.no_declrs)) (plain.field_and (plain.members ([]) (plain.spec (at 1 60) (plain.words (keys.Int ∷ [])) 0) (plain.declr_and (plain.declr ([]) (name 376) (at 1 64) (plain.sizes plain.no_sizes)) plain.no_declrs)) plain.no_fields))))) 0) ([]) (name 377) (at 1 71) ∷ plain.function_def (plain.head ([]) (plain.spec (at 2 1) (plain.words (keys.Int ∷ [])) 0) ([]) (name 378) (at 2 5) (plain.params (plain.param_and (plain.param_decl ([]) (plain.spec (at 2 7) (plain.alias (name 377)) 0) (plain.named (plain.declr (0 ∷ []) (name 379) (at 2 12) (plain.sizes plain.no_sizes)))) plain.no_params) false None)) (plain.block (at 2 15) (plain.stmt_and (plain.return (at 2 17) (Some (plain.arrow (at 2 25) (plain.word (at 2 24) (name 379)) (name 376)))) plain.no_stmts) (at 2 32)) ∷ []
+file_7 =
+    plain.typedef (plain.spec (at 1 9) (plain.tagged_fields keys.Struct None
+    (plain.field_and (plain.members ([]) (plain.spec (at 1 18) (plain.alias (name 48)) 0)
+    (plain.declr_and (plain.declr ([]) (name 182) (at 1 18) (plain.sizes plain.no_sizes)) plain.no_declrs))
+    (plain.field_and (plain.members ([]) (plain.spec (at 1 32) (plain.alias (name 48)) 0)
+    (plain.declr_and (plain.declr (0 ∷ []) (name 374) (at 1 42) (plain.sizes plain.no_sizes)) plain.no_declrs))
+    (plain.field_and (plain.members ([]) (plain.spec (at 1 49) (plain.words (keys.Long ∷ [])) 0)
+    (plain.declr_and (plain.declr ([]) (name 375) (at 1 54) (plain.sizes plain.no_sizes)) plain.no_declrs))
+    (plain.field_and (plain.members ([]) (plain.spec (at 1 60) (plain.words (keys.Int ∷ [])) 0)
+    (plain.declr_and (plain.declr ([]) (name 376) (at 1 64) (plain.sizes plain.no_sizes)) plain.no_declrs))
+    plain.no_fields))))) 0) ([]) (name 377) (at 1 71) ∷ plain.function_def
+    (plain.head ([]) (plain.spec (at 2 1) (plain.words (keys.Int ∷ [])) 0) ([]) (name 378) (at 2 5)
+    (plain.params (plain.param_and (plain.param_decl ([]) (plain.spec (at 2 7) (plain.alias (name 377)) 0)
+    (plain.named (plain.declr (0 ∷ []) (name 379) (at 2 12) (plain.sizes plain.no_sizes)))) plain.no_params) false
+    None)) (plain.block (at 2 15) (plain.stmt_and (plain.return (at 2 17) (Some
+    (plain.arrow (at 2 25) (plain.word (at 2 24) (name 379)) (name 376)))) plain.no_stmts) (at 2 32)) ∷ []
 
-run_7 : told (last_run file_7 25 ((value.Object 24) ∷ []) ((choice.Int (pos 5)) ∷ []) 50) ≡ gives (Some (value.Int (pos 5))) (at 2 17) (at 2 25 ∷ [])
+run_7 : told (last_run file_7 25 ((value.Object 24) ∷ []) ((choice.Int (pos 5)) ∷ []) 50)
+    ≡ gives (Some (value.Int (pos 5))) (at 2 17) (at 2 25 ∷ [])
 run_7 = refl
 
 -- typedef struct { PyObject_HEAD PyObject *first; long hits; int few; } Box;
@@ -88,31 +167,111 @@ run_8 = refl
 -- typedef struct { PyObject_HEAD PyObject *first; long hits; int few; } Box;
 -- long f(Box *b) { b->hits += 1; return b->hits; }
 abbrev pub file_9 : List plain.Item
-file_9 = plain.typedef (plain.spec (at 1 9) (plain.tagged_fields keys.Struct None (plain.field_and (plain.members ([]) (plain.spec (at 1 18) (plain.alias (name 48)) 0) (plain.declr_and (plain.declr ([]) (name 182) (at 1 18) (plain.sizes plain.no_sizes)) plain.no_declrs)) (plain.field_and (plain.members ([]) (plain.spec (at 1 32) (plain.alias (name 48)) 0) (plain.declr_and (plain.declr (0 ∷ []) (name 374) (at 1 42) (plain.sizes plain.no_sizes)) plain.no_declrs)) (plain.field_and (plain.members ([]) (plain.spec (at 1 49) (plain.words (keys.Long ∷ [])) 0) (plain.declr_and (plain.declr ([]) (name 375) (at 1 54) (plain.sizes plain.no_sizes)) plain.no_declrs)) (plain.field_and (plain.members ([]) (plain.spec (at 1 60) (plain.words (keys.Int ∷ [])) 0) (plain.declr_and (plain.declr ([]) (name 376) (at 1 64) (plain.sizes plain.no_sizes)) plain.no_declrs)) plain.no_fields))))) 0) ([]) (name 377) (at 1 71) ∷ plain.function_def (plain.head ([]) (plain.spec (at 2 1) (plain.words (keys.Long ∷ [])) 0) ([]) (name 378) (at 2 6) (plain.params (plain.param_and (plain.param_decl ([]) (plain.spec (at 2 8) (plain.alias (name 377)) 0) (plain.named (plain.declr (0 ∷ []) (name 379) (at 2 13) (plain.sizes plain.no_sizes)))) plain.no_params) false None)) (plain.block (at 2 16) (plain.stmt_and (plain.do_expr (at 2 18) (Some (plain.assign (at 2 26) puncts.PlusAssign (plain.arrow (at 2 19) (plain.word (at 2 18) (name 379)) (name 375)) (plain.int (at 2 29) (pos 1) false false)))) (plain.stmt_and (plain.return (at 2 32) (Some (plain.arrow (at 2 40) (plain.word (at 2 39) (name 379)) (name 375)))) plain.no_stmts)) (at 2 48)) ∷ []
+file_9 =
+    plain.typedef (plain.spec (at 1 9) (plain.tagged_fields keys.Struct None
+    (plain.field_and (plain.members ([]) (plain.spec (at 1 18) (plain.alias (name 48)) 0)
+    (plain.declr_and (plain.declr ([]) (name 182) (at 1 18) (plain.sizes plain.no_sizes)) plain.no_declrs))
+    (plain.field_and (plain.members ([]) (plain.spec (at 1 32) (plain.alias (name 48)) 0)
+    (plain.declr_and (plain.declr (0 ∷ []) (name 374) (at 1 42) (plain.sizes plain.no_sizes)) plain.no_declrs))
+    (plain.field_and (plain.members ([]) (plain.spec (at 1 49) (plain.words (keys.Long ∷ [])) 0)
+    (plain.declr_and (plain.declr ([]) (name 375) (at 1 54) (plain.sizes plain.no_sizes)) plain.no_declrs))
+    (plain.field_and (plain.members ([]) (plain.spec (at 1 60) (plain.words (keys.Int ∷ [])) 0)
+    (plain.declr_and (plain.declr ([]) (name 376) (at 1 64) (plain.sizes plain.no_sizes)) plain.no_declrs))
+    plain.no_fields))))) 0) ([]) (name 377) (at 1 71) ∷ plain.function_def
+    (plain.head ([]) (plain.spec (at 2 1) (plain.words (keys.Long ∷ [])) 0) ([]) (name 378) (at 2 6)
+    (plain.params (plain.param_and (plain.param_decl ([]) (plain.spec (at 2 8) (plain.alias (name 377)) 0)
+    (plain.named (plain.declr (0 ∷ []) (name 379) (at 2 13) (plain.sizes plain.no_sizes)))) plain.no_params) false
+    None)) (plain.block (at 2 16) (plain.stmt_and (plain.do_expr (at 2 18)
+    (Some (plain.assign (at 2 26) puncts.PlusAssign (plain.arrow (at 2 19) (plain.word (at 2 18) (name 379))
+    (name 375)) (plain.int (at 2 29) (pos 1) false false)))) (plain.stmt_and
+    (plain.return (at 2 32) (Some (plain.arrow (at 2 40) (plain.word (at 2 39) (name 379)) (name 375))))
+    plain.no_stmts)) (at 2 48)) ∷ []
 
-run_9 : told (last_run file_9 25 ((value.Object 24) ∷ []) ((choice.Int (pos 41)) ∷ []) 50) ≡ gives (Some (value.Int (pos 42))) (at 2 32) (at 2 19 ∷ [])
+run_9 : told (last_run file_9 25 ((value.Object 24) ∷ []) ((choice.Int (pos 41)) ∷ []) 50)
+    ≡ gives (Some (value.Int (pos 42))) (at 2 32) (at 2 19 ∷ [])
 run_9 = refl
 
 -- typedef struct { PyObject_HEAD PyObject *first; long hits; int few; } Box;
 -- long f(Box *b) { long old = b->hits++; return old * 100 + b->hits; }
 abbrev pub file_10 : List plain.Item
-file_10 = plain.typedef (plain.spec (at 1 9) (plain.tagged_fields keys.Struct None (plain.field_and (plain.members ([]) (plain.spec (at 1 18) (plain.alias (name 48)) 0) (plain.declr_and (plain.declr ([]) (name 182) (at 1 18) (plain.sizes plain.no_sizes)) plain.no_declrs)) (plain.field_and (plain.members ([]) (plain.spec (at 1 32) (plain.alias (name 48)) 0) (plain.declr_and (plain.declr (0 ∷ []) (name 374) (at 1 42) (plain.sizes plain.no_sizes)) plain.no_declrs)) (plain.field_and (plain.members ([]) (plain.spec (at 1 49) (plain.words (keys.Long ∷ [])) 0) (plain.declr_and (plain.declr ([]) (name 375) (at 1 54) (plain.sizes plain.no_sizes)) plain.no_declrs)) (plain.field_and (plain.members ([]) (plain.spec (at 1 60) (plain.words (keys.Int ∷ [])) 0) (plain.declr_and (plain.declr ([]) (name 376) (at 1 64) (plain.sizes plain.no_sizes)) plain.no_declrs)) plain.no_fields))))) 0) ([]) (name 377) (at 1 71) ∷ plain.function_def (plain.head ([]) (plain.spec (at 2 1) (plain.words (keys.Long ∷ [])) 0) ([]) (name 378) (at 2 6) (plain.params (plain.param_and (plain.param_decl ([]) (plain.spec (at 2 8) (plain.alias (name 377)) 0) (plain.named (plain.declr (0 ∷ []) (name 379) (at 2 13) (plain.sizes plain.no_sizes)))) plain.no_params) false None)) (plain.block (at 2 16) (plain.stmt_and (plain.declare (at 2 18) (plain.decl ([]) (plain.spec (at 2 18) (plain.words (keys.Long ∷ [])) 0) ((plain.var_decl (plain.declr ([]) (name 380) (at 2 23) (plain.sizes plain.no_sizes)) (Some (plain.value (plain.post (at 2 36) puncts.PlusPlus (plain.arrow (at 2 30) (plain.word (at 2 29) (name 379)) (name 375)))))) ∷ []))) (plain.stmt_and (plain.return (at 2 40) (Some (plain.binary (at 2 57) puncts.Plus (plain.binary (at 2 51) puncts.Star (plain.word (at 2 47) (name 380)) (plain.int (at 2 53) (pos 100) false false)) (plain.arrow (at 2 60) (plain.word (at 2 59) (name 379)) (name 375))))) plain.no_stmts)) (at 2 68)) ∷ []
+file_10 =
+    plain.typedef (plain.spec (at 1 9) (plain.tagged_fields keys.Struct None
+    (plain.field_and (plain.members ([]) (plain.spec (at 1 18) (plain.alias (name 48)) 0)
+    (plain.declr_and (plain.declr ([]) (name 182) (at 1 18) (plain.sizes plain.no_sizes)) plain.no_declrs))
+    (plain.field_and (plain.members ([]) (plain.spec (at 1 32) (plain.alias (name 48)) 0)
+    (plain.declr_and (plain.declr (0 ∷ []) (name 374) (at 1 42) (plain.sizes plain.no_sizes)) plain.no_declrs))
+    (plain.field_and (plain.members ([]) (plain.spec (at 1 49) (plain.words (keys.Long ∷ [])) 0)
+    (plain.declr_and (plain.declr ([]) (name 375) (at 1 54) (plain.sizes plain.no_sizes)) plain.no_declrs))
+    (plain.field_and (plain.members ([]) (plain.spec (at 1 60) (plain.words (keys.Int ∷ [])) 0)
+    (plain.declr_and (plain.declr ([]) (name 376) (at 1 64) (plain.sizes plain.no_sizes)) plain.no_declrs))
+    plain.no_fields))))) 0) ([]) (name 377) (at 1 71) ∷ plain.function_def
+    (plain.head ([]) (plain.spec (at 2 1) (plain.words (keys.Long ∷ [])) 0) ([]) (name 378) (at 2 6)
+    (plain.params (plain.param_and (plain.param_decl ([]) (plain.spec (at 2 8) (plain.alias (name 377)) 0)
+    (plain.named (plain.declr (0 ∷ []) (name 379) (at 2 13) (plain.sizes plain.no_sizes)))) plain.no_params) false
+    None)) (plain.block (at 2 16) (plain.stmt_and (plain.declare (at 2 18)
+    (plain.decl ([]) (plain.spec (at 2 18) (plain.words (keys.Long ∷ [])) 0)
+    ((plain.var_decl (plain.declr ([]) (name 380) (at 2 23) (plain.sizes plain.no_sizes))
+    (Some (plain.value (plain.post (at 2 36) puncts.PlusPlus (plain.arrow (at 2 30)
+    (plain.word (at 2 29) (name 379)) (name 375)))))) ∷ []))) (plain.stmt_and
+    (plain.return (at 2 40) (Some (plain.binary (at 2 57) puncts.Plus (plain.binary (at 2 51) puncts.Star
+    (plain.word (at 2 47) (name 380)) (plain.int (at 2 53) (pos 100) false false))
+    (plain.arrow (at 2 60) (plain.word (at 2 59) (name 379)) (name 375))))) plain.no_stmts)) (at 2 68)) ∷ []
 
-run_10 : told (last_run file_10 25 ((value.Object 24) ∷ []) ((choice.Int (pos 5)) ∷ []) 50) ≡ gives (Some (value.Int (pos 506))) (at 2 40) (at 2 30 ∷ [])
+run_10 : told (last_run file_10 25 ((value.Object 24) ∷ []) ((choice.Int (pos 5)) ∷ []) 50)
+    ≡ gives (Some (value.Int (pos 506))) (at 2 40) (at 2 30 ∷ [])
 run_10 = refl
 
 -- typedef struct { PyObject_HEAD PyObject *first; long hits; int few; } Box;
 -- long f(Box *b) { long new = ++b->hits; return new * 100 + b->hits; }
 abbrev pub file_11 : List plain.Item
-file_11 = plain.typedef (plain.spec (at 1 9) (plain.tagged_fields keys.Struct None (plain.field_and (plain.members ([]) (plain.spec (at 1 18) (plain.alias (name 48)) 0) (plain.declr_and (plain.declr ([]) (name 182) (at 1 18) (plain.sizes plain.no_sizes)) plain.no_declrs)) (plain.field_and (plain.members ([]) (plain.spec (at 1 32) (plain.alias (name 48)) 0) (plain.declr_and (plain.declr (0 ∷ []) (name 374) (at 1 42) (plain.sizes plain.no_sizes)) plain.no_declrs)) (plain.field_and (plain.members ([]) (plain.spec (at 1 49) (plain.words (keys.Long ∷ [])) 0) (plain.declr_and (plain.declr ([]) (name 375) (at 1 54) (plain.sizes plain.no_sizes)) plain.no_declrs)) (plain.field_and (plain.members ([]) (plain.spec (at 1 60) (plain.words (keys.Int ∷ [])) 0) (plain.declr_and (plain.declr ([]) (name 376) (at 1 64) (plain.sizes plain.no_sizes)) plain.no_declrs)) plain.no_fields))))) 0) ([]) (name 377) (at 1 71) ∷ plain.function_def (plain.head ([]) (plain.spec (at 2 1) (plain.words (keys.Long ∷ [])) 0) ([]) (name 378) (at 2 6) (plain.params (plain.param_and (plain.param_decl ([]) (plain.spec (at 2 8) (plain.alias (name 377)) 0) (plain.named (plain.declr (0 ∷ []) (name 379) (at 2 13) (plain.sizes plain.no_sizes)))) plain.no_params) false None)) (plain.block (at 2 16) (plain.stmt_and (plain.declare (at 2 18) (plain.decl ([]) (plain.spec (at 2 18) (plain.words (keys.Long ∷ [])) 0) ((plain.var_decl (plain.declr ([]) (name 380) (at 2 23) (plain.sizes plain.no_sizes)) (Some (plain.value (plain.unary (at 2 29) (tokens.Punct puncts.PlusPlus) (plain.arrow (at 2 32) (plain.word (at 2 31) (name 379)) (name 375)))))) ∷ []))) (plain.stmt_and (plain.return (at 2 40) (Some (plain.binary (at 2 57) puncts.Plus (plain.binary (at 2 51) puncts.Star (plain.word (at 2 47) (name 380)) (plain.int (at 2 53) (pos 100) false false)) (plain.arrow (at 2 60) (plain.word (at 2 59) (name 379)) (name 375))))) plain.no_stmts)) (at 2 68)) ∷ []
+file_11 =
+    plain.typedef (plain.spec (at 1 9) (plain.tagged_fields keys.Struct None
+    (plain.field_and (plain.members ([]) (plain.spec (at 1 18) (plain.alias (name 48)) 0)
+    (plain.declr_and (plain.declr ([]) (name 182) (at 1 18) (plain.sizes plain.no_sizes)) plain.no_declrs))
+    (plain.field_and (plain.members ([]) (plain.spec (at 1 32) (plain.alias (name 48)) 0)
+    (plain.declr_and (plain.declr (0 ∷ []) (name 374) (at 1 42) (plain.sizes plain.no_sizes)) plain.no_declrs))
+    (plain.field_and (plain.members ([]) (plain.spec (at 1 49) (plain.words (keys.Long ∷ [])) 0)
+    (plain.declr_and (plain.declr ([]) (name 375) (at 1 54) (plain.sizes plain.no_sizes)) plain.no_declrs))
+    (plain.field_and (plain.members ([]) (plain.spec (at 1 60) (plain.words (keys.Int ∷ [])) 0)
+    (plain.declr_and (plain.declr ([]) (name 376) (at 1 64) (plain.sizes plain.no_sizes)) plain.no_declrs))
+    plain.no_fields))))) 0) ([]) (name 377) (at 1 71) ∷ plain.function_def
+    (plain.head ([]) (plain.spec (at 2 1) (plain.words (keys.Long ∷ [])) 0) ([]) (name 378) (at 2 6)
+    (plain.params (plain.param_and (plain.param_decl ([]) (plain.spec (at 2 8) (plain.alias (name 377)) 0)
+    (plain.named (plain.declr (0 ∷ []) (name 379) (at 2 13) (plain.sizes plain.no_sizes)))) plain.no_params) false
+    None)) (plain.block (at 2 16) (plain.stmt_and (plain.declare (at 2 18)
+    (plain.decl ([]) (plain.spec (at 2 18) (plain.words (keys.Long ∷ [])) 0)
+    ((plain.var_decl (plain.declr ([]) (name 380) (at 2 23) (plain.sizes plain.no_sizes))
+    (Some (plain.value (plain.unary (at 2 29) (tokens.Punct puncts.PlusPlus)
+    (plain.arrow (at 2 32) (plain.word (at 2 31) (name 379)) (name 375)))))) ∷ [])))
+    (plain.stmt_and (plain.return (at 2 40) (Some (plain.binary (at 2 57) puncts.Plus
+    (plain.binary (at 2 51) puncts.Star (plain.word (at 2 47) (name 380)) (plain.int (at 2 53) (pos 100) false
+    false)) (plain.arrow (at 2 60) (plain.word (at 2 59) (name 379)) (name 375))))) plain.no_stmts)) (at 2 68)) ∷ []
 
-run_11 : told (last_run file_11 25 ((value.Object 24) ∷ []) ((choice.Int (pos 5)) ∷ []) 50) ≡ gives (Some (value.Int (pos 606))) (at 2 40) (at 2 32 ∷ [])
+run_11 : told (last_run file_11 25 ((value.Object 24) ∷ []) ((choice.Int (pos 5)) ∷ []) 50)
+    ≡ gives (Some (value.Int (pos 606))) (at 2 40) (at 2 32 ∷ [])
 run_11 = refl
 
 -- typedef struct { PyObject_HEAD PyObject *first; long hits; int few; } Box;
 -- int f(Box *b) { b->few += 1; return 0; }
 abbrev pub file_12 : List plain.Item
-file_12 = plain.typedef (plain.spec (at 1 9) (plain.tagged_fields keys.Struct None (plain.field_and (plain.members ([]) (plain.spec (at 1 18) (plain.alias (name 48)) 0) (plain.declr_and (plain.declr ([]) (name 182) (at 1 18) (plain.sizes plain.no_sizes)) plain.no_declrs)) (plain.field_and (plain.members ([]) (plain.spec (at 1 32) (plain.alias (name 48)) 0) (plain.declr_and (plain.declr (0 ∷ []) (name 374) (at 1 42) (plain.sizes plain.no_sizes)) plain.no_declrs)) (plain.field_and (plain.members ([]) (plain.spec (at 1 49) (plain.words (keys.Long ∷ [])) 0) (plain.declr_and (plain.declr ([]) (name 375) (at 1 54) (plain.sizes plain.no_sizes)) plain.no_declrs)) (plain.field_and (plain.members ([]) (plain.spec (at 1 60) (plain.words (keys.Int ∷ [])) 0) (plain.declr_and (plain.declr ([]) (name 376) (at 1 64) (plain.sizes plain.no_sizes)) plain.no_declrs)) plain.no_fields))))) 0) ([]) (name 377) (at 1 71) ∷ plain.function_def (plain.head ([]) (plain.spec (at 2 1) (plain.words (keys.Int ∷ [])) 0) ([]) (name 378) (at 2 5) (plain.params (plain.param_and (plain.param_decl ([]) (plain.spec (at 2 7) (plain.alias (name 377)) 0) (plain.named (plain.declr (0 ∷ []) (name 379) (at 2 12) (plain.sizes plain.no_sizes)))) plain.no_params) false None)) (plain.block (at 2 15) (plain.stmt_and (plain.do_expr (at 2 17) (Some (plain.assign (at 2 24) puncts.PlusAssign (plain.arrow (at 2 18) (plain.word (at 2 17) (name 379)) (name 376)) (plain.int (at 2 27) (pos 1) false false)))) (plain.stmt_and (plain.return (at 2 30) (Some (plain.int (at 2 37) (pos 0) false false))) plain.no_stmts)) (at 2 40)) ∷ []
+file_12 =
+    plain.typedef (plain.spec (at 1 9) (plain.tagged_fields keys.Struct None
+    (plain.field_and (plain.members ([]) (plain.spec (at 1 18) (plain.alias (name 48)) 0)
+    (plain.declr_and (plain.declr ([]) (name 182) (at 1 18) (plain.sizes plain.no_sizes)) plain.no_declrs))
+    (plain.field_and (plain.members ([]) (plain.spec (at 1 32) (plain.alias (name 48)) 0)
+    (plain.declr_and (plain.declr (0 ∷ []) (name 374) (at 1 42) (plain.sizes plain.no_sizes)) plain.no_declrs))
+    (plain.field_and (plain.members ([]) (plain.spec (at 1 49) (plain.words (keys.Long ∷ [])) 0)
+    (plain.declr_and (plain.declr ([]) (name 375) (at 1 54) (plain.sizes plain.no_sizes)) plain.no_declrs))
+    (plain.field_and (plain.members ([]) (plain.spec (at 1 60) (plain.words (keys.Int ∷ [])) 0)
+    (plain.declr_and (plain.declr ([]) (name 376) (at 1 64) (plain.sizes plain.no_sizes)) plain.no_declrs))
+    plain.no_fields))))) 0) ([]) (name 377) (at 1 71) ∷ plain.function_def
+    (plain.head ([]) (plain.spec (at 2 1) (plain.words (keys.Int ∷ [])) 0) ([]) (name 378) (at 2 5)
+    (plain.params (plain.param_and (plain.param_decl ([]) (plain.spec (at 2 7) (plain.alias (name 377)) 0)
+    (plain.named (plain.declr (0 ∷ []) (name 379) (at 2 12) (plain.sizes plain.no_sizes)))) plain.no_params) false
+    None)) (plain.block (at 2 15) (plain.stmt_and (plain.do_expr (at 2 17)
+    (Some (plain.assign (at 2 24) puncts.PlusAssign (plain.arrow (at 2 18) (plain.word (at 2 17) (name 379))
+    (name 376)) (plain.int (at 2 27) (pos 1) false false)))) (plain.stmt_and
+    (plain.return (at 2 30) (Some (plain.int (at 2 37) (pos 0) false false))) plain.no_stmts)) (at 2 40)) ∷ []
 
 run_12 : told (last_run file_12 25 ((value.Object 24) ∷ []) ((choice.Int (pos 2147483647)) ∷ []) 50) ≡ stops (at 2 24)
 run_12 = refl
@@ -120,22 +279,63 @@ run_12 = refl
 -- typedef struct { PyObject_HEAD PyObject *first; long hits; int few; } Box;
 -- int f(Box *a, Box *b) { a->few = 1; b->few = 2; return a->few; }
 abbrev pub file_13 : List plain.Item
-file_13 = plain.typedef (plain.spec (at 1 9) (plain.tagged_fields keys.Struct None (plain.field_and (plain.members ([]) (plain.spec (at 1 18) (plain.alias (name 48)) 0) (plain.declr_and (plain.declr ([]) (name 182) (at 1 18) (plain.sizes plain.no_sizes)) plain.no_declrs)) (plain.field_and (plain.members ([]) (plain.spec (at 1 32) (plain.alias (name 48)) 0) (plain.declr_and (plain.declr (0 ∷ []) (name 374) (at 1 42) (plain.sizes plain.no_sizes)) plain.no_declrs)) (plain.field_and (plain.members ([]) (plain.spec (at 1 49) (plain.words (keys.Long ∷ [])) 0) (plain.declr_and (plain.declr ([]) (name 375) (at 1 54) (plain.sizes plain.no_sizes)) plain.no_declrs)) (plain.field_and (plain.members ([]) (plain.spec (at 1 60) (plain.words (keys.Int ∷ [])) 0) (plain.declr_and (plain.declr ([]) (name 376) (at 1 64) (plain.sizes plain.no_sizes)) plain.no_declrs)) plain.no_fields))))) 0) ([]) (name 377) (at 1 71) ∷ plain.function_def (plain.head ([]) (plain.spec (at 2 1) (plain.words (keys.Int ∷ [])) 0) ([]) (name 378) (at 2 5) (plain.params (plain.param_and (plain.param_decl ([]) (plain.spec (at 2 7) (plain.alias (name 377)) 0) (plain.named (plain.declr (0 ∷ []) (name 379) (at 2 12) (plain.sizes plain.no_sizes)))) (plain.param_and (plain.param_decl ([]) (plain.spec (at 2 15) (plain.alias (name 377)) 0) (plain.named (plain.declr (0 ∷ []) (name 380) (at 2 20) (plain.sizes plain.no_sizes)))) plain.no_params)) false None)) (plain.block (at 2 23) (plain.stmt_and (plain.do_expr (at 2 25) (Some (plain.assign (at 2 32) puncts.Assign (plain.arrow (at 2 26) (plain.word (at 2 25) (name 379)) (name 376)) (plain.int (at 2 34) (pos 1) false false)))) (plain.stmt_and (plain.do_expr (at 2 37) (Some (plain.assign (at 2 44) puncts.Assign (plain.arrow (at 2 38) (plain.word (at 2 37) (name 380)) (name 376)) (plain.int (at 2 46) (pos 2) false false)))) (plain.stmt_and (plain.return (at 2 49) (Some (plain.arrow (at 2 57) (plain.word (at 2 56) (name 379)) (name 376)))) plain.no_stmts))) (at 2 64)) ∷ []
+file_13 =
+    plain.typedef (plain.spec (at 1 9) (plain.tagged_fields keys.Struct None
+    (plain.field_and (plain.members ([]) (plain.spec (at 1 18) (plain.alias (name 48)) 0)
+    (plain.declr_and (plain.declr ([]) (name 182) (at 1 18) (plain.sizes plain.no_sizes)) plain.no_declrs))
+    (plain.field_and (plain.members ([]) (plain.spec (at 1 32) (plain.alias (name 48)) 0)
+    (plain.declr_and (plain.declr (0 ∷ []) (name 374) (at 1 42) (plain.sizes plain.no_sizes)) plain.no_declrs))
+    (plain.field_and (plain.members ([]) (plain.spec (at 1 49) (plain.words (keys.Long ∷ [])) 0)
+    (plain.declr_and (plain.declr ([]) (name 375) (at 1 54) (plain.sizes plain.no_sizes)) plain.no_declrs))
+    (plain.field_and (plain.members ([]) (plain.spec (at 1 60) (plain.words (keys.Int ∷ [])) 0)
+    (plain.declr_and (plain.declr ([]) (name 376) (at 1 64) (plain.sizes plain.no_sizes)) plain.no_declrs))
+    plain.no_fields))))) 0) ([]) (name 377) (at 1 71) ∷ plain.function_def
+    (plain.head ([]) (plain.spec (at 2 1) (plain.words (keys.Int ∷ [])) 0) ([]) (name 378) (at 2 5)
+    (plain.params (plain.param_and (plain.param_decl ([]) (plain.spec (at 2 7) (plain.alias (name 377)) 0)
+    (plain.named (plain.declr (0 ∷ []) (name 379) (at 2 12) (plain.sizes plain.no_sizes))))
+    (plain.param_and (plain.param_decl ([]) (plain.spec (at 2 15) (plain.alias (name 377)) 0)
+    (plain.named (plain.declr (0 ∷ []) (name 380) (at 2 20) (plain.sizes plain.no_sizes)))) plain.no_params)) false
+    None)) (plain.block (at 2 23) (plain.stmt_and (plain.do_expr (at 2 25)
+    (Some (plain.assign (at 2 32) puncts.Assign (plain.arrow (at 2 26) (plain.word (at 2 25) (name 379)) (name 376))
+    (plain.int (at 2 34) (pos 1) false false)))) (plain.stmt_and (plain.do_expr (at 2 37)
+    (Some (plain.assign (at 2 44) puncts.Assign (plain.arrow (at 2 38) (plain.word (at 2 37) (name 380)) (name 376))
+    (plain.int (at 2 46) (pos 2) false false)))) (plain.stmt_and (plain.return (at 2 49)
+    (Some (plain.arrow (at 2 57) (plain.word (at 2 56) (name 379)) (name 376)))) plain.no_stmts))) (at 2 64)) ∷ []
 
-run_13 : told (last_run file_13 25 ((value.Object 24) ∷ (value.Object 24) ∷ []) ((choice.Int (pos 0)) ∷ (choice.Int (pos 9)) ∷ []) 80) ≡ gives (Some (value.Int (pos 2))) (at 2 49) (at 2 26 ∷ [])
+run_13 : told (last_run file_13 25 ((value.Object 24) ∷ (value.Object 24) ∷ [])
+    ((choice.Int (pos 0)) ∷ (choice.Int (pos 9)) ∷ []) 80)
+    ≡ gives (Some (value.Int (pos 2))) (at 2 49) (at 2 26 ∷ [])
 run_13 = refl
 
 -- typedef struct { PyObject_HEAD PyObject *first; long hits; int few; } Box;
 -- int f(Box *a, Box *b) { a->few = 1; b->few = 2; return a->few; }
-run_14 : told (last_run file_13 26 ((value.Object 24) ∷ (value.Object 25) ∷ []) ((choice.Int (pos 0)) ∷ (choice.Int (pos 9)) ∷ []) 80) ≡ gives (Some (value.Int (pos 1))) (at 2 49) (at 2 26 ∷ at 2 38 ∷ [])
+run_14 : told (last_run file_13 26 ((value.Object 24) ∷ (value.Object 25) ∷ [])
+    ((choice.Int (pos 0)) ∷ (choice.Int (pos 9)) ∷ []) 80)
+    ≡ gives (Some (value.Int (pos 1))) (at 2 49) (at 2 26 ∷ at 2 38 ∷ [])
 run_14 = refl
 
 -- typedef struct { PyObject_HEAD PyObject *first; long hits; int few; } Box;
 -- PyObject *f(Box *b) { return b->first; }
 abbrev pub file_15 : List plain.Item
-file_15 = plain.typedef (plain.spec (at 1 9) (plain.tagged_fields keys.Struct None (plain.field_and (plain.members ([]) (plain.spec (at 1 18) (plain.alias (name 48)) 0) (plain.declr_and (plain.declr ([]) (name 182) (at 1 18) (plain.sizes plain.no_sizes)) plain.no_declrs)) (plain.field_and (plain.members ([]) (plain.spec (at 1 32) (plain.alias (name 48)) 0) (plain.declr_and (plain.declr (0 ∷ []) (name 374) (at 1 42) (plain.sizes plain.no_sizes)) plain.no_declrs)) (plain.field_and (plain.members ([]) (plain.spec (at 1 49) (plain.words (keys.Long ∷ [])) 0) (plain.declr_and (plain.declr ([]) (name 375) (at 1 54) (plain.sizes plain.no_sizes)) plain.no_declrs)) (plain.field_and (plain.members ([]) (plain.spec (at 1 60) (plain.words (keys.Int ∷ [])) 0) (plain.declr_and (plain.declr ([]) (name 376) (at 1 64) (plain.sizes plain.no_sizes)) plain.no_declrs)) plain.no_fields))))) 0) ([]) (name 377) (at 1 71) ∷ plain.function_def (plain.head ([]) (plain.spec (at 2 1) (plain.alias (name 48)) 0) (0 ∷ []) (name 378) (at 2 11) (plain.params (plain.param_and (plain.param_decl ([]) (plain.spec (at 2 13) (plain.alias (name 377)) 0) (plain.named (plain.declr (0 ∷ []) (name 379) (at 2 18) (plain.sizes plain.no_sizes)))) plain.no_params) false None)) (plain.block (at 2 21) (plain.stmt_and (plain.return (at 2 23) (Some (plain.arrow (at 2 31) (plain.word (at 2 30) (name 379)) (name 374)))) plain.no_stmts) (at 2 40)) ∷ []
+file_15 =
+    plain.typedef (plain.spec (at 1 9) (plain.tagged_fields keys.Struct None
+    (plain.field_and (plain.members ([]) (plain.spec (at 1 18) (plain.alias (name 48)) 0)
+    (plain.declr_and (plain.declr ([]) (name 182) (at 1 18) (plain.sizes plain.no_sizes)) plain.no_declrs))
+    (plain.field_and (plain.members ([]) (plain.spec (at 1 32) (plain.alias (name 48)) 0)
+    (plain.declr_and (plain.declr (0 ∷ []) (name 374) (at 1 42) (plain.sizes plain.no_sizes)) plain.no_declrs))
+    (plain.field_and (plain.members ([]) (plain.spec (at 1 49) (plain.words (keys.Long ∷ [])) 0)
+    (plain.declr_and (plain.declr ([]) (name 375) (at 1 54) (plain.sizes plain.no_sizes)) plain.no_declrs))
+    (plain.field_and (plain.members ([]) (plain.spec (at 1 60) (plain.words (keys.Int ∷ [])) 0)
+    (plain.declr_and (plain.declr ([]) (name 376) (at 1 64) (plain.sizes plain.no_sizes)) plain.no_declrs))
+    plain.no_fields))))) 0) ([]) (name 377) (at 1 71) ∷ plain.function_def
+    (plain.head ([]) (plain.spec (at 2 1) (plain.alias (name 48)) 0) (0 ∷ []) (name 378) (at 2 11)
+    (plain.params (plain.param_and (plain.param_decl ([]) (plain.spec (at 2 13) (plain.alias (name 377)) 0)
+    (plain.named (plain.declr (0 ∷ []) (name 379) (at 2 18) (plain.sizes plain.no_sizes)))) plain.no_params) false
+    None)) (plain.block (at 2 21) (plain.stmt_and (plain.return (at 2 23) (Some
+    (plain.arrow (at 2 31) (plain.word (at 2 30) (name 379)) (name 374)))) plain.no_stmts) (at 2 40)) ∷ []
 
-run_15 : told (last_run file_15 25 ((value.Object 24) ∷ []) ((choice.Object 25) ∷ []) 80) ≡ gives (Some (value.Object 25)) (at 2 23) (at 2 31 ∷ [])
+run_15 : told (last_run file_15 25 ((value.Object 24) ∷ []) ((choice.Object 25) ∷ []) 80)
+    ≡ gives (Some (value.Object 25)) (at 2 23) (at 2 31 ∷ [])
 run_15 = refl
 
 -- typedef struct { PyObject_HEAD PyObject *first; long hits; int few; } Box;
@@ -146,46 +346,100 @@ run_16 = refl
 -- long g;
 -- long f(void) { return g + g; }
 abbrev pub file_17 : List plain.Item
-file_17 = plain.variables (plain.decl ([]) (plain.spec (at 1 1) (plain.words (keys.Long ∷ [])) 0) ((plain.var_decl (plain.declr ([]) (name 374) (at 1 6) (plain.sizes plain.no_sizes)) None) ∷ [])) ∷ plain.function_def (plain.head ([]) (plain.spec (at 2 1) (plain.words (keys.Long ∷ [])) 0) ([]) (name 375) (at 2 6) (plain.params plain.no_params true None)) (plain.block (at 2 14) (plain.stmt_and (plain.return (at 2 16) (Some (plain.binary (at 2 25) puncts.Plus (plain.word (at 2 23) (name 374)) (plain.word (at 2 27) (name 374))))) plain.no_stmts) (at 2 30)) ∷ []
+file_17 =
+    plain.variables (plain.decl ([]) (plain.spec (at 1 1) (plain.words (keys.Long ∷ [])) 0)
+    ((plain.var_decl (plain.declr ([]) (name 374) (at 1 6) (plain.sizes plain.no_sizes)) None) ∷ []))
+    ∷ plain.function_def (plain.head ([]) (plain.spec (at 2 1) (plain.words (keys.Long ∷ [])) 0) ([]) (name 375)
+    (at 2 6) (plain.params plain.no_params true None)) (plain.block (at 2 14)
+    (plain.stmt_and (plain.return (at 2 16) (Some (plain.binary (at 2 25) puncts.Plus
+    (plain.word (at 2 23) (name 374)) (plain.word (at 2 27) (name 374))))) plain.no_stmts) (at 2 30)) ∷ []
 
-run_17 : told (last_run file_17 24 ([]) ((choice.Int (pos 21)) ∷ []) 80) ≡ gives (Some (value.Int (pos 42))) (at 2 16) (at 2 23 ∷ [])
+run_17 : told (last_run file_17 24 ([]) ((choice.Int (pos 21)) ∷ []) 80)
+    ≡ gives (Some (value.Int (pos 42))) (at 2 16) (at 2 23 ∷ [])
 run_17 = refl
 
 -- ---- Calls of the API
 
 -- void f(PyObject *x) { Py_INCREF(x); }
 abbrev pub file_18 : List plain.Item
-file_18 = plain.function_def (plain.head ([]) (plain.spec (at 1 1) (plain.words (keys.Void ∷ [])) 0) ([]) (name 374) (at 1 6) (plain.params (plain.param_and (plain.param_decl ([]) (plain.spec (at 1 8) (plain.alias (name 48)) 0) (plain.named (plain.declr (0 ∷ []) (name 375) (at 1 18) (plain.sizes plain.no_sizes)))) plain.no_params) false None)) (plain.block (at 1 21) (plain.stmt_and (plain.do_expr (at 1 23) (Some (plain.call (at 1 23) (plain.word (at 1 23) (name 167)) (plain.expr_and (plain.word (at 1 33) (name 375)) plain.no_exprs)))) plain.no_stmts) (at 1 37)) ∷ []
+file_18 =
+    plain.function_def (plain.head ([]) (plain.spec (at 1 1) (plain.words (keys.Void ∷ [])) 0) ([]) (name 374)
+    (at 1 6) (plain.params (plain.param_and (plain.param_decl ([]) (plain.spec (at 1 8) (plain.alias (name 48)) 0)
+    (plain.named (plain.declr (0 ∷ []) (name 375) (at 1 18) (plain.sizes plain.no_sizes)))) plain.no_params) false
+    None)) (plain.block (at 1 21) (plain.stmt_and (plain.do_expr (at 1 23)
+    (Some (plain.call (at 1 23) (plain.word (at 1 23) (name 167)) (plain.expr_and (plain.word (at 1 33) (name 375))
+    plain.no_exprs)))) plain.no_stmts) (at 1 37)) ∷ []
 
 run_18 : told (last_run file_18 24 (value.Null ∷ []) ([]) 50) ≡ stops (at 1 23)
 run_18 = refl
 
 -- void f(PyObject *x) { Py_XINCREF(x); }
 abbrev pub file_19 : List plain.Item
-file_19 = plain.function_def (plain.head ([]) (plain.spec (at 1 1) (plain.words (keys.Void ∷ [])) 0) ([]) (name 374) (at 1 6) (plain.params (plain.param_and (plain.param_decl ([]) (plain.spec (at 1 8) (plain.alias (name 48)) 0) (plain.named (plain.declr (0 ∷ []) (name 375) (at 1 18) (plain.sizes plain.no_sizes)))) plain.no_params) false None)) (plain.block (at 1 21) (plain.stmt_and (plain.do_expr (at 1 23) (Some (plain.call (at 1 23) (plain.word (at 1 23) (name 169)) (plain.expr_and (plain.word (at 1 34) (name 375)) plain.no_exprs)))) plain.no_stmts) (at 1 38)) ∷ []
+file_19 =
+    plain.function_def (plain.head ([]) (plain.spec (at 1 1) (plain.words (keys.Void ∷ [])) 0) ([]) (name 374)
+    (at 1 6) (plain.params (plain.param_and (plain.param_decl ([]) (plain.spec (at 1 8) (plain.alias (name 48)) 0)
+    (plain.named (plain.declr (0 ∷ []) (name 375) (at 1 18) (plain.sizes plain.no_sizes)))) plain.no_params) false
+    None)) (plain.block (at 1 21) (plain.stmt_and (plain.do_expr (at 1 23)
+    (Some (plain.call (at 1 23) (plain.word (at 1 23) (name 169)) (plain.expr_and (plain.word (at 1 34) (name 375))
+    plain.no_exprs)))) plain.no_stmts) (at 1 38)) ∷ []
 
 run_19 : told (last_run file_19 24 (value.Null ∷ []) ([]) 50) ≡ gives None (at 1 38) ([])
 run_19 = refl
 
 -- PyObject *f(int n) { return PyList_New(n); }
 abbrev pub file_20 : List plain.Item
-file_20 = plain.function_def (plain.head ([]) (plain.spec (at 1 1) (plain.alias (name 48)) 0) (0 ∷ []) (name 374) (at 1 11) (plain.params (plain.param_and (plain.param_decl ([]) (plain.spec (at 1 13) (plain.words (keys.Int ∷ [])) 0) (plain.named (plain.declr ([]) (name 375) (at 1 17) (plain.sizes plain.no_sizes)))) plain.no_params) false None)) (plain.block (at 1 20) (plain.stmt_and (plain.return (at 1 22) (Some (plain.call (at 1 29) (plain.word (at 1 29) (name 106)) (plain.expr_and (plain.word (at 1 40) (name 375)) plain.no_exprs)))) plain.no_stmts) (at 1 44)) ∷ []
+file_20 =
+    plain.function_def (plain.head ([]) (plain.spec (at 1 1) (plain.alias (name 48)) 0) (0 ∷ []) (name 374)
+    (at 1 11) (plain.params (plain.param_and (plain.param_decl ([]) (plain.spec (at 1 13)
+    (plain.words (keys.Int ∷ [])) 0) (plain.named (plain.declr ([]) (name 375) (at 1 17)
+    (plain.sizes plain.no_sizes)))) plain.no_params) false None)) (plain.block (at 1 20)
+    (plain.stmt_and (plain.return (at 1 22) (Some (plain.call (at 1 29) (plain.word (at 1 29) (name 106))
+    (plain.expr_and (plain.word (at 1 40) (name 375)) plain.no_exprs)))) plain.no_stmts) (at 1 44)) ∷ []
 
-run_20 : told (last_run file_20 24 ((value.Int (pos 3)) ∷ []) ((choice.Object 24) ∷ []) 50) ≡ gives (Some (value.Object 24)) (at 1 22) (at 1 29 ∷ [])
+run_20 : told (last_run file_20 24 ((value.Int (pos 3)) ∷ []) ((choice.Object 24) ∷ []) 50)
+    ≡ gives (Some (value.Object 24)) (at 1 22) (at 1 29 ∷ [])
 run_20 = refl
 
 -- PyObject *f(PyObject *x) { PyObject *a = PyList_New(0); PyObject *b = PyList_New(1); return b; }
 abbrev pub file_21 : List plain.Item
-file_21 = plain.function_def (plain.head ([]) (plain.spec (at 1 1) (plain.alias (name 48)) 0) (0 ∷ []) (name 374) (at 1 11) (plain.params (plain.param_and (plain.param_decl ([]) (plain.spec (at 1 13) (plain.alias (name 48)) 0) (plain.named (plain.declr (0 ∷ []) (name 375) (at 1 23) (plain.sizes plain.no_sizes)))) plain.no_params) false None)) (plain.block (at 1 26) (plain.stmt_and (plain.declare (at 1 28) (plain.decl ([]) (plain.spec (at 1 28) (plain.alias (name 48)) 0) ((plain.var_decl (plain.declr (0 ∷ []) (name 376) (at 1 38) (plain.sizes plain.no_sizes)) (Some (plain.value (plain.call (at 1 42) (plain.word (at 1 42) (name 106)) (plain.expr_and (plain.int (at 1 53) (pos 0) false false) plain.no_exprs))))) ∷ []))) (plain.stmt_and (plain.declare (at 1 57) (plain.decl ([]) (plain.spec (at 1 57) (plain.alias (name 48)) 0) ((plain.var_decl (plain.declr (0 ∷ []) (name 377) (at 1 67) (plain.sizes plain.no_sizes)) (Some (plain.value (plain.call (at 1 71) (plain.word (at 1 71) (name 106)) (plain.expr_and (plain.int (at 1 82) (pos 1) false false) plain.no_exprs))))) ∷ []))) (plain.stmt_and (plain.return (at 1 86) (Some (plain.word (at 1 93) (name 377)))) plain.no_stmts))) (at 1 96)) ∷ []
+file_21 =
+    plain.function_def (plain.head ([]) (plain.spec (at 1 1) (plain.alias (name 48)) 0) (0 ∷ []) (name 374)
+    (at 1 11) (plain.params (plain.param_and (plain.param_decl ([]) (plain.spec (at 1 13) (plain.alias (name 48)) 0)
+    (plain.named (plain.declr (0 ∷ []) (name 375) (at 1 23) (plain.sizes plain.no_sizes)))) plain.no_params) false
+    None)) (plain.block (at 1 26) (plain.stmt_and (plain.declare (at 1 28)
+    (plain.decl ([]) (plain.spec (at 1 28) (plain.alias (name 48)) 0) ((plain.var_decl
+    (plain.declr (0 ∷ []) (name 376) (at 1 38) (plain.sizes plain.no_sizes))
+    (Some (plain.value (plain.call (at 1 42) (plain.word (at 1 42) (name 106))
+    (plain.expr_and (plain.int (at 1 53) (pos 0) false false) plain.no_exprs))))) ∷ [])))
+    (plain.stmt_and (plain.declare (at 1 57) (plain.decl ([]) (plain.spec (at 1 57) (plain.alias (name 48)) 0)
+    ((plain.var_decl (plain.declr (0 ∷ []) (name 377) (at 1 67) (plain.sizes plain.no_sizes))
+    (Some (plain.value (plain.call (at 1 71) (plain.word (at 1 71) (name 106))
+    (plain.expr_and (plain.int (at 1 82) (pos 1) false false) plain.no_exprs))))) ∷ [])))
+    (plain.stmt_and (plain.return (at 1 86) (Some (plain.word (at 1 93) (name 377)))) plain.no_stmts))) (at 1 96))
+    ∷ []
 
-run_21 : told (last_run file_21 24 (value.Null ∷ []) ((choice.Object 24) ∷ choice.Null ∷ []) 80) ≡ gives (Some value.Null) (at 1 86) (at 1 42 ∷ at 1 71 ∷ [])
+run_21 : told (last_run file_21 24 (value.Null ∷ []) ((choice.Object 24) ∷ choice.Null ∷ []) 80)
+    ≡ gives (Some value.Null) (at 1 86) (at 1 42 ∷ at 1 71 ∷ [])
 run_21 = refl
 
 -- int f(PyObject *l, PyObject *x) { if (PyList_Append(l, x) < 0) return -1; return 0; }
 abbrev pub file_22 : List plain.Item
-file_22 = plain.function_def (plain.head ([]) (plain.spec (at 1 1) (plain.words (keys.Int ∷ [])) 0) ([]) (name 374) (at 1 5) (plain.params (plain.param_and (plain.param_decl ([]) (plain.spec (at 1 7) (plain.alias (name 48)) 0) (plain.named (plain.declr (0 ∷ []) (name 375) (at 1 17) (plain.sizes plain.no_sizes)))) (plain.param_and (plain.param_decl ([]) (plain.spec (at 1 20) (plain.alias (name 48)) 0) (plain.named (plain.declr (0 ∷ []) (name 376) (at 1 30) (plain.sizes plain.no_sizes)))) plain.no_params)) false None)) (plain.block (at 1 33) (plain.stmt_and (plain.if_only (at 1 35) (plain.binary (at 1 59) puncts.Less (plain.call (at 1 39) (plain.word (at 1 39) (name 143)) (plain.expr_and (plain.word (at 1 53) (name 375)) (plain.expr_and (plain.word (at 1 56) (name 376)) plain.no_exprs))) (plain.int (at 1 61) (pos 0) false false)) (plain.return (at 1 64) (Some (plain.unary (at 1 71) (tokens.Punct puncts.Minus) (plain.int (at 1 72) (pos 1) false false))))) (plain.stmt_and (plain.return (at 1 75) (Some (plain.int (at 1 82) (pos 0) false false))) plain.no_stmts)) (at 1 85)) ∷ []
+file_22 =
+    plain.function_def (plain.head ([]) (plain.spec (at 1 1) (plain.words (keys.Int ∷ [])) 0) ([]) (name 374)
+    (at 1 5) (plain.params (plain.param_and (plain.param_decl ([]) (plain.spec (at 1 7) (plain.alias (name 48)) 0)
+    (plain.named (plain.declr (0 ∷ []) (name 375) (at 1 17) (plain.sizes plain.no_sizes))))
+    (plain.param_and (plain.param_decl ([]) (plain.spec (at 1 20) (plain.alias (name 48)) 0)
+    (plain.named (plain.declr (0 ∷ []) (name 376) (at 1 30) (plain.sizes plain.no_sizes)))) plain.no_params)) false
+    None)) (plain.block (at 1 33) (plain.stmt_and (plain.if_only (at 1 35)
+    (plain.binary (at 1 59) puncts.Less (plain.call (at 1 39) (plain.word (at 1 39) (name 143))
+    (plain.expr_and (plain.word (at 1 53) (name 375)) (plain.expr_and (plain.word (at 1 56) (name 376))
+    plain.no_exprs))) (plain.int (at 1 61) (pos 0) false false)) (plain.return (at 1 64)
+    (Some (plain.unary (at 1 71) (tokens.Punct puncts.Minus) (plain.int (at 1 72) (pos 1) false false)))))
+    (plain.stmt_and (plain.return (at 1 75) (Some (plain.int (at 1 82) (pos 0) false false))) plain.no_stmts))
+    (at 1 85)) ∷ []
 
-run_22 : told (last_run file_22 24 ((value.Object 1) ∷ (value.Object 2) ∷ []) ((choice.Int (negsuc 0)) ∷ []) 80) ≡ gives (Some (value.Int (negsuc 0))) (at 1 64) (at 1 39 ∷ [])
+run_22 : told (last_run file_22 24 ((value.Object 1) ∷ (value.Object 2) ∷ []) ((choice.Int (negsuc 0)) ∷ []) 80)
+    ≡ gives (Some (value.Int (negsuc 0))) (at 1 64) (at 1 39 ∷ [])
 run_22 = refl
 
 -- int f(PyObject *l, PyObject *x) { if (PyList_Append(l, x) < 0) return -1; return 0; }
@@ -194,93 +448,193 @@ run_23 = refl
 
 -- PyObject *f(void) { PyErr_SetString(PyExc_ValueError, "e"); return NULL; }
 abbrev pub file_24 : List plain.Item
-file_24 = plain.function_def (plain.head ([]) (plain.spec (at 1 1) (plain.alias (name 48)) 0) (0 ∷ []) (name 374) (at 1 11) (plain.params plain.no_params true None)) (plain.block (at 1 19) (plain.stmt_and (plain.do_expr (at 1 21) (Some (plain.call (at 1 21) (plain.word (at 1 21) (name 163)) (plain.expr_and (plain.word (at 1 37) (name 84)) (plain.expr_and (plain.text (at 1 55) ((name 375) ∷ [])) plain.no_exprs))))) (plain.stmt_and (plain.return (at 1 61) (Some (plain.null (at 1 68)))) plain.no_stmts)) (at 1 74)) ∷ []
+file_24 =
+    plain.function_def (plain.head ([]) (plain.spec (at 1 1) (plain.alias (name 48)) 0) (0 ∷ []) (name 374)
+    (at 1 11) (plain.params plain.no_params true None)) (plain.block (at 1 19)
+    (plain.stmt_and (plain.do_expr (at 1 21) (Some (plain.call (at 1 21) (plain.word (at 1 21) (name 163))
+    (plain.expr_and (plain.word (at 1 37) (name 84)) (plain.expr_and (plain.text (at 1 55) ((name 375) ∷ []))
+    plain.no_exprs))))) (plain.stmt_and (plain.return (at 1 61) (Some (plain.null (at 1 68)))) plain.no_stmts))
+    (at 1 74)) ∷ []
 
 run_24 : told (last_run file_24 24 ([]) ([]) 80) ≡ gives (Some value.Null) (at 1 61) ([])
 run_24 = refl
 
 -- void f(PyObject *x) { (void)Py_INCREF(x); (Py_INCREF(x)); }
 abbrev pub file_25 : List plain.Item
-file_25 = plain.function_def (plain.head ([]) (plain.spec (at 1 1) (plain.words (keys.Void ∷ [])) 0) ([]) (name 374) (at 1 6) (plain.params (plain.param_and (plain.param_decl ([]) (plain.spec (at 1 8) (plain.alias (name 48)) 0) (plain.named (plain.declr (0 ∷ []) (name 375) (at 1 18) (plain.sizes plain.no_sizes)))) plain.no_params) false None)) (plain.block (at 1 21) (plain.stmt_and (plain.do_expr (at 1 23) (Some (plain.cast (at 1 23) (plain.type_name (plain.spec (at 1 24) (plain.words (keys.Void ∷ [])) 0) ([])) (plain.call (at 1 29) (plain.word (at 1 29) (name 167)) (plain.expr_and (plain.word (at 1 39) (name 375)) plain.no_exprs))))) (plain.stmt_and (plain.do_expr (at 1 43) (Some (plain.paren (at 1 43) (plain.call (at 1 44) (plain.word (at 1 44) (name 167)) (plain.expr_and (plain.word (at 1 54) (name 375)) plain.no_exprs))))) plain.no_stmts)) (at 1 59)) ∷ []
+file_25 =
+    plain.function_def (plain.head ([]) (plain.spec (at 1 1) (plain.words (keys.Void ∷ [])) 0) ([]) (name 374)
+    (at 1 6) (plain.params (plain.param_and (plain.param_decl ([]) (plain.spec (at 1 8) (plain.alias (name 48)) 0)
+    (plain.named (plain.declr (0 ∷ []) (name 375) (at 1 18) (plain.sizes plain.no_sizes)))) plain.no_params) false
+    None)) (plain.block (at 1 21) (plain.stmt_and (plain.do_expr (at 1 23)
+    (Some (plain.cast (at 1 23) (plain.type_name (plain.spec (at 1 24) (plain.words (keys.Void ∷ [])) 0) ([]))
+    (plain.call (at 1 29) (plain.word (at 1 29) (name 167)) (plain.expr_and (plain.word (at 1 39) (name 375))
+    plain.no_exprs))))) (plain.stmt_and (plain.do_expr (at 1 43) (Some (plain.paren (at 1 43)
+    (plain.call (at 1 44) (plain.word (at 1 44) (name 167)) (plain.expr_and (plain.word (at 1 54) (name 375))
+    plain.no_exprs))))) plain.no_stmts)) (at 1 59)) ∷ []
 
 run_25 : told (last_run file_25 24 ((value.Object 1) ∷ []) ([]) 80) ≡ gives None (at 1 59) ([])
 run_25 = refl
 
 -- PyObject *f(void) { return Py_None; }
 abbrev pub file_26 : List plain.Item
-file_26 = plain.function_def (plain.head ([]) (plain.spec (at 1 1) (plain.alias (name 48)) 0) (0 ∷ []) (name 374) (at 1 11) (plain.params plain.no_params true None)) (plain.block (at 1 19) (plain.stmt_and (plain.return (at 1 21) (Some (plain.word (at 1 28) (name 79)))) plain.no_stmts) (at 1 37)) ∷ []
+file_26 =
+    plain.function_def (plain.head ([]) (plain.spec (at 1 1) (plain.alias (name 48)) 0) (0 ∷ []) (name 374)
+    (at 1 11) (plain.params plain.no_params true None)) (plain.block (at 1 19)
+    (plain.stmt_and (plain.return (at 1 21) (Some (plain.word (at 1 28) (name 79)))) plain.no_stmts) (at 1 37)) ∷ []
 
 run_26 : told (last_run file_26 24 ([]) ([]) 80) ≡ gives (Some (value.Object 0)) (at 1 21) ([])
 run_26 = refl
 
 -- PyObject *f(void) { return (PyObject *)&PyList_Type; }
 abbrev pub file_27 : List plain.Item
-file_27 = plain.function_def (plain.head ([]) (plain.spec (at 1 1) (plain.alias (name 48)) 0) (0 ∷ []) (name 374) (at 1 11) (plain.params plain.no_params true None)) (plain.block (at 1 19) (plain.stmt_and (plain.return (at 1 21) (Some (plain.cast (at 1 28) (plain.type_name (plain.spec (at 1 29) (plain.alias (name 48)) 0) (0 ∷ [])) (plain.unary (at 1 40) (tokens.Punct puncts.And) (plain.word (at 1 41) (name 97)))))) plain.no_stmts) (at 1 54)) ∷ []
+file_27 =
+    plain.function_def (plain.head ([]) (plain.spec (at 1 1) (plain.alias (name 48)) 0) (0 ∷ []) (name 374)
+    (at 1 11) (plain.params plain.no_params true None)) (plain.block (at 1 19)
+    (plain.stmt_and (plain.return (at 1 21) (Some (plain.cast (at 1 28) (plain.type_name
+    (plain.spec (at 1 29) (plain.alias (name 48)) 0) (0 ∷ [])) (plain.unary (at 1 40) (tokens.Punct puncts.And)
+    (plain.word (at 1 41) (name 97)))))) plain.no_stmts) (at 1 54)) ∷ []
 
 run_27 : told (last_run file_27 24 ([]) ([]) 80) ≡ gives (Some (value.Object 18)) (at 1 21) ([])
 run_27 = refl
 
 -- int f(PyObject *x) { int n = PyLong_AsLong(x); return n; }
 abbrev pub file_28 : List plain.Item
-file_28 = plain.function_def (plain.head ([]) (plain.spec (at 1 1) (plain.words (keys.Int ∷ [])) 0) ([]) (name 374) (at 1 5) (plain.params (plain.param_and (plain.param_decl ([]) (plain.spec (at 1 7) (plain.alias (name 48)) 0) (plain.named (plain.declr (0 ∷ []) (name 375) (at 1 17) (plain.sizes plain.no_sizes)))) plain.no_params) false None)) (plain.block (at 1 20) (plain.stmt_and (plain.declare (at 1 22) (plain.decl ([]) (plain.spec (at 1 22) (plain.words (keys.Int ∷ [])) 0) ((plain.var_decl (plain.declr ([]) (name 376) (at 1 26) (plain.sizes plain.no_sizes)) (Some (plain.value (plain.call (at 1 30) (plain.word (at 1 30) (name 160)) (plain.expr_and (plain.word (at 1 44) (name 375)) plain.no_exprs))))) ∷ []))) (plain.stmt_and (plain.return (at 1 48) (Some (plain.word (at 1 55) (name 376)))) plain.no_stmts)) (at 1 58)) ∷ []
+file_28 =
+    plain.function_def (plain.head ([]) (plain.spec (at 1 1) (plain.words (keys.Int ∷ [])) 0) ([]) (name 374)
+    (at 1 5) (plain.params (plain.param_and (plain.param_decl ([]) (plain.spec (at 1 7) (plain.alias (name 48)) 0)
+    (plain.named (plain.declr (0 ∷ []) (name 375) (at 1 17) (plain.sizes plain.no_sizes)))) plain.no_params) false
+    None)) (plain.block (at 1 20) (plain.stmt_and (plain.declare (at 1 22)
+    (plain.decl ([]) (plain.spec (at 1 22) (plain.words (keys.Int ∷ [])) 0)
+    ((plain.var_decl (plain.declr ([]) (name 376) (at 1 26) (plain.sizes plain.no_sizes))
+    (Some (plain.value (plain.call (at 1 30) (plain.word (at 1 30) (name 160))
+    (plain.expr_and (plain.word (at 1 44) (name 375)) plain.no_exprs))))) ∷ [])))
+    (plain.stmt_and (plain.return (at 1 48) (Some (plain.word (at 1 55) (name 376)))) plain.no_stmts)) (at 1 58))
+    ∷ []
 
 run_28 : told (last_run file_28 24 ((value.Object 1) ∷ []) ((choice.Int (pos 5000000000)) ∷ []) 80) ≡ stops (at 1 26)
 run_28 = refl
 
 -- PyObject *f(PyObject *x) { return Py_NewRef(x); }
 abbrev pub file_29 : List plain.Item
-file_29 = plain.function_def (plain.head ([]) (plain.spec (at 1 1) (plain.alias (name 48)) 0) (0 ∷ []) (name 374) (at 1 11) (plain.params (plain.param_and (plain.param_decl ([]) (plain.spec (at 1 13) (plain.alias (name 48)) 0) (plain.named (plain.declr (0 ∷ []) (name 375) (at 1 23) (plain.sizes plain.no_sizes)))) plain.no_params) false None)) (plain.block (at 1 26) (plain.stmt_and (plain.return (at 1 28) (Some (plain.call (at 1 35) (plain.word (at 1 35) (name 172)) (plain.expr_and (plain.word (at 1 45) (name 375)) plain.no_exprs)))) plain.no_stmts) (at 1 49)) ∷ []
+file_29 =
+    plain.function_def (plain.head ([]) (plain.spec (at 1 1) (plain.alias (name 48)) 0) (0 ∷ []) (name 374)
+    (at 1 11) (plain.params (plain.param_and (plain.param_decl ([]) (plain.spec (at 1 13) (plain.alias (name 48)) 0)
+    (plain.named (plain.declr (0 ∷ []) (name 375) (at 1 23) (plain.sizes plain.no_sizes)))) plain.no_params) false
+    None)) (plain.block (at 1 26) (plain.stmt_and (plain.return (at 1 28) (Some
+    (plain.call (at 1 35) (plain.word (at 1 35) (name 172)) (plain.expr_and (plain.word (at 1 45) (name 375))
+    plain.no_exprs)))) plain.no_stmts) (at 1 49)) ∷ []
 
 run_29 : told (last_run file_29 24 ((value.Object 5) ∷ []) ([]) 80) ≡ gives (Some (value.Object 5)) (at 1 28) ([])
 run_29 = refl
 
 -- PyObject *f(PyObject *x) { return PyNumber_Add(PyObject_Str(x), PyObject_Repr(x)); }
 abbrev pub file_30 : List plain.Item
-file_30 = plain.function_def (plain.head ([]) (plain.spec (at 1 1) (plain.alias (name 48)) 0) (0 ∷ []) (name 374) (at 1 11) (plain.params (plain.param_and (plain.param_decl ([]) (plain.spec (at 1 13) (plain.alias (name 48)) 0) (plain.named (plain.declr (0 ∷ []) (name 375) (at 1 23) (plain.sizes plain.no_sizes)))) plain.no_params) false None)) (plain.block (at 1 26) (plain.stmt_and (plain.return (at 1 28) (Some (plain.call (at 1 35) (plain.word (at 1 35) (name 119)) (plain.expr_and (plain.call (at 1 48) (plain.word (at 1 48) (name 109)) (plain.expr_and (plain.word (at 1 61) (name 375)) plain.no_exprs)) (plain.expr_and (plain.call (at 1 65) (plain.word (at 1 65) (name 110)) (plain.expr_and (plain.word (at 1 79) (name 375)) plain.no_exprs)) plain.no_exprs))))) plain.no_stmts) (at 1 84)) ∷ []
+file_30 =
+    plain.function_def (plain.head ([]) (plain.spec (at 1 1) (plain.alias (name 48)) 0) (0 ∷ []) (name 374)
+    (at 1 11) (plain.params (plain.param_and (plain.param_decl ([]) (plain.spec (at 1 13) (plain.alias (name 48)) 0)
+    (plain.named (plain.declr (0 ∷ []) (name 375) (at 1 23) (plain.sizes plain.no_sizes)))) plain.no_params) false
+    None)) (plain.block (at 1 26) (plain.stmt_and (plain.return (at 1 28) (Some
+    (plain.call (at 1 35) (plain.word (at 1 35) (name 119)) (plain.expr_and
+    (plain.call (at 1 48) (plain.word (at 1 48) (name 109)) (plain.expr_and (plain.word (at 1 61) (name 375))
+    plain.no_exprs)) (plain.expr_and (plain.call (at 1 65) (plain.word (at 1 65) (name 110))
+    (plain.expr_and (plain.word (at 1 79) (name 375)) plain.no_exprs)) plain.no_exprs))))) plain.no_stmts)
+    (at 1 84)) ∷ []
 
-run_30 : told (last_run file_30 24 ((value.Object 5) ∷ []) ((choice.Object 24) ∷ (choice.Object 25) ∷ (choice.Object 26) ∷ []) 80) ≡ gives (Some (value.Object 26)) (at 1 28) (at 1 48 ∷ at 1 65 ∷ at 1 35 ∷ [])
+run_30 : told (last_run file_30 24 ((value.Object 5) ∷ []) ((choice.Object 24) ∷ (choice.Object 25)
+    ∷ (choice.Object 26) ∷ []) 80) ≡ gives (Some (value.Object 26)) (at 1 28) (at 1 48 ∷ at 1 65 ∷ at 1 35 ∷ [])
 run_30 = refl
 
 -- PyObject *f(PyObject *x) { return PyNumber_Add(PyObject_Str(x), x); }
 abbrev pub file_31 : List plain.Item
-file_31 = plain.function_def (plain.head ([]) (plain.spec (at 1 1) (plain.alias (name 48)) 0) (0 ∷ []) (name 374) (at 1 11) (plain.params (plain.param_and (plain.param_decl ([]) (plain.spec (at 1 13) (plain.alias (name 48)) 0) (plain.named (plain.declr (0 ∷ []) (name 375) (at 1 23) (plain.sizes plain.no_sizes)))) plain.no_params) false None)) (plain.block (at 1 26) (plain.stmt_and (plain.return (at 1 28) (Some (plain.call (at 1 35) (plain.word (at 1 35) (name 119)) (plain.expr_and (plain.call (at 1 48) (plain.word (at 1 48) (name 109)) (plain.expr_and (plain.word (at 1 61) (name 375)) plain.no_exprs)) (plain.expr_and (plain.word (at 1 65) (name 375)) plain.no_exprs))))) plain.no_stmts) (at 1 69)) ∷ []
+file_31 =
+    plain.function_def (plain.head ([]) (plain.spec (at 1 1) (plain.alias (name 48)) 0) (0 ∷ []) (name 374)
+    (at 1 11) (plain.params (plain.param_and (plain.param_decl ([]) (plain.spec (at 1 13) (plain.alias (name 48)) 0)
+    (plain.named (plain.declr (0 ∷ []) (name 375) (at 1 23) (plain.sizes plain.no_sizes)))) plain.no_params) false
+    None)) (plain.block (at 1 26) (plain.stmt_and (plain.return (at 1 28) (Some
+    (plain.call (at 1 35) (plain.word (at 1 35) (name 119)) (plain.expr_and
+    (plain.call (at 1 48) (plain.word (at 1 48) (name 109)) (plain.expr_and (plain.word (at 1 61) (name 375))
+    plain.no_exprs)) (plain.expr_and (plain.word (at 1 65) (name 375)) plain.no_exprs))))) plain.no_stmts)
+    (at 1 69)) ∷ []
 
 run_31 : told (last_run file_31 24 ((value.Object 5) ∷ []) (choice.Null ∷ []) 80) ≡ stops (at 1 35)
 run_31 = refl
 
 -- int f(PyObject *x, long a) { return PyObject_RichCompareBool(x, x, a); }
 abbrev pub file_32 : List plain.Item
-file_32 = plain.function_def (plain.head ([]) (plain.spec (at 1 1) (plain.words (keys.Int ∷ [])) 0) ([]) (name 374) (at 1 5) (plain.params (plain.param_and (plain.param_decl ([]) (plain.spec (at 1 7) (plain.alias (name 48)) 0) (plain.named (plain.declr (0 ∷ []) (name 375) (at 1 17) (plain.sizes plain.no_sizes)))) (plain.param_and (plain.param_decl ([]) (plain.spec (at 1 20) (plain.words (keys.Long ∷ [])) 0) (plain.named (plain.declr ([]) (name 376) (at 1 25) (plain.sizes plain.no_sizes)))) plain.no_params)) false None)) (plain.block (at 1 28) (plain.stmt_and (plain.return (at 1 30) (Some (plain.call (at 1 37) (plain.word (at 1 37) (name 156)) (plain.expr_and (plain.word (at 1 62) (name 375)) (plain.expr_and (plain.word (at 1 65) (name 375)) (plain.expr_and (plain.word (at 1 68) (name 376)) plain.no_exprs)))))) plain.no_stmts) (at 1 72)) ∷ []
+file_32 =
+    plain.function_def (plain.head ([]) (plain.spec (at 1 1) (plain.words (keys.Int ∷ [])) 0) ([]) (name 374)
+    (at 1 5) (plain.params (plain.param_and (plain.param_decl ([]) (plain.spec (at 1 7) (plain.alias (name 48)) 0)
+    (plain.named (plain.declr (0 ∷ []) (name 375) (at 1 17) (plain.sizes plain.no_sizes))))
+    (plain.param_and (plain.param_decl ([]) (plain.spec (at 1 20) (plain.words (keys.Long ∷ [])) 0)
+    (plain.named (plain.declr ([]) (name 376) (at 1 25) (plain.sizes plain.no_sizes)))) plain.no_params)) false
+    None)) (plain.block (at 1 28) (plain.stmt_and (plain.return (at 1 30) (Some
+    (plain.call (at 1 37) (plain.word (at 1 37) (name 156)) (plain.expr_and (plain.word (at 1 62) (name 375))
+    (plain.expr_and (plain.word (at 1 65) (name 375)) (plain.expr_and (plain.word (at 1 68) (name 376))
+    plain.no_exprs)))))) plain.no_stmts) (at 1 72)) ∷ []
 
-run_32 : told (last_run file_32 24 ((value.Object 1) ∷ (value.Int (pos 3000000000)) ∷ []) ((choice.Int (pos 1)) ∷ []) 80) ≡ stops (at 1 68)
+run_32 : told (last_run file_32 24 ((value.Object 1) ∷ (value.Int (pos 3000000000)) ∷ [])
+    ((choice.Int (pos 1)) ∷ []) 80) ≡ stops (at 1 68)
 run_32 = refl
 
 -- int f(PyObject *x, long a) { return PyObject_RichCompareBool(x, x, a + 1); }
 abbrev pub file_33 : List plain.Item
-file_33 = plain.function_def (plain.head ([]) (plain.spec (at 1 1) (plain.words (keys.Int ∷ [])) 0) ([]) (name 374) (at 1 5) (plain.params (plain.param_and (plain.param_decl ([]) (plain.spec (at 1 7) (plain.alias (name 48)) 0) (plain.named (plain.declr (0 ∷ []) (name 375) (at 1 17) (plain.sizes plain.no_sizes)))) (plain.param_and (plain.param_decl ([]) (plain.spec (at 1 20) (plain.words (keys.Long ∷ [])) 0) (plain.named (plain.declr ([]) (name 376) (at 1 25) (plain.sizes plain.no_sizes)))) plain.no_params)) false None)) (plain.block (at 1 28) (plain.stmt_and (plain.return (at 1 30) (Some (plain.call (at 1 37) (plain.word (at 1 37) (name 156)) (plain.expr_and (plain.word (at 1 62) (name 375)) (plain.expr_and (plain.word (at 1 65) (name 375)) (plain.expr_and (plain.binary (at 1 70) puncts.Plus (plain.word (at 1 68) (name 376)) (plain.int (at 1 72) (pos 1) false false)) plain.no_exprs)))))) plain.no_stmts) (at 1 76)) ∷ []
+file_33 =
+    plain.function_def (plain.head ([]) (plain.spec (at 1 1) (plain.words (keys.Int ∷ [])) 0) ([]) (name 374)
+    (at 1 5) (plain.params (plain.param_and (plain.param_decl ([]) (plain.spec (at 1 7) (plain.alias (name 48)) 0)
+    (plain.named (plain.declr (0 ∷ []) (name 375) (at 1 17) (plain.sizes plain.no_sizes))))
+    (plain.param_and (plain.param_decl ([]) (plain.spec (at 1 20) (plain.words (keys.Long ∷ [])) 0)
+    (plain.named (plain.declr ([]) (name 376) (at 1 25) (plain.sizes plain.no_sizes)))) plain.no_params)) false
+    None)) (plain.block (at 1 28) (plain.stmt_and (plain.return (at 1 30) (Some
+    (plain.call (at 1 37) (plain.word (at 1 37) (name 156)) (plain.expr_and (plain.word (at 1 62) (name 375))
+    (plain.expr_and (plain.word (at 1 65) (name 375)) (plain.expr_and (plain.binary (at 1 70) puncts.Plus
+    (plain.word (at 1 68) (name 376)) (plain.int (at 1 72) (pos 1) false false)) plain.no_exprs))))))
+    plain.no_stmts) (at 1 76)) ∷ []
 
-run_33 : told (last_run file_33 24 ((value.Object 1) ∷ (value.Int (pos 3000000000)) ∷ []) ((choice.Int (pos 1)) ∷ []) 80) ≡ stops (at 1 70)
+run_33 : told (last_run file_33 24 ((value.Object 1) ∷ (value.Int (pos 3000000000)) ∷ [])
+    ((choice.Int (pos 1)) ∷ []) 80) ≡ stops (at 1 70)
 run_33 = refl
 
 -- ---- Where a place that is written stands
 
 -- int f(void) { int a; a += 1; return a; }
 abbrev pub file_34 : List plain.Item
-file_34 = plain.function_def (plain.head ([]) (plain.spec (at 1 1) (plain.words (keys.Int ∷ [])) 0) ([]) (name 374) (at 1 5) (plain.params plain.no_params true None)) (plain.block (at 1 13) (plain.stmt_and (plain.declare (at 1 15) (plain.decl ([]) (plain.spec (at 1 15) (plain.words (keys.Int ∷ [])) 0) ((plain.var_decl (plain.declr ([]) (name 375) (at 1 19) (plain.sizes plain.no_sizes)) None) ∷ []))) (plain.stmt_and (plain.do_expr (at 1 22) (Some (plain.assign (at 1 24) puncts.PlusAssign (plain.word (at 1 22) (name 375)) (plain.int (at 1 27) (pos 1) false false)))) (plain.stmt_and (plain.return (at 1 30) (Some (plain.word (at 1 37) (name 375)))) plain.no_stmts))) (at 1 40)) ∷ []
+file_34 =
+    plain.function_def (plain.head ([]) (plain.spec (at 1 1) (plain.words (keys.Int ∷ [])) 0) ([]) (name 374)
+    (at 1 5) (plain.params plain.no_params true None)) (plain.block (at 1 13)
+    (plain.stmt_and (plain.declare (at 1 15) (plain.decl ([]) (plain.spec (at 1 15) (plain.words (keys.Int ∷ [])) 0)
+    ((plain.var_decl (plain.declr ([]) (name 375) (at 1 19) (plain.sizes plain.no_sizes)) None) ∷ [])))
+    (plain.stmt_and (plain.do_expr (at 1 22) (Some (plain.assign (at 1 24) puncts.PlusAssign
+    (plain.word (at 1 22) (name 375)) (plain.int (at 1 27) (pos 1) false false))))
+    (plain.stmt_and (plain.return (at 1 30) (Some (plain.word (at 1 37) (name 375)))) plain.no_stmts))) (at 1 40))
+    ∷ []
 
 run_34 : told (last_run file_34 24 ([]) ([]) 50) ≡ stops (at 1 22)
 run_34 = refl
 
 -- int f(void) { int a; a++; return a; }
 abbrev pub file_35 : List plain.Item
-file_35 = plain.function_def (plain.head ([]) (plain.spec (at 1 1) (plain.words (keys.Int ∷ [])) 0) ([]) (name 374) (at 1 5) (plain.params plain.no_params true None)) (plain.block (at 1 13) (plain.stmt_and (plain.declare (at 1 15) (plain.decl ([]) (plain.spec (at 1 15) (plain.words (keys.Int ∷ [])) 0) ((plain.var_decl (plain.declr ([]) (name 375) (at 1 19) (plain.sizes plain.no_sizes)) None) ∷ []))) (plain.stmt_and (plain.do_expr (at 1 22) (Some (plain.post (at 1 23) puncts.PlusPlus (plain.word (at 1 22) (name 375))))) (plain.stmt_and (plain.return (at 1 27) (Some (plain.word (at 1 34) (name 375)))) plain.no_stmts))) (at 1 37)) ∷ []
+file_35 =
+    plain.function_def (plain.head ([]) (plain.spec (at 1 1) (plain.words (keys.Int ∷ [])) 0) ([]) (name 374)
+    (at 1 5) (plain.params plain.no_params true None)) (plain.block (at 1 13)
+    (plain.stmt_and (plain.declare (at 1 15) (plain.decl ([]) (plain.spec (at 1 15) (plain.words (keys.Int ∷ [])) 0)
+    ((plain.var_decl (plain.declr ([]) (name 375) (at 1 19) (plain.sizes plain.no_sizes)) None) ∷ [])))
+    (plain.stmt_and (plain.do_expr (at 1 22) (Some (plain.post (at 1 23) puncts.PlusPlus
+    (plain.word (at 1 22) (name 375))))) (plain.stmt_and (plain.return (at 1 27)
+    (Some (plain.word (at 1 34) (name 375)))) plain.no_stmts))) (at 1 37)) ∷ []
 
 run_35 : told (last_run file_35 24 ([]) ([]) 50) ≡ stops (at 1 22)
 run_35 = refl
 
 -- int f(void) { int a; --a; return a; }
 abbrev pub file_36 : List plain.Item
-file_36 = plain.function_def (plain.head ([]) (plain.spec (at 1 1) (plain.words (keys.Int ∷ [])) 0) ([]) (name 374) (at 1 5) (plain.params plain.no_params true None)) (plain.block (at 1 13) (plain.stmt_and (plain.declare (at 1 15) (plain.decl ([]) (plain.spec (at 1 15) (plain.words (keys.Int ∷ [])) 0) ((plain.var_decl (plain.declr ([]) (name 375) (at 1 19) (plain.sizes plain.no_sizes)) None) ∷ []))) (plain.stmt_and (plain.do_expr (at 1 22) (Some (plain.unary (at 1 22) (tokens.Punct puncts.MinusMinus) (plain.word (at 1 24) (name 375))))) (plain.stmt_and (plain.return (at 1 27) (Some (plain.word (at 1 34) (name 375)))) plain.no_stmts))) (at 1 37)) ∷ []
+file_36 =
+    plain.function_def (plain.head ([]) (plain.spec (at 1 1) (plain.words (keys.Int ∷ [])) 0) ([]) (name 374)
+    (at 1 5) (plain.params plain.no_params true None)) (plain.block (at 1 13)
+    (plain.stmt_and (plain.declare (at 1 15) (plain.decl ([]) (plain.spec (at 1 15) (plain.words (keys.Int ∷ [])) 0)
+    ((plain.var_decl (plain.declr ([]) (name 375) (at 1 19) (plain.sizes plain.no_sizes)) None) ∷ [])))
+    (plain.stmt_and (plain.do_expr (at 1 22) (Some (plain.unary (at 1 22) (tokens.Punct puncts.MinusMinus)
+    (plain.word (at 1 24) (name 375))))) (plain.stmt_and (plain.return (at 1 27)
+    (Some (plain.word (at 1 34) (name 375)))) plain.no_stmts))) (at 1 37)) ∷ []
 
 run_36 : told (last_run file_36 24 ([]) ([]) 50) ≡ stops (at 1 24)
 run_36 = refl
@@ -288,9 +642,18 @@ run_36 = refl
 -- long g;
 -- long f(void) { g = 5; return g; }
 abbrev pub file_37 : List plain.Item
-file_37 = plain.variables (plain.decl ([]) (plain.spec (at 1 1) (plain.words (keys.Long ∷ [])) 0) ((plain.var_decl (plain.declr ([]) (name 374) (at 1 6) (plain.sizes plain.no_sizes)) None) ∷ [])) ∷ plain.function_def (plain.head ([]) (plain.spec (at 2 1) (plain.words (keys.Long ∷ [])) 0) ([]) (name 375) (at 2 6) (plain.params plain.no_params true None)) (plain.block (at 2 14) (plain.stmt_and (plain.do_expr (at 2 16) (Some (plain.assign (at 2 18) puncts.Assign (plain.word (at 2 16) (name 374)) (plain.int (at 2 20) (pos 5) false false)))) (plain.stmt_and (plain.return (at 2 23) (Some (plain.word (at 2 30) (name 374)))) plain.no_stmts)) (at 2 33)) ∷ []
+file_37 =
+    plain.variables (plain.decl ([]) (plain.spec (at 1 1) (plain.words (keys.Long ∷ [])) 0)
+    ((plain.var_decl (plain.declr ([]) (name 374) (at 1 6) (plain.sizes plain.no_sizes)) None) ∷ []))
+    ∷ plain.function_def (plain.head ([]) (plain.spec (at 2 1) (plain.words (keys.Long ∷ [])) 0) ([]) (name 375)
+    (at 2 6) (plain.params plain.no_params true None)) (plain.block (at 2 14)
+    (plain.stmt_and (plain.do_expr (at 2 16) (Some (plain.assign (at 2 18) puncts.Assign
+    (plain.word (at 2 16) (name 374)) (plain.int (at 2 20) (pos 5) false false))))
+    (plain.stmt_and (plain.return (at 2 23) (Some (plain.word (at 2 30) (name 374)))) plain.no_stmts)) (at 2 33))
+    ∷ []
 
-run_37 : told (last_run file_37 24 ([]) ((choice.Int (pos 3)) ∷ []) 80) ≡ gives (Some (value.Int (pos 5))) (at 2 23) (at 2 16 ∷ [])
+run_37 : told (last_run file_37 24 ([]) ((choice.Int (pos 3)) ∷ []) 80)
+    ≡ gives (Some (value.Int (pos 5))) (at 2 23) (at 2 16 ∷ [])
 run_37 = refl
 
 -- long g;
@@ -301,51 +664,130 @@ run_38 = refl
 -- int h;
 -- int f(void) { return h++ * 10 + h; }
 abbrev pub file_39 : List plain.Item
-file_39 = plain.variables (plain.decl ([]) (plain.spec (at 1 1) (plain.words (keys.Int ∷ [])) 0) ((plain.var_decl (plain.declr ([]) (name 374) (at 1 5) (plain.sizes plain.no_sizes)) None) ∷ [])) ∷ plain.function_def (plain.head ([]) (plain.spec (at 2 1) (plain.words (keys.Int ∷ [])) 0) ([]) (name 375) (at 2 5) (plain.params plain.no_params true None)) (plain.block (at 2 13) (plain.stmt_and (plain.return (at 2 15) (Some (plain.binary (at 2 31) puncts.Plus (plain.binary (at 2 26) puncts.Star (plain.post (at 2 23) puncts.PlusPlus (plain.word (at 2 22) (name 374))) (plain.int (at 2 28) (pos 10) false false)) (plain.word (at 2 33) (name 374))))) plain.no_stmts) (at 2 36)) ∷ []
+file_39 =
+    plain.variables (plain.decl ([]) (plain.spec (at 1 1) (plain.words (keys.Int ∷ [])) 0)
+    ((plain.var_decl (plain.declr ([]) (name 374) (at 1 5) (plain.sizes plain.no_sizes)) None) ∷ []))
+    ∷ plain.function_def (plain.head ([]) (plain.spec (at 2 1) (plain.words (keys.Int ∷ [])) 0) ([]) (name 375)
+    (at 2 5) (plain.params plain.no_params true None)) (plain.block (at 2 13)
+    (plain.stmt_and (plain.return (at 2 15) (Some (plain.binary (at 2 31) puncts.Plus
+    (plain.binary (at 2 26) puncts.Star (plain.post (at 2 23) puncts.PlusPlus (plain.word (at 2 22) (name 374)))
+    (plain.int (at 2 28) (pos 10) false false)) (plain.word (at 2 33) (name 374))))) plain.no_stmts) (at 2 36)) ∷ []
 
-run_39 : told (last_run file_39 24 ([]) ((choice.Int (pos 3)) ∷ []) 80) ≡ gives (Some (value.Int (pos 34))) (at 2 15) (at 2 22 ∷ [])
+run_39 : told (last_run file_39 24 ([]) ((choice.Int (pos 3)) ∷ []) 80)
+    ≡ gives (Some (value.Int (pos 34))) (at 2 15) (at 2 22 ∷ [])
 run_39 = refl
 
 -- PyObject *o;
 -- void f(PyObject *x) { o = x; }
 abbrev pub file_40 : List plain.Item
-file_40 = plain.variables (plain.decl ([]) (plain.spec (at 1 1) (plain.alias (name 48)) 0) ((plain.var_decl (plain.declr (0 ∷ []) (name 374) (at 1 11) (plain.sizes plain.no_sizes)) None) ∷ [])) ∷ plain.function_def (plain.head ([]) (plain.spec (at 2 1) (plain.words (keys.Void ∷ [])) 0) ([]) (name 375) (at 2 6) (plain.params (plain.param_and (plain.param_decl ([]) (plain.spec (at 2 8) (plain.alias (name 48)) 0) (plain.named (plain.declr (0 ∷ []) (name 376) (at 2 18) (plain.sizes plain.no_sizes)))) plain.no_params) false None)) (plain.block (at 2 21) (plain.stmt_and (plain.do_expr (at 2 23) (Some (plain.assign (at 2 25) puncts.Assign (plain.word (at 2 23) (name 374)) (plain.word (at 2 27) (name 376))))) plain.no_stmts) (at 2 30)) ∷ []
+file_40 =
+    plain.variables (plain.decl ([]) (plain.spec (at 1 1) (plain.alias (name 48)) 0)
+    ((plain.var_decl (plain.declr (0 ∷ []) (name 374) (at 1 11) (plain.sizes plain.no_sizes)) None) ∷ []))
+    ∷ plain.function_def (plain.head ([]) (plain.spec (at 2 1) (plain.words (keys.Void ∷ [])) 0) ([]) (name 375)
+    (at 2 6) (plain.params (plain.param_and (plain.param_decl ([]) (plain.spec (at 2 8) (plain.alias (name 48)) 0)
+    (plain.named (plain.declr (0 ∷ []) (name 376) (at 2 18) (plain.sizes plain.no_sizes)))) plain.no_params) false
+    None)) (plain.block (at 2 21) (plain.stmt_and (plain.do_expr (at 2 23)
+    (Some (plain.assign (at 2 25) puncts.Assign (plain.word (at 2 23) (name 374))
+    (plain.word (at 2 27) (name 376))))) plain.no_stmts) (at 2 30)) ∷ []
 
-run_40 : told (last_run file_40 24 ((value.Object 3) ∷ []) ((choice.Object 24) ∷ []) 80) ≡ gives None (at 2 30) (at 2 23 ∷ [])
+run_40 : told (last_run file_40 24 ((value.Object 3) ∷ []) ((choice.Object 24) ∷ []) 80)
+    ≡ gives None (at 2 30) (at 2 23 ∷ [])
 run_40 = refl
 
 -- typedef struct { PyObject_HEAD PyObject *first; long hits; int few; } Box;
 -- long f(Box *b, long n) { b->hits = n; return 0; }
 abbrev pub file_41 : List plain.Item
-file_41 = plain.typedef (plain.spec (at 1 9) (plain.tagged_fields keys.Struct None (plain.field_and (plain.members ([]) (plain.spec (at 1 18) (plain.alias (name 48)) 0) (plain.declr_and (plain.declr ([]) (name 182) (at 1 18) (plain.sizes plain.no_sizes)) plain.no_declrs)) (plain.field_and (plain.members ([]) (plain.spec (at 1 32) (plain.alias (name 48)) 0) (plain.declr_and (plain.declr (0 ∷ []) (name 374) (at 1 42) (plain.sizes plain.no_sizes)) plain.no_declrs)) (plain.field_and (plain.members ([]) (plain.spec (at 1 49) (plain.words (keys.Long ∷ [])) 0) (plain.declr_and (plain.declr ([]) (name 375) (at 1 54) (plain.sizes plain.no_sizes)) plain.no_declrs)) (plain.field_and (plain.members ([]) (plain.spec (at 1 60) (plain.words (keys.Int ∷ [])) 0) (plain.declr_and (plain.declr ([]) (name 376) (at 1 64) (plain.sizes plain.no_sizes)) plain.no_declrs)) plain.no_fields))))) 0) ([]) (name 377) (at 1 71) ∷ plain.function_def (plain.head ([]) (plain.spec (at 2 1) (plain.words (keys.Long ∷ [])) 0) ([]) (name 378) (at 2 6) (plain.params (plain.param_and (plain.param_decl ([]) (plain.spec (at 2 8) (plain.alias (name 377)) 0) (plain.named (plain.declr (0 ∷ []) (name 379) (at 2 13) (plain.sizes plain.no_sizes)))) (plain.param_and (plain.param_decl ([]) (plain.spec (at 2 16) (plain.words (keys.Long ∷ [])) 0) (plain.named (plain.declr ([]) (name 380) (at 2 21) (plain.sizes plain.no_sizes)))) plain.no_params)) false None)) (plain.block (at 2 24) (plain.stmt_and (plain.do_expr (at 2 26) (Some (plain.assign (at 2 34) puncts.Assign (plain.arrow (at 2 27) (plain.word (at 2 26) (name 379)) (name 375)) (plain.word (at 2 36) (name 380))))) (plain.stmt_and (plain.return (at 2 39) (Some (plain.int (at 2 46) (pos 0) false false))) plain.no_stmts)) (at 2 49)) ∷ []
+file_41 =
+    plain.typedef (plain.spec (at 1 9) (plain.tagged_fields keys.Struct None
+    (plain.field_and (plain.members ([]) (plain.spec (at 1 18) (plain.alias (name 48)) 0)
+    (plain.declr_and (plain.declr ([]) (name 182) (at 1 18) (plain.sizes plain.no_sizes)) plain.no_declrs))
+    (plain.field_and (plain.members ([]) (plain.spec (at 1 32) (plain.alias (name 48)) 0)
+    (plain.declr_and (plain.declr (0 ∷ []) (name 374) (at 1 42) (plain.sizes plain.no_sizes)) plain.no_declrs))
+    (plain.field_and (plain.members ([]) (plain.spec (at 1 49) (plain.words (keys.Long ∷ [])) 0)
+    (plain.declr_and (plain.declr ([]) (name 375) (at 1 54) (plain.sizes plain.no_sizes)) plain.no_declrs))
+    (plain.field_and (plain.members ([]) (plain.spec (at 1 60) (plain.words (keys.Int ∷ [])) 0)
+    (plain.declr_and (plain.declr ([]) (name 376) (at 1 64) (plain.sizes plain.no_sizes)) plain.no_declrs))
+    plain.no_fields))))) 0) ([]) (name 377) (at 1 71) ∷ plain.function_def
+    (plain.head ([]) (plain.spec (at 2 1) (plain.words (keys.Long ∷ [])) 0) ([]) (name 378) (at 2 6)
+    (plain.params (plain.param_and (plain.param_decl ([]) (plain.spec (at 2 8) (plain.alias (name 377)) 0)
+    (plain.named (plain.declr (0 ∷ []) (name 379) (at 2 13) (plain.sizes plain.no_sizes))))
+    (plain.param_and (plain.param_decl ([]) (plain.spec (at 2 16) (plain.words (keys.Long ∷ [])) 0)
+    (plain.named (plain.declr ([]) (name 380) (at 2 21) (plain.sizes plain.no_sizes)))) plain.no_params)) false
+    None)) (plain.block (at 2 24) (plain.stmt_and (plain.do_expr (at 2 26)
+    (Some (plain.assign (at 2 34) puncts.Assign (plain.arrow (at 2 27) (plain.word (at 2 26) (name 379)) (name 375))
+    (plain.word (at 2 36) (name 380))))) (plain.stmt_and (plain.return (at 2 39)
+    (Some (plain.int (at 2 46) (pos 0) false false))) plain.no_stmts)) (at 2 49)) ∷ []
 
-run_41 : told (last_run file_41 24 (value.Null ∷ (value.Int (pos 4)) ∷ []) ((choice.Int (pos 1)) ∷ []) 50) ≡ stops (at 2 27)
+run_41 : told (last_run file_41 24 (value.Null ∷ (value.Int (pos 4)) ∷ []) ((choice.Int (pos 1)) ∷ []) 50)
+    ≡ stops (at 2 27)
 run_41 = refl
 
 -- typedef struct { PyObject_HEAD PyObject *first; long hits; int few; } Box;
 -- int f(Box *b, long n) { b->few = n; return 0; }
 abbrev pub file_42 : List plain.Item
-file_42 = plain.typedef (plain.spec (at 1 9) (plain.tagged_fields keys.Struct None (plain.field_and (plain.members ([]) (plain.spec (at 1 18) (plain.alias (name 48)) 0) (plain.declr_and (plain.declr ([]) (name 182) (at 1 18) (plain.sizes plain.no_sizes)) plain.no_declrs)) (plain.field_and (plain.members ([]) (plain.spec (at 1 32) (plain.alias (name 48)) 0) (plain.declr_and (plain.declr (0 ∷ []) (name 374) (at 1 42) (plain.sizes plain.no_sizes)) plain.no_declrs)) (plain.field_and (plain.members ([]) (plain.spec (at 1 49) (plain.words (keys.Long ∷ [])) 0) (plain.declr_and (plain.declr ([]) (name 375) (at 1 54) (plain.sizes plain.no_sizes)) plain.no_declrs)) (plain.field_and (plain.members ([]) (plain.spec (at 1 60) (plain.words (keys.Int ∷ [])) 0) (plain.declr_and (plain.declr ([]) (name 376) (at 1 64) (plain.sizes plain.no_sizes)) plain.no_declrs)) plain.no_fields))))) 0) ([]) (name 377) (at 1 71) ∷ plain.function_def (plain.head ([]) (plain.spec (at 2 1) (plain.words (keys.Int ∷ [])) 0) ([]) (name 378) (at 2 5) (plain.params (plain.param_and (plain.param_decl ([]) (plain.spec (at 2 7) (plain.alias (name 377)) 0) (plain.named (plain.declr (0 ∷ []) (name 379) (at 2 12) (plain.sizes plain.no_sizes)))) (plain.param_and (plain.param_decl ([]) (plain.spec (at 2 15) (plain.words (keys.Long ∷ [])) 0) (plain.named (plain.declr ([]) (name 380) (at 2 20) (plain.sizes plain.no_sizes)))) plain.no_params)) false None)) (plain.block (at 2 23) (plain.stmt_and (plain.do_expr (at 2 25) (Some (plain.assign (at 2 32) puncts.Assign (plain.arrow (at 2 26) (plain.word (at 2 25) (name 379)) (name 376)) (plain.word (at 2 34) (name 380))))) (plain.stmt_and (plain.return (at 2 37) (Some (plain.int (at 2 44) (pos 0) false false))) plain.no_stmts)) (at 2 47)) ∷ []
+file_42 =
+    plain.typedef (plain.spec (at 1 9) (plain.tagged_fields keys.Struct None
+    (plain.field_and (plain.members ([]) (plain.spec (at 1 18) (plain.alias (name 48)) 0)
+    (plain.declr_and (plain.declr ([]) (name 182) (at 1 18) (plain.sizes plain.no_sizes)) plain.no_declrs))
+    (plain.field_and (plain.members ([]) (plain.spec (at 1 32) (plain.alias (name 48)) 0)
+    (plain.declr_and (plain.declr (0 ∷ []) (name 374) (at 1 42) (plain.sizes plain.no_sizes)) plain.no_declrs))
+    (plain.field_and (plain.members ([]) (plain.spec (at 1 49) (plain.words (keys.Long ∷ [])) 0)
+    (plain.declr_and (plain.declr ([]) (name 375) (at 1 54) (plain.sizes plain.no_sizes)) plain.no_declrs))
+    (plain.field_and (plain.members ([]) (plain.spec (at 1 60) (plain.words (keys.Int ∷ [])) 0)
+    (plain.declr_and (plain.declr ([]) (name 376) (at 1 64) (plain.sizes plain.no_sizes)) plain.no_declrs))
+    plain.no_fields))))) 0) ([]) (name 377) (at 1 71) ∷ plain.function_def
+    (plain.head ([]) (plain.spec (at 2 1) (plain.words (keys.Int ∷ [])) 0) ([]) (name 378) (at 2 5)
+    (plain.params (plain.param_and (plain.param_decl ([]) (plain.spec (at 2 7) (plain.alias (name 377)) 0)
+    (plain.named (plain.declr (0 ∷ []) (name 379) (at 2 12) (plain.sizes plain.no_sizes))))
+    (plain.param_and (plain.param_decl ([]) (plain.spec (at 2 15) (plain.words (keys.Long ∷ [])) 0)
+    (plain.named (plain.declr ([]) (name 380) (at 2 20) (plain.sizes plain.no_sizes)))) plain.no_params)) false
+    None)) (plain.block (at 2 23) (plain.stmt_and (plain.do_expr (at 2 25)
+    (Some (plain.assign (at 2 32) puncts.Assign (plain.arrow (at 2 26) (plain.word (at 2 25) (name 379)) (name 376))
+    (plain.word (at 2 34) (name 380))))) (plain.stmt_and (plain.return (at 2 37)
+    (Some (plain.int (at 2 44) (pos 0) false false))) plain.no_stmts)) (at 2 47)) ∷ []
 
-run_42 : told (last_run file_42 25 ((value.Object 24) ∷ (value.Int (pos 3000000000)) ∷ []) ((choice.Int (pos 1)) ∷ []) 50) ≡ stops (at 2 32)
+run_42 : told (last_run file_42 25 ((value.Object 24) ∷ (value.Int (pos 3000000000)) ∷ [])
+    ((choice.Int (pos 1)) ∷ []) 50) ≡ stops (at 2 32)
 run_42 = refl
 
 -- int f(int a, long b) { a += b; return a; }
 abbrev pub file_43 : List plain.Item
-file_43 = plain.function_def (plain.head ([]) (plain.spec (at 1 1) (plain.words (keys.Int ∷ [])) 0) ([]) (name 374) (at 1 5) (plain.params (plain.param_and (plain.param_decl ([]) (plain.spec (at 1 7) (plain.words (keys.Int ∷ [])) 0) (plain.named (plain.declr ([]) (name 375) (at 1 11) (plain.sizes plain.no_sizes)))) (plain.param_and (plain.param_decl ([]) (plain.spec (at 1 14) (plain.words (keys.Long ∷ [])) 0) (plain.named (plain.declr ([]) (name 376) (at 1 19) (plain.sizes plain.no_sizes)))) plain.no_params)) false None)) (plain.block (at 1 22) (plain.stmt_and (plain.do_expr (at 1 24) (Some (plain.assign (at 1 26) puncts.PlusAssign (plain.word (at 1 24) (name 375)) (plain.word (at 1 29) (name 376))))) (plain.stmt_and (plain.return (at 1 32) (Some (plain.word (at 1 39) (name 375)))) plain.no_stmts)) (at 1 42)) ∷ []
+file_43 =
+    plain.function_def (plain.head ([]) (plain.spec (at 1 1) (plain.words (keys.Int ∷ [])) 0) ([]) (name 374)
+    (at 1 5) (plain.params (plain.param_and (plain.param_decl ([]) (plain.spec (at 1 7)
+    (plain.words (keys.Int ∷ [])) 0) (plain.named (plain.declr ([]) (name 375) (at 1 11)
+    (plain.sizes plain.no_sizes)))) (plain.param_and (plain.param_decl ([])
+    (plain.spec (at 1 14) (plain.words (keys.Long ∷ [])) 0) (plain.named (plain.declr ([]) (name 376) (at 1 19)
+    (plain.sizes plain.no_sizes)))) plain.no_params)) false None)) (plain.block (at 1 22)
+    (plain.stmt_and (plain.do_expr (at 1 24) (Some (plain.assign (at 1 26) puncts.PlusAssign
+    (plain.word (at 1 24) (name 375)) (plain.word (at 1 29) (name 376)))))
+    (plain.stmt_and (plain.return (at 1 32) (Some (plain.word (at 1 39) (name 375)))) plain.no_stmts)) (at 1 42))
+    ∷ []
 
-run_43 : told (last_run file_43 24 ((value.Int (pos 5)) ∷ (value.Int (pos 9223372036854775807)) ∷ []) ([]) 50) ≡ stops (at 1 26)
+run_43 : told (last_run file_43 24 ((value.Int (pos 5)) ∷ (value.Int (pos 9223372036854775807)) ∷ []) ([]) 50)
+    ≡ stops (at 1 26)
 run_43 = refl
 
 -- int f(int a, long b) { a += b; return a; }
-run_44 : told (last_run file_43 24 ((value.Int (pos 5)) ∷ (value.Int (negsuc 6)) ∷ []) ([]) 50) ≡ gives (Some (value.Int (negsuc 1))) (at 1 32) ([])
+run_44 : told (last_run file_43 24 ((value.Int (pos 5)) ∷ (value.Int (negsuc 6)) ∷ []) ([]) 50)
+    ≡ gives (Some (value.Int (negsuc 1))) (at 1 32) ([])
 run_44 = refl
 
 -- Py_ssize_t f(Py_ssize_t a) { a++; a += 1; return -a; }
 abbrev pub file_45 : List plain.Item
-file_45 = plain.function_def (plain.head ([]) (plain.spec (at 1 1) (plain.alias (name 62)) 0) ([]) (name 374) (at 1 12) (plain.params (plain.param_and (plain.param_decl ([]) (plain.spec (at 1 14) (plain.alias (name 62)) 0) (plain.named (plain.declr ([]) (name 375) (at 1 25) (plain.sizes plain.no_sizes)))) plain.no_params) false None)) (plain.block (at 1 28) (plain.stmt_and (plain.do_expr (at 1 30) (Some (plain.post (at 1 31) puncts.PlusPlus (plain.word (at 1 30) (name 375))))) (plain.stmt_and (plain.do_expr (at 1 35) (Some (plain.assign (at 1 37) puncts.PlusAssign (plain.word (at 1 35) (name 375)) (plain.int (at 1 40) (pos 1) false false)))) (plain.stmt_and (plain.return (at 1 43) (Some (plain.unary (at 1 50) (tokens.Punct puncts.Minus) (plain.word (at 1 51) (name 375))))) plain.no_stmts))) (at 1 54)) ∷ []
+file_45 =
+    plain.function_def (plain.head ([]) (plain.spec (at 1 1) (plain.alias (name 62)) 0) ([]) (name 374) (at 1 12)
+    (plain.params (plain.param_and (plain.param_decl ([]) (plain.spec (at 1 14) (plain.alias (name 62)) 0)
+    (plain.named (plain.declr ([]) (name 375) (at 1 25) (plain.sizes plain.no_sizes)))) plain.no_params) false
+    None)) (plain.block (at 1 28) (plain.stmt_and (plain.do_expr (at 1 30)
+    (Some (plain.post (at 1 31) puncts.PlusPlus (plain.word (at 1 30) (name 375)))))
+    (plain.stmt_and (plain.do_expr (at 1 35) (Some (plain.assign (at 1 37) puncts.PlusAssign
+    (plain.word (at 1 35) (name 375)) (plain.int (at 1 40) (pos 1) false false))))
+    (plain.stmt_and (plain.return (at 1 43) (Some (plain.unary (at 1 50) (tokens.Punct puncts.Minus)
+    (plain.word (at 1 51) (name 375))))) plain.no_stmts))) (at 1 54)) ∷ []
 
-run_45 : told (last_run file_45 24 ((value.Int (pos 5)) ∷ []) ([]) 50) ≡ gives (Some (value.Int (negsuc 6))) (at 1 43) ([])
+run_45 : told (last_run file_45 24 ((value.Int (pos 5)) ∷ []) ([]) 50)
+    ≡ gives (Some (value.Int (negsuc 6))) (at 1 43) ([])
 run_45 = refl
 
 -- ---- The world at the end: the slots that were touched, and the change of object 25
@@ -353,15 +795,90 @@ run_45 = refl
 -- typedef struct { PyObject_HEAD PyObject *first; } Box;
 -- void f(Box *self, PyObject *x) { PyObject *tmp = self->first; Py_INCREF(x); self->first = x; Py_XDECREF(tmp); }
 abbrev pub file_46 : List plain.Item
-file_46 = plain.typedef (plain.spec (at 1 9) (plain.tagged_fields keys.Struct None (plain.field_and (plain.members ([]) (plain.spec (at 1 18) (plain.alias (name 48)) 0) (plain.declr_and (plain.declr ([]) (name 182) (at 1 18) (plain.sizes plain.no_sizes)) plain.no_declrs)) (plain.field_and (plain.members ([]) (plain.spec (at 1 32) (plain.alias (name 48)) 0) (plain.declr_and (plain.declr (0 ∷ []) (name 374) (at 1 42) (plain.sizes plain.no_sizes)) plain.no_declrs)) plain.no_fields))) 0) ([]) (name 375) (at 1 51) ∷ plain.function_def (plain.head ([]) (plain.spec (at 2 1) (plain.words (keys.Void ∷ [])) 0) ([]) (name 376) (at 2 6) (plain.params (plain.param_and (plain.param_decl ([]) (plain.spec (at 2 8) (plain.alias (name 375)) 0) (plain.named (plain.declr (0 ∷ []) (name 377) (at 2 13) (plain.sizes plain.no_sizes)))) (plain.param_and (plain.param_decl ([]) (plain.spec (at 2 19) (plain.alias (name 48)) 0) (plain.named (plain.declr (0 ∷ []) (name 378) (at 2 29) (plain.sizes plain.no_sizes)))) plain.no_params)) false None)) (plain.block (at 2 32) (plain.stmt_and (plain.declare (at 2 34) (plain.decl ([]) (plain.spec (at 2 34) (plain.alias (name 48)) 0) ((plain.var_decl (plain.declr (0 ∷ []) (name 379) (at 2 44) (plain.sizes plain.no_sizes)) (Some (plain.value (plain.arrow (at 2 54) (plain.word (at 2 50) (name 377)) (name 374))))) ∷ []))) (plain.stmt_and (plain.do_expr (at 2 63) (Some (plain.call (at 2 63) (plain.word (at 2 63) (name 167)) (plain.expr_and (plain.word (at 2 73) (name 378)) plain.no_exprs)))) (plain.stmt_and (plain.do_expr (at 2 77) (Some (plain.assign (at 2 89) puncts.Assign (plain.arrow (at 2 81) (plain.word (at 2 77) (name 377)) (name 374)) (plain.word (at 2 91) (name 378))))) (plain.stmt_and (plain.do_expr (at 2 94) (Some (plain.call (at 2 94) (plain.word (at 2 94) (name 170)) (plain.expr_and (plain.word (at 2 105) (name 379)) plain.no_exprs)))) plain.no_stmts)))) (at 2 111)) ∷ []
+file_46 =
+    plain.typedef (plain.spec (at 1 9) (plain.tagged_fields keys.Struct None
+    (plain.field_and (plain.members ([]) (plain.spec (at 1 18) (plain.alias (name 48)) 0)
+    (plain.declr_and (plain.declr ([]) (name 182) (at 1 18) (plain.sizes plain.no_sizes)) plain.no_declrs))
+    (plain.field_and (plain.members ([]) (plain.spec (at 1 32) (plain.alias (name 48)) 0)
+    (plain.declr_and (plain.declr (0 ∷ []) (name 374) (at 1 42) (plain.sizes plain.no_sizes)) plain.no_declrs))
+    plain.no_fields))) 0) ([]) (name 375) (at 1 51) ∷ plain.function_def (plain.head ([])
+    (plain.spec (at 2 1) (plain.words (keys.Void ∷ [])) 0) ([]) (name 376) (at 2 6)
+    (plain.params (plain.param_and (plain.param_decl ([]) (plain.spec (at 2 8) (plain.alias (name 375)) 0)
+    (plain.named (plain.declr (0 ∷ []) (name 377) (at 2 13) (plain.sizes plain.no_sizes))))
+    (plain.param_and (plain.param_decl ([]) (plain.spec (at 2 19) (plain.alias (name 48)) 0)
+    (plain.named (plain.declr (0 ∷ []) (name 378) (at 2 29) (plain.sizes plain.no_sizes)))) plain.no_params)) false
+    None)) (plain.block (at 2 32) (plain.stmt_and (plain.declare (at 2 34)
+    (plain.decl ([]) (plain.spec (at 2 34) (plain.alias (name 48)) 0) ((plain.var_decl
+    (plain.declr (0 ∷ []) (name 379) (at 2 44) (plain.sizes plain.no_sizes))
+    (Some (plain.value (plain.arrow (at 2 54) (plain.word (at 2 50) (name 377)) (name 374))))) ∷ [])))
+    (plain.stmt_and (plain.do_expr (at 2 63) (Some (plain.call (at 2 63) (plain.word (at 2 63) (name 167))
+    (plain.expr_and (plain.word (at 2 73) (name 378)) plain.no_exprs)))) (plain.stmt_and
+    (plain.do_expr (at 2 77) (Some (plain.assign (at 2 89) puncts.Assign (plain.arrow (at 2 81)
+    (plain.word (at 2 77) (name 377)) (name 374)) (plain.word (at 2 91) (name 378)))))
+    (plain.stmt_and (plain.do_expr (at 2 94) (Some (plain.call (at 2 94) (plain.word (at 2 94) (name 170))
+    (plain.expr_and (plain.word (at 2 105) (name 379)) plain.no_exprs)))) plain.no_stmts)))) (at 2 111)) ∷ []
 
-run_46 : ◌≡◌ {A = List SlotState × ℤ} (slots_of (last_run file_46 26 ((value.Object 24) ∷ (value.Object 25) ∷ []) (choice.Null ∷ []) 100), change_of 25 (last_run (plain.typedef (plain.spec (at 1 9) (plain.tagged_fields keys.Struct None (plain.field_and (plain.members ([]) (plain.spec (at 1 18) (plain.alias (name 48)) 0) (plain.declr_and (plain.declr ([]) (name 182) (at 1 18) (plain.sizes plain.no_sizes)) plain.no_declrs)) (plain.field_and (plain.members ([]) (plain.spec (at 1 32) (plain.alias (name 48)) 0) (plain.declr_and (plain.declr (0 ∷ []) (name 374) (at 1 42) (plain.sizes plain.no_sizes)) plain.no_declrs)) plain.no_fields))) 0) ([]) (name 375) (at 1 51) ∷ plain.function_def (plain.head ([]) (plain.spec (at 2 1) (plain.words (keys.Void ∷ [])) 0) ([]) (name 376) (at 2 6) (plain.params (plain.param_and (plain.param_decl ([]) (plain.spec (at 2 8) (plain.alias (name 375)) 0) (plain.named (plain.declr (0 ∷ []) (name 377) (at 2 13) (plain.sizes plain.no_sizes)))) (plain.param_and (plain.param_decl ([]) (plain.spec (at 2 19) (plain.alias (name 48)) 0) (plain.named (plain.declr (0 ∷ []) (name 378) (at 2 29) (plain.sizes plain.no_sizes)))) plain.no_params)) false None)) (plain.block (at 2 32) (plain.stmt_and (plain.declare (at 2 34) (plain.decl ([]) (plain.spec (at 2 34) (plain.alias (name 48)) 0) ((plain.var_decl (plain.declr (0 ∷ []) (name 379) (at 2 44) (plain.sizes plain.no_sizes)) (Some (plain.value (plain.arrow (at 2 54) (plain.word (at 2 50) (name 377)) (name 374))))) ∷ []))) (plain.stmt_and (plain.do_expr (at 2 63) (Some (plain.call (at 2 63) (plain.word (at 2 63) (name 167)) (plain.expr_and (plain.word (at 2 73) (name 378)) plain.no_exprs)))) (plain.stmt_and (plain.do_expr (at 2 77) (Some (plain.assign (at 2 89) puncts.Assign (plain.arrow (at 2 81) (plain.word (at 2 77) (name 377)) (name 374)) (plain.word (at 2 91) (name 378))))) (plain.stmt_and (plain.do_expr (at 2 94) (Some (plain.call (at 2 94) (plain.word (at 2 94) (name 170)) (plain.expr_and (plain.word (at 2 105) (name 379)) plain.no_exprs)))) plain.no_stmts)))) (at 2 111)) ∷ []) 26 ((value.Object 24) ∷ (value.Object 25) ∷ []) (choice.Null ∷ []) 100)) (held_then (Field 24 (name 375) (name 374)) (Holds value.Null) (Holds (value.Object 25)) ∷ [], pos 1)
+run_46 : ◌≡◌ {A = List SlotState × ℤ} (
+  slots_of (last_run file_46 26 ((value.Object 24) ∷ (value.Object 25) ∷ [])
+      (choice.Null ∷ []) 100),
+  change_of 25 (last_run (plain.typedef (plain.spec (at 1 9)
+      (plain.tagged_fields keys.Struct None (plain.field_and (plain.members ([])
+      (plain.spec (at 1 18) (plain.alias (name 48)) 0) (plain.declr_and (plain.declr ([]) (name 182) (at 1 18)
+      (plain.sizes plain.no_sizes)) plain.no_declrs)) (plain.field_and (plain.members ([])
+      (plain.spec (at 1 32) (plain.alias (name 48)) 0) (plain.declr_and (plain.declr (0 ∷ []) (name 374) (at 1 42)
+      (plain.sizes plain.no_sizes)) plain.no_declrs)) plain.no_fields))) 0) ([]) (name 375) (at 1 51)
+      ∷ plain.function_def (plain.head ([]) (plain.spec (at 2 1) (plain.words (keys.Void ∷ [])) 0) ([]) (name 376)
+      (at 2 6) (plain.params (plain.param_and (plain.param_decl ([]) (plain.spec (at 2 8) (plain.alias (name 375)) 0)
+      (plain.named (plain.declr (0 ∷ []) (name 377) (at 2 13) (plain.sizes plain.no_sizes))))
+      (plain.param_and (plain.param_decl ([]) (plain.spec (at 2 19) (plain.alias (name 48)) 0)
+      (plain.named (plain.declr (0 ∷ []) (name 378) (at 2 29) (plain.sizes plain.no_sizes)))) plain.no_params)) false
+      None)) (plain.block (at 2 32) (plain.stmt_and (plain.declare (at 2 34)
+      (plain.decl ([]) (plain.spec (at 2 34) (plain.alias (name 48)) 0) ((plain.var_decl
+      (plain.declr (0 ∷ []) (name 379) (at 2 44) (plain.sizes plain.no_sizes))
+      (Some (plain.value (plain.arrow (at 2 54) (plain.word (at 2 50) (name 377)) (name 374))))) ∷ [])))
+      (plain.stmt_and (plain.do_expr (at 2 63) (Some (plain.call (at 2 63) (plain.word (at 2 63) (name 167))
+      (plain.expr_and (plain.word (at 2 73) (name 378)) plain.no_exprs)))) (plain.stmt_and
+      (plain.do_expr (at 2 77) (Some (plain.assign (at 2 89) puncts.Assign (plain.arrow (at 2 81)
+      (plain.word (at 2 77) (name 377)) (name 374)) (plain.word (at 2 91) (name 378)))))
+      (plain.stmt_and (plain.do_expr (at 2 94) (Some (plain.call (at 2 94) (plain.word (at 2 94) (name 170))
+      (plain.expr_and (plain.word (at 2 105) (name 379)) plain.no_exprs)))) plain.no_stmts)))) (at 2 111)) ∷ []) 26
+      ((value.Object 24) ∷ (value.Object 25) ∷ []) (choice.Null ∷ []) 100),
+) (
+  held_then
+      (Field 24 (name 375) (name 374)) (Holds value.Null) (Holds (value.Object 25)) ∷ [],
+  pos 1,
+)
 run_46 = refl
 
 -- long g;
 -- void f(PyObject *x) { g = 5; Py_DECREF(x); }
 abbrev pub file_47 : List plain.Item
-file_47 = plain.variables (plain.decl ([]) (plain.spec (at 1 1) (plain.words (keys.Long ∷ [])) 0) ((plain.var_decl (plain.declr ([]) (name 374) (at 1 6) (plain.sizes plain.no_sizes)) None) ∷ [])) ∷ plain.function_def (plain.head ([]) (plain.spec (at 2 1) (plain.words (keys.Void ∷ [])) 0) ([]) (name 375) (at 2 6) (plain.params (plain.param_and (plain.param_decl ([]) (plain.spec (at 2 8) (plain.alias (name 48)) 0) (plain.named (plain.declr (0 ∷ []) (name 376) (at 2 18) (plain.sizes plain.no_sizes)))) plain.no_params) false None)) (plain.block (at 2 21) (plain.stmt_and (plain.do_expr (at 2 23) (Some (plain.assign (at 2 25) puncts.Assign (plain.word (at 2 23) (name 374)) (plain.int (at 2 27) (pos 5) false false)))) (plain.stmt_and (plain.do_expr (at 2 30) (Some (plain.call (at 2 30) (plain.word (at 2 30) (name 168)) (plain.expr_and (plain.word (at 2 40) (name 376)) plain.no_exprs)))) plain.no_stmts)) (at 2 44)) ∷ []
+file_47 =
+    plain.variables (plain.decl ([]) (plain.spec (at 1 1) (plain.words (keys.Long ∷ [])) 0)
+    ((plain.var_decl (plain.declr ([]) (name 374) (at 1 6) (plain.sizes plain.no_sizes)) None) ∷ []))
+    ∷ plain.function_def (plain.head ([]) (plain.spec (at 2 1) (plain.words (keys.Void ∷ [])) 0) ([]) (name 375)
+    (at 2 6) (plain.params (plain.param_and (plain.param_decl ([]) (plain.spec (at 2 8) (plain.alias (name 48)) 0)
+    (plain.named (plain.declr (0 ∷ []) (name 376) (at 2 18) (plain.sizes plain.no_sizes)))) plain.no_params) false
+    None)) (plain.block (at 2 21) (plain.stmt_and (plain.do_expr (at 2 23)
+    (Some (plain.assign (at 2 25) puncts.Assign (plain.word (at 2 23) (name 374))
+    (plain.int (at 2 27) (pos 5) false false)))) (plain.stmt_and (plain.do_expr (at 2 30)
+    (Some (plain.call (at 2 30) (plain.word (at 2 30) (name 168)) (plain.expr_and (plain.word (at 2 40) (name 376))
+    plain.no_exprs)))) plain.no_stmts)) (at 2 44)) ∷ []
 
-run_47 : ◌≡◌ {A = List SlotState × ℤ} (slots_of (last_run file_47 26 ((value.Object 25) ∷ []) ((choice.Int (pos 3)) ∷ []) 100), change_of 25 (last_run (plain.variables (plain.decl ([]) (plain.spec (at 1 1) (plain.words (keys.Long ∷ [])) 0) ((plain.var_decl (plain.declr ([]) (name 374) (at 1 6) (plain.sizes plain.no_sizes)) None) ∷ [])) ∷ plain.function_def (plain.head ([]) (plain.spec (at 2 1) (plain.words (keys.Void ∷ [])) 0) ([]) (name 375) (at 2 6) (plain.params (plain.param_and (plain.param_decl ([]) (plain.spec (at 2 8) (plain.alias (name 48)) 0) (plain.named (plain.declr (0 ∷ []) (name 376) (at 2 18) (plain.sizes plain.no_sizes)))) plain.no_params) false None)) (plain.block (at 2 21) (plain.stmt_and (plain.do_expr (at 2 23) (Some (plain.assign (at 2 25) puncts.Assign (plain.word (at 2 23) (name 374)) (plain.int (at 2 27) (pos 5) false false)))) (plain.stmt_and (plain.do_expr (at 2 30) (Some (plain.call (at 2 30) (plain.word (at 2 30) (name 168)) (plain.expr_and (plain.word (at 2 40) (name 376)) plain.no_exprs)))) plain.no_stmts)) (at 2 44)) ∷ []) 26 ((value.Object 25) ∷ []) ((choice.Int (pos 3)) ∷ []) 100)) (held_then (Global (name 374)) (Holds (value.Int (pos 3))) (Holds (value.Int (pos 5))) ∷ [], negsuc 0)
+run_47 : ◌≡◌ {A = List SlotState × ℤ} (
+  slots_of (last_run file_47 26 ((value.Object 25) ∷ [])
+      ((choice.Int (pos 3)) ∷ []) 100),
+  change_of 25 (last_run (plain.variables
+      (plain.decl ([]) (plain.spec (at 1 1) (plain.words (keys.Long ∷ [])) 0)
+      ((plain.var_decl (plain.declr ([]) (name 374) (at 1 6) (plain.sizes plain.no_sizes)) None) ∷ []))
+      ∷ plain.function_def (plain.head ([]) (plain.spec (at 2 1) (plain.words (keys.Void ∷ [])) 0) ([]) (name 375)
+      (at 2 6) (plain.params (plain.param_and (plain.param_decl ([]) (plain.spec (at 2 8) (plain.alias (name 48)) 0)
+      (plain.named (plain.declr (0 ∷ []) (name 376) (at 2 18) (plain.sizes plain.no_sizes)))) plain.no_params) false
+      None)) (plain.block (at 2 21) (plain.stmt_and (plain.do_expr (at 2 23)
+      (Some (plain.assign (at 2 25) puncts.Assign (plain.word (at 2 23) (name 374))
+      (plain.int (at 2 27) (pos 5) false false)))) (plain.stmt_and (plain.do_expr (at 2 30)
+      (Some (plain.call (at 2 30) (plain.word (at 2 30) (name 168)) (plain.expr_and (plain.word (at 2 40) (name 376))
+      plain.no_exprs)))) plain.no_stmts)) (at 2 44)) ∷ []) 26 ((value.Object 25) ∷ []) ((choice.Int (pos 3)) ∷ [])
+      100),
+) (held_then (Global (name 374)) (Holds (value.Int (pos 3))) (Holds (value.Int (pos 5))) ∷ [], negsuc 0)
 run_47 = refl

@@ -1,5 +1,6 @@
 -- The codes of a checked file.
---   codes_of c             the code of each function; none of one that is refused, and of one that calls a function of the file
+--   codes_of c             the code of each function; none of one that is refused, and of one that calls a function of
+--                          the file
 --   names_of c             their names
 --   IsLowered f nodes code    what a code is of a function that has so many nodes in the text
 --   AreLowered c codes     so is each code of its function
@@ -29,8 +30,8 @@ codes_of c = map code_for (map (resolution_of c.file c.refused) (definitions c.f
 abbrev pub names_of : CheckedFile → List Name
 names_of c = map (λ d. d.name) (definitions c.file.items)
 
--- it runs as the function does, it has at most four instructions for each node of the text, no temporary is kept where one statement ends and another
--- begins, and the same entries fit it, whose arguments are among the locals
+-- it runs as the function does, it has at most four instructions for each node of the text, no temporary is kept where
+-- one statement ends and another begins, and the same entries fit it, whose arguments are among the locals
 pub record IsLowered (f : ResolvedFunction) (nodes : ℕ) (code : Code) : Type 0 where
   pub alike : Behaves f code.instrs (length code.vars) steps_an_instruction
   pub small : length code.instrs ≤ 4 * nodes
@@ -39,9 +40,12 @@ pub record IsLowered (f : ResolvedFunction) (nodes : ℕ) (code : Code) : Type 0
   pub within : (statics : ℕ) (entry : Entry) → entry_fits f.params statics entry ≡ true → length entry.args ≤ f.locals
 
 abbrev pub AreLowered : CheckedFile → List (Option Code) → Type 0
-AreLowered c codes = (i : ℕ) (d : Definition) (code : Code) → slice_get (definitions c.file.items) i ≡ Some d → slice_get codes i ≡ Some (Some code)
+AreLowered c codes =
+    (i : ℕ) (d : Definition) (code : Code) → slice_get (definitions c.file.items) i ≡ Some d
+    → slice_get codes i ≡ Some (Some code)
     → IsLowered (resolved c.file c.refused d) (function_nodes d) code
 
 abbrev pub IsEachPassed : CheckedFile → Type 0
-IsEachPassed c = (i : ℕ) (d : Definition) → slice_get (definitions c.file.items) i ≡ Some d → refusal c.file c.refused d ≡ None
+IsEachPassed c =
+    (i : ℕ) (d : Definition) → slice_get (definitions c.file.items) i ≡ Some d → refusal c.file c.refused d ≡ None
     → IsPassed (file_env c.file c.refused d.name.0) d

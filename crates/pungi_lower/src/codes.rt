@@ -13,11 +13,11 @@ use pungi_emit::lower_functions;
 use pungi_resolved::Function;
 use std::alloc::Global;
 
-/// The codes of functions with these names, over so many static objects. There is none of a function that isn't resolved, and
-/// none of one that calls a function of the file. Where the functions are those of a checked file, a code runs as its function
-/// does, from any entry and with any choices; it has at most four instructions for each node of the text, and no
-/// temporary is kept where one statement ends and another begins; each code is well-formed, and each global and each field has
-/// one kind in all codes.
+/// The codes of functions with these names, over so many static objects. There is none of a function that isn't
+/// resolved, and none of one that calls a function of the file. Where the functions are those of a checked file, a code
+/// runs as its function does, from any entry and with any choices; it has at most four instructions for each node of
+/// the text, and no temporary is kept where one statement ends and another begins; each code is well-formed, and each
+/// global and each field has one kind in all codes.
 pub fn lower(
     alloc: Global,
     functions: &[Option<Function>],
@@ -27,8 +27,11 @@ pub fn lower(
     ensures codes { IfOk result (λ c. c.codes ≡ map code_for (map resolution_view functions.now)) }
     ensures names { IfOk result (λ c. c.names ≡ names) }
     ensures statics { IfOk result (λ c. c.statics ≡ statics) }
-    ensures lowered { IfOk result (λ c. (file : CheckedFile) → IsResolved file (map resolution_view functions.now) → AreLowered file c.codes) }
-    ensures well_formed { IfOk result (λ c. (file : CheckedFile) → IsResolved file (map resolution_view functions.now) → names ≡ names_of file → statics ≤ most_statics → AreWellFormed c) }
+    ensures lowered { IfOk result (λ c. (file : CheckedFile) → IsResolved file (map resolution_view functions.now)
+        → AreLowered file c.codes) }
+    ensures well_formed { IfOk result (λ c. (file : CheckedFile)
+        → IsResolved file (map resolution_view functions.now) → names ≡ names_of file → statics ≤ most_statics
+        → AreWellFormed c) }
 {
     let codes = lower_functions(alloc, functions)?;
     Ok(Codes {

@@ -9,7 +9,8 @@ pub fn passed_is_sound(f: &Function)
     ensures { IsSoundIfPassed (function_view f.now) }
 {}
 
-/// The law of sizes: the code has at most four instructions for a node of the text, and tree and code are within the limits.
+/// The law of sizes: the code has at most four instructions for a node of the text, and tree and code are within the
+/// limits.
 pub fn passed_is_small(f: &Function)
     ensures { IsSmallIfPassed (function_view f.now) }
 {}

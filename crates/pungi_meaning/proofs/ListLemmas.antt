@@ -1,5 +1,6 @@
 -- Lists of nodes and back, and lists that grow.
-use Rattle.std.proofs.Common.{◌≡◌, ℕ, suc, ◌+◌, ◌-◌, ◌<◌, List, [], ◌∷◌, ◌++◌, replicate, map, slice_get, option_map, refl, ap, ◌∙◌, append_assoc, arith}
+use Rattle.std.proofs.Common.{◌≡◌, ℕ, suc, ◌+◌, ◌-◌, ◌<◌, List, [], ◌∷◌, ◌++◌, replicate, map, slice_get, option_map}
+use Rattle.std.proofs.Common.{refl, ap, ◌∙◌, append_assoc, arith}
 use Rattle.std.proofs.lemmas.Option.{slice_get-map}
 use Rattle.pungi_resolved.specs.Values as expr
 use Rattle.pungi_resolved.specs.Actions as stmt
@@ -16,10 +17,12 @@ actions_listed [] = refl
 actions_listed (a ∷ list) = ap (λ rest. a ∷ rest) (actions_listed list)
 
 -- one of so many that are to come
-pub replicate_step : {A : Type 0} (xs : List A) (x : A) (i n : ℕ) → i < n → (xs ++ x ∷ []) ++ replicate (n - (i + 1)) x ≡ xs ++ replicate (n - i) x
+pub replicate_step : {A : Type 0} (xs : List A) (x : A) (i n : ℕ) → i < n
+    → (xs ++ x ∷ []) ++ replicate (n - (i + 1)) x ≡ xs ++ replicate (n - i) x
 replicate_step xs x i n h =
     let e : suc (n - (i + 1)) ≡ n - i = omega arith in
     append_assoc xs (x ∷ []) (replicate (n - (i + 1)) x) ∙ ap (λ m. xs ++ replicate m x) e
 
-pub mapped_get : {A B : Type 0} (f : A → B) (xs : List A) (i : ℕ) → slice_get (map f xs) i ≡ option_map f (slice_get xs i)
+pub mapped_get : {A B : Type 0} (f : A → B) (xs : List A) (i : ℕ)
+    → slice_get (map f xs) i ≡ option_map f (slice_get xs i)
 mapped_get f xs i = slice_get-map f xs i

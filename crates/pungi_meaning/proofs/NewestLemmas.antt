@@ -1,7 +1,9 @@
 -- The newest of the values that wait: the last ones of the stack.
-use Rattle.std.proofs.Common.{◌≡◌, ℕ, ◌-◌, ◌<◌, ◌≤◌, ◌⊎◌, inl, inr, List, [], ◌∷◌, ◌++◌, length, take, drop, reverse, slice_range, refl, sym, ap, ◌∙◌, length-drop, arith}
+use Rattle.std.proofs.Common.{◌≡◌, ℕ, ◌-◌, ◌<◌, ◌≤◌, ◌⊎◌, inl, inr, List, [], ◌∷◌, ◌++◌, length, take, drop, reverse}
+use Rattle.std.proofs.Common.{slice_range, refl, sym, ap, ◌∙◌, length-drop, arith}
 use Rattle.std.proofs.lemmas.Bool.{cases_lt}
-use Rattle.std.proofs.lemmas.List.{reverse-append, reverse-reverse, length-reverse, take_rest, take-append-drop, take_all, drop_all}
+use Rattle.std.proofs.lemmas.List.{reverse-append, reverse-reverse, length-reverse, take_rest, take-append-drop}
+use Rattle.std.proofs.lemmas.List.{take_all, drop_all}
 
 take_front : {A : Type 0} (a b : List A) → take (length a) (a ++ b) ≡ a
 take_front [] b = refl
@@ -19,7 +21,8 @@ back_length xs n h =
     let e : length xs - (length xs - n) ≡ n = omega arith in
     length-reverse (drop (length xs - n) xs) ∙ length-drop (length xs - n) xs ∙ e
 
-taken_by : {A : Type 0} (xs : List A) (n : ℕ) → (length xs < n) ⊎ (n ≤ length xs) → take n (reverse xs) ≡ reverse (drop (length xs - n) xs)
+taken_by : {A : Type 0} (xs : List A) (n : ℕ) → (length xs < n) ⊎ (n ≤ length xs)
+    → take n (reverse xs) ≡ reverse (drop (length xs - n) xs)
 taken_by xs n (inl h) =
     let e : length xs - n ≡ 0 = omega arith in
     let short : length (reverse xs) ≤ n = omega (arith, length-reverse xs) in
@@ -30,7 +33,8 @@ taken_by xs n (inr h) =
     ∙ ap (λ m. take m (reverse (drop p xs) ++ reverse (take p xs))) (sym (back_length xs n h))
     ∙ take_front (reverse (drop p xs)) (reverse (take p xs))
 
-left_by : {A : Type 0} (xs : List A) (n : ℕ) → (length xs < n) ⊎ (n ≤ length xs) → drop n (reverse xs) ≡ reverse (take (length xs - n) xs)
+left_by : {A : Type 0} (xs : List A) (n : ℕ) → (length xs < n) ⊎ (n ≤ length xs)
+    → drop n (reverse xs) ≡ reverse (take (length xs - n) xs)
 left_by xs n (inl h) =
     let e : length xs - n ≡ 0 = omega arith in
     let short : length (reverse xs) ≤ n = omega (arith, length-reverse xs) in
@@ -45,7 +49,8 @@ left_by xs n (inr h) =
 pub newest_taken : {A : Type 0} (xs : List A) (n : ℕ) → reverse (take n (reverse xs)) ≡ drop (length xs - n) xs
 newest_taken xs n = ap reverse (taken_by xs n (cases_lt (length xs) n)) ∙ reverse-reverse (drop (length xs - n) xs)
 
-pub newest_range : {A : Type 0} (xs : List A) (n p : ℕ) → p ≡ length xs - n → slice_range xs p (length xs) ≡ reverse (take n (reverse xs))
+pub newest_range : {A : Type 0} (xs : List A) (n p : ℕ) → p ≡ length xs - n
+    → slice_range xs p (length xs) ≡ reverse (take n (reverse xs))
 newest_range xs n p e = take_rest xs p ∙ ap (λ q. drop q xs) e ∙ sym (newest_taken xs n)
 
 -- the others are the first ones

@@ -31,4 +31,5 @@ fit_params n (k ∷ ks) [] = false
 fit_params n (k ∷ ks) (v ∷ vs) = fits_param n k v && fit_params n ks vs
 
 abbrev pub entry_fits : List (Option ValueKind) → ℕ → Entry → Bool
-entry_fits ks statics entry = nat_le statics entry.objects && (nat_lt entry.objects (2 ^ 31) && fit_params entry.objects ks entry.args)
+entry_fits ks statics entry =
+    nat_le statics entry.objects && (nat_lt entry.objects (2 ^ 31) && fit_params entry.objects ks entry.args)

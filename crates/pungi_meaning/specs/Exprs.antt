@@ -18,7 +18,8 @@
 --   call, next_arg              a call of the API; the next argument of a call, or the call
 --   evaluate                    an expression
 -- Fields and globals are slots of the world. Loads, stores and calls of the API do what pungi_world defines.
-use Rattle.std.specs.Prelude.{ℕ, ◌+◌, ℤ, pos, Bool, true, false, not, List, [], ◌∷◌, length, drop, Option, Some, None, if◌then◌else◌}
+use Rattle.std.specs.Prelude.{ℕ, ◌+◌, ℤ, pos, Bool, true, false, not, List, [], ◌∷◌, length, drop, Option, Some, None}
+use Rattle.std.specs.Prelude.{if◌then◌else◌}
 use Rattle.pungi_base.specs.declared.choice.Choice.{Choice}
 use Rattle.pungi_base.specs.declared.kind.Kind.{Kind}
 use Rattle.pungi_base.specs.declared.kind.Kind.TheVariants as tokens
@@ -43,8 +44,12 @@ use Rattle.pungi_meaning.specs.declared.op.Op.{Op}
 use Rattle.pungi_meaning.specs.declared.op.Op.TheVariants as ops
 use Rattle.pungi_meaning.specs.declared.cmp.Cmp.{Cmp}
 use Rattle.pungi_meaning.specs.Values.{fits, is_true, truth, arithmetic, holds, op_of, cmp_of, wide, slot_kind}
-use Rattle.pungi_meaning.specs.Todo.{Operation, Computed, Fitted, Compared, Loaded, Stored, Called, Todo, ToEval, ToLoad, ToOld, ToKeep, ToStep, ToMinus, ToCompute, ToFit, ToCompare, ToNot, ToRight, ToTruth, ToPick, ToStore, ToPop, ToArgs, State, Step, Goes, Stops, listed_values}
-use Rattle.pungi_meaning.specs.Work.{top, below, newest, go_on, push_value, pop_value, replace_value, replace_two, with_result, content_at, with_local, unused, after_effect, shape_of}
+use Rattle.pungi_meaning.specs.Todo.{Operation, Computed, Fitted, Compared, Loaded, Stored, Called, Todo, ToEval}
+use Rattle.pungi_meaning.specs.Todo.{ToLoad, ToOld, ToKeep, ToStep, ToMinus, ToCompute, ToFit, ToCompare, ToNot}
+use Rattle.pungi_meaning.specs.Todo.{ToRight, ToTruth, ToPick, ToStore, ToPop, ToArgs, State, Step, Goes, Stops}
+use Rattle.pungi_meaning.specs.Todo.{listed_values}
+use Rattle.pungi_meaning.specs.Work.{top, below, newest, go_on, push_value, pop_value, replace_value, replace_two}
+use Rattle.pungi_meaning.specs.Work.{with_result, content_at, with_local, unused, after_effect, shape_of}
 
 -- ---- places
 
@@ -60,7 +65,8 @@ abbrev pub after_load : Pos → Slot → List Todo → Effect → State → Step
 after_load p slot k e s = Goes (Loaded p slot e.value ∷ []) k (record s { values = with_result e.value s.values })
 
 abbrev pub load_slot : List Choice → Pos → ValueKind → Slot → List Todo → State → Step
-load_slot choices p kind slot k s = after_effect p (load_effect s.world slot (slot_kind kind) (unused choices s)) (after_load p slot k) s
+load_slot choices p kind slot k s =
+    after_effect p (load_effect s.world slot (slot_kind kind) (unused choices s)) (after_load p slot k) s
 
 abbrev pub load_field : List Choice → Pos → ValueKind → Value → Name → Name → List Todo → State → Step
 load_field choices p kind (value.Object o) tag field k s = load_slot choices p kind (Field o tag field) k s
@@ -83,13 +89,16 @@ abbrev pub store_slot : List Choice → Pos → ValueKind → Slot → Value →
 store_slot choices p kind slot v others k s =
     after_effect p (store_effect s.world slot (slot_kind kind) v (unused choices s)) (after_store p slot v others k) s
 
-abbrev pub store_field : List Choice → Pos → ValueKind → Value → Name → Name → Value → List Value → List Todo → State → Step
-store_field choices p kind (value.Object o) tag field v others k s = store_slot choices p kind (Field o tag field) v others k s
+abbrev pub store_field : List Choice → Pos → ValueKind → Value → Name → Name → Value → List Value → List Todo
+    → State → Step
+store_field choices p kind (value.Object o) tag field v others k s =
+    store_slot choices p kind (Field o tag field) v others k s
 store_field choices p kind base tag field v others k s = Stops p
 
 abbrev pub store : List Choice → ValueKind → expr.Place → List Todo → State → Step
 store choices kind (expr.local_place p x) k s = go_on k (with_local x (Holds (top s.values)) s)
-store choices kind (expr.global_place p n) k s = store_slot choices p kind (Global n) (top s.values) (below s.values) k s
+store choices kind (expr.global_place p n) k s =
+    store_slot choices p kind (Global n) (top s.values) (below s.values) k s
 store choices kind (expr.field_place p base tag field) k s =
     store_field choices p kind (top (below s.values)) tag field (top s.values) (below (below s.values)) k s
 store choices kind expr.no_place k s = go_on k s
@@ -122,9 +131,11 @@ step p m kind place k = ToStep p (step_op m) (wide kind) ∷ convert p kind (wid
 abbrev pub step_place : Bool → Pos → Kind → ValueKind → expr.Place → List Todo → State → Step
 step_place false p m kind place k s = go_on (base_first place (ToOld kind place ∷ step p m kind place k)) s
 step_place true p m kind place k s =
-    push_value (value.Int (pos 0)) (base_first place (ToOld kind place ∷ ToKeep place ∷ step p m kind place (ToPop ∷ k))) s
+    push_value (value.Int (pos 0)) (base_first place (ToOld kind place ∷ ToKeep place
+    ∷ step p m kind place (ToPop ∷ k))) s
 
-abbrev pub after_arithmetic : Pos → Op → ValueKind → ℤ → ℤ → Option ℤ → (List Operation → Value → List Todo → State → Step) → List Todo → State → Step
+abbrev pub after_arithmetic : Pos → Op → ValueKind → ℤ → ℤ → Option ℤ
+    → (List Operation → Value → List Todo → State → Step) → List Todo → State → Step
 after_arithmetic p o kind a b None go k s = Stops p
 after_arithmetic p o kind a b (Some n) go k s = go (Computed p o kind a b ∷ []) (value.Int n) k s
 
@@ -153,11 +164,13 @@ right_side on v b k s = pop_value (if is_wanted on (is_true v) then ToEval b ∷
 -- ---- calls of the API
 
 abbrev pub after_call : Pos → Row → List Value → List Value → List Todo → Effect → State → Step
-after_call p row args others k e s = Goes (Called p (shape_of row) args e ∷ []) k (record s { values = with_result e.value others })
+after_call p row args others k e s =
+    Goes (Called p (shape_of row) args e ∷ []) k (record s { values = with_result e.value others })
 
 abbrev pub call : List Choice → Pos → Row → ℕ → List Todo → State → Step
 call choices p row n k s =
-    after_effect p (call_effect s.world (shape_of row) (newest n s.values) (unused choices s)) (after_call p row (newest n s.values) (drop n s.values) k) s
+    after_effect p (call_effect s.world (shape_of row) (newest n s.values) (unused choices s))
+    (after_call p row (newest n s.values) (drop n s.values) k) s
 
 abbrev pub next_arg : List Choice → Pos → Row → List expr.Value → ℕ → Option expr.Value → List Todo → State → Step
 next_arg choices p row args i (Some v) k s = go_on (ToEval v ∷ ToArgs p row args (i + 1) ∷ k) s
@@ -178,10 +191,12 @@ evaluate choices (expr.negated p v) k s = push_value (value.Int (pos 1)) (ToEval
 evaluate choices (expr.stepped p is_postfix m kind place) k s = step_place is_postfix p m kind place k s
 evaluate choices (expr.computed p m kind a b) k s = go_on (ToEval a ∷ ToEval b ∷ ToCompute p (op_of m) kind ∷ k) s
 evaluate choices (expr.compared p m a b) k s = go_on (ToEval a ∷ ToEval b ∷ ToCompare p (cmp_of m) ∷ k) s
-evaluate choices (expr.joined_by p m a b) k s = push_value (truth (not (is_and m))) (ToEval a ∷ ToRight (is_and m) b ∷ k) s
+evaluate choices (expr.joined_by p m a b) k s =
+    push_value (truth (not (is_and m))) (ToEval a ∷ ToRight (is_and m) b ∷ k) s
 evaluate choices (expr.stored p kind place v) k s = go_on (base_first place (ToEval v ∷ ToStore kind place ∷ k)) s
 evaluate choices (expr.updated p m counted kind place v) k s =
-    go_on (base_first place (ToOld kind place ∷ ToEval v ∷ ToCompute p (op_of m) counted ∷ convert p kind counted (ToStore kind place ∷ k))) s
+    go_on (base_first place (ToOld kind place ∷ ToEval v ∷ ToCompute p (op_of m) counted
+    ∷ convert p kind counted (ToStore kind place ∷ k))) s
 evaluate choices (expr.chosen p c a b) k s = go_on (ToEval c ∷ ToPick a b ∷ k) s
 evaluate choices (expr.converted p kind v) k s = go_on (ToEval v ∷ ToFit p kind ∷ k) s
 evaluate choices (expr.cast_of p v) k s = go_on (ToEval v ∷ k) s

@@ -13,10 +13,20 @@ use Rattle.pungi_meaning.specs.declared.task.Turns.{Turns}
 use Rattle.pungi_meaning.specs.declared.machine.Machine.{Machine}
 use Rattle.pungi_meaning.specs.declared.machine.Ending.{Ending}
 use Rattle.pungi_meaning.specs.declared.machine.Ending.TheVariants as endings
-use Rattle.pungi_meaning.specs.Todo.{Loop, Todo, ToEval, ToLoad, ToOld, ToKeep, ToStep, ToMinus, ToCompute, ToFit, ToCompare, ToNot, ToRight, ToTruth, ToPick, ToStore, ToPop, ToArgs, ToExec, ToForget, ToDeclare, ToBind, ToChoose, ToJoin, ToRest, ToTest, ToTurn, ToAgain, ToBack, ToSwitch, ToSwitchEnd, ToReturn, ToEnd, State, Step, Goes, Returns, Stops, Wants}
+use Rattle.pungi_meaning.specs.Todo.{Loop, Todo, ToEval, ToLoad, ToOld, ToKeep, ToStep, ToMinus, ToCompute, ToFit}
+use Rattle.pungi_meaning.specs.Todo.{ToCompare, ToNot, ToRight, ToTruth, ToPick, ToStore, ToPop, ToArgs, ToExec}
+use Rattle.pungi_meaning.specs.Todo.{ToForget, ToDeclare, ToBind, ToChoose, ToJoin, ToRest, ToTest, ToTurn, ToAgain}
+use Rattle.pungi_meaning.specs.Todo.{ToBack, ToSwitch, ToSwitchEnd, ToReturn, ToEnd, State, Step, Goes, Returns, Stops}
+use Rattle.pungi_meaning.specs.Todo.{Wants}
 
 abbrev pub loop_of : Turns → Loop
-loop_of l = record { test = option_map (λ v. value_view v.now) l.test; increment = option_map (λ v. value_view v.now) l.increment; body = action_view l.body.now }
+loop_of l =
+    record {
+      test = option_map (λ v. value_view v.now) l.test;
+      increment = option_map (λ v. value_view v.now)
+          l.increment;
+      body = action_view l.body.now;
+    }
 
 abbrev pub todo_of : Task → Todo
 todo_of (tasks.Eval v) = ToEval (value_view v.now)

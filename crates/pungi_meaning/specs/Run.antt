@@ -10,7 +10,8 @@
 --   closing_brace body            the closing brace of a function's body
 --   start, body_of                where the run of a function begins
 --   run_of f entry choices fuel   the run of a function from an entry
-use Rattle.std.specs.Prelude.{ℕ, zero, suc, ◌+◌, ◌-◌, Bool, true, false, not, List, [], ◌∷◌, ◌++◌, length, map, replicate, slice_get, Option, Some, None, if◌then◌else◌}
+use Rattle.std.specs.Prelude.{ℕ, zero, suc, ◌+◌, ◌-◌, Bool, true, false, not, List, [], ◌∷◌, ◌++◌, length, map}
+use Rattle.std.specs.Prelude.{replicate, slice_get, Option, Some, None, if◌then◌else◌}
 use Rattle.pungi_base.specs.declared.choice.Choice.{Choice}
 use Rattle.pungi_base.specs.declared.entry.Entry.{Entry}
 use Rattle.pungi_base.specs.declared.pos.Pos.{Pos}
@@ -22,10 +23,16 @@ use Rattle.pungi_world.specs.declared.content.Content.TheVariants.{Unset, Holds}
 use Rattle.pungi_world.specs.declared.world.World.{World}
 use Rattle.pungi_world.specs.World.{world_at}
 use Rattle.pungi_meaning.specs.Values.{number_of, is_true, truth}
-use Rattle.pungi_meaning.specs.Todo.{Operation, Todo, ToEval, ToLoad, ToOld, ToKeep, ToStep, ToMinus, ToCompute, ToFit, ToCompare, ToNot, ToRight, ToTruth, ToPick, ToStore, ToPop, ToArgs, ToExec, ToForget, ToDeclare, ToBind, ToChoose, ToJoin, ToRest, ToTest, ToTurn, ToAgain, ToBack, ToSwitch, ToSwitchEnd, ToReturn, ToEnd, State, Step, Goes, Returns, Stops, Wants}
+use Rattle.pungi_meaning.specs.Todo.{Operation, Todo, ToEval, ToLoad, ToOld, ToKeep, ToStep, ToMinus, ToCompute, ToFit}
+use Rattle.pungi_meaning.specs.Todo.{ToCompare, ToNot, ToRight, ToTruth, ToPick, ToStore, ToPop, ToArgs, ToExec}
+use Rattle.pungi_meaning.specs.Todo.{ToForget, ToDeclare, ToBind, ToChoose, ToJoin, ToRest, ToTest, ToTurn, ToAgain}
+use Rattle.pungi_meaning.specs.Todo.{ToBack, ToSwitch, ToSwitchEnd, ToReturn, ToEnd, State, Step, Goes, Returns, Stops}
+use Rattle.pungi_meaning.specs.Todo.{Wants}
 use Rattle.pungi_meaning.specs.Work.{top, below, go_on, pop_value, replace_two}
-use Rattle.pungi_meaning.specs.Exprs.{evaluate, load_field, load_old, keep, step_one, minus, compute, fit, compare, right_side, store, next_arg}
-use Rattle.pungi_meaning.specs.Stmts.{execute, declare_next, bind, else_part, test_loop, turn, evaluate_first, switch, next_stmt}
+use Rattle.pungi_meaning.specs.Exprs.{evaluate, load_field, load_old, keep, step_one, minus, compute, fit, compare}
+use Rattle.pungi_meaning.specs.Exprs.{right_side, store, next_arg}
+use Rattle.pungi_meaning.specs.Stmts.{execute, declare_next, bind, else_part, test_loop, turn, evaluate_first, switch}
+use Rattle.pungi_meaning.specs.Stmts.{next_stmt}
 
 abbrev pub nowhere : Pos
 nowhere = record { line = 0; col = 0 }
@@ -37,12 +44,14 @@ at_end p false s = Stops p
 abbrev pub act : List Choice → List Todo → State → Step
 act choices [] s = Stops nowhere
 act choices (ToEval v ∷ k) s = evaluate choices v k s
-act choices (ToLoad p kind tag field ∷ k) s = load_field choices p kind (top s.values) tag field k (record s { values = below s.values })
+act choices (ToLoad p kind tag field ∷ k) s =
+    load_field choices p kind (top s.values) tag field k (record s { values = below s.values })
 act choices (ToOld kind place ∷ k) s = load_old choices kind place k s
 act choices (ToKeep place ∷ k) s = go_on k (record s { values = keep place s.values })
 act choices (ToStep p o kind ∷ k) s = step_one p o kind (number_of (top s.values)) k s
 act choices (ToMinus p kind ∷ k) s = minus p kind (number_of (top s.values)) k s
-act choices (ToCompute p o kind ∷ k) s = compute p o kind (number_of (top (below s.values))) (number_of (top s.values)) k s
+act choices (ToCompute p o kind ∷ k) s =
+    compute p o kind (number_of (top (below s.values))) (number_of (top s.values)) k s
 act choices (ToFit p kind ∷ k) s = fit p kind (number_of (top s.values)) k s
 act choices (ToCompare p c ∷ k) s = compare p c (top (below s.values)) (top s.values) k s
 act choices (ToNot ∷ k) s = replace_two [] (truth (not (is_true (top s.values)))) k s
@@ -56,7 +65,8 @@ act choices (ToExec a ∷ k) s = execute a k s
 act choices (ToForget ∷ k) s = go_on k (record s { values = [] })
 act choices (ToDeclare rs ∷ k) s = declare_next rs k s
 act choices (ToBind x ∷ k) s = bind x k s
-act choices (ToChoose a b ∷ k) s = pop_value (if is_true (top s.values) then ToExec a ∷ ToJoin ∷ k else else_part b (ToJoin ∷ k)) s
+act choices (ToChoose a b ∷ k) s =
+    pop_value (if is_true (top s.values) then ToExec a ∷ ToJoin ∷ k else else_part b (ToJoin ∷ k)) s
 act choices (ToJoin ∷ k) s = go_on k s
 act choices (ToRest list i ∷ k) s = next_stmt list i (slice_get list i) k s
 act choices (ToTest loop ∷ k) s = go_on (test_loop loop k) s

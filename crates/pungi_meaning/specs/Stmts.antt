@@ -26,7 +26,9 @@ use Rattle.pungi_resolved.specs.Actions as stmt
 use Rattle.pungi_world.specs.declared.content.Content.TheVariants.{Unset, Holds}
 use Rattle.pungi_meaning.specs.declared.cmp.Cmp.TheVariants as cmps
 use Rattle.pungi_meaning.specs.Values.{is_equal}
-use Rattle.pungi_meaning.specs.Todo.{Loop, Operation, Compared, Todo, ToEval, ToExec, ToForget, ToDeclare, ToBind, ToChoose, ToRest, ToTest, ToTurn, ToAgain, ToSwitch, ToSwitchEnd, ToReturn, State, Step, Goes, Returns, listed}
+use Rattle.pungi_meaning.specs.Todo.{Loop, Operation, Compared, Todo, ToEval, ToExec, ToForget, ToDeclare, ToBind}
+use Rattle.pungi_meaning.specs.Todo.{ToChoose, ToRest, ToTest, ToTurn, ToAgain, ToSwitch, ToSwitchEnd, ToReturn, State}
+use Rattle.pungi_meaning.specs.Todo.{Step, Goes, Returns, listed}
 use Rattle.pungi_meaning.specs.Work.{top, below, go_on, pop_value, with_local, block_locals, unset_locals, or_else}
 use Rattle.pungi_meaning.specs.Jumps.{a_loop, from_label, after_break, after_continue}
 
@@ -88,7 +90,8 @@ block_cases (a ∷ rest) = cases_of a ++ block_cases rest
 
 abbrev pub case_comparisons : Pos → Value → List ℤ → List Operation
 case_comparisons p v [] = []
-case_comparisons p v (c ∷ cs) = Compared p cmps.Equal v (value.Int c) ∷ (if is_equal v (value.Int c) then [] else case_comparisons p v cs)
+case_comparisons p v (c ∷ cs) =
+    Compared p cmps.Equal v (value.Int c) ∷ (if is_equal v (value.Int c) then [] else case_comparisons p v cs)
 
 abbrev pub first_from : (stmt.Action → Bool) → ℕ → List stmt.Action → Option ℕ
 first_from p i [] = None
@@ -104,7 +107,8 @@ enter_at list (Some i) k = ToRest list i ∷ ToSwitchEnd ∷ k
 -- a case stands directly in the block of a `switch`; without a block there are no cases
 abbrev pub switch : Pos → Value → stmt.Action → List Todo → State → Step
 switch p v (stmt.block q ss r) k s =
-    Goes (case_comparisons p v (block_cases (listed ss))) (enter_at (listed ss) (target v (listed ss)) k) (record s { locals = unset_locals (block_locals (listed ss)) s.locals; values = below s.values })
+    Goes (case_comparisons p v (block_cases (listed ss))) (enter_at (listed ss) (target v (listed ss)) k)
+    (record s { locals = unset_locals (block_locals (listed ss)) s.locals; values = below s.values })
 switch p v a k s = pop_value k s
 
 -- ---- a node
@@ -118,7 +122,8 @@ next_stmt list i None k s = go_on k s
 next_stmt list i (Some a) k s = go_on (ToExec a ∷ ToRest list (i + 1) ∷ k) s
 
 abbrev pub execute : stmt.Action → List Todo → State → Step
-execute (stmt.block p ss q) k s = go_on (ToRest (listed ss) 0 ∷ k) (record s { locals = unset_locals (block_locals (listed ss)) s.locals })
+execute (stmt.block p ss q) k s =
+    go_on (ToRest (listed ss) 0 ∷ k) (record s { locals = unset_locals (block_locals (listed ss)) s.locals })
 execute (stmt.declare p rs) k s = go_on (ToDeclare rs ∷ k) s
 execute (stmt.do_expr p v) k s = go_on (evaluate_first v k) s
 execute (stmt.if_only p c a) k s = go_on (ToEval c ∷ ToChoose a None ∷ k) s

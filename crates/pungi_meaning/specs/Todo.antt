@@ -3,8 +3,8 @@
 --   Operation           what a step does that can be seen from outside: arithmetic and conversions with their operands,
 --                       comparisons, loads and stores of slots, calls of the API; each with its place in the text
 --   Todo                a node that is to be done, or the remainder of a node
---   State               the world, the places of the choices that were used, the locals, and the values that wait for their
---                       operator, the newest first
+--   State               the world, the places of the choices that were used, the locals, and the values that wait for
+--                       their operator, the newest first
 --   Step                a step goes on, returns, stops at a place, or needs a choice that isn't there or isn't accepted
 --   listed, listed_values    the statements of a block, the arguments of a call
 use Rattle.std.specs.Prelude.{ℕ, ℤ, Bool, List, [], ◌∷◌, Option}
@@ -40,7 +40,8 @@ pub data Todo : Type 0 where
   -- expressions
   ToEval : expr.Value → Todo
   ToLoad : Pos → ValueKind → Name → Name → Todo  -- of `->`: its base waits
-  ToOld : ValueKind → expr.Place → Todo  -- what a place that is written afterwards holds; the base of a field waits and stays
+  ToOld : ValueKind → expr.Place → Todo
+      -- what a place that is written afterwards holds; the base of a field waits and stays
   ToKeep : expr.Place → Todo  -- of `++` and `--` after their operand: the old content is the value
   ToStep : Pos → Op → ValueKind → Todo  -- of `++` and `--`
   ToMinus : Pos → ValueKind → Todo

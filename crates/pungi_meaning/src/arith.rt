@@ -26,7 +26,8 @@ fn take_number(values: &mut Vec<Value>) -> i64
 
 /// What an operator gives on the two newest values, which are taken off.
 fn combine(values: &mut Vec<Value>, op: Op, kind: ValueKind) -> Option<i64>
-    ensures value { result ≡ arithmetic op kind (number_of (top (below (reverse values.old.items)))) (number_of (top (reverse values.old.items))) }
+    ensures value { result ≡ arithmetic op kind (number_of (top (below (reverse values.old.items))))
+        (number_of (top (reverse values.old.items))) }
     ensures rest { reverse values.new.items ≡ below (below (reverse values.old.items)) }
 {
     let right = take_number(values);
@@ -36,7 +37,9 @@ fn combine(values: &mut Vec<Value>, op: Op, kind: ValueKind) -> Option<i64>
 
 /// An operator on the two newest values.
 pub fn compute(m: &mut Machine, pos: Pos, op: Op, kind: ValueKind) -> Result<Option<Ending>, Memory>
-    ensures { IfOk result (λ halt. Matches (compute pos op kind (number_of (top (below (reverse m.old.values.items)))) (number_of (top (reverse m.old.values.items))) (todos m.old.tasks.items) (state_of m.old)) halt m.new) }
+    ensures { IfOk result (λ halt. Matches (compute pos op kind (number_of
+        (top (below (reverse m.old.values.items)))) (number_of (top (reverse m.old.values.items)))
+        (todos m.old.tasks.items) (state_of m.old)) halt m.new) }
 {
     match combine(&mut m.values, op, kind) {
         Some(n) => {
@@ -54,7 +57,8 @@ pub fn step_one(
     op: Op,
     kind: ValueKind,
 ) -> Result<Option<Ending>, Memory>
-    ensures { IfOk result (λ halt. Matches (step_one pos op kind (number_of (top (reverse m.old.values.items))) (todos m.old.tasks.items) (state_of m.old)) halt m.new) }
+    ensures { IfOk result (λ halt. Matches (step_one pos op kind (number_of (top (reverse m.old.values.items)))
+        (todos m.old.tasks.items) (state_of m.old)) halt m.new) }
 {
     let left = take_number(&mut m.values);
     match arithmetic(op, kind, left, 1) {
@@ -68,7 +72,8 @@ pub fn step_one(
 
 /// The newest value with the other sign.
 pub fn minus(m: &mut Machine, pos: Pos, kind: ValueKind) -> Result<Option<Ending>, Memory>
-    ensures { IfOk result (λ halt. Matches (minus pos kind (number_of (top (reverse m.old.values.items))) (todos m.old.tasks.items) (state_of m.old)) halt m.new) }
+    ensures { IfOk result (λ halt. Matches (minus pos kind (number_of (top (reverse m.old.values.items)))
+        (todos m.old.tasks.items) (state_of m.old)) halt m.new) }
 {
     let right = take_number(&mut m.values);
     match arithmetic(Op::Sub, kind, 0, right) {
@@ -82,7 +87,8 @@ pub fn minus(m: &mut Machine, pos: Pos, kind: ValueKind) -> Result<Option<Ending
 
 /// The newest value in another kind.
 pub fn fit(m: &mut Machine, pos: Pos, kind: ValueKind) -> Result<Option<Ending>, Memory>
-    ensures { IfOk result (λ halt. Matches (fit pos kind (number_of (top (reverse m.old.values.items))) (todos m.old.tasks.items) (state_of m.old)) halt m.new) }
+    ensures { IfOk result (λ halt. Matches (fit pos kind (number_of (top (reverse m.old.values.items)))
+        (todos m.old.tasks.items) (state_of m.old)) halt m.new) }
 {
     let n = take_number(&mut m.values);
     if fits(kind, n) {
@@ -95,7 +101,8 @@ pub fn fit(m: &mut Machine, pos: Pos, kind: ValueKind) -> Result<Option<Ending>,
 
 /// A comparison of the two newest values.
 pub fn compare(m: &mut Machine, pos: Pos, cmp: Cmp) -> Result<Option<Ending>, Memory>
-    ensures { IfOk result (λ halt. Matches (compare pos cmp (top (below (reverse m.old.values.items))) (top (reverse m.old.values.items)) (todos m.old.tasks.items) (state_of m.old)) halt m.new) }
+    ensures { IfOk result (λ halt. Matches (compare pos cmp (top (below (reverse m.old.values.items)))
+        (top (reverse m.old.values.items)) (todos m.old.tasks.items) (state_of m.old)) halt m.new) }
 {
     let right = take(&mut m.values);
     let left = take(&mut m.values);
@@ -105,7 +112,8 @@ pub fn compare(m: &mut Machine, pos: Pos, cmp: Cmp) -> Result<Option<Ending>, Me
 
 /// The newest value is false, in place of the two newest.
 pub fn negate(m: &mut Machine) -> Result<Option<Ending>, Memory>
-    ensures { IfOk result (λ halt. Matches (replace_two [] (truth (not (is_true (top (reverse m.old.values.items))))) (todos m.old.tasks.items) (state_of m.old)) halt m.new) }
+    ensures { IfOk result (λ halt. Matches (replace_two [] (truth (not (is_true
+        (top (reverse m.old.values.items))))) (todos m.old.tasks.items) (state_of m.old)) halt m.new) }
 {
     let value = take(&mut m.values);
     take(&mut m.values);
@@ -115,7 +123,8 @@ pub fn negate(m: &mut Machine) -> Result<Option<Ending>, Memory>
 
 /// The newest value is true, in place of the two newest.
 pub fn to_truth(m: &mut Machine) -> Result<Option<Ending>, Memory>
-    ensures { IfOk result (λ halt. Matches (replace_two [] (truth (is_true (top (reverse m.old.values.items)))) (todos m.old.tasks.items) (state_of m.old)) halt m.new) }
+    ensures { IfOk result (λ halt. Matches (replace_two [] (truth (is_true (top (reverse m.old.values.items))))
+        (todos m.old.tasks.items) (state_of m.old)) halt m.new) }
 {
     let value = take(&mut m.values);
     take(&mut m.values);
@@ -135,7 +144,8 @@ pub fn right_side<'a>(
     on: bool,
     part: &'a Node,
 ) -> Result<Option<Ending>, Memory>
-    ensures { IfOk result (λ halt. Matches (right_side on (top (reverse m.old.values.items)) (value_view part.now) (todos m.old.tasks.items) (state_of m.old)) halt m.new) }
+    ensures { IfOk result (λ halt. Matches (right_side on (top (reverse m.old.values.items)) (value_view part.now)
+        (todos m.old.tasks.items) (state_of m.old)) halt m.new) }
 {
     if is_wanted(on, is_true(take(&mut m.values))) {
         evaluate_then(m, Task::Truth, part)
@@ -146,7 +156,8 @@ pub fn right_side<'a>(
 
 /// The old content goes to where the value of `++` or `--` after its operand waits.
 pub fn keep(m: &mut Machine, place: &Place) -> Result<Option<Ending>, Memory>
-    ensures { IfOk result (λ halt. Matches (go_on (todos m.old.tasks.items) (record (state_of m.old) { values = keep (place_view place.now) (reverse m.old.values.items) })) halt m.new) }
+    ensures { IfOk result (λ halt. Matches (go_on (todos m.old.tasks.items)
+        (record (state_of m.old) { values = keep (place_view place.now) (reverse m.old.values.items) })) halt m.new) }
 {
     let old = take(&mut m.values);
     match place {

@@ -1,5 +1,6 @@
 // Calls of the API.
-ghost use Rattle.std.specs.Prelude.{◌≡◌, ◌<◌, [], drop, length, map, reverse, slice_get, IfOk, OnOk, MatchOption, None, Some};
+ghost use Rattle.std.specs.Prelude.{◌≡◌, ◌<◌, [], drop, length, map, reverse, slice_get, IfOk, OnOk, MatchOption, None};
+ghost use Rattle.std.specs.Prelude.{Some};
 ghost use Rattle.pungi_resolved.specs.ValueView.{value_view};
 ghost use Rattle.pungi_world.specs.Calls.{is_defined_form};
 ghost use Rattle.pungi_meaning.specs.Exprs.{call as call_step, next_arg};
@@ -55,7 +56,8 @@ fn call(
     shape: &Shape,
     count: usize,
 ) -> Result<Option<Ending>, Memory>
-    ensures { IfOk result (λ halt. Matches (call_step choices.now pos shape.now.row count (todos m.old.tasks.items) (state_of m.old)) halt m.new) }
+    ensures { IfOk result (λ halt. Matches (call_step choices.now pos shape.now.row count (todos m.old.tasks.items)
+        (state_of m.old)) halt m.new) }
 {
     if !is_defined_form(shape.row.form) {
         return Ok(Some(Ending::Stop(pos)));
@@ -79,7 +81,8 @@ fn call(
 
 /// The argument at this place, if there is one.
 fn arg_at<'a>(args: &'a [Node], i: usize) -> Option<&'a Node>
-    ensures { MatchOption result (slice_get args.now i ≡ None) (λ a. (slice_get args.now i ≡ Some a.now) × (i < length args.now)) }
+    ensures { MatchOption result (slice_get args.now i ≡ None) (λ a. (slice_get args.now i ≡ Some a.now)
+        × (i < length args.now)) }
 {
     if i < args.len() { Some(&args[i]) } else { None }
 }
@@ -94,7 +97,8 @@ fn go_on<'a>(
     arg: &'a Node,
 ) -> Result<Option<Ending>, Memory>
     requires { i < length args.now }
-    ensures { IfOk result (λ halt. Matches (next_arg [] pos shape.now.row (map value_view args.now) i (Some (value_view arg.now)) (todos m.old.tasks.items) (state_of m.old)) halt m.new) }
+    ensures { IfOk result (λ halt. Matches (next_arg [] pos shape.now.row (map value_view args.now) i
+        (Some (value_view arg.now)) (todos m.old.tasks.items) (state_of m.old)) halt m.new) }
 {
     evaluate_then(m, Task::Args(pos, shape, args, i + 1), arg)
 }
@@ -110,7 +114,8 @@ pub fn next_arg<'a>(
     args: &'a [Node],
     i: usize,
 ) -> Result<Option<Ending>, Memory>
-    ensures { IfOk result (λ halt. Matches (next_arg choices.now pos shape.now.row (map value_view args.now) i (slice_get (map value_view args.now) i) (todos m.old.tasks.items) (state_of m.old)) halt m.new) }
+    ensures { IfOk result (λ halt. Matches (next_arg choices.now pos shape.now.row (map value_view args.now) i
+        (slice_get (map value_view args.now) i) (todos m.old.tasks.items) (state_of m.old)) halt m.new) }
 {
     match arg_at(args, i) {
         Some(arg) => go_on(m, pos, shape, args, i, arg),

@@ -16,7 +16,8 @@ use std::marker::Model;
 /// How far the counts of a world may be from 0. No run that ends in a lifetime comes so far.
 const MOST: u64 = 1 << 60;
 
-/// A world with a bound on its counts, and few objects and slots, so that they can be counted. After a fault it is empty.
+/// A world with a bound on its counts, and few objects and slots, so that they can be counted. After a fault it is
+/// empty.
 #[derive(Drop)]
 pub struct CountedWorld {
     world: World,

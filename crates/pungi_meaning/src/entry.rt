@@ -69,8 +69,8 @@ fn fit_params(objects: u32, params: &[Option<ValueKind>], args: &[Value]) -> boo
     true
 }
 
-/// Whether an entry fits a function: one value of the right kind and range for each parameter, at least as many objects as
-/// the file has statics and fewer than 2^31, and no object beyond them.
+/// Whether an entry fits a function: one value of the right kind and range for each parameter, at least as many objects
+/// as the file has statics and fewer than 2^31, and no object beyond them.
 pub fn entry_ok(f: &Function, statics: u32, entry: &Entry) -> bool
     ensures { result ≡ entry_fits f.now.params statics entry.now }
 {

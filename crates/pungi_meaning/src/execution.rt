@@ -86,7 +86,8 @@ fn go(
     choices: &[Choice],
     fuel: u32,
 ) -> Result<Option<Ending>, Memory>
-    ensures { IfOk result (λ ending. end_after ending m.new ≡ (run_from choices.now fuel (todos m.old.tasks.items) (state_of m.old)).end) }
+    ensures { IfOk result (λ ending. end_after ending m.new
+        ≡ (run_from choices.now fuel (todos m.old.tasks.items) (state_of m.old)).end) }
 {
     for i in 0..fuel {
         if let Some(ending) = step(m, alloc, choices)? {
@@ -104,7 +105,10 @@ fn do_body<'a>(
     choices: &[Choice],
     fuel: u32,
 ) -> Result<Option<Ending>, Memory>
-    ensures { IfOk result (λ ending. end_after ending m.new ≡ (run_from choices.now fuel (ToExec (action_view f.now.body) ∷ ToEnd (closing_brace (action_view f.now.body)) (is_void f.now.result) ∷ todos m.old.tasks.items) (state_of m.old)).end) }
+    ensures { IfOk result (λ ending. end_after ending m.new
+        ≡ (run_from choices.now fuel (ToExec (action_view f.now.body)
+        ∷ ToEnd (closing_brace (action_view f.now.body)) (is_void f.now.result) ∷ todos m.old.tasks.items)
+        (state_of m.old)).end) }
 {
     do_first(m, Task::End(closing_brace(&f.body), is_void(f.result)))?;
     do_first(m, Task::Exec(&f.body))?;
@@ -137,7 +141,8 @@ pub fn run(
     choices: &[Choice],
     fuel: u32,
 ) -> Result<Outcome, Memory>
-    ensures end { IfOk result (λ outcome. end_of outcome ≡ (run_of (function_view f.now) entry.now choices.now fuel).end) }
+    ensures end { IfOk result (λ outcome. end_of outcome
+        ≡ (run_of (function_view f.now) entry.now choices.now fuel).end) }
     ensures counted { IfOk result (λ outcome. IsCounted outcome) }
 {
     let mut m = begin(alloc, f, entry)?;

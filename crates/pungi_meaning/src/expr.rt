@@ -5,7 +5,8 @@ ghost use Rattle.pungi_types.specs.Operators.{is_same_kind};
 ghost use Rattle.pungi_meaning.specs.Todo.{ToArgs, ToCompute, ToEval, ToOld, ToStore, listed_values};
 ghost use Rattle.pungi_meaning.specs.Machine.{todo_of, todos, state_of, Matches};
 ghost use Rattle.pungi_meaning.specs.Work.{push_value};
-ghost use Rattle.pungi_meaning.specs.Exprs.{base_first, convert, sign, step, is_and, step_op, evaluate, fetch, step_place};
+ghost use Rattle.pungi_meaning.specs.Exprs.{base_first, convert, sign, step, is_and, step_op, evaluate, fetch};
+ghost use Rattle.pungi_meaning.specs.Exprs.{step_place};
 
 use crate::machine::{Ending, Machine};
 use crate::slot::load_old;
@@ -79,7 +80,8 @@ pub fn evaluate_then<'a>(
     part: &'a Node,
 ) -> Result<Option<Ending>, Memory>
     ensures goes { IfOk result (λ halt. halt ≡ None) }
-    ensures todos { OnOk result (todos m.new.tasks.items ≡ ToEval (value_view part.now) ∷ todo_of then.entry ∷ todos m.old.tasks.items) }
+    ensures todos { OnOk result (todos m.new.tasks.items
+        ≡ ToEval (value_view part.now) ∷ todo_of then.entry ∷ todos m.old.tasks.items) }
     ensures state { OnOk result (state_of m.new ≡ state_of m.old) }
 {
     do_first(m, then)?;
@@ -94,7 +96,8 @@ fn evaluate_two_then<'a>(
     right: &'a Node,
 ) -> Result<Option<Ending>, Memory>
     ensures goes { IfOk result (λ halt. halt ≡ None) }
-    ensures todos { OnOk result (todos m.new.tasks.items ≡ ToEval (value_view left.now) ∷ ToEval (value_view right.now) ∷ todo_of then.entry ∷ todos m.old.tasks.items) }
+    ensures todos { OnOk result (todos m.new.tasks.items
+        ≡ ToEval (value_view left.now) ∷ ToEval (value_view right.now) ∷ todo_of then.entry ∷ todos m.old.tasks.items) }
     ensures state { OnOk result (state_of m.new ≡ state_of m.old) }
 {
     evaluate_then(m, then, right)?;
@@ -108,7 +111,8 @@ fn push_and_evaluate<'a>(
     then: Task<'a>,
     part: &'a Node,
 ) -> Result<Option<Ending>, Memory>
-    ensures { IfOk result (λ halt. Matches (push_value value (ToEval (value_view part.now) ∷ todo_of then.entry ∷ todos m.old.tasks.items) (state_of m.old)) halt m.new) }
+    ensures { IfOk result (λ halt. Matches (push_value value (ToEval (value_view part.now) ∷ todo_of then.entry
+        ∷ todos m.old.tasks.items) (state_of m.old)) halt m.new) }
 {
     m.values.push(value)?;
     evaluate_then(m, then, part)
@@ -117,7 +121,8 @@ fn push_and_evaluate<'a>(
 /// The base of a field comes first.
 fn base_first<'a>(m: &mut Machine<'a>, place: &'a Place) -> Result<Option<Ending>, Memory>
     ensures goes { IfOk result (λ halt. halt ≡ None) }
-    ensures todos { OnOk result (todos m.new.tasks.items ≡ base_first (place_view place.now) (todos m.old.tasks.items)) }
+    ensures todos { OnOk result (todos m.new.tasks.items
+        ≡ base_first (place_view place.now) (todos m.old.tasks.items)) }
     ensures state { OnOk result (state_of m.new ≡ state_of m.old) }
 {
     match place {
@@ -153,7 +158,8 @@ fn evaluate_signed<'a>(
     part: &'a Node,
 ) -> Result<Option<Ending>, Memory>
     ensures goes { IfOk result (λ halt. halt ≡ None) }
-    ensures todos { OnOk result (todos m.new.tasks.items ≡ ToEval (value_view part.now) ∷ sign pos mark kind (todos m.old.tasks.items)) }
+    ensures todos { OnOk result (todos m.new.tasks.items
+        ≡ ToEval (value_view part.now) ∷ sign pos mark kind (todos m.old.tasks.items)) }
     ensures state { OnOk result (state_of m.new ≡ state_of m.old) }
 {
     match mark {
@@ -170,7 +176,8 @@ fn fetch<'a>(
     kind: ValueKind,
     place: &'a Place,
 ) -> Result<Option<Ending>, Memory>
-    ensures { IfOk result (λ halt. Matches (fetch choices.now kind (place_view place.now) (todos m.old.tasks.items) (state_of m.old)) halt m.new) }
+    ensures { IfOk result (λ halt. Matches (fetch choices.now kind (place_view place.now) (todos m.old.tasks.items)
+        (state_of m.old)) halt m.new) }
 {
     match place {
         Place::Field(pos, base, tag, field) => {
@@ -189,7 +196,8 @@ fn step<'a>(
     place: &'a Place,
 ) -> Result<Option<Ending>, Memory>
     ensures goes { IfOk result (λ halt. halt ≡ None) }
-    ensures todos { OnOk result (todos m.new.tasks.items ≡ step pos mark kind (place_view place.now) (todos m.old.tasks.items)) }
+    ensures todos { OnOk result (todos m.new.tasks.items
+        ≡ step pos mark kind (place_view place.now) (todos m.old.tasks.items)) }
     ensures state { OnOk result (state_of m.new ≡ state_of m.old) }
 {
     do_first(m, Task::Store(kind, place))?;
@@ -204,7 +212,8 @@ fn look_first<'a>(
     place: &'a Place,
 ) -> Result<Option<Ending>, Memory>
     ensures goes { IfOk result (λ halt. halt ≡ None) }
-    ensures todos { OnOk result (todos m.new.tasks.items ≡ base_first (place_view place.now) (ToOld kind (place_view place.now) ∷ todos m.old.tasks.items)) }
+    ensures todos { OnOk result (todos m.new.tasks.items
+        ≡ base_first (place_view place.now) (ToOld kind (place_view place.now) ∷ todos m.old.tasks.items)) }
     ensures state { OnOk result (state_of m.new ≡ state_of m.old) }
 {
     do_first(m, Task::Old(kind, place))?;
@@ -220,7 +229,8 @@ fn step_place<'a>(
     kind: ValueKind,
     place: &'a Place,
 ) -> Result<Option<Ending>, Memory>
-    ensures { IfOk result (λ halt. Matches (step_place is_postfix pos mark kind (place_view place.now) (todos m.old.tasks.items) (state_of m.old)) halt m.new) }
+    ensures { IfOk result (λ halt. Matches (step_place is_postfix pos mark kind (place_view place.now)
+        (todos m.old.tasks.items) (state_of m.old)) halt m.new) }
 {
     if is_postfix {
         m.values.push(Value::Int(0))?;
@@ -241,7 +251,9 @@ fn assign<'a>(
     part: &'a Node,
 ) -> Result<Option<Ending>, Memory>
     ensures goes { IfOk result (λ halt. halt ≡ None) }
-    ensures todos { OnOk result (todos m.new.tasks.items ≡ base_first (place_view place.now) (ToEval (value_view part.now) ∷ ToStore kind (place_view place.now) ∷ todos m.old.tasks.items)) }
+    ensures todos { OnOk result (todos m.new.tasks.items
+        ≡ base_first (place_view place.now) (ToEval (value_view part.now) ∷ ToStore kind (place_view place.now)
+        ∷ todos m.old.tasks.items)) }
     ensures state { OnOk result (state_of m.new ≡ state_of m.old) }
 {
     evaluate_then(m, Task::Store(kind, place), part)?;
@@ -259,7 +271,10 @@ fn update<'a>(
     part: &'a Node,
 ) -> Result<Option<Ending>, Memory>
     ensures goes { IfOk result (λ halt. halt ≡ None) }
-    ensures todos { OnOk result (todos m.new.tasks.items ≡ base_first (place_view place.now) (ToOld kind (place_view place.now) ∷ ToEval (value_view part.now) ∷ ToCompute pos op counted ∷ convert pos kind counted (ToStore kind (place_view place.now) ∷ todos m.old.tasks.items))) }
+    ensures todos { OnOk result (todos m.new.tasks.items
+        ≡ base_first (place_view place.now) (ToOld kind (place_view place.now) ∷ ToEval (value_view part.now)
+        ∷ ToCompute pos op counted ∷ convert pos kind counted (ToStore kind (place_view place.now)
+        ∷ todos m.old.tasks.items))) }
     ensures state { OnOk result (state_of m.new ≡ state_of m.old) }
 {
     do_first(m, Task::Store(kind, place))?;
@@ -276,7 +291,8 @@ fn prepare<'a>(
     args: &'a [Node],
 ) -> Result<Option<Ending>, Memory>
     ensures goes { IfOk result (λ halt. halt ≡ None) }
-    ensures todos { OnOk result (todos m.new.tasks.items ≡ ToArgs pos shape.now.row (listed_values (values_of (map value_view args.now))) 0 ∷ todos m.old.tasks.items) }
+    ensures todos { OnOk result (todos m.new.tasks.items
+        ≡ ToArgs pos shape.now.row (listed_values (values_of (map value_view args.now))) 0 ∷ todos m.old.tasks.items) }
     ensures state { OnOk result (state_of m.new ≡ state_of m.old) }
 {
     do_first(m, Task::Args(pos, shape, args, 0))
@@ -289,7 +305,8 @@ pub fn evaluate<'a>(
     choices: &[Choice],
     node: &'a Node,
 ) -> Result<Option<Ending>, Memory>
-    ensures { IfOk result (λ halt. Matches (evaluate choices.now (value_view node.now) (todos m.old.tasks.items) (state_of m.old)) halt m.new) }
+    ensures { IfOk result (λ halt. Matches (evaluate choices.now (value_view node.now) (todos m.old.tasks.items)
+        (state_of m.old)) halt m.new) }
 {
     match &node.node {
         ValueNode::Constant(n) => push_value(m, Value::Int(*n)),

@@ -36,7 +36,8 @@ fn load_slot(
     kind: ValueKind,
     slot: Slot,
 ) -> Result<Option<Ending>, Memory>
-    ensures { IfOk result (λ halt. Matches (load_slot choices.now pos kind slot (todos m.old.tasks.items) (state_of m.old)) halt m.new) }
+    ensures { IfOk result (λ halt. Matches (load_slot choices.now pos kind slot (todos m.old.tasks.items)
+        (state_of m.old)) halt m.new) }
 {
     let rest = unused(choices, m.used.len());
     match m.world.load(alloc, slot, slot_kind(kind), rest) {
@@ -64,7 +65,8 @@ pub fn load_field(
     tag: Name,
     field: Name,
 ) -> Result<Option<Ending>, Memory>
-    ensures { IfOk result (λ halt. Matches (load_field choices.now pos kind base tag field (todos m.old.tasks.items) (state_of m.old)) halt m.new) }
+    ensures { IfOk result (λ halt. Matches (load_field choices.now pos kind base tag field (todos m.old.tasks.items)
+        (state_of m.old)) halt m.new) }
 {
     match base {
         Value::Object(object) => {
@@ -83,7 +85,8 @@ pub fn load_old(
     kind: ValueKind,
     place: &Place,
 ) -> Result<Option<Ending>, Memory>
-    ensures { IfOk result (λ halt. Matches (load_old choices.now kind (place_view place.now) (todos m.old.tasks.items) (state_of m.old)) halt m.new) }
+    ensures { IfOk result (λ halt. Matches (load_old choices.now kind (place_view place.now)
+        (todos m.old.tasks.items) (state_of m.old)) halt m.new) }
 {
     match place {
         Place::Local(pos, local) => match content_at(&m.locals, *local) {
@@ -113,7 +116,8 @@ fn store_slot(
     slot: Slot,
     value: Value,
 ) -> Result<Option<Ending>, Memory>
-    ensures { IfOk result (λ halt. Matches (store_slot choices.now pos kind slot value (reverse m.old.values.items) (todos m.old.tasks.items) (state_of m.old)) halt m.new) }
+    ensures { IfOk result (λ halt. Matches (store_slot choices.now pos kind slot value (reverse m.old.values.items)
+        (todos m.old.tasks.items) (state_of m.old)) halt m.new) }
 {
     let rest = unused(choices, m.used.len());
     match m.world.store(alloc, slot, slot_kind(kind), value, rest) {
@@ -136,7 +140,8 @@ pub fn store(
     kind: ValueKind,
     place: &Place,
 ) -> Result<Option<Ending>, Memory>
-    ensures { IfOk result (λ halt. Matches (store choices.now kind (place_view place.now) (todos m.old.tasks.items) (state_of m.old)) halt m.new) }
+    ensures { IfOk result (λ halt. Matches (store choices.now kind (place_view place.now) (todos m.old.tasks.items)
+        (state_of m.old)) halt m.new) }
 {
     match place {
         Place::Local(_, local) => {

@@ -1,5 +1,6 @@
 // One step.
-ghost use Rattle.std.specs.Prelude.{◌≡◌, ◌<◌, ◌∷◌, [], IfOk, MatchOption, None, Some, length, map, option_map, reverse, slice_get};
+ghost use Rattle.std.specs.Prelude.{◌≡◌, ◌<◌, ◌∷◌, [], IfOk, MatchOption, None, Some, length, map, option_map, reverse};
+ghost use Rattle.std.specs.Prelude.{slice_get};
 ghost use Rattle.pungi_resolved.specs.ValueView.{value_view};
 ghost use Rattle.pungi_resolved.specs.ActionView.{action_view};
 ghost use Rattle.pungi_meaning.specs.Machine.{loop_of, todo_of, todos, state_of, Matches};
@@ -23,7 +24,8 @@ use std::alloc::Global;
 
 /// The statement at this place of a block, if there is one.
 fn action_at<'a>(list: &'a [Action], i: usize) -> Option<&'a Action>
-    ensures { MatchOption result (slice_get list.now i ≡ None) (λ a. (slice_get list.now i ≡ Some a.now) × (i < length list.now)) }
+    ensures { MatchOption result (slice_get list.now i ≡ None) (λ a. (slice_get list.now i ≡ Some a.now)
+        × (i < length list.now)) }
 {
     if i < list.len() { Some(&list[i]) } else { None }
 }
@@ -36,7 +38,8 @@ fn go_on<'a>(
     action: &'a Action,
 ) -> Result<Option<Ending>, Memory>
     requires { i < length list.now }
-    ensures { IfOk result (λ halt. Matches (next_stmt (map action_view list.now) i (Some (action_view action.now)) (todos m.old.tasks.items) (state_of m.old)) halt m.new) }
+    ensures { IfOk result (λ halt. Matches (next_stmt (map action_view list.now) i (Some (action_view action.now))
+        (todos m.old.tasks.items) (state_of m.old)) halt m.new) }
 {
     body_first(m, Task::Rest(list, i + 1), action)
 }
@@ -48,7 +51,8 @@ fn next_stmt<'a>(
     list: &'a [Action],
     i: usize,
 ) -> Result<Option<Ending>, Memory>
-    ensures { IfOk result (λ halt. Matches (next_stmt (map action_view list.now) i (slice_get (map action_view list.now) i) (todos m.old.tasks.items) (state_of m.old)) halt m.new) }
+    ensures { IfOk result (λ halt. Matches (next_stmt (map action_view list.now) i
+        (slice_get (map action_view list.now) i) (todos m.old.tasks.items) (state_of m.old)) halt m.new) }
 {
     match action_at(list, i) {
         Some(action) => go_on(m, list, i, action),
@@ -58,7 +62,8 @@ fn next_stmt<'a>(
 
 /// One of two values.
 fn pick<'a>(m: &mut Machine<'a>, part: &'a Node, other: &'a Node) -> Result<Option<Ending>, Memory>
-    ensures { IfOk result (λ halt. Matches (act [] (ToPick (value_view part.now) (value_view other.now) ∷ todos m.old.tasks.items) (state_of m.old)) halt m.new) }
+    ensures { IfOk result (λ halt. Matches (act [] (ToPick (value_view part.now) (value_view other.now)
+        ∷ todos m.old.tasks.items) (state_of m.old)) halt m.new) }
 {
     if is_true(take(&mut m.values)) {
         evaluate_then(m, Task::Join, part)
@@ -73,7 +78,8 @@ fn choose<'a>(
     part: &'a Action,
     other: Option<&'a Action>,
 ) -> Result<Option<Ending>, Memory>
-    ensures { IfOk result (λ halt. Matches (act [] (ToChoose (action_view part.now) (option_map (λ b. action_view b.now) other.entry) ∷ todos m.old.tasks.items) (state_of m.old)) halt m.new) }
+    ensures { IfOk result (λ halt. Matches (act [] (ToChoose (action_view part.now)
+        (option_map (λ b. action_view b.now) other.entry) ∷ todos m.old.tasks.items) (state_of m.old)) halt m.new) }
 {
     if is_true(take(&mut m.values)) {
         return body_first(m, Task::Join, part);
@@ -86,7 +92,8 @@ fn choose<'a>(
 
 /// The body of a loop, where its test holds.
 fn turn<'a>(m: &mut Machine<'a>, turns: Turns<'a>) -> Result<Option<Ending>, Memory>
-    ensures { IfOk result (λ halt. Matches (act [] (ToTurn (loop_of turns.entry) ∷ todos m.old.tasks.items) (state_of m.old)) halt m.new) }
+    ensures { IfOk result (λ halt. Matches (act [] (ToTurn (loop_of turns.entry) ∷ todos m.old.tasks.items)
+        (state_of m.old)) halt m.new) }
 {
     if is_true(take(&mut m.values)) {
         body_first(m, Task::Again(turns), turns.body)
@@ -97,7 +104,8 @@ fn turn<'a>(m: &mut Machine<'a>, turns: Turns<'a>) -> Result<Option<Ending>, Mem
 
 /// What a loop does after its body, and then its next turn.
 fn turn_again<'a>(m: &mut Machine<'a>, turns: Turns<'a>) -> Result<Option<Ending>, Memory>
-    ensures { IfOk result (λ halt. Matches (act [] (ToAgain (loop_of turns.entry) ∷ todos m.old.tasks.items) (state_of m.old)) halt m.new) }
+    ensures { IfOk result (λ halt. Matches (act [] (ToAgain (loop_of turns.entry) ∷ todos m.old.tasks.items)
+        (state_of m.old)) halt m.new) }
 {
     do_first(m, Task::Back(turns))?;
     evaluate_first(m, turns.increment)
@@ -118,7 +126,8 @@ fn operate<'a>(
     choices: &[Choice],
     task: Task<'a>,
 ) -> Result<Option<Ending>, Memory>
-    ensures { IfOk result (λ halt. Matches (act choices.now (todo_of task.entry ∷ todos m.old.tasks.items) (state_of m.old)) halt m.new) }
+    ensures { IfOk result (λ halt. Matches (act choices.now (todo_of task.entry ∷ todos m.old.tasks.items)
+        (state_of m.old)) halt m.new) }
 {
     match task {
         Task::Eval(node) => evaluate(m, alloc, choices, node),

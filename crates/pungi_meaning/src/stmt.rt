@@ -3,7 +3,8 @@ ghost use Rattle.std.specs.Prelude.{◌≡◌, ◌∷◌, IfOk, OnOk, map, optio
 ghost use Rattle.pungi_resolved.specs.ValueView.{value_view, optional_view};
 ghost use Rattle.pungi_resolved.specs.ActionView.{action_view, actions_of, declared_view};
 ghost use Rattle.pungi_meaning.specs.Machine.{loop_of, todo_of, todos, state_of, Matches};
-ghost use Rattle.pungi_meaning.specs.Stmts.{evaluate_first, test_loop, declare_next, bears_case, is_default, first_from, target, enter_at, switch, execute};
+ghost use Rattle.pungi_meaning.specs.Stmts.{evaluate_first, test_loop, declare_next, bears_case, is_default};
+ghost use Rattle.pungi_meaning.specs.Stmts.{first_from, target, enter_at, switch, execute};
 ghost use Rattle.pungi_meaning.specs.Todo.{ToExec, ToDeclare, ToRest, ToTest, listed};
 ghost use Rattle.pungi_meaning.specs.Jumps.{a_loop};
 ghost use Rattle.pungi_meaning.specs.Work.{below, action_locals, block_locals, unset_locals};
@@ -76,7 +77,8 @@ pub fn evaluate_first<'a>(
     first: Option<&'a Node>,
 ) -> Result<Option<Ending>, Memory>
     ensures goes { IfOk result (λ halt. halt ≡ None) }
-    ensures todos { OnOk result (todos m.new.tasks.items ≡ evaluate_first (option_map (λ v. value_view v.now) first.entry) (todos m.old.tasks.items)) }
+    ensures todos { OnOk result (todos m.new.tasks.items
+        ≡ evaluate_first (option_map (λ v. value_view v.now) first.entry) (todos m.old.tasks.items)) }
     ensures state { OnOk result (state_of m.new ≡ state_of m.old) }
 {
     match first {
@@ -92,7 +94,8 @@ pub fn body_first<'a>(
     body: &'a Action,
 ) -> Result<Option<Ending>, Memory>
     ensures goes { IfOk result (λ halt. halt ≡ None) }
-    ensures todos { OnOk result (todos m.new.tasks.items ≡ ToExec (action_view body.now) ∷ todo_of then.entry ∷ todos m.old.tasks.items) }
+    ensures todos { OnOk result (todos m.new.tasks.items
+        ≡ ToExec (action_view body.now) ∷ todo_of then.entry ∷ todos m.old.tasks.items) }
     ensures state { OnOk result (state_of m.new ≡ state_of m.old) }
 {
     do_first(m, then)?;
@@ -116,7 +119,8 @@ pub fn declare_next<'a>(
     m: &mut Machine<'a>,
     list: &'a [DeclaredLocal],
 ) -> Result<Option<Ending>, Memory>
-    ensures { IfOk result (λ halt. Matches (declare_next (map declared_view list.now) (todos m.old.tasks.items) (state_of m.old)) halt m.new) }
+    ensures { IfOk result (λ halt. Matches (declare_next (map declared_view list.now) (todos m.old.tasks.items)
+        (state_of m.old)) halt m.new) }
 {
     let Some((reached, rest)) = list.split_first() else {
         return Ok(None);
@@ -198,7 +202,8 @@ fn enter_at<'a>(
     place: Option<usize>,
 ) -> Result<Option<Ending>, Memory>
     ensures goes { IfOk result (λ halt. halt ≡ None) }
-    ensures todos { OnOk result (todos m.new.tasks.items ≡ enter_at (map action_view list.now) place (todos m.old.tasks.items)) }
+    ensures todos { OnOk result (todos m.new.tasks.items
+        ≡ enter_at (map action_view list.now) place (todos m.old.tasks.items)) }
     ensures state { OnOk result (state_of m.new ≡ state_of m.old) }
 {
     match place {
@@ -217,7 +222,9 @@ fn to_case<'a>(
     list: &'a [Action],
 ) -> Result<Option<Ending>, Memory>
     ensures goes { IfOk result (λ halt. halt ≡ None) }
-    ensures todos { OnOk result (todos m.new.tasks.items ≡ enter_at (listed (actions_of (map action_view list.now))) (target value (listed (actions_of (map action_view list.now)))) (todos m.old.tasks.items)) }
+    ensures todos { OnOk result (todos m.new.tasks.items
+        ≡ enter_at (listed (actions_of (map action_view list.now))) (target value
+        (listed (actions_of (map action_view list.now)))) (todos m.old.tasks.items)) }
     ensures state { OnOk result (state_of m.new ≡ state_of m.old) }
 {
     enter_at(m, list, target(value, list))
@@ -230,8 +237,15 @@ fn switch_block<'a>(
     list: &'a [Action],
 ) -> Result<Option<Ending>, Memory>
     ensures goes { IfOk result (λ halt. halt ≡ None) }
-    ensures todos { OnOk result (todos m.new.tasks.items ≡ enter_at (listed (actions_of (map action_view list.now))) (target value (listed (actions_of (map action_view list.now)))) (todos m.old.tasks.items)) }
-    ensures state { OnOk result (state_of m.new ≡ record (state_of m.old) { locals = unset_locals (block_locals (listed (actions_of (map action_view list.now)))) (state_of m.old).locals; values = below (state_of m.old).values }) }
+    ensures todos { OnOk result (todos m.new.tasks.items
+        ≡ enter_at (listed (actions_of (map action_view list.now))) (target value
+        (listed (actions_of (map action_view list.now)))) (todos m.old.tasks.items)) }
+    ensures state { OnOk result (state_of m.new ≡ record (state_of m.old) {
+      locals = unset_locals
+          (block_locals (listed (actions_of (map action_view list.now)))) (state_of m.old).locals;
+      values = below
+          (state_of m.old).values;
+    }) }
 {
     take(&mut m.values);
     unset_block_locals(&mut m.locals, list);
@@ -245,7 +259,8 @@ pub fn switch<'a>(
     value: Value,
     body: &'a Action,
 ) -> Result<Option<Ending>, Memory>
-    ensures { IfOk result (λ halt. Matches (switch pos value (action_view body.now) (todos m.old.tasks.items) (state_of m.old)) halt m.new) }
+    ensures { IfOk result (λ halt. Matches (switch pos value (action_view body.now) (todos m.old.tasks.items)
+        (state_of m.old)) halt m.new) }
 {
     match &body.node {
         ActionNode::Block(list, _) => switch_block(m, value, list),
@@ -259,7 +274,8 @@ pub fn switch<'a>(
 /// All statements of a block come first.
 fn all_of<'a>(m: &mut Machine<'a>, list: &'a [Action]) -> Result<Option<Ending>, Memory>
     ensures goes { IfOk result (λ halt. halt ≡ None) }
-    ensures todos { OnOk result (todos m.new.tasks.items ≡ ToRest (listed (actions_of (map action_view list.now))) 0 ∷ todos m.old.tasks.items) }
+    ensures todos { OnOk result (todos m.new.tasks.items
+        ≡ ToRest (listed (actions_of (map action_view list.now))) 0 ∷ todos m.old.tasks.items) }
     ensures state { OnOk result (state_of m.new ≡ state_of m.old) }
 {
     do_first(m, Task::Rest(list, 0))
@@ -268,8 +284,12 @@ fn all_of<'a>(m: &mut Machine<'a>, list: &'a [Action]) -> Result<Option<Ending>,
 /// A block is entered: its locals hold nothing.
 fn enter_block<'a>(m: &mut Machine<'a>, list: &'a [Action]) -> Result<Option<Ending>, Memory>
     ensures goes { IfOk result (λ halt. halt ≡ None) }
-    ensures todos { OnOk result (todos m.new.tasks.items ≡ ToRest (listed (actions_of (map action_view list.now))) 0 ∷ todos m.old.tasks.items) }
-    ensures state { OnOk result (state_of m.new ≡ record (state_of m.old) { locals = unset_locals (block_locals (listed (actions_of (map action_view list.now)))) (state_of m.old).locals }) }
+    ensures todos { OnOk result (todos m.new.tasks.items
+        ≡ ToRest (listed (actions_of (map action_view list.now))) 0 ∷ todos m.old.tasks.items) }
+    ensures state { OnOk result (state_of m.new ≡ record (state_of m.old) {
+      locals = unset_locals
+          (block_locals (listed (actions_of (map action_view list.now)))) (state_of m.old).locals;
+    }) }
 {
     unset_block_locals(&mut m.locals, list);
     all_of(m, list)
@@ -283,8 +303,13 @@ fn begin_for<'a>(
     turns: Turns<'a>,
 ) -> Result<Option<Ending>, Memory>
     ensures goes { IfOk result (λ halt. halt ≡ None) }
-    ensures todos { OnOk result (todos m.new.tasks.items ≡ ToDeclare (map declared_view list.now) ∷ evaluate_first (option_map (λ v. value_view v.now) first.entry) (ToTest (loop_of turns.entry) ∷ todos m.old.tasks.items)) }
-    ensures state { OnOk result (state_of m.new ≡ record (state_of m.old) { locals = unset_locals (map declared_view list.now) (state_of m.old).locals }) }
+    ensures todos { OnOk result (todos m.new.tasks.items
+        ≡ ToDeclare (map declared_view list.now) ∷ evaluate_first (option_map (λ v. value_view v.now) first.entry)
+        (ToTest (loop_of turns.entry) ∷ todos m.old.tasks.items)) }
+    ensures state { OnOk result (state_of m.new ≡ record (state_of m.old) {
+      locals = unset_locals
+          (map declared_view list.now) (state_of m.old).locals;
+    }) }
 {
     unset_locals(&mut m.locals, list);
     do_first(m, Task::Test(turns))?;
@@ -305,7 +330,8 @@ pub fn simple_loop<'a>(test: &'a Node, body: &'a Action) -> Turns<'a>
 
 /// A statement is done, or leaves its parts and its remainder.
 pub fn execute<'a>(m: &mut Machine<'a>, action: &'a Action) -> Result<Option<Ending>, Memory>
-    ensures { IfOk result (λ halt. Matches (execute (action_view action.now) (todos m.old.tasks.items) (state_of m.old)) halt m.new) }
+    ensures { IfOk result (λ halt. Matches (execute (action_view action.now) (todos m.old.tasks.items)
+        (state_of m.old)) halt m.new) }
 {
     match &action.node {
         ActionNode::Block(list, _) => enter_block(m, list),

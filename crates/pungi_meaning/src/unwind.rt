@@ -19,8 +19,11 @@ fn enter_before<'a>(
     part: &'a Action,
     then: Task<'a>,
 ) -> Result<bool, Memory>
-    ensures found { IfOk result (λ found. found ≡ is_some (enter label (action_view part.now) (todo_of then.entry ∷ todos tasks.old.items))) }
-    ensures tasks { OnOk result (todos tasks.new.items ≡ found_or (enter label (action_view part.now) (todo_of then.entry ∷ todos tasks.old.items)) (todos tasks.old.items)) }
+    ensures found { IfOk result (λ found. found ≡ is_some (enter label (action_view part.now)
+        (todo_of then.entry ∷ todos tasks.old.items))) }
+    ensures tasks { OnOk result (todos tasks.new.items
+        ≡ found_or (enter label (action_view part.now) (todo_of then.entry ∷ todos tasks.old.items))
+        (todos tasks.old.items)) }
 {
     push_task(tasks, then)?;
     let found = enter(tasks, label, part)?;
@@ -33,8 +36,10 @@ fn enter_before<'a>(
 /// What remains of a statement from a label on. A label in an inner block isn't found.
 #[cycle(entering)]
 fn enter<'a>(tasks: &mut Vec<Task<'a>>, label: Name, action: &'a Action) -> Result<bool, Memory>
-    ensures found { IfOk result (λ found. found ≡ is_some (enter label (action_view action.now) (todos tasks.old.items))) }
-    ensures tasks { OnOk result (todos tasks.new.items ≡ found_or (enter label (action_view action.now) (todos tasks.old.items)) (todos tasks.old.items)) }
+    ensures found { IfOk result (λ found. found ≡ is_some (enter label (action_view action.now)
+        (todos tasks.old.items))) }
+    ensures tasks { OnOk result (todos tasks.new.items
+        ≡ found_or (enter label (action_view action.now) (todos tasks.old.items)) (todos tasks.old.items)) }
 {
     match &action.node {
         ActionNode::Label(name, part) => {
@@ -79,8 +84,11 @@ fn enter_block<'a>(
     label: Name,
     block: &'a [Action],
 ) -> Result<bool, Memory>
-    ensures found { IfOk result (λ found. found ≡ is_some (enter_among label (map action_view block.now) 0 (map action_view block.now) (todos tasks.old.items))) }
-    ensures tasks { OnOk result (todos tasks.new.items ≡ found_or (enter_among label (map action_view block.now) 0 (map action_view block.now) (todos tasks.old.items)) (todos tasks.old.items)) }
+    ensures found { IfOk result (λ found. found ≡ is_some (enter_among label (map action_view block.now) 0
+        (map action_view block.now) (todos tasks.old.items))) }
+    ensures tasks { OnOk result (todos tasks.new.items
+        ≡ found_or (enter_among label (map action_view block.now) 0 (map action_view block.now)
+        (todos tasks.old.items)) (todos tasks.old.items)) }
 {
     for (i, action) in block.iter().enumerate() {
         if enter_before(tasks, label, action, Task::Rest(block, i + 1))? {

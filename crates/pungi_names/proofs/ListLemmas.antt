@@ -1,5 +1,6 @@
 -- What is put under a word, where a list is gone through and the first of each word counts.
-use Rattle.std.proofs.Common.{◌≡◌, ℕ, ◌==◌, Bool, true, false, ◌||◌, cond, Option, None, Some, option_map, is_some, refl, sym, ap, ◌∙◌, arith}
+use Rattle.std.proofs.Common.{◌≡◌, ℕ, ◌==◌, Bool, true, false, ◌||◌, cond, Option, None, Some, option_map, is_some}
+use Rattle.std.proofs.Common.{refl, sym, ap, ◌∙◌, arith}
 use Rattle.std.proofs.lemmas.Bool.Decides.{nat_tests}
 use Rattle.pungi_names.specs.First.{or_first}
 use Rattle.pungi_names.proofs.DepthLemmas.{same_word}
@@ -52,7 +53,8 @@ pub first-new : {V : Type 0} (find found : ℕ → Option V) (word : ℕ) (v : V
     → (w : ℕ) → found w ≡ or_first (find w) (cond (word == w) (Some v) None)
 first-new find found word v none put w = put w ∙ at (word == w) refl (find w) refl
   where
-    at : (b : Bool) → (word == w) ≡ b → (o : Option _) → find w ≡ o → cond b (Some v) o ≡ or_first o (cond b (Some v) None)
+    at : (b : Bool) → (word == w) ≡ b → (o : Option _) → find w ≡ o
+        → cond b (Some v) o ≡ or_first o (cond b (Some v) None)
     at false e None f = refl
     at false e (Some x) f = refl
     at true e None f = refl

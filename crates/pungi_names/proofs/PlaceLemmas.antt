@@ -1,5 +1,6 @@
 -- The place of a word in a list.
-use Rattle.std.proofs.Common.{◌≡◌, ℕ, zero, suc, ◌+◌, ◌==◌, ◌≤◌, Bool, true, false, not, cond, List, [], ◌∷◌, ◌++◌, length, take, slice_get, add-one, None, Some, refl, ap, sym, ◌∙◌, arith, nat_eq}
+use Rattle.std.proofs.Common.{◌≡◌, ℕ, zero, suc, ◌+◌, ◌==◌, ◌≤◌, Bool, true, false, not, cond, List, [], ◌∷◌, ◌++◌}
+use Rattle.std.proofs.Common.{length, take, slice_get, add-one, None, Some, refl, ap, sym, ◌∙◌, arith, nat_eq}
 use Rattle.std.specs.Prelude.{nat_lt, position}
 use Rattle.std.specs.List.{position_or_len}
 use Rattle.std.specs.Option.{option_to_list}
@@ -35,7 +36,8 @@ place-some xs w i e = at (nat_lt (position_or_len (nat_eq w) xs) (length xs)) e 
 pub place-none : (xs : List ℕ) (w : ℕ) → None ≡ position (nat_eq w) xs → length xs ≡ place_among xs w
 place-none xs w e = at (nat_lt (position_or_len (nat_eq w) xs) (length xs)) refl e ∙ sym (place-found xs w)
   where
-    at : (b : Bool) → nat_lt (position_or_len (nat_eq w) xs) (length xs) ≡ b → None ≡ cond b (Some (position_or_len (nat_eq w) xs)) None
+    at : (b : Bool) → nat_lt (position_or_len (nat_eq w) xs) (length xs) ≡ b
+        → None ≡ cond b (Some (position_or_len (nat_eq w) xs)) None
         → length xs ≡ position_or_len (nat_eq w) xs
     at true f e = absurd cc
     at false f e =
@@ -49,4 +51,5 @@ take-more zero [] = refl
 take-more zero (x ∷ xs) = refl
 take-more (suc n) [] = rw add-one refl
 take-more (suc n) (x ∷ xs) =
-    ap (λ k. take k (x ∷ xs)) (add-one (suc n)) ∙ ap (λ ys. x ∷ ys) (ap (λ k. take k xs) (sym (add-one n)) ∙ take-more n xs)
+    ap (λ k. take k (x ∷ xs)) (add-one (suc n)) ∙ ap (λ ys. x ∷ ys) (ap (λ k. take k xs) (sym (add-one n))
+    ∙ take-more n xs)

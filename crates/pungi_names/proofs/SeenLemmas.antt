@@ -2,7 +2,9 @@
 use Rattle.std.proofs.Common.{◌≡◌, ℕ, Option, None, Some, option_map, is_some, refl, ap, List}
 use Rattle.pungi_api.specs.declared.row.Row.{Row}
 use Rattle.pungi_tree.specs.Syntax.{Item}
-use Rattle.pungi_types.specs.Exprs.{Callee, no_word, a_value, defined, a_row, no_function, wants, result_kind, is_value_called, takes_arguments, is_unknown_call, row_or, value_or_none, defined_or}
+use Rattle.pungi_types.specs.Exprs.{Callee, no_word, a_value, defined, a_row, no_function, wants, result_kind}
+use Rattle.pungi_types.specs.Exprs.{is_value_called, takes_arguments, is_unknown_call, row_or, value_or_none}
+use Rattle.pungi_types.specs.Exprs.{defined_or}
 use Rattle.pungi_types.specs.Files.{Definition}
 use Rattle.pungi_types.specs.Names.{Env, is_some_definition}
 use Rattle.pungi_types.specs.Standing.{row_called, is_defined}
@@ -42,7 +44,8 @@ module _ (env : Env) where
   takes-seen (a_row r) = refl
   takes-seen no_function = refl
 
-  pub unknown-seen : (c : Callee) → s.is_unknown_seen env.self env.refused (seen env.file.items c) ≡ is_unknown_call env c
+  pub unknown-seen : (c : Callee) → s.is_unknown_seen env.self env.refused (seen env.file.items c)
+      ≡ is_unknown_call env c
   unknown-seen no_word = refl
   unknown-seen a_value = refl
   unknown-seen (defined d) = refl
@@ -63,7 +66,8 @@ module _ (env : Env) where
   defined-seen (a_row r) = refl
   defined-seen no_function = refl
 
-pub none-seen : {A B C : Type 0} (f : A → C) (g : B → C) (o : Option A) (p : Option B) → option_map f o ≡ option_map g p → is_some o ≡ is_some p
+pub none-seen : {A B C : Type 0} (f : A → C) (g : B → C) (o : Option A) (p : Option B)
+    → option_map f o ≡ option_map g p → is_some o ≡ is_some p
 none-seen f g None None e = refl
 none-seen f g (Some x) (Some y) e = refl
 none-seen f g None (Some y) e = absurd cc
@@ -74,22 +78,26 @@ same-definition None = refl
 same-definition (Some d) = refl
 
 -- what is seen where a row is looked for
-pub row-there : (file : List Item) (w : ℕ) (r : Row) (ws : List Want) (o : Option Row) → Some (r, ws) ≡ option_map row_seen o
+pub row-there : (file : List Item) (w : ℕ) (r : Row) (ws : List Want) (o : Option Row)
+    → Some (r, ws) ≡ option_map row_seen o
     → s.row_called r ws ≡ seen file (row_or file w o)
 row-there file w r ws (Some q) e = let same : (r, ws) ≡ row_seen q = cc in ap (λ p. s.row_called p.0 p.1) same
 row-there file w r ws None e = absurd cc
 
-pub row-missing : (file : List Item) (w : ℕ) (o : Option Row) → None ≡ option_map row_seen o → seen file (value_or_none file w) ≡ seen file (row_or file w o)
+pub row-missing : (file : List Item) (w : ℕ) (o : Option Row) → None ≡ option_map row_seen o
+    → seen file (value_or_none file w) ≡ seen file (row_or file w o)
 row-missing file w None e = refl
 row-missing file w (Some q) e = absurd cc
 
 -- and where a function is
-pub definition-there : (env : Env) (w : ℕ) (x : ℕ × (List Want × Option ValueKind)) (o : Option Definition) → Some x ≡ option_map (function_signature env.file.items) o
+pub definition-there : (env : Env) (w : ℕ) (x : ℕ × (List Want × Option ValueKind)) (o : Option Definition)
+    → Some x ≡ option_map (function_signature env.file.items) o
     → defined_called x ≡ seen env.file.items (defined_or env w o)
 definition-there env w x (Some d) e = let same : x ≡ function_signature env.file.items d = cc in ap defined_called same
 definition-there env w x None e = absurd cc
 
-pub definition-missing : (env : Env) (w : ℕ) (o : Option Definition) → None ≡ option_map (function_signature env.file.items) o
+pub definition-missing : (env : Env) (w : ℕ) (o : Option Definition)
+    → None ≡ option_map (function_signature env.file.items) o
     → seen env.file.items (defined_or env w None) ≡ seen env.file.items (defined_or env w o)
 definition-missing env w None e = refl
 definition-missing env w (Some d) e = absurd cc

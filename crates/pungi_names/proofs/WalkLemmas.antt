@@ -8,7 +8,8 @@ use Rattle.pungi_names.specs.declared.step.TypedefTarget.{TypedefTarget}
 use Rattle.pungi_names.proofs.DepthLemmas.{same_word}
 
 -- one word more is found, with what it reaches
-pub kept : (step : ℕ → ℕ → Followed) (find found : ℕ → Option TypedefTarget) (w : ℕ) (r : TypedefTarget) → Reaches step w (reached_view r)
+pub kept : (step : ℕ → ℕ → Followed) (find found : ℕ → Option TypedefTarget) (w : ℕ) (r : TypedefTarget)
+    → Reaches step w (reached_view r)
     → AllReach step (λ q. option_map reached_view (find q)) → ((q : ℕ) → found q ≡ cond (w == q) (Some r) (find q))
     → AllReach step (λ q. option_map reached_view (found q))
 kept step find found w r reach all put q =

@@ -17,7 +17,8 @@
 use Rattle.std.specs.Prelude.{◌≡◌, ℕ, zero, suc, ◌+◌, nat_le, Bool, ◌&&◌, not, Option, Some, None, List, if◌then◌else◌}
 use Rattle.pungi_base.specs.declared.names.Name.{Name}
 use Rattle.pungi_tree.specs.Syntax.{Base, alias, tagged_fields, Item}
-use Rattle.pungi_types.specs.Kinds.{Core, base_words, builtin, struct_of, no_core, Followed, core_alone, core_at, written_core, is_struct}
+use Rattle.pungi_types.specs.Kinds.{Core, base_words, builtin, struct_of, no_core, Followed, core_alone, core_at}
+use Rattle.pungi_types.specs.Kinds.{written_core, is_struct}
 
 pub record TypedefTarget : Type 0 where
   pub depth : ℕ

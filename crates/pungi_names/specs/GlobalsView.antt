@@ -8,4 +8,5 @@ use Rattle.pungi_types.specs.Names.{is_table}
 use Rattle.pungi_types.specs.declared.kind.ValueKind.{ValueKind}
 
 abbrev pub global_else : List Item → Variable → ℕ → Option ValueKind → Option ValueKind
-global_else file v w r = (if (declr_name v.declr).0 == w && not (is_table file v) then declared_kind file v.spec v.declr else r)
+global_else file v w r =
+    (if (declr_name v.declr).0 == w && not (is_table file v) then declared_kind file v.spec v.declr else r)

@@ -6,7 +6,8 @@
 use Rattle.std.specs.Prelude.{ℕ, ◌==◌, Bool, true, false, ◌&&◌, not, List, [], Option, Some, None, if◌then◌else◌}
 use Rattle.pungi_api.specs.declared.row.Row.{Row}
 use Rattle.pungi_tree.specs.Syntax.{Item}
-use Rattle.pungi_types.specs.Exprs.{Callee, no_word, a_value, defined, a_row, no_function, params_wants, row_wants, row_kind}
+use Rattle.pungi_types.specs.Exprs.{Callee, no_word, a_value, defined, a_row, no_function, params_wants, row_wants}
+use Rattle.pungi_types.specs.Exprs.{row_kind}
 use Rattle.pungi_types.specs.Kinds.{type_kind, spec_base}
 use Rattle.pungi_types.specs.Names.{is_among}
 use Rattle.pungi_types.specs.declared.kind.ValueKind.{ValueKind}
@@ -22,7 +23,8 @@ pub data Seen : Type 0 where
 abbrev pub seen : List Item → Callee → Seen
 seen file no_word = other_called
 seen file a_value = value_called
-seen file (defined d) = defined_called (d.name.0, (params_wants file d.params, type_kind file (spec_base d.result) d.stars))
+seen file (defined d) =
+    defined_called (d.name.0, (params_wants file d.params, type_kind file (spec_base d.result) d.stars))
 seen file (a_row r) = row_called r (row_wants r.form r.params)
 seen file no_function = nothing_called
 

@@ -3,10 +3,12 @@
 --   kept_or o r         what is kept, or else this
 --   first_declr b ds    the first field of those that are declared together
 --   field_head file f   whether a line of fields is the head of an object, where it declares a field
---   head_kept file o, typedef_head file o    whether a struct begins with the head of an object, where there is one; of a typedef of a struct without a tag
+--   head_kept file o, typedef_head file o    whether a struct begins with the head of an object, where there is one; of
+--                                            a typedef of a struct without a tag
 --   typedef_fields o    the fields of the struct without a tag that a typedef writes
 --   field_or file f w r the kind of a field of this name among those of a line, or else this
---   fields_kept file o w, typedef_kept file o w    the kind of a field of this name, where there is such a struct or typedef
+--   fields_kept file o w, typedef_kept file o w    the kind of a field of this name, where there is such a struct or
+--                                                  typedef
 use Rattle.std.specs.Prelude.{ℕ, Bool, List, Option, Some, None, map, Vec}
 use Rattle.std.specs.declared.alloc.Global.{Global}
 use Rattle.pungi_tree.specs.ExprView.{field_view, fields_of}
@@ -14,7 +16,8 @@ use Rattle.pungi_tree.specs.Syntax as plain
 use Rattle.pungi_tree.specs.Syntax.{Base, Declrs, no_declrs, declr_and, empty, members, Fields, Item}
 use Rattle.pungi_tree.specs.declared.spec.Field.{Field}
 use Rattle.pungi_types.specs.Files.{Typedef}
-use Rattle.pungi_types.specs.Kinds.{Member, is_head, begins_with_head, untagged_fields, spec_base, member_kind, declr_named, field_in, field_in_some}
+use Rattle.pungi_types.specs.Kinds.{Member, is_head, begins_with_head, untagged_fields, spec_base, member_kind}
+use Rattle.pungi_types.specs.Kinds.{declr_named, field_in, field_in_some}
 use Rattle.pungi_types.specs.declared.kind.ValueKind.{ValueKind}
 
 abbrev pub fields_list : Vec Field Global → Fields

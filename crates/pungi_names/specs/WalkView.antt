@@ -12,4 +12,6 @@ abbrev pub one_more : ℕ → TypedefTarget → TypedefTarget
 one_more k r = record { depth = r.depth + 1; at = more_stars k r.at }
 
 abbrev pub IsWalk : (ℕ → ℕ → Followed) → ℕ → Walk → Type 0
-IsWalk step s k = IsPath step s (reverse k.path.items) k.at × EndsAt step (reverse k.path.items) k.at (option_map reached_view k.end)
+IsWalk step s k =
+    IsPath step s (reverse k.path.items) k.at
+    × EndsAt step (reverse k.path.items) k.at (option_map reached_view k.end)

@@ -1,6 +1,7 @@
 // What is called.
 ghost use Rattle.std.specs.Prelude.{◌≡◌, ◌==◌, ◌&&◌, not, option_map};
-ghost use Rattle.pungi_names.specs.SeenCalls.{wants_seen, result_seen, is_value_seen, takes_seen, is_unknown_seen, row_of_seen, is_defined_seen, is_refused_seen};
+ghost use Rattle.pungi_names.specs.SeenCalls.{wants_seen, result_seen, is_value_seen, takes_seen, is_unknown_seen};
+ghost use Rattle.pungi_names.specs.SeenCalls.{row_of_seen, is_defined_seen, is_refused_seen};
 ghost use Rattle.pungi_names.specs.CalledView.{called_view};
 ghost use Rattle.pungi_types.specs.Exprs.{answer_kind, special_kind, row_kind};
 ghost use Rattle.pungi_types.specs.Names.{is_among};

@@ -31,7 +31,9 @@ pub(crate) struct Cores<'u> {
     /// How many typedefs the file has.
     pub(crate) count: usize,
     pub(crate) ghost tags_found: { FindsTags (contains nat_eq tags) (unit_view unit.now) },
-    pub(crate) ghost followed: { (w : ℕ) → is_listed_type w ≡ false → found_within (option_map reached_view (get nat_eq reached w)) count ≡ known (core_of (unit_view unit.now) (word_base w)) },
+    pub(crate) ghost followed: { (w : ℕ) → is_listed_type w ≡ false
+        → found_within (option_map reached_view (get nat_eq reached w)) count
+        ≡ known (core_of (unit_view unit.now) (word_base w)) },
 }
 
 impl<'u> Cores<'u> {

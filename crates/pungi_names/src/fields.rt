@@ -1,5 +1,6 @@
 // The kinds of the fields of structs.
-ghost use Rattle.std.specs.Prelude.{◌≡◌, ℕ, ◌==◌, ◌&&◌, nat_eq, map, option_map, Option, Some, None, OnOk, IfOk, if◌then◌else◌};
+ghost use Rattle.std.specs.Prelude.{◌≡◌, ℕ, ◌==◌, ◌&&◌, nat_eq, map, option_map, Option, Some, None, OnOk, IfOk};
+ghost use Rattle.std.specs.Prelude.{if◌then◌else◌};
 ghost use Rattle.indexmap.specs.IndexMap.{get, IsEmpty};
 ghost use Rattle.pungi_declared.specs.DeclaredView.{tag_view};
 ghost use Rattle.pungi_names.specs.First.{or_first};
@@ -8,7 +9,8 @@ ghost use Rattle.pungi_names.specs.StructsView.{fields_list, field_or, fields_ke
 ghost use Rattle.pungi_tree.specs.ExprView.{base_view, declr_view, declrs_of, field_view, spec_view};
 ghost use Rattle.pungi_tree.specs.UnitView.{unit_view};
 ghost use Rattle.pungi_types.specs.Files.{typedefs as typedefs_of};
-ghost use Rattle.pungi_types.specs.Kinds.{field_in, field_in_some, member_kind, declr_named, untagged_fields, is_struct, tag_is, tagged_in, typedef_in, struct_fields};
+ghost use Rattle.pungi_types.specs.Kinds.{field_in, field_in_some, member_kind, declr_named, untagged_fields};
+ghost use Rattle.pungi_types.specs.Kinds.{is_struct, tag_is, tagged_in, typedef_in, struct_fields};
 ghost use Rattle.pungi_types.specs.Tags.{tags as tags_of};
 ghost use Rattle.pungi_types.specs.TypesView.{typedef_view};
 ghost use Rattle.pungi_types.specs.declared.kind.ValueKind.{ValueKind as Kind};
@@ -30,7 +32,10 @@ fn note_declrs(
     spec: &Spec,
     declrs: &Vec<Declr>,
 ) -> Result<(), Memory>
-    ensures { OnOk result ((w : ℕ) (r : Option Kind) → kept_or (get nat_eq fields.new w) r ≡ kept_or (get nat_eq fields.old w) (member_kind (unit_view kinds.now.cores.unit.now) (spec_view spec.now) (declr_named (declrs_of (map declr_view declrs.now.items)) w) r)) }
+    ensures { OnOk result ((w : ℕ) (r : Option Kind)
+        → kept_or (get nat_eq fields.new w) r ≡ kept_or (get nat_eq fields.old w)
+        (member_kind (unit_view kinds.now.cores.unit.now) (spec_view spec.now)
+        (declr_named (declrs_of (map declr_view declrs.now.items)) w) r)) }
 {
     for declr in declrs {
         keep_first(fields, declr.name.0, kinds.declared_kind(spec, declr))?;
@@ -44,7 +49,9 @@ fn note_field(
     fields: &mut IndexMap<u32, Option<ValueKind>>,
     field: &Field,
 ) -> Result<(), Memory>
-    ensures { OnOk result ((w : ℕ) (r : Option Kind) → kept_or (get nat_eq fields.new w) r ≡ kept_or (get nat_eq fields.old w) (field_or (unit_view kinds.now.cores.unit.now) (field_view field.now) w r)) }
+    ensures { OnOk result ((w : ℕ) (r : Option Kind)
+        → kept_or (get nat_eq fields.new w) r ≡ kept_or (get nat_eq fields.old w)
+        (field_or (unit_view kinds.now.cores.unit.now) (field_view field.now) w r)) }
 {
     match field {
         Field::Empty => Ok(()),
@@ -62,7 +69,8 @@ fn note_fields(
     found: &mut IndexMap<u32, Option<ValueKind>>,
     fields: &Vec<Field>,
 ) -> Result<(), Memory>
-    ensures { OnOk result ((w : ℕ) → kept_or (get nat_eq found.new w) None ≡ kept_or (get nat_eq found.old w) (field_in (unit_view kinds.now.cores.unit.now) (fields_list fields.now) w)) }
+    ensures { OnOk result ((w : ℕ) → kept_or (get nat_eq found.new w) None
+        ≡ kept_or (get nat_eq found.old w) (field_in (unit_view kinds.now.cores.unit.now) (fields_list fields.now) w)) }
 {
     for field in fields {
         note_field(kinds, found, field)?;
@@ -75,7 +83,8 @@ fn field_kinds(
     kinds: &Kinds,
     fields: &Vec<Field>,
 ) -> Result<IndexMap<u32, Option<ValueKind>>, Memory>
-    ensures { IfOk result (λ found. (w : ℕ) → kind_in w found ≡ field_in (unit_view kinds.now.cores.unit.now) (fields_list fields.now) w) }
+    ensures { IfOk result (λ found. (w : ℕ) → kind_in w found
+        ≡ field_in (unit_view kinds.now.cores.unit.now) (fields_list fields.now) w) }
 {
     let mut found = IndexMap::new(alloc);
     note_fields(kinds, &mut found, fields)?;
@@ -88,7 +97,10 @@ fn note_tag(
     structs: &mut IndexMap<u32, IndexMap<u32, Option<ValueKind>>>,
     tag: &Tag,
 ) -> Result<(), Memory>
-    ensures { OnOk result ((s : ℕ) (w : ℕ) → option_map (kind_in w) (get nat_eq structs.new s) ≡ or_first (option_map (kind_in w) (get nat_eq structs.old s)) (fields_kept (unit_view kinds.now.cores.unit.now) (if is_struct tag.now.of && tag_is tag.now.tag s then Some (tag_view tag.now).fields else None) w)) }
+    ensures { OnOk result ((s : ℕ) (w : ℕ) → option_map (kind_in w) (get nat_eq structs.new s)
+        ≡ or_first (option_map (kind_in w) (get nat_eq structs.old s)) (fields_kept
+        (unit_view kinds.now.cores.unit.now) (if is_struct tag.now.of
+        && tag_is tag.now.tag s then Some (tag_view tag.now).fields else None) w)) }
 {
     if let (Key::Struct, Some((name, _))) = (tag.of, tag.tag) {
         let found = field_kinds(alloc, kinds, tag.fields)?;
@@ -103,7 +115,9 @@ fn note_tags(
     structs: &mut IndexMap<u32, IndexMap<u32, Option<ValueKind>>>,
     tags: &Vec<Tag>,
 ) -> Result<(), Memory>
-    ensures { OnOk result ((s : ℕ) (w : ℕ) → option_map (kind_in w) (get nat_eq structs.new s) ≡ or_first (option_map (kind_in w) (get nat_eq structs.old s)) (fields_kept (unit_view kinds.now.cores.unit.now) (tagged_in (map tag_view tags.now.items) s) w)) }
+    ensures { OnOk result ((s : ℕ) (w : ℕ) → option_map (kind_in w) (get nat_eq structs.new s)
+        ≡ or_first (option_map (kind_in w) (get nat_eq structs.old s)) (fields_kept
+        (unit_view kinds.now.cores.unit.now) (tagged_in (map tag_view tags.now.items) s) w)) }
 {
     for tag in tags {
         note_tag(alloc, kinds, structs, tag)?;
@@ -117,7 +131,9 @@ fn untagged_head_kinds(
     of: Key,
     fields: &Vec<Field>,
 ) -> Result<IndexMap<u32, Option<ValueKind>>, Memory>
-    ensures { IfOk result (λ found. (w : ℕ) → kind_in w found ≡ field_in_some (unit_view kinds.now.cores.unit.now) (if is_struct of then Some (fields_list fields.now) else None) w) }
+    ensures { IfOk result (λ found. (w : ℕ) → kind_in w found
+        ≡ field_in_some (unit_view kinds.now.cores.unit.now) (if is_struct of then Some (fields_list fields.now) else
+        None) w) }
 {
     match of {
         Key::Struct => field_kinds(alloc, kinds, fields),
@@ -132,7 +148,8 @@ fn untagged_kinds(
     kinds: &Kinds,
     base: &Base,
 ) -> Result<IndexMap<u32, Option<ValueKind>>, Memory>
-    ensures { IfOk result (λ found. (w : ℕ) → kind_in w found ≡ field_in_some (unit_view kinds.now.cores.unit.now) (untagged_fields (base_view base.now)) w) }
+    ensures { IfOk result (λ found. (w : ℕ) → kind_in w found
+        ≡ field_in_some (unit_view kinds.now.cores.unit.now) (untagged_fields (base_view base.now)) w) }
 {
     match base {
         Base::Tagged {
@@ -167,7 +184,10 @@ fn note_typedef(
     structs: &mut IndexMap<u32, IndexMap<u32, Option<ValueKind>>>,
     found: &Typedef,
 ) -> Result<(), Memory>
-    ensures { OnOk result ((s : ℕ) (w : ℕ) → option_map (kind_in w) (get nat_eq structs.new s) ≡ or_first (option_map (kind_in w) (get nat_eq structs.old s)) (typedef_kept (unit_view kinds.now.cores.unit.now) (if found.now.name.0 == s then Some (typedef_view found.now) else None) w)) }
+    ensures { OnOk result ((s : ℕ) (w : ℕ) → option_map (kind_in w) (get nat_eq structs.new s)
+        ≡ or_first (option_map (kind_in w) (get nat_eq structs.old s)) (typedef_kept
+        (unit_view kinds.now.cores.unit.now) (if found.now.name.0 == s then Some (typedef_view found.now) else None)
+        w)) }
 {
     let fields = untagged_kinds(alloc, kinds, &found.spec.base)?;
     keep_first(structs, found.name.0, fields)?;
@@ -180,7 +200,9 @@ fn note_typedefs(
     structs: &mut IndexMap<u32, IndexMap<u32, Option<ValueKind>>>,
     typedefs: &Vec<Typedef>,
 ) -> Result<(), Memory>
-    ensures { OnOk result ((s : ℕ) (w : ℕ) → option_map (kind_in w) (get nat_eq structs.new s) ≡ or_first (option_map (kind_in w) (get nat_eq structs.old s)) (typedef_kept (unit_view kinds.now.cores.unit.now) (typedef_in (map typedef_view typedefs.now.items) s) w)) }
+    ensures { OnOk result ((s : ℕ) (w : ℕ) → option_map (kind_in w) (get nat_eq structs.new s)
+        ≡ or_first (option_map (kind_in w) (get nat_eq structs.old s)) (typedef_kept
+        (unit_view kinds.now.cores.unit.now) (typedef_in (map typedef_view typedefs.now.items) s) w)) }
 {
     for found in typedefs {
         note_typedef(alloc, kinds, structs, found)?;
@@ -199,7 +221,8 @@ pub(crate) fn note_structs(
     requires typedefs { map typedef_view typedefs.now.items ≡ typedefs_of (unit_view kinds.now.cores.unit.now) }
     requires tags { map tag_view tags.now.items ≡ tags_of (unit_view kinds.now.cores.unit.now) }
     requires empty { IsEmpty structs.old }
-    ensures { OnOk result ((s : ℕ) (w : ℕ) → kept_or (option_map (kind_in w) (get nat_eq structs.new s)) None ≡ field_in_some (unit_view kinds.now.cores.unit.now) (struct_fields (unit_view kinds.now.cores.unit.now) s) w) }
+    ensures { OnOk result ((s : ℕ) (w : ℕ) → kept_or (option_map (kind_in w) (get nat_eq structs.new s)) None
+        ≡ field_in_some (unit_view kinds.now.cores.unit.now) (struct_fields (unit_view kinds.now.cores.unit.now) s) w) }
 {
     note_tags(alloc, kinds, structs, tags)?;
     note_typedefs(alloc, kinds, structs, typedefs)?;

@@ -11,7 +11,8 @@ pub(crate) fn keep_first<V: Drop>(
     word: u32,
     value: V,
 ) -> Result<(), Memory>
-    ensures { OnOk result ((w : ℕ) → get nat_eq map.new w ≡ or_first (get nat_eq map.old w) (if word == w then Some value else None)) }
+    ensures { OnOk result ((w : ℕ) → get nat_eq map.new w
+        ≡ or_first (get nat_eq map.old w) (if word == w then Some value else None)) }
 {
     if !map.contains_key(&word) {
         map.insert(word, value)?;

@@ -24,7 +24,10 @@ pub(crate) fn note_definitions(
     signatures: &mut IndexMap<u32, Signature>,
     functions: &Vec<&FunctionDef>,
 ) -> Result<(), Memory>
-    ensures { OnOk result ((w : ℕ) → option_map signature_view (get nat_eq signatures.new w) ≡ or_first (option_map signature_view (get nat_eq signatures.old w)) (option_map (function_signature (unit_view kinds.now.cores.unit.now)) (definition_in (map function_view functions.now.items) w))) }
+    ensures { OnOk result ((w : ℕ) → option_map signature_view (get nat_eq signatures.new w)
+        ≡ or_first (option_map signature_view (get nat_eq signatures.old w)) (option_map
+        (function_signature (unit_view kinds.now.cores.unit.now)) (definition_in
+        (map function_view functions.now.items) w))) }
 {
     for function in functions {
         let signature = function_signature(alloc, kinds, function)?;
@@ -34,7 +37,8 @@ pub(crate) fn note_definitions(
 }
 
 fn note_place(words: &mut IndexSet<u32>, place: &Place) -> Result<(), Memory>
-    ensures { OnOk result ((w : ℕ) → contains nat_eq words.new w ≡ (contains nat_eq words.old w || place.now.name.0 == w)) }
+    ensures { OnOk result ((w : ℕ) → contains nat_eq words.new w
+        ≡ (contains nat_eq words.old w || place.now.name.0 == w)) }
 {
     words.insert(place.name.0)?;
     Ok(())
@@ -42,7 +46,8 @@ fn note_place(words: &mut IndexSet<u32>, place: &Place) -> Result<(), Memory>
 
 /// Adds the names of prototypes.
 pub(crate) fn note_places(words: &mut IndexSet<u32>, places: &Vec<Place>) -> Result<(), Memory>
-    ensures { OnOk result ((w : ℕ) → contains nat_eq words.new w ≡ (contains nat_eq words.old w || is_place_in (map place_view places.now.items) w)) }
+    ensures { OnOk result ((w : ℕ) → contains nat_eq words.new w
+        ≡ (contains nat_eq words.old w || is_place_in (map place_view places.now.items) w)) }
 {
     for place in places {
         note_place(words, place)?;

@@ -11,7 +11,8 @@ ghost use Rattle.pungi_names.specs.NamesView.{file_of};
 ghost use Rattle.pungi_names.specs.RowsView.{call_view, row_seen};
 ghost use Rattle.pungi_names.specs.StructsView.{kept_or};
 ghost use Rattle.pungi_tree.specs.UnitView.{unit_view};
-ghost use Rattle.pungi_types.specs.Files.{source_file, typedefs as typedefs_of, variables_of, definitions, definition_in, prototypes as prototypes_of, is_place_in};
+ghost use Rattle.pungi_types.specs.Files.{source_file, typedefs as typedefs_of, variables_of, definitions};
+ghost use Rattle.pungi_types.specs.Files.{definition_in, prototypes as prototypes_of, is_place_in};
 ghost use Rattle.pungi_types.specs.Kinds.{field_in_some, struct_fields};
 ghost use Rattle.pungi_types.specs.Names.{global_kind, is_table_name, is_module, type_objects as type_objects_of};
 ghost use Rattle.pungi_types.specs.Tags.{tags as tags_of};
@@ -84,11 +85,17 @@ fn fill_values(
     requires no_tables { IsEmptySet parts.old.tables }
     requires no_modules { IsEmptySet parts.old.modules }
     requires no_type_objects { IsEmptySet parts.old.type_objects }
-    ensures fields { OnOk result ((s : ℕ) (w : ℕ) → kept_or (option_map (kind_in w) (get nat_eq parts.new.fields s)) None ≡ field_in_some (unit_view kinds.now.cores.unit.now) (struct_fields (unit_view kinds.now.cores.unit.now) s) w) }
-    ensures globals { OnOk result ((w : ℕ) → kept_or (get nat_eq parts.new.globals w) None ≡ global_kind (unit_view kinds.now.cores.unit.now) w) }
-    ensures tables { OnOk result ((w : ℕ) → contains nat_eq parts.new.tables w ≡ is_table_name (unit_view kinds.now.cores.unit.now) w) }
-    ensures modules { OnOk result ((w : ℕ) → contains nat_eq parts.new.modules w ≡ is_module (unit_view kinds.now.cores.unit.now) w) }
-    ensures type_objects { OnOk result (parts.new.type_objects.keys ≡ type_objects_of (unit_view kinds.now.cores.unit.now)) }
+    ensures fields { OnOk result ((s : ℕ) (w : ℕ)
+        → kept_or (option_map (kind_in w) (get nat_eq parts.new.fields s)) None
+        ≡ field_in_some (unit_view kinds.now.cores.unit.now) (struct_fields (unit_view kinds.now.cores.unit.now) s) w) }
+    ensures globals { OnOk result ((w : ℕ) → kept_or (get nat_eq parts.new.globals w) None
+        ≡ global_kind (unit_view kinds.now.cores.unit.now) w) }
+    ensures tables { OnOk result ((w : ℕ) → contains nat_eq parts.new.tables w
+        ≡ is_table_name (unit_view kinds.now.cores.unit.now) w) }
+    ensures modules { OnOk result ((w : ℕ) → contains nat_eq parts.new.modules w
+        ≡ is_module (unit_view kinds.now.cores.unit.now) w) }
+    ensures type_objects { OnOk result (parts.new.type_objects.keys
+        ≡ type_objects_of (unit_view kinds.now.cores.unit.now)) }
     ensures few { OnOk result (length parts.new.type_objects.keys + static_count < 2 ^ 32) }
 {
     note_structs(alloc, kinds, &mut parts.fields, typedefs, tags)?;
@@ -191,9 +198,14 @@ fn fill_calls<'u>(
     requires no_prototypes { IsEmptySet parts.old.prototypes }
     requires no_signatures { IsEmpty parts.old.signatures }
     requires no_calls { IsEmpty parts.old.calls }
-    ensures prototypes { OnOk result ((w : ℕ) → contains nat_eq parts.new.prototypes w ≡ is_place_in (prototypes_of (unit_view kinds.now.cores.unit.now)) w) }
-    ensures signatures { OnOk result ((w : ℕ) → option_map signature_view (get nat_eq parts.new.signatures w) ≡ option_map (function_signature (unit_view kinds.now.cores.unit.now)) (definition_in (definitions (unit_view kinds.now.cores.unit.now)) w)) }
-    ensures calls { OnOk result ((w : ℕ) → option_map call_view (get nat_eq parts.new.calls w) ≡ option_map row_seen (row_in rows.now w)) }
+    ensures prototypes { OnOk result ((w : ℕ)
+        → contains nat_eq parts.new.prototypes w ≡ is_place_in (prototypes_of (unit_view kinds.now.cores.unit.now)) w) }
+    ensures signatures { OnOk result ((w : ℕ)
+        → option_map signature_view (get nat_eq parts.new.signatures w)
+        ≡ option_map (function_signature (unit_view kinds.now.cores.unit.now))
+        (definition_in (definitions (unit_view kinds.now.cores.unit.now)) w)) }
+    ensures calls { OnOk result ((w : ℕ) → option_map call_view (get nat_eq parts.new.calls w)
+        ≡ option_map row_seen (row_in rows.now w)) }
 {
     note_prototypes(alloc, unit, &mut parts.prototypes)?;
     note_definitions(alloc, kinds, &mut parts.signatures, functions)?;

@@ -7,7 +7,8 @@ ghost use Rattle.pungi_names.specs.StructsView.{fields_list, first_declr, field_
 ghost use Rattle.pungi_tree.specs.ExprView.{base_view, declr_view, declrs_of, field_view};
 ghost use Rattle.pungi_tree.specs.UnitView.{unit_view};
 ghost use Rattle.pungi_types.specs.Files.{typedefs as typedefs_of};
-ghost use Rattle.pungi_types.specs.Kinds.{begins_with_head, is_head as is_head_of, untagged_fields, is_struct, tag_is, tagged_in, typedef_in, is_object_struct};
+ghost use Rattle.pungi_types.specs.Kinds.{begins_with_head, is_head as is_head_of, untagged_fields, is_struct, tag_is};
+ghost use Rattle.pungi_types.specs.Kinds.{tagged_in, typedef_in, is_object_struct};
 ghost use Rattle.pungi_types.specs.Tags.{tags as tags_of};
 ghost use Rattle.pungi_types.specs.TypesView.{typedef_view};
 
@@ -22,7 +23,8 @@ use pungi_types::Typedef;
 use std::alloc::Global;
 
 fn is_first_head(cores: &Cores, spec: &Spec, declrs: &Vec<Declr>) -> bool
-    ensures { result ≡ is_head_of (unit_view cores.now.unit.now) (first_declr (base_view spec.now.base) (declrs_of (map declr_view declrs.now.items))) }
+    ensures { result ≡ is_head_of (unit_view cores.now.unit.now) (first_declr (base_view spec.now.base)
+        (declrs_of (map declr_view declrs.now.items))) }
 {
     match declrs.as_slice() {
         [] => false,
@@ -52,7 +54,9 @@ fn begins_with_head(cores: &Cores, fields: &Vec<Field>) -> bool
 }
 
 fn note_tag(cores: &Cores, objects: &mut IndexMap<u32, bool>, tag: &Tag) -> Result<(), Memory>
-    ensures { OnOk result ((w : ℕ) → get nat_eq objects.new w ≡ or_first (get nat_eq objects.old w) (head_kept (unit_view cores.now.unit.now) (if is_struct tag.now.of && tag_is tag.now.tag w then Some (tag_view tag.now).fields else None))) }
+    ensures { OnOk result ((w : ℕ) → get nat_eq objects.new w
+        ≡ or_first (get nat_eq objects.old w) (head_kept (unit_view cores.now.unit.now)
+        (if is_struct tag.now.of && tag_is tag.now.tag w then Some (tag_view tag.now).fields else None))) }
 {
     if let (Key::Struct, Some((name, _))) = (tag.of, tag.tag) {
         keep_first(objects, name.0, begins_with_head(cores, tag.fields))?;
@@ -65,7 +69,9 @@ fn note_tags(
     objects: &mut IndexMap<u32, bool>,
     tags: &Vec<Tag>,
 ) -> Result<(), Memory>
-    ensures { OnOk result ((w : ℕ) → get nat_eq objects.new w ≡ or_first (get nat_eq objects.old w) (head_kept (unit_view cores.now.unit.now) (tagged_in (map tag_view tags.now.items) w))) }
+    ensures { OnOk result ((w : ℕ) → get nat_eq objects.new w
+        ≡ or_first (get nat_eq objects.old w) (head_kept (unit_view cores.now.unit.now)
+        (tagged_in (map tag_view tags.now.items) w))) }
 {
     for tag in tags {
         note_tag(cores, objects, tag)?;
@@ -74,7 +80,8 @@ fn note_tags(
 }
 
 fn is_untagged_head(cores: &Cores, of: Key, fields: &Vec<Field>) -> bool
-    ensures { result ≡ begins_with_head (unit_view cores.now.unit.now) (if is_struct of then Some (fields_list fields.now) else None) }
+    ensures { result ≡ begins_with_head (unit_view cores.now.unit.now) (if is_struct of then Some
+        (fields_list fields.now) else None) }
 {
     match of {
         Key::Struct => begins_with_head(cores, fields),
@@ -117,7 +124,9 @@ fn note_typedefs(
     objects: &mut IndexMap<u32, bool>,
     typedefs: &Vec<Typedef>,
 ) -> Result<(), Memory>
-    ensures { OnOk result ((w : ℕ) → get nat_eq objects.new w ≡ or_first (get nat_eq objects.old w) (typedef_head (unit_view cores.now.unit.now) (typedef_in (map typedef_view typedefs.now.items) w))) }
+    ensures { OnOk result ((w : ℕ) → get nat_eq objects.new w
+        ≡ or_first (get nat_eq objects.old w) (typedef_head (unit_view cores.now.unit.now)
+        (typedef_in (map typedef_view typedefs.now.items) w))) }
 {
     for found in typedefs {
         keep_first(
@@ -138,7 +147,8 @@ pub(crate) fn object_structs(
 ) -> Result<IndexMap<u32, bool>, Memory>
     requires typedefs { map typedef_view typedefs.now.items ≡ typedefs_of (unit_view cores.now.unit.now) }
     requires tags { map tag_view tags.now.items ≡ tags_of (unit_view cores.now.unit.now) }
-    ensures { IfOk result (λ objects. (w : ℕ) → kept_or (get nat_eq objects w) false ≡ is_object_struct (unit_view cores.now.unit.now) w) }
+    ensures { IfOk result (λ objects. (w : ℕ)
+        → kept_or (get nat_eq objects w) false ≡ is_object_struct (unit_view cores.now.unit.now) w) }
 {
     let mut objects = IndexMap::new(alloc);
     note_tags(cores, &mut objects, tags)?;

@@ -18,7 +18,8 @@ type Known = Option<ValueKind>;
 pub(crate) struct Kinds<'u> {
     pub(crate) cores: Cores<'u>,
     pub(crate) objects: IndexMap<u32, bool>,
-    pub(crate) ghost objects_found: { (w : ℕ) → kept_or (get nat_eq objects w) false ≡ is_object_struct (unit_view cores.unit.now) w },
+    pub(crate) ghost objects_found: { (w : ℕ)
+        → kept_or (get nat_eq objects w) false ≡ is_object_struct (unit_view cores.unit.now) w },
 }
 
 impl<'u> Kinds<'u> {
@@ -54,7 +55,8 @@ impl<'u> Kinds<'u> {
     }
 
     fn starred_kind(&self, followed: &Followed, stars: usize) -> Known
-        ensures { result ≡ core_kind (unit_view self.now.cores.unit.now) (followed_view followed.now).core ((followed_view followed.now).stars + stars) }
+        ensures { result ≡ core_kind (unit_view self.now.cores.unit.now) (followed_view followed.now).core
+            ((followed_view followed.now).stars + stars) }
     {
         match followed.stars.checked_add(stars) {
             Some(all) => self.followed_kind(followed, all),
@@ -72,7 +74,8 @@ impl<'u> Kinds<'u> {
 
     /// The kind of what is declared. An array, a pointer to a function and `void` have none.
     pub(crate) fn declared_kind(&self, spec: &Spec, declr: &Declr) -> Known
-        ensures { result ≡ declared_kind (unit_view self.now.cores.unit.now) (spec_view spec.now) (declr_view declr.now) }
+        ensures { result ≡ declared_kind (unit_view self.now.cores.unit.now) (spec_view spec.now)
+            (declr_view declr.now) }
     {
         if is_plain(declr) {
             not_void(self.type_kind(spec, declr.stars.len()))
@@ -83,7 +86,8 @@ impl<'u> Kinds<'u> {
 
     /// The kind of a parameter.
     pub(crate) fn param_kind(&self, spec: &Spec, declr: &ParamDeclr) -> Known
-        ensures { result ≡ param_kind (unit_view self.now.cores.unit.now) (spec_view spec.now) (param_declr_view declr.now) }
+        ensures { result ≡ param_kind (unit_view self.now.cores.unit.now) (spec_view spec.now)
+            (param_declr_view declr.now) }
     {
         match declr {
             ParamDeclr::Named(named) => self.declared_kind(spec, named),

@@ -27,9 +27,14 @@ pub struct UnitNames<'u> {
     pub(crate) prototypes: IndexSet<u32>,
     pub(crate) signatures: IndexMap<u32, Signature>,
     pub(crate) calls: IndexMap<u32, RowCall<'u>>,
-    pub(crate) ghost prototypes_found: { (w : ℕ) → contains nat_eq prototypes w ≡ is_place_in (prototypes_of (unit_view values.kinds.cores.unit.now)) w },
-    pub(crate) ghost signatures_found: { (w : ℕ) → option_map signature_view (get nat_eq signatures w) ≡ option_map (function_signature (unit_view values.kinds.cores.unit.now)) (definition_in (definitions (unit_view values.kinds.cores.unit.now)) w) },
-    pub(crate) ghost calls_found: { (w : ℕ) → option_map call_view (get nat_eq calls w) ≡ option_map row_seen (row_in rows.now w) },
+    pub(crate) ghost prototypes_found: { (w : ℕ)
+        → contains nat_eq prototypes w ≡ is_place_in (prototypes_of (unit_view values.kinds.cores.unit.now)) w },
+    pub(crate) ghost signatures_found: { (w : ℕ)
+        → option_map signature_view (get nat_eq signatures w)
+        ≡ option_map (function_signature (unit_view values.kinds.cores.unit.now))
+        (definition_in (definitions (unit_view values.kinds.cores.unit.now)) w) },
+    pub(crate) ghost calls_found: { (w : ℕ) → option_map call_view (get nat_eq calls w)
+        ≡ option_map row_seen (row_in rows.now w) },
 }
 
 /// By hand, so that a function that owns the names lets them go by one call.
@@ -58,11 +63,16 @@ impl<'u> UnitNames<'u> {
     ghost use Rattle.pungi_names.specs.SeenCalls.{seen};
     ghost use Rattle.pungi_tree.specs.ExprView.{spec_view, declr_view};
     ghost use Rattle.pungi_types.specs.Exprs.{row_or, value_or_none};
-    ghost use Rattle.pungi_types.specs.Names.{is_table, is_static, type_objects as type_objects_of, is_function, global_kind, global_or, local_or};
+    ghost use Rattle.pungi_types.specs.Names.{is_table, is_static, type_objects as type_objects_of, is_function};
+    ghost use Rattle.pungi_types.specs.Names.{global_kind, global_or, local_or};
 
     /// Whether what is declared is a table.
     pub fn is_table(&self, spec: &Spec, declr: &Declr) -> bool
-        ensures { result ≡ is_table (file_of self.now).items (record { spec = spec_view spec.now; declr = declr_view declr.now }) }
+        ensures { result ≡ is_table (file_of self.now).items (record {
+          spec = spec_view spec.now;
+          declr = declr_view
+              declr.now;
+        }) }
     {
         is_table(&self.values.kinds.cores, spec, declr)
     }
@@ -102,7 +112,8 @@ impl<'u> UnitNames<'u> {
     }
 
     fn variable_meaning(&self, word: Name) -> Meaning
-        ensures { meaning_view result ≡ global_or (file_of self.now).items word.0 (global_kind (file_of self.now).items word.0) }
+        ensures { meaning_view result ≡ global_or (file_of self.now).items word.0
+            (global_kind (file_of self.now).items word.0) }
     {
         match self.values.global_kind(word) {
             Some(kind) => Meaning::Global(kind),
@@ -132,7 +143,8 @@ impl<'u> UnitNames<'u> {
     }
 
     fn row_called(&self, word: Name) -> Called<'_>
-        ensures { called_view result ≡ seen (file_of self.now).items (row_or (file_of self.now).items word.0 (row_in (file_of self.now).rows word.0)) }
+        ensures { called_view result ≡ seen (file_of self.now).items (row_or (file_of self.now).items word.0
+            (row_in (file_of self.now).rows word.0)) }
     {
         match self.calls.get(&word.0) {
             Some(call) => Called::Row(call.row, call.wants.as_slice()),

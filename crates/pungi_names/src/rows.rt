@@ -1,5 +1,6 @@
 // What calls of the API take and give.
-ghost use Rattle.std.specs.Prelude.{◌≡◌, ◌++◌, ℕ, ◌==◌, ◌∷◌, [], nat_eq, map, option_map, slice_get, Some, None, OnOk, IfOk, if◌then◌else◌};
+ghost use Rattle.std.specs.Prelude.{◌≡◌, ◌++◌, ℕ, ◌==◌, ◌∷◌, [], nat_eq, map, option_map, slice_get, Some, None, OnOk};
+ghost use Rattle.std.specs.Prelude.{IfOk, if◌then◌else◌};
 ghost use Rattle.indexmap.specs.IndexMap.{get, IsEmpty};
 ghost use Rattle.std.specs.Option.{option_to_list};
 ghost use Rattle.pungi_api.specs.Rows.{row_in};
@@ -60,7 +61,8 @@ fn row_wants(alloc: Global, row: &Row) -> Result<Vec<Want>, Memory>
 
 /// Adds the row at a place, if there is one.
 fn put_row<'u>(entries: &mut Vec<(Name, &'u Row)>, rows: &'u Table, at: usize) -> Result<(), Memory>
-    ensures { OnOk result (map entry_view entries.new.items ≡ map entry_view entries.old.items ++ option_to_list (slice_get rows.now at)) }
+    ensures { OnOk result (map entry_view entries.new.items
+        ≡ map entry_view entries.old.items ++ option_to_list (slice_get rows.now at)) }
 {
     if let Some(entry) = rows.entry(at) {
         entries.push(entry)?;
@@ -85,7 +87,9 @@ fn note_row<'u>(
     calls: &mut IndexMap<u32, RowCall<'u>>,
     entry: &(Name, &'u Row),
 ) -> Result<(), Memory>
-    ensures { OnOk result ((w : ℕ) → option_map call_view (get nat_eq calls.new w) ≡ or_first (option_map call_view (get nat_eq calls.old w)) (option_map row_seen (if w == entry.now.0.0 then Some entry.now.1.now else None))) }
+    ensures { OnOk result ((w : ℕ) → option_map call_view (get nat_eq calls.new w)
+        ≡ or_first (option_map call_view (get nat_eq calls.old w)) (option_map row_seen
+        (if w == entry.now.0.0 then Some entry.now.1.now else None))) }
 {
     let row = entry.1;
     let wants = row_wants(alloc, row)?;
@@ -98,7 +102,9 @@ fn note_rows<'u>(
     calls: &mut IndexMap<u32, RowCall<'u>>,
     entries: &Vec<(Name, &'u Row)>,
 ) -> Result<(), Memory>
-    ensures { OnOk result ((w : ℕ) → option_map call_view (get nat_eq calls.new w) ≡ or_first (option_map call_view (get nat_eq calls.old w)) (option_map row_seen (row_in (map entry_view entries.now.items) w))) }
+    ensures { OnOk result ((w : ℕ) → option_map call_view (get nat_eq calls.new w)
+        ≡ or_first (option_map call_view (get nat_eq calls.old w)) (option_map row_seen
+        (row_in (map entry_view entries.now.items) w))) }
 {
     for entry in entries {
         note_row(alloc, calls, entry)?;
@@ -113,7 +119,8 @@ pub(crate) fn note_row_calls<'u>(
     calls: &mut IndexMap<u32, RowCall<'u>>,
 ) -> Result<(), Memory>
     requires { IsEmpty calls.old }
-    ensures { OnOk result ((w : ℕ) → option_map call_view (get nat_eq calls.new w) ≡ option_map row_seen (row_in rows.now w)) }
+    ensures { OnOk result ((w : ℕ) → option_map call_view (get nat_eq calls.new w)
+        ≡ option_map row_seen (row_in rows.now w)) }
 {
     let mut entries = Vec::new(alloc);
     put_rows(&mut entries, rows)?;

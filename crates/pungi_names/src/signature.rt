@@ -30,7 +30,8 @@ fn kind_want(kind: Option<ValueKind>) -> Want
 }
 
 fn put_wants(kinds: &Kinds, wants: &mut Vec<Want>, params: &Vec<ParamDecl>) -> Result<(), Memory>
-    ensures { OnOk result (wants.new.items ≡ wants.old.items ++ param_wants (unit_view kinds.now.cores.unit.now) (param_decls_of (map param_decl_view params.now.items))) }
+    ensures { OnOk result (wants.new.items ≡ wants.old.items
+        ++ param_wants (unit_view kinds.now.cores.unit.now) (param_decls_of (map param_decl_view params.now.items))) }
 {
     for param in params {
         wants.push(kind_want(kinds.param_kind(&param.spec, &param.declr)))?;
@@ -39,7 +40,8 @@ fn put_wants(kinds: &Kinds, wants: &mut Vec<Want>, params: &Vec<ParamDecl>) -> R
 }
 
 fn params_wants(alloc: Global, kinds: &Kinds, params: &Params) -> Result<Vec<Want>, Memory>
-    ensures { IfOk result (λ wants. wants.items ≡ params_wants (unit_view kinds.now.cores.unit.now) (params_view params.now)) }
+    ensures { IfOk result (λ wants. wants.items ≡ params_wants (unit_view kinds.now.cores.unit.now)
+        (params_view params.now)) }
 {
     let mut wants = Vec::new(alloc);
     put_wants(kinds, &mut wants, &params.list)?;
@@ -52,7 +54,8 @@ pub(crate) fn function_signature(
     kinds: &Kinds,
     function: &FunctionDef,
 ) -> Result<Signature, Memory>
-    ensures { IfOk result (λ s. signature_view s ≡ function_signature (unit_view kinds.now.cores.unit.now) (definition_view function.now)) }
+    ensures { IfOk result (λ s. signature_view s ≡ function_signature (unit_view kinds.now.cores.unit.now)
+        (definition_view function.now)) }
 {
     let wants = params_wants(alloc, kinds, &function.params)?;
     Ok(Signature {

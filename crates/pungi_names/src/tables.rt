@@ -9,8 +9,8 @@ ghost use Rattle.pungi_types.specs.TypesView.{core_view};
 use crate::cores::Cores;
 use pungi_base::Name;
 use pungi_base::words::{
-    OB_BASE, PY_GET_SET_DEF, PY_MEMBER_DEF, PY_METHOD_DEF, PY_MODULE_DEF, PY_OBJECT, PY_TYPE_OBJECT,
-    PY_VAR_OBJECT,
+    OB_BASE, PY_GET_SET_DEF, PY_MEMBER_DEF, PY_METHOD_DEF, PY_MODULE_DEF, PY_OBJECT,
+    PY_TYPE_OBJECT, PY_VAR_OBJECT,
 };
 use pungi_tree::{Base, Declr, Spec};
 use pungi_types::{Core, is_no_function, is_plain};
@@ -69,7 +69,8 @@ fn both(first: bool, second: bool) -> bool
 }
 
 fn is_table_base(cores: &Cores, base: &Base, stars: usize) -> bool
-    ensures { result ≡ (((core_of (unit_view cores.now.unit.now) (base_view base.now)).stars + stars) == 0 && is_table_core (core_of (unit_view cores.now.unit.now) (base_view base.now)).core) }
+    ensures { result ≡ (((core_of (unit_view cores.now.unit.now) (base_view base.now)).stars + stars) == 0
+        && is_table_core (core_of (unit_view cores.now.unit.now) (base_view base.now)).core) }
 {
     let followed = cores.core_of(base);
     both(
@@ -79,7 +80,8 @@ fn is_table_base(cores: &Cores, base: &Base, stars: usize) -> bool
 }
 
 fn is_head_base(cores: &Cores, base: &Base, stars: usize) -> bool
-    ensures { result ≡ (((core_of (unit_view cores.now.unit.now) (base_view base.now)).stars + stars) == 0 && is_head_core (core_of (unit_view cores.now.unit.now) (base_view base.now)).core) }
+    ensures { result ≡ (((core_of (unit_view cores.now.unit.now) (base_view base.now)).stars + stars) == 0
+        && is_head_core (core_of (unit_view cores.now.unit.now) (base_view base.now)).core) }
 {
     let followed = cores.core_of(base);
     both(
@@ -98,7 +100,11 @@ fn is_core_base(cores: &Cores, word: Name, base: &Base) -> bool
 /// Whether what is declared is a table.
 #[tactic(auto, using(crate::proofs::SpecLemmas::views))]
 pub(crate) fn is_table(cores: &Cores, spec: &Spec, declr: &Declr) -> bool
-    ensures { result ≡ is_table (unit_view cores.now.unit.now) (record { spec = spec_view spec.now; declr = declr_view declr.now }) }
+    ensures { result ≡ is_table (unit_view cores.now.unit.now) (record {
+      spec = spec_view spec.now;
+      declr
+          = declr_view declr.now;
+    }) }
 {
     is_no_function(declr) && is_table_base(cores, &spec.base, declr.stars.len())
 }
@@ -106,7 +112,8 @@ pub(crate) fn is_table(cores: &Cores, spec: &Spec, declr: &Declr) -> bool
 /// Whether it is a table of this type that is no array.
 #[tactic(auto, using(crate::proofs::SpecLemmas::views))]
 pub(crate) fn is_single(cores: &Cores, word: Name, spec: &Spec, declr: &Declr) -> bool
-    ensures { result ≡ is_single (unit_view cores.now.unit.now) word.0 (record { spec = spec_view spec.now; declr = declr_view declr.now }) }
+    ensures { result ≡ is_single (unit_view cores.now.unit.now) word.0 (record
+        { spec = spec_view spec.now; declr = declr_view declr.now }) }
 {
     is_table(cores, spec, declr) && (is_plain(declr) && is_core_base(cores, word, &spec.base))
 }
@@ -114,7 +121,8 @@ pub(crate) fn is_single(cores: &Cores, word: Name, spec: &Spec, declr: &Declr) -
 /// Whether a field is `PyObject ob_base` or `PyVarObject ob_base`.
 #[tactic(auto, using(crate::proofs::SpecLemmas::views))]
 pub(crate) fn is_head(cores: &Cores, spec: &Spec, declr: &Declr) -> bool
-    ensures { result ≡ is_head (unit_view cores.now.unit.now) (Some (record { base = base_view spec.now.base; declr = declr_view declr.now })) }
+    ensures { result ≡ is_head (unit_view cores.now.unit.now) (Some (record
+        { base = base_view spec.now.base; declr = declr_view declr.now })) }
 {
     declr.name.0 == OB_BASE
         && (is_plain(declr) && is_head_base(cores, &spec.base, declr.stars.len()))

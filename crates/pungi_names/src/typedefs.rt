@@ -28,7 +28,8 @@ fn first_typedefs<'u>(
     alloc: Global,
     typedefs: &Vec<Typedef<'u>>,
 ) -> Result<IndexMap<u32, Typedef<'u>>, Memory>
-    ensures { IfOk result (λ first. (w : ℕ) → option_map typedef_view (get nat_eq first w) ≡ typedef_in (map typedef_view typedefs.now.items) w) }
+    ensures { IfOk result (λ first. (w : ℕ) → option_map typedef_view (get nat_eq first w)
+        ≡ typedef_in (map typedef_view typedefs.now.items) w) }
 {
     let mut first = IndexMap::new(alloc);
     for found in typedefs {
@@ -39,7 +40,8 @@ fn first_typedefs<'u>(
 
 /// Adds the tag of a struct.
 fn note_tag(words: &mut IndexSet<u32>, tag: &Tag) -> Result<(), Memory>
-    ensures { OnOk result ((w : ℕ) → contains nat_eq words.new w ≡ (contains nat_eq words.old w || (is_struct tag.now.of && tag_is tag.now.tag w))) }
+    ensures { OnOk result ((w : ℕ) → contains nat_eq words.new w
+        ≡ (contains nat_eq words.old w || (is_struct tag.now.of && tag_is tag.now.tag w))) }
 {
     if let (Key::Struct, Some((name, _))) = (tag.of, tag.tag) {
         words.insert(name.0)?;
@@ -49,7 +51,8 @@ fn note_tag(words: &mut IndexSet<u32>, tag: &Tag) -> Result<(), Memory>
 
 /// The tags of structs with fields.
 fn struct_tags(alloc: Global, tags: &Vec<Tag>) -> Result<IndexSet<u32>, Memory>
-    ensures { IfOk result (λ words. (w : ℕ) → contains nat_eq words w ≡ is_some (tagged_in (map tag_view tags.now.items) w)) }
+    ensures { IfOk result (λ words. (w : ℕ) → contains nat_eq words w
+        ≡ is_some (tagged_in (map tag_view tags.now.items) w)) }
 {
     let mut words = IndexSet::new(alloc);
     for tag in tags {
@@ -72,9 +75,12 @@ fn reach_word<'u>(
     requires tags { FindsTags (contains nat_eq tags.now) (unit_view unit.now) }
     requires done { AllReach (known_at (unit_view unit.now)) (λ w. option_map reached_view (get nat_eq done.old w)) }
     requires all { AllReach (known_at (unit_view unit.now)) (λ w. option_map reached_view (get nat_eq all.old w)) }
-    ensures done { OnOk result (AllReach (known_at (unit_view unit.now)) (λ w. option_map reached_view (get nat_eq done.new w))) }
-    ensures all { OnOk result (AllReach (known_at (unit_view unit.now)) (λ w. option_map reached_view (get nat_eq all.new w))) }
-    ensures words { OnOk result ((w : ℕ) → is_some (get nat_eq all.new w) ≡ (is_some (get nat_eq all.old w) || word == w)) }
+    ensures done { OnOk result (AllReach (known_at (unit_view unit.now)) (λ w. option_map reached_view
+        (get nat_eq done.new w))) }
+    ensures all { OnOk result (AllReach (known_at (unit_view unit.now)) (λ w. option_map reached_view
+        (get nat_eq all.new w))) }
+    ensures words { OnOk result ((w : ℕ) → is_some (get nat_eq all.new w)
+        ≡ (is_some (get nat_eq all.old w) || word == w)) }
 {
     let reached = follow(alloc, unit, first, tags, done, word)?;
     all.insert(word, reached)?;
@@ -95,8 +101,10 @@ fn reach_words<'u>(
     requires tags { FindsTags (contains nat_eq tags.now) (unit_view unit.now) }
     requires done { AllReach (known_at (unit_view unit.now)) (λ w. option_map reached_view (get nat_eq done.old w)) }
     requires all { AllReach (known_at (unit_view unit.now)) (λ w. option_map reached_view (get nat_eq all.old w)) }
-    ensures all { OnOk result (AllReach (known_at (unit_view unit.now)) (λ w. option_map reached_view (get nat_eq all.new w))) }
-    ensures words { OnOk result ((w : ℕ) → is_some (get nat_eq all.new w) ≡ (is_some (get nat_eq all.old w) || is_some (typedef_in (map typedef_view typedefs.now.items) w))) }
+    ensures all { OnOk result (AllReach (known_at (unit_view unit.now)) (λ w. option_map reached_view
+        (get nat_eq all.new w))) }
+    ensures words { OnOk result ((w : ℕ) → is_some (get nat_eq all.new w)
+        ≡ (is_some (get nat_eq all.old w) || is_some (typedef_in (map typedef_view typedefs.now.items) w))) }
 {
     for found in typedefs {
         reach_word(alloc, unit, first, tags, done, all, found.name.0)?;
@@ -114,8 +122,10 @@ fn reached_words<'u>(
 ) -> Result<IndexMap<u32, TypedefTarget<'u>>, Memory>
     requires first { FindsTypedefs (get nat_eq first.now) (unit_view unit.now) }
     requires tags { FindsTags (contains nat_eq tags.now) (unit_view unit.now) }
-    ensures reach { IfOk result (λ all. AllReach (known_at (unit_view unit.now)) (λ w. option_map reached_view (get nat_eq all w))) }
-    ensures words { IfOk result (λ all. (w : ℕ) → is_some (get nat_eq all w) ≡ is_some (typedef_in (map typedef_view typedefs.now.items) w)) }
+    ensures reach { IfOk result (λ all. AllReach (known_at (unit_view unit.now))
+        (λ w. option_map reached_view (get nat_eq all w))) }
+    ensures words { IfOk result (λ all. (w : ℕ)
+        → is_some (get nat_eq all w) ≡ is_some (typedef_in (map typedef_view typedefs.now.items) w)) }
 {
     let mut done = IndexMap::new(alloc);
     let mut all = IndexMap::new(alloc);

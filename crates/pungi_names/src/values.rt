@@ -7,13 +7,14 @@ ghost use Rattle.pungi_names.specs.FieldsView.{kind_in};
 ghost use Rattle.pungi_names.specs.StructsView.{kept_or};
 ghost use Rattle.pungi_tree.specs.UnitView.{unit_view};
 ghost use Rattle.pungi_types.specs.Kinds.{field_in_some, struct_fields};
-ghost use Rattle.pungi_types.specs.Names.{global_kind, is_module, is_table_name, type_objects as type_objects_of, is_plain_static};
+ghost use Rattle.pungi_types.specs.Names.{global_kind, is_module, is_table_name, type_objects as type_objects_of};
+ghost use Rattle.pungi_types.specs.Names.{is_plain_static};
 
 use crate::kinds::Kinds;
 use crate::meaning::Meaning;
 use indexmap::{IndexMap, IndexSet};
-use pungi_base::words::{FIRST_STATIC, FIRST_TYPE_OBJECT, STATICS, STATICS_END};
 use pungi_base::Name;
+use pungi_base::words::{FIRST_STATIC, FIRST_TYPE_OBJECT, STATICS, STATICS_END};
 use pungi_types::{ValueKind, is_built_in_static};
 
 /// The variables of a file, its tables, and the fields of its structs.
@@ -25,10 +26,15 @@ pub(crate) struct Values<'u> {
     pub(crate) tables: IndexSet<u32>,
     pub(crate) modules: IndexSet<u32>,
     pub(crate) type_objects: IndexSet<u32>,
-    pub(crate) ghost fields_found: { (s : ℕ) (w : ℕ) → kept_or (option_map (kind_in w) (get nat_eq fields s)) None ≡ field_in_some (unit_view kinds.cores.unit.now) (struct_fields (unit_view kinds.cores.unit.now) s) w },
-    pub(crate) ghost globals_found: { (w : ℕ) → kept_or (get nat_eq globals w) None ≡ global_kind (unit_view kinds.cores.unit.now) w },
-    pub(crate) ghost tables_found: { (w : ℕ) → contains nat_eq tables w ≡ is_table_name (unit_view kinds.cores.unit.now) w },
-    pub(crate) ghost modules_found: { (w : ℕ) → contains nat_eq modules w ≡ is_module (unit_view kinds.cores.unit.now) w },
+    pub(crate) ghost fields_found: { (s : ℕ) (w : ℕ)
+        → kept_or (option_map (kind_in w) (get nat_eq fields s)) None
+        ≡ field_in_some (unit_view kinds.cores.unit.now) (struct_fields (unit_view kinds.cores.unit.now) s) w },
+    pub(crate) ghost globals_found: { (w : ℕ)
+        → kept_or (get nat_eq globals w) None ≡ global_kind (unit_view kinds.cores.unit.now) w },
+    pub(crate) ghost tables_found: { (w : ℕ)
+        → contains nat_eq tables w ≡ is_table_name (unit_view kinds.cores.unit.now) w },
+    pub(crate) ghost modules_found: { (w : ℕ)
+        → contains nat_eq modules w ≡ is_module (unit_view kinds.cores.unit.now) w },
     pub(crate) ghost type_objects_found: { type_objects.keys ≡ type_objects_of (unit_view kinds.cores.unit.now) },
     pub(crate) ghost few: { length type_objects.keys + static_count < 2 ^ 32 },
 }
@@ -58,10 +64,12 @@ fn kind_of_field(fields: &IndexMap<u32, Option<ValueKind>>, word: Name) -> Optio
 impl<'u> Values<'u> {
     ghost use Rattle.pungi_names.specs.MeaningView.{meaning_view};
     ghost use Rattle.pungi_types.specs.Kinds.{field_kind};
-    ghost use Rattle.pungi_types.specs.Names.{is_among, is_type_object, is_static, is_own_static, static_number, static_or_unknown, place_among};
+    ghost use Rattle.pungi_types.specs.Names.{is_among, is_type_object, is_static, is_own_static, static_number};
+    ghost use Rattle.pungi_types.specs.Names.{static_or_unknown, place_among};
 
     fn field_of_struct(&self, name: Name, word: Name) -> Option<ValueKind>
-        ensures { result ≡ field_in_some (unit_view self.now.kinds.cores.unit.now) (struct_fields (unit_view self.now.kinds.cores.unit.now) name.0) word.0 }
+        ensures { result ≡ field_in_some (unit_view self.now.kinds.cores.unit.now)
+            (struct_fields (unit_view self.now.kinds.cores.unit.now) name.0) word.0 }
     {
         match self.fields.get(&name.0) {
             Some(fields) => kind_of_field(fields, word),

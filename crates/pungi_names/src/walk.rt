@@ -8,7 +8,7 @@ ghost use Rattle.pungi_names.specs.Walk.{AllReach, IsPath, EndsAt};
 ghost use Rattle.pungi_names.specs.WalkView.{IsWalk, one_more};
 ghost use Rattle.pungi_tree.specs.UnitView.{unit_view};
 
-use crate::step::{TypedefTarget, Step, next_step};
+use crate::step::{Step, TypedefTarget, next_step};
 use indexmap::{IndexMap, IndexSet};
 use pungi_base::Memory;
 use pungi_tree::Unit;
@@ -40,7 +40,8 @@ fn walk_on<'u>(
     requires path { path.old.items ≡ [] }
     requires seen { seen.old.keys ≡ [] }
     ensures path { IfOk result (λ end. IsPath (known_at (unit_view unit.now)) start (reverse path.new.items) end.0) }
-    ensures end { IfOk result (λ end. EndsAt (known_at (unit_view unit.now)) (reverse path.new.items) end.0 (option_map reached_view end.1)) }
+    ensures end { IfOk result (λ end. EndsAt (known_at (unit_view unit.now)) (reverse path.new.items) end.0
+        (option_map reached_view end.1)) }
 {
     let mut at = start;
     'words: loop {
@@ -117,7 +118,8 @@ fn go_back<'u>(
     requires path { IsPath (known_at (unit_view unit.now)) start (reverse walked.items) end }
     requires end { Reaches (known_at (unit_view unit.now)) end (reached_view end_reached) }
     requires done { AllReach (known_at (unit_view unit.now)) (λ w. option_map reached_view (get nat_eq done.old w)) }
-    ensures done { OnOk result (AllReach (known_at (unit_view unit.now)) (λ w. option_map reached_view (get nat_eq done.new w))) }
+    ensures done { OnOk result (AllReach (known_at (unit_view unit.now)) (λ w. option_map reached_view
+        (get nat_eq done.new w))) }
     ensures reached { IfOk result (λ reached. Reaches (known_at (unit_view unit.now)) start (reached_view reached)) }
 {
     let _ = unit;
@@ -146,7 +148,8 @@ pub(crate) fn follow<'u>(
     requires typedefs { FindsTypedefs (get nat_eq typedefs.now) (unit_view unit.now) }
     requires tags { FindsTags (contains nat_eq tags.now) (unit_view unit.now) }
     requires done { AllReach (known_at (unit_view unit.now)) (λ w. option_map reached_view (get nat_eq done.old w)) }
-    ensures done { OnOk result (AllReach (known_at (unit_view unit.now)) (λ w. option_map reached_view (get nat_eq done.new w))) }
+    ensures done { OnOk result (AllReach (known_at (unit_view unit.now)) (λ w. option_map reached_view
+        (get nat_eq done.new w))) }
     ensures reached { IfOk result (λ reached. Reaches (known_at (unit_view unit.now)) start (reached_view reached)) }
 {
     let walked = walk_from(alloc, unit, typedefs, tags, done, start)?;

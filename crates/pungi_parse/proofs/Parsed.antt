@@ -1,5 +1,6 @@
 -- What is parsed, from what the loop over the items keeps.
-use Rattle.std.proofs.Common.{◌≡◌, ℕ, ◌≤◌, true, List, [], ◌∷◌, length, Option, Some, None, Result, Ok, Err, MatchResult, refl, sym, subst, arith}
+use Rattle.std.proofs.Common.{◌≡◌, ℕ, ◌≤◌, true, List, [], ◌∷◌, length, Option, Some, None, Result, Ok, Err}
+use Rattle.std.proofs.Common.{MatchResult, refl, sym, subst, arith}
 use Rattle.std.specs.Prelude.{IfOk}
 use Rattle.pungi_base.specs.declared.pos.Pos.{Pos}
 use Rattle.pungi_base.specs.declared.names.Name.{Name}
@@ -29,7 +30,8 @@ module _ (ts : List Placed) where
   parsed_unit (Ok u) h = h
   parsed_unit (Err e) h = tt
 
-  pub parsed_only : (r : Result File ParseFault) → Parsed r → (items : List Item) → IsUnit items ts → MatchResult r (λ u. unit_view u ≡ items) (λ e. e ≡ faults.Memory)
+  pub parsed_only : (r : Result File ParseFault) → Parsed r → (items : List Item) → IsUnit items ts
+      → MatchResult r (λ u. unit_view u ≡ items) (λ e. e ≡ faults.Memory)
   parsed_only (Ok u) h items v = one_unit ts (unit_view u) items h v
   parsed_only (Err faults.Memory) h items v = refl
   parsed_only (Err (faults.Deep p)) h items v = absurd h
@@ -49,13 +51,17 @@ module _ (ts : List Placed) where
   parsed_flat (Ok u) h = unit_kinds (unit_view u) ts h.spells
   parsed_flat (Err e) h = tt
 
-  pub loop_ends : (types : List Name) (front : List Item) (rest : List Placed) → types ≡ type_words (kinds ts) → UnitTo types ts front rest → rest ≡ [] → IsUnit front ts
-  loop_ends types front rest own to e = unit_ends ts front (subst (λ z. UnitTo z ts front []) own (subst (λ z. UnitTo types ts front z) e to))
+  pub loop_ends : (types : List Name) (front : List Item) (rest : List Placed) → types ≡ type_words (kinds ts)
+      → UnitTo types ts front rest → rest ≡ [] → IsUnit front ts
+  loop_ends types front rest own to e = unit_ends ts front (subst (λ z. UnitTo z ts front []) own
+      (subst (λ z. UnitTo types ts front z) e to))
 
-  pub loop_stops : (types : List Name) (n : ℕ) (front : List Item) (rest : List Placed) (p : Pos) → types ≡ type_words (kinds ts) → length ts ≤ n
+  pub loop_stops : (types : List Name) (n : ℕ) (front : List Item) (rest : List Placed) (p : Pos)
+      → types ≡ type_words (kinds ts) → length ts ≤ n
       → UnitTo types ts front rest → item_at types n rest ≡ None → first_place rest ≡ Some p → StopsAt ts p
   loop_stops types n front rest p own h to none place =
-      unit_stops ts n front rest p h (subst (λ z. UnitTo z ts front rest) own to) (subst (λ z. item_at z n rest ≡ None) own none) place
+      unit_stops ts n front rest p h (subst (λ z. UnitTo z ts front rest) own to)
+      (subst (λ z. item_at z n rest ≡ None) own none) place
 
 pub nothing_placed : (ts : List Token) → length ts ≡ 0 → placed ts ≡ []
 nothing_placed [] h = refl

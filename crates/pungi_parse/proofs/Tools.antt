@@ -1,11 +1,13 @@
 -- Steps through options, tests and numbers, for any reader.
---   bind_some, on_some_cases, when_some, unless_some, guard_some, guard_none    what an option that was read says of the options it was read from
+--   bind_some, on_some_cases, when_some, unless_some, guard_some, guard_none    what an option that was read says of
+--   the options it was read from
 --   some_same         one value only is read
 --   le_true, le_false, le_from, lt_true, lt_false, lt_from, eq_from    tests on numbers
 --   and_true, and_join, or_true, not_true    tests of tests
 --   IfOk-both         what follows from two facts about a value that may have been returned
 --   same_mark, same_key    a punctuator, or a keyword, is known by its number
-use Rattle.std.proofs.Common.{◌≡◌, ℕ, zero, suc, ◌<◌, ◌≤◌, Bool, true, false, cond, not, ◌&&◌, ◌||◌, List, [], ◌∷◌, Option, Some, None, ◌⊎◌, inl, inr, refl, sym, ◌∙◌, ap, arith}
+use Rattle.std.proofs.Common.{◌≡◌, ℕ, zero, suc, ◌<◌, ◌≤◌, Bool, true, false, cond, not, ◌&&◌, ◌||◌, List, [], ◌∷◌}
+use Rattle.std.proofs.Common.{Option, Some, None, ◌⊎◌, inl, inr, refl, sym, ◌∙◌, ap, arith}
 use Rattle.std.specs.Prelude.{nat_le, nat_lt, ◌==◌, Result, Ok, Err, IfOk}
 use Rattle.std.proofs.lemmas.Bool.Decides.{nat_tests}
 use Rattle.pungi_base.specs.declared.key.Key.{Key}
@@ -15,16 +17,19 @@ use Rattle.pungi_base.specs.declared.punct.Punct.TheVariants as puncts
 use Rattle.pungi_parse.specs.tokens.OneToken.{punct_number, key_number}
 use Rattle.pungi_parse.specs.Reading.{◌>>=◌, chain, on_some, when, unless}
 
-pub IfOk-both : {X E : Type 0} (r : Result X E) (P Q R : X → Type 0) → ((x : X) → P x → Q x → R x) → IfOk r P → IfOk r Q → IfOk r R
+pub IfOk-both : {X E : Type 0} (r : Result X E) (P Q R : X → Type 0) → ((x : X) → P x → Q x → R x) → IfOk r P
+    → IfOk r Q → IfOk r R
 IfOk-both (Ok x) P Q R f p q = f x p q
 IfOk-both (Err e) P Q R f p q = tt
 
-pub bind_some : {A B : Type 0} (o : Option A) (f : A → Option B) (y : B) → (o >>= f) ≡ Some y → (x : A) × (o ≡ Some x) × (f x ≡ Some y)
+pub bind_some : {A B : Type 0} (o : Option A) (f : A → Option B) (y : B) → (o >>= f) ≡ Some y
+    → (x : A) × (o ≡ Some x) × (f x ≡ Some y)
 unfolding chain
 bind_some (Some x) f y h = (x, refl, h)
 bind_some None f y h = absurd (cc)
 
-pub on_some_cases : {A B : Type 0} (o : Option A) (f : A → B) (b y : B) → on_some o f b ≡ y → ((x : A) × (o ≡ Some x) × (f x ≡ y)) ⊎ ((o ≡ None) × (b ≡ y))
+pub on_some_cases : {A B : Type 0} (o : Option A) (f : A → B) (b y : B) → on_some o f b ≡ y
+    → ((x : A) × (o ≡ Some x) × (f x ≡ y)) ⊎ ((o ≡ None) × (b ≡ y))
 unfolding on_some
 on_some_cases (Some x) f b y h = inl (x, refl, h)
 on_some_cases None f b y h = inr (refl, h)
@@ -113,7 +118,15 @@ punct_at : ℕ → Punct
 unfolding punct_in
 punct_at n =
     punct_in puncts.LeftParen
-    (puncts.LeftParen ∷ puncts.RightParen ∷ puncts.LeftBracket ∷ puncts.RightBracket ∷ puncts.LeftBrace ∷ puncts.RightBrace ∷ puncts.Semicolon ∷ puncts.Comma ∷ puncts.Dot ∷ puncts.Arrow ∷ puncts.PlusPlus ∷ puncts.MinusMinus ∷ puncts.And ∷ puncts.Star ∷ puncts.Plus ∷ puncts.Minus ∷ puncts.Tilde ∷ puncts.Not ∷ puncts.Slash ∷ puncts.Percent ∷ puncts.ShiftLeft ∷ puncts.ShiftRight ∷ puncts.Less ∷ puncts.Greater ∷ puncts.LessEqual ∷ puncts.GreaterEqual ∷ puncts.Equal ∷ puncts.NotEqual ∷ puncts.Caret ∷ puncts.Or ∷ puncts.AndAnd ∷ puncts.OrOr ∷ puncts.Question ∷ puncts.Colon ∷ puncts.Assign ∷ puncts.PlusAssign ∷ puncts.MinusAssign ∷ puncts.StarAssign ∷ puncts.SlashAssign ∷ puncts.PercentAssign ∷ puncts.ShiftLeftAssign ∷ puncts.ShiftRightAssign ∷ puncts.AndAssign ∷ puncts.CaretAssign ∷ puncts.OrAssign ∷ puncts.Ellipsis ∷ puncts.Hash ∷ puncts.HashHash ∷ []) n
+    (puncts.LeftParen ∷ puncts.RightParen ∷ puncts.LeftBracket ∷ puncts.RightBracket ∷ puncts.LeftBrace
+    ∷ puncts.RightBrace ∷ puncts.Semicolon ∷ puncts.Comma ∷ puncts.Dot ∷ puncts.Arrow ∷ puncts.PlusPlus
+    ∷ puncts.MinusMinus ∷ puncts.And ∷ puncts.Star ∷ puncts.Plus ∷ puncts.Minus ∷ puncts.Tilde ∷ puncts.Not
+    ∷ puncts.Slash ∷ puncts.Percent ∷ puncts.ShiftLeft ∷ puncts.ShiftRight ∷ puncts.Less ∷ puncts.Greater
+    ∷ puncts.LessEqual ∷ puncts.GreaterEqual ∷ puncts.Equal ∷ puncts.NotEqual ∷ puncts.Caret ∷ puncts.Or
+    ∷ puncts.AndAnd ∷ puncts.OrOr ∷ puncts.Question ∷ puncts.Colon ∷ puncts.Assign ∷ puncts.PlusAssign
+    ∷ puncts.MinusAssign ∷ puncts.StarAssign ∷ puncts.SlashAssign ∷ puncts.PercentAssign ∷ puncts.ShiftLeftAssign
+    ∷ puncts.ShiftRightAssign ∷ puncts.AndAssign ∷ puncts.CaretAssign ∷ puncts.OrAssign ∷ puncts.Ellipsis
+    ∷ puncts.Hash ∷ puncts.HashHash ∷ []) n
 
 punct_again : (m : Punct) → punct_at (punct_number m) ≡ m
 unfolding punct_in punct_at
@@ -178,7 +191,11 @@ key_at : ℕ → Key
 unfolding key_in
 key_at n =
     key_in keys.Int
-    (keys.Int ∷ keys.Long ∷ keys.Short ∷ keys.Char ∷ keys.Unsigned ∷ keys.Signed ∷ keys.Float ∷ keys.Double ∷ keys.Void ∷ keys.Bool ∷ keys.Struct ∷ keys.Union ∷ keys.Enum ∷ keys.Typedef ∷ keys.Static ∷ keys.Extern ∷ keys.Inline ∷ keys.Const ∷ keys.Volatile ∷ keys.Register ∷ keys.If ∷ keys.Else ∷ keys.While ∷ keys.Do ∷ keys.For ∷ keys.Switch ∷ keys.Case ∷ keys.Default ∷ keys.Break ∷ keys.Continue ∷ keys.Return ∷ keys.Goto ∷ keys.Sizeof ∷ keys.Null ∷ []) n
+    (keys.Int ∷ keys.Long ∷ keys.Short ∷ keys.Char ∷ keys.Unsigned ∷ keys.Signed ∷ keys.Float ∷ keys.Double
+    ∷ keys.Void ∷ keys.Bool ∷ keys.Struct ∷ keys.Union ∷ keys.Enum ∷ keys.Typedef ∷ keys.Static ∷ keys.Extern
+    ∷ keys.Inline ∷ keys.Const ∷ keys.Volatile ∷ keys.Register ∷ keys.If ∷ keys.Else ∷ keys.While ∷ keys.Do
+    ∷ keys.For ∷ keys.Switch ∷ keys.Case ∷ keys.Default ∷ keys.Break ∷ keys.Continue ∷ keys.Return ∷ keys.Goto
+    ∷ keys.Sizeof ∷ keys.Null ∷ []) n
 
 key_again : (m : Key) → key_at (key_number m) ≡ m
 unfolding key_in key_at

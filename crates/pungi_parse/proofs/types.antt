@@ -1,4 +1,5 @@
--- The readers of types, declarators and parameters are sound (what they give is at the front of the tokens) and complete.
+-- The readers of types, declarators and parameters are sound (what they give is at the front of the tokens) and
+-- complete.
 pub mod Void
 pub mod VoidComplete
 pub mod FunctionRest

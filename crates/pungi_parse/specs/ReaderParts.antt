@@ -43,7 +43,8 @@ close_params ds dots ts = eat puncts.RightParen ts >>= λ c. Some (params ds fal
 module _ (types : List Name) where
   unfoldable pub function_front : List Placed → Option (Name × Pos × List Placed)
   function_front ts =
-      eat puncts.LeftParen ts >>= λ o. eat puncts.Star o.1 >>= λ s. plain_word types s.1 >>= λ w. eat puncts.RightParen w.2 >>= λ c.
+      eat puncts.LeftParen ts >>= λ o. eat puncts.Star o.1 >>= λ s. plain_word types s.1 >>= λ w. eat
+      puncts.RightParen w.2 >>= λ c.
       eat puncts.LeftParen c.1 >>= λ i. Some (w.0, w.1, i.1)
 
   unfoldable pub sizeof_front : List Placed → Option (List Placed)

@@ -20,14 +20,17 @@ use pungi_base::{Memory, Name, Token};
 use pungi_tree::{Item, Unit};
 use std::alloc::Global;
 
-/// The one syntax tree of a file with these tokens (C11 6.9), whose expressions and statements have at most 256 nodes on
-/// a path. A token after which more than 64 brackets are open is looked for first. Where there is no such tree, the
+/// The one syntax tree of a file with these tokens (C11 6.9), whose expressions and statements have at most 256 nodes
+/// on a path. A token after which more than 64 brackets are open is looked for first. Where there is no such tree, the
 /// fault is at the first token after the longest front that is one under the type words of all tokens.
 pub fn parse(alloc: Global, tokens: &[Token]) -> Result<Unit, ParseFault>
     ensures unit { IfOk result (λ u. IsUnit (unit_view u) (placed tokens.now)) }
-    ensures only { (items : List PlainItem) → too_deep 0 (placed tokens.now) ≡ None → IsUnit items (placed tokens.now) → MatchResult result (λ u. unit_view u ≡ items) (λ e. e ≡ ParseFault.Memory) }
+    ensures only { (items : List PlainItem) → too_deep 0 (placed tokens.now) ≡ None
+        → IsUnit items (placed tokens.now) → MatchResult result (λ u. unit_view u ≡ items)
+        (λ e. e ≡ ParseFault.Memory) }
     ensures not_a_unit { (p : ThePos) → result ≡ Err (ParseFault.NotAUnit p) → StopsAt (placed tokens.now) p }
-    ensures no_tree { (p : ThePos) → result ≡ Err (ParseFault.NotAUnit p) → (items : List PlainItem) → items_flat items ≡ kinds (placed tokens.now) → is_levelled items ≡ true → items_depth items ≤ deepest → ⊥ }
+    ensures no_tree { (p : ThePos) → result ≡ Err (ParseFault.NotAUnit p) → (items : List PlainItem)
+        → items_flat items ≡ kinds (placed tokens.now) → is_levelled items ≡ true → items_depth items ≤ deepest → ⊥ }
     ensures deep { (p : ThePos) → result ≡ Err (ParseFault.Deep p) → too_deep 0 (placed tokens.now) ≡ Some p }
     ensures first { (p : ThePos) → too_deep 0 (placed tokens.now) ≡ Some p → result ≡ Err (ParseFault.Deep p) }
     ensures flat { IfOk result (λ u. items_flat (unit_view u) ≡ kinds (placed tokens.now)) }
@@ -56,7 +59,8 @@ fn unit(
 /// The items of a file with these tokens, whose type words are these.
 fn items(alloc: Global, types: &TypeWords, tokens: &[Token]) -> Result<Vec<Item>, ParseFault>
     requires { types.now ≡ type_words (kinds (placed tokens.now)) }
-    ensures { MatchResult result (λ v. IsUnit (map item_view v.items) (placed tokens.now)) (HasFault (placed tokens.now)) }
+    ensures { MatchResult result (λ v. IsUnit (map item_view v.items) (placed tokens.now))
+        (HasFault (placed tokens.now)) }
 {
     let parser = ItemParser {
         alloc,

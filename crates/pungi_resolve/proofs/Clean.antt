@@ -16,7 +16,8 @@ pub record Clean (fs : Findings) : Type 0 where
 
 is_some-earlier : (first : Option Finding) (f : Finding) → is_some (earlier first f) ≡ true
 is_some-earlier None f = refl
-is_some-earlier (Some a) f = elim (is_before f a) as (λ b. is_some (if b then Some f else Some a) ≡ true) [ true ↦ refl | false ↦ refl ]
+is_some-earlier (Some a) f =
+    elim (is_before f a) as (λ b. is_some (if b then Some f else Some a) ≡ true) [ true ↦ refl | false ↦ refl ]
 
 kept : (fs : Findings) (first : Option Finding) → is_some first ≡ true → is_some (least_from first fs) ≡ true
 kept nothing_found first h = h
@@ -26,10 +27,12 @@ kept (f and g) first h = kept g (least_from first f) (kept f first h)
 told : (fs : Findings) (first : Option Finding) → is_found fs ≡ true → is_some (least_from first fs) ≡ true
 told nothing_found first h = absurd (cc)
 told (one_found f) first h = is_some-earlier first f
-told (f and g) first h = elim (is_found f) as (λ b. (is_found f ≡ b) → (b || is_found g) ≡ true → is_some (least_from first (f and g)) ≡ true) [
-  | true ↦ λ e k. kept g (least_from first f) (told f first e)
-  | false ↦ λ e k. told g (least_from first f) k
-] refl h
+told (f and g) first h =
+    elim (is_found f) as (λ b. (is_found f ≡ b) → (b || is_found g) ≡ true
+    → is_some (least_from first (f and g)) ≡ true) [
+      | true ↦ λ e k. kept g (least_from first f) (told f first e)
+      | false ↦ λ e k. told g (least_from first f) k
+    ] refl h
 
 -- where no rule is reported, none holds
 pub clean : (fs : Findings) → least_from None fs ≡ None → Clean fs

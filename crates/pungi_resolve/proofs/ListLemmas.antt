@@ -11,7 +11,8 @@ abbrev pub values_before : List Value → Values → Values
 values_before [] vs = vs
 values_before (x ∷ xs) vs = value_and x (values_before xs vs)
 
-pub values_before-one : {A : Type 0} (f : A → Value) (xs : List A) (x : A) (vs : Values) → values_before (map f (xs ++ x ∷ [])) vs ≡ values_before (map f xs) (value_and (f x) vs)
+pub values_before-one : {A : Type 0} (f : A → Value) (xs : List A) (x : A) (vs : Values)
+    → values_before (map f (xs ++ x ∷ [])) vs ≡ values_before (map f xs) (value_and (f x) vs)
 values_before-one f [] x vs = refl
 values_before-one f (y ∷ xs) x vs = ap (value_and (f y)) (values_before-one f xs x vs)
 
@@ -24,7 +25,8 @@ abbrev pub actions_before : List Action → Actions → Actions
 actions_before [] as' = as'
 actions_before (x ∷ xs) as' = action_and x (actions_before xs as')
 
-pub actions_before-one : {A : Type 0} (f : A → Action) (xs : List A) (x : A) (as' : Actions) → actions_before (map f (xs ++ x ∷ [])) as' ≡ actions_before (map f xs) (action_and (f x) as')
+pub actions_before-one : {A : Type 0} (f : A → Action) (xs : List A) (x : A) (as' : Actions)
+    → actions_before (map f (xs ++ x ∷ [])) as' ≡ actions_before (map f xs) (action_and (f x) as')
 actions_before-one f [] x as' = refl
 actions_before-one f (y ∷ xs) x as' = ap (action_and (f y)) (actions_before-one f xs x as')
 
@@ -33,5 +35,6 @@ actions_before-all [] = refl
 actions_before-all (x ∷ xs) = ap (action_and x) (actions_before-all xs)
 
 -- what a loop has left, from one element on
-pub next_one : {A : Type 0} (xs : List A) (i : ℕ) (x : A) → i < length xs → x ≡ get_or xs i x → drop i xs ≡ x ∷ drop (i + 1) xs
+pub next_one : {A : Type 0} (xs : List A) (i : ℕ) (x : A) → i < length xs → x ≡ get_or xs i x
+    → drop i xs ≡ x ∷ drop (i + 1) xs
 next_one xs i x h e = at_drop_more (λ l. l) xs i x h ∙ ap (λ y. y ∷ drop (i + 1) xs) (sym e)

@@ -10,7 +10,8 @@ use Rattle.pungi_tree.specs.ExprView.{expr_view}
 use Rattle.pungi_tree.specs.declared.expr.Expr.{Expr}
 use Rattle.pungi_tree.specs.declared.expr.ExprNode.TheVariants.{Binary, Assign, Cond}
 use Rattle.pungi_tree.specs.declared.declr.Tail.TheViews.{the_lemmas}
-use Rattle.pungi_tree.specs.declared.declr.Tail.TheFolds.{fold_out-Expr, fold_out-ExprNode, fold-roll-ExprNode, fold-roll-Expr}
+use Rattle.pungi_tree.specs.declared.declr.Tail.TheFolds.{fold_out-Expr, fold_out-ExprNode, fold-roll-ExprNode}
+use Rattle.pungi_tree.specs.declared.declr.Tail.TheFolds.{fold-roll-Expr}
 use Rattle.pungi_types.specs.Names.{Env}
 use Rattle.pungi_types.specs.Kinds.{type_name_kind}
 use Rattle.pungi_types.specs.Exprs.{kind_of, is_module_address, wants_module}
@@ -22,24 +23,32 @@ use Rattle.pungi_resolve.specs.Arguments.{argument_in}
 use Rattle.pungi_resolve.proofs.Clean.{and_left, and_right}
 use Rattle.pungi_resolve.proofs.SoundParts.{binary-same, assign-same, cast-same, convert-same}
 
-expr_view-binary : (e : Expr) (m : Punct) (a b : Boxed Expr Global) → e.node ≡ Binary m a b → expr_view e ≡ plain.binary e.pos m (expr_view a.value) (expr_view b.value)
-expr_view-binary e m a b h = search (rules, the_lemmas, fold_out-Expr, fold_out-ExprNode, fold-roll-ExprNode, fold-roll-Expr)
+expr_view-binary : (e : Expr) (m : Punct) (a b : Boxed Expr Global) → e.node ≡ Binary m a b
+    → expr_view e ≡ plain.binary e.pos m (expr_view a.value) (expr_view b.value)
+expr_view-binary e m a b h =
+    search (rules, the_lemmas, fold_out-Expr, fold_out-ExprNode, fold-roll-ExprNode, fold-roll-Expr)
 
-expr_view-assign : (e : Expr) (m : Punct) (a b : Boxed Expr Global) → e.node ≡ Assign m a b → expr_view e ≡ plain.assign e.pos m (expr_view a.value) (expr_view b.value)
-expr_view-assign e m a b h = search (rules, the_lemmas, fold_out-Expr, fold_out-ExprNode, fold-roll-ExprNode, fold-roll-Expr)
+expr_view-assign : (e : Expr) (m : Punct) (a b : Boxed Expr Global) → e.node ≡ Assign m a b
+    → expr_view e ≡ plain.assign e.pos m (expr_view a.value) (expr_view b.value)
+expr_view-assign e m a b h =
+    search (rules, the_lemmas, fold_out-Expr, fold_out-ExprNode, fold-roll-ExprNode, fold-roll-Expr)
 
-expr_view-cond : (e : Expr) (t a b : Boxed Expr Global) → e.node ≡ Cond t a b → expr_view e ≡ plain.conditional e.pos (expr_view t.value) (expr_view a.value) (expr_view b.value)
-expr_view-cond e t a b h = search (rules, the_lemmas, fold_out-Expr, fold_out-ExprNode, fold-roll-ExprNode, fold-roll-Expr)
+expr_view-cond : (e : Expr) (t a b : Boxed Expr Global) → e.node ≡ Cond t a b
+    → expr_view e ≡ plain.conditional e.pos (expr_view t.value) (expr_view a.value) (expr_view b.value)
+expr_view-cond e t a b h =
+    search (rules, the_lemmas, fold_out-Expr, fold_out-ExprNode, fold-roll-ExprNode, fold-roll-Expr)
 
 -- the operands of a binary operator
 pub record Operands (env : Env) (a b : plain.Expr) : Type 0 where
   pub first : is_sound (resolve env a) ≡ true
   pub second : is_sound (resolve env b) ≡ true
 
-pub binary-operands : (env : Env) (e : Expr) (m : Punct) (a b : Boxed Expr Global) → e.node ≡ Binary m a b → is_sound (resolve env (expr_view e)) ≡ true → Operands env (expr_view a.value) (expr_view b.value)
+pub binary-operands : (env : Env) (e : Expr) (m : Punct) (a b : Boxed Expr Global) → e.node ≡ Binary m a b
+    → is_sound (resolve env (expr_view e)) ≡ true → Operands env (expr_view a.value) (expr_view b.value)
 binary-operands env e m a b n h =
     let v = expr_view-binary e m a b n in
-    let k = sym (binary-same e.pos m (kind_of env (plain.binary e.pos m (expr_view a.value) (expr_view b.value))) (resolve env (expr_view a.value)) (resolve env (expr_view b.value)))
+    let k = sym (binary-same e.pos m (kind_of env (plain.binary e.pos m (expr_view a.value) (expr_view b.value)))
+    (resolve env (expr_view a.value)) (resolve env (expr_view b.value)))
     ∙ sym (ap (λ x. is_sound (resolve env x)) v) ∙ h in
     record { first = and_left _ _ k; second = and_right _ _ k }
 
@@ -48,10 +57,12 @@ pub record Sides (env : Env) (a b : plain.Expr) : Type 0 where
   pub place : is_sound_place (place_of env a) ≡ true
   pub value : is_sound (resolve env b) ≡ true
 
-pub assign-sides : (env : Env) (e : Expr) (m : Punct) (a b : Boxed Expr Global) → e.node ≡ Assign m a b → is_sound (resolve env (expr_view e)) ≡ true → Sides env (expr_view a.value) (expr_view b.value)
+pub assign-sides : (env : Env) (e : Expr) (m : Punct) (a b : Boxed Expr Global) → e.node ≡ Assign m a b
+    → is_sound (resolve env (expr_view e)) ≡ true → Sides env (expr_view a.value) (expr_view b.value)
 assign-sides env e m a b n h =
     let v = expr_view-assign e m a b n in
-    let k = sym (assign-same e.pos m (kind_of env (expr_view a.value)) (kind_of env (expr_view b.value)) (place_of env (expr_view a.value)) (resolve env (expr_view b.value)))
+    let k = sym (assign-same e.pos m (kind_of env (expr_view a.value)) (kind_of env (expr_view b.value))
+    (place_of env (expr_view a.value)) (resolve env (expr_view b.value)))
     ∙ sym (ap (λ x. is_sound (resolve env x)) v) ∙ h in
     record { place = and_left _ _ k; value = and_right _ _ k }
 
@@ -61,14 +72,19 @@ pub record Choices (env : Env) (t a b : plain.Expr) : Type 0 where
   pub yes : is_sound (resolve env a) ≡ true
   pub no : is_sound (resolve env b) ≡ true
 
-pub cond-choices : (env : Env) (e : Expr) (t a b : Boxed Expr Global) → e.node ≡ Cond t a b → is_sound (resolve env (expr_view e)) ≡ true → Choices env (expr_view t.value) (expr_view a.value) (expr_view b.value)
+pub cond-choices : (env : Env) (e : Expr) (t a b : Boxed Expr Global) → e.node ≡ Cond t a b
+    → is_sound (resolve env (expr_view e)) ≡ true
+    → Choices env (expr_view t.value) (expr_view a.value) (expr_view b.value)
 cond-choices env e t a b n h =
     let v = expr_view-cond e t a b n in
-    let k : (is_sound (resolve env (expr_view t.value)) && (is_sound (resolve env (expr_view a.value)) && is_sound (resolve env (expr_view b.value)))) ≡ true = sym (ap (λ x. is_sound (resolve env x)) v) ∙ h in
+    let k : (is_sound (resolve env (expr_view t.value))
+    && (is_sound (resolve env (expr_view a.value)) && is_sound (resolve env (expr_view b.value))))
+    ≡ true = sym (ap (λ x. is_sound (resolve env x)) v) ∙ h in
     let r = and_right _ _ k in
     record { test = and_left _ _ k; yes = and_left _ _ r; no = and_right _ _ r }
 
-pub cast-operand : (env : Env) (p : Pos) (t : plain.TypeName) (a : plain.Expr) → is_sound (resolve env (plain.cast p t a)) ≡ true → is_sound (resolve env a) ≡ true
+pub cast-operand : (env : Env) (p : Pos) (t : plain.TypeName) (a : plain.Expr)
+    → is_sound (resolve env (plain.cast p t a)) ≡ true → is_sound (resolve env a) ≡ true
 cast-operand env p t a h = sym (cast-same p (type_name_kind env.file.items t) (kind_of env a) (resolve env a)) ∙ h
 
 -- .. arguments
@@ -76,12 +92,17 @@ other_value : (b : Bool) (x y : Value) → b ≡ false → (if b then x else y) 
 other_value true x y h = absurd (cc)
 other_value false x y h = refl
 
-pub argument-value : (env : Env) (ws : List Want) (e : plain.Expr) → (wants_module ws && is_module_address env e) ≡ false → argument_in env ws e ≡ convert (expr_pos e) (want_kind ws) (kind_of env e) (resolve env e)
+pub argument-value : (env : Env) (ws : List Want) (e : plain.Expr)
+    → (wants_module ws && is_module_address env e) ≡ false
+    → argument_in env ws e ≡ convert (expr_pos e) (want_kind ws) (kind_of env e) (resolve env e)
 argument-value env ws e h = other_value (wants_module ws && is_module_address env e) _ _ h
 
-pub argument-operand : (env : Env) (ws : List Want) (e : plain.Expr) → (wants_module ws && is_module_address env e) ≡ false → is_sound (argument_in env ws e) ≡ true → is_sound (resolve env e) ≡ true
+pub argument-operand : (env : Env) (ws : List Want) (e : plain.Expr)
+    → (wants_module ws && is_module_address env e) ≡ false → is_sound (argument_in env ws e) ≡ true
+    → is_sound (resolve env e) ≡ true
 argument-operand env ws e h k =
-    sym (convert-same (expr_pos e) (want_kind ws) (kind_of env e) (resolve env e)) ∙ sym (ap is_sound (argument-value env ws e h)) ∙ k
+    sym (convert-same (expr_pos e) (want_kind ws) (kind_of env e) (resolve env e))
+    ∙ sym (ap is_sound (argument-value env ws e h)) ∙ k
 
 pub neither-left : (a b : Bool) → a ≡ false → (a && b) ≡ false
 neither-left true b h = absurd (cc)

@@ -4,7 +4,9 @@ use Rattle.std.specs.Prelude.{ℤ, pos, int_lt, ◌&&◌, ◌||◌, not, is_some
 use Rattle.pungi_base.specs.declared.kind.Kind.{Kind}
 use Rattle.pungi_base.specs.declared.names.Name.{Name}
 use Rattle.pungi_base.specs.declared.pos.Pos.{Pos}
-use Rattle.pungi_tree.specs.Syntax.{Expr, word, int, float, char, text, null, paren, unary, post, binary, assign, conditional, comma, cast, size_of_type, call, new, index, dot, arrow, Exprs, no_exprs, expr_and}
+use Rattle.pungi_tree.specs.Syntax.{Expr, word, int, float, char, text, null, paren, unary, post, binary, assign}
+use Rattle.pungi_tree.specs.Syntax.{conditional, comma, cast, size_of_type, call, new, index, dot, arrow, Exprs}
+use Rattle.pungi_tree.specs.Syntax.{no_exprs, expr_and}
 use Rattle.pungi_types.specs.declared.kind.ValueKind.{ValueKind}
 use Rattle.pungi_types.specs.declared.kind.ValueKind.TheVariants as kinds
 use Rattle.pungi_types.specs.declared.lookup.Want.{Want}
@@ -13,15 +15,24 @@ use Rattle.pungi_types.specs.declared.operator.Prefix.TheVariants as prefixes
 use Rattle.pungi_types.specs.Names.{Env, meaning_of, local_in}
 use Rattle.pungi_types.specs.Kinds.{type_name_kind, field_kind}
 use Rattle.pungi_types.specs.Findings.{Findings, nothing_found, ◌and◌}
-use Rattle.pungi_types.specs.Operators.{prefix_of, is_bits, is_arithmetic, is_order, is_equality, is_bits_assign, is_arithmetic_assign, is_pointer, struct_part}
-use Rattle.pungi_types.specs.Exprs.{kind_of, is_place, is_address, is_left_out, is_step_or_sign, names_type_object, is_module_address, callee, wants, wants_module, other_wants, are_met, is_word, unary_kind, unary_wrong, binary_wrong, assign_wrong, cond_wrong, int_kind, is_bad_int, result_kind, void_use, n1, n2, n3, n4, n5, n9, n10, n12, n13, n14, node_findings, expr_findings, args_findings}
-use Rattle.pungi_resolve.specs.Exprs.{resolve, place_of, resolve_all, unary_value, int_value, convert, want_kind, expr_pos, module_address, callee_name}
+use Rattle.pungi_types.specs.Operators.{prefix_of, is_bits, is_arithmetic, is_order, is_equality, is_bits_assign}
+use Rattle.pungi_types.specs.Operators.{is_arithmetic_assign, is_pointer, struct_part}
+use Rattle.pungi_types.specs.Exprs.{kind_of, is_place, is_address, is_left_out, is_step_or_sign, names_type_object}
+use Rattle.pungi_types.specs.Exprs.{is_module_address, callee, wants, wants_module, other_wants, are_met, is_word}
+use Rattle.pungi_types.specs.Exprs.{unary_kind, unary_wrong, binary_wrong, assign_wrong, cond_wrong, int_kind}
+use Rattle.pungi_types.specs.Exprs.{is_bad_int, result_kind, void_use, n1, n2, n3, n4, n5, n9, n10, n12, n13, n14}
+use Rattle.pungi_types.specs.Exprs.{node_findings, expr_findings, args_findings}
+use Rattle.pungi_resolve.specs.Exprs.{resolve, place_of, resolve_all, unary_value, int_value, convert, want_kind}
+use Rattle.pungi_resolve.specs.Exprs.{expr_pos, module_address, callee_name}
 use Rattle.pungi_resolve.specs.Sound.{is_sound, are_sound, is_sound_place}
 use Rattle.pungi_resolve.proofs.Clean.{Clean, left, right, not_when, not_false, is_there, and_true, and_right}
 use Rattle.pungi_resolve.proofs.Known.{HasKinds, answers, place-not_void}
-use Rattle.pungi_resolve.proofs.OperatorKinds.{step-kept, sign-kept, negation-kept, binary-kept, assign-kept, cond-kept, cast-kept}
+use Rattle.pungi_resolve.proofs.OperatorKinds.{step-kept, sign-kept, negation-kept, binary-kept, assign-kept, cond-kept}
+use Rattle.pungi_resolve.proofs.OperatorKinds.{cast-kept}
 use Rattle.pungi_resolve.proofs.UsedValues.{one-asked, two-asked, three-asked, cast-asked}
-use Rattle.pungi_resolve.proofs.SoundParts.{convert-same, cast-same, binary-same, assign-same, read-sound, field-sound, has_struct, slot-sound, word-holds, static-sound, module-sound, word-callable, call-holds}
+use Rattle.pungi_resolve.proofs.SoundParts.{convert-same, cast-same, binary-same, assign-same, read-sound, field-sound}
+use Rattle.pungi_resolve.proofs.SoundParts.{has_struct, slot-sound, word-holds, static-sound, module-sound}
+use Rattle.pungi_resolve.proofs.SoundParts.{word-callable, call-holds}
 
 -- an expression with a kind, that is sound, also as a place
 pub record Good (env : Env) (e : Expr) : Type 0 where
@@ -67,14 +78,19 @@ node env e c =
 
 word-good : (env : Env) → HasKinds env → (p : Pos) (n : Name) → Node env (word p n) → Good env (word p n)
 word-good env h p n k =
-    let w = word-holds env.file.items p n (local_in env.locals n.0) (h.locals n.0) (not_when _ p 3 k.three) (not_when _ p 9 k.nine) in
+    let w = word-holds env.file.items p n (local_in env.locals n.0) (h.locals n.0) (not_when _ p 3 k.three)
+    (not_when _ p 9 k.nine) in
     record { known = w.known; sound = w.sound; place = λ s. slot-sound p (meaning_of env n.0) n s }
 
 int-known : (v : ℤ) (l u : Bool) → is_bad_int v u ≡ false → is_some (int_kind v l u) ≡ true
-int-known v l u e = elim (is_bad_int v u) as (λ b. b ≡ false → is_some (if b then None else (if l || int_lt (pos 2147483647) v then Some kinds.Long else Some kinds.Int)) ≡ true) [
-  | true ↦ λ h. absurd (cc)
-  | false ↦ λ h. elim (l || int_lt (pos 2147483647) v) as (λ c. is_some (if c then Some kinds.Long else Some kinds.Int) ≡ true) [ true ↦ refl | false ↦ refl ]
-] e
+int-known v l u e =
+    elim (is_bad_int v u) as (λ b. b ≡ false
+    → is_some (if b then None else (if l || int_lt (pos 2147483647) v then Some kinds.Long else Some kinds.Int))
+    ≡ true) [
+      | true ↦ λ h. absurd (cc)
+      | false ↦ λ h. elim (l || int_lt (pos 2147483647) v) as (λ c. is_some (if c then Some kinds.Long else Some
+          kinds.Int) ≡ true) [ true ↦ refl | false ↦ refl ]
+    ] e
 
 int-sound : (p : Pos) (v : ℤ) (k : Option ValueKind) → is_some k ≡ true → is_sound (int_value p k v) ≡ true
 int-sound p v None h = absurd (cc)
@@ -120,8 +136,10 @@ unless true fs c e = absurd (cc)
 unless false fs c e = c
 
 -- an argument: a module table, or what is sound as an expression
-arg-sound : (env : Env) (ws : List Want) (e : Expr) (b : Bool) → (wants_module ws && is_module_address env e) ≡ b → (b ≡ false → is_sound (resolve env e) ≡ true)
-    → is_sound (if b then module_address e else convert (expr_pos e) (want_kind ws) (kind_of env e) (resolve env e)) ≡ true
+arg-sound : (env : Env) (ws : List Want) (e : Expr) (b : Bool) → (wants_module ws && is_module_address env e) ≡ b
+    → (b ≡ false → is_sound (resolve env e) ≡ true)
+    → is_sound (if b then module_address e else convert (expr_pos e) (want_kind ws) (kind_of env e) (resolve env e))
+    ≡ true
 arg-sound env ws e true t g = module-sound env e (and_right (wants_module ws) (is_module_address env e) t)
 arg-sound env ws e false t g = convert-same (expr_pos e) (want_kind ws) (kind_of env e) (resolve env e) ∙ g refl
 
@@ -130,7 +148,8 @@ pub answered : (env : Env) → HasKinds env → (f : Expr) → answers env (call
 answered env h (word p n) = h.calls n.0
 answered env h _ = refl
 
-known-call : (w m : Bool) (k : Option ValueKind) → w ≡ true → m ≡ true → is_some k ≡ true → is_some (if w && m then k else None) ≡ true
+known-call : (w m : Bool) (k : Option ValueKind) → w ≡ true → m ≡ true → is_some k ≡ true
+    → is_some (if w && m then k else None) ≡ true
 known-call true true k a b h = h
 known-call _ _ k a b h = absurd (cc)
 
@@ -146,20 +165,23 @@ mutual
       let g = expr-good env h e c in
       record { known = g.known; sound = g.sound; place = λ s. absurd (cc) }
   expr-good env h (unary p k e) c =
-      let fs : Findings = (if is_address (prefix_of k) && names_type_object env e then nothing_found else expr_findings env e) in
+      let fs : Findings = (if is_address (prefix_of k)
+      && names_type_object env e then nothing_found else expr_findings env e) in
       let m = node env (unary p k e) (right fs _ c) in
       let u = unary-good env p k (prefix_of k) e (record {
         two = not_when _ p 2 m.two;
         five = not_when _ p 5 m.five;
         ten = one-asked env (unary_wrong (prefix_of k) (is_place env e)) p e m.ten;
         thirteen = not_when _ p 13 m.thirteen;
-        good = λ b. expr-good env h e (unless (is_address (prefix_of k) && names_type_object env e) (expr_findings env e) (left fs _ c) b);
+        good = λ b. expr-good env h e (unless (is_address (prefix_of k) && names_type_object env e)
+            (expr_findings env e) (left fs _ c) b);
       }) in
       record { known = u.known; sound = u.sound; place = λ s. absurd (cc) }
   expr-good env h (post p o e) c =
       let g = expr-good env h e (left _ _ c) in
       let m = node env (post p o e) (right (expr_findings env e) _ c) in
-      let s = step-kept (is_place env e) (kind_of env e) g.known (one-asked env (unary_wrong prefixes.Step (is_place env e)) p e m.ten) (not_when _ p 13 m.thirteen) in
+      let s = step-kept (is_place env e) (kind_of env e) g.known (one-asked env
+      (unary_wrong prefixes.Step (is_place env e)) p e m.ten) (not_when _ p 13 m.thirteen) in
       record { known = s.1; sound = g.place s.0; place = λ x. absurd (cc) }
   expr-good env h (binary p o a b) c =
       let rest = right (expr_findings env a) _ c in
@@ -167,9 +189,11 @@ mutual
       let gb = expr-good env h b (left (expr_findings env b) _ rest) in
       let m = node env (binary p o a b) (right (expr_findings env b) _ rest) in
       record {
-        known = binary-kept (is_bits o) (is_arithmetic o) (is_order o) (is_equality o) (kind_of env a) (kind_of env b) ga.known gb.known
+        known = binary-kept (is_bits o) (is_arithmetic o) (is_order o) (is_equality o) (kind_of env a)
+            (kind_of env b) ga.known gb.known
             (not_when _ p 2 m.two) (two-asked env (binary_wrong o) p a b m.ten) (not_when _ p 13 m.thirteen);
-        sound = binary-same p o (kind_of env (binary p o a b)) (resolve env a) (resolve env b) ∙ and_true _ _ ga.sound gb.sound;
+        sound = binary-same p o (kind_of env (binary p o a b)) (resolve env a) (resolve env b)
+            ∙ and_true _ _ ga.sound gb.sound;
         place = λ x. absurd (cc);
       }
   expr-good env h (assign p o a b) c =
@@ -177,11 +201,14 @@ mutual
       let ga = expr-good env h a (left _ _ c) in
       let gb = expr-good env h b (left (expr_findings env b) _ rest) in
       let m = node env (assign p o a b) (right (expr_findings env b) _ rest) in
-      let s = assign-kept (is_bits_assign o) (is_arithmetic_assign o) (is_place env a) (kind_of env a) (kind_of env b) ga.known gb.known
-      (place-not_void env h a) (not_when _ p 2 m.two) (two-asked env (assign_wrong o (is_place env a)) p a b m.ten) (not_when _ p 13 m.thirteen) in
+      let s = assign-kept (is_bits_assign o) (is_arithmetic_assign o) (is_place env a) (kind_of env a)
+      (kind_of env b) ga.known gb.known
+      (place-not_void env h a) (not_when _ p 2 m.two) (two-asked env (assign_wrong o (is_place env a)) p a b m.ten)
+      (not_when _ p 13 m.thirteen) in
       record {
         known = s.known;
-        sound = assign-same p o (kind_of env a) (kind_of env b) (place_of env a) (resolve env b) ∙ and_true _ _ (ga.place s.to_place) gb.sound;
+        sound = assign-same p o (kind_of env a) (kind_of env b) (place_of env a) (resolve env b)
+            ∙ and_true _ _ (ga.place s.to_place) gb.sound;
         place = λ x. absurd (cc);
       }
   expr-good env h (conditional p t a b) c =
@@ -192,16 +219,19 @@ mutual
       let gb = expr-good env h b (left (expr_findings env b) _ rest) in
       let m = node env (conditional p t a b) (right (expr_findings env b) _ rest) in
       record {
-        known = cond-kept (kind_of env t) (kind_of env a) (kind_of env b) gt.known ga.known gb.known (three-asked env cond_wrong p t a b m.ten);
+        known = cond-kept (kind_of env t) (kind_of env a) (kind_of env b) gt.known ga.known gb.known
+            (three-asked env cond_wrong p t a b m.ten);
         sound = and_true _ _ gt.sound (and_true _ _ ga.sound gb.sound);
         place = λ x. absurd (cc);
       }
-  expr-good env h (comma p a b) c = let k = (node env (comma p a b) (right (expr_findings env b) _ (right (expr_findings env a) _ c))).two.none in absurd (cc)
+  expr-good env h (comma p a b) c = let k = (node env (comma p a b) (right (expr_findings env b) _
+      (right (expr_findings env a) _ c))).two.none in absurd (cc)
   expr-good env h (cast p t e) c =
       let g = expr-good env h e (left _ _ c) in
       let m = node env (cast p t e) (right (expr_findings env e) _ c) in
       record {
-        known = cast-kept (type_name_kind env.file.items t) (kind_of env e) (is_there (type_name_kind env.file.items t) (not_when _ _ 1 m.one)) g.known
+        known = cast-kept (type_name_kind env.file.items t) (kind_of env e) (is_there
+            (type_name_kind env.file.items t) (not_when _ _ 1 m.one)) g.known
             (not_when _ p 4 m.four) (cast-asked env (type_name_kind env.file.items t) p e m.ten);
         sound = cast-same p (type_name_kind env.file.items t) (kind_of env e) (resolve env e) ∙ g.sound;
         place = λ x. absurd (cc);
@@ -211,26 +241,37 @@ mutual
       let args = args_findings env (wants env (callee env f)) es in
       let m = node env (call p f es) (right _ _ (right args _ c)) in
       let w = not_false (is_word f) (not_when _ p 3 m.three) in
-      let s = call-holds env (callee env f) (are_met env (wants env (callee env f)) es) (word-callable env f w) (answered env h f)
+      let s = call-holds env (callee env f) (are_met env (wants env (callee env f)) es) (word-callable env f w)
+      (answered env h f)
       (not_when _ p 9 m.nine) (not_when _ p 10 m.ten) in
       record {
-        known = known-call (is_word f) (are_met env (wants env (callee env f)) es) (result_kind env (callee env f)) w s.all_met s.known;
-        sound = s.sound p (callee_name f) (resolve_all env (wants env (callee env f)) es) (args-good env h (wants env (callee env f)) es (left args _ c));
+        known = known-call (is_word f) (are_met env (wants env (callee env f)) es) (result_kind env (callee env f))
+            w s.all_met s.known;
+        sound = s.sound p (callee_name f) (resolve_all env (wants env (callee env f)) es)
+            (args-good env h (wants env (callee env f)) es (left args _ c));
         place = λ x. absurd (cc);
       }
-  expr-good env h (new p t e) c = let k = (node env (new p t e) (right (expr_findings env e) _ c)).nine.none in absurd (cc)
-  expr-good env h (index p a b) c = let k = (node env (index p a b) (right (expr_findings env b) _ (right (expr_findings env a) _ c))).two.none in absurd (cc)
-  expr-good env h (dot p e n) c = let k = (node env (dot p e n) (right (expr_findings env e) _ c)).two.none in absurd (cc)
+  expr-good env h (new p t e) c = let k = (node env (new p t e) (right (expr_findings env e) _ c)).nine.none in
+      absurd (cc)
+  expr-good env h (index p a b) c = let k = (node env (index p a b) (right (expr_findings env b) _
+      (right (expr_findings env a) _ c))).two.none in absurd (cc)
+  expr-good env h (dot p e n) c = let k = (node env (dot p e n) (right (expr_findings env e) _ c)).two.none in
+      absurd (cc)
   expr-good env h (arrow p e n) c =
       let g = expr-good env h e (left _ _ c) in
       let m = node env (arrow p e n) (right (expr_findings env e) _ c) in
       let k = is_there (field_kind env.file.items (kind_of env e) n.0) (not_when _ p 12 m.twelve) in
-      let s = field-sound p (resolve env e) (struct_part (kind_of env e)) n (has_struct env.file.items (kind_of env e) n.0 k) g.sound in
+      let s = field-sound p (resolve env e) (struct_part (kind_of env e)) n (has_struct env.file.items
+      (kind_of env e) n.0 k) g.sound in
       record { known = k; sound = read-sound p (field_kind env.file.items (kind_of env e) n.0) _ k s; place = λ x. s }
 
-  pub args-good : (env : Env) → HasKinds env → (ws : List Want) (es : Exprs) → Clean (args_findings env ws es) → are_sound (resolve_all env ws es) ≡ true
+  pub args-good : (env : Env) → HasKinds env → (ws : List Want) (es : Exprs) → Clean (args_findings env ws es)
+      → are_sound (resolve_all env ws es) ≡ true
   args-good env h ws no_exprs c = refl
   args-good env h ws (expr_and e es) c =
       and_true _ _
-      (arg-sound env ws e (wants_module ws && is_module_address env e) refl (λ k. (expr-good env h e (left (expr_findings env e) _ (unless (wants_module ws && is_module_address env e) _ (left _ _ c) k))).sound))
-      (args-good env h (other_wants ws) es (right (if wants_module ws && is_module_address env e then nothing_found else expr_findings env e and void_use env e) _ c))
+      (arg-sound env ws e (wants_module ws && is_module_address env e) refl (λ k.
+      (expr-good env h e (left (expr_findings env e) _ (unless (wants_module ws && is_module_address env e) _
+      (left _ _ c) k))).sound))
+      (args-good env h (other_wants ws) es (right (if wants_module ws
+      && is_module_address env e then nothing_found else expr_findings env e and void_use env e) _ c))

@@ -13,11 +13,18 @@ use Rattle.pungi_types.specs.declared.kind.ValueKind.TheVariants as kinds
 use Rattle.pungi_types.specs.declared.local.Local.{Local}
 use Rattle.pungi_types.specs.Files.{Definition, definitions, definition_in}
 use Rattle.pungi_types.specs.Kinds.{field_kind}
-use Rattle.pungi_types.specs.Names.{Env, Meaning, a_local, a_global, a_function, a_static, unknown, local_in, local_or, global_or, global_kind, is_function, is_own_static, static_number}
-use Rattle.pungi_types.specs.Operators.{prefix_of, is_integer, is_void, is_order, is_equality, is_arithmetic, is_arithmetic_assign, struct_part, wider, is_same_kind}
-use Rattle.pungi_types.specs.Exprs.{Callee, no_word, a_value, defined, a_row, no_function, callee, local_called_or, defined_or, row_or, is_refused, result_kind, is_unknown_call, is_value_called, takes_arguments, is_function_meaning, is_unknown, is_slot, meaning_kind, is_word, is_address, names_type_object, names_module, is_module_address}
-use Rattle.pungi_resolve.specs.Exprs.{convert, convert_some, cast_value, read_as, field_of, word_place, word_value, or_int, binary_value, assign_value, call_value, static_address, module_address}
-use Rattle.pungi_resolved.specs.Values.{Value, Values, Place, computed, compared, joined_by, updated, stored, dropped, cast_of}
+use Rattle.pungi_types.specs.Names.{Env, Meaning, a_local, a_global, a_function, a_static, unknown, local_in, local_or}
+use Rattle.pungi_types.specs.Names.{global_or, global_kind, is_function, is_own_static, static_number}
+use Rattle.pungi_types.specs.Operators.{prefix_of, is_integer, is_void, is_order, is_equality, is_arithmetic}
+use Rattle.pungi_types.specs.Operators.{is_arithmetic_assign, struct_part, wider, is_same_kind}
+use Rattle.pungi_types.specs.Exprs.{Callee, no_word, a_value, defined, a_row, no_function, callee, local_called_or}
+use Rattle.pungi_types.specs.Exprs.{defined_or, row_or, is_refused, result_kind, is_unknown_call, is_value_called}
+use Rattle.pungi_types.specs.Exprs.{takes_arguments, is_function_meaning, is_unknown, is_slot, meaning_kind, is_word}
+use Rattle.pungi_types.specs.Exprs.{is_address, names_type_object, names_module, is_module_address}
+use Rattle.pungi_resolve.specs.Exprs.{convert, convert_some, cast_value, read_as, field_of, word_place, word_value}
+use Rattle.pungi_resolve.specs.Exprs.{or_int, binary_value, assign_value, call_value, static_address, module_address}
+use Rattle.pungi_resolved.specs.Values.{Value, Values, Place, computed, compared, joined_by, updated, stored, dropped}
+use Rattle.pungi_resolved.specs.Values.{cast_of}
 use Rattle.pungi_resolve.specs.Sound.{is_sound, are_sound, is_sound_place}
 use Rattle.pungi_resolve.proofs.Clean.{and_right}
 use Rattle.pungi_resolve.proofs.Known.{answers, is_known_local, is_value_kind}
@@ -29,58 +36,71 @@ some-same p (Some k) v = refl
 
 pub convert-same : (p : Pos) (to from : Option ValueKind) (v : Value) → is_sound (convert p to from v) ≡ is_sound v
 convert-same p to from v =
-    elim (is_integer to && (is_integer from && not (is_same_kind to from))) as (λ b. is_sound (if b then convert_some p to v else v) ≡ is_sound v) [
+    elim (is_integer to && (is_integer from && not (is_same_kind to from))) as
+    (λ b. is_sound (if b then convert_some p to v else v) ≡ is_sound v) [
       | true ↦ some-same p to v
       | false ↦ refl
     ]
 
 pub cast-same : (p : Pos) (to from : Option ValueKind) (v : Value) → is_sound (cast_value p to from v) ≡ is_sound v
 cast-same p to from v =
-    elim (is_void to) as (λ b. is_sound (if b then dropped p v else (if is_integer to && not (is_same_kind to from) then convert_some p to v else cast_of p v)) ≡ is_sound v) [
+    elim (is_void to) as (λ b. is_sound (if b then dropped p v else (if is_integer to
+    && not (is_same_kind to from) then convert_some p to v else cast_of p v)) ≡ is_sound v) [
       | true ↦ refl
-      | false ↦ elim (is_integer to && not (is_same_kind to from)) as (λ c. is_sound (if c then convert_some p to v else cast_of p v) ≡ is_sound v) [
-        | true ↦ some-same p to v
-        | false ↦ refl
-      ]
+      | false ↦ elim (is_integer to && not (is_same_kind to from)) as (λ c. is_sound
+          (if c then convert_some p to v else cast_of p v) ≡ is_sound v) [
+            | true ↦ some-same p to v
+            | false ↦ refl
+          ]
     ]
 
 -- .. operators
-pub binary-same : (p : Pos) (m : Punct) (k : Option ValueKind) (a b : Value) → is_sound (binary_value p m k a b) ≡ (is_sound a && is_sound b)
+pub binary-same : (p : Pos) (m : Punct) (k : Option ValueKind) (a b : Value)
+    → is_sound (binary_value p m k a b) ≡ (is_sound a && is_sound b)
 binary-same p m k a b =
-    elim (is_arithmetic m) as (λ x. is_sound (if x then computed p m (or_int k) a b else (if is_order m || is_equality m then compared p m a b else joined_by p m a b)) ≡ (is_sound a && is_sound b)) [
+    elim (is_arithmetic m) as (λ x. is_sound (if x then computed p m (or_int k) a b else
+    (if is_order m || is_equality m then compared p m a b else joined_by p m a b)) ≡ (is_sound a && is_sound b)) [
       | true ↦ refl
-      | false ↦ elim (is_order m || is_equality m) as (λ y. is_sound (if y then compared p m a b else joined_by p m a b) ≡ (is_sound a && is_sound b)) [
-        | true ↦ refl
-        | false ↦ refl
-      ]
+      | false ↦ elim (is_order m || is_equality m) as (λ y. is_sound (if y then compared p m a b else joined_by p m
+          a b) ≡ (is_sound a && is_sound b)) [
+            | true ↦ refl
+            | false ↦ refl
+          ]
     ]
 
-pub assign-same : (p : Pos) (m : Punct) (k from : Option ValueKind) (s : Place) (v : Value) → is_sound (assign_value p m k from s v) ≡ (is_sound_place s && is_sound v)
+pub assign-same : (p : Pos) (m : Punct) (k from : Option ValueKind) (s : Place) (v : Value)
+    → is_sound (assign_value p m k from s v) ≡ (is_sound_place s && is_sound v)
 assign-same p m k from s v =
-    elim (is_arithmetic_assign m) as (λ x. is_sound (if x then updated p m (wider k from) (or_int k) s v else stored p (or_int k) s (convert p k from v)) ≡ (is_sound_place s && is_sound v)) [
+    elim (is_arithmetic_assign m) as (λ x. is_sound (if x then updated p m (wider k from) (or_int k) s v else stored
+    p (or_int k) s (convert p k from v)) ≡ (is_sound_place s && is_sound v)) [
       | true ↦ refl
       | false ↦ rw (convert-same p k from v) refl
     ]
 
 -- .. places
-pub read-sound : (p : Pos) (k : Option ValueKind) (s : Place) → is_some k ≡ true → is_sound_place s ≡ true → is_sound (read_as p k s) ≡ true
+pub read-sound : (p : Pos) (k : Option ValueKind) (s : Place) → is_some k ≡ true → is_sound_place s ≡ true
+    → is_sound (read_as p k s) ≡ true
 read-sound p None s e h = absurd (cc)
 read-sound p (Some k) s e h = h
 
-pub read-place : (p : Pos) (k : Option ValueKind) (s : Place) → is_sound (read_as p k s) ≡ true → is_sound_place s ≡ true
+pub read-place : (p : Pos) (k : Option ValueKind) (s : Place) → is_sound (read_as p k s) ≡ true
+    → is_sound_place s ≡ true
 read-place p None s h = absurd (cc)
 read-place p (Some k) s h = h
 
-pub field-sound : (p : Pos) (v : Value) (o : Option Name) (n : Name) → is_some o ≡ true → is_sound v ≡ true → is_sound_place (field_of p v o n) ≡ true
+pub field-sound : (p : Pos) (v : Value) (o : Option Name) (n : Name) → is_some o ≡ true → is_sound v ≡ true
+    → is_sound_place (field_of p v o n) ≡ true
 field-sound p v None n e h = absurd (cc)
 field-sound p v (Some s) n e h = h
 
-pub field-base : (p : Pos) (v : Value) (o : Option Name) (n : Name) → is_sound_place (field_of p v o n) ≡ true → is_sound v ≡ true
+pub field-base : (p : Pos) (v : Value) (o : Option Name) (n : Name) → is_sound_place (field_of p v o n) ≡ true
+    → is_sound v ≡ true
 field-base p v None n h = absurd (cc)
 field-base p v (Some s) n h = h
 
 -- a pointer whose struct has a field
-pub has_struct : (file : List Item) (k : Option ValueKind) (w : ℕ) → is_some (field_kind file k w) ≡ true → is_some (struct_part k) ≡ true
+pub has_struct : (file : List Item) (k : Option ValueKind) (w : ℕ) → is_some (field_kind file k w) ≡ true
+    → is_some (struct_part k) ≡ true
 has_struct file (Some (kinds.Object (Some s))) w h = refl
 has_struct file _ w h = absurd (cc)
 
@@ -99,7 +119,8 @@ value_kind-known : (k : Option ValueKind) → is_value_kind k ≡ true → is_so
 value_kind-known None h = absurd (cc)
 value_kind-known (Some k) h = refl
 
-global-holds : (file : List Item) (p : Pos) (n : Name) (g : Option ValueKind) → is_unknown (global_or file n.0 g) ≡ false → WordHolds p n (global_or file n.0 g)
+global-holds : (file : List Item) (p : Pos) (n : Name) (g : Option ValueKind)
+    → is_unknown (global_or file n.0 g) ≡ false → WordHolds p n (global_or file n.0 g)
 global-holds file p n (Some k) u = record { known = refl; sound = refl }
 global-holds file p n None u =
     elim (is_own_static file n.0) as (λ b. is_unknown (if b then a_static (static_number file n.0) else unknown) ≡ false
@@ -108,13 +129,15 @@ global-holds file p n None u =
       | false ↦ λ k. absurd (cc)
     ] u
 
-pub word-holds : (file : List Item) (p : Pos) (n : Name) (o : Option Local) → is_known_local o ≡ true → is_function_meaning (local_or file n.0 o) ≡ false → is_unknown (local_or file n.0 o) ≡ false
+pub word-holds : (file : List Item) (p : Pos) (n : Name) (o : Option Local) → is_known_local o ≡ true
+    → is_function_meaning (local_or file n.0 o) ≡ false → is_unknown (local_or file n.0 o) ≡ false
     → WordHolds p n (local_or file n.0 o)
 word-holds file p n (Some l) h f u =
     let k = value_kind-known l.kind h in
     record { known = k; sound = read-sound p l.kind (word_place p (a_local l) n) k refl }
 word-holds file p n None h f u =
-    elim (is_function file n.0) as (λ b. is_function_meaning (if b then a_function else global_or file n.0 (global_kind file n.0)) ≡ false
+    elim (is_function file n.0) as (λ b. is_function_meaning (if b then a_function else global_or file n.0
+    (global_kind file n.0)) ≡ false
     → is_unknown (if b then a_function else global_or file n.0 (global_kind file n.0)) ≡ false
     → WordHolds p n (if b then a_function else global_or file n.0 (global_kind file n.0))) [
       | true ↦ λ x y. absurd (cc)
@@ -122,11 +145,13 @@ word-holds file p n None h f u =
     ] f u
 
 -- .. addresses
-pub static-sound : (env : Env) (p : Pos) (e : Expr) → names_type_object env e ≡ true → is_sound (static_address env p e) ≡ true
+pub static-sound : (env : Env) (p : Pos) (e : Expr) → names_type_object env e ≡ true
+    → is_sound (static_address env p e) ≡ true
 static-sound env p (word q n) h = refl
 static-sound env p _ h = absurd (cc)
 
-under-module : (env : Env) (p : Pos) (k : Kind) (e : Expr) → names_module env e ≡ true → is_sound (module_address (unary p k e)) ≡ true
+under-module : (env : Env) (p : Pos) (k : Kind) (e : Expr) → names_module env e ≡ true
+    → is_sound (module_address (unary p k e)) ≡ true
 under-module env p k (word q n) h = refl
 under-module env p k _ h = absurd (cc)
 
@@ -142,7 +167,8 @@ is_callable _ = true
 row-callable : (file : List Item) (w : ℕ) (r : Option Row) → is_callable (row_or file w r) ≡ true
 row-callable file w (Some r) = refl
 row-callable file w None =
-    elim (is_some (global_kind file w) || is_own_static file w) as (λ b. is_callable (if b then a_value else no_function) ≡ true) [ true ↦ refl | false ↦ refl ]
+    elim (is_some (global_kind file w) || is_own_static file w) as (λ b. is_callable
+    (if b then a_value else no_function) ≡ true) [ true ↦ refl | false ↦ refl ]
 
 defined-callable : (env : Env) (w : ℕ) (x : Option Definition) → is_callable (defined_or env w x) ≡ true
 defined-callable env w (Some d) = refl
@@ -162,7 +188,8 @@ pub record CallHolds (env : Env) (c : Callee) (met : Bool) : Type 0 where
   pub known : is_some (result_kind env c) ≡ true
   pub sound : (p : Pos) (n : Name) (vs : Values) → are_sound vs ≡ true → is_sound (call_value p c n vs) ≡ true
 
-unless_refused : (b : Bool) (k : Option ValueKind) → b ≡ false → (b || is_some k) ≡ true → is_some (if b then None else k) ≡ true
+unless_refused : (b : Bool) (k : Option ValueKind) → b ≡ false → (b || is_some k) ≡ true
+    → is_some (if b then None else k) ≡ true
 unless_refused true k e h = absurd (cc)
 unless_refused false k e h = h
 
@@ -170,14 +197,18 @@ met_then : (m : Bool) → not m ≡ false → m ≡ true
 met_then true h = refl
 met_then false h = absurd (cc)
 
-pub call-holds : (env : Env) (c : Callee) (met : Bool) → is_callable c ≡ true → answers env c ≡ true → is_unknown_call env c ≡ false → (is_value_called c || (takes_arguments c && not met)) ≡ false → CallHolds env c met
+pub call-holds : (env : Env) (c : Callee) (met : Bool) → is_callable c ≡ true → answers env c ≡ true
+    → is_unknown_call env c ≡ false → (is_value_called c || (takes_arguments c && not met)) ≡ false
+    → CallHolds env c met
 call-holds env no_word met w a u h = absurd (cc)
 call-holds env a_value met w a u h = absurd (cc)
 call-holds env no_function met w a u h = absurd (cc)
-call-holds env (defined d) met w a u h = record { all_met = met_then met h; known = unless_refused (is_refused env d) _ u a; sound = λ p n vs k. k }
+call-holds env (defined d) met w a u h =
+    record { all_met = met_then met h; known = unless_refused (is_refused env d) _ u a; sound = λ p n vs k. k }
 call-holds env (a_row r) met w a u h = record { all_met = met_then met h; known = refl; sound = λ p n vs k. k }
 
-pub call-args : (p : Pos) (c : Callee) (n : Name) (vs : Values) → is_sound (call_value p c n vs) ≡ true → are_sound vs ≡ true
+pub call-args : (p : Pos) (c : Callee) (n : Name) (vs : Values) → is_sound (call_value p c n vs) ≡ true
+    → are_sound vs ≡ true
 call-args p (defined d) n vs h = h
 call-args p (a_row r) n vs h = h
 call-args p _ n vs h = absurd (cc)

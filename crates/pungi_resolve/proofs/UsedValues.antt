@@ -11,14 +11,16 @@ use Rattle.pungi_types.specs.Names.{Env}
 use Rattle.pungi_types.specs.Kinds.{not_void}
 use Rattle.pungi_types.specs.Findings.{nothing_found, ◌and◌, when}
 use Rattle.pungi_types.specs.Operators.{is_void}
-use Rattle.pungi_types.specs.Exprs.{kind_of, void_call, operand, when_some, void_use, is_module_address, wants_module, first_met, cast_wrong, expr_findings}
+use Rattle.pungi_types.specs.Exprs.{kind_of, void_call, operand, when_some, void_use, is_module_address, wants_module}
+use Rattle.pungi_types.specs.Exprs.{first_met, cast_wrong, expr_findings}
 use Rattle.pungi_resolve.proofs.Clean.{Clean, left, right, not_when, and_right}
 
 not_void-same : (k : Option ValueKind) → is_void k ≡ false → not_void k ≡ k
 not_void-same (Some kinds.Void) h = absurd (cc)
 not_void-same _ h = refl
 
-called-same : (k : Option ValueKind) (o : Option Pos) → Clean (when_some (is_void k) o 10) → (if is_some o then not_void k else k) ≡ k
+called-same : (k : Option ValueKind) (o : Option Pos) → Clean (when_some (is_void k) o 10)
+    → (if is_some o then not_void k else k) ≡ k
 called-same k None c = refl
 called-same k (Some p) c = not_void-same k (not_when (is_void k) p 10 c)
 
@@ -26,28 +28,38 @@ pub operand-same : (env : Env) (e : Expr) → Clean (void_use env e) → operand
 operand-same env e c = called-same (kind_of env e) (void_call e) c
 
 -- .. a node that uses one value, two, or three
-pub one-asked : (env : Env) (asks : Option ValueKind → Bool) (p : Pos) (e : Expr) → Clean (when (asks (operand (kind_of env e) e)) p 10 and void_use env e) → asks (kind_of env e) ≡ false
+pub one-asked : (env : Env) (asks : Option ValueKind → Bool) (p : Pos) (e : Expr)
+    → Clean (when (asks (operand (kind_of env e) e)) p 10 and void_use env e) → asks (kind_of env e) ≡ false
 one-asked env asks p e c =
-    subst (λ (k : Option ValueKind). asks k ≡ false) (operand-same env e (right (when (asks (operand (kind_of env e) e)) p 10) _ c)) (not_when _ p 10 (left _ _ c))
+    subst (λ (k : Option ValueKind). asks k ≡ false) (operand-same env e (right
+    (when (asks (operand (kind_of env e) e)) p 10) _ c)) (not_when _ p 10 (left _ _ c))
 
 pub two-asked : (env : Env) (asks : Option ValueKind → Option ValueKind → Bool) (p : Pos) (a b : Expr)
-    → Clean (when (asks (operand (kind_of env a) a) (operand (kind_of env b) b)) p 10 and (void_use env a and void_use env b)) → asks (kind_of env a) (kind_of env b) ≡ false
+    → Clean (when (asks (operand (kind_of env a) a) (operand (kind_of env b) b)) p 10
+    and (void_use env a and void_use env b)) → asks (kind_of env a) (kind_of env b) ≡ false
 two-asked env asks p a b c =
     let u = right (when (asks (operand (kind_of env a) a) (operand (kind_of env b) b)) p 10) _ c in
     let h = not_when _ p 10 (left _ _ c) in
-    let i = subst (λ (k : Option ValueKind). asks k (operand (kind_of env b) b) ≡ false) (operand-same env a (left (void_use env a) _ u)) h in
+    let i = subst (λ (k : Option ValueKind). asks k (operand (kind_of env b) b) ≡ false)
+    (operand-same env a (left (void_use env a) _ u)) h in
     subst (λ (k : Option ValueKind). asks (kind_of env a) k ≡ false) (operand-same env b (right (void_use env a) _ u)) i
 
-pub three-asked : (env : Env) (asks : Option ValueKind → Option ValueKind → Option ValueKind → Bool) (p : Pos) (t a b : Expr)
-    → Clean (when (asks (operand (kind_of env t) t) (operand (kind_of env a) a) (operand (kind_of env b) b)) p 10 and (void_use env t and (void_use env a and void_use env b)))
+pub three-asked : (env : Env) (asks : Option ValueKind → Option ValueKind → Option ValueKind → Bool) (p : Pos)
+    (t a b : Expr)
+    → Clean (when (asks (operand (kind_of env t) t) (operand (kind_of env a) a) (operand (kind_of env b) b)) p 10
+    and (void_use env t and (void_use env a and void_use env b)))
     → asks (kind_of env t) (kind_of env a) (kind_of env b) ≡ false
 three-asked env asks p t a b c =
-    let u = right (when (asks (operand (kind_of env t) t) (operand (kind_of env a) a) (operand (kind_of env b) b)) p 10) _ c in
+    let u = right (when (asks (operand (kind_of env t) t) (operand (kind_of env a) a) (operand (kind_of env b) b)) p
+    10) _ c in
     let v = right (void_use env t) _ u in
     let h = not_when _ p 10 (left _ _ c) in
-    let i = subst (λ (k : Option ValueKind). asks k (operand (kind_of env a) a) (operand (kind_of env b) b) ≡ false) (operand-same env t (left (void_use env t) _ u)) h in
-    let j = subst (λ (k : Option ValueKind). asks (kind_of env t) k (operand (kind_of env b) b) ≡ false) (operand-same env a (left (void_use env a) _ v)) i in
-    subst (λ (k : Option ValueKind). asks (kind_of env t) (kind_of env a) k ≡ false) (operand-same env b (right (void_use env a) _ v)) j
+    let i = subst (λ (k : Option ValueKind). asks k (operand (kind_of env a) a) (operand (kind_of env b) b) ≡ false)
+    (operand-same env t (left (void_use env t) _ u)) h in
+    let j = subst (λ (k : Option ValueKind). asks (kind_of env t) k (operand (kind_of env b) b) ≡ false)
+    (operand-same env a (left (void_use env a) _ v)) i in
+    subst (λ (k : Option ValueKind). asks (kind_of env t) (kind_of env a) k ≡ false)
+    (operand-same env b (right (void_use env a) _ v)) j
 
 -- a cast, which uses no value where it is to `void`
 never : (s : Bool) → (s && false) ≡ false
@@ -55,12 +67,14 @@ never true = refl
 never false = refl
 
 cast-one : (v : Bool) (env : Env) (to : Option ValueKind) (p : Pos) (e : Expr) → is_void to ≡ v
-    → Clean (when (cast_wrong to (operand (kind_of env e) e)) p 10 and (if v then nothing_found else void_use env e)) → cast_wrong to (kind_of env e) ≡ false
+    → Clean (when (cast_wrong to (operand (kind_of env e) e)) p 10
+    and (if v then nothing_found else void_use env e)) → cast_wrong to (kind_of env e) ≡ false
 cast-one true env to p e t c = rw t (never (is_some to))
 cast-one false env to p e t c = one-asked env (cast_wrong to) p e c
 
 pub cast-asked : (env : Env) (to : Option ValueKind) (p : Pos) (e : Expr)
-    → Clean (when (cast_wrong to (operand (kind_of env e) e)) p 10 and (if is_void to then nothing_found else void_use env e)) → cast_wrong to (kind_of env e) ≡ false
+    → Clean (when (cast_wrong to (operand (kind_of env e) e)) p 10
+    and (if is_void to then nothing_found else void_use env e)) → cast_wrong to (kind_of env e) ≡ false
 cast-asked env to p e c = cast-one (is_void to) env to p e refl c
 
 -- .. an argument: a module table, which is no call, or a value that is used
@@ -68,12 +82,18 @@ address-same : (env : Env) (e : Expr) (k : Option ValueKind) → is_module_addre
 address-same env (unary p m e) k h = refl
 address-same env _ k h = absurd (cc)
 
-skipped-same : (env : Env) (ws : List Want) (e : Expr) (b : Bool) → (wants_module ws && is_module_address env e) ≡ b → Clean (if b then nothing_found else expr_findings env e and void_use env e)
+skipped-same : (env : Env) (ws : List Want) (e : Expr) (b : Bool) → (wants_module ws && is_module_address env e) ≡ b
+    → Clean (if b then nothing_found else expr_findings env e and void_use env e)
     → operand (kind_of env e) e ≡ kind_of env e
-skipped-same env ws e true t c = address-same env e (kind_of env e) (and_right (wants_module ws) (is_module_address env e) t)
+skipped-same env ws e true t c =
+    address-same env e (kind_of env e) (and_right (wants_module ws) (is_module_address env e) t)
 skipped-same env ws e false t c = operand-same env e (right (expr_findings env e) _ c)
 
-pub argument-met : (env : Env) (ws : List Want) (e : Expr) → Clean (if wants_module ws && is_module_address env e then nothing_found else expr_findings env e and void_use env e)
-    → first_met ws (is_module_address env e) (operand (kind_of env e) e) ≡ true → first_met ws (is_module_address env e) (kind_of env e) ≡ true
+pub argument-met : (env : Env) (ws : List Want) (e : Expr)
+    → Clean (if wants_module ws && is_module_address env e then nothing_found else expr_findings env e
+    and void_use env e)
+    → first_met ws (is_module_address env e) (operand (kind_of env e) e) ≡ true
+    → first_met ws (is_module_address env e) (kind_of env e) ≡ true
 argument-met env ws e c h =
-    subst (λ (k : Option ValueKind). first_met ws (is_module_address env e) k ≡ true) (skipped-same env ws e (wants_module ws && is_module_address env e) refl c) h
+    subst (λ (k : Option ValueKind). first_met ws (is_module_address env e) k ≡ true)
+    (skipped-same env ws e (wants_module ws && is_module_address env e) refl c) h

@@ -4,7 +4,8 @@ use Rattle.pungi_base.specs.declared.names.Name.{Name}
 use Rattle.pungi_base.specs.declared.pos.Pos.{Pos}
 use Rattle.pungi_tree.specs.ExprView.{params_view}
 use Rattle.pungi_tree.specs.StmtView.{stmt_view}
-use Rattle.pungi_tree.specs.Syntax.{Params, params, ParamDecl, ParamDecls, no_params, param_and, param_decl, named, bare, unused}
+use Rattle.pungi_tree.specs.Syntax.{Params, params, ParamDecl, ParamDecls, no_params, param_and, param_decl, named}
+use Rattle.pungi_tree.specs.Syntax.{bare, unused}
 use Rattle.pungi_tree.specs.declared.item.FunctionDef.{FunctionDef}
 use Rattle.pungi_types.specs.Functions.{result_kind, params_count, body_locals}
 use Rattle.pungi_types.specs.Labels.{param_count}
@@ -29,13 +30,15 @@ start : List Local → Walk
 start ls = record { locals = ls; next = 0 }
 
 -- the site in front of the body
-before_body : (env : Env) (f : FunctionDef) (w v : Walk) (k : Option ValueKind) → w.locals ≡ [] → w.next ≡ 0 → k ≡ result_kind env (definition_view f)
+before_body : (env : Env) (f : FunctionDef) (w v : Walk) (k : Option ValueKind) → w.locals ≡ [] → w.next ≡ 0
+    → k ≡ result_kind env (definition_view f)
     → site_of env v k ≡ params_site (site_of env w k) (params_view f.params)
     → site_of env v k ≡ params_site (first_site env (definition_view f)) (params_view f.params)
 unfolding start
 before_body env f w v k none zero kind after =
     let e : w ≡ start w.locals = ap (λ n. record { locals = w.locals; next = n }) zero in
-    let s : site_of env w k ≡ first_site env (definition_view f) = ap (λ (x : Walk). site_of env x k) e ∙ begins env (definition_view f) w.locals k none kind in
+    let s : site_of env w k ≡ first_site env (definition_view f) = ap (λ (x : Walk). site_of env x k) e
+    ∙ begins env (definition_view f) w.locals k none kind in
     after ∙ ap (λ (g : Site). params_site g (params_view f.params)) s
 
 -- what is sound of the body
@@ -45,7 +48,8 @@ pub body-holds : (env : Env) (f : FunctionDef) (w v : Walk) (k : Option ValueKin
     → IsSoundAction (body_action f.pos (site_of env v k) (stmt_view f.body))
 body-holds env f w v k h none zero kind after =
     let P : Site → Type 0 = λ g. IsSoundAction (body_action f.pos g (stmt_view f.body)) in
-    subst P (sym (before_body env f w v k none zero kind after)) (action-holds (resolved_in env (definition_view f)).body (function-sound env (definition_view f) h))
+    subst P (sym (before_body env f w v k none zero kind after)) (action-holds
+    (resolved_in env (definition_view f)).body (function-sound env (definition_view f) h))
 
 -- how many locals there are in front of the body
 param_counted : (f : Site) (p : ParamDecl) → (with_param f p).next ≡ f.next + 1
@@ -67,23 +71,31 @@ made : Name → Pos → List (Option ValueKind) → ℕ → Option ValueKind →
 made n p ps m k a = record { name = n; pos = p; params = ps; locals = m; result = k; body = a }
 
 -- what is returned for a function
-pub whole : (env : Env) (f : FunctionDef) (w v : Walk) (k : Option ValueKind) (ps : List (Option ValueKind)) (m : ℕ) (a : Action)
+pub whole : (env : Env) (f : FunctionDef) (w v : Walk) (k : Option ValueKind) (ps : List (Option ValueKind)) (m : ℕ)
+    (a : Action)
     → w.locals ≡ [] → w.next ≡ 0 → k ≡ result_kind env (definition_view f)
     → site_of env v k ≡ params_site (site_of env w k) (params_view f.params)
-    → ps ≡ params_kinds env.file.items (params_view f.params) → m ≡ v.next + body_locals (stmt_view f.body) → a ≡ body_action f.pos (site_of env v k) (stmt_view f.body)
-    → record { name = f.name; pos = f.pos; params = ps; locals = m; result = k; body = a } ≡ resolved_in env (definition_view f)
+    → ps ≡ params_kinds env.file.items (params_view f.params) → m ≡ v.next + body_locals (stmt_view f.body)
+    → a ≡ body_action f.pos (site_of env v k) (stmt_view f.body)
+    → record { name = f.name; pos = f.pos; params = ps; locals = m; result = k; body = a }
+    ≡ resolved_in env (definition_view f)
 unfolding made
 whole env f w v k ps m a none zero kind after hp hm ha =
     let d = definition_view f in
     let s = before_body env f w v k none zero kind after in
     let none_before : 0 + params_count (params_view f.params) ≡ params_count (params_view f.params) = omega arith in
-    let front : v.next ≡ params_count (params_view f.params) = ap (λ (g : Site). g.next) s ∙ counted (first_site env d) (params_view f.params) ∙ none_before in
+    let front : v.next ≡ params_count (params_view f.params) = ap (λ (g : Site). g.next) s
+    ∙ counted (first_site env d) (params_view f.params) ∙ none_before in
     let hn : m ≡ (resolved_in env d).locals = hm ∙ ap (λ (n : ℕ). n + body_locals (stmt_view f.body)) front in
     let hb : a ≡ (resolved_in env d).body = ha ∙ ap (λ (g : Site). body_action f.pos g (stmt_view f.body)) s in
     ap (λ (x : List (Option ValueKind)). made f.name f.pos x m k a) hp
     ∙ ap (λ (x : ℕ). made f.name f.pos (params_kinds env.file.items (params_view f.params)) x k a) hn
-    ∙ ap (λ (x : Option ValueKind). made f.name f.pos (params_kinds env.file.items (params_view f.params)) (resolved_in env d).locals x a) kind
-    ∙ ap (λ (x : Action). made f.name f.pos (params_kinds env.file.items (params_view f.params)) (resolved_in env d).locals (result_kind env d) x) hb
+    ∙ ap (λ (x : Option ValueKind). made f.name f.pos (params_kinds env.file.items (params_view f.params))
+    (resolved_in env d).locals x a) kind
+    ∙ ap (λ (x : Action). made f.name f.pos (params_kinds env.file.items (params_view f.params))
+    (resolved_in env d).locals (result_kind env d) x) hb
 
-pub sound-body : (env : Env) (f : FunctionDef) (r : ResolvedFunction) → IsPassed env (definition_view f) → r ≡ resolved_in env (definition_view f) → is_sound_action r.body ≡ true
-sound-body env f r h e = ap (λ (x : ResolvedFunction). is_sound_action x.body) e ∙ function-sound env (definition_view f) h
+pub sound-body : (env : Env) (f : FunctionDef) (r : ResolvedFunction) → IsPassed env (definition_view f)
+    → r ≡ resolved_in env (definition_view f) → is_sound_action r.body ≡ true
+sound-body env f r h e =
+    ap (λ (x : ResolvedFunction). is_sound_action x.body) e ∙ function-sound env (definition_view f) h

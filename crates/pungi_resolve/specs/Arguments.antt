@@ -10,4 +10,5 @@ use Rattle.pungi_types.specs.declared.lookup.Want.{Want}
 
 abbrev pub argument_in : Env → List Want → Expr → Value
 argument_in env ws e =
-    (if wants_module ws && is_module_address env e then module_address e else convert (expr_pos e) (want_kind ws) (kind_of env e) (resolve env e))
+    (if wants_module ws && is_module_address env e then module_address e else convert (expr_pos e) (want_kind ws)
+    (kind_of env e) (resolve env e))

@@ -11,13 +11,20 @@ use Rattle.pungi_base.specs.declared.kind.Kind.TheVariants as tokens
 use Rattle.pungi_base.specs.declared.names.Name.{Name}
 use Rattle.pungi_base.specs.declared.pos.Pos.{Pos}
 use Rattle.pungi_base.specs.declared.punct.Punct.{Punct}
-use Rattle.pungi_tree.specs.Syntax.{Expr, word, int, float, char, text, null, paren, unary, post, binary, assign, conditional, comma, cast, size_of_type, call, new, index, dot, arrow, Exprs, no_exprs, expr_and}
+use Rattle.pungi_tree.specs.Syntax.{Expr, word, int, float, char, text, null, paren, unary, post, binary, assign}
+use Rattle.pungi_tree.specs.Syntax.{conditional, comma, cast, size_of_type, call, new, index, dot, arrow, Exprs}
+use Rattle.pungi_tree.specs.Syntax.{no_exprs, expr_and}
 use Rattle.pungi_types.specs.Kinds.{type_name_kind}
 use Rattle.pungi_types.specs.Names.{Env, Meaning, a_local, a_global, a_static, meaning_of, static_number}
-use Rattle.pungi_types.specs.Operators.{prefix_of, is_arithmetic, is_order, is_equality, is_arithmetic_assign, is_integer, is_int, is_void, is_same_kind, wider, struct_part}
-use Rattle.pungi_resolved.specs.Values.{Value, constant, text_of, null_of, static_of, module_of, read, inner, signed, negated, stepped, computed, compared, joined_by, stored, updated, chosen, converted, cast_of, dropped, called, called_row, nonsense, Values, no_values, value_and, Place, local_place, global_place, field_place, no_place}
+use Rattle.pungi_types.specs.Operators.{prefix_of, is_arithmetic, is_order, is_equality, is_arithmetic_assign}
+use Rattle.pungi_types.specs.Operators.{is_integer, is_int, is_void, is_same_kind, wider, struct_part}
+use Rattle.pungi_resolved.specs.Values.{Value, constant, text_of, null_of, static_of, module_of, read, inner, signed}
+use Rattle.pungi_resolved.specs.Values.{negated, stepped, computed, compared, joined_by, stored, updated, chosen}
+use Rattle.pungi_resolved.specs.Values.{converted, cast_of, dropped, called, called_row, nonsense, Values, no_values}
+use Rattle.pungi_resolved.specs.Values.{value_and, Place, local_place, global_place, field_place, no_place}
 use Rattle.pungi_types.specs.Labels.{byte}
-use Rattle.pungi_types.specs.Exprs.{int_kind, kind_of, is_module_address, wants, wants_module, other_wants, callee, Callee, defined, a_row}
+use Rattle.pungi_types.specs.Exprs.{int_kind, kind_of, is_module_address, wants, wants_module, other_wants, callee}
+use Rattle.pungi_types.specs.Exprs.{Callee, defined, a_row}
 use Rattle.pungi_types.specs.declared.lookup.Want.{Want}
 use Rattle.pungi_types.specs.declared.lookup.Want.TheVariants as wanted
 use Rattle.pungi_types.specs.declared.operator.Prefix.{Prefix}
@@ -31,7 +38,8 @@ convert_some p (Some k) v = converted p k v
 
 -- to this kind from that: only between two integer kinds that differ
 abbrev pub convert : Pos → Option ValueKind → Option ValueKind → Value → Value
-convert p to from v = (if is_integer to && (is_integer from && not (is_same_kind to from)) then convert_some p to v else v)
+convert p to from v =
+    (if is_integer to && (is_integer from && not (is_same_kind to from)) then convert_some p to v else v)
 
 abbrev pub want_kind : List Want → Option ValueKind
 want_kind (wanted.OfKind k ∷ ws) = Some k
@@ -87,13 +95,19 @@ or_int None = kinds.Int
 or_int (Some k) = k
 
 abbrev pub binary_value : Pos → Punct → Option ValueKind → Value → Value → Value
-binary_value p m k a b = (if is_arithmetic m then computed p m (or_int k) a b else (if is_order m || is_equality m then compared p m a b else joined_by p m a b))
+binary_value p m k a b =
+    (if is_arithmetic m then computed p m (or_int k) a b else (if is_order m
+    || is_equality m then compared p m a b else joined_by p m a b))
 
 abbrev pub assign_value : Pos → Punct → Option ValueKind → Option ValueKind → Place → Value → Value
-assign_value p m k from s v = (if is_arithmetic_assign m then updated p m (wider k from) (or_int k) s v else stored p (or_int k) s (convert p k from v))
+assign_value p m k from s v =
+    (if is_arithmetic_assign m then updated p m (wider k from) (or_int k) s v else stored p (or_int k) s
+    (convert p k from v))
 
 abbrev pub cast_value : Pos → Option ValueKind → Option ValueKind → Value → Value
-cast_value p to from v = (if is_void to then dropped p v else (if is_integer to && not (is_same_kind to from) then convert_some p to v else cast_of p v))
+cast_value p to from v =
+    (if is_void to then dropped p v else (if is_integer to
+    && not (is_same_kind to from) then convert_some p to v else cast_of p v))
 
 abbrev pub call_value : Pos → Callee → Name → Values → Value
 call_value p (defined d) n vs = called p n vs
@@ -136,8 +150,10 @@ abbrev mutual
   resolve env (assign p m a b) = assign_value p m (kind_of env a) (kind_of env b) (place_of env a) (resolve env b)
   resolve env (conditional p c a b) = chosen p (resolve env c) (resolve env a) (resolve env b)
   resolve env (cast p t e) = cast_value p (type_name_kind env.file.items t) (kind_of env e) (resolve env e)
-  resolve env (call p f es) = call_value p (callee env f) (callee_name f) (resolve_all env (wants env (callee env f)) es)
-  resolve env (arrow p e n) = read_as p (kind_of env (arrow p e n)) (field_of p (resolve env e) (struct_part (kind_of env e)) n)
+  resolve env (call p f es) = call_value p (callee env f) (callee_name f)
+      (resolve_all env (wants env (callee env f)) es)
+  resolve env (arrow p e n) = read_as p (kind_of env (arrow p e n)) (field_of p (resolve env e)
+      (struct_part (kind_of env e)) n)
   resolve env (float p) = nonsense p
   resolve env (comma p a b) = nonsense p
   resolve env (size_of_type p t) = nonsense p
@@ -154,5 +170,6 @@ abbrev mutual
   pub resolve_all : Env → List Want → Exprs → Values
   resolve_all env ws no_exprs = no_values
   resolve_all env ws (expr_and e es) =
-      value_and (if wants_module ws && is_module_address env e then module_address e else convert (expr_pos e) (want_kind ws) (kind_of env e) (resolve env e))
+      value_and (if wants_module ws && is_module_address env e then module_address e else convert (expr_pos e)
+      (want_kind ws) (kind_of env e) (resolve env e))
       (resolve_all env (other_wants ws) es)

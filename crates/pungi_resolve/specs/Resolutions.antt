@@ -1,8 +1,10 @@
 -- What the functions of a file do in which no rule holds.
 --   resolution_of file refused d   what a function does, or none where a rule holds in it
 --   resolution_view r              the same of the program
---   IsResolved c functions         these are what the functions of a checked file do, and what the code that is made of them rests on
-use Rattle.std.specs.Prelude.{◌≡◌, ℕ, ◌≤◌, List, length, map, Option, Some, None, is_some, option_map, IsTrue, if◌then◌else◌}
+--   IsResolved c functions         these are what the functions of a checked file do, and what the code that is made of
+--                                  them rests on
+use Rattle.std.specs.Prelude.{◌≡◌, ℕ, ◌≤◌, List, length, map, Option, Some, None, is_some, option_map, IsTrue}
+use Rattle.std.specs.Prelude.{if◌then◌else◌}
 use Rattle.pungi_api.specs.Rows.{are_rows}
 use Rattle.pungi_types.specs.Files.{SourceFile, Definition, definitions, AreOwn}
 use Rattle.pungi_types.specs.Functions.{refusal}
@@ -19,8 +21,8 @@ resolution_of file refused d = (if is_some (refusal file refused d) then None el
 abbrev pub resolution_view : Option Function → Option ResolvedFunction
 resolution_view r = option_map function_view r
 
--- each function is the one of its name, the refused ones are the least set that holds each in which a rule holds, the rows are well-formed, and there are
--- no more functions than a file may have
+-- each function is the one of its name, the refused ones are the least set that holds each in which a rule holds, the
+-- rows are well-formed, and there are no more functions than a file may have
 pub record IsResolved (c : CheckedFile) (functions : List (Option ResolvedFunction)) : Type 0 where
   pub are : functions ≡ map (resolution_of c.file c.refused) (definitions c.file.items)
   pub own : AreOwn (definitions c.file.items) (definitions c.file.items)

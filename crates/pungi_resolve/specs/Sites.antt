@@ -1,6 +1,8 @@
 -- Where a statement stands, as the walk through a function knows it, and locals that are reached there.
---   site_of env walk result     the names of the file and the locals before them, the number of the next local, and the kind of the function's result
---   first_value env k p i       the first value of a variable of this kind that is declared at p, where these names are in force
+--   site_of env walk result     the names of the file and the locals before them, the number of the next local, and the
+--                               kind of the function's result
+--   first_value env k p i       the first value of a variable of this kind that is declared at p, where these names are
+--                               in force
 --   declared_var f s v          a variable as it is reached
 --   after_all f ss              where what follows statements stands
 use Rattle.std.specs.Prelude.{Option, Some, None}

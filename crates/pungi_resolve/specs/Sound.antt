@@ -2,8 +2,13 @@
 --   is_sound, are_sound, is_sound_place, is_sound_option, are_sound_locals    values, places and locals
 --   is_sound_action, are_sound_actions    statements
 use Rattle.std.specs.Prelude.{Bool, true, false, ◌&&◌, List, [], ◌∷◌, Option, Some, None}
-use Rattle.pungi_resolved.specs.Values.{Value, constant, text_of, null_of, static_of, module_of, read, inner, signed, negated, stepped, computed, compared, joined_by, stored, updated, chosen, converted, cast_of, dropped, called, called_row, nonsense, Values, no_values, value_and, Place, local_place, global_place, field_place, no_place}
-use Rattle.pungi_resolved.specs.Actions.{DeclaredLocal, Action, block, declare, do_expr, if_only, if_else, while, do_while, for, switch, case, default, label, goto, break, continue, return, Actions, no_actions, action_and}
+use Rattle.pungi_resolved.specs.Values.{Value, constant, text_of, null_of, static_of, module_of, read, inner, signed}
+use Rattle.pungi_resolved.specs.Values.{negated, stepped, computed, compared, joined_by, stored, updated, chosen}
+use Rattle.pungi_resolved.specs.Values.{converted, cast_of, dropped, called, called_row, nonsense, Values, no_values}
+use Rattle.pungi_resolved.specs.Values.{value_and, Place, local_place, global_place, field_place, no_place}
+use Rattle.pungi_resolved.specs.Actions.{DeclaredLocal, Action, block, declare, do_expr, if_only, if_else, while}
+use Rattle.pungi_resolved.specs.Actions.{do_while, for, switch, case, default, label, goto, break, continue, return}
+use Rattle.pungi_resolved.specs.Actions.{Actions, no_actions, action_and}
 
 abbrev mutual
   pub is_sound : Value → Bool
@@ -57,7 +62,8 @@ abbrev mutual
   is_sound_action (if_else p v a b) = is_sound v && (is_sound_action a && is_sound_action b)
   is_sound_action (while p v a) = is_sound v && is_sound_action a
   is_sound_action (do_while p a v) = is_sound_action a && is_sound v
-  is_sound_action (for p rs u v w a) = are_sound_locals rs && (is_sound_option u && (is_sound_option v && (is_sound_option w && is_sound_action a)))
+  is_sound_action (for p rs u v w a) = are_sound_locals rs
+      && (is_sound_option u && (is_sound_option v && (is_sound_option w && is_sound_action a)))
   is_sound_action (switch p v a) = is_sound v && is_sound_action a
   is_sound_action (case p v a) = is_sound_action a
   is_sound_action (default p a) = is_sound_action a

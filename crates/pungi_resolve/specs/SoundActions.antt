@@ -2,7 +2,9 @@
 --   AreSoundLocals rs     locals as they are reached
 --   IsSoundAction a, AreSoundActions as    actions
 use Rattle.std.specs.Prelude.{◌≡◌, true, List, [], ◌∷◌}
-use Rattle.pungi_resolved.specs.Actions.{DeclaredLocal, Action, block, declare, do_expr, if_only, if_else, while, do_while, for, switch, case, default, label, goto, break, continue, return, Actions, no_actions, action_and}
+use Rattle.pungi_resolved.specs.Actions.{DeclaredLocal, Action, block, declare, do_expr, if_only, if_else, while}
+use Rattle.pungi_resolved.specs.Actions.{do_while, for, switch, case, default, label, goto, break, continue, return}
+use Rattle.pungi_resolved.specs.Actions.{Actions, no_actions, action_and}
 use Rattle.pungi_resolve.specs.Sound.{is_sound, is_sound_option}
 
 abbrev pub AreSoundLocals : List DeclaredLocal → Type 0
@@ -18,7 +20,8 @@ abbrev mutual
   IsSoundAction (if_else p v a b) = (is_sound v ≡ true) × IsSoundAction a × IsSoundAction b
   IsSoundAction (while p v a) = (is_sound v ≡ true) × IsSoundAction a
   IsSoundAction (do_while p a v) = IsSoundAction a × (is_sound v ≡ true)
-  IsSoundAction (for p rs u v w a) = AreSoundLocals rs × (is_sound_option u ≡ true) × (is_sound_option v ≡ true) × (is_sound_option w ≡ true) × IsSoundAction a
+  IsSoundAction (for p rs u v w a) = AreSoundLocals rs × (is_sound_option u ≡ true) × (is_sound_option v ≡ true)
+      × (is_sound_option w ≡ true) × IsSoundAction a
   IsSoundAction (switch p v a) = (is_sound v ≡ true) × IsSoundAction a
   IsSoundAction (case p v a) = IsSoundAction a
   IsSoundAction (default p a) = IsSoundAction a

@@ -10,7 +10,9 @@
 use Rattle.std.specs.Prelude.{ℕ, ℤ, ◌+◌, pos, List, [], ◌∷◌, Option, Some, None}
 use Rattle.pungi_base.specs.declared.pos.Pos.{Pos}
 use Rattle.pungi_tree.specs.Syntax as tree
-use Rattle.pungi_tree.specs.Syntax.{Expr, Spec, value, table, VarDecl, var_decl, Decl, decl, ForStart, start_decl, start_expr, Stmt, Stmts, no_stmts, stmt_and, Params, params, ParamDecl, ParamDecls, no_params, param_and, param_decl, named, bare, unused}
+use Rattle.pungi_tree.specs.Syntax.{Expr, Spec, value, table, VarDecl, var_decl, Decl, decl, ForStart, start_decl}
+use Rattle.pungi_tree.specs.Syntax.{start_expr, Stmt, Stmts, no_stmts, stmt_and, Params, params, ParamDecl, ParamDecls}
+use Rattle.pungi_tree.specs.Syntax.{no_params, param_and, param_decl, named, bare, unused}
 use Rattle.pungi_types.specs.Files.{declr_name, declr_pos}
 use Rattle.pungi_types.specs.Names.{Env}
 use Rattle.pungi_types.specs.Kinds.{declared_kind}
@@ -18,7 +20,9 @@ use Rattle.pungi_types.specs.Exprs.{kind_of, param_kind}
 use Rattle.pungi_types.specs.Labels.{constant_of, stmt_locals}
 use Rattle.pungi_resolve.specs.Exprs.{convert, resolve}
 use Rattle.pungi_resolved.specs.Values.{Value}
-use Rattle.pungi_resolved.specs.Actions.{DeclaredLocal, Action, block, declare, do_expr, if_only, if_else, while, do_while, for, switch, case, default, label, goto, break, continue, return, Actions, no_actions, action_and}
+use Rattle.pungi_resolved.specs.Actions.{DeclaredLocal, Action, block, declare, do_expr, if_only, if_else, while}
+use Rattle.pungi_resolved.specs.Actions.{do_while, for, switch, case, default, label, goto, break, continue, return}
+use Rattle.pungi_resolved.specs.Actions.{Actions, no_actions, action_and}
 use Rattle.pungi_types.specs.Stmts.{with_local}
 use Rattle.pungi_types.specs.declared.kind.ValueKind.{ValueKind}
 
@@ -31,7 +35,15 @@ pub record Site : Type 0 where
 -- .. the sites after what declares
 abbrev pub with_var : Site → Spec → VarDecl → Site
 with_var f s (var_decl d v) =
-    record f { env = with_local f.env (record { name = declr_name d; number = f.next; kind = declared_kind f.env.file.items s d }); next = f.next + 1 }
+    record f {
+      env = with_local f.env (record {
+        name = declr_name d;
+        number = f.next;
+        kind = declared_kind
+            f.env.file.items s d;
+      });
+      next = f.next + 1;
+    }
 
 abbrev pub with_vars : Site → Spec → List VarDecl → Site
 with_vars f s [] = f
@@ -55,7 +67,15 @@ site_after f s = site_past f s
 -- only a parameter that is written plainly has a name in the body; the others are locals without one
 abbrev pub with_param : Site → ParamDecl → Site
 with_param f (param_decl qs s (named d)) =
-    record f { env = with_local f.env (record { name = declr_name d; number = f.next; kind = param_kind f.env.file.items s (named d) }); next = f.next + 1 }
+    record f {
+      env = with_local f.env (record {
+        name = declr_name d;
+        number = f.next;
+        kind = param_kind
+            f.env.file.items s (named d);
+      });
+      next = f.next + 1;
+    }
 with_param f (param_decl qs s (bare stars)) = record f { next = f.next + 1 }
 with_param f (param_decl qs s (unused stars n p)) = record f { next = f.next + 1 }
 
@@ -72,7 +92,8 @@ abbrev pub initial_value : Site → Spec → VarDecl → Option Value
 initial_value f s (var_decl d None) = None
 initial_value f s (var_decl d (Some (table ts))) = None
 initial_value f s (var_decl d (Some (value e))) =
-    Some (convert (declr_pos d) (declared_kind f.env.file.items s d) (kind_of (with_var f s (var_decl d None)).env e) (resolve (with_var f s (var_decl d None)).env e))
+    Some (convert (declr_pos d) (declared_kind f.env.file.items s d) (kind_of (with_var f s (var_decl d None)).env
+    e) (resolve (with_var f s (var_decl d None)).env e))
 
 abbrev pub var_pos : VarDecl → Pos
 var_pos (var_decl d v) = declr_pos d
@@ -82,7 +103,9 @@ var_kind f s (var_decl d v) = declared_kind f.env.file.items s d
 
 abbrev pub declared_locals : Site → Spec → List VarDecl → List DeclaredLocal
 declared_locals f s [] = []
-declared_locals f s (v ∷ vs) = record { number = f.next; at = var_pos v; kind = var_kind f s v; value = initial_value f s v } ∷ declared_locals (with_var f s v) s vs
+declared_locals f s (v ∷ vs) =
+    record { number = f.next; at = var_pos v; kind = var_kind f s v; value = initial_value f s v }
+    ∷ declared_locals (with_var f s v) s vs
 
 abbrev pub start_declared : Site → ForStart → List DeclaredLocal
 start_declared f (start_decl (decl qs s vs)) = declared_locals f s vs
@@ -116,7 +139,8 @@ abbrev mutual
   action f (tree.while p e s) = while p (resolve f.env e) (action f s)
   action f (tree.do_while p s e) = do_while p (action f s) (resolve f.env e)
   action f (tree.for p a b c s) =
-      for p (start_declared f a) (start_value f.env a) (option_value (with_start f a).env b) (option_value (with_start f a).env c) (action (with_start f a) s)
+      for p (start_declared f a) (start_value f.env a) (option_value (with_start f a).env b)
+      (option_value (with_start f a).env c) (action (with_start f a) s)
   action f (tree.switch p e s) = switch p (resolve f.env e) (action f s)
   action f (tree.case p e s) = case p (case_value (constant_of e)) (action f s)
   action f (tree.default p s) = default p (action f s)

@@ -45,8 +45,10 @@ fn call_row<N: Lookup>(
     kind: Option<ValueKind>,
 ) -> Result<Typed, Memory>
     requires other { is_defined (callee_of (N.env names.now) name.0) ≡ false }
-    requires sound { is_sound (call_value pos (callee_of (N.env names.now) name.0) name (values_of (map value_view args.items))) ≡ true }
-    ensures value { IfOk result (λ x. boxed_view x.value ≡ call_value pos (callee_of (N.env names.now) name.0) name (values_of (map value_view args.items))) }
+    requires sound { is_sound (call_value pos (callee_of (N.env names.now) name.0) name
+        (values_of (map value_view args.items))) ≡ true }
+    ensures value { IfOk result (λ x. boxed_view x.value
+        ≡ call_value pos (callee_of (N.env names.now) name.0) name (values_of (map value_view args.items))) }
     ensures kind { IfOk result (λ x. x.kind ≡ kind) }
 {
     match names.row(name) {
@@ -67,8 +69,11 @@ pub(crate) fn call<N: Lookup>(
     args: Vec<Value>,
     kind: Option<ValueKind>,
 ) -> Result<Typed, Memory>
-    requires { is_sound (call_value pos (callee (N.env names.now) (expr_view f.now)) (callee_name (expr_view f.now)) (values_of (map value_view args.items))) ≡ true }
-    ensures value { IfOk result (λ x. boxed_view x.value ≡ call_value pos (callee (N.env names.now) (expr_view f.now)) (callee_name (expr_view f.now)) (values_of (map value_view args.items))) }
+    requires { is_sound (call_value pos (callee (N.env names.now) (expr_view f.now)) (callee_name (expr_view f.now))
+        (values_of (map value_view args.items))) ≡ true }
+    ensures value { IfOk result (λ x. boxed_view x.value
+        ≡ call_value pos (callee (N.env names.now) (expr_view f.now)) (callee_name (expr_view f.now))
+        (values_of (map value_view args.items))) }
     ensures kind { IfOk result (λ x. x.kind ≡ kind) }
 {
     match &f.node {

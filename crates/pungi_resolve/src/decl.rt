@@ -26,8 +26,10 @@ fn first_value<N: Lookup>(
     pos: Pos,
     value: &Option<Init>,
 ) -> Result<Option<Box<Value>>, Memory>
-    requires { is_sound_option (first_value (inner_env (N.env names.now) walk.now.locals) kind pos (init_option_view value.now)) ≡ true }
-    ensures { IfOk result (λ x. optional_view x ≡ first_value (inner_env (N.env names.now) walk.now.locals) kind pos (init_option_view value.now)) }
+    requires { is_sound_option (first_value (inner_env (N.env names.now) walk.now.locals) kind pos
+        (init_option_view value.now)) ≡ true }
+    ensures { IfOk result (λ x. optional_view x ≡ first_value (inner_env (N.env names.now) walk.now.locals) kind pos
+        (init_option_view value.now)) }
 {
     match value {
         None => Ok(None),
@@ -47,9 +49,13 @@ fn resolve_var<N: Lookup>(
     spec: &Spec,
     var: &VarDecl,
 ) -> Result<DeclaredLocal, Memory>
-    requires { is_sound_option (declared_var (site_of (N.env names.now) walk.old around.result) (spec_view spec.now) (var_decl_view var.now)).value ≡ true }
-    ensures reached { IfOk result (λ x. declared_view x ≡ declared_var (site_of (N.env names.now) walk.old around.result) (spec_view spec.now) (var_decl_view var.now)) }
-    ensures after { OnOk result (site_of (N.env names.now) walk.new around.result ≡ with_var (site_of (N.env names.now) walk.old around.result) (spec_view spec.now) (var_decl_view var.now)) }
+    requires { is_sound_option (declared_var (site_of (N.env names.now) walk.old around.result) (spec_view spec.now)
+        (var_decl_view var.now)).value ≡ true }
+    ensures reached { IfOk result (λ x. declared_view x
+        ≡ declared_var (site_of (N.env names.now) walk.old around.result) (spec_view spec.now)
+        (var_decl_view var.now)) }
+    ensures after { OnOk result (site_of (N.env names.now) walk.new around.result
+        ≡ with_var (site_of (N.env names.now) walk.old around.result) (spec_view spec.now) (var_decl_view var.now)) }
 {
     let number = walk.next;
     let at = var.declr.pos;
@@ -72,9 +78,14 @@ pub(crate) fn resolve_vars<N: Lookup>(
     spec: &Spec,
     list: &Vec<VarDecl>,
 ) -> Result<Vec<DeclaredLocal>, Memory>
-    requires { AreSoundLocals (declared_locals (site_of (N.env names.now) walk.old around.result) (spec_view spec.now) (map var_decl_view list.now.items)) }
-    ensures reached { IfOk result (λ x. map declared_view x.items ≡ declared_locals (site_of (N.env names.now) walk.old around.result) (spec_view spec.now) (map var_decl_view list.now.items)) }
-    ensures after { OnOk result (site_of (N.env names.now) walk.new around.result ≡ with_vars (site_of (N.env names.now) walk.old around.result) (spec_view spec.now) (map var_decl_view list.now.items)) }
+    requires { AreSoundLocals (declared_locals (site_of (N.env names.now) walk.old around.result)
+        (spec_view spec.now) (map var_decl_view list.now.items)) }
+    ensures reached { IfOk result (λ x. map declared_view x.items
+        ≡ declared_locals (site_of (N.env names.now) walk.old around.result) (spec_view spec.now)
+        (map var_decl_view list.now.items)) }
+    ensures after { OnOk result (site_of (N.env names.now) walk.new around.result
+        ≡ with_vars (site_of (N.env names.now) walk.old around.result) (spec_view spec.now)
+        (map var_decl_view list.now.items)) }
 {
     let mut locals = Vec::new(around.alloc);
     for var in list {

@@ -2,7 +2,8 @@
 ghost use Rattle.std.specs.Prelude.{◌≡◌, IfOk, map, true};
 ghost use Rattle.pungi_types.specs.Operators.{struct_part};
 ghost use Rattle.pungi_types.specs.Kinds.{field_kind};
-ghost use Rattle.pungi_types.specs.Exprs.{kind_of, step_kind, is_place as is_place_of, operand, are_met, first_met, is_module_address};
+ghost use Rattle.pungi_types.specs.Exprs.{kind_of, step_kind, is_place as is_place_of, operand, are_met, first_met};
+ghost use Rattle.pungi_types.specs.Exprs.{is_module_address};
 ghost use Rattle.pungi_resolve.specs.Exprs.{resolve, expr_pos, or_int, want_kind, place_of, resolve_all, field_of};
 ghost use Rattle.pungi_resolved.specs.Values as values;
 ghost use Rattle.pungi_resolve.specs.Sound.{is_sound, are_sound, is_sound_place};
@@ -116,7 +117,8 @@ pub(crate) fn resolve_expr<N: Lookup>(alloc: Global, names: &N, e: &Expr) -> Res
 #[cycle(expr)]
 fn resolve_paren<N: Lookup>(alloc: Global, names: &N, pos: Pos, a: &Expr) -> Result<Typed, Memory>
     requires { is_sound (resolve (N.env names.now) (expr_view a.now)) ≡ true }
-    ensures value { IfOk result (λ x. boxed_view x.value ≡ values.inner pos (resolve (N.env names.now) (expr_view a.now))) }
+    ensures value { IfOk result (λ x. boxed_view x.value
+        ≡ values.inner pos (resolve (N.env names.now) (expr_view a.now))) }
     ensures kind { IfOk result (λ x. x.kind ≡ kind_of (N.env names.now) (expr_view a.now)) }
 {
     let a = resolve_expr(alloc, names, a)?;
@@ -132,7 +134,8 @@ fn resolve_unary<N: Lookup>(
     a: &Expr,
 ) -> Result<Typed, Memory>
     requires { is_sound (resolve (N.env names.now) (plain.unary pos operator (expr_view a.now))) ≡ true }
-    ensures value { IfOk result (λ x. boxed_view x.value ≡ resolve (N.env names.now) (plain.unary pos operator (expr_view a.now))) }
+    ensures value { IfOk result (λ x. boxed_view x.value
+        ≡ resolve (N.env names.now) (plain.unary pos operator (expr_view a.now))) }
     ensures kind { IfOk result (λ x. x.kind ≡ kind_of (N.env names.now) (plain.unary pos operator (expr_view a.now))) }
 {
     match prefix_of(operator) {
@@ -161,8 +164,11 @@ fn resolve_step<N: Lookup>(
     a: &Expr,
 ) -> Result<Typed, Memory>
     requires { is_sound_place (place_of (N.env names.now) (expr_view a.now)) ≡ true }
-    ensures value { IfOk result (λ x. boxed_view x.value ≡ values.stepped pos is_postfix operator (or_int (kind_of (N.env names.now) (expr_view a.now))) (place_of (N.env names.now) (expr_view a.now))) }
-    ensures kind { IfOk result (λ x. x.kind ≡ step_kind (is_place_of (N.env names.now) (expr_view a.now)) (kind_of (N.env names.now) (expr_view a.now))) }
+    ensures value { IfOk result (λ x. boxed_view x.value
+        ≡ values.stepped pos is_postfix operator (or_int (kind_of (N.env names.now) (expr_view a.now)))
+        (place_of (N.env names.now) (expr_view a.now))) }
+    ensures kind { IfOk result (λ x. x.kind ≡ step_kind (is_place_of (N.env names.now) (expr_view a.now))
+        (kind_of (N.env names.now) (expr_view a.now))) }
 {
     let is_place = is_place(names, a);
     let a = resolve_place(alloc, names, a)?;
@@ -177,9 +183,12 @@ fn resolve_cast<N: Lookup>(
     a: &Expr,
     name: &TypeName,
 ) -> Result<Typed, Memory>
-    requires { is_sound (resolve (N.env names.now) (plain.cast pos (type_name_view name.now) (expr_view a.now))) ≡ true }
-    ensures value { IfOk result (λ x. boxed_view x.value ≡ resolve (N.env names.now) (plain.cast pos (type_name_view name.now) (expr_view a.now))) }
-    ensures kind { IfOk result (λ x. x.kind ≡ kind_of (N.env names.now) (plain.cast pos (type_name_view name.now) (expr_view a.now))) }
+    requires { is_sound (resolve (N.env names.now) (plain.cast pos (type_name_view name.now) (expr_view a.now)))
+        ≡ true }
+    ensures value { IfOk result (λ x. boxed_view x.value
+        ≡ resolve (N.env names.now) (plain.cast pos (type_name_view name.now) (expr_view a.now))) }
+    ensures kind { IfOk result (λ x. x.kind ≡ kind_of (N.env names.now) (plain.cast pos (type_name_view name.now)
+        (expr_view a.now))) }
 {
     let to = names.type_kind(&name.spec, name.stars.len());
     let a = resolve_expr(alloc, names, a)?;
@@ -194,9 +203,12 @@ fn resolve_call<N: Lookup>(
     list: &Vec<Expr>,
     f: &Expr,
 ) -> Result<Typed, Memory>
-    requires { is_sound (resolve (N.env names.now) (plain.call pos (expr_view f.now) (exprs_of (map expr_view list.now.items)))) ≡ true }
-    ensures value { IfOk result (λ x. boxed_view x.value ≡ resolve (N.env names.now) (plain.call pos (expr_view f.now) (exprs_of (map expr_view list.now.items)))) }
-    ensures kind { IfOk result (λ x. x.kind ≡ kind_of (N.env names.now) (plain.call pos (expr_view f.now) (exprs_of (map expr_view list.now.items)))) }
+    requires { is_sound (resolve (N.env names.now) (plain.call pos (expr_view f.now)
+        (exprs_of (map expr_view list.now.items)))) ≡ true }
+    ensures value { IfOk result (λ x. boxed_view x.value
+        ≡ resolve (N.env names.now) (plain.call pos (expr_view f.now) (exprs_of (map expr_view list.now.items)))) }
+    ensures kind { IfOk result (λ x. x.kind ≡ kind_of (N.env names.now) (plain.call pos (expr_view f.now)
+        (exprs_of (map expr_view list.now.items)))) }
 {
     let args = resolve_args(alloc, names, callee_wants(names, f), list)?;
     let kind = call_kind(names, f, args.met);
@@ -212,7 +224,8 @@ fn resolve_arrow<N: Lookup>(
     name: Name,
 ) -> Result<Typed, Memory>
     requires { is_sound (resolve (N.env names.now) (plain.arrow pos (expr_view a.now) name)) ≡ true }
-    ensures value { IfOk result (λ x. boxed_view x.value ≡ resolve (N.env names.now) (plain.arrow pos (expr_view a.now) name)) }
+    ensures value { IfOk result (λ x. boxed_view x.value
+        ≡ resolve (N.env names.now) (plain.arrow pos (expr_view a.now) name)) }
     ensures kind { IfOk result (λ x. x.kind ≡ kind_of (N.env names.now) (plain.arrow pos (expr_view a.now) name)) }
 {
     let field = resolve_field(alloc, names, pos, a, name)?;
@@ -245,9 +258,13 @@ fn resolve_field<N: Lookup>(
     a: &Expr,
     name: Name,
 ) -> Result<TypedPlace, Memory>
-    requires { is_sound_place (field_of pos (resolve (N.env names.now) (expr_view a.now)) (struct_part (kind_of (N.env names.now) (expr_view a.now))) name) ≡ true }
-    ensures place { IfOk result (λ x. place_view x.place ≡ field_of pos (resolve (N.env names.now) (expr_view a.now)) (struct_part (kind_of (N.env names.now) (expr_view a.now))) name) }
-    ensures kind { IfOk result (λ x. x.kind ≡ field_kind (N.env names.now).file.items (kind_of (N.env names.now) (expr_view a.now)) name.0) }
+    requires { is_sound_place (field_of pos (resolve (N.env names.now) (expr_view a.now))
+        (struct_part (kind_of (N.env names.now) (expr_view a.now))) name) ≡ true }
+    ensures place { IfOk result (λ x. place_view x.place
+        ≡ field_of pos (resolve (N.env names.now) (expr_view a.now)) (struct_part
+        (kind_of (N.env names.now) (expr_view a.now))) name) }
+    ensures kind { IfOk result (λ x. x.kind ≡ field_kind (N.env names.now).file.items
+        (kind_of (N.env names.now) (expr_view a.now)) name.0) }
 {
     let base = resolve_expr(alloc, names, a)?;
     let kind = names.field_kind(base.kind, name);
@@ -263,8 +280,10 @@ fn resolve_args<N: Lookup>(
     list: &Vec<Expr>,
 ) -> Result<Arguments, Memory>
     requires { are_sound (resolve_all (N.env names.now) wants.now (exprs_of (map expr_view list.now.items))) ≡ true }
-    ensures values { IfOk result (λ x. values_of (map value_view x.values.items) ≡ resolve_all (N.env names.now) wants.now (exprs_of (map expr_view list.now.items))) }
-    ensures met { IfOk result (λ x. x.met ≡ are_met (N.env names.now) wants.now (exprs_of (map expr_view list.now.items))) }
+    ensures values { IfOk result (λ x. values_of (map value_view x.values.items)
+        ≡ resolve_all (N.env names.now) wants.now (exprs_of (map expr_view list.now.items))) }
+    ensures met { IfOk result (λ x. x.met ≡ are_met (N.env names.now) wants.now
+        (exprs_of (map expr_view list.now.items))) }
 {
     let mut values = Vec::new(alloc);
     let mut met = true;
@@ -290,7 +309,8 @@ fn resolve_arg<N: Lookup>(
 ) -> Result<Argument, Memory>
     requires { is_sound (argument_in (N.env names.now) wants.now (expr_view e.now)) ≡ true }
     ensures value { IfOk result (λ x. boxed_view x.value ≡ argument_in (N.env names.now) wants.now (expr_view e.now)) }
-    ensures met { IfOk result (λ x. x.met ≡ first_met wants.now (is_module_address (N.env names.now) (expr_view e.now)) (operand (kind_of (N.env names.now) (expr_view e.now)) (expr_view e.now))) }
+    ensures met { IfOk result (λ x. x.met ≡ first_met wants.now (is_module_address (N.env names.now)
+        (expr_view e.now)) (operand (kind_of (N.env names.now) (expr_view e.now)) (expr_view e.now))) }
 {
     let is_module = is_module_address(names, e);
     if wants_module(wants) && is_module {

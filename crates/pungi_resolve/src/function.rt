@@ -30,7 +30,8 @@ fn resolve_body<N: Lookup>(
     body: &Stmt,
 ) -> Result<Action, Memory>
     requires { IsSoundAction (body_action pos (site_of (N.env names.now) walk.old around.result) (stmt_view body.now)) }
-    ensures action { IfOk result (λ x. action_view x ≡ body_action pos (site_of (N.env names.now) walk.old around.result) (stmt_view body.now)) }
+    ensures action { IfOk result (λ x. action_view x ≡ body_action pos (site_of (N.env names.now) walk.old
+        around.result) (stmt_view body.now)) }
     ensures locals { OnOk result (walk.new.next ≡ walk.old.next + body_locals (stmt_view body.now)) }
 {
     match &body.node {

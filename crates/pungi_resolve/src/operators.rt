@@ -47,7 +47,8 @@ pub(crate) fn step(
     is_place: bool,
     a: TypedPlace,
 ) -> Result<Typed, Memory>
-    ensures value { IfOk result (λ x. boxed_view x.value ≡ plain.stepped pos is_postfix operator (or_int a.kind) (place_view a.place)) }
+    ensures value { IfOk result (λ x. boxed_view x.value
+        ≡ plain.stepped pos is_postfix operator (or_int a.kind) (place_view a.place)) }
     ensures kind { IfOk result (λ x. x.kind ≡ step_kind is_place a.kind) }
 {
     let node = ValueNode::Stepped(is_postfix, operator, or_int(a.kind), a.place);
@@ -66,7 +67,8 @@ fn sign_kind(kind: Known) -> ValueKind
 
 /// `+` or `-` of an operand.
 pub(crate) fn sign(alloc: Global, pos: Pos, operator: Kind, a: Typed) -> Result<Typed, Memory>
-    ensures value { IfOk result (λ x. boxed_view x.value ≡ plain.signed pos operator (if is_int a.kind then kinds.Int else kinds.Long) (boxed_view a.value)) }
+    ensures value { IfOk result (λ x. boxed_view x.value
+        ≡ plain.signed pos operator (if is_int a.kind then kinds.Int else kinds.Long) (boxed_view a.value)) }
     ensures kind { IfOk result (λ x. x.kind ≡ unary_kind prefixes.Sign false false a.kind) }
 {
     let kind = unary_kind(Prefix::Sign, false, false, a.kind);
@@ -91,7 +93,8 @@ pub(crate) fn binary(
     a: Typed,
     b: Typed,
 ) -> Result<Typed, Memory>
-    ensures value { IfOk result (λ x. boxed_view x.value ≡ binary_value pos operator (binary_kind operator a.kind b.kind) (boxed_view a.value) (boxed_view b.value)) }
+    ensures value { IfOk result (λ x. boxed_view x.value
+        ≡ binary_value pos operator (binary_kind operator a.kind b.kind) (boxed_view a.value) (boxed_view b.value)) }
     ensures kind { IfOk result (λ x. x.kind ≡ binary_kind operator a.kind b.kind) }
 {
     let kind = binary_kind(operator, a.kind, b.kind);
@@ -124,7 +127,8 @@ pub(crate) fn assign(
     a: TypedPlace,
     b: Typed,
 ) -> Result<Typed, Memory>
-    ensures value { IfOk result (λ x. boxed_view x.value ≡ assign_value pos operator a.kind b.kind (place_view a.place) (boxed_view b.value)) }
+    ensures value { IfOk result (λ x. boxed_view x.value
+        ≡ assign_value pos operator a.kind b.kind (place_view a.place) (boxed_view b.value)) }
     ensures kind { IfOk result (λ x. x.kind ≡ assign_kind operator is_place a.kind b.kind) }
 {
     let kind = assign_kind(operator, is_place, a.kind, b.kind);
@@ -147,7 +151,8 @@ pub(crate) fn conditional(
     yes: Typed,
     no: Typed,
 ) -> Result<Typed, Memory>
-    ensures value { IfOk result (λ x. boxed_view x.value ≡ plain.chosen pos (boxed_view test.value) (boxed_view yes.value) (boxed_view no.value)) }
+    ensures value { IfOk result (λ x. boxed_view x.value
+        ≡ plain.chosen pos (boxed_view test.value) (boxed_view yes.value) (boxed_view no.value)) }
     ensures kind { IfOk result (λ x. x.kind ≡ cond_kind test.kind yes.kind no.kind) }
 {
     let kind = cond_kind(test.kind, yes.kind, no.kind);

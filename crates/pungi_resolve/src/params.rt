@@ -19,8 +19,11 @@ fn resolve_param<N: Lookup>(
     walk: &mut Walk,
     p: &ParamDecl,
 ) -> Result<Option<ValueKind>, Memory>
-    ensures kind { IfOk result (λ x. x ≡ param_kind (N.env names.now).file.items (spec_view p.now.spec) (param_declr_view p.now.declr)) }
-    ensures after { OnOk result (site_of (N.env names.now) walk.new around.result ≡ with_param (site_of (N.env names.now) walk.old around.result) (plain.param_decl p.now.quals.items (spec_view p.now.spec) (param_declr_view p.now.declr))) }
+    ensures kind { IfOk result (λ x. x ≡ param_kind (N.env names.now).file.items (spec_view p.now.spec)
+        (param_declr_view p.now.declr)) }
+    ensures after { OnOk result (site_of (N.env names.now) walk.new around.result
+        ≡ with_param (site_of (N.env names.now) walk.old around.result) (plain.param_decl p.now.quals.items
+        (spec_view p.now.spec) (param_declr_view p.now.declr))) }
 {
     let kind = param_kind(names, &p.spec, &p.declr);
     match &p.declr {
@@ -41,8 +44,11 @@ fn resolve_list<N: Lookup>(
     walk: &mut Walk,
     list: &Vec<ParamDecl>,
 ) -> Result<Vec<Option<ValueKind>>, Memory>
-    ensures kinds { IfOk result (λ x. x.items ≡ param_kinds (N.env names.now).file.items (param_decls_of (map param_decl_view list.now.items))) }
-    ensures after { OnOk result (site_of (N.env names.now) walk.new around.result ≡ with_params (site_of (N.env names.now) walk.old around.result) (param_decls_of (map param_decl_view list.now.items))) }
+    ensures kinds { IfOk result (λ x. x.items ≡ param_kinds (N.env names.now).file.items
+        (param_decls_of (map param_decl_view list.now.items))) }
+    ensures after { OnOk result (site_of (N.env names.now) walk.new around.result
+        ≡ with_params (site_of (N.env names.now) walk.old around.result) (param_decls_of
+        (map param_decl_view list.now.items))) }
 {
     let mut kinds = Vec::new(around.alloc);
     for p in list {
@@ -60,7 +66,8 @@ pub(crate) fn resolve_params<N: Lookup>(
     params: &Params,
 ) -> Result<Vec<Option<ValueKind>>, Memory>
     ensures kinds { IfOk result (λ x. x.items ≡ params_kinds (N.env names.now).file.items (params_view params.now)) }
-    ensures after { OnOk result (site_of (N.env names.now) walk.new around.result ≡ params_site (site_of (N.env names.now) walk.old around.result) (params_view params.now)) }
+    ensures after { OnOk result (site_of (N.env names.now) walk.new around.result
+        ≡ params_site (site_of (N.env names.now) walk.old around.result) (params_view params.now)) }
 {
     resolve_list(names, around, walk, &params.list)
 }

@@ -2,7 +2,8 @@
 ghost use Rattle.std.specs.Prelude.{◌≡◌, ◌+◌, ◌-◌, IfOk, OnOk, map, true, length, drop};
 ghost use Rattle.pungi_types.specs.Labels.{constant_of, stmt_locals, stmts_locals};
 ghost use Rattle.pungi_resolved.specs.Actions as actions;
-ghost use Rattle.pungi_resolve.specs.Stmts.{action, actions as actions_in, site_after, with_start, start_declared, start_value, option_value, case_value};
+ghost use Rattle.pungi_resolve.specs.Stmts.{action, actions as actions_in, site_after, with_start, start_declared};
+ghost use Rattle.pungi_resolve.specs.Stmts.{start_value, option_value, case_value};
 ghost use Rattle.pungi_resolve.specs.Sound.{is_sound_option};
 ghost use Rattle.pungi_resolve.specs.SoundActions.{AreSoundLocals, IsSoundAction, AreSoundActions};
 ghost use Rattle.pungi_scope.specs.ScopeEnv.{inner_env};
@@ -55,11 +56,16 @@ fn resolve_start<N: Lookup>(
     walk: &mut Walk,
     start: &ForStart,
 ) -> Result<Start, Memory>
-    requires locals { AreSoundLocals (start_declared (site_of (N.env names.now) walk.old around.result) (for_start_view start.now)) }
-    requires first { is_sound_option (start_value (inner_env (N.env names.now) walk.old.locals) (for_start_view start.now)) ≡ true }
-    ensures locals { IfOk result (λ x. map declared_view x.locals.items ≡ start_declared (site_of (N.env names.now) walk.old around.result) (for_start_view start.now)) }
-    ensures first { IfOk result (λ x. optional_view x.first ≡ start_value (inner_env (N.env names.now) walk.old.locals) (for_start_view start.now)) }
-    ensures after { OnOk result (site_of (N.env names.now) walk.new around.result ≡ with_start (site_of (N.env names.now) walk.old around.result) (for_start_view start.now)) }
+    requires locals { AreSoundLocals (start_declared (site_of (N.env names.now) walk.old around.result)
+        (for_start_view start.now)) }
+    requires first { is_sound_option (start_value (inner_env (N.env names.now) walk.old.locals)
+        (for_start_view start.now)) ≡ true }
+    ensures locals { IfOk result (λ x. map declared_view x.locals.items
+        ≡ start_declared (site_of (N.env names.now) walk.old around.result) (for_start_view start.now)) }
+    ensures first { IfOk result (λ x. optional_view x.first
+        ≡ start_value (inner_env (N.env names.now) walk.old.locals) (for_start_view start.now)) }
+    ensures after { OnOk result (site_of (N.env names.now) walk.new around.result
+        ≡ with_start (site_of (N.env names.now) walk.old around.result) (for_start_view start.now)) }
 {
     match start {
         ForStart::Decl(d) => {
@@ -88,15 +94,26 @@ fn resolve_head<N: Lookup>(
     test: &Option<Expr>,
     step: &Option<Expr>,
 ) -> Result<Head, Memory>
-    requires locals { AreSoundLocals (start_declared (site_of (N.env names.now) walk.old around.result) (for_start_view start.now)) }
-    requires first { is_sound_option (start_value (inner_env (N.env names.now) walk.old.locals) (for_start_view start.now)) ≡ true }
-    requires test { is_sound_option (option_value (with_start (site_of (N.env names.now) walk.old around.result) (for_start_view start.now)).env (optional_expr_view test.now)) ≡ true }
-    requires step { is_sound_option (option_value (with_start (site_of (N.env names.now) walk.old around.result) (for_start_view start.now)).env (optional_expr_view step.now)) ≡ true }
-    ensures locals { IfOk result (λ x. map declared_view x.locals.items ≡ start_declared (site_of (N.env names.now) walk.old around.result) (for_start_view start.now)) }
-    ensures first { IfOk result (λ x. optional_view x.first ≡ start_value (inner_env (N.env names.now) walk.old.locals) (for_start_view start.now)) }
-    ensures test { IfOk result (λ x. optional_view x.test ≡ option_value (with_start (site_of (N.env names.now) walk.old around.result) (for_start_view start.now)).env (optional_expr_view test.now)) }
-    ensures step { IfOk result (λ x. optional_view x.step ≡ option_value (with_start (site_of (N.env names.now) walk.old around.result) (for_start_view start.now)).env (optional_expr_view step.now)) }
-    ensures after { OnOk result (site_of (N.env names.now) walk.new around.result ≡ with_start (site_of (N.env names.now) walk.old around.result) (for_start_view start.now)) }
+    requires locals { AreSoundLocals (start_declared (site_of (N.env names.now) walk.old around.result)
+        (for_start_view start.now)) }
+    requires first { is_sound_option (start_value (inner_env (N.env names.now) walk.old.locals)
+        (for_start_view start.now)) ≡ true }
+    requires test { is_sound_option (option_value (with_start (site_of (N.env names.now) walk.old around.result)
+        (for_start_view start.now)).env (optional_expr_view test.now)) ≡ true }
+    requires step { is_sound_option (option_value (with_start (site_of (N.env names.now) walk.old around.result)
+        (for_start_view start.now)).env (optional_expr_view step.now)) ≡ true }
+    ensures locals { IfOk result (λ x. map declared_view x.locals.items
+        ≡ start_declared (site_of (N.env names.now) walk.old around.result) (for_start_view start.now)) }
+    ensures first { IfOk result (λ x. optional_view x.first
+        ≡ start_value (inner_env (N.env names.now) walk.old.locals) (for_start_view start.now)) }
+    ensures test { IfOk result (λ x. optional_view x.test
+        ≡ option_value (with_start (site_of (N.env names.now) walk.old around.result) (for_start_view start.now)).env
+        (optional_expr_view test.now)) }
+    ensures step { IfOk result (λ x. optional_view x.step
+        ≡ option_value (with_start (site_of (N.env names.now) walk.old around.result) (for_start_view start.now)).env
+        (optional_expr_view step.now)) }
+    ensures after { OnOk result (site_of (N.env names.now) walk.new around.result
+        ≡ with_start (site_of (N.env names.now) walk.old around.result) (for_start_view start.now)) }
 {
     let Start { locals, first } = resolve_start(names, around, walk, start)?;
     let test = optional_value(names, around, walk, test)?;
@@ -117,9 +134,12 @@ fn resolve_decl<N: Lookup>(
     pos: Pos,
     d: &Decl,
 ) -> Result<Action, Memory>
-    requires { IsSoundAction (action (site_of (N.env names.now) walk.old around.result) (plain.declare pos (decl_view d.now))) }
-    ensures action { IfOk result (λ x. action_view x ≡ action (site_of (N.env names.now) walk.old around.result) (plain.declare pos (decl_view d.now))) }
-    ensures after { OnOk result ((site_of (N.env names.now) walk.new around.result) ≡ site_after (site_of (N.env names.now) walk.old around.result) (plain.declare pos (decl_view d.now))) }
+    requires { IsSoundAction (action (site_of (N.env names.now) walk.old around.result)
+        (plain.declare pos (decl_view d.now))) }
+    ensures action { IfOk result (λ x. action_view x ≡ action (site_of (N.env names.now) walk.old around.result)
+        (plain.declare pos (decl_view d.now))) }
+    ensures after { OnOk result ((site_of (N.env names.now) walk.new around.result)
+        ≡ site_after (site_of (N.env names.now) walk.old around.result) (plain.declare pos (decl_view d.now))) }
 {
     let locals = resolve_vars(names, around, walk, &d.type_name, &d.vars)?;
     let node = ActionNode::Declare(locals);
@@ -134,8 +154,10 @@ fn resolve_do<N: Lookup>(
     pos: Pos,
     e: &Option<Expr>,
 ) -> Result<Action, Memory>
-    requires { IsSoundAction (action (site_of (N.env names.now) walk.now around.result) (plain.do_expr pos (optional_expr_view e.now))) }
-    ensures { IfOk result (λ x. action_view x ≡ action (site_of (N.env names.now) walk.now around.result) (plain.do_expr pos (optional_expr_view e.now))) }
+    requires { IsSoundAction (action (site_of (N.env names.now) walk.now around.result)
+        (plain.do_expr pos (optional_expr_view e.now))) }
+    ensures { IfOk result (λ x. action_view x ≡ action (site_of (N.env names.now) walk.now around.result)
+        (plain.do_expr pos (optional_expr_view e.now))) }
 {
     let found = optional_value(names, around, walk, e)?;
     let node = ActionNode::Do(found);
@@ -150,8 +172,10 @@ fn resolve_return<N: Lookup>(
     pos: Pos,
     e: &Option<Expr>,
 ) -> Result<Action, Memory>
-    requires { IsSoundAction (action (site_of (N.env names.now) walk.now around.result) (plain.return pos (optional_expr_view e.now))) }
-    ensures { IfOk result (λ x. action_view x ≡ action (site_of (N.env names.now) walk.now around.result) (plain.return pos (optional_expr_view e.now))) }
+    requires { IsSoundAction (action (site_of (N.env names.now) walk.now around.result)
+        (plain.return pos (optional_expr_view e.now))) }
+    ensures { IfOk result (λ x. action_view x ≡ action (site_of (N.env names.now) walk.now around.result)
+        (plain.return pos (optional_expr_view e.now))) }
 {
     let found = return_value(names, around, walk, pos, e)?;
     let node = ActionNode::Return(found);
@@ -167,8 +191,10 @@ pub(crate) fn resolve_stmt<N: Lookup>(
     s: &Stmt,
 ) -> Result<Action, Memory>
     requires { IsSoundAction (action (site_of (N.env names.now) walk.old around.result) (stmt_view s.now)) }
-    ensures action { IfOk result (λ x. action_view x ≡ action (site_of (N.env names.now) walk.old around.result) (stmt_view s.now)) }
-    ensures after { OnOk result ((site_of (N.env names.now) walk.new around.result) ≡ site_after (site_of (N.env names.now) walk.old around.result) (stmt_view s.now)) }
+    ensures action { IfOk result (λ x. action_view x ≡ action (site_of (N.env names.now) walk.old around.result)
+        (stmt_view s.now)) }
+    ensures after { OnOk result ((site_of (N.env names.now) walk.new around.result)
+        ≡ site_after (site_of (N.env names.now) walk.old around.result) (stmt_view s.now)) }
 {
     let pos = s.pos;
     match &s.node {
@@ -224,9 +250,13 @@ fn resolve_if<N: Lookup>(
     yes: &Stmt,
     e: &Expr,
 ) -> Result<Action, Memory>
-    requires { IsSoundAction (action (site_of (N.env names.now) walk.old around.result) (plain.if_only pos (expr_view e.now) (stmt_view yes.now))) }
-    ensures action { IfOk result (λ x. action_view x ≡ action (site_of (N.env names.now) walk.old around.result) (plain.if_only pos (expr_view e.now) (stmt_view yes.now))) }
-    ensures after { OnOk result ((site_of (N.env names.now) walk.new around.result) ≡ site_after (site_of (N.env names.now) walk.old around.result) (plain.if_only pos (expr_view e.now) (stmt_view yes.now))) }
+    requires { IsSoundAction (action (site_of (N.env names.now) walk.old around.result)
+        (plain.if_only pos (expr_view e.now) (stmt_view yes.now))) }
+    ensures action { IfOk result (λ x. action_view x ≡ action (site_of (N.env names.now) walk.old around.result)
+        (plain.if_only pos (expr_view e.now) (stmt_view yes.now))) }
+    ensures after { OnOk result ((site_of (N.env names.now) walk.new around.result)
+        ≡ site_after (site_of (N.env names.now) walk.old around.result) (plain.if_only pos (expr_view e.now)
+        (stmt_view yes.now))) }
 {
     let test = value(names, around, walk, e)?;
     let yes = resolve_part(names, around, walk, yes)?;
@@ -243,9 +273,13 @@ fn resolve_while<N: Lookup>(
     body: &Stmt,
     e: &Expr,
 ) -> Result<Action, Memory>
-    requires { IsSoundAction (action (site_of (N.env names.now) walk.old around.result) (plain.while pos (expr_view e.now) (stmt_view body.now))) }
-    ensures action { IfOk result (λ x. action_view x ≡ action (site_of (N.env names.now) walk.old around.result) (plain.while pos (expr_view e.now) (stmt_view body.now))) }
-    ensures after { OnOk result ((site_of (N.env names.now) walk.new around.result) ≡ site_after (site_of (N.env names.now) walk.old around.result) (plain.while pos (expr_view e.now) (stmt_view body.now))) }
+    requires { IsSoundAction (action (site_of (N.env names.now) walk.old around.result)
+        (plain.while pos (expr_view e.now) (stmt_view body.now))) }
+    ensures action { IfOk result (λ x. action_view x ≡ action (site_of (N.env names.now) walk.old around.result)
+        (plain.while pos (expr_view e.now) (stmt_view body.now))) }
+    ensures after { OnOk result ((site_of (N.env names.now) walk.new around.result)
+        ≡ site_after (site_of (N.env names.now) walk.old around.result) (plain.while pos (expr_view e.now)
+        (stmt_view body.now))) }
 {
     let test = value(names, around, walk, e)?;
     let body = resolve_part(names, around, walk, body)?;
@@ -262,9 +296,13 @@ fn resolve_do_while<N: Lookup>(
     body: &Stmt,
     e: &Expr,
 ) -> Result<Action, Memory>
-    requires { IsSoundAction (action (site_of (N.env names.now) walk.old around.result) (plain.do_while pos (stmt_view body.now) (expr_view e.now))) }
-    ensures action { IfOk result (λ x. action_view x ≡ action (site_of (N.env names.now) walk.old around.result) (plain.do_while pos (stmt_view body.now) (expr_view e.now))) }
-    ensures after { OnOk result ((site_of (N.env names.now) walk.new around.result) ≡ site_after (site_of (N.env names.now) walk.old around.result) (plain.do_while pos (stmt_view body.now) (expr_view e.now))) }
+    requires { IsSoundAction (action (site_of (N.env names.now) walk.old around.result)
+        (plain.do_while pos (stmt_view body.now) (expr_view e.now))) }
+    ensures action { IfOk result (λ x. action_view x ≡ action (site_of (N.env names.now) walk.old around.result)
+        (plain.do_while pos (stmt_view body.now) (expr_view e.now))) }
+    ensures after { OnOk result ((site_of (N.env names.now) walk.new around.result)
+        ≡ site_after (site_of (N.env names.now) walk.old around.result) (plain.do_while pos (stmt_view body.now)
+        (expr_view e.now))) }
 {
     let test = value(names, around, walk, e)?;
     let body = resolve_part(names, around, walk, body)?;
@@ -283,9 +321,15 @@ fn resolve_for<N: Lookup>(
     test: &Option<Expr>,
     step: &Option<Expr>,
 ) -> Result<Action, Memory>
-    requires { IsSoundAction (action (site_of (N.env names.now) walk.old around.result) (plain.for pos (for_start_view start.now) (optional_expr_view test.now) (optional_expr_view step.now) (stmt_view body.now))) }
-    ensures action { IfOk result (λ x. action_view x ≡ action (site_of (N.env names.now) walk.old around.result) (plain.for pos (for_start_view start.now) (optional_expr_view test.now) (optional_expr_view step.now) (stmt_view body.now))) }
-    ensures after { OnOk result ((site_of (N.env names.now) walk.new around.result) ≡ site_after (site_of (N.env names.now) walk.old around.result) (plain.for pos (for_start_view start.now) (optional_expr_view test.now) (optional_expr_view step.now) (stmt_view body.now))) }
+    requires { IsSoundAction (action (site_of (N.env names.now) walk.old around.result)
+        (plain.for pos (for_start_view start.now) (optional_expr_view test.now) (optional_expr_view step.now)
+        (stmt_view body.now))) }
+    ensures action { IfOk result (λ x. action_view x ≡ action (site_of (N.env names.now) walk.old around.result)
+        (plain.for pos (for_start_view start.now) (optional_expr_view test.now) (optional_expr_view step.now)
+        (stmt_view body.now))) }
+    ensures after { OnOk result ((site_of (N.env names.now) walk.new around.result)
+        ≡ site_after (site_of (N.env names.now) walk.old around.result) (plain.for pos (for_start_view start.now)
+        (optional_expr_view test.now) (optional_expr_view step.now) (stmt_view body.now))) }
 {
     let kept = walk.locals.len();
     let head = resolve_head(names, around, walk, start, test, step)?;
@@ -310,9 +354,13 @@ fn resolve_switch<N: Lookup>(
     body: &Stmt,
     e: &Expr,
 ) -> Result<Action, Memory>
-    requires { IsSoundAction (action (site_of (N.env names.now) walk.old around.result) (plain.switch pos (expr_view e.now) (stmt_view body.now))) }
-    ensures action { IfOk result (λ x. action_view x ≡ action (site_of (N.env names.now) walk.old around.result) (plain.switch pos (expr_view e.now) (stmt_view body.now))) }
-    ensures after { OnOk result ((site_of (N.env names.now) walk.new around.result) ≡ site_after (site_of (N.env names.now) walk.old around.result) (plain.switch pos (expr_view e.now) (stmt_view body.now))) }
+    requires { IsSoundAction (action (site_of (N.env names.now) walk.old around.result)
+        (plain.switch pos (expr_view e.now) (stmt_view body.now))) }
+    ensures action { IfOk result (λ x. action_view x ≡ action (site_of (N.env names.now) walk.old around.result)
+        (plain.switch pos (expr_view e.now) (stmt_view body.now))) }
+    ensures after { OnOk result ((site_of (N.env names.now) walk.new around.result)
+        ≡ site_after (site_of (N.env names.now) walk.old around.result) (plain.switch pos (expr_view e.now)
+        (stmt_view body.now))) }
 {
     let test = value(names, around, walk, e)?;
     let body = resolve_part(names, around, walk, body)?;
@@ -329,9 +377,13 @@ fn resolve_case<N: Lookup>(
     inner: &Stmt,
     e: &Expr,
 ) -> Result<Action, Memory>
-    requires { IsSoundAction (action (site_of (N.env names.now) walk.old around.result) (plain.case pos (expr_view e.now) (stmt_view inner.now))) }
-    ensures action { IfOk result (λ x. action_view x ≡ action (site_of (N.env names.now) walk.old around.result) (plain.case pos (expr_view e.now) (stmt_view inner.now))) }
-    ensures after { OnOk result ((site_of (N.env names.now) walk.new around.result) ≡ site_after (site_of (N.env names.now) walk.old around.result) (plain.case pos (expr_view e.now) (stmt_view inner.now))) }
+    requires { IsSoundAction (action (site_of (N.env names.now) walk.old around.result)
+        (plain.case pos (expr_view e.now) (stmt_view inner.now))) }
+    ensures action { IfOk result (λ x. action_view x ≡ action (site_of (N.env names.now) walk.old around.result)
+        (plain.case pos (expr_view e.now) (stmt_view inner.now))) }
+    ensures after { OnOk result ((site_of (N.env names.now) walk.new around.result)
+        ≡ site_after (site_of (N.env names.now) walk.old around.result) (plain.case pos (expr_view e.now)
+        (stmt_view inner.now))) }
 {
     let number = case_number(e)?;
     let inner = resolve_part(names, around, walk, inner)?;
@@ -347,9 +399,12 @@ fn resolve_default<N: Lookup>(
     pos: Pos,
     inner: &Stmt,
 ) -> Result<Action, Memory>
-    requires { IsSoundAction (action (site_of (N.env names.now) walk.old around.result) (plain.default pos (stmt_view inner.now))) }
-    ensures action { IfOk result (λ x. action_view x ≡ action (site_of (N.env names.now) walk.old around.result) (plain.default pos (stmt_view inner.now))) }
-    ensures after { OnOk result ((site_of (N.env names.now) walk.new around.result) ≡ site_after (site_of (N.env names.now) walk.old around.result) (plain.default pos (stmt_view inner.now))) }
+    requires { IsSoundAction (action (site_of (N.env names.now) walk.old around.result)
+        (plain.default pos (stmt_view inner.now))) }
+    ensures action { IfOk result (λ x. action_view x ≡ action (site_of (N.env names.now) walk.old around.result)
+        (plain.default pos (stmt_view inner.now))) }
+    ensures after { OnOk result ((site_of (N.env names.now) walk.new around.result)
+        ≡ site_after (site_of (N.env names.now) walk.old around.result) (plain.default pos (stmt_view inner.now))) }
 {
     let inner = resolve_part(names, around, walk, inner)?;
     let node = ActionNode::Default(inner);
@@ -365,9 +420,12 @@ fn resolve_label<N: Lookup>(
     name: Name,
     inner: &Stmt,
 ) -> Result<Action, Memory>
-    requires { IsSoundAction (action (site_of (N.env names.now) walk.old around.result) (plain.label pos name (stmt_view inner.now))) }
-    ensures action { IfOk result (λ x. action_view x ≡ action (site_of (N.env names.now) walk.old around.result) (plain.label pos name (stmt_view inner.now))) }
-    ensures after { OnOk result ((site_of (N.env names.now) walk.new around.result) ≡ site_after (site_of (N.env names.now) walk.old around.result) (plain.label pos name (stmt_view inner.now))) }
+    requires { IsSoundAction (action (site_of (N.env names.now) walk.old around.result)
+        (plain.label pos name (stmt_view inner.now))) }
+    ensures action { IfOk result (λ x. action_view x ≡ action (site_of (N.env names.now) walk.old around.result)
+        (plain.label pos name (stmt_view inner.now))) }
+    ensures after { OnOk result ((site_of (N.env names.now) walk.new around.result)
+        ≡ site_after (site_of (N.env names.now) walk.old around.result) (plain.label pos name (stmt_view inner.now))) }
 {
     let inner = resolve_part(names, around, walk, inner)?;
     let node = ActionNode::Label(name, inner);
@@ -383,7 +441,8 @@ fn resolve_part<N: Lookup>(
     s: &Stmt,
 ) -> Result<Box<Action>, Memory>
     requires { IsSoundAction (action (site_of (N.env names.now) walk.old around.result) (stmt_view s.now)) }
-    ensures action { IfOk result (λ x. action_view x.value ≡ action (site_of (N.env names.now) walk.old around.result) (stmt_view s.now)) }
+    ensures action { IfOk result (λ x. action_view x.value
+        ≡ action (site_of (N.env names.now) walk.old around.result) (stmt_view s.now)) }
     ensures walk { OnOk result (walk.new ≡ record walk.old { next = walk.old.next + stmt_locals (stmt_view s.now) }) }
 {
     let kept = walk.locals.len();
@@ -402,9 +461,14 @@ fn resolve_block<N: Lookup>(
     list: &Vec<Stmt>,
     end: Pos,
 ) -> Result<Action, Memory>
-    requires { AreSoundActions (actions_in (site_of (N.env names.now) walk.old around.result) (stmts_of (map stmt_view list.now.items))) }
-    ensures action { IfOk result (λ x. action_view x ≡ actions.block pos (actions_in (site_of (N.env names.now) walk.old around.result) (stmts_of (map stmt_view list.now.items))) end) }
-    ensures walk { OnOk result (walk.new ≡ record walk.old { next = walk.old.next + stmts_locals (stmts_of (map stmt_view list.now.items)) }) }
+    requires { AreSoundActions (actions_in (site_of (N.env names.now) walk.old around.result)
+        (stmts_of (map stmt_view list.now.items))) }
+    ensures action { IfOk result (λ x. action_view x ≡ actions.block pos (actions_in
+        (site_of (N.env names.now) walk.old around.result) (stmts_of (map stmt_view list.now.items))) end) }
+    ensures walk { OnOk result (walk.new ≡ record walk.old {
+      next = walk.old.next
+          + stmts_locals (stmts_of (map stmt_view list.now.items));
+    }) }
 {
     let kept = walk.locals.len();
     let found = resolve_list(names, around, walk, list)?;
@@ -421,9 +485,12 @@ fn resolve_list<N: Lookup>(
     walk: &mut Walk,
     list: &Vec<Stmt>,
 ) -> Result<Vec<Action>, Memory>
-    requires { AreSoundActions (actions_in (site_of (N.env names.now) walk.old around.result) (stmts_of (map stmt_view list.now.items))) }
-    ensures actions { IfOk result (λ x. actions_of (map action_view x.items) ≡ actions_in (site_of (N.env names.now) walk.old around.result) (stmts_of (map stmt_view list.now.items))) }
-    ensures after { OnOk result (site_of (N.env names.now) walk.new around.result ≡ after_all (site_of (N.env names.now) walk.old around.result) (stmts_of (map stmt_view list.now.items))) }
+    requires { AreSoundActions (actions_in (site_of (N.env names.now) walk.old around.result)
+        (stmts_of (map stmt_view list.now.items))) }
+    ensures actions { IfOk result (λ x. actions_of (map action_view x.items)
+        ≡ actions_in (site_of (N.env names.now) walk.old around.result) (stmts_of (map stmt_view list.now.items))) }
+    ensures after { OnOk result (site_of (N.env names.now) walk.new around.result
+        ≡ after_all (site_of (N.env names.now) walk.old around.result) (stmts_of (map stmt_view list.now.items))) }
 {
     let mut found = Vec::new(around.alloc);
     for s in list {

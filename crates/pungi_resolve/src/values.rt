@@ -26,7 +26,8 @@ pub(crate) fn value<N: Lookup>(
     e: &Expr,
 ) -> Result<Box<Value>, Memory>
     requires { is_sound (resolve (inner_env (N.env names.now) walk.now.locals) (expr_view e.now)) ≡ true }
-    ensures { IfOk result (λ x. boxed_view x ≡ resolve (inner_env (N.env names.now) walk.now.locals) (expr_view e.now)) }
+    ensures { IfOk result (λ x. boxed_view x ≡ resolve (inner_env (N.env names.now) walk.now.locals)
+        (expr_view e.now)) }
 {
     let scope = Scope {
         names,
@@ -43,8 +44,10 @@ pub(crate) fn optional_value<N: Lookup>(
     walk: &Walk,
     e: &Option<Expr>,
 ) -> Result<Option<Box<Value>>, Memory>
-    requires { is_sound_option (option_value (inner_env (N.env names.now) walk.now.locals) (optional_expr_view e.now)) ≡ true }
-    ensures { IfOk result (λ x. optional_view x ≡ option_value (inner_env (N.env names.now) walk.now.locals) (optional_expr_view e.now)) }
+    requires { is_sound_option (option_value (inner_env (N.env names.now) walk.now.locals)
+        (optional_expr_view e.now)) ≡ true }
+    ensures { IfOk result (λ x. optional_view x ≡ option_value (inner_env (N.env names.now) walk.now.locals)
+        (optional_expr_view e.now)) }
 {
     match e {
         None => Ok(None),
@@ -64,8 +67,11 @@ pub(crate) fn value_as<N: Lookup>(
     kind: Option<ValueKind>,
     e: &Expr,
 ) -> Result<Box<Value>, Memory>
-    requires { is_sound (convert_of pos kind (kind_of (inner_env (N.env names.now) walk.now.locals) (expr_view e.now)) (resolve (inner_env (N.env names.now) walk.now.locals) (expr_view e.now))) ≡ true }
-    ensures { IfOk result (λ x. boxed_view x ≡ convert_of pos kind (kind_of (inner_env (N.env names.now) walk.now.locals) (expr_view e.now)) (resolve (inner_env (N.env names.now) walk.now.locals) (expr_view e.now))) }
+    requires { is_sound (convert_of pos kind (kind_of (inner_env (N.env names.now) walk.now.locals)
+        (expr_view e.now)) (resolve (inner_env (N.env names.now) walk.now.locals) (expr_view e.now))) ≡ true }
+    ensures { IfOk result (λ x. boxed_view x ≡ convert_of pos kind (kind_of
+        (inner_env (N.env names.now) walk.now.locals) (expr_view e.now)) (resolve
+        (inner_env (N.env names.now) walk.now.locals) (expr_view e.now))) }
 {
     let scope = Scope {
         names,
@@ -83,8 +89,10 @@ pub(crate) fn return_value<N: Lookup>(
     pos: Pos,
     e: &Option<Expr>,
 ) -> Result<Option<Box<Value>>, Memory>
-    requires { is_sound_option (return_value (site_of (N.env names.now) walk.now around.result) pos (optional_expr_view e.now)) ≡ true }
-    ensures { IfOk result (λ x. optional_view x ≡ return_value (site_of (N.env names.now) walk.now around.result) pos (optional_expr_view e.now)) }
+    requires { is_sound_option (return_value (site_of (N.env names.now) walk.now around.result) pos
+        (optional_expr_view e.now)) ≡ true }
+    ensures { IfOk result (λ x. optional_view x ≡ return_value (site_of (N.env names.now) walk.now around.result)
+        pos (optional_expr_view e.now)) }
 {
     match e {
         None => Ok(None),

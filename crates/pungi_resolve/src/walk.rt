@@ -25,7 +25,14 @@ pub(crate) struct Walk {
 impl Walk {
     /// A local comes into force.
     pub(crate) fn declare(&mut self, name: Name, kind: Option<ValueKind>) -> Result<(), Memory>
-        ensures { OnOk result (self.new ≡ record self.old { locals = record { name = name; number = self.old.next; kind = kind } ∷ self.old.locals; next = self.old.next + 1 }) }
+        ensures { OnOk result (self.new ≡ record self.old {
+          locals = record {
+            name = name;
+            number = self.old.next;
+            kind = kind;
+          } ∷ self.old.locals;
+          next = self.old.next + 1;
+        }) }
     {
         let number = self.next;
         self.locals.push(Local { name, number, kind })?;

@@ -3,7 +3,8 @@ ghost use Rattle.std.specs.Prelude.{◌≡◌, IfOk, Some, true, is_some};
 ghost use Rattle.std.specs.Prelude as ints;
 ghost use Rattle.pungi_types.specs.Labels.{byte};
 ghost use Rattle.pungi_types.specs.Names.{meaning_of};
-ghost use Rattle.pungi_types.specs.Exprs.{meaning_kind, int_kind, unary_kind, names_type_object, is_place as is_place_of, kind_of};
+ghost use Rattle.pungi_types.specs.Exprs.{meaning_kind, int_kind, unary_kind, names_type_object};
+ghost use Rattle.pungi_types.specs.Exprs.{is_place as is_place_of, kind_of};
 ghost use Rattle.pungi_types.specs.declared.kind.ValueKind.TheVariants as kinds;
 ghost use Rattle.pungi_types.specs.declared.operator.Prefix.TheVariants as prefixes;
 ghost use Rattle.pungi_resolve.specs.Exprs.{word_value, int_value, static_address, module_address};
@@ -28,8 +29,11 @@ pub(crate) fn word<N: Lookup>(
     pos: Pos,
     name: Name,
 ) -> Result<Typed, Memory>
-    requires { is_sound (word_value pos name (meaning_of (N.env names.now) name.0) (meaning_kind (meaning_of (N.env names.now) name.0))) ≡ true }
-    ensures value { IfOk result (λ x. boxed_view x.value ≡ word_value pos name (meaning_of (N.env names.now) name.0) (meaning_kind (meaning_of (N.env names.now) name.0))) }
+    requires { is_sound (word_value pos name (meaning_of (N.env names.now) name.0)
+        (meaning_kind (meaning_of (N.env names.now) name.0))) ≡ true }
+    ensures value { IfOk result (λ x. boxed_view x.value
+        ≡ word_value pos name (meaning_of (N.env names.now) name.0) (meaning_kind
+        (meaning_of (N.env names.now) name.0))) }
     ensures kind { IfOk result (λ x. x.kind ≡ meaning_kind (meaning_of (N.env names.now) name.0)) }
 {
     let kind = names.word_kind(name);
@@ -106,7 +110,9 @@ pub(crate) fn address<N: Lookup>(
 ) -> Result<Typed, Memory>
     requires { is_sound (static_address (N.env names.now) pos (expr_view a.now)) ≡ true }
     ensures value { IfOk result (λ x. boxed_view x.value ≡ static_address (N.env names.now) pos (expr_view a.now)) }
-    ensures kind { IfOk result (λ x. x.kind ≡ unary_kind prefixes.Address (names_type_object (N.env names.now) (expr_view a.now)) (is_place_of (N.env names.now) (expr_view a.now)) (kind_of (N.env names.now) (expr_view a.now))) }
+    ensures kind { IfOk result (λ x. x.kind ≡ unary_kind prefixes.Address (names_type_object (N.env names.now)
+        (expr_view a.now)) (is_place_of (N.env names.now) (expr_view a.now)) (kind_of (N.env names.now)
+        (expr_view a.now))) }
 {
     let kind = unary_kind(Prefix::Address, names_type_object(names, a), false, None);
     match &a.node {

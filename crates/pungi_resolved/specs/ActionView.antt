@@ -32,7 +32,8 @@ action_node_step (ActionNode-F.If c a) = λ p. plain.if_only p (boxed_view c) a.
 action_node_step (ActionNode-F.IfElse c a b) = λ p. plain.if_else p (boxed_view c) a.value b.value
 action_node_step (ActionNode-F.While c a) = λ p. plain.while p (boxed_view c) a.value
 action_node_step (ActionNode-F.DoWhile a c) = λ p. plain.do_while p a.value (boxed_view c)
-action_node_step (ActionNode-F.For rs u c w a) = λ p. plain.for p (map declared_view rs.items) (optional_view u) (optional_view c) (optional_view w) a.value
+action_node_step (ActionNode-F.For rs u c w a) =
+    λ p. plain.for p (map declared_view rs.items) (optional_view u) (optional_view c) (optional_view w) a.value
 action_node_step (ActionNode-F.Switch v a) = λ p. plain.switch p (boxed_view v) a.value
 action_node_step (ActionNode-F.Case n a) = λ p. plain.case p n a.value
 action_node_step (ActionNode-F.Default a) = λ p. plain.default p a.value
@@ -49,4 +50,13 @@ abbrev pub action_view : Action → plain.Action
 action_view = fold-Action Node plain.Action action_node_step action_step
 
 abbrev pub function_view : Function → ResolvedFunction
-function_view f = record { name = f.name; pos = f.pos; params = f.params; locals = f.locals; result = f.result; body = action_view f.body }
+function_view f =
+    record {
+      name = f.name;
+      pos = f.pos;
+      params = f.params;
+      locals = f.locals;
+      result = f.result;
+      body = action_view
+          f.body;
+    }

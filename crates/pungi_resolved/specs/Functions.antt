@@ -1,5 +1,6 @@
 -- A function with its names resolved.
---   ResolvedFunction    its name and place, the kinds of its parameters, how many locals it has, the kind of its result, and its body
+--   ResolvedFunction    its name and place, the kinds of its parameters, how many locals it has, the kind of its
+--                       result, and its body
 use Rattle.std.specs.Prelude.{ℕ, List, Option}
 use Rattle.pungi_base.specs.declared.names.Name.{Name}
 use Rattle.pungi_base.specs.declared.pos.Pos.{Pos}

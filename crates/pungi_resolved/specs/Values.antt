@@ -1,4 +1,5 @@
--- What an expression of a resolved function does: its names resolved, its conversions written out. One node for each node of the text.
+-- What an expression of a resolved function does: its names resolved, its conversions written out. One node for each
+-- node of the text.
 --   Value               what an expression does
 --   Values              the arguments of a call
 --   Place               what can be read and assigned to
@@ -26,7 +27,8 @@ mutual
     compared : Pos → Punct → Value → Value → Value
     joined_by : Pos → Punct → Value → Value → Value  -- `&&` and `||`
     stored : Pos → ValueKind → Place → Value → Value  -- the kind of the place
-    updated : Pos → Punct → ValueKind → ValueKind → Place → Value → Value  -- `+=` and its kin: the kind of the arithmetic, and that of the place
+    updated : Pos → Punct → ValueKind → ValueKind → Place → Value
+        → Value  -- `+=` and its kin: the kind of the arithmetic, and that of the place
     chosen : Pos → Value → Value → Value → Value  -- `?:`
     converted : Pos → ValueKind → Value → Value  -- to another integer kind; stops at this place where it doesn't fit
     cast_of : Pos → Value → Value  -- a cast that converts nothing

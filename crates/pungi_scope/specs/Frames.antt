@@ -1,6 +1,7 @@
 -- Where a statement stands, as the walk through a function knows it.
 --   labels_of labels                  the labels of the blocks around it, the innermost first
---   frame_at env locals next block around    the names of the file and the locals before them, the number of the next local, the names that the block has
+--   frame_at env locals next block around    the names of the file and the locals before them, the number of the next
+--                                            local, the names that the block has
 --                                     declared so far, and what surrounds it
 --   frame_of env walk block around    the same at a place of a walk
 --   declaration_of s                  the declaration that a statement is

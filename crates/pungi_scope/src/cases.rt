@@ -1,7 +1,8 @@
 //! The cases of a `switch` (C11 6.8.1, 6.8.4.2).
 ghost use Rattle.std.specs.Prelude.{◌≡◌, map, OnOk};
 ghost use Rattle.pungi_types.specs.Findings.{least_from};
-ghost use Rattle.pungi_types.specs.Labels.{unsigned_constant, constant_of, is_equal_case, with_constant, with_value, cases_after, case_findings, cases_findings, switch_findings};
+ghost use Rattle.pungi_types.specs.Labels.{unsigned_constant, constant_of, is_equal_case, with_constant, with_value};
+ghost use Rattle.pungi_types.specs.Labels.{cases_after, case_findings, cases_findings, switch_findings};
 ghost use Rattle.pungi_scope.specs.CasesView.{cases_of};
 ghost use Rattle.pungi_tree.specs.ExprView.{expr_view};
 ghost use Rattle.pungi_tree.specs.StmtView.{stmt_view, stmts_of};
@@ -74,7 +75,8 @@ fn see(seen: &mut SeenCases, value: Option<i128>) -> Result<(), Memory>
 /// Sees the cases that stand directly at a statement, also after labels.
 fn note_cases(seen: &mut SeenCases, first: &mut Option<Finding>, s: &Stmt) -> Result<(), Memory>
     ensures seen { OnOk result (cases_of seen.new ≡ cases_after (cases_of seen.old) (stmt_view s.now)) }
-    ensures found { OnOk result (first.new ≡ least_from first.old (case_findings (cases_of seen.old) (stmt_view s.now))) }
+    ensures found { OnOk result (first.new ≡ least_from first.old (case_findings (cases_of seen.old)
+        (stmt_view s.now))) }
 {
     match &s.node {
         StmtNode::Case(e, inner) => {
@@ -103,7 +105,8 @@ fn note_all_cases(
     first: &mut Option<Finding>,
     list: &Vec<Stmt>,
 ) -> Result<(), Memory>
-    ensures { OnOk result (first.new ≡ least_from first.old (cases_findings (cases_of seen.old) (stmts_of (map stmt_view list.now.items)))) }
+    ensures { OnOk result (first.new ≡ least_from first.old (cases_findings (cases_of seen.old)
+        (stmts_of (map stmt_view list.now.items)))) }
 {
     for s in list {
         note_cases(seen, first, s)?;

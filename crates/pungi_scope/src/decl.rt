@@ -2,7 +2,8 @@
 ghost use Rattle.std.specs.Prelude.{◌≡◌, map, OnOk};
 ghost use Rattle.pungi_types.specs.Findings.{least_from, ◌and◌};
 ghost use Rattle.pungi_types.specs.Kinds.{declared_kind};
-ghost use Rattle.pungi_types.specs.Stmts.{declared_n1, declared_n8, first_value_findings, var_findings, vars_findings, decl_findings, after_var, after_vars, after_decl};
+ghost use Rattle.pungi_types.specs.Stmts.{declared_n1, declared_n8, first_value_findings, var_findings, vars_findings};
+ghost use Rattle.pungi_types.specs.Stmts.{decl_findings, after_var, after_vars, after_decl};
 ghost use Rattle.pungi_scope.specs.Frames.{frame_of};
 ghost use Rattle.pungi_scope.specs.ScopeEnv.{inner_env};
 ghost use Rattle.pungi_tree.specs.ExprView.{spec_view, declr_view};
@@ -42,7 +43,12 @@ fn check_declr<N: Lookup>(
     declr: &Declr,
 ) -> Option<ValueKind>
     ensures kind { result ≡ declared_kind (N.env names.now).file.items (spec_view spec.now) (declr_view declr.now) }
-    ensures found { walk.new ≡ record walk.old { first = least_from walk.old.first (declared_n1 quals.now.items (spec_view spec.now) (declared_kind (N.env names.now).file.items (spec_view spec.now) (declr_view declr.now)) and declared_n8 (inner_env (N.env names.now) walk.old.locals) block.now.keys declr.now.name declr.now.pos) } }
+    ensures found { walk.new ≡ record walk.old {
+      first = least_from walk.old.first
+          (declared_n1 quals.now.items (spec_view spec.now) (declared_kind (N.env names.now).file.items
+          (spec_view spec.now) (declr_view declr.now))
+          and declared_n8 (inner_env (N.env names.now) walk.old.locals) block.now.keys declr.now.name declr.now.pos);
+    } }
 {
     let scope = Scope {
         names,
@@ -62,7 +68,10 @@ fn check_initial<N: Lookup>(
     pos: Pos,
     value: &Option<Init>,
 )
-    ensures { walk.new ≡ record walk.old { first = least_from walk.old.first (first_value_findings (inner_env (N.env names.now) walk.old.locals) kind pos (init_option_view value.now)) } }
+    ensures { walk.new ≡ record walk.old {
+      first = least_from walk.old.first
+          (first_value_findings (inner_env (N.env names.now) walk.old.locals) kind pos (init_option_view value.now));
+    } }
 {
     let scope = Scope {
         names,
@@ -80,8 +89,12 @@ fn check_var<N: Lookup>(
     spec: &Spec,
     var: &VarDecl,
 ) -> Result<(), Memory>
-    ensures found { OnOk result (walk.new.first ≡ least_from walk.old.first (var_findings (frame_of (N.env names.now) walk.old block.old.keys around.now) quals.now.items (spec_view spec.now) (var_decl_view var.now))) }
-    ensures frame { OnOk result (frame_of (N.env names.now) walk.new block.new.keys around.now ≡ after_var (frame_of (N.env names.now) walk.old block.old.keys around.now) (spec_view spec.now) (var_decl_view var.now)) }
+    ensures found { OnOk result (walk.new.first ≡ least_from walk.old.first
+        (var_findings (frame_of (N.env names.now) walk.old block.old.keys around.now) quals.now.items
+        (spec_view spec.now) (var_decl_view var.now))) }
+    ensures frame { OnOk result (frame_of (N.env names.now) walk.new block.new.keys around.now
+        ≡ after_var (frame_of (N.env names.now) walk.old block.old.keys around.now) (spec_view spec.now)
+        (var_decl_view var.now)) }
 {
     let kind = check_declr(names, walk, block, quals, spec, &var.declr);
     walk.declare(var.declr.name, kind)?;
@@ -99,8 +112,12 @@ fn check_vars<N: Lookup>(
     spec: &Spec,
     list: &Vec<VarDecl>,
 ) -> Result<(), Memory>
-    ensures found { OnOk result (walk.new.first ≡ least_from walk.old.first (vars_findings (frame_of (N.env names.now) walk.old block.old.keys around.now) quals.now.items (spec_view spec.now) (map var_decl_view list.now.items))) }
-    ensures frame { OnOk result (frame_of (N.env names.now) walk.new block.new.keys around.now ≡ after_vars (frame_of (N.env names.now) walk.old block.old.keys around.now) (spec_view spec.now) (map var_decl_view list.now.items)) }
+    ensures found { OnOk result (walk.new.first ≡ least_from walk.old.first
+        (vars_findings (frame_of (N.env names.now) walk.old block.old.keys around.now) quals.now.items
+        (spec_view spec.now) (map var_decl_view list.now.items))) }
+    ensures frame { OnOk result (frame_of (N.env names.now) walk.new block.new.keys around.now
+        ≡ after_vars (frame_of (N.env names.now) walk.old block.old.keys around.now) (spec_view spec.now)
+        (map var_decl_view list.now.items)) }
 {
     for var in list {
         check_var(names, around, walk, block, quals, spec, var)?;
@@ -116,8 +133,10 @@ pub(crate) fn check_decl<N: Lookup>(
     block: &mut IndexSet<u32>,
     d: &Decl,
 ) -> Result<(), Memory>
-    ensures found { OnOk result (walk.new.first ≡ least_from walk.old.first (decl_findings (frame_of (N.env names.now) walk.old block.old.keys around.now) (decl_view d.now))) }
-    ensures frame { OnOk result (frame_of (N.env names.now) walk.new block.new.keys around.now ≡ after_decl (frame_of (N.env names.now) walk.old block.old.keys around.now) (decl_view d.now)) }
+    ensures found { OnOk result (walk.new.first ≡ least_from walk.old.first
+        (decl_findings (frame_of (N.env names.now) walk.old block.old.keys around.now) (decl_view d.now))) }
+    ensures frame { OnOk result (frame_of (N.env names.now) walk.new block.new.keys around.now
+        ≡ after_decl (frame_of (N.env names.now) walk.old block.old.keys around.now) (decl_view d.now)) }
 {
     check_vars(names, around, walk, block, &d.quals, &d.type_name, &d.vars)?;
     Ok(())

@@ -1,8 +1,12 @@
 //! How many expressions stand in an expression, a type or a declarator.
 ghost use Rattle.std.specs.Prelude.{◌≡◌, ◌+◌, map};
 ghost use Rattle.pungi_tree.specs.ExprDepth.{capped};
-ghost use Rattle.pungi_tree.specs.ExprView.{expr_view, exprs_of, type_name_view, spec_view, field_view, fields_of, declr_view, declrs_of, sizes_of, optional_view, params_view, param_decl_view, param_decls_of};
-ghost use Rattle.pungi_types.specs.Nodes.{expr_nodes, exprs_nodes, type_name_nodes, spec_nodes, field_nodes, fields_nodes, declr_nodes, declrs_nodes, sizes_nodes, params_nodes, param_decl_nodes, param_decls_nodes};
+ghost use Rattle.pungi_tree.specs.ExprView.{expr_view, exprs_of, type_name_view, spec_view, field_view, fields_of};
+ghost use Rattle.pungi_tree.specs.ExprView.{declr_view, declrs_of, sizes_of, optional_view, params_view};
+ghost use Rattle.pungi_tree.specs.ExprView.{param_decl_view, param_decls_of};
+ghost use Rattle.pungi_types.specs.Nodes.{expr_nodes, exprs_nodes, type_name_nodes, spec_nodes, field_nodes};
+ghost use Rattle.pungi_types.specs.Nodes.{fields_nodes, declr_nodes, declrs_nodes, sizes_nodes, params_nodes};
+ghost use Rattle.pungi_types.specs.Nodes.{param_decl_nodes, param_decls_nodes};
 
 use pungi_tree::{
     Base, Declr, Expr, ExprNode, Field, ParamDecl, ParamDeclr, Params, Spec, Tail, TypeName,

@@ -3,7 +3,8 @@ ghost use Rattle.std.specs.Prelude.{◌≡◌, ◌+◌, map, OnOk, IfOk};
 ghost use Rattle.pungi_types.specs.Findings.{least_from};
 ghost use Rattle.pungi_types.specs.Labels.{stmts_locals};
 ghost use Rattle.pungi_types.specs.Stmts.{in_block, stmts_findings};
-ghost use Rattle.pungi_types.specs.Functions.{body_findings, body_locals, result_kind, result_findings, parts_findings, text_findings, params_count, refusal_in};
+ghost use Rattle.pungi_types.specs.Functions.{body_findings, body_locals, result_kind, result_findings, parts_findings};
+ghost use Rattle.pungi_types.specs.Functions.{text_findings, params_count, refusal_in};
 ghost use Rattle.pungi_types.specs.TypesView.{definition_view};
 ghost use Rattle.pungi_scope.specs.Frames.{frame_of};
 ghost use Rattle.pungi_tree.specs.ExprView.{params_view};
@@ -35,8 +36,12 @@ fn check_statements<N: Lookup>(
     block: &mut IndexSet<u32>,
     list: &Vec<Stmt>,
 ) -> Result<(), Memory>
-    ensures found { OnOk result (walk.new.first ≡ least_from walk.old.first (stmts_findings (record (in_block (frame_of (N.env names.now) walk.old block.old.keys around.now) (stmts_of (map stmt_view list.now.items))) { block = block.old.keys }) (stmts_of (map stmt_view list.now.items)))) }
-    ensures next { OnOk result (walk.new.next ≡ walk.old.next + stmts_locals (stmts_of (map stmt_view list.now.items))) }
+    ensures found { OnOk result (walk.new.first ≡ least_from walk.old.first
+        (stmts_findings (record (in_block (frame_of (N.env names.now) walk.old block.old.keys around.now)
+        (stmts_of (map stmt_view list.now.items))) { block = block.old.keys })
+        (stmts_of (map stmt_view list.now.items)))) }
+    ensures next { OnOk result (walk.new.next ≡ walk.old.next
+        + stmts_locals (stmts_of (map stmt_view list.now.items))) }
 {
     let labels = block_labels(around.alloc, list)?;
     check_list(names, &in_block_with(&*around, &labels), walk, block, list)
@@ -50,7 +55,8 @@ fn check_body<N: Lookup>(
     block: &mut IndexSet<u32>,
     body: &Stmt,
 ) -> Result<(), Memory>
-    ensures found { OnOk result (walk.new.first ≡ least_from walk.old.first (body_findings (frame_of (N.env names.now) walk.old block.old.keys around.now) (stmt_view body.now))) }
+    ensures found { OnOk result (walk.new.first ≡ least_from walk.old.first
+        (body_findings (frame_of (N.env names.now) walk.old block.old.keys around.now) (stmt_view body.now))) }
     ensures next { OnOk result (walk.new.next ≡ walk.old.next + body_locals (stmt_view body.now)) }
 {
     match &body.node {
@@ -70,8 +76,10 @@ fn check_parts<N: Lookup>(
     block: &mut IndexSet<u32>,
     f: &FunctionDef,
 ) -> Result<usize, Memory>
-    ensures found { OnOk result (walk.new.first ≡ least_from walk.old.first (parts_findings (frame_of (N.env names.now) walk.old block.old.keys around.now) (definition_view f.now))) }
-    ensures next { IfOk result (λ next. next ≡ walk.old.next + params_count (params_view f.now.params) + body_locals (stmt_view f.now.body)) }
+    ensures found { OnOk result (walk.new.first ≡ least_from walk.old.first
+        (parts_findings (frame_of (N.env names.now) walk.old block.old.keys around.now) (definition_view f.now))) }
+    ensures next { IfOk result (λ next. next ≡ walk.old.next + params_count (params_view f.now.params)
+        + body_locals (stmt_view f.now.body)) }
 {
     check_params(names, around, walk, block, &f.params)?;
     note_repeated_labels(around.alloc, &mut walk.first, &f.body)?;
@@ -100,8 +108,10 @@ fn check_text<N: Lookup>(
     first: &mut Option<Finding>,
     f: &FunctionDef,
 ) -> Result<usize, Memory>
-    ensures found { OnOk result (first.new ≡ least_from first.old (text_findings (N.env names.now) (definition_view f.now))) }
-    ensures locals { IfOk result (λ locals. locals ≡ params_count (params_view f.now.params) + body_locals (stmt_view f.now.body)) }
+    ensures found { OnOk result (first.new ≡ least_from first.old (text_findings (N.env names.now)
+        (definition_view f.now))) }
+    ensures locals { IfOk result (λ locals. locals ≡ params_count (params_view f.now.params)
+        + body_locals (stmt_view f.now.body)) }
 {
     let kind = note_result(names, first, f);
     let around = Around {

@@ -1,7 +1,8 @@
 //! The labels that a `goto` may go to (C11 6.8.1, 6.8.6.1).
 ghost use Rattle.std.specs.Prelude.{◌≡◌, [], map, OnOk, IfOk};
 ghost use Rattle.pungi_types.specs.Names.{is_among};
-ghost use Rattle.pungi_types.specs.Labels.{own_labels, block_labels, labels_after, labels_after_all, label_findings, labels_findings};
+ghost use Rattle.pungi_types.specs.Labels.{own_labels, block_labels, labels_after, labels_after_all, label_findings};
+ghost use Rattle.pungi_types.specs.Labels.{labels_findings};
 ghost use Rattle.pungi_types.specs.Findings.{least_from};
 ghost use Rattle.pungi_scope.specs.Frames.{labels_of};
 ghost use Rattle.pungi_tree.specs.StmtView.{stmt_view, stmts_of};
@@ -136,8 +137,10 @@ fn note_all_labels(
     first: &mut Option<Finding>,
     list: &Vec<Stmt>,
 ) -> Result<(), Memory>
-    ensures kept { OnOk result (kept.new.keys ≡ labels_after_all kept.old.keys (stmts_of (map stmt_view list.now.items))) }
-    ensures found { OnOk result (first.new ≡ least_from first.old (labels_findings kept.old.keys (stmts_of (map stmt_view list.now.items)))) }
+    ensures kept { OnOk result (kept.new.keys ≡ labels_after_all kept.old.keys
+        (stmts_of (map stmt_view list.now.items))) }
+    ensures found { OnOk result (first.new ≡ least_from first.old (labels_findings kept.old.keys
+        (stmts_of (map stmt_view list.now.items)))) }
 {
     for s in list {
         note_labels(kept, first, s)?;

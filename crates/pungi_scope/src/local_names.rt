@@ -1,4 +1,5 @@
-ghost use Rattle.std.specs.Prelude.{◌≡◌, ◌∷◌, ◌-◌, ◌<◌, [], length, drop, Option, Some, None, OnOk, ℕ, ◌==◌, false, is_some, IsTrue, nat_eq};
+ghost use Rattle.std.specs.Prelude.{◌≡◌, ◌∷◌, ◌-◌, ◌<◌, [], length, drop, Option, Some, None, OnOk, ℕ, ◌==◌, false};
+ghost use Rattle.std.specs.Prelude.{is_some, IsTrue, nat_eq};
 ghost use Rattle.pungi_types.specs.Names.{local_in};
 ghost use Rattle.indexmap.specs.IndexMap.{get};
 ghost use Rattle.pungi_scope.specs.LocalLog.{locals_of, IsLog};

@@ -2,8 +2,10 @@
 ghost use Rattle.std.specs.Prelude.{◌≡◌, ◌+◌, map};
 ghost use Rattle.pungi_tree.specs.ExprDepth.{capped};
 ghost use Rattle.pungi_tree.specs.ExprView.{optional_view};
-ghost use Rattle.pungi_tree.specs.StmtView.{init_option_view, var_decl_view, decl_view, for_start_view, stmt_view, stmts_of};
-ghost use Rattle.pungi_types.specs.Nodes.{option_nodes, init_nodes, vars_nodes, decl_nodes, start_nodes, stmt_nodes, stmts_nodes, function_nodes};
+ghost use Rattle.pungi_tree.specs.StmtView.{init_option_view, var_decl_view, decl_view, for_start_view, stmt_view};
+ghost use Rattle.pungi_tree.specs.StmtView.{stmts_of};
+ghost use Rattle.pungi_types.specs.Nodes.{option_nodes, init_nodes, vars_nodes, decl_nodes, start_nodes, stmt_nodes};
+ghost use Rattle.pungi_types.specs.Nodes.{stmts_nodes, function_nodes};
 ghost use Rattle.pungi_types.specs.TypesView.{definition_view};
 
 use crate::expr_nodes::{declr, expr, params, plus, spec};
@@ -92,7 +94,8 @@ fn stmts(list: &Vec<Stmt>) -> u32
     nodes
 }
 
-/// The nodes of a function: its statements, its expressions, those inside types too, and the variables that it declares.
+/// The nodes of a function: its statements, its expressions, those inside types too, and the variables that it
+/// declares.
 pub(crate) fn function_size(f: &FunctionDef) -> u32
     ensures { result ≡ capped (function_nodes (definition_view f.now)) }
 {

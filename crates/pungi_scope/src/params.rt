@@ -3,10 +3,12 @@ ghost use Rattle.std.specs.Prelude.{◌≡◌, ◌+◌, [], map, OnOk};
 ghost use Rattle.pungi_types.specs.Findings.{least_from, ◌and◌};
 ghost use Rattle.pungi_types.specs.Exprs.{param_kind};
 ghost use Rattle.pungi_types.specs.Stmts.{declared_n1};
-ghost use Rattle.pungi_types.specs.Functions.{name_findings, param_findings, after_param, after_params, params_findings, params_frame, dots_findings};
+ghost use Rattle.pungi_types.specs.Functions.{name_findings, param_findings, after_param, after_params};
+ghost use Rattle.pungi_types.specs.Functions.{params_findings, params_frame, dots_findings};
 ghost use Rattle.pungi_scope.specs.Frames.{frame_of};
 ghost use Rattle.pungi_scope.specs.ScopeEnv.{inner_env};
-ghost use Rattle.pungi_tree.specs.ExprView.{spec_view, declr_view, param_declr_view, param_decl_view, param_decls_of, params_view};
+ghost use Rattle.pungi_tree.specs.ExprView.{spec_view, declr_view, param_declr_view, param_decl_view, param_decls_of};
+ghost use Rattle.pungi_tree.specs.ExprView.{params_view};
 ghost use Rattle.pungi_tree.specs.Syntax as plain;
 
 use crate::Scope;
@@ -27,7 +29,11 @@ fn check_type<N: Lookup>(
     declr: &ParamDeclr,
 ) -> Option<ValueKind>
     ensures kind { result ≡ param_kind (N.env names.now).file.items (spec_view spec.now) (param_declr_view declr.now) }
-    ensures found { walk.new ≡ record walk.old { first = least_from walk.old.first (declared_n1 quals.now.items (spec_view spec.now) (param_kind (N.env names.now).file.items (spec_view spec.now) (param_declr_view declr.now))) } }
+    ensures found { walk.new ≡ record walk.old {
+      first = least_from walk.old.first
+          (declared_n1 quals.now.items (spec_view spec.now) (param_kind (N.env names.now).file.items
+          (spec_view spec.now) (param_declr_view declr.now)));
+    } }
 {
     let kind = param_kind(names, spec, declr);
     note_declared(&mut walk.first, quals, spec, kind);
@@ -44,8 +50,12 @@ fn declare_param<N: Lookup>(
     p: &ParamDecl,
 ) -> Result<(), Memory>
     requires { kind ≡ param_kind (N.env names.now).file.items (spec_view p.now.spec) (param_declr_view p.now.declr) }
-    ensures found { OnOk result (walk.new.first ≡ least_from walk.old.first (name_findings (frame_of (N.env names.now) walk.old block.old.keys around.now) (param_declr_view p.now.declr))) }
-    ensures frame { OnOk result (frame_of (N.env names.now) walk.new block.new.keys around.now ≡ after_param (frame_of (N.env names.now) walk.old block.old.keys around.now) (plain.param_decl p.now.quals.items (spec_view p.now.spec) (param_declr_view p.now.declr))) }
+    ensures found { OnOk result (walk.new.first ≡ least_from walk.old.first
+        (name_findings (frame_of (N.env names.now) walk.old block.old.keys around.now)
+        (param_declr_view p.now.declr))) }
+    ensures frame { OnOk result (frame_of (N.env names.now) walk.new block.new.keys around.now
+        ≡ after_param (frame_of (N.env names.now) walk.old block.old.keys around.now)
+        (plain.param_decl p.now.quals.items (spec_view p.now.spec) (param_declr_view p.now.declr))) }
 {
     match &p.declr {
         ParamDeclr::Named(declr) => {
@@ -72,8 +82,14 @@ fn check_param<N: Lookup>(
     block: &mut IndexSet<u32>,
     p: &ParamDecl,
 ) -> Result<(), Memory>
-    ensures found { OnOk result (walk.new.first ≡ least_from walk.old.first (declared_n1 p.now.quals.items (spec_view p.now.spec) (param_kind (N.env names.now).file.items (spec_view p.now.spec) (param_declr_view p.now.declr)) and name_findings (frame_of (N.env names.now) walk.old block.old.keys around.now) (param_declr_view p.now.declr))) }
-    ensures frame { OnOk result (frame_of (N.env names.now) walk.new block.new.keys around.now ≡ after_param (frame_of (N.env names.now) walk.old block.old.keys around.now) (plain.param_decl p.now.quals.items (spec_view p.now.spec) (param_declr_view p.now.declr))) }
+    ensures found { OnOk result (walk.new.first ≡ least_from walk.old.first
+        (declared_n1 p.now.quals.items (spec_view p.now.spec) (param_kind (N.env names.now).file.items
+        (spec_view p.now.spec) (param_declr_view p.now.declr))
+        and name_findings (frame_of (N.env names.now) walk.old block.old.keys around.now)
+        (param_declr_view p.now.declr))) }
+    ensures frame { OnOk result (frame_of (N.env names.now) walk.new block.new.keys around.now
+        ≡ after_param (frame_of (N.env names.now) walk.old block.old.keys around.now)
+        (plain.param_decl p.now.quals.items (spec_view p.now.spec) (param_declr_view p.now.declr))) }
 {
     let kind = check_type(names, walk, &p.quals, &p.spec, &p.declr);
     declare_param(names, around, walk, block, kind, p)?;
@@ -87,8 +103,12 @@ fn check_list<N: Lookup>(
     block: &mut IndexSet<u32>,
     list: &Vec<ParamDecl>,
 ) -> Result<(), Memory>
-    ensures found { OnOk result (walk.new.first ≡ least_from walk.old.first (param_findings (frame_of (N.env names.now) walk.old block.old.keys around.now) (param_decls_of (map param_decl_view list.now.items)))) }
-    ensures frame { OnOk result (frame_of (N.env names.now) walk.new block.new.keys around.now ≡ after_params (frame_of (N.env names.now) walk.old block.old.keys around.now) (param_decls_of (map param_decl_view list.now.items))) }
+    ensures found { OnOk result (walk.new.first ≡ least_from walk.old.first
+        (param_findings (frame_of (N.env names.now) walk.old block.old.keys around.now)
+        (param_decls_of (map param_decl_view list.now.items)))) }
+    ensures frame { OnOk result (frame_of (N.env names.now) walk.new block.new.keys around.now
+        ≡ after_params (frame_of (N.env names.now) walk.old block.old.keys around.now)
+        (param_decls_of (map param_decl_view list.now.items))) }
 {
     for p in list {
         check_param(names, around, walk, block, p)?;
@@ -104,8 +124,10 @@ pub(crate) fn check_params<N: Lookup>(
     block: &mut IndexSet<u32>,
     params: &Params,
 ) -> Result<(), Memory>
-    ensures found { OnOk result (walk.new.first ≡ least_from walk.old.first (params_findings (frame_of (N.env names.now) walk.old block.old.keys around.now) (params_view params.now))) }
-    ensures frame { OnOk result (frame_of (N.env names.now) walk.new block.new.keys around.now ≡ params_frame (frame_of (N.env names.now) walk.old block.old.keys around.now) (params_view params.now)) }
+    ensures found { OnOk result (walk.new.first ≡ least_from walk.old.first
+        (params_findings (frame_of (N.env names.now) walk.old block.old.keys around.now) (params_view params.now))) }
+    ensures frame { OnOk result (frame_of (N.env names.now) walk.new block.new.keys around.now
+        ≡ params_frame (frame_of (N.env names.now) walk.old block.old.keys around.now) (params_view params.now)) }
 {
     if let Some(pos) = params.dots {
         note_at(walk, true, pos, 1);

@@ -2,7 +2,8 @@
 ghost use Rattle.std.specs.Prelude.{◌≡◌};
 ghost use Rattle.pungi_types.specs.Findings.{least_from, when};
 ghost use Rattle.pungi_types.specs.Exprs.{expr_findings};
-ghost use Rattle.pungi_types.specs.Stmts.{option_findings, condition_findings, option_condition, return_findings, switched_findings};
+ghost use Rattle.pungi_types.specs.Stmts.{option_findings, condition_findings, option_condition, return_findings};
+ghost use Rattle.pungi_types.specs.Stmts.{switched_findings};
 ghost use Rattle.pungi_scope.specs.ScopeEnv.{inner_env};
 ghost use Rattle.pungi_tree.specs.ExprView.{expr_view, optional_view};
 
@@ -21,7 +22,10 @@ pub(crate) fn note_at(walk: &mut Walk, holds: bool, pos: Pos, rule: u8)
 
 /// An expression.
 pub(crate) fn visit<N: Lookup>(names: &N, walk: &mut Walk, e: &Expr)
-    ensures { walk.new ≡ record walk.old { first = least_from walk.old.first (expr_findings (inner_env (N.env names.now) walk.old.locals) (expr_view e.now)) } }
+    ensures { walk.new ≡ record walk.old {
+      first = least_from walk.old.first
+          (expr_findings (inner_env (N.env names.now) walk.old.locals) (expr_view e.now));
+    } }
 {
     let scope = Scope {
         names,
@@ -32,7 +36,10 @@ pub(crate) fn visit<N: Lookup>(names: &N, walk: &mut Walk, e: &Expr)
 
 /// An expression that may be missing.
 pub(crate) fn visit_optional<N: Lookup>(names: &N, walk: &mut Walk, e: &Option<Expr>)
-    ensures { walk.new ≡ record walk.old { first = least_from walk.old.first (option_findings (inner_env (N.env names.now) walk.old.locals) (optional_view e.now)) } }
+    ensures { walk.new ≡ record walk.old {
+      first = least_from walk.old.first
+          (option_findings (inner_env (N.env names.now) walk.old.locals) (optional_view e.now));
+    } }
 {
     if let Some(e) = e {
         visit(names, walk, e);
@@ -41,7 +48,10 @@ pub(crate) fn visit_optional<N: Lookup>(names: &N, walk: &mut Walk, e: &Option<E
 
 /// A condition.
 pub(crate) fn visit_condition<N: Lookup>(names: &N, walk: &mut Walk, pos: Pos, e: &Expr)
-    ensures { walk.new ≡ record walk.old { first = least_from walk.old.first (condition_findings (inner_env (N.env names.now) walk.old.locals) pos (expr_view e.now)) } }
+    ensures { walk.new ≡ record walk.old {
+      first = least_from walk.old.first
+          (condition_findings (inner_env (N.env names.now) walk.old.locals) pos (expr_view e.now));
+    } }
 {
     let scope = Scope {
         names,
@@ -57,7 +67,10 @@ pub(crate) fn visit_optional_condition<N: Lookup>(
     pos: Pos,
     e: &Option<Expr>,
 )
-    ensures { walk.new ≡ record walk.old { first = least_from walk.old.first (option_condition (inner_env (N.env names.now) walk.old.locals) pos (optional_view e.now)) } }
+    ensures { walk.new ≡ record walk.old {
+      first = least_from walk.old.first
+          (option_condition (inner_env (N.env names.now) walk.old.locals) pos (optional_view e.now));
+    } }
 {
     if let Some(e) = e {
         visit_condition(names, walk, pos, e);
@@ -66,7 +79,10 @@ pub(crate) fn visit_optional_condition<N: Lookup>(
 
 /// What a `switch` goes by.
 pub(crate) fn visit_switched<N: Lookup>(names: &N, walk: &mut Walk, pos: Pos, e: &Expr)
-    ensures { walk.new ≡ record walk.old { first = least_from walk.old.first (switched_findings (inner_env (N.env names.now) walk.old.locals) pos (expr_view e.now)) } }
+    ensures { walk.new ≡ record walk.old {
+      first = least_from walk.old.first
+          (switched_findings (inner_env (N.env names.now) walk.old.locals) pos (expr_view e.now));
+    } }
 {
     let scope = Scope {
         names,
@@ -83,7 +99,10 @@ pub(crate) fn visit_return<N: Lookup>(
     pos: Pos,
     e: &Option<Expr>,
 )
-    ensures { walk.new ≡ record walk.old { first = least_from walk.old.first (return_findings (inner_env (N.env names.now) walk.old.locals) kind pos (optional_view e.now)) } }
+    ensures { walk.new ≡ record walk.old {
+      first = least_from walk.old.first
+          (return_findings (inner_env (N.env names.now) walk.old.locals) kind pos (optional_view e.now));
+    } }
 {
     let scope = Scope {
         names,

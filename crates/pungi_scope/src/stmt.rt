@@ -2,7 +2,9 @@
 ghost use Rattle.std.specs.Prelude.{◌≡◌, ◌++◌, ◌+◌, ◌-◌, [], length, drop, map, option_map, OnOk, true, false};
 ghost use Rattle.pungi_types.specs.Findings.{least_from, ◌and◌};
 ghost use Rattle.pungi_types.specs.Labels.{start_locals, stmt_locals, stmts_locals};
-ghost use Rattle.pungi_types.specs.Stmts.{decl_findings, stmt_findings, stmts_findings, after_stmt, after_stmts, start_findings, start_frame, option_condition, option_findings, in_part, in_loop, in_switch, in_label, in_block};
+ghost use Rattle.pungi_types.specs.Stmts.{decl_findings, stmt_findings, stmts_findings, after_stmt, after_stmts};
+ghost use Rattle.pungi_types.specs.Stmts.{start_findings, start_frame, option_condition, option_findings, in_part};
+ghost use Rattle.pungi_types.specs.Stmts.{in_loop, in_switch, in_label, in_block};
 ghost use Rattle.pungi_scope.specs.Frames.{frame_of, labels_of, declaration_of};
 ghost use Rattle.pungi_tree.specs.Syntax as plain;
 ghost use Rattle.pungi_tree.specs.ExprView.{optional_view};
@@ -91,8 +93,11 @@ fn check_start<N: Lookup>(
     walk: &mut Walk,
     start: &ForStart,
 ) -> Result<(), Memory>
-    ensures found { OnOk result (walk.new.first ≡ least_from walk.old.first (start_findings (frame_of (N.env names.now) walk.old [] around.now) (for_start_view start.now))) }
-    ensures frame { OnOk result (frame_of (N.env names.now) walk.new [] around.now ≡ record (start_frame (frame_of (N.env names.now) walk.old [] around.now) (for_start_view start.now)) { block = [] }) }
+    ensures found { OnOk result (walk.new.first ≡ least_from walk.old.first
+        (start_findings (frame_of (N.env names.now) walk.old [] around.now) (for_start_view start.now))) }
+    ensures frame { OnOk result (frame_of (N.env names.now) walk.new [] around.now
+        ≡ record (start_frame (frame_of (N.env names.now) walk.old [] around.now) (for_start_view start.now))
+        { block = [] }) }
 {
     match start {
         ForStart::Decl(d) => {
@@ -116,8 +121,15 @@ fn check_head<N: Lookup>(
     test: &Option<Expr>,
     step: &Option<Expr>,
 ) -> Result<(), Memory>
-    ensures found { OnOk result (walk.new.first ≡ least_from walk.old.first (start_findings (frame_of (N.env names.now) walk.old [] around.now) (for_start_view start.now) and (option_condition (start_frame (frame_of (N.env names.now) walk.old [] around.now) (for_start_view start.now)).env pos (optional_view test.now) and option_findings (start_frame (frame_of (N.env names.now) walk.old [] around.now) (for_start_view start.now)).env (optional_view step.now)))) }
-    ensures frame { OnOk result (frame_of (N.env names.now) walk.new [] around.now ≡ record (start_frame (frame_of (N.env names.now) walk.old [] around.now) (for_start_view start.now)) { block = [] }) }
+    ensures found { OnOk result (walk.new.first ≡ least_from walk.old.first
+        (start_findings (frame_of (N.env names.now) walk.old [] around.now) (for_start_view start.now)
+        and (option_condition (start_frame (frame_of (N.env names.now) walk.old [] around.now)
+        (for_start_view start.now)).env pos (optional_view test.now)
+        and option_findings (start_frame (frame_of (N.env names.now) walk.old [] around.now)
+        (for_start_view start.now)).env (optional_view step.now)))) }
+    ensures frame { OnOk result (frame_of (N.env names.now) walk.new [] around.now
+        ≡ record (start_frame (frame_of (N.env names.now) walk.old [] around.now) (for_start_view start.now))
+        { block = [] }) }
 {
     check_start(names, around, walk, start)?;
     visit_optional_condition(names, walk, pos, test);
@@ -142,7 +154,12 @@ fn check_alone<N: Lookup>(
     walk: &mut Walk,
     d: &Decl,
 ) -> Result<(), Memory>
-    ensures { OnOk result (walk.new ≡ record walk.old { first = least_from walk.old.first (decl_findings (frame_of (N.env names.now) walk.old [] around.now) (decl_view d.now)); next = walk.old.next + length (map var_decl_view d.now.vars.items) }) }
+    ensures { OnOk result (walk.new ≡ record walk.old {
+      first = least_from walk.old.first
+          (decl_findings (frame_of (N.env names.now) walk.old [] around.now) (decl_view d.now));
+      next = walk.old.next
+          + length (map var_decl_view d.now.vars.items);
+    }) }
 {
     let kept = walk.locals.len();
     let mut block = IndexSet::new(around.alloc);
@@ -160,8 +177,10 @@ pub(crate) fn check_stmt<N: Lookup>(
     block: &mut IndexSet<u32>,
     s: &Stmt,
 ) -> Result<(), Memory>
-    ensures found { OnOk result (walk.new.first ≡ least_from walk.old.first (stmt_findings (frame_of (N.env names.now) walk.old block.old.keys around.now) (stmt_view s.now))) }
-    ensures frame { OnOk result (frame_of (N.env names.now) walk.new block.new.keys around.now ≡ after_stmt (frame_of (N.env names.now) walk.old block.old.keys around.now) (stmt_view s.now)) }
+    ensures found { OnOk result (walk.new.first ≡ least_from walk.old.first
+        (stmt_findings (frame_of (N.env names.now) walk.old block.old.keys around.now) (stmt_view s.now))) }
+    ensures frame { OnOk result (frame_of (N.env names.now) walk.new block.new.keys around.now
+        ≡ after_stmt (frame_of (N.env names.now) walk.old block.old.keys around.now) (stmt_view s.now)) }
 {
     match declaration(s) {
         Some(d) => {
@@ -183,7 +202,12 @@ fn check_part<N: Lookup>(
     walk: &mut Walk,
     s: &Stmt,
 ) -> Result<(), Memory>
-    ensures { OnOk result (walk.new ≡ record walk.old { first = least_from walk.old.first (stmt_findings (frame_of (N.env names.now) walk.old [] around.now) (stmt_view s.now)); next = walk.old.next + stmt_locals (stmt_view s.now) }) }
+    ensures { OnOk result (walk.new ≡ record walk.old {
+      first = least_from walk.old.first
+          (stmt_findings (frame_of (N.env names.now) walk.old [] around.now) (stmt_view s.now));
+      next = walk.old.next
+          + stmt_locals (stmt_view s.now);
+    }) }
 {
     match &s.node {
         StmtNode::Block(list, _) => { check_block(names, around, walk, list) }
@@ -268,7 +292,13 @@ fn check_for<N: Lookup>(
     test: &Option<Expr>,
     step: &Option<Expr>,
 ) -> Result<(), Memory>
-    ensures { OnOk result (walk.new ≡ record walk.old { first = least_from walk.old.first (stmt_findings (frame_of (N.env names.now) walk.old [] around.now) (plain.for pos (for_start_view start.now) (optional_view test.now) (optional_view step.now) (stmt_view body.now))); next = walk.old.next + (start_locals (for_start_view start.now) + stmt_locals (stmt_view body.now)) }) }
+    ensures { OnOk result (walk.new ≡ record walk.old {
+      first = least_from walk.old.first
+          (stmt_findings (frame_of (N.env names.now) walk.old [] around.now) (plain.for pos (for_start_view start.now)
+          (optional_view test.now) (optional_view step.now) (stmt_view body.now)));
+      next = walk.old.next
+          + (start_locals (for_start_view start.now) + stmt_locals (stmt_view body.now));
+    }) }
 {
     let kept = walk.locals.len();
     check_head(names, around, walk, pos, start, test, step)?;
@@ -285,7 +315,13 @@ fn check_block<N: Lookup>(
     walk: &mut Walk,
     list: &Vec<Stmt>,
 ) -> Result<(), Memory>
-    ensures { OnOk result (walk.new ≡ record walk.old { first = least_from walk.old.first (stmts_findings (in_block (frame_of (N.env names.now) walk.old [] around.now) (stmts_of (map stmt_view list.now.items))) (stmts_of (map stmt_view list.now.items))); next = walk.old.next + stmts_locals (stmts_of (map stmt_view list.now.items)) }) }
+    ensures { OnOk result (walk.new ≡ record walk.old {
+      first = least_from walk.old.first
+          (stmts_findings (in_block (frame_of (N.env names.now) walk.old [] around.now)
+          (stmts_of (map stmt_view list.now.items))) (stmts_of (map stmt_view list.now.items)));
+      next = walk.old.next
+          + stmts_locals (stmts_of (map stmt_view list.now.items));
+    }) }
 {
     let labels = block_labels(around.alloc, list)?;
     check_inside(names, &in_block_with(&*around, &labels), walk, list)
@@ -299,7 +335,13 @@ fn check_inside<N: Lookup>(
     walk: &mut Walk,
     list: &Vec<Stmt>,
 ) -> Result<(), Memory>
-    ensures { OnOk result (walk.new ≡ record walk.old { first = least_from walk.old.first (stmts_findings (frame_of (N.env names.now) walk.old [] around.now) (stmts_of (map stmt_view list.now.items))); next = walk.old.next + stmts_locals (stmts_of (map stmt_view list.now.items)) }) }
+    ensures { OnOk result (walk.new ≡ record walk.old {
+      first = least_from walk.old.first
+          (stmts_findings (frame_of (N.env names.now) walk.old [] around.now) (stmts_of
+          (map stmt_view list.now.items)));
+      next = walk.old.next
+          + stmts_locals (stmts_of (map stmt_view list.now.items));
+    }) }
 {
     let kept = walk.locals.len();
     let mut block = IndexSet::new(around.alloc);
@@ -317,8 +359,12 @@ pub(crate) fn check_list<N: Lookup>(
     block: &mut IndexSet<u32>,
     list: &Vec<Stmt>,
 ) -> Result<(), Memory>
-    ensures found { OnOk result (walk.new.first ≡ least_from walk.old.first (stmts_findings (frame_of (N.env names.now) walk.old block.old.keys around.now) (stmts_of (map stmt_view list.now.items)))) }
-    ensures frame { OnOk result (frame_of (N.env names.now) walk.new block.new.keys around.now ≡ after_stmts (frame_of (N.env names.now) walk.old block.old.keys around.now) (stmts_of (map stmt_view list.now.items))) }
+    ensures found { OnOk result (walk.new.first ≡ least_from walk.old.first
+        (stmts_findings (frame_of (N.env names.now) walk.old block.old.keys around.now)
+        (stmts_of (map stmt_view list.now.items)))) }
+    ensures frame { OnOk result (frame_of (N.env names.now) walk.new block.new.keys around.now
+        ≡ after_stmts (frame_of (N.env names.now) walk.old block.old.keys around.now)
+        (stmts_of (map stmt_view list.now.items))) }
 {
     for s in list {
         check_stmt(names, around, walk, block, s)?;

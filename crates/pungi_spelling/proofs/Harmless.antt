@@ -8,7 +8,8 @@ use Rattle.pungi_base.specs.declared.kind.Kind.TheVariants as kind
 use Rattle.pungi_base.specs.declared.punct.Punct.{Punct}
 use Rattle.pungi_base.specs.declared.punct.Punct.TheVariants as puncts
 use Rattle.pungi_spelling.proofs.Scans.{Steps}
-use Rattle.pungi_tree.specs.Operators.{binary_level, is_assign, prefix_mark_need, prefix_key_need, prefix_need, is_step, is_base_word, is_qualifier, is_aggregate}
+use Rattle.pungi_tree.specs.Operators.{binary_level, is_assign, prefix_mark_need, prefix_key_need, prefix_need, is_step}
+use Rattle.pungi_tree.specs.Operators.{is_base_word, is_qualifier, is_aggregate}
 use Rattle.pungi_tree.specs.Tokens.{mark, key}
 use Rattle.pungi_tree.specs.TypeWords.{is_typedef_key}
 

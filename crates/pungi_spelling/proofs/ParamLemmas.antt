@@ -6,6 +6,7 @@ use Rattle.pungi_tree.specs.ExprLevels.{has_no_params}
 use Rattle.pungi_tree.specs.ExprView.{param_decls_of, param_decl_view}
 use Rattle.pungi_tree.specs.declared.params.ParamDecl.{ParamDecl}
 
-pub has_no_params_is : (ds : List ParamDecl) → has_no_params (param_decls_of (map param_decl_view ds)) ≡ (length ds == 0)
+pub has_no_params_is : (ds : List ParamDecl)
+    → has_no_params (param_decls_of (map param_decl_view ds)) ≡ (length ds == 0)
 has_no_params_is [] = refl
 has_no_params_is (d ∷ ds) = grind (arith, nat_tests)

@@ -1,5 +1,6 @@
 -- What reading a list of tokens does to the search for the words of `typedef`s.
---   Steps a k b, Scans a b xs    a token, or tokens, take the number of open braces from `a` to `b`; outside braces no `typedef` and no `;` stands among them
+--   Steps a k b, Scans a b xs    a token, or tokens, take the number of open braces from `a` to `b`; outside braces no
+--                                `typedef` and no `;` stands among them
 --   none, one, plain, two        no token, one token before others, one that is no brace, and one list before another
 --   semicolon                    a `;` inside braces
 --   Finds a b xs                 as Scans, where a `;` may stand
@@ -18,7 +19,8 @@ pub record Finds (a b : ℕ) (xs : List Kind) : Type 0 where
 
 pub record Scans (a b : ℕ) (xs : List Kind) : Type 0 where
   pub finds : Finds a b xs
-  pub last : (w : Option Name) (ks : List Kind) → (v : Option Name) × (declared_word a w (xs ++ ks) ≡ declared_word b v ks)
+  pub last : (w : Option Name) (ks : List Kind)
+      → (v : Option Name) × (declared_word a w (xs ++ ks) ≡ declared_word b v ks)
 
 abbrev pub Steps : ℕ → Kind → ℕ → Type 0
 Steps a k b = (braces_after a k ≡ b) × ((is_typedef k && a == 0) ≡ false) × ((is_semicolon k && a == 0) ≡ false)
@@ -36,7 +38,8 @@ pub plain : {a c : ℕ} {k : Kind} {xs : List Kind} → Steps a k a → Scans a 
 plain {a} {c} {k} {xs} s r = one a a c k xs s r
 
 pub two_find : {a b c : ℕ} {xs ys : List Kind} → Finds a b xs → Finds b c ys → Finds a c (xs ++ ys)
-two_find {a} {b} {c} {xs} {ys} r s = record { words = λ ks. rw (append_assoc xs ys ks) (r.words (ys ++ ks) ∙ s.words ks) }
+two_find {a} {b} {c} {xs} {ys} r s =
+    record { words = λ ks. rw (append_assoc xs ys ks) (r.words (ys ++ ks) ∙ s.words ks) }
 
 pub two : {a b c : ℕ} {xs ys : List Kind} → Scans a b xs → Scans b c ys → Scans a c (xs ++ ys)
 two {a} {b} {c} {xs} {ys} r s = record {

@@ -42,7 +42,8 @@ fn is_same(mark: Punct, other: Punct) -> bool
 /// What stands after the bracket that closes a group, whose tokens come next. Groups in it are as many calls deep.
 fn after_group<'a>(tokens: &'a [(Kind, Pos)], close: Punct) -> Option<&'a [(Kind, Pos)]>
     ensures shorter { IfSome result (λ rest. length rest.now < length tokens.now) }
-    ensures closed { IfSome result (λ rest. (awaited : List Mark) → closes tokens.now (close ∷ awaited) ≡ closes rest.now awaited) }
+    ensures closed { IfSome result (λ rest. (awaited : List Mark)
+        → closes tokens.now (close ∷ awaited) ≡ closes rest.now awaited) }
     ensures open_still { IfNone result ((awaited : List Mark) → closes tokens.now (close ∷ awaited) ≡ false) }
 {
     let mut rest = tokens;

@@ -1,6 +1,10 @@
 ghost use Rattle.std.specs.Prelude.{◌≡◌, ◌+◌, map};
-ghost use Rattle.pungi_tree.specs.ExprDepth.{capped, expr_depth, exprs_depth, type_name_depth, spec_depth, field_depth, fields_depth, declr_depth, declrs_depth, sizes_depth, params_depth, param_decl_depth, param_decls_depth};
-ghost use Rattle.pungi_tree.specs.ExprView.{expr_view, exprs_of, type_name_view, spec_view, field_view, fields_of, declr_view, declrs_of, sizes_of, optional_view, params_view, param_decl_view, param_decls_of};
+ghost use Rattle.pungi_tree.specs.ExprDepth.{capped, expr_depth, exprs_depth, type_name_depth, spec_depth, field_depth};
+ghost use Rattle.pungi_tree.specs.ExprDepth.{fields_depth, declr_depth, declrs_depth, sizes_depth, params_depth};
+ghost use Rattle.pungi_tree.specs.ExprDepth.{param_decl_depth, param_decls_depth};
+ghost use Rattle.pungi_tree.specs.ExprView.{expr_view, exprs_of, type_name_view, spec_view, field_view, fields_of};
+ghost use Rattle.pungi_tree.specs.ExprView.{declr_view, declrs_of, sizes_of, optional_view, params_view};
+ghost use Rattle.pungi_tree.specs.ExprView.{param_decl_view, param_decls_of};
 
 use pungi_tree::{
     Base, Declr, Expr, ExprNode, Field, ParamDecl, ParamDeclr, Params, Spec, Tail, TypeName,

@@ -1,7 +1,11 @@
 ghost use Rattle.std.specs.Prelude.{◌≡◌, [], ◌∷◌, ◌++◌, OnOk, map};
-ghost use Rattle.pungi_tree.specs.ExprFlat.{expr_flat, args_flat, type_name_flat, spec_flat, base_flat, field_flat, fields_flat, declr_flat, declrs_flat, tail_flat, sizes_flat, params_flat, param_decl_flat, param_decls_flat, param_declr_flat};
+ghost use Rattle.pungi_tree.specs.ExprFlat.{expr_flat, args_flat, type_name_flat, spec_flat, base_flat, field_flat};
+ghost use Rattle.pungi_tree.specs.ExprFlat.{fields_flat, declr_flat, declrs_flat, tail_flat, sizes_flat, params_flat};
+ghost use Rattle.pungi_tree.specs.ExprFlat.{param_decl_flat, param_decls_flat, param_declr_flat};
 ghost use Rattle.pungi_tree.specs.Tokens.{mark as mark_of};
-ghost use Rattle.pungi_tree.specs.ExprView.{expr_view, exprs_of, type_name_view, spec_view, base_view, field_view, fields_of, declr_view, declrs_of, tail_view, sizes_of, optional_view, params_view, param_decl_view, param_decls_of, param_declr_view};
+ghost use Rattle.pungi_tree.specs.ExprView.{expr_view, exprs_of, type_name_view, spec_view, base_view, field_view};
+ghost use Rattle.pungi_tree.specs.ExprView.{fields_of, declr_view, declrs_of, tail_view, sizes_of, optional_view};
+ghost use Rattle.pungi_tree.specs.ExprView.{params_view, param_decl_view, param_decls_of, param_declr_view};
 
 use crate::tokens::{
     keyword, mark, put, put_consts, put_keys, put_stars, put_tag, put_texts, word,

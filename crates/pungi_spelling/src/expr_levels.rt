@@ -1,6 +1,11 @@
 ghost use Rattle.std.specs.Prelude.{◌≡◌, map};
-ghost use Rattle.pungi_tree.specs.ExprLevels.{is_just_void, is_void_base, is_void_spec, is_nothing, is_void_param, is_lone_void, void_ok, expr_at, args_ok, type_name_ok, spec_ok, base_ok, field_ok, fields_ok, declr_ok, some_declrs_ok, declrs_ok, tail_ok, sizes_ok, params_ok, param_decl_ok, param_decls_ok, param_declr_ok};
-ghost use Rattle.pungi_tree.specs.ExprView.{expr_view, exprs_of, type_name_view, spec_view, base_view, field_view, fields_of, declr_view, declrs_of, tail_view, sizes_of, optional_view, params_view, param_decl_view, param_decls_of, param_declr_view};
+ghost use Rattle.pungi_tree.specs.ExprLevels.{is_just_void, is_void_base, is_void_spec, is_nothing, is_void_param};
+ghost use Rattle.pungi_tree.specs.ExprLevels.{is_lone_void, void_ok, expr_at, args_ok, type_name_ok, spec_ok, base_ok};
+ghost use Rattle.pungi_tree.specs.ExprLevels.{field_ok, fields_ok, declr_ok, some_declrs_ok, declrs_ok, tail_ok};
+ghost use Rattle.pungi_tree.specs.ExprLevels.{sizes_ok, params_ok, param_decl_ok, param_decls_ok, param_declr_ok};
+ghost use Rattle.pungi_tree.specs.ExprView.{expr_view, exprs_of, type_name_view, spec_view, base_view, field_view};
+ghost use Rattle.pungi_tree.specs.ExprView.{fields_of, declr_view, declrs_of, tail_view, sizes_of, optional_view};
+ghost use Rattle.pungi_tree.specs.ExprView.{params_view, param_decl_view, param_decls_of, param_declr_view};
 ghost use Rattle.pungi_tree.specs.UnitLevels.{typedef_names};
 ghost use Rattle.pungi_tree.specs.UnitView.{item_view};
 
@@ -131,7 +136,8 @@ fn field(file: &[Item], f: &Field) -> bool
 
 #[cycle(levels)]
 fn some_declrs(file: &[Item], list: &Vec<Declr>) -> bool
-    ensures { result ≡ some_declrs_ok (typedef_names (map item_view file.now)) (declrs_of (map declr_view list.now.items)) }
+    ensures { result ≡ some_declrs_ok (typedef_names (map item_view file.now))
+        (declrs_of (map declr_view list.now.items)) }
 {
     let Some((first, others)) = list.split_first() else {
         return false;
@@ -249,7 +255,8 @@ pub(crate) fn params(file: &[Item], p: &Params) -> bool
 
 #[cycle(levels)]
 fn param_decls(file: &[Item], list: &Vec<ParamDecl>) -> bool
-    ensures { result ≡ param_decls_ok (typedef_names (map item_view file.now)) (param_decls_of (map param_decl_view list.now.items)) }
+    ensures { result ≡ param_decls_ok (typedef_names (map item_view file.now))
+        (param_decls_of (map param_decl_view list.now.items)) }
 {
     for d in list {
         if !param_decl(file, d) {

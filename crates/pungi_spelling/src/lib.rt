@@ -1,4 +1,5 @@
-//! What a syntax tree spells: its tokens from left to right, whether it is one that the grammar has, and how deep it is.
+//! What a syntax tree spells: its tokens from left to right, whether it is one that the grammar has, and how deep it
+//! is.
 #![tactic(auto)]
 
 mod balanced;

@@ -1,5 +1,6 @@
 ghost use Rattle.std.specs.Prelude.{◌≡◌};
-ghost use Rattle.pungi_tree.specs.Operators.{binary_level, is_assign, prefix_need, is_step, is_base_word, is_qualifier, is_aggregate, all_keys};
+ghost use Rattle.pungi_tree.specs.Operators.{binary_level, is_assign, prefix_need, is_step, is_base_word, is_qualifier};
+ghost use Rattle.pungi_tree.specs.Operators.{is_aggregate, all_keys};
 
 use pungi_base::{Key, Kind, Punct};
 

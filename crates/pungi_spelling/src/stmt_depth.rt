@@ -1,8 +1,10 @@
 ghost use Rattle.std.specs.Prelude.{◌≡◌, ◌+◌, map};
 ghost use Rattle.pungi_tree.specs.ExprDepth.{capped};
 ghost use Rattle.pungi_tree.specs.ExprView.{optional_view};
-ghost use Rattle.pungi_tree.specs.StmtDepth.{optional_depth, init_depth, var_depth, vars_depth, decl_depth, start_depth, stmt_depth, stmts_depth};
-ghost use Rattle.pungi_tree.specs.StmtView.{init_option_view, var_decl_view, decl_view, for_start_view, stmt_view, stmts_of};
+ghost use Rattle.pungi_tree.specs.StmtDepth.{optional_depth, init_depth, var_depth, vars_depth, decl_depth};
+ghost use Rattle.pungi_tree.specs.StmtDepth.{start_depth, stmt_depth, stmts_depth};
+ghost use Rattle.pungi_tree.specs.StmtView.{init_option_view, var_decl_view, decl_view, for_start_view, stmt_view};
+ghost use Rattle.pungi_tree.specs.StmtView.{stmts_of};
 
 use crate::expr_depth::{declr, deeper, expr, spec};
 use pungi_tree::{Decl, Expr, ForStart, Init, Stmt, StmtNode, VarDecl};

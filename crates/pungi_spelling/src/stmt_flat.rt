@@ -1,9 +1,11 @@
 ghost use Rattle.std.specs.Prelude.{◌≡◌, [], ◌∷◌, ◌++◌, OnOk, map};
 ghost use Rattle.pungi_tree.specs.ExprView.{expr_view, optional_view};
 ghost use Rattle.pungi_tree.specs.Placed.{kinds};
-ghost use Rattle.pungi_tree.specs.StmtFlat.{condition_flat, optional_flat, init_flat, var_decl_flat, vars_flat, decl_flat, for_start_flat, stmt_flat, stmts_flat};
+ghost use Rattle.pungi_tree.specs.StmtFlat.{condition_flat, optional_flat, init_flat, var_decl_flat, vars_flat};
+ghost use Rattle.pungi_tree.specs.StmtFlat.{decl_flat, for_start_flat, stmt_flat, stmts_flat};
 ghost use Rattle.pungi_tree.specs.Tokens.{mark as mark_of, key as key_of};
-ghost use Rattle.pungi_tree.specs.StmtView.{init_option_view, var_decl_view, decl_view, for_start_view, stmt_view, stmts_of};
+ghost use Rattle.pungi_tree.specs.StmtView.{init_option_view, var_decl_view, decl_view, for_start_view, stmt_view};
+ghost use Rattle.pungi_tree.specs.StmtView.{stmts_of};
 
 use crate::expr_flat::{declr, expr, spec};
 use crate::tokens::{keyword, mark, put, put_keys, word};

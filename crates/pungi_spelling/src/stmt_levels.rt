@@ -1,7 +1,9 @@
 ghost use Rattle.std.specs.Prelude.{◌≡◌, map};
 ghost use Rattle.pungi_tree.specs.ExprView.{optional_view};
-ghost use Rattle.pungi_tree.specs.StmtLevels.{open_if, is_statement, optional_ok, init_ok, var_ok, some_vars_ok, decl_ok, start_ok, stmt_ok, stmts_ok};
-ghost use Rattle.pungi_tree.specs.StmtView.{init_option_view, var_decl_view, decl_view, for_start_view, stmt_view, stmts_of};
+ghost use Rattle.pungi_tree.specs.StmtLevels.{open_if, is_statement, optional_ok, init_ok, var_ok, some_vars_ok};
+ghost use Rattle.pungi_tree.specs.StmtLevels.{decl_ok, start_ok, stmt_ok, stmts_ok};
+ghost use Rattle.pungi_tree.specs.StmtView.{init_option_view, var_decl_view, decl_view, for_start_view, stmt_view};
+ghost use Rattle.pungi_tree.specs.StmtView.{stmts_of};
 ghost use Rattle.pungi_tree.specs.UnitLevels.{typedef_names};
 ghost use Rattle.pungi_tree.specs.UnitView.{item_view};
 

@@ -1,5 +1,6 @@
 ghost use Rattle.std.specs.Prelude.{◌≡◌, [], ◌∷◌, ◌++◌, OnOk};
-ghost use Rattle.pungi_tree.specs.Tokens.{mark as mark_of, key as key_of, keys_flat, texts_flat, consts_flat, stars_flat, tag_flat};
+ghost use Rattle.pungi_tree.specs.Tokens.{mark as mark_of, key as key_of, keys_flat, texts_flat, consts_flat};
+ghost use Rattle.pungi_tree.specs.Tokens.{stars_flat, tag_flat};
 
 use pungi_base::{Key, Kind, Memory, Name, Pos, Punct};
 

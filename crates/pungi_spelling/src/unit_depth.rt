@@ -7,7 +7,8 @@ use crate::expr_depth::{params, spec};
 use crate::stmt_depth::{decl, stmt};
 use pungi_tree::{Item, Unit};
 
-/// How deep a file is: the greatest number of statement and expression nodes on a path, or `u32::MAX` where it is larger.
+/// How deep a file is: the greatest number of statement and expression nodes on a path, or `u32::MAX` where it is
+/// larger.
 /// A parenthesis is a node; a type, a declarator and a parameter aren't nodes.
 pub fn depth(unit: &Unit) -> u32
     ensures { result ≡ capped (items_depth (unit_view unit.now)) }

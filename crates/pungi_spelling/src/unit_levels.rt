@@ -36,7 +36,8 @@ fn is_block(s: &Stmt) -> bool
 }
 
 fn signature(file: &[Item], quals: &Vec<Key>, s: &Spec, name: Name, list: &Params) -> bool
-    ensures { result ≡ signature_ok (typedef_names (map item_view file.now)) quals.now.items (spec_view s.now) name (params_view list.now) }
+    ensures { result ≡ signature_ok (typedef_names (map item_view file.now)) quals.now.items (spec_view s.now) name
+        (params_view list.now) }
 {
     qualifiers(quals) && spec(file, s) && !is_type(file, name) && params(file, list)
 }

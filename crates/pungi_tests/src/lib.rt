@@ -1,6 +1,6 @@
 //! Tests of the crates below the program: the worlds, the meaning, the code and the states of functions, and the
-//! domains. They show what no clause says, each in a file named for its crate. What is said of whole files stands in the
-//! tests of `pungi`.
+//! domains. They show what no clause says, each in a file named for its crate. What is said of whole files stands in
+//! the tests of `pungi`.
 #![tactic(auto)]
 
 #[cfg(test)]

@@ -12,7 +12,8 @@ use pungi_world::{Account, Content, Slot, World};
 use std::alloc::Global;
 use std::test::Fail;
 
-/// What a run shows: the value, where it returned, and where the choices were used that it used; or why it didn't return.
+/// What a run shows: the value, where it returned, and where the choices were used that it used; or why it didn't
+/// return.
 #[derive(Clone, Copy)]
 enum Shown<'a> {
     Returns(Option<Value>, Pos, &'a [Pos]),

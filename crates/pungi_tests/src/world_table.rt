@@ -18,8 +18,8 @@ pub(crate) const T: Value = Value::Text;
 
 pub(crate) const N: Value = Value::Int(3);
 
-/// What a call shows: why it goes no further; or its value, how many choices it used, how many objects are there, and the
-/// account of the one object that it touched.
+/// What a call shows: why it goes no further; or its value, how many choices it used, how many objects are there, and
+/// the account of the one object that it touched.
 #[derive(Clone, Copy, Debug)]
 pub(crate) enum Shown {
     Halts(Halt),

@@ -1,12 +1,15 @@
 -- Tokens in which the three kinds of brackets match.
---   awaited_by k, closing k    the bracket that one that opens awaits, and the bracket that closes; none for any other token. awaited_by_mark and
---                              closing_mark say it of a punctuator
+--   awaited_by k, closing k    the bracket that one that opens awaits, and the bracket that closes; none for any other
+--                              token. awaited_by_mark and closing_mark say it of a punctuator
 --   is_right_paren, is_right_bracket, is_right_brace    this closing bracket
 --   is_same m n                the same closing bracket
---   closed m awaited           the brackets that are awaited once a closing one was read, where it is the innermost that was
---   after_bracket left right awaited    the brackets that are awaited once one was read that awaits `left`, or that is `right`
+--   closed m awaited           the brackets that are awaited once a closing one was read, where it is the innermost
+--                              that was
+--   after_bracket left right awaited    the brackets that are awaited once one was read that awaits `left`, or that is
+--                                       `right`
 --   none_awaited, holds_of     no bracket is awaited; the test holds of what is there
---   awaited_after k awaited    the brackets that are awaited once a token was read, the innermost first; none where it closes another one
+--   awaited_after k awaited    the brackets that are awaited once a token was read, the innermost first; none where it
+--                              closes another one
 --   closes ts awaited          the tokens close the brackets that are awaited, and all that they open
 --   is_balanced ts             the tokens close all that they open, and nothing else
 use Rattle.std.specs.Prelude.{Bool, true, false, if◌then◌else◌, List, [], ◌∷◌, Option, Some, None}

@@ -1,11 +1,18 @@
--- How deep an expression or a type is: the greatest number of statement and expression nodes on a path. A parenthesis is a node; a type, a declarator
--- and a parameter aren't nodes.
+-- How deep an expression or a type is: the greatest number of statement and expression nodes on a path. A parenthesis
+-- is a node; a type, a declarator and a parameter aren't nodes.
 --   capped n      a number, or the largest of 32 bits where it is larger
 --   expr_depth, exprs_depth    an expression, and a list of arguments
---   type_name_depth, spec_depth, base_depth, field_depth, fields_depth, declr_depth, declrs_depth, tail_depth, sizes_depth, params_depth,
+--   type_name_depth, spec_depth, base_depth, field_depth, fields_depth, declr_depth, declrs_depth, tail_depth,
+--   sizes_depth, params_depth,
 --   param_decl_depth, param_decls_depth, param_declr_depth    the type of the same name
 use Rattle.std.specs.Prelude.{ℕ, ◌+◌, ◌-◌, ◌^◌, max, min}
-use Rattle.pungi_tree.specs.Syntax.{Expr, word, int, float, char, text, null, paren, unary, post, binary, assign, conditional, comma, cast, size_of_type, call, new, index, dot, arrow, Exprs, no_exprs, expr_and, TypeName, type_name, Spec, spec, Base, words, alias, tagged, tagged_fields, Field, empty, members, Fields, no_fields, field_and, Declr, declr, Declrs, no_declrs, declr_and, Tail, sizes, function, Sizes, no_sizes, open_and, size_and, Params, params, ParamDecl, param_decl, ParamDecls, no_params, param_and, ParamDeclr, named, bare, unused}
+use Rattle.pungi_tree.specs.Syntax.{Expr, word, int, float, char, text, null, paren, unary, post, binary, assign}
+use Rattle.pungi_tree.specs.Syntax.{conditional, comma, cast, size_of_type, call, new, index, dot, arrow, Exprs}
+use Rattle.pungi_tree.specs.Syntax.{no_exprs, expr_and, TypeName, type_name, Spec, spec, Base, words, alias, tagged}
+use Rattle.pungi_tree.specs.Syntax.{tagged_fields, Field, empty, members, Fields, no_fields, field_and, Declr, declr}
+use Rattle.pungi_tree.specs.Syntax.{Declrs, no_declrs, declr_and, Tail, sizes, function, Sizes, no_sizes, open_and}
+use Rattle.pungi_tree.specs.Syntax.{size_and, Params, params, ParamDecl, param_decl, ParamDecls, no_params, param_and}
+use Rattle.pungi_tree.specs.Syntax.{ParamDeclr, named, bare, unused}
 
 abbrev pub capped : ℕ → ℕ
 capped n = min n (2 ^ 32 - 1)

@@ -1,7 +1,8 @@
 -- The tokens of an expression or a type from left to right (C11 6.5 and 6.7).
 --   expr_flat                    an expression
 --   args_flat, more_args_flat    arguments with a comma between, and further ones with a comma before each
---   type_name_flat, spec_flat, base_flat, field_flat, fields_flat, declr_flat, declrs_flat, sizes_flat, params_flat, param_decl_flat,
+--   type_name_flat, spec_flat, base_flat, field_flat, fields_flat, declr_flat, declrs_flat, sizes_flat, params_flat,
+--   param_decl_flat,
 --   param_decls_flat, param_declr_flat    the type of the same name
 --   more_declrs_flat, more_param_decls_flat    as more_args_flat
 --   tail_flat n t                a declared name and what stands after it
@@ -12,8 +13,15 @@ use Rattle.pungi_base.specs.declared.kind.Kind.TheVariants as kind
 use Rattle.pungi_base.specs.declared.names.Name.{Name}
 use Rattle.pungi_base.specs.declared.punct.Punct.TheVariants as puncts
 use Rattle.pungi_base.specs.Numbers.{py_object_new, py_unused}
-use Rattle.pungi_tree.specs.Tokens.{mark, key, named_word, keys_flat, texts_flat, consts_flat, stars_flat, tag_flat, void_flat, dots_flat}
-use Rattle.pungi_tree.specs.Syntax.{Expr, word, int, float, char, text, null, paren, unary, post, binary, assign, conditional, comma, cast, size_of_type, call, new, index, dot, arrow, Exprs, no_exprs, expr_and, TypeName, type_name, Spec, spec, Base, words, alias, tagged, tagged_fields, Field, empty, members, Fields, no_fields, field_and, Declr, declr, Declrs, no_declrs, declr_and, Tail, sizes, function, Sizes, no_sizes, open_and, size_and, Params, params, ParamDecl, param_decl, ParamDecls, no_params, param_and, ParamDeclr, named, bare, unused}
+use Rattle.pungi_tree.specs.Tokens.{mark, key, named_word, keys_flat, texts_flat, consts_flat, stars_flat, tag_flat}
+use Rattle.pungi_tree.specs.Tokens.{void_flat, dots_flat}
+use Rattle.pungi_tree.specs.Syntax.{Expr, word, int, float, char, text, null, paren, unary, post, binary, assign}
+use Rattle.pungi_tree.specs.Syntax.{conditional, comma, cast, size_of_type, call, new, index, dot, arrow, Exprs}
+use Rattle.pungi_tree.specs.Syntax.{no_exprs, expr_and, TypeName, type_name, Spec, spec, Base, words, alias, tagged}
+use Rattle.pungi_tree.specs.Syntax.{tagged_fields, Field, empty, members, Fields, no_fields, field_and, Declr, declr}
+use Rattle.pungi_tree.specs.Syntax.{Declrs, no_declrs, declr_and, Tail, sizes, function, Sizes, no_sizes, open_and}
+use Rattle.pungi_tree.specs.Syntax.{size_and, Params, params, ParamDecl, param_decl, ParamDecls, no_params, param_and}
+use Rattle.pungi_tree.specs.Syntax.{ParamDeclr, named, bare, unused}
 
 abbrev mutual
   pub expr_flat : Expr → List Kind
@@ -28,12 +36,15 @@ abbrev mutual
   expr_flat (post p m e) = expr_flat e ++ mark m ∷ []
   expr_flat (binary p m a b) = expr_flat a ++ (mark m ∷ expr_flat b)
   expr_flat (assign p m a b) = expr_flat a ++ (mark m ∷ expr_flat b)
-  expr_flat (conditional p a b c) = expr_flat a ++ (mark puncts.Question ∷ (expr_flat b ++ (mark puncts.Colon ∷ expr_flat c)))
+  expr_flat (conditional p a b c) = expr_flat a ++ (mark puncts.Question
+      ∷ (expr_flat b ++ (mark puncts.Colon ∷ expr_flat c)))
   expr_flat (comma p a b) = expr_flat a ++ (mark puncts.Comma ∷ expr_flat b)
   expr_flat (cast p t e) = mark puncts.LeftParen ∷ (type_name_flat t ++ (mark puncts.RightParen ∷ expr_flat e))
-  expr_flat (size_of_type p t) = key keys.Sizeof ∷ mark puncts.LeftParen ∷ (type_name_flat t ++ mark puncts.RightParen ∷ [])
+  expr_flat (size_of_type p t) = key keys.Sizeof ∷ mark puncts.LeftParen
+      ∷ (type_name_flat t ++ mark puncts.RightParen ∷ [])
   expr_flat (call p f es) = expr_flat f ++ (mark puncts.LeftParen ∷ (args_flat es ++ mark puncts.RightParen ∷ []))
-  expr_flat (new p t e) = kind.Word (named_word py_object_new) ∷ mark puncts.LeftParen ∷ (type_name_flat t ++ (mark puncts.Comma ∷ (expr_flat e ++ mark puncts.RightParen ∷ [])))
+  expr_flat (new p t e) = kind.Word (named_word py_object_new) ∷ mark puncts.LeftParen
+      ∷ (type_name_flat t ++ (mark puncts.Comma ∷ (expr_flat e ++ mark puncts.RightParen ∷ [])))
   expr_flat (index p a b) = expr_flat a ++ (mark puncts.LeftBracket ∷ (expr_flat b ++ mark puncts.RightBracket ∷ []))
   expr_flat (dot p e n) = expr_flat e ++ (mark puncts.Dot ∷ kind.Word n ∷ [])
   expr_flat (arrow p e n) = expr_flat e ++ (mark puncts.Arrow ∷ kind.Word n ∷ [])
@@ -56,7 +67,8 @@ abbrev mutual
   base_flat (words ks) = keys_flat ks
   base_flat (alias n) = kind.Word n ∷ []
   base_flat (tagged of tag) = key of ∷ tag_flat tag
-  base_flat (tagged_fields of tag fs) = key of ∷ (tag_flat tag ++ (mark puncts.LeftBrace ∷ (fields_flat fs ++ mark puncts.RightBrace ∷ [])))
+  base_flat (tagged_fields of tag fs) = key of ∷ (tag_flat tag
+      ++ (mark puncts.LeftBrace ∷ (fields_flat fs ++ mark puncts.RightBrace ∷ [])))
 
   pub field_flat : Field → List Kind
   field_flat empty = mark puncts.Semicolon ∷ []
@@ -80,7 +92,8 @@ abbrev mutual
   -- the name and what stands after it
   pub tail_flat : Name → Tail → List Kind
   tail_flat n (sizes ss) = kind.Word n ∷ sizes_flat ss
-  tail_flat n (function ps) = mark puncts.LeftParen ∷ mark puncts.Star ∷ kind.Word n ∷ mark puncts.RightParen ∷ mark puncts.LeftParen ∷ (params_flat ps ++ mark puncts.RightParen ∷ [])
+  tail_flat n (function ps) = mark puncts.LeftParen ∷ mark puncts.Star ∷ kind.Word n ∷ mark puncts.RightParen
+      ∷ mark puncts.LeftParen ∷ (params_flat ps ++ mark puncts.RightParen ∷ [])
 
   pub sizes_flat : Sizes → List Kind
   sizes_flat no_sizes = []
@@ -104,4 +117,5 @@ abbrev mutual
   pub param_declr_flat : ParamDeclr → List Kind
   param_declr_flat (named d) = declr_flat d
   param_declr_flat (bare stars) = stars_flat stars
-  param_declr_flat (unused stars n p) = stars_flat stars ++ (kind.Word (named_word py_unused) ∷ mark puncts.LeftParen ∷ kind.Word n ∷ mark puncts.RightParen ∷ [])
+  param_declr_flat (unused stars n p) = stars_flat stars
+      ++ (kind.Word (named_word py_unused) ∷ mark puncts.LeftParen ∷ kind.Word n ∷ mark puncts.RightParen ∷ [])

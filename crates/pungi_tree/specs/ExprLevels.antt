@@ -1,5 +1,6 @@
--- Which expressions and types the grammar allows (C11 6.5 and 6.7), where `types` are the words of the `typedef`s of the file. A type word is no
--- other word, so neither `PyObject_New` nor `Py_UNUSED` is read as such where it is a type word.
+-- Which expressions and types the grammar allows (C11 6.5 and 6.7), where `types` are the words of the `typedef`s of
+-- the file. A type word is no other word, so neither `PyObject_New` nor `Py_UNUSED` is read as such where it is a type
+-- word.
 --   is_empty xs            an empty list
 --   tag_ok types tag       a tag before fields is no type word, where it is there; alone it may be one
 --   is_void, is_just_void, is_void_base, is_void_spec    the keyword `void`, and what is spelled by it alone
@@ -7,20 +8,30 @@
 --                                              this one alone
 --   has_no_params ds       an empty list of parameters
 --   void_ok v ds dots      the lone `void` is the empty list, and `, ...` stands after a parameter
---   expr_at types l e      the expression binds at least as tightly as the level `l`, and so does each operand in it for its place
---   args_ok, type_name_ok, spec_ok, base_ok, field_ok, fields_ok, declr_ok, declrs_ok, tail_ok, sizes_ok, params_ok, param_decl_ok, param_decls_ok,
+--   expr_at types l e      the expression binds at least as tightly as the level `l`, and so does each operand in it
+--                          for its place
+--   args_ok, type_name_ok, spec_ok, base_ok, field_ok, fields_ok, declr_ok, declrs_ok, tail_ok, sizes_ok, params_ok,
+--   param_decl_ok, param_decls_ok,
 --   param_declr_ok         the type of the same name
 --   some_declrs_ok         the same of at least one declarator
-use Rattle.std.specs.Prelude.{ℕ, ◌+◌, Bool, true, false, not, ◌&&◌, ◌==◌, nat_le, List, [], ◌∷◌, Option, Some, None, is_some, is_none}
+use Rattle.std.specs.Prelude.{ℕ, ◌+◌, Bool, true, false, not, ◌&&◌, ◌==◌, nat_le, List, [], ◌∷◌, Option, Some, None}
+use Rattle.std.specs.Prelude.{is_some, is_none}
 use Rattle.pungi_base.specs.declared.key.Key.{Key}
 use Rattle.pungi_base.specs.declared.key.Key.TheVariants as keys
 use Rattle.pungi_base.specs.declared.names.Name.{Name}
 use Rattle.pungi_base.specs.declared.pos.Pos.{Pos}
 use Rattle.pungi_base.specs.Numbers.{py_object_new, py_unused}
 use Rattle.pungi_tree.specs.Tokens.{named_word}
-use Rattle.pungi_tree.specs.Operators.{binary_level, is_assign, prefix_need, is_step, is_base_word, is_qualifier, is_aggregate, all_keys}
+use Rattle.pungi_tree.specs.Operators.{binary_level, is_assign, prefix_need, is_step, is_base_word, is_qualifier}
+use Rattle.pungi_tree.specs.Operators.{is_aggregate, all_keys}
 use Rattle.pungi_tree.specs.TypeWords.{is_type, is_word}
-use Rattle.pungi_tree.specs.Syntax.{Expr, word, int, float, char, text, null, paren, unary, post, binary, assign, conditional, comma, cast, size_of_type, call, new, index, dot, arrow, Exprs, no_exprs, expr_and, TypeName, type_name, Spec, spec, Base, words, alias, tagged, tagged_fields, Field, empty, members, Fields, no_fields, field_and, Declr, declr, Declrs, no_declrs, declr_and, Tail, sizes, function, Sizes, no_sizes, open_and, size_and, Params, params, ParamDecl, param_decl, ParamDecls, no_params, param_and, ParamDeclr, named, bare, unused}
+use Rattle.pungi_tree.specs.Syntax.{Expr, word, int, float, char, text, null, paren, unary, post, binary, assign}
+use Rattle.pungi_tree.specs.Syntax.{conditional, comma, cast, size_of_type, call, new, index, dot, arrow, Exprs}
+use Rattle.pungi_tree.specs.Syntax.{no_exprs, expr_and, TypeName, type_name, Spec, spec, Base, words, alias, tagged}
+use Rattle.pungi_tree.specs.Syntax.{tagged_fields, Field, empty, members, Fields, no_fields, field_and, Declr, declr}
+use Rattle.pungi_tree.specs.Syntax.{Declrs, no_declrs, declr_and, Tail, sizes, function, Sizes, no_sizes, open_and}
+use Rattle.pungi_tree.specs.Syntax.{size_and, Params, params, ParamDecl, param_decl, ParamDecls, no_params, param_and}
+use Rattle.pungi_tree.specs.Syntax.{ParamDeclr, named, bare, unused}
 
 abbrev pub is_empty : {A : Type 0} → List A → Bool
 is_empty [] = true
@@ -77,7 +88,8 @@ module _ (types : List Name) where
     expr_at l (paren p e) = nat_le l 16 && expr_at 0 e
     expr_at l (unary p k e) = nat_le l 14 && expr_at (prefix_need k) e
     expr_at l (post p m e) = nat_le l 15 && (is_step m && expr_at 15 e)
-    expr_at l (binary p m a b) = nat_le l (binary_level m) && (expr_at (binary_level m) a && expr_at (binary_level m + 1) b)
+    expr_at l (binary p m a b) = nat_le l (binary_level m)
+        && (expr_at (binary_level m) a && expr_at (binary_level m + 1) b)
     expr_at l (assign p m a b) = nat_le l 1 && (is_assign m && (expr_at 14 a && expr_at 1 b))
     expr_at l (conditional p a b c) = nat_le l 2 && (expr_at 3 a && (expr_at 0 b && expr_at 2 c))
     expr_at l (comma p a b) = nat_le l 0 && (expr_at 0 a && expr_at 1 b)

@@ -1,11 +1,13 @@
--- Which operators and keywords the grammar allows at a place, and how tightly an expression binds (C11 6.5, 6.7.1 to 6.7.3).
--- The levels, from the loosest to the tightest: 0 comma, 1 assignment, 2 `? :`, 3 to 12 the binary operators, 13 cast, 14 unary, 15 postfix,
+-- Which operators and keywords the grammar allows at a place, and how tightly an expression binds (C11 6.5, 6.7.1 to
+-- 6.7.3).
+-- The levels, from the loosest to the tightest: 0 comma, 1 assignment, 2 `? :`, 3 to 12 the binary operators, 13 cast,
+-- 14 unary, 15 postfix,
 -- 16 primary.
 --   nowhere               a level that no expression has
 --   binary_level m        the level of a binary operator, and `nowhere` for any other punctuator
 --   is_assign m           an operator of assignment
---   prefix_need k         the level that the operand of a prefix operator needs, and `nowhere` for any other token; prefix_mark_need and
---                         prefix_key_need say it of a punctuator and of a keyword
+--   prefix_need k         the level that the operand of a prefix operator needs, and `nowhere` for any other token;
+--                         prefix_mark_need and prefix_key_need say it of a punctuator and of a keyword
 --   is_step m             `++` or `--`
 --   is_base_word, is_qualifier, is_aggregate    a keyword of a type, a qualifier, `struct` or `union`
 --   all_keys test ks      each keyword passes the test
@@ -17,7 +19,8 @@ use Rattle.pungi_base.specs.declared.kind.Kind.{Kind}
 use Rattle.pungi_base.specs.declared.kind.Kind.TheVariants as kind
 use Rattle.pungi_base.specs.declared.punct.Punct.{Punct}
 use Rattle.pungi_base.specs.declared.punct.Punct.TheVariants as puncts
-use Rattle.pungi_tree.specs.Syntax.{Expr, word, int, float, char, text, null, paren, unary, post, binary, assign, conditional, comma, cast, size_of_type, call, new, index, dot, arrow}
+use Rattle.pungi_tree.specs.Syntax.{Expr, word, int, float, char, text, null, paren, unary, post, binary, assign}
+use Rattle.pungi_tree.specs.Syntax.{conditional, comma, cast, size_of_type, call, new, index, dot, arrow}
 
 abbrev pub nowhere : ℕ
 nowhere = 100

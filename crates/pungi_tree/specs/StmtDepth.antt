@@ -1,11 +1,15 @@
 -- How deep a declaration or a statement is: the greatest number of statement and expression nodes on a path.
 --   optional_depth        an expression, where it is there
---   init_depth, var_depth, vars_depth, decl_depth    a first value, variables, and their declaration, which is itself no node
+--   init_depth, var_depth, vars_depth, decl_depth    a first value, variables, and their declaration, which is itself
+--                                                    no node
 --   start_depth           what a `for` begins with
 --   stmt_depth, stmts_depth    statements
 use Rattle.std.specs.Prelude.{ℕ, ◌+◌, max, List, [], ◌∷◌, Option, Some, None}
 use Rattle.pungi_tree.specs.ExprDepth.{expr_depth, spec_depth, declr_depth}
-use Rattle.pungi_tree.specs.Syntax.{Expr, Init, value, table, VarDecl, var_decl, Decl, decl, ForStart, start_decl, start_expr, Stmt, block, declare, do_expr, if_only, if_else, while, do_while, for, switch, case, default, label, goto, break, continue, return, Stmts, no_stmts, stmt_and}
+use Rattle.pungi_tree.specs.Syntax.{Expr, Init, value, table, VarDecl, var_decl, Decl, decl, ForStart, start_decl}
+use Rattle.pungi_tree.specs.Syntax.{start_expr, Stmt, block, declare, do_expr, if_only, if_else, while, do_while, for}
+use Rattle.pungi_tree.specs.Syntax.{switch, case, default, label, goto, break, continue, return, Stmts, no_stmts}
+use Rattle.pungi_tree.specs.Syntax.{stmt_and}
 
 abbrev pub optional_depth : Option Expr → ℕ
 optional_depth None = 0

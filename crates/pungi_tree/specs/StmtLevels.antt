@@ -1,8 +1,10 @@
--- Which declarations and statements the grammar allows (C11 6.7 and 6.8), where `types` are the words of the `typedef`s of the file.
+-- Which declarations and statements the grammar allows (C11 6.7 and 6.8), where `types` are the words of the `typedef`s
+-- of the file.
 --   open_if s          an `else` after the statement would belong to an `if` in it (C11 6.8.4.1)
 --   is_statement s     a statement, and no declaration, which stands directly in a block alone
 --   optional_ok types e    an expression, where it is there
---   init_ok, var_ok, vars_ok, some_vars_ok, decl_ok    a first value, variables, at least one of them, and their declaration
+--   init_ok, var_ok, vars_ok, some_vars_ok, decl_ok    a first value, variables, at least one of them, and their
+--                                                      declaration
 --   start_ok           what a `for` begins with
 --   stmt_ok, stmts_ok  statements, and what stands in a block
 use Rattle.std.specs.Prelude.{Bool, true, false, not, ◌&&◌, List, [], ◌∷◌, Option, Some, None}
@@ -10,7 +12,10 @@ use Rattle.pungi_base.specs.declared.names.Name.{Name}
 use Rattle.pungi_tree.specs.Balanced.{is_balanced}
 use Rattle.pungi_tree.specs.ExprLevels.{expr_at, spec_ok, declr_ok}
 use Rattle.pungi_tree.specs.Operators.{is_qualifier, all_keys}
-use Rattle.pungi_tree.specs.Syntax.{Expr, Init, value, table, VarDecl, var_decl, Decl, decl, ForStart, start_decl, start_expr, Stmt, block, declare, do_expr, if_only, if_else, while, do_while, for, switch, case, default, label, goto, break, continue, return, Stmts, no_stmts, stmt_and}
+use Rattle.pungi_tree.specs.Syntax.{Expr, Init, value, table, VarDecl, var_decl, Decl, decl, ForStart, start_decl}
+use Rattle.pungi_tree.specs.Syntax.{start_expr, Stmt, block, declare, do_expr, if_only, if_else, while, do_while, for}
+use Rattle.pungi_tree.specs.Syntax.{switch, case, default, label, goto, break, continue, return, Stmts, no_stmts}
+use Rattle.pungi_tree.specs.Syntax.{stmt_and}
 use Rattle.pungi_tree.specs.TypeWords.{is_word}
 
 abbrev pub open_if : Stmt → Bool
@@ -69,7 +74,8 @@ module _ (types : List Name) where
     stmt_ok (declare p d) = decl_ok d
     stmt_ok (do_expr p e) = optional_ok e
     stmt_ok (if_only p e s) = expr_at types 0 e && (is_statement s && stmt_ok s)
-    stmt_ok (if_else p e s t) = expr_at types 0 e && (is_statement s && (stmt_ok s && (not (open_if s) && (is_statement t && stmt_ok t))))
+    stmt_ok (if_else p e s t) = expr_at types 0 e
+        && (is_statement s && (stmt_ok s && (not (open_if s) && (is_statement t && stmt_ok t))))
     stmt_ok (while p e s) = expr_at types 0 e && (is_statement s && stmt_ok s)
     stmt_ok (do_while p s e) = is_statement s && (stmt_ok s && expr_at types 0 e)
     stmt_ok (for p a b c s) = start_ok a && (optional_ok b && (optional_ok c && (is_statement s && stmt_ok s)))

@@ -1,5 +1,6 @@
 -- The tree of `Syntax` that a declaration or a statement of the program stands for.
---   init_view, init_option_view, var_decl_view, decl_view    a first value, also where it may be missing, a variable, and a declaration
+--   init_view, init_option_view, var_decl_view, decl_view    a first value, also where it may be missing, a variable,
+--                                                            and a declaration
 --   for_start_view        what a `for` begins with
 --   stmt_view             a statement
 --   stmts_of              a list of statements, as `Syntax` writes it
@@ -51,7 +52,9 @@ stmt_node_step (StmtNode-F.If e s None) = λ p. plain.if_only p (expr_view e) s.
 stmt_node_step (StmtNode-F.If e s (Some t)) = λ p. plain.if_else p (expr_view e) s.value t.value
 stmt_node_step (StmtNode-F.While e s) = λ p. plain.while p (expr_view e) s.value
 stmt_node_step (StmtNode-F.DoWhile s e) = λ p. plain.do_while p s.value (expr_view e)
-stmt_node_step (StmtNode-F.For h s) = λ p. plain.for p (for_start_view h.value.start) (optional_view h.value.test) (optional_view h.value.step) s.value
+stmt_node_step (StmtNode-F.For h s) =
+    λ p. plain.for p (for_start_view h.value.start) (optional_view h.value.test) (optional_view h.value.step)
+    s.value
 stmt_node_step (StmtNode-F.Switch e s) = λ p. plain.switch p (expr_view e) s.value
 stmt_node_step (StmtNode-F.Case e s) = λ p. plain.case p (expr_view e) s.value
 stmt_node_step (StmtNode-F.Default s) = λ p. plain.default p s.value

@@ -1,5 +1,6 @@
--- Syntax trees as contracts see them: lists in place of vectors, and no boxes. Each constructor stands for the production that the type of the
--- same name in `src/` shows (C11 6.5 to 6.9); a type that lists nodes of another has an end and a constructor for one more.
+-- Syntax trees as contracts see them: lists in place of vectors, and no boxes. Each constructor stands for the
+-- production that the type of the same name in `src/` shows (C11 6.5 to 6.9); a type that lists nodes of another has an
+-- end and a constructor for one more.
 --   Expr, Exprs               expressions, and a list of arguments; a place comes first
 --   TypeName, Spec, Base      types: with their pointers, without them, without their `const`
 --   Field, Fields             what stands between the braces of a struct

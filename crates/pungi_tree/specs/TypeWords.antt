@@ -1,6 +1,6 @@
--- The type words of a file: the names of types that are known before a text is read, and for each `typedef` outside braces the last word before the
--- next `;` outside braces (C11 6.7.8). They hold for the whole file, and a type word is no other word. Brackets of the other two kinds count for nothing
--- here, and a `}` that closes nothing neither.
+-- The type words of a file: the names of types that are known before a text is read, and for each `typedef` outside
+-- braces the last word before the next `;` outside braces (C11 6.7.8). They hold for the whole file, and a type word is
+-- no other word. Brackets of the other two kinds count for nothing here, and a `}` that closes nothing neither.
 --   is_semicolon, is_typedef    this token; is_semicolon_mark and is_typedef_key say it of a punctuator and of a
 --                               keyword
 --   braces_after_mark n m, braces_after n k    how many braces are open after a token, where `n` are open before it
@@ -12,7 +12,8 @@
 --   is_among words w      one of these words
 --   is_type types w       a type word, where `types` are the words of the `typedef`s
 --   is_word types w       a word that is no type word
-use Rattle.std.specs.Prelude.{ℕ, suc, pred, ◌+◌, Bool, true, false, not, ◌&&◌, ◌||◌, ◌==◌, nat_le, nat_lt, if◌then◌else◌, List, [], ◌∷◌, ◌++◌, Option, Some, None, option_to_list}
+use Rattle.std.specs.Prelude.{ℕ, suc, pred, ◌+◌, Bool, true, false, not, ◌&&◌, ◌||◌, ◌==◌, nat_le, nat_lt}
+use Rattle.std.specs.Prelude.{if◌then◌else◌, List, [], ◌∷◌, ◌++◌, Option, Some, None, option_to_list}
 use Rattle.pungi_base.specs.declared.key.Key.{Key}
 use Rattle.pungi_base.specs.declared.key.Key.TheVariants as keys
 use Rattle.pungi_base.specs.declared.kind.Kind.{Kind}
@@ -59,7 +60,8 @@ declared_word n last (k ∷ ks) =
 abbrev pub typedef_words : ℕ → List Kind → List Name
 typedef_words n [] = []
 typedef_words n (k ∷ ks) =
-    (if is_typedef k && n == 0 then option_to_list (declared_word 0 None ks) else []) ++ typedef_words (braces_after n k) ks
+    (if is_typedef k && n == 0 then option_to_list (declared_word 0 None ks) else [])
+    ++ typedef_words (braces_after n k) ks
 
 abbrev pub type_words : List Kind → List Name
 type_words ks = typedef_words 0 ks

@@ -12,16 +12,21 @@ use Rattle.pungi_base.specs.Numbers.{py_doc_strvar}
 use Rattle.pungi_tree.specs.ExprFlat.{spec_flat, params_flat}
 use Rattle.pungi_tree.specs.Tokens.{mark, key, named_word, keys_flat, texts_flat, stars_flat}
 use Rattle.pungi_tree.specs.StmtFlat.{decl_flat, stmt_flat}
-use Rattle.pungi_tree.specs.Syntax.{Spec, Params, head, Item, nothing, doc, typedef, tag, variables, prototype, function_def}
+use Rattle.pungi_tree.specs.Syntax.{Spec, Params, head, Item, nothing, doc, typedef, tag, variables, prototype}
+use Rattle.pungi_tree.specs.Syntax.{function_def}
 
 abbrev pub signature_flat : List Key → Spec → List ℕ → Name → Params → List Kind
 signature_flat qs s stars n ps =
-    keys_flat qs ++ (spec_flat s ++ (stars_flat stars ++ (kind.Word n ∷ mark puncts.LeftParen ∷ (params_flat ps ++ mark puncts.RightParen ∷ []))))
+    keys_flat qs ++ (spec_flat s ++ (stars_flat stars ++ (kind.Word n ∷ mark puncts.LeftParen
+    ∷ (params_flat ps ++ mark puncts.RightParen ∷ []))))
 
 abbrev pub item_flat : Item → List Kind
 item_flat (nothing p) = mark puncts.Semicolon ∷ []
-item_flat (doc p n ts) = kind.Word (named_word py_doc_strvar) ∷ mark puncts.LeftParen ∷ kind.Word n ∷ mark puncts.Comma ∷ (texts_flat ts ++ mark puncts.RightParen ∷ [])
-item_flat (typedef s stars n p) = key keys.Typedef ∷ (spec_flat s ++ (stars_flat stars ++ kind.Word n ∷ mark puncts.Semicolon ∷ []))
+item_flat (doc p n ts) =
+    kind.Word (named_word py_doc_strvar) ∷ mark puncts.LeftParen ∷ kind.Word n ∷ mark puncts.Comma
+    ∷ (texts_flat ts ++ mark puncts.RightParen ∷ [])
+item_flat (typedef s stars n p) =
+    key keys.Typedef ∷ (spec_flat s ++ (stars_flat stars ++ kind.Word n ∷ mark puncts.Semicolon ∷ []))
 item_flat (tag qs s) = keys_flat qs ++ (spec_flat s ++ mark puncts.Semicolon ∷ [])
 item_flat (variables d) = decl_flat d
 item_flat (prototype (head qs s stars n p ps)) = signature_flat qs s stars n ps ++ mark puncts.Semicolon ∷ []

@@ -1,5 +1,5 @@
--- Which items and files the grammar allows (C11 6.9), where `types` are the words of the `typedef`s of the file. `PyDoc_STRVAR` begins its item only
--- where it is no type word. The word of a `typedef` may be any.
+-- Which items and files the grammar allows (C11 6.9), where `types` are the words of the `typedef`s of the file.
+-- `PyDoc_STRVAR` begins its item only where it is no type word. The word of a `typedef` may be any.
 --   with_typedef i names   the word of an item that is a `typedef`, before these
 --   typedef_names items    the words of the items that are `typedef`s
 --   is_block s         a block
@@ -14,7 +14,8 @@ use Rattle.pungi_tree.specs.ExprLevels.{is_empty, spec_ok, params_ok}
 use Rattle.pungi_tree.specs.Tokens.{named_word}
 use Rattle.pungi_tree.specs.Operators.{is_qualifier, all_keys}
 use Rattle.pungi_tree.specs.StmtLevels.{decl_ok, stmt_ok}
-use Rattle.pungi_tree.specs.Syntax.{Spec, Params, head, Stmt, block, Item, nothing, doc, typedef, tag, variables, prototype, function_def}
+use Rattle.pungi_tree.specs.Syntax.{Spec, Params, head, Stmt, block, Item, nothing, doc, typedef, tag, variables}
+use Rattle.pungi_tree.specs.Syntax.{prototype, function_def}
 use Rattle.pungi_tree.specs.TypeWords.{is_word, type_words}
 use Rattle.pungi_tree.specs.UnitFlat.{items_flat}
 

@@ -15,18 +15,22 @@ use Rattle.pungi_tree.specs.Syntax.{Head, head, Item, nothing, doc, typedef, tag
 abbrev pub SpellsHead : Head → List Placed → List Placed → Type 0
 SpellsHead (head qs s stars n p ps) ts rest =
     (after pointers inner : List Placed) × (q r : Pos) × SpellsKeys qs ts after × SpellsSpec s after pointers
-    × SpellsStars stars pointers (word_at n p ∷ mark_at puncts.LeftParen q ∷ inner) × SpellsParams ps inner (mark_at puncts.RightParen r ∷ rest)
+    × SpellsStars stars pointers (word_at n p ∷ mark_at puncts.LeftParen q ∷ inner)
+    × SpellsParams ps inner (mark_at puncts.RightParen r ∷ rest)
 
 abbrev pub SpellsItem : Item → List Placed → List Placed → Type 0
 SpellsItem (nothing p) ts rest = ts ≡ mark_at puncts.Semicolon p ∷ rest
 SpellsItem (doc p n ns) ts rest =
     (inner : List Placed) × (q r s u : Pos)
-    × (ts ≡ word_at (named_word py_doc_strvar) q ∷ mark_at puncts.LeftParen r ∷ word_at n p ∷ mark_at puncts.Comma s ∷ inner)
+    × (ts ≡ word_at (named_word py_doc_strvar) q ∷ mark_at puncts.LeftParen r ∷ word_at n p ∷ mark_at puncts.Comma s
+    ∷ inner)
     × SpellsTexts ns inner (mark_at puncts.RightParen u ∷ rest)
 SpellsItem (typedef s stars n p) ts rest =
     (after pointers : List Placed) × (q r : Pos) × (ts ≡ key_at keys.Typedef q ∷ after) × SpellsSpec s after pointers
     × SpellsStars stars pointers (word_at n p ∷ mark_at puncts.Semicolon r ∷ rest)
-SpellsItem (tag qs s) ts rest = (after : List Placed) × (q : Pos) × SpellsKeys qs ts after × SpellsSpec s after (mark_at puncts.Semicolon q ∷ rest)
+SpellsItem (tag qs s) ts rest =
+    (after : List Placed) × (q : Pos) × SpellsKeys qs ts after
+    × SpellsSpec s after (mark_at puncts.Semicolon q ∷ rest)
 SpellsItem (variables d) ts rest = SpellsDecl d ts rest
 SpellsItem (prototype h) ts rest = (q : Pos) × SpellsHead h ts (mark_at puncts.Semicolon q ∷ rest)
 SpellsItem (function_def h b) ts rest = (body : List Placed) × SpellsHead h ts body × SpellsStmt b body rest

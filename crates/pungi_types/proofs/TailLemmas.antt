@@ -13,5 +13,6 @@ use Rattle.pungi_tree.specs.declared.expr.Expr.{Expr}
 pub declr_tail-view : (d : Declr) → declr_tail (declr_view d) ≡ tail_view d.tail
 declr_tail-view d = search (rules, the_lemmas, fold_out-Declr, fold_out-Tail)
 
-pub tail_view-sizes : (v : Vec (Option Expr) Global) → tail_view (Sizes v) ≡ plain.sizes (sizes_of (map optional_view v.items))
+pub tail_view-sizes : (v : Vec (Option Expr) Global)
+    → tail_view (Sizes v) ≡ plain.sizes (sizes_of (map optional_view v.items))
 tail_view-sizes v = search (rules, the_lemmas, fold_out-Declr, fold_out-Tail)

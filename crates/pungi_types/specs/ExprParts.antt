@@ -2,7 +2,8 @@
 --   used_of k e          the value of an expression of this kind is used
 --   word_findings m p    a word that means this
 --   step_findings p place k e    `++` or `--` after an operand
---   binary_findings p m k a l b, assign_findings p m place k a l b, cond_findings p j c k a l b    operators between operands of these kinds
+--   binary_findings p m k a l b, assign_findings p m place k a l b, cond_findings p j c k a l b    operators between
+--   operands of these kinds
 --   call_findings env p f met    a call whose arguments are met or not
 use Rattle.std.specs.Prelude.{Bool, ◌&&◌, ◌||◌, not, Option}
 use Rattle.pungi_base.specs.declared.pos.Pos.{Pos}
@@ -11,7 +12,9 @@ use Rattle.pungi_tree.specs.Syntax.{Expr}
 use Rattle.pungi_types.specs.Names.{Env, Meaning}
 use Rattle.pungi_types.specs.Findings.{Findings, ◌and◌, when}
 use Rattle.pungi_types.specs.Operators.{is_bits, is_bits_assign, is_pointer, is_void, on_pointers, assigns_pointers}
-use Rattle.pungi_types.specs.Exprs.{void_call, operand, when_some, is_function_meaning, is_unknown, unary_wrong, binary_wrong, assign_wrong, cond_wrong, is_word, callee, is_unknown_call, is_value_called, takes_arguments}
+use Rattle.pungi_types.specs.Exprs.{void_call, operand, when_some, is_function_meaning, is_unknown, unary_wrong}
+use Rattle.pungi_types.specs.Exprs.{binary_wrong, assign_wrong, cond_wrong, is_word, callee, is_unknown_call}
+use Rattle.pungi_types.specs.Exprs.{is_value_called, takes_arguments}
 use Rattle.pungi_types.specs.declared.kind.ValueKind.{ValueKind}
 use Rattle.pungi_types.specs.declared.operator.Prefix.TheVariants as prefixes
 
@@ -22,15 +25,18 @@ abbrev pub word_findings : Meaning → Pos → Findings
 word_findings m p = when (is_function_meaning m) p 3 and when (is_unknown m) p 9
 
 abbrev pub step_findings : Pos → Bool → Option ValueKind → Expr → Findings
-step_findings p place k e = when (unary_wrong prefixes.Step place (operand k e)) p 10 and (used_of k e and when (is_pointer k) p 13)
+step_findings p place k e =
+    when (unary_wrong prefixes.Step place (operand k e)) p 10 and (used_of k e and when (is_pointer k) p 13)
 
 abbrev pub binary_findings : Pos → Punct → Option ValueKind → Expr → Option ValueKind → Expr → Findings
 binary_findings p m k a l b =
-    when (is_bits m) p 2 and (when (binary_wrong m (operand k a) (operand l b)) p 10 and ((used_of k a and used_of l b) and when (on_pointers m k l) p 13))
+    when (is_bits m) p 2 and (when (binary_wrong m (operand k a) (operand l b)) p 10
+    and ((used_of k a and used_of l b) and when (on_pointers m k l) p 13))
 
 abbrev pub assign_findings : Pos → Punct → Bool → Option ValueKind → Expr → Option ValueKind → Expr → Findings
 assign_findings p m place k a l b =
-    when (is_bits_assign m) p 2 and (when (assign_wrong m place (operand k a) (operand l b)) p 10 and ((used_of k a and used_of l b) and when (assigns_pointers m k l) p 13))
+    when (is_bits_assign m) p 2 and (when (assign_wrong m place (operand k a) (operand l b)) p 10
+    and ((used_of k a and used_of l b) and when (assigns_pointers m k l) p 13))
 
 abbrev pub cond_findings : Pos → Option ValueKind → Expr → Option ValueKind → Expr → Option ValueKind → Expr → Findings
 cond_findings p j c k a l b =

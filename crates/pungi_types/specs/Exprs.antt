@@ -1,24 +1,32 @@
 -- The kind of an expression, and where each rule holds in it (C11 6.5; Python/C API Reference Manual 3.11).
 --   meaning_kind, is_slot, is_place env e    the kind of a word; what may be assigned to
 --   names_type_object, names_module, is_address, is_module_address    what stands after an `&`
---   kind_want, param_want, answer_kind, param_kind, param_wants, params_wants, special_kind    what arguments are to be, and what calls answer
+--   kind_want, param_want, answer_kind, param_kind, param_wants, params_wants, special_kind    what arguments are to
+--   be, and what calls answer
 --   Callee              what stands before the parenthesis of a call
 --   value_or_none, row_or, defined_or, local_called_or, callee_of, callee env f    how it is found
 --   row_wants, wants env c, row_kind, is_refused, result_kind env c, takes_arguments    what a callee takes and returns
 --   want_met, is_word, wants_module, other_wants, is_done, first_met    an argument is what it is to be
---   is_bad_int, int_kind, step_kind, unary_kind, binary_kind, assign_kind, cond_kind, cast_kind    the kind of an expression from those of its operands
+--   is_bad_int, int_kind, step_kind, unary_kind, binary_kind, assign_kind, cond_kind, cast_kind    the kind of an
+--   expression from those of its operands
 --   void_call e, operand k e    the place of a call, also in parentheses; what is required of a value that is used
 --   kind_of env e, are_met env ws es    the kind of an expression; as many arguments as are wanted, and each fits
 --   when_some, void_use env e    the value of a Void call is used
 --   type_name_pos t     where a type's name begins
 --   n1 n2 n3 n4 n5 n9 n10 n12 n13 n14    where a rule holds in the expression's own node
---   is_left_out, is_function_meaning, crosses, is_unknown, is_unknown_call, is_value_called, unary_wrong, binary_wrong, assign_wrong, cond_wrong, cast_wrong,
+--   is_left_out, is_function_meaning, crosses, is_unknown, is_unknown_call, is_value_called, unary_wrong, binary_wrong,
+--   assign_wrong, cond_wrong, cast_wrong,
 --   is_step_or_sign     what the rules require
---   node_findings, expr_findings env e, args_findings, arg_findings, called_findings, cast_findings    where a rule holds in an expression, and in its parts
-use Rattle.std.specs.Prelude.{ℕ, ℤ, pos, int_lt, ◌==◌, Bool, true, false, ◌&&◌, ◌||◌, not, List, [], ◌∷◌, length, map, Option, Some, None, is_some, is_none, if◌then◌else◌}
+--   node_findings, expr_findings env e, args_findings, arg_findings, called_findings, cast_findings    where a rule
+--   holds in an expression, and in its parts
+use Rattle.std.specs.Prelude.{ℕ, ℤ, pos, int_lt, ◌==◌, Bool, true, false, ◌&&◌, ◌||◌, not, List, [], ◌∷◌, length, map}
+use Rattle.std.specs.Prelude.{Option, Some, None, is_some, is_none, if◌then◌else◌}
 use Rattle.pungi_base.specs.declared.pos.Pos.{Pos}
 use Rattle.pungi_base.specs.declared.punct.Punct.{Punct}
-use Rattle.pungi_tree.specs.Syntax.{Expr, word, int, float, char, text, null, paren, unary, post, binary, assign, conditional, comma, cast, size_of_type, call, new, index, dot, arrow, Exprs, no_exprs, expr_and, TypeName, type_name, Spec, spec, Params, params, param_decl, ParamDecls, no_params, param_and, ParamDeclr, named, bare, unused, Item}
+use Rattle.pungi_tree.specs.Syntax.{Expr, word, int, float, char, text, null, paren, unary, post, binary, assign}
+use Rattle.pungi_tree.specs.Syntax.{conditional, comma, cast, size_of_type, call, new, index, dot, arrow, Exprs}
+use Rattle.pungi_tree.specs.Syntax.{no_exprs, expr_and, TypeName, type_name, Spec, spec, Params, params, param_decl}
+use Rattle.pungi_tree.specs.Syntax.{ParamDecls, no_params, param_and, ParamDeclr, named, bare, unused, Item}
 use Rattle.pungi_api.specs.declared.param.Param.{Param}
 use Rattle.pungi_api.specs.declared.param.Param.TheVariants as takes
 use Rattle.pungi_api.specs.declared.answer.Answer.{Answer}
@@ -31,10 +39,13 @@ use Rattle.pungi_api.specs.declared.row.Row.{Row}
 use Rattle.pungi_api.specs.Rows.{row_in}
 use Rattle.pungi_types.specs.Files.{Definition, definitions, definition_in}
 use Rattle.pungi_types.specs.Kinds.{type_kind, not_void, declared_kind, type_name_kind, field_kind, spec_base}
-use Rattle.pungi_types.specs.Names.{Env, Meaning, a_local, a_function, a_global, a_static, unknown, meaning_of, local_in, is_among, is_type_object, is_module, global_kind, is_own_static}
+use Rattle.pungi_types.specs.Names.{Env, Meaning, a_local, a_function, a_global, a_static, unknown, meaning_of}
+use Rattle.pungi_types.specs.Names.{local_in, is_among, is_type_object, is_module, global_kind, is_own_static}
 use Rattle.pungi_types.specs.declared.local.Local.{Local}
 use Rattle.pungi_types.specs.Findings.{Findings, nothing_found, ◌and◌, when}
-use Rattle.pungi_types.specs.Operators.{is_bits, is_arithmetic, is_order, is_equality, is_bits_assign, is_arithmetic_assign, prefix_of, on_pointers, assigns_pointers, is_integer, is_pointer, is_void, wider, fits, comparable, joinable, joined_kind, both_known}
+use Rattle.pungi_types.specs.Operators.{is_bits, is_arithmetic, is_order, is_equality, is_bits_assign}
+use Rattle.pungi_types.specs.Operators.{is_arithmetic_assign, prefix_of, on_pointers, assigns_pointers, is_integer}
+use Rattle.pungi_types.specs.Operators.{is_pointer, is_void, wider, fits, comparable, joinable, joined_kind, both_known}
 use Rattle.pungi_types.specs.declared.lookup.Want.{Want}
 use Rattle.pungi_types.specs.declared.operator.Prefix.{Prefix}
 use Rattle.pungi_types.specs.declared.operator.Prefix.TheVariants as prefixes
@@ -212,7 +223,8 @@ abbrev pub is_bad_int : ℤ → Bool → Bool
 is_bad_int v u = u || (int_lt v (pos 0) || int_lt (pos 9223372036854775807) v)
 
 abbrev pub int_kind : ℤ → Bool → Bool → Option ValueKind
-int_kind v l u = (if is_bad_int v u then None else (if l || int_lt (pos 2147483647) v then Some kinds.Long else Some kinds.Int))
+int_kind v l u =
+    (if is_bad_int v u then None else (if l || int_lt (pos 2147483647) v then Some kinds.Long else Some kinds.Int))
 
 abbrev pub step_kind : Bool → Option ValueKind → Option ValueKind
 step_kind place k = (if place && is_integer k then k else None)
@@ -272,7 +284,8 @@ abbrev mutual
   kind_of env (comma p a b) = None
   kind_of env (cast p t e) = cast_kind (type_name_kind env.file.items t) (kind_of env e)
   kind_of env (size_of_type p t) = None
-  kind_of env (call p f es) = (if is_word f && are_met env (wants env (callee env f)) es then result_kind env (callee env f) else None)
+  kind_of env (call p f es) = (if is_word f
+      && are_met env (wants env (callee env f)) es then result_kind env (callee env f) else None)
   kind_of env (new p t e) = None
   kind_of env (index p a b) = None
   kind_of env (dot p e n) = None
@@ -281,7 +294,8 @@ abbrev mutual
   -- as many arguments as are wanted, and each fits
   pub are_met : Env → List Want → Exprs → Bool
   are_met env ws no_exprs = is_done ws
-  are_met env ws (expr_and e es) = first_met ws (is_module_address env e) (operand (kind_of env e) e) && are_met env (other_wants ws) es
+  are_met env ws (expr_and e es) = first_met ws (is_module_address env e) (operand (kind_of env e) e)
+      && are_met env (other_wants ws) es
 
 -- .. where the rules hold
 abbrev pub when_some : Bool → Option Pos → ℕ → Findings
@@ -373,27 +387,39 @@ binary_wrong m a b =
 -- of a pointer operand of `+=` and its kin only N13 is tested
 abbrev pub assign_wrong : Punct → Bool → Option ValueKind → Option ValueKind → Bool
 assign_wrong m place a b =
-    not (is_bits_assign m) && ((is_some a && (not place && not (is_arithmetic_assign m && is_pointer a))) || (is_void b ||
+    not (is_bits_assign m) && ((is_some a && (not place && not (is_arithmetic_assign m && is_pointer a)))
+    || (is_void b ||
     (not (is_arithmetic_assign m) && (place && (both_known a b && not (fits a b))))))
 
 abbrev pub cond_wrong : Option ValueKind → Option ValueKind → Option ValueKind → Bool
 cond_wrong c a b = is_void c || (is_void a || (is_void b || (both_known a b && not (joinable a b))))
 
 abbrev pub cast_wrong : Option ValueKind → Option ValueKind → Bool
-cast_wrong to k = is_some to && (not (is_void to) && (is_void k || (is_some k && (not (crosses to k) && not (fits to k)))))
+cast_wrong to k =
+    is_some to && (not (is_void to) && (is_void k || (is_some k && (not (crosses to k) && not (fits to k)))))
 
--- N10: a wrong kind or number of operands or arguments, at the node; and a used value of a Void call, at that call alone
+-- N10: a wrong kind or number of operands or arguments, at the node; and a used value of a Void call, at that call
+-- alone
 abbrev pub n10 : Env → Expr → Findings
-n10 env (unary p k e) = when (unary_wrong (prefix_of k) (is_place env e) (operand (kind_of env e) e)) p 10 and void_use env e
-n10 env (post p m e) = when (unary_wrong prefixes.Step (is_place env e) (operand (kind_of env e) e)) p 10 and void_use env e
-n10 env (binary p m a b) = when (binary_wrong m (operand (kind_of env a) a) (operand (kind_of env b) b)) p 10 and (void_use env a and void_use env b)
-n10 env (assign p m a b) = when (assign_wrong m (is_place env a) (operand (kind_of env a) a) (operand (kind_of env b) b)) p 10 and (void_use env a and void_use env b)
+n10 env (unary p k e) =
+    when (unary_wrong (prefix_of k) (is_place env e) (operand (kind_of env e) e)) p 10 and void_use env e
+n10 env (post p m e) =
+    when (unary_wrong prefixes.Step (is_place env e) (operand (kind_of env e) e)) p 10 and void_use env e
+n10 env (binary p m a b) =
+    when (binary_wrong m (operand (kind_of env a) a) (operand (kind_of env b) b)) p 10
+    and (void_use env a and void_use env b)
+n10 env (assign p m a b) =
+    when (assign_wrong m (is_place env a) (operand (kind_of env a) a) (operand (kind_of env b) b)) p 10
+    and (void_use env a and void_use env b)
 n10 env (conditional p c a b) =
-    when (cond_wrong (operand (kind_of env c) c) (operand (kind_of env a) a) (operand (kind_of env b) b)) p 10 and (void_use env c and (void_use env a and void_use env b))
+    when (cond_wrong (operand (kind_of env c) c) (operand (kind_of env a) a) (operand (kind_of env b) b)) p 10
+    and (void_use env c and (void_use env a and void_use env b))
 n10 env (cast p t e) =
-    when (cast_wrong (type_name_kind env.file.items t) (operand (kind_of env e) e)) p 10 and (if is_void (type_name_kind env.file.items t) then nothing_found else void_use env e)
+    when (cast_wrong (type_name_kind env.file.items t) (operand (kind_of env e) e)) p 10
+    and (if is_void (type_name_kind env.file.items t) then nothing_found else void_use env e)
 n10 env (call p f es) =
-    when (is_value_called (callee env f) || (takes_arguments (callee env f) && not (are_met env (wants env (callee env f)) es))) p 10
+    when (is_value_called (callee env f) || (takes_arguments (callee env f)
+    && not (are_met env (wants env (callee env f)) es))) p 10
 n10 env (index p a b) = void_use env a and void_use env b
 n10 env (dot p e n) = void_use env e
 n10 env (arrow p e n) = void_use env e
@@ -424,7 +450,9 @@ n14 env _ = nothing_found
 
 -- where a rule holds in the expression's own node
 abbrev pub node_findings : Env → Expr → Findings
-node_findings env e = n1 env e and (n2 env e and (n3 env e and (n4 env e and (n5 env e and (n9 env e and (n10 env e and (n12 env e and (n13 env e and n14 env e))))))))
+node_findings env e =
+    n1 env e and (n2 env e and (n3 env e and (n4 env e
+    and (n5 env e and (n9 env e and (n10 env e and (n12 env e and (n13 env e and n14 env e))))))))
 
 abbrev mutual
   -- where a rule holds in an expression; a word that is called is examined by the call alone
@@ -436,15 +464,20 @@ abbrev mutual
   expr_findings env (text p ns) = nothing_found
   expr_findings env (null p) = nothing_found
   expr_findings env (paren p e) = expr_findings env e
-  expr_findings env (unary p k e) = (if is_address (prefix_of k) && names_type_object env e then nothing_found else expr_findings env e) and node_findings env (unary p k e)
+  expr_findings env (unary p k e) = (if is_address (prefix_of k)
+      && names_type_object env e then nothing_found else expr_findings env e) and node_findings env (unary p k e)
   expr_findings env (post p m e) = expr_findings env e and node_findings env (post p m e)
-  expr_findings env (binary p m a b) = expr_findings env a and (expr_findings env b and node_findings env (binary p m a b))
-  expr_findings env (assign p m a b) = expr_findings env a and (expr_findings env b and node_findings env (assign p m a b))
-  expr_findings env (conditional p c a b) = expr_findings env c and (expr_findings env a and (expr_findings env b and node_findings env (conditional p c a b)))
+  expr_findings env (binary p m a b) = expr_findings env a
+      and (expr_findings env b and node_findings env (binary p m a b))
+  expr_findings env (assign p m a b) = expr_findings env a
+      and (expr_findings env b and node_findings env (assign p m a b))
+  expr_findings env (conditional p c a b) = expr_findings env c
+      and (expr_findings env a and (expr_findings env b and node_findings env (conditional p c a b)))
   expr_findings env (comma p a b) = expr_findings env a and (expr_findings env b and node_findings env (comma p a b))
   expr_findings env (cast p t e) = expr_findings env e and node_findings env (cast p t e)
   expr_findings env (size_of_type p t) = node_findings env (size_of_type p t)
-  expr_findings env (call p f es) = args_findings env (wants env (callee env f)) es and ((if is_word f then nothing_found else expr_findings env f) and node_findings env (call p f es))
+  expr_findings env (call p f es) = args_findings env (wants env (callee env f)) es
+      and ((if is_word f then nothing_found else expr_findings env f) and node_findings env (call p f es))
   expr_findings env (new p t e) = expr_findings env e and node_findings env (new p t e)
   expr_findings env (index p a b) = expr_findings env a and (expr_findings env b and node_findings env (index p a b))
   expr_findings env (dot p e n) = expr_findings env e and node_findings env (dot p e n)
@@ -454,7 +487,8 @@ abbrev mutual
   pub args_findings : Env → List Want → Exprs → Findings
   args_findings env ws no_exprs = nothing_found
   args_findings env ws (expr_and e es) =
-      (if wants_module ws && is_module_address env e then nothing_found else expr_findings env e and void_use env e) and args_findings env (other_wants ws) es
+      (if wants_module ws && is_module_address env e then nothing_found else expr_findings env e and void_use env e)
+      and args_findings env (other_wants ws) es
 
 -- where a rule holds in an argument
 abbrev pub arg_findings : Bool → Env → Expr → Findings

@@ -1,21 +1,27 @@
 -- What is known of a file, and what it declares outside functions (C11 6.9).
 --   SourceFile          what is known of a file
 --   source_file texts items rows    the same, of a file whose names have these texts
---   Typedef, Variable, Definition, Place    a typedef, a variable or table, a function with its body, a name and where it stands
+--   Typedef, Variable, Definition, Place    a typedef, a variable or table, a function with its body, a name and where
+--                                           it stands
 --   declr_name, declr_pos, declr_stars, declr_tail    the parts of a declarator
 --   is_no_array ss, is_plain_tail t    no sizes stand after a name; neither these nor the parameters of a pointer to a
 --                                      function
---   typedefs, variables_of, definitions, prototypes    those of a file, in text order; decl_variables those of one declaration
+--   typedefs, variables_of, definitions, prototypes    those of a file, in text order; decl_variables those of one
+--                                                      declaration
 --   is_place_in ps w, definition_in ds w    a name is among these; the first definition of a name
 --   AreOwn whole ds     each of these is the first definition of its name in the whole list
-use Rattle.std.specs.Prelude.{◌≡◌, ℕ, Bool, true, false, ◌==◌, ◌||◌, List, [], ◌∷◌, ◌++◌, length, Option, Some, None, if◌then◌else◌}
+use Rattle.std.specs.Prelude.{◌≡◌, ℕ, Bool, true, false, ◌==◌, ◌||◌, List, [], ◌∷◌, ◌++◌, length, Option, Some, None}
+use Rattle.std.specs.Prelude.{if◌then◌else◌}
 use Rattle.pungi_base.specs.declared.names.Name.{Name}
 use Rattle.pungi_base.specs.declared.pos.Pos.{Pos}
 use Rattle.pungi_base.specs.Numbers.{first_free}
 use Rattle.pungi_api.specs.declared.row.Row.{Row}
-use Rattle.pungi_tree.specs.Syntax.{Spec, Declr, declr, Tail, sizes, function, Sizes, no_sizes, open_and, size_and, Params, Stmt, VarDecl, var_decl, decl, Item, typedef, variables, head, prototype, function_def}
+use Rattle.pungi_tree.specs.Syntax.{Spec, Declr, declr, Tail, sizes, function, Sizes, no_sizes, open_and, size_and}
+use Rattle.pungi_tree.specs.Syntax.{Params, Stmt, VarDecl, var_decl, decl, Item, typedef, variables, head, prototype}
+use Rattle.pungi_tree.specs.Syntax.{function_def}
 
--- its items, the rows of the API by their names, the texts of names by their numbers, and the number of the first name that a text may bring
+-- its items, the rows of the API by their names, the texts of names by their numbers, and the number of the first name
+-- that a text may bring
 pub record SourceFile : Type 0 where
   pub items : List Item
   pub rows : List (ℕ × Row)
@@ -86,7 +92,8 @@ variables_of (_ ∷ is) = variables_of is
 
 abbrev pub definitions : List Item → List Definition
 definitions [] = []
-definitions (function_def (head qs s stars n p ps) b ∷ is) = record { name = n; pos = p; result = s; stars = length stars; params = ps; body = b } ∷ definitions is
+definitions (function_def (head qs s stars n p ps) b ∷ is) =
+    record { name = n; pos = p; result = s; stars = length stars; params = ps; body = b } ∷ definitions is
 definitions (_ ∷ is) = definitions is
 
 abbrev pub prototypes : List Item → List Place

@@ -1,6 +1,7 @@
 -- Findings: a rule and the place where it holds. The one that is reported is the first in the text, and at one place
 -- that of the lowest rule.
---   Findings            all that is found in a part of the text: nothing, one finding, or what is found in two parts (`and`)
+--   Findings            all that is found in a part of the text: nothing, one finding, or what is found in two parts
+--                       (`and`)
 --   when holds p n      rule n holds at p, where the condition does
 --   is_before a b       a finding comes before another
 --   earlier first f     the earlier of one that may be there and a new one
@@ -23,7 +24,9 @@ when false p n = nothing_found
 when true p n = one_found (record { pos = p; rule = record { 0 = n } })
 
 abbrev pub is_before : Finding → Finding → Bool
-is_before a b = nat_lt a.pos.line b.pos.line || (a.pos.line == b.pos.line && (nat_lt a.pos.col b.pos.col || (a.pos.col == b.pos.col && nat_lt a.rule.0 b.rule.0)))
+is_before a b =
+    nat_lt a.pos.line b.pos.line || (a.pos.line == b.pos.line
+    && (nat_lt a.pos.col b.pos.col || (a.pos.col == b.pos.col && nat_lt a.rule.0 b.rule.0)))
 
 -- the earlier of one that may be there and a new one
 abbrev pub earlier : Option Finding → Finding → Option Finding

@@ -9,7 +9,8 @@
 --   findings env d, refusal_in env d, refusal file refused d    all that holds, and the finding that is reported
 use Rattle.std.specs.Prelude.{ℕ, ◌+◌, nat_lt, true, false, List, [], Option, Some, None, is_none}
 use Rattle.pungi_base.specs.declared.pos.Pos.{Pos}
-use Rattle.pungi_tree.specs.Syntax.{Params, params, ParamDecl, param_decl, ParamDecls, no_params, param_and, ParamDeclr, named, bare, unused, Stmt, block}
+use Rattle.pungi_tree.specs.Syntax.{Params, params, ParamDecl, param_decl, ParamDecls, no_params, param_and, ParamDeclr}
+use Rattle.pungi_tree.specs.Syntax.{named, bare, unused, Stmt, block}
 use Rattle.pungi_types.specs.Files.{SourceFile, Definition, declr_name, declr_pos}
 use Rattle.pungi_types.specs.Names.{Env, with_word}
 use Rattle.pungi_types.specs.Kinds.{type_kind, spec_base}
@@ -47,7 +48,12 @@ first_frame env d = record {
 abbrev pub after_param : Frame → ParamDecl → Frame
 after_param f (param_decl qs s (named d)) =
     record f {
-      env = with_local f.env (record { name = declr_name d; number = f.next; kind = param_kind f.env.file.items s (named d) });
+      env = with_local f.env (record {
+        name = declr_name d;
+        number = f.next;
+        kind = param_kind f.env.file.items s
+            (named d);
+      });
       block = with_word f.block (declr_name d).0;
       next = f.next + 1;
     }
@@ -61,7 +67,8 @@ name_findings f _ = nothing_found
 abbrev pub param_findings : Frame → ParamDecls → Findings
 param_findings f no_params = nothing_found
 param_findings f (param_and (param_decl qs s d) ds) =
-    declared_n1 qs s (param_kind f.env.file.items s d) and (name_findings f d and param_findings (after_param f (param_decl qs s d)) ds)
+    declared_n1 qs s (param_kind f.env.file.items s d)
+    and (name_findings f d and param_findings (after_param f (param_decl qs s d)) ds)
 
 abbrev pub after_params : Frame → ParamDecls → Frame
 after_params f no_params = f
@@ -92,7 +99,8 @@ result_findings env d = when (is_none (result_kind env d)) (spec_pos d.result) 1
 
 -- where a rule holds in the parameters and the body
 abbrev pub parts_findings : Frame → Definition → Findings
-parts_findings f d = params_findings f d.params and (label_findings [] d.body and body_findings (params_frame f d.params) d.body)
+parts_findings f d =
+    params_findings f d.params and (label_findings [] d.body and body_findings (params_frame f d.params) d.body)
 
 -- N1 to N14
 abbrev pub text_findings : Env → Definition → Findings
@@ -103,7 +111,9 @@ params_count (params ds v dots) = param_count ds
 
 -- N15: too many locals, N16: too many nodes
 abbrev pub size_findings : Definition → Findings
-size_findings d = when (nat_lt most_locals (params_count d.params + body_locals d.body)) d.pos 15 and when (nat_lt most_nodes (function_nodes d)) d.pos 16
+size_findings d =
+    when (nat_lt most_locals (params_count d.params + body_locals d.body)) d.pos 15
+    and when (nat_lt most_nodes (function_nodes d)) d.pos 16
 
 abbrev pub or_sizes : Definition → Findings → Option Finding → Findings
 or_sizes d fs None = size_findings d

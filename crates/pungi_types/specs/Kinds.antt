@@ -1,28 +1,37 @@
--- What a type is once typedefs are followed, and the kind of its values (C11 6.7.2, 6.7.8; Python/C API Reference Manual 3.11, 'Object Structures').
+-- What a type is once typedefs are followed, and the kind of its values (C11 6.7.2, 6.7.8; Python/C API Reference
+-- Manual 3.11, 'Object Structures').
 --   Core, Followed      a type without its stars, and with as many as stand after typedefs
 --   core_alone c, more_stars n f    no stars; more of them
 --   spec_base s, is_struct k, tag_is t w    the parts of a type
 --   typedef_in ts w, tagged_in ts w    the first typedef of a word; the fields of the first struct with a tag
---   tagged_core, written_core    the core of a tagged type, and of a type as it is written, where a struct with its tag has fields or none has
---   written_tag b, is_fielded file tag, core_here file b    the tag of a type, whether a struct with it has fields in the file, and the core there
+--   tagged_core, written_core    the core of a tagged type, and of a type as it is written, where a struct with its tag
+--                                has fields or none has
+--   written_tag b, is_fielded file tag, core_here file b    the tag of a type, whether a struct with it has fields in
+--                                                           the file, and the core there
 --   named_core, typedef_core    the core after a typedef, and of a typedef
 --   is_listed_type w    the name of a type that is known before a text is read
 --   core_at n file b, core_of file b    typedefs followed so many times, and to their end
 --   untagged_fields, untagged_in, or_else, struct_fields file w    the fields of the struct of this name
 --   Member, first_member fs    a field, and the first of them
---   is_head_core, is_zero, is_head, begins_with_head, is_object_struct file w    a struct whose first field is `PyObject ob_base` or `PyVarObject ob_base`
+--   is_head_core, is_zero, is_head, begins_with_head, is_object_struct file w    a struct whose first field is
+--   `PyObject ob_base` or `PyVarObject ob_base`
 --   is_int_key, is_long_key, is_char_key, is_void_key, only p ks, both p q ks    tests of base words
 --   words_kind ks n, listed_kind w n, core_kind file c n, type_kind file b n    the kind of a type with n stars
 --   not_void k          only a result or a cast may be of kind Void
 --   declared_kind file s d, type_name_kind file t    the kind of what is declared, and of a type's name
---   declr_named, member_kind, field_in, field_in_some, field_kind file k w    the kind of a field, by the struct of a pointer
-use Rattle.std.specs.Prelude.{ℕ, zero, suc, ◌+◌, ◌==◌, nat_le, Bool, true, false, ◌&&◌, ◌||◌, not, List, [], ◌∷◌, length, Option, Some, None, is_some, if◌then◌else◌}
+--   declr_named, member_kind, field_in, field_in_some, field_kind file k w    the kind of a field, by the struct of a
+--                                                                             pointer
+use Rattle.std.specs.Prelude.{ℕ, zero, suc, ◌+◌, ◌==◌, nat_le, Bool, true, false, ◌&&◌, ◌||◌, not, List, [], ◌∷◌}
+use Rattle.std.specs.Prelude.{length, Option, Some, None, is_some, if◌then◌else◌}
 use Rattle.pungi_base.specs.declared.key.Key.{Key}
 use Rattle.pungi_base.specs.declared.key.Key.TheVariants as keys
 use Rattle.pungi_base.specs.declared.names.Name.{Name}
 use Rattle.pungi_base.specs.declared.pos.Pos.{Pos}
-use Rattle.pungi_tree.specs.Syntax.{Spec, spec, Base, words, alias, tagged, tagged_fields, empty, members, Fields, no_fields, field_and, Declr, Declrs, no_declrs, declr_and, TypeName, type_name, Item}
-use Rattle.pungi_base.specs.Numbers.{py_object, py_var_object, py_type_object, py_ssize_t, ob_base, py_module_def, first_type, types_end}
+use Rattle.pungi_tree.specs.Syntax.{Spec, spec, Base, words, alias, tagged, tagged_fields, empty, members, Fields}
+use Rattle.pungi_tree.specs.Syntax.{no_fields, field_and, Declr, Declrs, no_declrs, declr_and, TypeName, type_name}
+use Rattle.pungi_tree.specs.Syntax.{Item}
+use Rattle.pungi_base.specs.Numbers.{py_object, py_var_object, py_type_object, py_ssize_t, ob_base, py_module_def}
+use Rattle.pungi_base.specs.Numbers.{first_type, types_end}
 use Rattle.pungi_types.specs.Tags.{Tag, tags}
 use Rattle.pungi_types.specs.Files.{Typedef, typedefs, declr_name, declr_stars, declr_tail, is_plain_tail}
 use Rattle.pungi_types.specs.declared.kind.ValueKind.{ValueKind}
@@ -67,7 +76,9 @@ tagged_in (t ∷ ts) w = (if is_struct t.of && tag_is t.tag w then Some t.fields
 
 -- `struct PyModuleDef` is `PyModuleDef`; unions are no structs, and a tag that no struct with fields has is no type
 abbrev pub tagged_core : Bool → Key → Name → Core
-tagged_core fielded of n = (if is_struct of then (if n.0 == py_module_def then builtin n else (if fielded then struct_of n else no_core)) else no_core)
+tagged_core fielded of n =
+    (if is_struct of then (if n.0 == py_module_def then builtin n else (if fielded then struct_of n else no_core))
+    else no_core)
 
 abbrev pub is_listed_type : ℕ → Bool
 is_listed_type w = nat_le first_type w && not (nat_le types_end w)
@@ -115,7 +126,8 @@ core_at (suc n) file (words ks) = core_alone (base_words ks)
 core_at (suc n) file (tagged of t) = core_alone (core_here file (tagged of t))
 core_at (suc n) file (tagged_fields of t fs) = core_alone (core_here file (tagged_fields of t fs))
 core_at (suc n) file (alias w) =
-    (if is_listed_type w.0 then core_alone (builtin w) else typedef_core (core_at n file) file (typedef_in (typedefs file) w.0))
+    (if is_listed_type w.0 then core_alone (builtin w) else typedef_core (core_at n file) file
+    (typedef_in (typedefs file) w.0))
 
 -- a chain of typedefs is no longer than the list of typedefs, or it goes in a circle and leads nowhere
 abbrev pub core_of : List Item → Base → Followed

@@ -1,5 +1,6 @@
 -- Labels, cases, and how many locals a function has (C11 6.8.1, 6.8.4.2, 6.8.6.1).
---   own_labels ws s, block_labels ws ss    these words, and the labels of a statement or a block that are in no inner block
+--   own_labels ws s, block_labels ws ss    these words, and the labels of a statement or a block that are in no inner
+--                                          block
 --   labels_after, labels_after_all    these words, and all labels of a statement or of statements
 --   label_findings ws s, labels_findings    a label twice
 --   byte c              a character's number
@@ -8,13 +9,16 @@
 --   has_value, with_value, with_constant, is_equal_case, with_default, cases_after    one more of them
 --   case_findings, cases_findings, switch_findings s    an equal case, a second default
 --   start_locals, stmt_locals, stmts_locals, param_count    how many locals are declared
-use Rattle.std.specs.Prelude.{ℕ, ℤ, pos, neg_ℤ, nat_lt, int_lt, ◌+◌, Bool, true, false, List, [], ◌∷◌, ◌++◌, length, Option, Some, None, if◌then◌else◌}
+use Rattle.std.specs.Prelude.{ℕ, ℤ, pos, neg_ℤ, nat_lt, int_lt, ◌+◌, Bool, true, false, List, [], ◌∷◌, ◌++◌, length}
+use Rattle.std.specs.Prelude.{Option, Some, None, if◌then◌else◌}
 use Rattle.std.specs.List.{list_any}
 use Rattle.std.specs.Ordering.{int_eq}
 use Rattle.pungi_base.specs.declared.kind.Kind.{Kind}
 use Rattle.pungi_base.specs.declared.kind.Kind.TheVariants as tokens
 use Rattle.pungi_base.specs.declared.punct.Punct.TheVariants as puncts
-use Rattle.pungi_tree.specs.Syntax.{Expr, int, char, unary, decl, ForStart, start_decl, start_expr, Stmt, block, declare, if_only, if_else, while, do_while, for, switch, case, default, label, Stmts, no_stmts, stmt_and, ParamDecls, no_params, param_and}
+use Rattle.pungi_tree.specs.Syntax.{Expr, int, char, unary, decl, ForStart, start_decl, start_expr, Stmt, block}
+use Rattle.pungi_tree.specs.Syntax.{declare, if_only, if_else, while, do_while, for, switch, case, default, label}
+use Rattle.pungi_tree.specs.Syntax.{Stmts, no_stmts, stmt_and, ParamDecls, no_params, param_and}
 use Rattle.pungi_types.specs.Names.{is_among, with_word}
 use Rattle.pungi_types.specs.Findings.{Findings, nothing_found, ◌and◌, when}
 
@@ -134,7 +138,8 @@ cases_after c _ = c
 
 -- N7: an equal case, a second default
 abbrev pub case_findings : Cases → Stmt → Findings
-case_findings c (case p e s) = when (is_equal_case c (constant_of e)) p 7 and case_findings (with_constant c (constant_of e)) s
+case_findings c (case p e s) =
+    when (is_equal_case c (constant_of e)) p 7 and case_findings (with_constant c (constant_of e)) s
 case_findings c (default p s) = when c.has_default p 7 and case_findings (with_default c) s
 case_findings c (label p n s) = case_findings c s
 case_findings c _ = nothing_found

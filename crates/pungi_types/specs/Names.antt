@@ -1,24 +1,31 @@
 -- What a word means at its place in a function (C11 6.2.1, 6.2.2).
---   Env                 where an expression stands: the file, the function's name, the refused functions, and the locals, the innermost and latest first
+--   Env                 where an expression stands: the file, the function's name, the refused functions, and the
+--                       locals, the innermost and latest first
 --   is_among ws w, with_word ws w    a word is among these; these, with one more at the end where it wasn't among them
---   is_table_type, is_table_core, is_core, is_no_function, is_table file v, is_single file w v    a variable without stars of one of the five table types
+--   is_table_type, is_table_core, is_core, is_no_function, is_table file v, is_single file w v    a variable without
+--   stars of one of the five table types
 --   global_in, global_kind file w    the kind of the first variable of this name that is no table
 --   type_objects_in, type_objects file    the names of the file's static type objects, each once, by first declaration
 --   table_in, is_table_name file w    a table
 --   module_in, is_module file w    a table of type `PyModuleDef`
 --   is_some_definition, is_function file w    a function, defined or only declared
---   is_plain_static w, is_type_object file w, is_static file w    an object that is there before any run; one that is used with `&`; either
+--   is_plain_static w, is_type_object file w, is_static file w    an object that is there before any run; one that is
+--                                                                 used with `&`; either
 --   is_built_in_static w    one that is there whatever the file declares
 --   is_own_static file w    a name that the file doesn't take for a table, of an object that is used without `&`
 --   place_among ws w, static_number file w    the number of a static's object
 --   local_in ls w       the latest local of a name
 --   Meaning             what a word that stands as a value is
---   static_or_unknown, global_or, local_or, meaning_of env w    what it is: a local, else a function, else a global of a kind, else a static
-use Rattle.std.specs.Prelude.{ℕ, ◌+◌, ◌-◌, ◌==◌, nat_le, Bool, true, false, ◌&&◌, ◌||◌, not, List, [], ◌∷◌, ◌++◌, Option, Some, None, if◌then◌else◌}
+--   static_or_unknown, global_or, local_or, meaning_of env w    what it is: a local, else a function, else a global of
+--                                                               a kind, else a static
+use Rattle.std.specs.Prelude.{ℕ, ◌+◌, ◌-◌, ◌==◌, nat_le, Bool, true, false, ◌&&◌, ◌||◌, not, List, [], ◌∷◌, ◌++◌}
+use Rattle.std.specs.Prelude.{Option, Some, None, if◌then◌else◌}
 use Rattle.std.specs.List.{list_any}
 use Rattle.pungi_tree.specs.Syntax.{Tail, sizes, function, Item}
-use Rattle.pungi_base.specs.Numbers.{static_count, py_type_object, py_method_def, py_module_def, py_member_def, py_get_set_def, first_static, first_type_object, statics_end}
-use Rattle.pungi_types.specs.Files.{SourceFile, Variable, variables_of, definitions, definition_in, prototypes, is_place_in, declr_name, declr_stars, declr_tail, is_plain_tail, Definition}
+use Rattle.pungi_base.specs.Numbers.{static_count, py_type_object, py_method_def, py_module_def, py_member_def}
+use Rattle.pungi_base.specs.Numbers.{py_get_set_def, first_static, first_type_object, statics_end}
+use Rattle.pungi_types.specs.Files.{SourceFile, Variable, variables_of, definitions, definition_in, prototypes}
+use Rattle.pungi_types.specs.Files.{is_place_in, declr_name, declr_stars, declr_tail, is_plain_tail, Definition}
 use Rattle.pungi_types.specs.Kinds.{Core, builtin, core_of, spec_base, declared_kind}
 use Rattle.pungi_types.specs.declared.kind.ValueKind.{ValueKind}
 use Rattle.pungi_types.specs.declared.local.Local.{Local}
@@ -38,7 +45,9 @@ abbrev pub with_word : List ℕ → ℕ → List ℕ
 with_word ws w = (if is_among ws w then ws else ws ++ w ∷ [])
 
 abbrev pub is_table_type : ℕ → Bool
-is_table_type w = w == py_type_object || (w == py_method_def || (w == py_module_def || (w == py_member_def || w == py_get_set_def)))
+is_table_type w =
+    w == py_type_object || (w == py_method_def
+    || (w == py_module_def || (w == py_member_def || w == py_get_set_def)))
 
 abbrev pub is_table_core : Core → Bool
 is_table_core (builtin n) = is_table_type n.0
@@ -54,16 +63,21 @@ is_no_function (function ps) = false
 
 -- a table: a variable without stars of one of the five table types
 abbrev pub is_table : List Item → Variable → Bool
-is_table file v = is_no_function (declr_tail v.declr) && (((core_of file (spec_base v.spec)).stars + declr_stars v.declr) == 0 && is_table_core (core_of file (spec_base v.spec)).core)
+is_table file v =
+    is_no_function (declr_tail v.declr) && (((core_of file (spec_base v.spec)).stars + declr_stars v.declr) == 0
+    && is_table_core (core_of file (spec_base v.spec)).core)
 
 -- a table of this type that is no array
 abbrev pub is_single : List Item → ℕ → Variable → Bool
-is_single file w v = is_table file v && (is_plain_tail (declr_tail v.declr) && is_core w (core_of file (spec_base v.spec)).core)
+is_single file w v =
+    is_table file v && (is_plain_tail (declr_tail v.declr) && is_core w (core_of file (spec_base v.spec)).core)
 
 -- the first variable of this name that is no table
 abbrev pub global_in : List Item → List Variable → ℕ → Option ValueKind
 global_in file [] w = None
-global_in file (v ∷ vs) w = (if (declr_name v.declr).0 == w && not (is_table file v) then declared_kind file v.spec v.declr else global_in file vs w)
+global_in file (v ∷ vs) w =
+    (if (declr_name v.declr).0 == w && not (is_table file v) then declared_kind file v.spec v.declr else global_in
+    file vs w)
 
 abbrev pub global_kind : List Item → ℕ → Option ValueKind
 global_kind file w = global_in file (variables_of file) w

@@ -1,13 +1,24 @@
--- How many nodes a function has: its statements, its expressions, those inside types too, and the variables that it declares.
+-- How many nodes a function has: its statements, its expressions, those inside types too, and the variables that it
+-- declares.
 --   expr_nodes, exprs_nodes    an expression and arguments
---   type_name_nodes, spec_nodes, base_nodes, field_nodes, fields_nodes, declr_nodes, declrs_nodes, tail_nodes, sizes_nodes, params_nodes, param_decl_nodes,
+--   type_name_nodes, spec_nodes, base_nodes, field_nodes, fields_nodes, declr_nodes, declrs_nodes, tail_nodes,
+--   sizes_nodes, params_nodes, param_decl_nodes,
 --   param_decls_nodes, param_declr_nodes    the expressions inside a type or a declarator
---   option_nodes, init_nodes, vars_nodes, decl_nodes, start_nodes    an expression that may be missing; declarations, with the variables that they declare
+--   option_nodes, init_nodes, vars_nodes, decl_nodes, start_nodes    an expression that may be missing; declarations,
+--                                                                    with the variables that they declare
 --   stmt_nodes, stmts_nodes    statements
 --   function_nodes d           a function
 use Rattle.std.specs.Prelude.{ℕ, ◌+◌, List, [], ◌∷◌, Option, Some, None}
-use Rattle.pungi_tree.specs.Syntax.{Expr, word, int, float, char, text, null, paren, unary, post, binary, assign, conditional, comma, cast, size_of_type, call, new, index, dot, arrow, Exprs, no_exprs, expr_and, TypeName, type_name, Spec, spec, Base, words, alias, tagged, tagged_fields, Field, empty, members, Fields, no_fields, field_and, Declr, declr, Declrs, no_declrs, declr_and, Tail, sizes, function, Sizes, no_sizes, open_and, size_and, Params, params, ParamDecl, param_decl, ParamDecls, no_params, param_and, ParamDeclr, named, bare, unused}
-use Rattle.pungi_tree.specs.Syntax.{Init, value, table, VarDecl, var_decl, Decl, decl, ForStart, start_decl, start_expr, Stmt, block, declare, do_expr, if_only, if_else, while, do_while, for, switch, case, default, label, goto, break, continue, return, Stmts, no_stmts, stmt_and}
+use Rattle.pungi_tree.specs.Syntax.{Expr, word, int, float, char, text, null, paren, unary, post, binary, assign}
+use Rattle.pungi_tree.specs.Syntax.{conditional, comma, cast, size_of_type, call, new, index, dot, arrow, Exprs}
+use Rattle.pungi_tree.specs.Syntax.{no_exprs, expr_and, TypeName, type_name, Spec, spec, Base, words, alias, tagged}
+use Rattle.pungi_tree.specs.Syntax.{tagged_fields, Field, empty, members, Fields, no_fields, field_and, Declr, declr}
+use Rattle.pungi_tree.specs.Syntax.{Declrs, no_declrs, declr_and, Tail, sizes, function, Sizes, no_sizes, open_and}
+use Rattle.pungi_tree.specs.Syntax.{size_and, Params, params, ParamDecl, param_decl, ParamDecls, no_params, param_and}
+use Rattle.pungi_tree.specs.Syntax.{ParamDeclr, named, bare, unused}
+use Rattle.pungi_tree.specs.Syntax.{Init, value, table, VarDecl, var_decl, Decl, decl, ForStart, start_decl, start_expr}
+use Rattle.pungi_tree.specs.Syntax.{Stmt, block, declare, do_expr, if_only, if_else, while, do_while, for, switch, case}
+use Rattle.pungi_tree.specs.Syntax.{default, label, goto, break, continue, return, Stmts, no_stmts, stmt_and}
 use Rattle.pungi_types.specs.Files.{Definition}
 
 abbrev mutual

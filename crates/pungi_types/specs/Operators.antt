@@ -1,6 +1,7 @@
 -- Operators by what the rules require of their operands, and tests of kinds. Of an operand with no kind nothing is
 -- required (C11 6.5).
---   is_bits, is_arithmetic, is_order, is_equality, is_bits_assign, is_arithmetic_assign    binary operators and assignments
+--   is_bits, is_arithmetic, is_order, is_equality, is_bits_assign, is_arithmetic_assign    binary operators and
+--   assignments
 --   mark_prefix, prefix_of    what an operator before its operand is
 --   is_int, is_integer, is_pointer, is_object, is_text, is_null, is_void    tests of a kind
 --   is_same_kind        two kinds are one integer kind
@@ -129,11 +130,15 @@ wider a b = (if is_int a && is_int b then kinds.Int else kinds.Long)
 
 -- a value of the second kind may be assigned to the first
 abbrev pub fits : Option ValueKind → Option ValueKind → Bool
-fits a b = (is_integer a && is_integer b) || ((is_object a && (is_object b || is_null b)) || (is_text a && (is_text b || is_null b)))
+fits a b =
+    (is_integer a && is_integer b) || ((is_object a && (is_object b || is_null b))
+    || (is_text a && (is_text b || is_null b)))
 
 -- `==`: two integers, two objects, or a pointer and NULL
 abbrev pub comparable : Option ValueKind → Option ValueKind → Bool
-comparable a b = (is_integer a && is_integer b) || ((is_object a && is_object b) || ((is_null a && is_pointer b) || (is_pointer a && is_null b)))
+comparable a b =
+    (is_integer a && is_integer b) || ((is_object a && is_object b)
+    || ((is_null a && is_pointer b) || (is_pointer a && is_null b)))
 
 -- both branches of `?:` are integers, or objects, or texts; beside a NULL the other is a pointer
 abbrev pub joinable : Option ValueKind → Option ValueKind → Bool

@@ -1,4 +1,5 @@
--- The refused functions of a file: the least set that holds each function in which a rule holds, N9 being read with that set.
+-- The refused functions of a file: the least set that holds each function in which a rule holds, N9 being read with
+-- that set.
 --   CheckedFile             a file with the names of its refused functions
 --   Holds file set          the set, as the names of functions, holds each function in which a rule holds
 --   IsRefusedSet file set   it is the least such set

@@ -6,17 +6,23 @@
 --                                                                                 first value
 --   after_var, after_vars, after_decl    the frame after variables
 --   var_findings, vars_findings, decl_findings    what holds in declarations
---   condition_findings, option_findings, option_condition, is_wrong_return, return_findings, is_no_integer, switched_findings    what holds in the
---   expressions of a statement
+--   condition_findings, option_findings, option_condition, is_wrong_return, return_findings, is_no_integer,
+--   switched_findings    what holds in the expressions of a statement
 --   in_part, in_loop, in_switch, in_block, in_label, start_frame, after_stmt, after_part, after_stmts    the frames of
---                                                                                                        its parts, and after it
---   start_findings, stmt_findings f s, stmts_findings f ss    what holds in what begins a `for`, in a statement, and in statements
-use Rattle.std.specs.Prelude.{ℕ, ◌+◌, Bool, true, false, ◌&&◌, ◌||◌, not, List, [], ◌∷◌, ◌++◌, Option, Some, None, is_some, is_none}
+--                                                                                                        its parts, and
+--                                                                                                        after it
+--   start_findings, stmt_findings f s, stmts_findings f ss    what holds in what begins a `for`, in a statement, and in
+--                                                             statements
+use Rattle.std.specs.Prelude.{ℕ, ◌+◌, Bool, true, false, ◌&&◌, ◌||◌, not, List, [], ◌∷◌, ◌++◌, Option, Some, None}
+use Rattle.std.specs.Prelude.{is_some, is_none}
 use Rattle.pungi_base.specs.declared.key.Key.{Key}
 use Rattle.pungi_base.specs.declared.key.Key.TheVariants as keys
 use Rattle.pungi_base.specs.declared.names.Name.{Name}
 use Rattle.pungi_base.specs.declared.pos.Pos.{Pos}
-use Rattle.pungi_tree.specs.Syntax.{Expr, Spec, spec, Init, value, table, VarDecl, var_decl, Decl, decl, ForStart, start_decl, start_expr, Stmt, block, declare, do_expr, if_only, if_else, while, do_while, for, switch, case, default, label, goto, break, continue, return, Stmts, no_stmts, stmt_and}
+use Rattle.pungi_tree.specs.Syntax.{Expr, Spec, spec, Init, value, table, VarDecl, var_decl, Decl, decl, ForStart}
+use Rattle.pungi_tree.specs.Syntax.{start_decl, start_expr, Stmt, block, declare, do_expr, if_only, if_else, while}
+use Rattle.pungi_tree.specs.Syntax.{do_while, for, switch, case, default, label, goto, break, continue, return, Stmts}
+use Rattle.pungi_tree.specs.Syntax.{no_stmts, stmt_and}
 use Rattle.pungi_api.specs.Rows.{row_in}
 use Rattle.pungi_types.specs.Files.{declr_name, declr_pos}
 use Rattle.pungi_types.specs.Kinds.{declared_kind}
@@ -81,7 +87,12 @@ first_value_findings env k p (Some (value e)) =
 abbrev pub after_var : Frame → Spec → VarDecl → Frame
 after_var f s (var_decl d v) =
     record f {
-      env = with_local f.env (record { name = declr_name d; number = f.next; kind = declared_kind f.env.file.items s d });
+      env = with_local f.env (record {
+        name = declr_name d;
+        number = f.next;
+        kind = declared_kind f.env.file.items s
+            d;
+      });
       block = with_word f.block (declr_name d).0;
       next = f.next + 1;
     }
@@ -108,7 +119,8 @@ decl_findings f (decl qs s vs) = vars_findings f qs s vs
 
 -- N10: a condition is an integer or a pointer
 abbrev pub condition_findings : Env → Pos → Expr → Findings
-condition_findings env p e = expr_findings env e and (when (is_void (operand (kind_of env e) e)) p 10 and void_use env e)
+condition_findings env p e =
+    expr_findings env e and (when (is_void (operand (kind_of env e) e)) p 10 and void_use env e)
 
 abbrev pub option_findings : Env → Option Expr → Findings
 option_findings env None = nothing_found
@@ -160,7 +172,8 @@ is_no_integer k = is_some k && not (is_integer k)
 
 -- N10: what a `switch` goes by is an integer
 abbrev pub switched_findings : Env → Pos → Expr → Findings
-switched_findings env p e = expr_findings env e and (when (is_no_integer (operand (kind_of env e) e)) p 10 and void_use env e)
+switched_findings env p e =
+    expr_findings env e and (when (is_no_integer (operand (kind_of env e) e)) p 10 and void_use env e)
 
 -- the frame after a statement of a block
 abbrev pub after_stmt : Frame → Stmt → Frame
@@ -181,14 +194,17 @@ abbrev mutual
   stmt_findings f (declare p d) = decl_findings f d
   stmt_findings f (do_expr p e) = option_findings f.env e
   stmt_findings f (if_only p e s) = condition_findings f.env p e and stmt_findings (in_part f) s
-  stmt_findings f (if_else p e s t) = condition_findings f.env p e and (stmt_findings (in_part f) s and stmt_findings (after_part (in_part f) s) t)
+  stmt_findings f (if_else p e s t) = condition_findings f.env p e
+      and (stmt_findings (in_part f) s and stmt_findings (after_part (in_part f) s) t)
   stmt_findings f (while p e s) = condition_findings f.env p e and stmt_findings (in_loop f) s
   stmt_findings f (do_while p s e) = stmt_findings (in_loop f) s and condition_findings f.env p e
   stmt_findings f (for p a b c s) =
-      start_findings f a and (option_condition (start_frame f a).env p b and (option_findings (start_frame f a).env c and stmt_findings (in_loop (start_frame f a)) s))
+      start_findings f a and (option_condition (start_frame f a).env p b
+      and (option_findings (start_frame f a).env c and stmt_findings (in_loop (start_frame f a)) s))
   stmt_findings f (switch p e s) =
       switched_findings f.env p e and (switch_findings s and stmt_findings (in_switch f) s)
-  stmt_findings f (case p e s) = when (not f.cases || is_none (constant_of e)) p 7 and (expr_findings f.env e and stmt_findings (in_label f) s)
+  stmt_findings f (case p e s) = when (not f.cases || is_none (constant_of e)) p 7
+      and (expr_findings f.env e and stmt_findings (in_label f) s)
   stmt_findings f (default p s) = when (not f.cases) p 7 and stmt_findings (in_label f) s
   stmt_findings f (label p n s) = stmt_findings (in_label f) s
   stmt_findings f (goto p n q) = when (not (is_among f.labels n.0)) q 6

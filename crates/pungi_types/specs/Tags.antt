@@ -1,15 +1,27 @@
--- The structs and unions of a file that have fields, in text order, wherever they stand: one list for the file (C11 6.7.2.1, 6.2.3).
+-- The structs and unions of a file that have fields, in text order, wherever they stand: one list for the file (C11
+-- 6.7.2.1, 6.2.3).
 --   Tag                 one of them: `struct` or `union`, its tag with its place, and its fields
---   expr_tags, exprs_tags, type_name_tags, spec_tags, base_tags, field_tags, fields_tags, declr_tags, declrs_tags, tail_tags, sizes_tags, params_tags,
+--   expr_tags, exprs_tags, type_name_tags, spec_tags, base_tags, field_tags, fields_tags, declr_tags, declrs_tags,
+--   tail_tags, sizes_tags, params_tags,
 --   param_decl_tags, param_decls_tags, param_declr_tags    those in a part of an expression, a type or a declarator
---   option_tags, vars_tags, decl_tags, start_tags, stmt_tags, stmts_tags    those in a part of a declaration or a statement
+--   option_tags, vars_tags, decl_tags, start_tags, stmt_tags, stmts_tags    those in a part of a declaration or a
+--                                                                           statement
 --   item_tags, tags     those of an item, and of a file
 use Rattle.std.specs.Prelude.{List, [], ◌∷◌, ◌++◌, Option, Some, None}
 use Rattle.pungi_base.specs.declared.key.Key.{Key}
 use Rattle.pungi_base.specs.declared.names.Name.{Name}
 use Rattle.pungi_base.specs.declared.pos.Pos.{Pos}
-use Rattle.pungi_tree.specs.Syntax.{Expr, word, int, float, char, text, null, paren, unary, post, binary, assign, conditional, comma, cast, size_of_type, call, new, index, dot, arrow, Exprs, no_exprs, expr_and, TypeName, type_name, Spec, spec, Base, words, alias, tagged, tagged_fields, Field, empty, members, Fields, no_fields, field_and, Declr, declr, Declrs, no_declrs, declr_and, Tail, sizes, function, Sizes, no_sizes, open_and, size_and, Params, params, ParamDecl, param_decl, ParamDecls, no_params, param_and, ParamDeclr, named, bare, unused}
-use Rattle.pungi_tree.specs.Syntax.{value, table, VarDecl, var_decl, Decl, decl, ForStart, start_decl, start_expr, Stmt, block, declare, do_expr, if_only, if_else, while, do_while, for, switch, case, default, label, goto, break, continue, return, Stmts, no_stmts, stmt_and, Item, nothing, doc, typedef, tag, variables, head, prototype, function_def}
+use Rattle.pungi_tree.specs.Syntax.{Expr, word, int, float, char, text, null, paren, unary, post, binary, assign}
+use Rattle.pungi_tree.specs.Syntax.{conditional, comma, cast, size_of_type, call, new, index, dot, arrow, Exprs}
+use Rattle.pungi_tree.specs.Syntax.{no_exprs, expr_and, TypeName, type_name, Spec, spec, Base, words, alias, tagged}
+use Rattle.pungi_tree.specs.Syntax.{tagged_fields, Field, empty, members, Fields, no_fields, field_and, Declr, declr}
+use Rattle.pungi_tree.specs.Syntax.{Declrs, no_declrs, declr_and, Tail, sizes, function, Sizes, no_sizes, open_and}
+use Rattle.pungi_tree.specs.Syntax.{size_and, Params, params, ParamDecl, param_decl, ParamDecls, no_params, param_and}
+use Rattle.pungi_tree.specs.Syntax.{ParamDeclr, named, bare, unused}
+use Rattle.pungi_tree.specs.Syntax.{value, table, VarDecl, var_decl, Decl, decl, ForStart, start_decl, start_expr, Stmt}
+use Rattle.pungi_tree.specs.Syntax.{block, declare, do_expr, if_only, if_else, while, do_while, for, switch, case}
+use Rattle.pungi_tree.specs.Syntax.{default, label, goto, break, continue, return, Stmts, no_stmts, stmt_and, Item}
+use Rattle.pungi_tree.specs.Syntax.{nothing, doc, typedef, tag, variables, head, prototype, function_def}
 
 -- a struct or union with fields
 pub record Tag : Type 0 where

@@ -1,7 +1,9 @@
 // Where rules hold in declarations.
 ghost use Rattle.std.specs.Prelude.{◌≡◌, ◌&&◌, not, is_some};
 ghost use Rattle.pungi_types.specs.Findings.{least_from};
-ghost use Rattle.pungi_types.specs.Stmts.{has_file_storage, declared_n1, is_wrong_initial, first_value_findings, condition_findings, is_wrong_return, return_findings, is_no_integer, switched_findings};
+ghost use Rattle.pungi_types.specs.Stmts.{has_file_storage, declared_n1, is_wrong_initial, first_value_findings};
+ghost use Rattle.pungi_types.specs.Stmts.{condition_findings, is_wrong_return, return_findings, is_no_integer};
+ghost use Rattle.pungi_types.specs.Stmts.{switched_findings};
 ghost use Rattle.pungi_types.specs.Operators.{is_void};
 ghost use Rattle.pungi_types.specs.Kinds.{declared_kind};
 ghost use Rattle.pungi_types.specs.Exprs.{param_kind};
@@ -74,7 +76,8 @@ pub fn initial<N: Lookup>(
     pos: Pos,
     value: &Option<Init>,
 )
-    ensures { first.new ≡ least_from first.old (first_value_findings (N.env names.now) kind pos (init_option_view value.now)) }
+    ensures { first.new ≡ least_from first.old (first_value_findings (N.env names.now) kind pos
+        (init_option_view value.now)) }
 {
     match value {
         None => {}
@@ -110,7 +113,8 @@ pub fn return_value<N: Lookup>(
     pos: Pos,
     value: &Option<Expr>,
 )
-    ensures { first.new ≡ least_from first.old (return_findings (N.env names.now) result_kind pos (optional_view value.now)) }
+    ensures { first.new ≡ least_from first.old (return_findings (N.env names.now) result_kind pos
+        (optional_view value.now)) }
 {
     match value {
         None => note(first, is_some_but_void(result_kind), pos, 10),

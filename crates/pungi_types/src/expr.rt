@@ -1,8 +1,13 @@
 //! The kind of an expression, and where rules hold in it.
 ghost use Rattle.std.specs.Prelude.{◌≡◌, ◌&&◌, ◌||◌, not, map, None, if◌then◌else◌};
 ghost use Rattle.pungi_types.specs.Findings.{least_from, ◌and◌};
-ghost use Rattle.pungi_types.specs.Exprs.{is_place, names_type_object, is_module_address, operand, kind_of, expr_findings, args_findings, arg_findings, are_met, first_met, wants_module, is_word, called_findings, cast_findings, cast_kind, callee, wants, is_unknown_call, result_kind, is_value_called, takes_arguments, meaning_kind, step_kind};
-ghost use Rattle.pungi_types.specs.ExprParts.{used_of, word_findings, step_findings, binary_findings, assign_findings, cond_findings, call_findings};
+ghost use Rattle.pungi_types.specs.Exprs.{is_place, names_type_object, is_module_address, operand, kind_of};
+ghost use Rattle.pungi_types.specs.Exprs.{expr_findings, args_findings, arg_findings, are_met, first_met, wants_module};
+ghost use Rattle.pungi_types.specs.Exprs.{is_word, called_findings, cast_findings, cast_kind, callee, wants};
+ghost use Rattle.pungi_types.specs.Exprs.{is_unknown_call, result_kind, is_value_called, takes_arguments, meaning_kind};
+ghost use Rattle.pungi_types.specs.Exprs.{step_kind};
+ghost use Rattle.pungi_types.specs.ExprParts.{used_of, word_findings, step_findings, binary_findings, assign_findings};
+ghost use Rattle.pungi_types.specs.ExprParts.{cond_findings, call_findings};
 ghost use Rattle.pungi_types.specs.Names.{meaning_of};
 ghost use Rattle.pungi_types.specs.Kinds.{type_name_kind};
 ghost use Rattle.pungi_tree.specs.Syntax as plain;
@@ -208,7 +213,8 @@ fn note_assign(
     right: Known,
     b: &Expr,
 )
-    ensures { first.new ≡ least_from first.old (assign_findings pos m place left (expr_view a.now) right (expr_view b.now)) }
+    ensures { first.new ≡ least_from first.old (assign_findings pos m place left (expr_view a.now) right
+        (expr_view b.now)) }
 {
     let wrong = assign_wrong(m, place, operand(left, a), operand(right, b));
     note(first, is_bits_assign(m), pos, 2);
@@ -228,7 +234,8 @@ fn note_cond(
     right: Known,
     b: &Expr,
 )
-    ensures { first.new ≡ least_from first.old (cond_findings pos test (expr_view c.now) left (expr_view a.now) right (expr_view b.now)) }
+    ensures { first.new ≡ least_from first.old (cond_findings pos test (expr_view c.now) left (expr_view a.now)
+        right (expr_view b.now)) }
 {
     let wrong = cond_wrong(operand(test, c), operand(left, a), operand(right, b));
     note(first, wrong, pos, 10);
@@ -248,7 +255,8 @@ fn note_call<N: Lookup>(names: &N, first: &mut Option<Finding>, pos: Pos, f: &Ex
 #[cycle(expr)]
 fn unary<N: Lookup>(names: &N, first: &mut Option<Finding>, pos: Pos, op: Kind, a: &Expr) -> Known
     ensures kind { result ≡ kind_of (N.env names.now) (plain.unary pos op (expr_view a.now)) }
-    ensures found { first.new ≡ least_from first.old (expr_findings (N.env names.now) (plain.unary pos op (expr_view a.now))) }
+    ensures found { first.new ≡ least_from first.old (expr_findings (N.env names.now)
+        (plain.unary pos op (expr_view a.now))) }
 {
     let prefix = prefix_of(op);
     let type_object = names_type_object(names, a);
@@ -278,7 +286,8 @@ fn called<N: Lookup>(names: &N, first: &mut Option<Finding>, f: &Expr)
 #[cycle(expr)]
 fn args<N: Lookup>(names: &N, first: &mut Option<Finding>, wants: &[Want], list: &Vec<Expr>) -> bool
     ensures met { result ≡ are_met (N.env names.now) wants.now (exprs_of (map expr_view list.now.items)) }
-    ensures found { first.new ≡ least_from first.old (args_findings (N.env names.now) wants.now (exprs_of (map expr_view list.now.items))) }
+    ensures found { first.new ≡ least_from first.old (args_findings (N.env names.now) wants.now
+        (exprs_of (map expr_view list.now.items))) }
 {
     let mut met = true;
     let mut rest = wants;
@@ -292,8 +301,10 @@ fn args<N: Lookup>(names: &N, first: &mut Option<Finding>, wants: &[Want], list:
 
 #[cycle(expr)]
 fn arg<N: Lookup>(names: &N, first: &mut Option<Finding>, wants: &[Want], e: &Expr) -> bool
-    ensures met { result ≡ first_met wants.now (is_module_address (N.env names.now) (expr_view e.now)) (operand (kind_of (N.env names.now) (expr_view e.now)) (expr_view e.now)) }
-    ensures found { first.new ≡ least_from first.old (arg_findings (wants_module wants.now && is_module_address (N.env names.now) (expr_view e.now)) (N.env names.now) (expr_view e.now)) }
+    ensures met { result ≡ first_met wants.now (is_module_address (N.env names.now) (expr_view e.now))
+        (operand (kind_of (N.env names.now) (expr_view e.now)) (expr_view e.now)) }
+    ensures found { first.new ≡ least_from first.old (arg_findings (wants_module wants.now
+        && is_module_address (N.env names.now) (expr_view e.now)) (N.env names.now) (expr_view e.now)) }
 {
     let is_module = is_module_address(names, e);
     if wants_module(wants) && is_module {
@@ -313,7 +324,8 @@ fn cast<N: Lookup>(
     a: &Expr,
 ) -> Known
     ensures kind { result ≡ cast_kind (type_name_kind (N.env names.now).file.items (type_name_view name.now)) kind }
-    ensures found { first.new ≡ least_from first.old (cast_findings (type_name_kind (N.env names.now).file.items (type_name_view name.now)) pos (type_name_view name.now) kind (expr_view a.now)) }
+    ensures found { first.new ≡ least_from first.old (cast_findings (type_name_kind (N.env names.now).file.items
+        (type_name_view name.now)) pos (type_name_view name.now) kind (expr_view a.now)) }
 {
     let to = names.type_kind(&name.spec, name.stars.len());
     note(first, to.is_none(), name.spec.pos, 1);
@@ -351,7 +363,8 @@ fn is_unknown_callee<N: Lookup>(names: &N, f: &Expr) -> bool
 }
 
 fn is_wrong_call<N: Lookup>(names: &N, f: &Expr, met: bool) -> bool
-    ensures { result ≡ (is_value_called (callee (N.env names.now) (expr_view f.now)) || (takes_arguments (callee (N.env names.now) (expr_view f.now)) && not met)) }
+    ensures { result ≡ (is_value_called (callee (N.env names.now) (expr_view f.now))
+        || (takes_arguments (callee (N.env names.now) (expr_view f.now)) && not met)) }
 {
     match &f.node {
         ExprNode::Word(name) => {
@@ -363,7 +376,8 @@ fn is_wrong_call<N: Lookup>(names: &N, f: &Expr, met: bool) -> bool
 
 /// The kind of a call, whose arguments are met or not.
 pub fn call_kind<N: Lookup>(names: &N, f: &Expr, met: bool) -> Known
-    ensures { result ≡ (if is_word (expr_view f.now) && met then result_kind (N.env names.now) (callee (N.env names.now) (expr_view f.now)) else None) }
+    ensures { result ≡ (if is_word (expr_view f.now)
+        && met then result_kind (N.env names.now) (callee (N.env names.now) (expr_view f.now)) else None) }
 {
     match &f.node {
         ExprNode::Word(name) if met => names.result_kind(*name),

@@ -17,9 +17,12 @@ pub enum Want {
 
 /// The names in force where an expression stands.
 pub trait Lookup {
-    ghost use Rattle.pungi_types.specs.Names.{Env, meaning_of, local_in, is_type_object, is_module as is_module_of, static_number};
+    ghost use Rattle.pungi_types.specs.Names.{Env, meaning_of, local_in, is_type_object, is_module as is_module_of};
+    ghost use Rattle.pungi_types.specs.Names.{static_number};
     ghost use Rattle.pungi_types.specs.Kinds.{type_kind, spec_base, field_kind};
-    ghost use Rattle.pungi_types.specs.Exprs.{meaning_kind, is_slot, is_function_meaning, is_unknown, callee_of, wants as wants_of, result_kind as result_kind_of, is_value_called, takes_arguments, is_unknown_call};
+    ghost use Rattle.pungi_types.specs.Exprs.{meaning_kind, is_slot, is_function_meaning, is_unknown, callee_of};
+    ghost use Rattle.pungi_types.specs.Exprs.{wants as wants_of, result_kind as result_kind_of, is_value_called};
+    ghost use Rattle.pungi_types.specs.Exprs.{takes_arguments, is_unknown_call};
     ghost use Rattle.pungi_types.specs.Stmts.{is_taken};
     ghost use Rattle.pungi_types.specs.Standing.{standing_of, row_called, is_defined};
 
@@ -38,10 +41,12 @@ pub trait Lookup {
         ensures { result ≡ is_unknown (meaning_of (env self.now) word.0) };
 
     fn is_type_object(&self, word: Name) -> bool
-        ensures { result ≡ (is_none (local_in (env self.now).locals word.0) && is_type_object (env self.now).file.items word.0) };
+        ensures { result ≡ (is_none (local_in (env self.now).locals word.0)
+            && is_type_object (env self.now).file.items word.0) };
 
     fn is_module(&self, word: Name) -> bool
-        ensures { result ≡ (is_none (local_in (env self.now).locals word.0) && is_module_of (env self.now).file.items word.0) };
+        ensures { result ≡ (is_none (local_in (env self.now).locals word.0)
+            && is_module_of (env self.now).file.items word.0) };
 
     /// The kind of a type with so many stars.
     fn type_kind(&self, spec: &Spec, stars: usize) -> Option<ValueKind>

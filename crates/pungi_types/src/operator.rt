@@ -1,8 +1,15 @@
 //! What operators make of the kinds of their operands (C11 6.5).
 ghost use Rattle.std.specs.Prelude.{◌≡◌, ◌&&◌, ◌||◌, pos};
 ghost use Rattle.pungi_types.specs.Labels.{byte};
-ghost use Rattle.pungi_types.specs.Operators.{is_bits, is_arithmetic, is_order as is_order_of, is_equality, is_bits_assign, is_arithmetic_assign, prefix_of, on_pointers, assigns_pointers, is_int, is_integer as is_integer_of, is_pointer as is_pointer_of, is_object as is_object_of, is_text as is_text_of, is_null as is_null_of, is_void as is_void_of, wider, fits, comparable, joinable, joined_kind, has_same, struct_part};
-ghost use Rattle.pungi_types.specs.Exprs.{binary_kind, binary_wrong, assign_kind, assign_wrong, cond_kind, cond_wrong, cast_kind, cast_wrong, crosses, step_kind, want_met, first_met, wants_module, other_wants, unary_kind, unary_wrong, is_step_or_sign, is_bad_int, int_kind};
+ghost use Rattle.pungi_types.specs.Operators.{is_bits, is_arithmetic, is_order as is_order_of, is_equality};
+ghost use Rattle.pungi_types.specs.Operators.{is_bits_assign, is_arithmetic_assign, prefix_of, on_pointers};
+ghost use Rattle.pungi_types.specs.Operators.{assigns_pointers, is_int, is_integer as is_integer_of};
+ghost use Rattle.pungi_types.specs.Operators.{is_pointer as is_pointer_of, is_object as is_object_of};
+ghost use Rattle.pungi_types.specs.Operators.{is_text as is_text_of, is_null as is_null_of, is_void as is_void_of};
+ghost use Rattle.pungi_types.specs.Operators.{wider, fits, comparable, joinable, joined_kind, has_same, struct_part};
+ghost use Rattle.pungi_types.specs.Exprs.{binary_kind, binary_wrong, assign_kind, assign_wrong, cond_kind, cond_wrong};
+ghost use Rattle.pungi_types.specs.Exprs.{cast_kind, cast_wrong, crosses, step_kind, want_met, first_met, wants_module};
+ghost use Rattle.pungi_types.specs.Exprs.{other_wants, unary_kind, unary_wrong, is_step_or_sign, is_bad_int, int_kind};
 
 use crate::ValueKind;
 use crate::lookup::Want;

@@ -1,6 +1,7 @@
 // What a type is once typedefs are followed.
 ghost use Rattle.std.specs.Prelude.{◌≡◌};
-ghost use Rattle.pungi_types.specs.Kinds.{words_kind, listed_kind, only, both, is_int_key, is_long_key, is_char_key, is_void_key, not_void, is_listed_type};
+ghost use Rattle.pungi_types.specs.Kinds.{words_kind, listed_kind, only, both, is_int_key, is_long_key, is_char_key};
+ghost use Rattle.pungi_types.specs.Kinds.{is_void_key, not_void, is_listed_type};
 ghost use Rattle.pungi_types.specs.TypesView.{core_view};
 ghost use Rattle.pungi_types.specs.Kinds.{tagged_core, written_tag, written_core};
 ghost use Rattle.pungi_tree.specs.ExprView.{base_view};

@@ -1,5 +1,6 @@
 -- How far the world after a call is from the one before it.
-use Rattle.std.proofs.Common.{◌≡◌, ℕ, ◌+◌, ◌<◌, ◌≤◌, Bool, true, false, List, [], ◌∷◌, length, arith, Option, None, Some, Result, Ok, Err, refl, sym, subst, ap}
+use Rattle.std.proofs.Common.{◌≡◌, ℕ, ◌+◌, ◌<◌, ◌≤◌, Bool, true, false, List, [], ◌∷◌, length, arith, Option, None}
+use Rattle.std.proofs.Common.{Some, Result, Ok, Err, refl, sym, subst, ap}
 use Rattle.std.specs.Prelude.{ℤ, pos, negsuc, if◌then◌else◌}
 use Rattle.std.proofs.lemmas.Int.{ints}
 use Rattle.pungi_base.specs.declared.value.Value.{Value}
@@ -23,9 +24,11 @@ use Rattle.pungi_world.specs.declared.world.World.{World}
 use Rattle.pungi_world.specs.Counts.{with_value, count_value, hand_over, IsWithin, AreWithin}
 use Rattle.pungi_world.specs.Effects.{◌>>=◌, effect}
 use Rattle.pungi_world.specs.Choices.{choose, answer_of}
-use Rattle.pungi_world.specs.Calls.{lacks, stops, with_new_reference, is_taken, is_success, take_over, plain_world, plain_effect, first_of, change_count, special_effect, form_effect, call_effect}
+use Rattle.pungi_world.specs.Calls.{lacks, stops, with_new_reference, is_taken, is_success, take_over, plain_world}
+use Rattle.pungi_world.specs.Calls.{plain_effect, first_of, change_count, special_effect, form_effect, call_effect}
 use Rattle.pungi_world.specs.Follows.{Follows}
-use Rattle.pungi_world.proofs.FollowLemmas.{follows_then, follows_later, follows_self, follows_counted, follows_handed, follows_there}
+use Rattle.pungi_world.proofs.FollowLemmas.{follows_then, follows_later, follows_self, follows_counted, follows_handed}
+use Rattle.pungi_world.proofs.FollowLemmas.{follows_there}
 
 up : IsWithin 1 (pos 1)
 up = (omega (arith, ints), omega (arith, ints))
@@ -39,20 +42,27 @@ follows_if_taken : (b : Bool) (w : World) (x : Value) → Follows w (if b then h
 follows_if_taken true w x = follows_handed w x
 follows_if_taken false w x = follows_later w w 0 0 0 0 0 1 (omega arith) (omega arith) (omega arith) (follows_self w)
 
-follows_taken : (w : World) (success : Bool) (takes : List Take) (args : List Value) → Follows w (take_over w success takes args) 0 0 (length args)
-follows_taken w success [] args = follows_later w w 0 0 0 0 0 (length args) (omega arith) (omega arith) (omega arith) (follows_self w)
+follows_taken : (w : World) (success : Bool) (takes : List Take) (args : List Value)
+    → Follows w (take_over w success takes args) 0 0 (length args)
+follows_taken w success [] args =
+    follows_later w w 0 0 0 0 0 (length args) (omega arith) (omega arith) (omega arith) (follows_self w)
 follows_taken w success (t ∷ takes) [] = follows_self w
 follows_taken w success (t ∷ takes) (x ∷ args) =
     let one : World = if is_taken success t then hand_over w x else w in
     let all : World = take_over one success takes args in
-    follows_later w all (0 + 0) 0 (0 + 0) 0 (1 + length args) (length (x ∷ args)) (omega arith) (omega arith) (omega arith)
-    (follows_then w one all 0 0 0 0 1 (length args) (follows_if_taken (is_taken success t) w x) (follows_taken one success takes args))
+    follows_later w all (0 + 0) 0 (0 + 0) 0 (1 + length args) (length (x ∷ args)) (omega arith) (omega arith)
+    (omega arith)
+    (follows_then w one all 0 0 0 0 1 (length args) (follows_if_taken (is_taken success t) w x)
+    (follows_taken one success takes args))
 
 -- ---- the answer
 
 follows_new : (w : World) (x : Value) → Follows w (count_value (with_value w x) x (pos 1)) 1 0 1
-follows_new w x = follows_later w (count_value (with_value w x) x (pos 1)) (1 + 0) 1 (0 + 0) 0 (0 + 1) 1 (omega arith) (omega arith) (omega arith)
-    (follows_then w (with_value w x) (count_value (with_value w x) x (pos 1)) 1 0 0 0 0 1 (follows_there w x) (follows_counted (with_value w x) x (pos 1) up))
+follows_new w x =
+    follows_later w (count_value (with_value w x) x (pos 1)) (1 + 0) 1 (0 + 0) 0 (0 + 1) 1 (omega arith)
+    (omega arith) (omega arith)
+    (follows_then w (with_value w x) (count_value (with_value w x) x (pos 1)) 1 0 0 0 0 1 (follows_there w x)
+    (follows_counted (with_value w x) x (pos 1) up))
 
 abbrev by_one_choice : Result Value Halt → Result (Option Value × ℕ) Halt
 by_one_choice r = r >>= λ x. Ok (Some x, 1)
@@ -60,10 +70,12 @@ by_one_choice r = r >>= λ x. Ok (Some x, 1)
 abbrev answers : Option Value → ℕ → Result (Option Value × ℕ) Halt
 answers v u = Ok (v, u)
 
-first_answer : (p q : Option Value × ℕ) → (let A : Type 0 = Result (Option Value × ℕ) Halt in let x : A = Ok p in let y : A = Ok q in x ≡ y) → p.0 ≡ q.0
+first_answer : (p q : Option Value × ℕ) → (let A : Type 0 = Result (Option Value × ℕ) Halt in let x : A = Ok p in
+    let y : A = Ok q in x ≡ y) → p.0 ≡ q.0
 first_answer p q e = let same : p ≡ q = cc in ap (λ (r : Option Value × ℕ). r.0) same
 
-second_answer : (p q : Option Value × ℕ) → (let A : Type 0 = Result (Option Value × ℕ) Halt in let x : A = Ok p in let y : A = Ok q in x ≡ y) → p.1 ≡ q.1
+second_answer : (p q : Option Value × ℕ)
+    → (let A : Type 0 = Result (Option Value × ℕ) Halt in let x : A = Ok p in let y : A = Ok q in x ≡ y) → p.1 ≡ q.1
 second_answer p q e = let same : p ≡ q = cc in ap (λ (r : Option Value × ℕ). r.1) same
 
 used_one : (r : Result Value Halt) (v : Option Value) (u : ℕ) → by_one_choice r ≡ answers v u → 1 ≤ u
@@ -76,25 +88,40 @@ still w u = follows_later w w 0 u 0 0 0 1 (omega arith) (omega arith) (omega ari
 there : (w : World) (x : Value) (u : ℕ) → 1 ≤ u → Follows w (with_value w x) u 0 1
 there w x u le = follows_later w (with_value w x) 1 u 0 0 0 1 le (omega arith) (omega arith) (follows_there w x)
 
-follows_answer : (a : Answer) (w : World) (n : ℕ) (choices : List Choice) (v : Option Value) (u : ℕ) → answer_of n a choices ≡ answers v u → Follows w (with_new_reference a w v) u 0 1
+follows_answer : (a : Answer) (w : World) (n : ℕ) (choices : List Choice) (v : Option Value) (u : ℕ)
+    → answer_of n a choices ≡ answers v u → Follows w (with_new_reference a w v) u 0 1
 follows_answer a w n choices None u e = still w u
-follows_answer answer.New w n choices (Some x) u e = follows_later w (count_value (with_value w x) x (pos 1)) 1 u 0 0 1 1 (used_one (choose n answer.New choices) (Some x) u e) (omega arith) (omega arith) (follows_new w x)
-follows_answer answer.Borrowed w n choices (Some x) u e = there w x u (used_one (choose n answer.Borrowed choices) (Some x) u e)
-follows_answer answer.BorrowedSure w n choices (Some x) u e = there w x u (used_one (choose n answer.BorrowedSure choices) (Some x) u e)
-follows_answer answer.Status w n choices (Some x) u e = there w x u (used_one (choose n answer.Status choices) (Some x) u e)
-follows_answer answer.Truth w n choices (Some x) u e = there w x u (used_one (choose n answer.Truth choices) (Some x) u e)
+follows_answer answer.New w n choices (Some x) u e =
+    follows_later w (count_value (with_value w x) x (pos 1)) 1 u 0 0 1 1 (used_one (choose n answer.New choices)
+    (Some x) u e) (omega arith) (omega arith) (follows_new w x)
+follows_answer answer.Borrowed w n choices (Some x) u e =
+    there w x u (used_one (choose n answer.Borrowed choices) (Some x) u e)
+follows_answer answer.BorrowedSure w n choices (Some x) u e =
+    there w x u (used_one (choose n answer.BorrowedSure choices) (Some x) u e)
+follows_answer answer.Status w n choices (Some x) u e =
+    there w x u (used_one (choose n answer.Status choices) (Some x) u e)
+follows_answer answer.Truth w n choices (Some x) u e =
+    there w x u (used_one (choose n answer.Truth choices) (Some x) u e)
 follows_answer answer.Size w n choices (Some x) u e = there w x u (used_one (choose n answer.Size choices) (Some x) u e)
 follows_answer answer.Int w n choices (Some x) u e = there w x u (used_one (choose n answer.Int choices) (Some x) u e)
 follows_answer answer.Long w n choices (Some x) u e = there w x u (used_one (choose n answer.Long choices) (Some x) u e)
 follows_answer answer.Text w n choices (Some x) u e = there w x u (used_one (choose n answer.Text choices) (Some x) u e)
-follows_answer answer.Void w n choices (Some x) u e = let is : None ≡ Some x = first_answer (None, 0) (Some x, u) e in absurd cc
+follows_answer answer.Void w n choices (Some x) u e =
+    let is : None ≡ Some x = first_answer (None, 0) (Some x, u) e in absurd cc
 follows_answer answer.Null w n choices (Some value.Null) u e = still w u
-follows_answer answer.Null w n choices (Some (value.Object k)) u e = let is : Some value.Null ≡ Some (value.Object k) = first_answer (Some value.Null, 0) (Some (value.Object k), u) e in absurd cc
-follows_answer answer.Null w n choices (Some (value.Int i)) u e = let is : Some value.Null ≡ Some (value.Int i) = first_answer (Some value.Null, 0) (Some (value.Int i), u) e in absurd cc
-follows_answer answer.Null w n choices (Some value.Text) u e = let is : Some value.Null ≡ Some value.Text = first_answer (Some value.Null, 0) (Some value.Text, u) e in absurd cc
+follows_answer answer.Null w n choices (Some (value.Object k)) u e =
+    let is : Some value.Null ≡ Some (value.Object k) = first_answer (Some value.Null, 0) (Some (value.Object k), u)
+    e in absurd cc
+follows_answer answer.Null w n choices (Some (value.Int i)) u e =
+    let is : Some value.Null ≡ Some (value.Int i) = first_answer (Some value.Null, 0) (Some (value.Int i), u) e in
+    absurd cc
+follows_answer answer.Null w n choices (Some value.Text) u e =
+    let is : Some value.Null ≡ Some value.Text = first_answer (Some value.Null, 0) (Some value.Text, u) e in absurd
+    cc
 
 -- the counts alone, whatever the answer
-pub within_answered : (a : Answer) (w : World) (v : Option Value) (most : ℕ) → AreWithin most w → AreWithin (most + 1) (with_new_reference a w v)
+pub within_answered : (a : Answer) (w : World) (v : Option Value) (most : ℕ) → AreWithin most w
+    → AreWithin (most + 1) (with_new_reference a w v)
 within_answered a w None most within = (still w 0).within most within
 within_answered answer.New w (Some x) most within = (follows_new w x).within most within
 within_answered answer.Borrowed w (Some x) most within = (there w x 1 (omega arith)).within most within
@@ -110,11 +137,14 @@ within_answered answer.Null w (Some x) most within = (there w x 1 (omega arith))
 
 -- ---- calls
 
-follows_plain_world : (row : Row) (args : List Value) (w : World) (v : Option Value) (u : ℕ) → Follows w (with_new_reference row.answer w v) u 0 1 → Follows w (plain_world row args w v) u 0 (length args + 1)
+follows_plain_world : (row : Row) (args : List Value) (w : World) (v : Option Value) (u : ℕ)
+    → Follows w (with_new_reference row.answer w v) u 0 1
+    → Follows w (plain_world row args w v) u 0 (length args + 1)
 follows_plain_world row args w v u first =
     let one : World = with_new_reference row.answer w v in
     let all : World = plain_world row args w v in
-    follows_later w all (u + 0) u (0 + 0) 0 (1 + length args) (length args + 1) (omega arith) (omega arith) (omega arith)
+    follows_later w all (u + 0) u (0 + 0) 0 (1 + length args) (length args + 1) (omega arith) (omega arith)
+    (omega arith)
     (follows_then w one all u 0 0 0 1 (length args) first (follows_taken one (is_success row.answer v) row.takes args))
 
 -- what is meant gives the world
@@ -131,7 +161,8 @@ same_end e e' w w' same =
     let is : p ≡ q = cc in
     (ap (λ (r : Effect × World). r.0) is, ap (λ (r : Effect × World). r.1) is)
 
-meant_world : (w : World) (by : ℕ) (new new' : World) (e e' : Effect) → ends e new ≡ ends e' new' → GoesOn w by new e → GoesOn w by new' e'
+meant_world : (w : World) (by : ℕ) (new new' : World) (e e' : Effect) → ends e new ≡ ends e' new'
+    → GoesOn w by new e → GoesOn w by new' e'
 meant_world w by new new' e e' same follows =
     let is : new ≡ new' = (same_end e e' new new' same).1 in
     let used : e ≡ e' = (same_end e e' new new' same).0 in
@@ -142,24 +173,41 @@ meant_world w by new new' e e' same follows =
 abbrev by_answer : Result (Option Value × ℕ) Halt → Row → List Value → World → Result (Effect × World) Halt
 by_answer r row args w = r >>= λ p. Ok (effect p.0 p.1, plain_world row args w p.0)
 
-follows_plain : (b : Bool) (r : Result (Option Value × ℕ) Halt) (row : Row) (args : List Value) (choices : List Choice) (w w' : World) (e : Effect) → answer_of (length w.accounts) row.answer choices ≡ r
+follows_plain : (b : Bool) (r : Result (Option Value × ℕ) Halt) (row : Row) (args : List Value)
+    (choices : List Choice) (w w' : World) (e : Effect) → answer_of (length w.accounts) row.answer choices ≡ r
     → (if b then Err Stopped else by_answer r row args w) ≡ ends e w' → GoesOn w (length args + 1) w' e
 follows_plain true r row args choices w w' e answers is = absurd cc
 follows_plain false (Err h) row args choices w w' e answers is = absurd cc
-follows_plain false (Ok p) row args choices w w' e answers is = meant_world w (length args + 1) (plain_world row args w p.0) w' (effect p.0 p.1) e is (follows_plain_world row args w p.0 p.1 (follows_answer row.answer w (length w.accounts) choices p.0 p.1 answers))
+follows_plain false (Ok p) row args choices w w' e answers is =
+    meant_world w (length args + 1) (plain_world row args w p.0) w' (effect p.0 p.1) e is
+    (follows_plain_world row args w p.0 p.1 (follows_answer row.answer w (length w.accounts) choices p.0 p.1
+    answers))
 
-follows_counting : (b : Bool) (args : List Value) (w w' : World) (by : ℤ) (x : Value) (answer : Option Value) (e : Effect) → IsWithin 1 by → (if b then Err Stopped else ends (effect answer 0) (count_value w x by)) ≡ ends e w' → GoesOn w (length args + 1) w' e
+follows_counting : (b : Bool) (args : List Value) (w w' : World) (by : ℤ) (x : Value) (answer : Option Value)
+    (e : Effect) → IsWithin 1 by → (if b then Err Stopped else ends (effect answer 0) (count_value w x by))
+    ≡ ends e w' → GoesOn w (length args + 1) w' e
 follows_counting true args w w' by x answer e one is = absurd cc
-follows_counting false args w w' by x answer e one is = meant_world w (length args + 1) (count_value w x by) w' (effect answer 0) e is
-    (follows_later w (count_value w x by) 0 0 0 0 1 (length args + 1) (omega arith) (omega arith) (omega arith) (follows_counted w x by one))
+follows_counting false args w w' by x answer e one is =
+    meant_world w (length args + 1) (count_value w x by) w' (effect answer 0) e is
+    (follows_later w (count_value w x by) 0 0 0 0 1 (length args + 1) (omega arith) (omega arith) (omega arith)
+    (follows_counted w x by one))
 
-follows_special : (s : Special) (args : List Value) (w w' : World) (e : Effect) → special_effect s w args ≡ ends e w' → GoesOn w (length args + 1) w' e
-follows_special special.IncRef args w w' e is = follows_counting (lacks param.Object (first_of args)) args w w' (pos 1) (first_of args) None e up is
-follows_special special.DecRef args w w' e is = follows_counting (lacks param.Object (first_of args)) args w w' (negsuc 0) (first_of args) None e down is
-follows_special special.XIncRef args w w' e is = follows_counting (lacks param.ObjectOrNull (first_of args)) args w w' (pos 1) (first_of args) None e up is
-follows_special special.XDecRef args w w' e is = follows_counting (lacks param.ObjectOrNull (first_of args)) args w w' (negsuc 0) (first_of args) None e down is
-follows_special special.NewRef args w w' e is = follows_counting (lacks param.Object (first_of args)) args w w' (pos 1) (first_of args) (Some (first_of args)) e up is
-follows_special special.XNewRef args w w' e is = follows_counting (lacks param.ObjectOrNull (first_of args)) args w w' (pos 1) (first_of args) (Some (first_of args)) e up is
+follows_special : (s : Special) (args : List Value) (w w' : World) (e : Effect)
+    → special_effect s w args ≡ ends e w' → GoesOn w (length args + 1) w' e
+follows_special special.IncRef args w w' e is =
+    follows_counting (lacks param.Object (first_of args)) args w w' (pos 1) (first_of args) None e up is
+follows_special special.DecRef args w w' e is =
+    follows_counting (lacks param.Object (first_of args)) args w w' (negsuc 0) (first_of args) None e down is
+follows_special special.XIncRef args w w' e is =
+    follows_counting (lacks param.ObjectOrNull (first_of args)) args w w' (pos 1) (first_of args) None e up is
+follows_special special.XDecRef args w w' e is =
+    follows_counting (lacks param.ObjectOrNull (first_of args)) args w w' (negsuc 0) (first_of args) None e down is
+follows_special special.NewRef args w w' e is =
+    follows_counting (lacks param.Object (first_of args)) args w w' (pos 1) (first_of args) (Some (first_of args)) e
+    up is
+follows_special special.XNewRef args w w' e is =
+    follows_counting (lacks param.ObjectOrNull (first_of args)) args w w' (pos 1) (first_of args)
+    (Some (first_of args)) e up is
 follows_special special.Clear args w w' e is = absurd cc
 follows_special special.ObjectNew args w w' e is = absurd cc
 follows_special special.TuplePack args w w' e is = absurd cc
@@ -170,10 +218,14 @@ follows_special special.UnpackTuple args w w' e is = absurd cc
 follows_special special.DictNext args w w' e is = absurd cc
 follows_special special.BuildValue args w w' e is = absurd cc
 
-follows_form : (f : Form) (shape : Shape) (args : List Value) (choices : List Choice) (w w' : World) (e : Effect) → form_effect f w shape args choices ≡ ends e w' → GoesOn w (length args + 1) w' e
-follows_form form.Plain shape args choices w w' e is = follows_plain (stops shape.row.params args) (answer_of (length w.accounts) shape.row.answer choices) shape.row args choices w w' e refl is
+follows_form : (f : Form) (shape : Shape) (args : List Value) (choices : List Choice) (w w' : World) (e : Effect)
+    → form_effect f w shape args choices ≡ ends e w' → GoesOn w (length args + 1) w' e
+follows_form form.Plain shape args choices w w' e is =
+    follows_plain (stops shape.row.params args) (answer_of (length w.accounts) shape.row.answer choices) shape.row
+    args choices w w' e refl is
 follows_form (form.Special s) shape args choices w w' e is = follows_special s args w w' e is
 
 -- what a call keeps of a world
-pub follows_call : (shape : Shape) (args : List Value) (choices : List Choice) (w w' : World) (e : Effect) → call_effect w shape args choices ≡ ends e w' → Follows w w' e.used 0 (length args + 1)
+pub follows_call : (shape : Shape) (args : List Value) (choices : List Choice) (w w' : World) (e : Effect)
+    → call_effect w shape args choices ≡ ends e w' → Follows w w' e.used 0 (length args + 1)
 follows_call shape args choices w w' e is = follows_form shape.row.form shape args choices w w' e is

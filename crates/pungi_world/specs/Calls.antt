@@ -15,7 +15,8 @@
 --   is_defined_form f           so is that of a row of this form
 --   special_effect, form_effect what a call of a special row does; of any row
 --   call_effect                 what a call of the API does
-use Rattle.std.specs.Prelude.{ℕ, ℤ, pos, negsuc, Bool, true, false, List, [], ◌∷◌, length, get_or, Option, None, Some, Result, Ok, Err, if◌then◌else◌}
+use Rattle.std.specs.Prelude.{ℕ, ℤ, pos, negsuc, Bool, true, false, List, [], ◌∷◌, length, get_or, Option, None, Some}
+use Rattle.std.specs.Prelude.{Result, Ok, Err, if◌then◌else◌}
 use Rattle.std.specs.List.{list_any, zip}
 use Rattle.pungi_base.specs.declared.value.Value.{Value}
 use Rattle.pungi_base.specs.declared.value.Value.TheVariants as value
@@ -79,13 +80,17 @@ is_taken_at success takes i = is_taken success (get_or takes i take.Never)
 abbrev pub take_over : World → Bool → List Take → List Value → World
 take_over w success [] args = w
 take_over w success (t ∷ takes) [] = w
-take_over w success (t ∷ takes) (x ∷ args) = take_over (if is_taken success t then hand_over w x else w) success takes args
+take_over w success (t ∷ takes) (x ∷ args) =
+    take_over (if is_taken success t then hand_over w x else w) success takes args
 
 abbrev pub plain_world : Row → List Value → World → Option Value → World
-plain_world row args w answer = take_over (with_new_reference row.answer w answer) (is_success row.answer answer) row.takes args
+plain_world row args w answer =
+    take_over (with_new_reference row.answer w answer) (is_success row.answer answer) row.takes args
 
 abbrev pub plain_effect : World → Row → List Value → List Choice → Result (Effect × World) Halt
-plain_effect w row args choices = if stops row.params args then Err Stopped else answer_of (length w.accounts) row.answer choices >>= λ r. Ok (effect r.0 r.1, plain_world row args w r.0)
+plain_effect w row args choices =
+    if stops row.params args then Err Stopped else answer_of (length w.accounts) row.answer choices >>= λ r. Ok
+    (effect r.0 r.1, plain_world row args w r.0)
 
 -- ---- special rows
 

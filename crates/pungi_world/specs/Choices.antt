@@ -1,5 +1,5 @@
--- Which choices are accepted, and what they mean (Python/C API Reference Manual 3.11). A choice that isn't accepted counts
--- as a missing one.
+-- Which choices are accepted, and what they mean (Python/C API Reference Manual 3.11). A choice that isn't accepted
+-- counts as a missing one.
 --   value_of c                    the value that a choice stands for
 --   is_null, is_text c            a choice is NULL, or a text
 --   is_object_choice n c                 it is one of the n objects that are there, or the next one
@@ -8,7 +8,8 @@
 --   is_accepted n answer c        a call with this answer accepts it, where there are n objects
 --   choose n answer choices       the value that such a call returns
 --   answer_of n answer choices    what it returns, and how many choices it uses
-use Rattle.std.specs.Prelude.{ℕ, ◌-◌, ◌^◌, ℤ, pos, negsuc, int_le, nat_le, Bool, true, false, ◌&&◌, ◌||◌, List, [], ◌∷◌, Option, None, Some, Result, Ok, Err, if◌then◌else◌}
+use Rattle.std.specs.Prelude.{ℕ, ◌-◌, ◌^◌, ℤ, pos, negsuc, int_le, nat_le, Bool, true, false, ◌&&◌, ◌||◌, List, [], ◌∷◌}
+use Rattle.std.specs.Prelude.{Option, None, Some, Result, Ok, Err, if◌then◌else◌}
 use Rattle.pungi_base.specs.declared.value.Value.{Value}
 use Rattle.pungi_base.specs.declared.value.Value.TheVariants as value
 use Rattle.pungi_base.specs.declared.choice.Choice.{Choice}

@@ -6,7 +6,8 @@
 --   count_value, hand_over w value       the count of the object of a value changes; a reference to it is handed over
 --   IsWithin most z         a number is at most this far from 0
 --   AreWithin most w        so is each count of a world
-use Rattle.std.specs.Prelude.{ℕ, ◌==◌, ℤ, pos, negsuc, neg_ℤ, ◌+ℤ◌, ◌≤ℤ◌, if◌then◌else◌, [], ◌∷◌, ◌++◌, length, slice_set}
+use Rattle.std.specs.Prelude.{ℕ, ◌==◌, ℤ, pos, negsuc, neg_ℤ, ◌+ℤ◌, ◌≤ℤ◌, if◌then◌else◌, [], ◌∷◌, ◌++◌, length}
+use Rattle.std.specs.Prelude.{slice_set}
 use Rattle.pungi_base.specs.declared.value.Value.{Value}
 use Rattle.pungi_base.specs.declared.value.Value.TheVariants as value
 use Rattle.pungi_world.specs.declared.counts.Way.{Way}
@@ -19,13 +20,22 @@ by_one Up = pos 1
 by_one Down = negsuc 0
 
 abbrev pub count : World → ℕ → ℤ → World
-count w object by = record w { accounts = slice_set w.accounts object (record (account_of w object) { change = (account_of w object).change +ℤ by }) }
+count w object by =
+    record w {
+      accounts = slice_set w.accounts object (record (account_of w object)
+          { change = (account_of w object).change +ℤ by });
+    }
 
 abbrev pub handed : World → ℕ → World
-handed w object = record w { accounts = slice_set w.accounts object (record (account_of w object) { handed = (account_of w object).handed +ℤ pos 1 }) }
+handed w object =
+    record w {
+      accounts = slice_set w.accounts object (record (account_of w object)
+          { handed = (account_of w object).handed +ℤ pos 1 });
+    }
 
 abbrev pub with_object : World → ℕ → World
-with_object w object = if object == length w.accounts then record w { accounts = w.accounts ++ fresh_account ∷ [] } else w
+with_object w object =
+    if object == length w.accounts then record w { accounts = w.accounts ++ fresh_account ∷ [] } else w
 
 abbrev pub with_value : World → Value → World
 with_value w (value.Object k) = with_object w k

@@ -8,7 +8,8 @@
 --   IsLevel w value object          its count changed by exactly the references that escaped
 --   IsBalanced w value              so did the count of every object
 --   IsCountable w                   the numbers are so small that the code can count
-use Rattle.std.specs.Prelude.{◌≡◌, ℕ, ◌<◌, ◌-◌, ◌^◌, ◌==◌, ℤ, pos, negsuc, ◌+ℤ◌, ◌-ℤ◌, ◌≤ℤ◌, Bool, false, length, count_by, Option, None, Some, if◌then◌else◌}
+use Rattle.std.specs.Prelude.{◌≡◌, ℕ, ◌<◌, ◌-◌, ◌^◌, ◌==◌, ℤ, pos, negsuc, ◌+ℤ◌, ◌-ℤ◌, ◌≤ℤ◌, Bool, false, length}
+use Rattle.std.specs.Prelude.{count_by, Option, None, Some, if◌then◌else◌}
 use Rattle.pungi_base.specs.declared.value.Value.{Value}
 use Rattle.pungi_base.specs.declared.value.Value.TheVariants.{Null, Object, Int, Text}
 use Rattle.pungi_world.specs.declared.content.Content.{Content}
@@ -37,7 +38,9 @@ abbrev pub held_at_entry : World → ℕ → ℕ
 held_at_entry w object = count_by (λ s. holds_object s.at_entry object) w.slots
 
 abbrev pub escaped_of : World → ℕ → Option Value → ℤ
-escaped_of w object value = (account_of w object).handed +ℤ pos (if is_returned value object then 1 else 0) +ℤ pos (held_now w object) -ℤ pos (held_at_entry w object)
+escaped_of w object value =
+    (account_of w object).handed +ℤ pos (if is_returned value object then 1 else 0) +ℤ pos (held_now w object) -ℤ
+    pos (held_at_entry w object)
 
 abbrev pub IsLevel : World → Option Value → ℕ → Type 0
 IsLevel w value object = (account_of w object).change ≡ escaped_of w object value

@@ -9,7 +9,8 @@
 --   is_content w kind c         a choice may be what a slot of this kind held at entry
 --   find_content w kind choices    what the next choice says that a slot held at entry
 --   enter w s kind choices      what a slot held at entry, and how many choices that uses
---   with_content w x, with_slot w s x    the world with an object of this content, and with a slot that held it at entry
+--   with_content w x, with_slot w s x    the world with an object of this content, and with a slot that held it at
+--                                        entry
 --   first_touch w s kind choices the first touch of a slot, and the world after it
 --   touch_at w s kind choices place      the touch of a slot that stands at this place, or at none
 --   touch w s kind choices      the touch of a slot, and the world after it
@@ -17,7 +18,9 @@
 --   after_load x used w         what a load of this content returns
 --   put_at w i x                the world after a store at a touched place
 --   load_effect, store_effect   what a load does; what a store does
-use Rattle.std.specs.Prelude.{◌≡◌, ℕ, ◌==◌, ◌-◌, ◌^◌, pos, negsuc, nat_le, Bool, true, false, ◌&&◌, ◌||◌, not, List, [], ◌∷◌, ◌++◌, length, get_or, slice_set, position, Option, None, Some, Result, Ok, Err, if◌then◌else◌}
+use Rattle.std.specs.Prelude.{◌≡◌, ℕ, ◌==◌, ◌-◌, ◌^◌, pos, negsuc, nat_le, Bool, true, false, ◌&&◌, ◌||◌, not, List, []}
+use Rattle.std.specs.Prelude.{◌∷◌, ◌++◌, length, get_or, slice_set, position, Option, None, Some, Result, Ok, Err}
+use Rattle.std.specs.Prelude.{if◌then◌else◌}
 use Rattle.pungi_base.specs.declared.names.Name.{Name}
 use Rattle.pungi_base.specs.declared.value.Value.{Value}
 use Rattle.pungi_base.specs.declared.choice.Choice.{Choice}
@@ -95,7 +98,12 @@ abbrev pub with_slot : World → Slot → Content → World
 with_slot w s x = record w { slots = w.slots ++ (record { slot = s; at_entry = x; held = x }) ∷ [] }
 
 abbrev pub first_touch : World → Slot → Param → List Choice → Result (Touch × World) Halt
-first_touch w s kind choices = enter w s kind choices >>= λ r. Ok (record { place = length w.slots; used = r.1 }, with_slot (with_content w r.0) s r.0)
+first_touch w s kind choices =
+    enter w s kind choices >>= λ r. Ok (
+      record { place = length w.slots; used = r.1 },
+      with_slot
+          (with_content w r.0) s r.0,
+    )
 
 abbrev pub touch_at : World → Slot → Param → List Choice → Option ℕ → Result (Touch × World) Halt
 touch_at w s kind choices (Some i) = Ok (record { place = i; used = 0 }, w)

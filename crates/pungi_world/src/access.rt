@@ -72,9 +72,9 @@ fn store_slot(
 }
 
 impl World {
-    /// Reads a slot of this kind (C11 6.3.2.1). The first touch of a slot uses a choice for what it held at entry, but a
-    /// slot of an object made in this run is unset. `Stopped` where the content is unset, and `NeedsChoice` where the choice
-    /// is missing or is no content of this kind. After either the slot may have been touched.
+    /// Reads a slot of this kind (C11 6.3.2.1). The first touch of a slot uses a choice for what it held at entry, but
+    /// a slot of an object made in this run is unset. `Stopped` where the content is unset, and `NeedsChoice` where the
+    /// choice is missing or is no content of this kind. After either the slot may have been touched.
     pub fn load(
         &mut self,
         alloc: Global,
@@ -88,8 +88,8 @@ impl World {
         Ok(load_slot(self, alloc, slot, kind, choices)?)
     }
 
-    /// Writes a slot of this kind (C11 6.5.16). Its first touch is that of a load, with the same `NeedsChoice`. An unset
-    /// content doesn't stop it.
+    /// Writes a slot of this kind (C11 6.5.16). Its first touch is that of a load, with the same `NeedsChoice`. An
+    /// unset content doesn't stop it.
     pub fn store(
         &mut self,
         alloc: Global,

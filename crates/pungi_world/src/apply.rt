@@ -28,9 +28,9 @@ fn call(
 }
 
 impl World {
-    /// Does one call of the API (Python/C API Reference Manual 3.11). `Stopped` where an object or a text that the call needs
-    /// is `NULL`, and `NeedsChoice` where the next choice is missing or the call doesn't answer so. After either the world may
-    /// be partly changed.
+    /// Does one call of the API (Python/C API Reference Manual 3.11). `Stopped` where an object or a text that the call
+    /// needs is `NULL`, and `NeedsChoice` where the next choice is missing or the call doesn't answer so. After either
+    /// the world may be partly changed.
     pub fn apply(
         &mut self,
         alloc: Global,
@@ -41,7 +41,8 @@ impl World {
         requires few { length api.now.args.now < 2 ^ 60 }
         requires within { AreWithin (2 ^ 61) self.old }
         ensures effect { Gives result self.new (call_effect self.old api.now.shape.now api.now.args.now choices.now) }
-        ensures follows { IfOk result (λ effect. Follows self.old self.new effect.used 0 (length api.now.args.now + 1)) }
+        ensures follows { IfOk result (λ effect. Follows self.old self.new effect.used 0
+            (length api.now.args.now + 1)) }
     {
         Ok(call(self, alloc, api.shape, api.args, choices)?)
     }

@@ -2,7 +2,9 @@ ghost use Rattle.std.specs.Prelude.{◌≡◌, ◌+◌, ◌^◌, ◌<◌, pos, i
 ghost use Rattle.pungi_world.specs.Counts.{by_one, hand_over, AreWithin};
 ghost use Rattle.pungi_world.specs.Choices.{answer_of};
 ghost use Rattle.pungi_world.specs.Effects.{effect, Gives};
-ghost use Rattle.pungi_world.specs.Calls.{lacks, stops, with_new_reference, is_success, is_taken, is_taken_at, take_over, plain_world, plain_effect, first_of, change_count, is_defined_special, special_effect, form_effect, call_effect};
+ghost use Rattle.pungi_world.specs.Calls.{lacks, stops, with_new_reference, is_success, is_taken, is_taken_at};
+ghost use Rattle.pungi_world.specs.Calls.{take_over, plain_world, plain_effect, first_of, change_count};
+ghost use Rattle.pungi_world.specs.Calls.{is_defined_special, special_effect, form_effect, call_effect};
 
 use crate::choices::{answer_of, is_between};
 use crate::counts::{Way, add_value, count_value, hand_over};

@@ -1,5 +1,6 @@
 ghost use Rattle.std.specs.Prelude.{◌≡◌, ◌&&◌, int_le};
-ghost use Rattle.pungi_world.specs.Choices.{value_of, is_null, is_text, is_object_choice, is_between, is_number, is_accepted, choose, answer_of};
+ghost use Rattle.pungi_world.specs.Choices.{value_of, is_null, is_text, is_object_choice, is_between, is_number};
+ghost use Rattle.pungi_world.specs.Choices.{is_accepted, choose, answer_of};
 
 use crate::Halt;
 use pungi_api::Answer;

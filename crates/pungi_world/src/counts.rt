@@ -1,5 +1,6 @@
 ghost use Rattle.std.specs.Prelude.{◌≡◌, ◌^◌, OnOk};
-ghost use Rattle.pungi_world.specs.Counts.{by_one, count, handed, with_object, with_value, count_value, hand_over, AreWithin};
+ghost use Rattle.pungi_world.specs.Counts.{by_one, count, handed, with_object, with_value, count_value, hand_over};
+ghost use Rattle.pungi_world.specs.Counts.{AreWithin};
 
 use crate::{Account, World};
 use pungi_base::{Memory, Value};

@@ -1,5 +1,7 @@
-ghost use Rattle.std.specs.Prelude.{◌≡◌, ℕ, ◌<◌, ◌≤◌, ◌-◌, ◌^◌, pos, negsuc, ◌≤ℤ◌, ◌+ℤ◌, ◌-ℤ◌, if◌then◌else◌, length, count_by, IsTrue, ◌↔◌, IfNone, IfSome};
-ghost use Rattle.pungi_world.specs.Escapes.{is_this_object, is_returned, holds_object, escaped_of, IsLevel, IsBalanced, IsCountable};
+ghost use Rattle.std.specs.Prelude.{◌≡◌, ℕ, ◌<◌, ◌≤◌, ◌-◌, ◌^◌, pos, negsuc, ◌≤ℤ◌, ◌+ℤ◌, ◌-ℤ◌, if◌then◌else◌, length};
+ghost use Rattle.std.specs.Prelude.{count_by, IsTrue, ◌↔◌, IfNone, IfSome};
+ghost use Rattle.pungi_world.specs.Escapes.{is_this_object, is_returned, holds_object, escaped_of, IsLevel, IsBalanced};
+ghost use Rattle.pungi_world.specs.Escapes.{IsCountable};
 
 use crate::{Account, Content, SlotState, World};
 use pungi_base::Value;

@@ -6,7 +6,9 @@ use Rattle.pungi_code.specs.declared.atom.Atom.{Atom}
 use Rattle.pungi_layout.specs.code.ExprCode.{var}
 use Rattle.pungi_layout.specs.code.Temporaries.{tail, arg_var, arg_vars}
 
-pub args_step : (atoms : List Atom) (nl d i : ℕ) (ps : List Param) (v : expr.Value) (vs : List expr.Value) → atoms ++ map var (arg_vars nl (d + i) ps (v ∷ vs)) ≡ (atoms ++ var (arg_var nl (d + i) ps v) ∷ []) ++ map var (arg_vars nl (d + (i + 1)) (tail ps) vs)
+pub args_step : (atoms : List Atom) (nl d i : ℕ) (ps : List Param) (v : expr.Value) (vs : List expr.Value)
+    → atoms ++ map var (arg_vars nl (d + i) ps (v ∷ vs))
+    ≡ (atoms ++ var (arg_var nl (d + i) ps v) ∷ []) ++ map var (arg_vars nl (d + (i + 1)) (tail ps) vs)
 args_step atoms nl d i ps v vs =
     let e : d + i + 1 ≡ d + (i + 1) = omega arith in
     ap (λ n. atoms ++ var (arg_var nl (d + i) ps v) ∷ map var (arg_vars nl n (tail ps) vs)) e

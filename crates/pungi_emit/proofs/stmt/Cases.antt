@@ -1,5 +1,6 @@
 -- The comparisons of a `switch`, one after another.
-use Rattle.std.proofs.Common.{◌≡◌, ℕ, ◌+◌, ◌*◌, ℤ, List, [], ◌∷◌, ◌++◌, length, Option, Some, None, Bool, true, false, if◌then◌else◌, refl, sym, ap, ◌∙◌, subst, arith}
+use Rattle.std.proofs.Common.{◌≡◌, ℕ, ◌+◌, ◌*◌, ℤ, List, [], ◌∷◌, ◌++◌, length, Option, Some, None, Bool, true, false}
+use Rattle.std.proofs.Common.{if◌then◌else◌, refl, sym, ap, ◌∙◌, subst, arith}
 use Rattle.pungi_base.specs.declared.pos.Pos.{Pos}
 use Rattle.pungi_resolved.specs.Actions as stmt
 use Rattle.pungi_meaning.specs.Stmts.{cases_of, is_default}
@@ -17,7 +18,8 @@ use Rattle.pungi_emit.specs.stmt.Cases.{case_lines, cases_at, default_at}
 use Rattle.pungi_layout.proofs.code.StmtLengths.{case_long}
 use Rattle.pungi_emit.proofs.expr.ExprCode.{glued, grown, moved}
 
-pub case_append : (p : Pos) (x y pc : ℕ) (cs ds : List (ℤ × ℕ)) → case_code p x y pc (cs ++ ds) ≡ case_code p x y pc cs ++ case_code p x y (pc + 2 * length cs) ds
+pub case_append : (p : Pos) (x y pc : ℕ) (cs ds : List (ℤ × ℕ))
+    → case_code p x y pc (cs ++ ds) ≡ case_code p x y pc cs ++ case_code p x y (pc + 2 * length cs) ds
 case_append p x y pc [] ds =
     let e : pc ≡ pc + 2 * 0 = omega arith in
     ap (λ n. case_code p x y n ds) e
@@ -25,7 +27,8 @@ case_append p x y pc (c ∷ cs) ds =
     let e : pc + 2 + 2 * length cs ≡ pc + 2 * length (c ∷ cs) = omega arith in
     let compare = line p (Compare (to_var y) cmps.Equal (var x) (atom.Int c.0)) in
     let branch = line p (Branch (var y) (at_label c.1) (at_label (pc + 2))) in
-    ap (λ l. compare ∷ branch ∷ l) (case_append p x y (pc + 2) cs ds ∙ ap (λ n. case_code p x y (pc + 2) cs ++ case_code p x y n ds) e)
+    ap (λ l. compare ∷ branch ∷ l) (case_append p x y (pc + 2) cs ds
+    ∙ ap (λ n. case_code p x y (pc + 2) cs ++ case_code p x y n ds) e)
 
 pub more_cases : (p : Pos) (x y : ℕ) (cs ds : List (ℤ × ℕ)) (c0 c1 : List Line) →
     c1 ≡ c0 ++ case_code p x y (length c0) cs →
@@ -33,7 +36,9 @@ pub more_cases : (p : Pos) (x y : ℕ) (cs ds : List (ℤ × ℕ)) (c0 c1 : List
 more_cases p x y cs ds c0 c1 e =
     let n = grown c0 c1 (case_code p x y (length c0) cs) (2 * length cs) e (case_long cs p x y (length c0)) in
     ap (λ c. c0 ++ c) (case_append p x y (length c0) cs ds)
-    ∙ sym (glued c0 c1 (c1 ++ case_code p x y (length c1) ds) (case_code p x y (length c0) cs) (case_code p x y (length c0 + 2 * length cs) ds) e (moved (λ m. case_code p x y m ds) c1 (c1 ++ case_code p x y (length c1) ds) (length c0 + 2 * length cs) n refl))
+    ∙ sym (glued c0 c1 (c1 ++ case_code p x y (length c1) ds) (case_code p x y (length c0) cs)
+    (case_code p x y (length c0 + 2 * length cs) ds) e (moved (λ m. case_code p x y m ds) c1
+    (c1 ++ case_code p x y (length c1) ds) (length c0 + 2 * length cs) n refl))
 
 pub one_case : (p : Pos) (x y : ℕ) (c : ℤ × ℕ) (cs : List (ℤ × ℕ)) (c0 c1 c2 : List Line) →
     c1 ≡ c0 ++ case_code p x y (length c0) (c ∷ []) →

@@ -1,5 +1,6 @@
 -- Instructions of declared locals, one after another.
-use Rattle.std.proofs.Common.{◌≡◌, ℕ, ◌+◌, List, [], ◌∷◌, ◌++◌, length, Option, Some, None, refl, sym, ap, ◌∙◌, arith, append_assoc}
+use Rattle.std.proofs.Common.{◌≡◌, ℕ, ◌+◌, List, [], ◌∷◌, ◌++◌, length, Option, Some, None, refl, sym, ap, ◌∙◌, arith}
+use Rattle.std.proofs.Common.{append_assoc}
 use Rattle.pungi_base.specs.declared.pos.Pos.{Pos}
 use Rattle.pungi_resolved.specs.Values as expr
 use Rattle.pungi_resolved.specs.Actions as stmt
@@ -20,15 +21,19 @@ bind_laid nl r rs c0 c1 e =
     let n = grown c0 c1 bind (option_size r.value + 1) e (bind_long r.value nl (length c0) r.number r.at r.kind) in
     let at = length c0 + option_size r.value + 1 in
     let n' : length c1 ≡ at = omega (arith, n) in
-    sym (glued c0 c1 (c1 ++ declare_code nl (length c1) rs) bind (declare_code nl at rs) e (moved (λ m. declare_code nl m rs) c1 (c1 ++ declare_code nl (length c1) rs) at n' refl))
+    sym (glued c0 c1 (c1 ++ declare_code nl (length c1) rs) bind (declare_code nl at rs) e
+    (moved (λ m. declare_code nl m rs) c1 (c1 ++ declare_code nl (length c1) rs) at n' refl))
 
-pub unset_append : (p : Pos) (rs qs : List stmt.DeclaredLocal) → unset_code p (rs ++ qs) ≡ unset_code p rs ++ unset_code p qs
+pub unset_append : (p : Pos) (rs qs : List stmt.DeclaredLocal)
+    → unset_code p (rs ++ qs) ≡ unset_code p rs ++ unset_code p qs
 unset_append p [] qs = refl
 unset_append p (r ∷ rs) qs = ap (λ c. line p (Unset (to_var r.number)) ∷ c) (unset_append p rs qs)
 
-pub unset_laid : (p : Pos) (rs qs : List stmt.DeclaredLocal) (c0 c1 : List Line) → c1 ≡ c0 ++ unset_code p rs → c0 ++ unset_code p (rs ++ qs) ≡ c1 ++ unset_code p qs
+pub unset_laid : (p : Pos) (rs qs : List stmt.DeclaredLocal) (c0 c1 : List Line) → c1 ≡ c0 ++ unset_code p rs
+    → c0 ++ unset_code p (rs ++ qs) ≡ c1 ++ unset_code p qs
 unset_laid p rs qs c0 c1 e =
-    ap (λ c. c0 ++ c) (unset_append p rs qs) ∙ sym (append_assoc c0 (unset_code p rs) (unset_code p qs)) ∙ ap (λ c. c ++ unset_code p qs) (sym e)
+    ap (λ c. c0 ++ c) (unset_append p rs qs) ∙ sym (append_assoc c0 (unset_code p rs) (unset_code p qs))
+    ∙ ap (λ c. c ++ unset_code p qs) (sym e)
 
 pub test_laid : (nl go place other : ℕ) (p : Pos) (v : expr.Value) (c0 c1 c2 : List Line) →
     c1 ≡ c0 ++ value_code nl (length c0) v →

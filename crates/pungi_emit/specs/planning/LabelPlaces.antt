@@ -1,5 +1,6 @@
 -- The places of labels as the emitters hold them.
---   stmt_labels pc a, list_labels pc list    the labels of a statement that begins at this place, each with its place; none in
+--   stmt_labels pc a, list_labels pc list    the labels of a statement that begins at this place, each with its place;
+--                                            none in
 --                               an inner block
 --   find l ms                   the place of a label among some
 --   labels_of ls                where each `goto` leads
@@ -20,7 +21,8 @@ stmt_labels pc (stmt.label p n a) = record { name = n; place = pc } ∷ stmt_lab
 stmt_labels pc (stmt.case p n a) = stmt_labels pc a
 stmt_labels pc (stmt.default p a) = stmt_labels pc a
 stmt_labels pc (stmt.if_only p c a) = stmt_labels (pc + expr_size c + 1) a
-stmt_labels pc (stmt.if_else p c a b) = stmt_labels (pc + expr_size c + 1) a ++ stmt_labels (pc + expr_size c + 1 + stmt_size a + 1) b
+stmt_labels pc (stmt.if_else p c a b) =
+    stmt_labels (pc + expr_size c + 1) a ++ stmt_labels (pc + expr_size c + 1 + stmt_size a + 1) b
 stmt_labels pc (stmt.while p c a) = stmt_labels (pc + test_size (Some c)) a
 stmt_labels pc (stmt.do_while p a c) = stmt_labels (pc + 1 + test_size (Some c)) a
 stmt_labels pc (stmt.for p rs u c w a) = stmt_labels (for_head pc rs u + test_size c) a

@@ -2,9 +2,10 @@
 --   stmt_names a, list_names list    the labels of a statement and of statements, by name; none in an inner block
 --   names_of ms, places_of ms   the names of labels, and their places
 --   switch_from pc list         where the statements of a block in a `switch` begin, whose value ends at this place
---   plan_of pc a, plans_of pc ss    the places of a statement that begins at this place, and of statements: what a test leads to,
---                               where a loop turns and where it ends; of a block its labels; of a `switch` its end, and where the
---                               statements of its block begin; then those of the statements inside
+--   plan_of pc a, plans_of pc ss    the places of a statement that begins at this place, and of statements: what a test
+--                                   leads to,
+--                               where a loop turns and where it ends; of a block its labels; of a `switch` its end, and
+--                               where the statements of its block begin; then those of the statements inside
 --   skipped_plan pc a           those of a `switch` over what is no block, whose value ends at this place
 --   switch_plan pc a            those of a `switch` whose value ends at this place
 --   Begins xs plan              a plan begins with these places
@@ -48,16 +49,23 @@ switch_from pc list = pc + length (block_locals list) + 2 * length (block_cases 
 
 abbrev mutual
   pub plan_of : ℕ → stmt.Action → List ℕ
-  plan_of pc (stmt.block p ss q) = places_of (list_labels (pc + length (block_locals (listed ss))) (listed ss)) ++ plans_of (pc + length (block_locals (listed ss))) ss
+  plan_of pc (stmt.block p ss q) = places_of (list_labels (pc + length (block_locals (listed ss))) (listed ss))
+      ++ plans_of (pc + length (block_locals (listed ss))) ss
   plan_of pc (stmt.if_only p c a) = (pc + expr_size c + 1 + stmt_size a) ∷ plan_of (pc + expr_size c + 1) a
   plan_of pc (stmt.if_else p c a b) =
-      (pc + expr_size c + 1 + stmt_size a + 1) ∷ (pc + expr_size c + 1 + stmt_size a + 1 + stmt_size b) ∷ (plan_of (pc + expr_size c + 1) a ++ plan_of (pc + expr_size c + 1 + stmt_size a + 1) b)
+      (pc + expr_size c + 1 + stmt_size a + 1) ∷ (pc + expr_size c + 1 + stmt_size a + 1 + stmt_size b)
+      ∷ (plan_of (pc + expr_size c + 1) a ++ plan_of (pc + expr_size c + 1 + stmt_size a + 1) b)
   plan_of pc (stmt.while p c a) = (pc + (expr_size c + 1) + stmt_size a) ∷ plan_of (pc + (expr_size c + 1)) a
-  plan_of pc (stmt.do_while p a c) = (pc + 1 + (expr_size c + 1)) ∷ (pc + 1 + (expr_size c + 1) + stmt_size a) ∷ plan_of (pc + 1 + (expr_size c + 1)) a
+  plan_of pc (stmt.do_while p a c) = (pc + 1 + (expr_size c + 1)) ∷ (pc + 1 + (expr_size c + 1) + stmt_size a)
+      ∷ plan_of (pc + 1 + (expr_size c + 1)) a
   plan_of pc (stmt.for p rs u c w a) =
-      (for_head pc rs u + test_size c + stmt_size a) ∷ (for_head pc rs u + test_size c + stmt_size a + option_size w + 1) ∷ plan_of (for_head pc rs u + test_size c) a
+      (for_head pc rs u + test_size c + stmt_size a) ∷ (for_head pc rs u + test_size c + stmt_size a + option_size w
+      + 1) ∷ plan_of (for_head pc rs u + test_size c) a
   plan_of pc (stmt.switch p v (stmt.block q ss r)) =
-      (switch_from (pc + expr_size v) (listed ss) + stmts_size ss) ∷ (list_starts (switch_from (pc + expr_size v) (listed ss)) (listed ss) ++ (places_of (list_labels (switch_from (pc + expr_size v) (listed ss)) (listed ss)) ++ plans_of (switch_from (pc + expr_size v) (listed ss)) ss))
+      (switch_from (pc + expr_size v) (listed ss) + stmts_size ss)
+      ∷ (list_starts (switch_from (pc + expr_size v) (listed ss)) (listed ss)
+      ++ (places_of (list_labels (switch_from (pc + expr_size v) (listed ss)) (listed ss))
+      ++ plans_of (switch_from (pc + expr_size v) (listed ss)) ss))
   plan_of pc (stmt.switch p v a) = (pc + expr_size v + 1 + stmt_size a) ∷ plan_of (pc + expr_size v + 1) a
   plan_of pc (stmt.case p n a) = plan_of pc a
   plan_of pc (stmt.default p a) = plan_of pc a
@@ -73,7 +81,9 @@ skipped_plan pc a = (pc + 1 + stmt_size a) ∷ plan_of (pc + 1) a
 
 abbrev pub switch_plan : ℕ → stmt.Action → List ℕ
 switch_plan pc (stmt.block q ss r) =
-    (switch_from pc (listed ss) + stmts_size ss) ∷ (list_starts (switch_from pc (listed ss)) (listed ss) ++ (places_of (list_labels (switch_from pc (listed ss)) (listed ss)) ++ plans_of (switch_from pc (listed ss)) ss))
+    (switch_from pc (listed ss) + stmts_size ss) ∷ (list_starts (switch_from pc (listed ss)) (listed ss)
+    ++ (places_of (list_labels (switch_from pc (listed ss)) (listed ss))
+    ++ plans_of (switch_from pc (listed ss)) ss))
 switch_plan pc a = skipped_plan pc a
 
 pub record Begins (xs plan : List ℕ) : Type 0 where

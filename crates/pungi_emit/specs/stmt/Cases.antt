@@ -19,7 +19,8 @@ use Rattle.pungi_layout.specs.code.Scopes.{Env, in_switch, placed_cases}
 use Rattle.pungi_layout.specs.code.StmtCode.{value_code, stmt_code}
 
 abbrev pub case_lines : Pos → ℕ → ℕ → ℕ → Atom → ℕ → List Line
-case_lines p x y pc a n = line p (Compare (to_var y) cmps.Equal (var x) a) ∷ line p (Branch (var y) (at_label n) (at_label (pc + 2))) ∷ []
+case_lines p x y pc a n =
+    line p (Compare (to_var y) cmps.Equal (var x) a) ∷ line p (Branch (var y) (at_label n) (at_label (pc + 2))) ∷ []
 
 abbrev pub cases_at : List stmt.Action → List ℕ → List (ℤ × ℕ)
 cases_at [] starts = []
@@ -37,4 +38,5 @@ is_block a = false
 
 abbrev pub skipped_code : ℕ → Env → ℕ → Pos → expr.Value → stmt.Action → List Line
 skipped_code nl env pc p v a =
-    value_code nl pc v ++ line p (Jump (at_label (pc + expr_size v + 1 + stmt_size a))) ∷ stmt_code nl (in_switch env (pc + expr_size v + 1 + stmt_size a)) (pc + expr_size v + 1) a
+    value_code nl pc v ++ line p (Jump (at_label (pc + expr_size v + 1 + stmt_size a)))
+    ∷ stmt_code nl (in_switch env (pc + expr_size v + 1 + stmt_size a)) (pc + expr_size v + 1) a

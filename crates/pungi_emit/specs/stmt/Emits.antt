@@ -1,5 +1,6 @@
 -- What an emitter of statements does.
---   Emits lines ps ..           it adds these instructions after what was there, and takes these places from the front of the plan
+--   Emits lines ps ..           it adds these instructions after what was there, and takes these places from the front
+--                               of the plan
 --   EmitsStmt nl env a          those of a statement
 --   EmitsList nl env list       those of statements, one after another
 use Rattle.std.specs.Prelude.{◌≡◌, ℕ, List, ◌++◌, length}
@@ -18,4 +19,5 @@ abbrev pub EmitsStmt : ℕ → Env → stmt.Action → List Line → List Line �
 EmitsStmt nl env a c0 = Emits (stmt_code nl env (length c0) a) (plan_of (length c0) a) c0
 
 abbrev pub EmitsList : ℕ → Env → List stmt.Action → List Line → List Line → List ℕ → List ℕ → Type 0
-EmitsList nl env list c0 = Emits (stmts_code nl env (length c0) (actions_of list)) (plans_of (length c0) (actions_of list)) c0
+EmitsList nl env list c0 =
+    Emits (stmts_code nl env (length c0) (actions_of list)) (plans_of (length c0) (actions_of list)) c0

@@ -1,7 +1,8 @@
 // The variables after the locals.
 ghost use Rattle.std.specs.Prelude.{◌≡◌, ◌<◌};
 ghost use Rattle.pungi_resolved.specs.ValueView.{value_view};
-ghost use Rattle.pungi_layout.specs.code.Temporaries.{column as column_of, joined_column, answer_column, form_column, value_column};
+ghost use Rattle.pungi_layout.specs.code.Temporaries.{column as column_of, joined_column, answer_column, form_column};
+ghost use Rattle.pungi_layout.specs.code.Temporaries.{value_column};
 
 use pungi_api::{Answer, Form};
 use pungi_meaning::fits;

@@ -1,9 +1,11 @@
 // The instructions of expressions.
 ghost use Rattle.std.specs.Prelude.{◌≡◌, ◌+◌, ◌++◌, length, map, OnOk};
 ghost use Rattle.pungi_resolved.specs.ValueView.{value_view, values_of, place_view};
-ghost use Rattle.pungi_resolved.specs.Values.{signed, negated, stepped, computed, compared, joined_by, stored, updated, chosen, converted, called_row};
+ghost use Rattle.pungi_resolved.specs.Values.{signed, negated, stepped, computed, compared, joined_by, stored, updated};
+ghost use Rattle.pungi_resolved.specs.Values.{chosen, converted, called_row};
 ghost use Rattle.pungi_layout.specs.code.Sizes.{expr_size};
-ghost use Rattle.pungi_layout.specs.code.ExprCode.{expr_code, base_code, args_code, old_code, sign_code, step_code, base_var};
+ghost use Rattle.pungi_layout.specs.code.ExprCode.{expr_code, base_code, args_code, old_code, sign_code, step_code};
+ghost use Rattle.pungi_layout.specs.code.ExprCode.{base_var};
 
 use crate::code::instructions::{Around, next_place, put, replace};
 use crate::code::number::place_after;
@@ -33,7 +35,8 @@ fn emit_step(
     kind: ValueKind,
     place: &Place,
 ) -> Result<(), Memory>
-    ensures { OnOk result (code.new ≡ code.old ++ step_code around.locals depth target pos mark kind (place_view place.now)) }
+    ensures { OnOk result (code.new ≡ code.old ++ step_code around.locals depth target pos mark kind
+        (place_view place.now)) }
 {
     let locals = around.locals;
     let counted = wide(kind);
@@ -75,7 +78,8 @@ fn emit_sign(
 /// The base of a field, which waits where it is found again.
 #[cycle(emit)]
 fn emit_base(code: &mut Seq<Line>, around: Around, depth: u32, place: &Place) -> Result<(), Memory>
-    ensures { OnOk result (code.new ≡ code.old ++ base_code around.locals depth (length code.old) (place_view place.now)) }
+    ensures { OnOk result (code.new ≡ code.old ++ base_code around.locals depth (length code.old)
+        (place_view place.now)) }
 {
     match place {
         Place::Field(_, base, _, _) => {
@@ -96,7 +100,9 @@ fn emit_held(
     place: &Place,
     old: u32,
 ) -> Result<(), Memory>
-    ensures { OnOk result (code.new ≡ code.old ++ (base_code around.locals depth (length code.old) (place_view place.now) ++ old_code kind (place_view place.now) old (base_var around.locals (place_view place.now) depth))) }
+    ensures { OnOk result (code.new ≡ code.old ++ (base_code around.locals depth (length code.old)
+        (place_view place.now) ++ old_code kind (place_view place.now) old (base_var around.locals
+        (place_view place.now) depth))) }
 {
     let base = base_var(around.locals, place, depth)?;
     emit_base(code, around, depth, place)?;
@@ -116,7 +122,8 @@ fn emit_stepped(
     kind: ValueKind,
     place: &Place,
 ) -> Result<(), Memory>
-    ensures { OnOk result (code.new ≡ code.old ++ expr_code around.locals depth target (length code.old) (stepped pos behind_it mark kind (place_view place.now))) }
+    ensures { OnOk result (code.new ≡ code.old ++ expr_code around.locals depth target (length code.old)
+        (stepped pos behind_it mark kind (place_view place.now))) }
 {
     if behind_it {
         let level = place_after(depth, 1)?;
@@ -145,7 +152,8 @@ fn emit_stored(
     place: &Place,
     part: &Node,
 ) -> Result<(), Memory>
-    ensures { OnOk result (code.new ≡ code.old ++ expr_code around.locals depth target (length code.old) (stored pos kind (place_view place.now) (value_view part.now))) }
+    ensures { OnOk result (code.new ≡ code.old ++ expr_code around.locals depth target (length code.old)
+        (stored pos kind (place_view place.now) (value_view part.now))) }
 {
     let base = base_var(around.locals, place, depth)?;
     let value = stored_var(around.locals, place, depth, kind)?;
@@ -170,7 +178,8 @@ fn emit_updated(
     place: &Place,
     part: &Node,
 ) -> Result<(), Memory>
-    ensures { OnOk result (code.new ≡ code.old ++ expr_code around.locals depth target (length code.old) (updated pos mark counted kind (place_view place.now) (value_view part.now))) }
+    ensures { OnOk result (code.new ≡ code.old ++ expr_code around.locals depth target (length code.old)
+        (updated pos mark counted kind (place_view place.now) (value_view part.now))) }
 {
     let locals = around.locals;
     let level = above(place, depth)?;
@@ -200,7 +209,9 @@ fn emit_operands(
     a: &Node,
     b: &Node,
 ) -> Result<(), Memory>
-    ensures { OnOk result (code.new ≡ code.old ++ (expr_code around.locals depth left (length code.old) (value_view a.now) ++ expr_code around.locals (depth + 1) right (length code.old + expr_size (value_view a.now)) (value_view b.now))) }
+    ensures { OnOk result (code.new ≡ code.old ++ (expr_code around.locals depth left (length code.old)
+        (value_view a.now) ++ expr_code around.locals (depth + 1) right (length code.old
+        + expr_size (value_view a.now)) (value_view b.now))) }
 {
     let level = place_after(depth, 1)?;
     emit_value(code, around, depth, left, a)?;
@@ -221,7 +232,8 @@ fn emit_computed(
     a: &Node,
     b: &Node,
 ) -> Result<(), Memory>
-    ensures { OnOk result (code.new ≡ code.old ++ expr_code around.locals depth target (length code.old) (computed pos mark kind (value_view a.now) (value_view b.now))) }
+    ensures { OnOk result (code.new ≡ code.old ++ expr_code around.locals depth target (length code.old)
+        (computed pos mark kind (value_view a.now) (value_view b.now))) }
 {
     let left = temp_of(around.locals, depth, a)?;
     let right = temp_of(around.locals, place_after(depth, 1)?, b)?;
@@ -242,7 +254,8 @@ fn emit_compared(
     a: &Node,
     b: &Node,
 ) -> Result<(), Memory>
-    ensures { OnOk result (code.new ≡ code.old ++ expr_code around.locals depth target (length code.old) (compared pos mark (value_view a.now) (value_view b.now))) }
+    ensures { OnOk result (code.new ≡ code.old ++ expr_code around.locals depth target (length code.old)
+        (compared pos mark (value_view a.now) (value_view b.now))) }
 {
     let left = operand(around.locals, depth, value_column(b), a)?;
     let right = operand(around.locals, place_after(depth, 1)?, value_column(a), b)?;
@@ -263,7 +276,8 @@ fn emit_signed(
     kind: ValueKind,
     part: &Node,
 ) -> Result<(), Memory>
-    ensures { OnOk result (code.new ≡ code.old ++ expr_code around.locals depth target (length code.old) (signed pos mark kind (value_view part.now))) }
+    ensures { OnOk result (code.new ≡ code.old ++ expr_code around.locals depth target (length code.old)
+        (signed pos mark kind (value_view part.now))) }
 {
     let minus = is_minus(mark);
     let value = temp_of(around.locals, depth, part)?;
@@ -282,7 +296,8 @@ fn emit_converted(
     kind: ValueKind,
     part: &Node,
 ) -> Result<(), Memory>
-    ensures { OnOk result (code.new ≡ code.old ++ expr_code around.locals depth target (length code.old) (converted pos kind (value_view part.now))) }
+    ensures { OnOk result (code.new ≡ code.old ++ expr_code around.locals depth target (length code.old)
+        (converted pos kind (value_view part.now))) }
 {
     let value = temp_of(around.locals, depth, part)?;
     emit_value(code, around, depth, value, part)?;
@@ -299,7 +314,8 @@ fn emit_negated(
     pos: Pos,
     part: &Node,
 ) -> Result<(), Memory>
-    ensures { OnOk result (code.new ≡ code.old ++ expr_code around.locals depth target (length code.old) (negated pos (value_view part.now))) }
+    ensures { OnOk result (code.new ≡ code.old ++ expr_code around.locals depth target (length code.old)
+        (negated pos (value_view part.now))) }
 {
     let level = place_after(depth, 1)?;
     let value = temp_of(around.locals, level, part)?;
@@ -324,7 +340,8 @@ fn emit_joined(
     a: &Node,
     b: &Node,
 ) -> Result<(), Memory>
-    ensures { OnOk result (code.new ≡ code.old ++ expr_code around.locals depth target (length code.old) (joined_by pos mark (value_view a.now) (value_view b.now))) }
+    ensures { OnOk result (code.new ≡ code.old ++ expr_code around.locals depth target (length code.old)
+        (joined_by pos mark (value_view a.now) (value_view b.now))) }
 {
     let on = is_and(mark);
     let level = place_after(depth, 1)?;
@@ -357,7 +374,8 @@ fn emit_chosen(
     a: &Node,
     b: &Node,
 ) -> Result<(), Memory>
-    ensures { OnOk result (code.new ≡ code.old ++ expr_code around.locals depth target (length code.old) (chosen pos (value_view c.now) (value_view a.now) (value_view b.now))) }
+    ensures { OnOk result (code.new ≡ code.old ++ expr_code around.locals depth target (length code.old)
+        (chosen pos (value_view c.now) (value_view a.now) (value_view b.now))) }
 {
     let value = temp_of(around.locals, depth, c)?;
     emit_value(code, around, depth, value, c)?;
@@ -383,7 +401,8 @@ fn emit_args(
     params: &[Param],
     args: &[Node],
 ) -> Result<(), Memory>
-    ensures { OnOk result (code.new ≡ code.old ++ args_code around.locals depth (length code.old) params.now (values_of (map value_view args.now))) }
+    ensures { OnOk result (code.new ≡ code.old ++ args_code around.locals depth (length code.old) params.now
+        (values_of (map value_view args.now))) }
 {
     let mut level = depth;
     let mut left = params;
@@ -408,7 +427,8 @@ fn emit_called(
     shape: &Shape,
     args: &[Node],
 ) -> Result<(), Memory>
-    ensures { OnOk result (code.new ≡ code.old ++ expr_code around.locals depth target (length code.old) (called_row pos name shape.now.row (values_of (map value_view args.now)))) }
+    ensures { OnOk result (code.new ≡ code.old ++ expr_code around.locals depth target (length code.old)
+        (called_row pos name shape.now.row (values_of (map value_view args.now)))) }
 {
     emit_args(code, around, depth, shape.row.params.as_slice(), args)?;
     emit_row(code, around, depth, target, pos, shape, args)?;
@@ -424,7 +444,8 @@ pub fn emit_value(
     target: u32,
     node: &Node,
 ) -> Result<(), Memory>
-    ensures { OnOk result (code.new ≡ code.old ++ expr_code around.locals depth target (length code.old) (value_view node.now)) }
+    ensures { OnOk result (code.new ≡ code.old ++ expr_code around.locals depth target (length code.old)
+        (value_view node.now)) }
 {
     let pos = node.pos;
     match &node.node {

@@ -43,7 +43,8 @@ fn arg_atoms(
     params: &[Param],
     args: &[Node],
 ) -> Result<Vec<Atom>, Memory>
-    ensures { IfOk result (λ atoms. atoms.items ≡ map var_atom (arg_vars locals depth params.now (map value_view args.now))) }
+    ensures { IfOk result (λ atoms. atoms.items ≡ map var_atom (arg_vars locals depth params.now
+        (map value_view args.now))) }
 {
     let mut atoms = Vec::new(alloc);
     let mut left = params;
@@ -65,7 +66,8 @@ pub fn emit_row(
     shape: &Shape,
     args: &[Node],
 ) -> Result<(), Memory>
-    ensures { OnOk result (code.new ≡ code.old ++ row_code around.locals depth target pos shape.now.row (map value_view args.now)) }
+    ensures { OnOk result (code.new ≡ code.old ++ row_code around.locals depth target pos shape.now.row
+        (map value_view args.now)) }
 {
     let alloc = around.alloc;
     let answer = if gives_answer(shape.row.form, shape.row.answer) {

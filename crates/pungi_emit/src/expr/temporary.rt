@@ -1,7 +1,8 @@
 // Where values stand that wait.
 ghost use Rattle.std.specs.Prelude.{◌≡◌, ◌+◌, IfOk};
 ghost use Rattle.pungi_resolved.specs.ValueView.{value_view, place_view};
-ghost use Rattle.pungi_layout.specs.code.Temporaries.{column as column_of, temp, temp_of, fitting_column, operand, local_column, param_column, front_column, tail};
+ghost use Rattle.pungi_layout.specs.code.Temporaries.{column as column_of, temp, temp_of, fitting_column, operand};
+ghost use Rattle.pungi_layout.specs.code.Temporaries.{local_column, param_column, front_column, tail};
 ghost use Rattle.pungi_layout.specs.code.ExprCode.{above, base_var, stored_var, counted_var, sign_var, var as var_atom};
 
 use crate::code::number::{place_after, small};

@@ -2,7 +2,8 @@
 ghost use Rattle.std.specs.Prelude.{◌≡◌, map};
 ghost use Rattle.pungi_resolved.specs.ActionView.{declared_view, action_view, actions_of};
 ghost use Rattle.pungi_resolved.specs.ValueView.{value_view, values_of, place_view, optional_view};
-ghost use Rattle.pungi_layout.specs.code.Calls.{calls_none, is_free_place, call_none, is_free_option, are_free_locals, has_no_call, have_no_call};
+ghost use Rattle.pungi_layout.specs.code.Calls.{calls_none, is_free_place, call_none, is_free_option, are_free_locals};
+ghost use Rattle.pungi_layout.specs.code.Calls.{has_no_call, have_no_call};
 
 use pungi_resolved::{Action, ActionNode, DeclaredLocal, Place, Value as Node, ValueNode};
 

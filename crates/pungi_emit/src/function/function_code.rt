@@ -72,7 +72,8 @@ fn emit_end(code: &mut Seq<Line>, pos: Pos, void: bool) -> Result<(), Memory>
 /// The instructions of a body, whose statements lead to these places and which takes so many instructions.
 fn emit_body(around: Around, places: &[u32], size: u32, f: &Function) -> Result<Seq<Line>, Memory>
     requires { Begins (plan_of 0 (action_view f.now.body)) places.now }
-    ensures { IfOk result (λ code. size ≡ stmt_size (action_view f.now.body) → around.locals ≡ f.now.locals → code ≡ body_code (function_view f.now)) }
+    ensures { IfOk result (λ code. size ≡ stmt_size (action_view f.now.body) → around.locals ≡ f.now.locals
+        → code ≡ body_code (function_view f.now)) }
 {
     let labels = Labels::Nowhere(size);
     let scope = Scope {

@@ -1,7 +1,9 @@
 // The heads of a function's loops.
-ghost use Rattle.std.specs.Prelude.{◌≡◌, ◌<◌, ◌||◌, ◌&&◌, ◌==◌, ◌∷◌, ◌++◌, [], ℕ, false, nat_le, if◌then◌else◌, length, get_or, replicate, IfOk, OnOk, Some, None};
+ghost use Rattle.std.specs.Prelude.{◌≡◌, ◌<◌, ◌||◌, ◌&&◌, ◌==◌, ◌∷◌, ◌++◌, [], ℕ, false, nat_le, if◌then◌else◌, length};
+ghost use Rattle.std.specs.Prelude.{get_or, replicate, IfOk, OnOk, Some, None};
 ghost use Rattle.pungi_code.specs.WellFormed.{targets};
-ghost use Rattle.pungi_layout.specs.code.Heads.{first_pos, loop_pos, label_pos, names, leads_back, back_pos, found_head, heads_below};
+ghost use Rattle.pungi_layout.specs.code.Heads.{first_pos, loop_pos, label_pos, names, leads_back, back_pos};
+ghost use Rattle.pungi_layout.specs.code.Heads.{found_head, heads_below};
 
 use crate::code::number::small;
 use pungi_base::{Memory, Pos};
@@ -12,7 +14,8 @@ use std::alloc::Global;
 /// A place of the text for a place of the code, where it has none yet.
 fn keep_first(kept: &mut [Option<Pos>], place: u32, pos: Pos)
     ensures long { length kept.new ≡ length kept.old }
-    ensures first { (n : ℕ) → n < length kept.old → get_or kept.new n None ≡ first_pos (get_or kept.old n None) (if place == n then Some pos else None) }
+    ensures first { (n : ℕ) → n < length kept.old
+        → get_or kept.new n None ≡ first_pos (get_or kept.old n None) (if place == n then Some pos else None) }
 {
     let place = place as usize;
     if place < kept.len() {
@@ -79,7 +82,8 @@ fn label_places(alloc: Global, marks: &[Mark], count: usize) -> Result<Vec<Optio
 /// A label leads back, where it is not after the instruction that names it.
 fn note_back(backs: &mut [bool], place: usize, label: Label)
     ensures long { length backs.new ≡ length backs.old }
-    ensures back { (n : ℕ) → n < length backs.old → get_or backs.new n false ≡ (get_or backs.old n false || (nat_le n place && label.0 == n)) }
+    ensures back { (n : ℕ) → n < length backs.old
+        → get_or backs.new n false ≡ (get_or backs.old n false || (nat_le n place && label.0 == n)) }
 {
     let to = label.0 as usize;
     if to < backs.len() && to <= place {
@@ -90,7 +94,8 @@ fn note_back(backs: &mut [bool], place: usize, label: Label)
 /// The labels that an instruction names.
 fn note_instr(backs: &mut [bool], place: usize, instr: &Instr)
     ensures long { length backs.new ≡ length backs.old }
-    ensures back { (n : ℕ) → n < length backs.old → get_or backs.new n false ≡ (get_or backs.old n false || (nat_le n place && names n (targets instr.now))) }
+    ensures back { (n : ℕ) → n < length backs.old
+        → get_or backs.new n false ≡ (get_or backs.old n false || (nat_le n place && names n (targets instr.now))) }
 {
     match instr {
         Instr::Jump(to) => note_back(backs, place, *to),
@@ -115,7 +120,8 @@ fn note_instr(backs: &mut [bool], place: usize, instr: &Instr)
 /// For each place of the code whether an instruction that is not in front of it leads to it.
 fn back_places(alloc: Global, code: &[Line]) -> Result<Vec<bool>, Memory>
     ensures long { IfOk result (λ v. length v.items ≡ length code.now) }
-    ensures found { IfOk result (λ v. (n : ℕ) → n < length code.now → get_or v.items n false ≡ leads_back n 0 code.now) }
+    ensures found { IfOk result (λ v. (n : ℕ) → n < length code.now
+        → get_or v.items n false ≡ leads_back n 0 code.now) }
 {
     let mut backs = no_backs(alloc, code.len())?;
     for place in 0..code.len() {

@@ -2,7 +2,8 @@
 ghost use Rattle.std.specs.Prelude.{◌≡◌, ◌+◌, map, IfOk};
 ghost use Rattle.pungi_resolved.specs.ActionView.{declared_view, action_view, actions_of};
 ghost use Rattle.pungi_resolved.specs.ValueView.{value_view, values_of, place_view, optional_view};
-ghost use Rattle.pungi_layout.specs.code.Sound.{expr_nodes, place_nodes, values_nodes, option_nodes, declare_nodes, stmt_nodes, stmts_nodes};
+ghost use Rattle.pungi_layout.specs.code.Sound.{expr_nodes, place_nodes, values_nodes, option_nodes, declare_nodes};
+ghost use Rattle.pungi_layout.specs.code.Sound.{stmt_nodes, stmts_nodes};
 
 use crate::code::number::place_after;
 use pungi_base::Memory;

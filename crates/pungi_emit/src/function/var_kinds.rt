@@ -1,7 +1,8 @@
 // What the variables of a code hold.
 ghost use Rattle.std.specs.Prelude.{◌≡◌, ◌++◌, map, IfOk, OnOk};
 ghost use Rattle.pungi_resolved.specs.ActionView.{declared_view, action_view, actions_of, function_view};
-ghost use Rattle.pungi_layout.specs.code.VarKinds.{held_kind, kind_held, stmt_declared, stmts_declared, temp_kinds, var_kinds as kinds_of_vars};
+ghost use Rattle.pungi_layout.specs.code.VarKinds.{held_kind, kind_held, stmt_declared, stmts_declared, temp_kinds};
+ghost use Rattle.pungi_layout.specs.code.VarKinds.{var_kinds as kinds_of_vars};
 
 use crate::function::nodes::stmt_nodes;
 use pungi_api::Param;
@@ -76,7 +77,8 @@ fn add_stmt(kinds: &mut Seq<Param>, action: &Action) -> Result<(), Memory>
 
 #[cycle(add)]
 fn add_list(kinds: &mut Seq<Param>, list: &[Action]) -> Result<(), Memory>
-    ensures { OnOk result (kinds.new ≡ kinds.old ++ map kind_held (stmts_declared (actions_of (map action_view list.now)))) }
+    ensures { OnOk result (kinds.new ≡ kinds.old ++ map kind_held (stmts_declared
+        (actions_of (map action_view list.now)))) }
 {
     for action in list {
         add_stmt(kinds, action)?;

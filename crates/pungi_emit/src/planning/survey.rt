@@ -70,7 +70,10 @@ fn survey_list(
     list: &[Action],
     from: u32,
 ) -> Result<u32, Memory>
-    ensures { IfOk result (λ next. SurveysList from (map action_view list.now) (plans_of from (actions_of (map action_view list.now))) (places_of (list_labels from (map action_view list.now))) next marks.old marks.new places.old places.new labels.old labels.new starts.old starts.new) }
+    ensures { IfOk result (λ next. SurveysList from (map action_view list.now)
+        (plans_of from (actions_of (map action_view list.now))) (places_of (list_labels from
+        (map action_view list.now))) next marks.old marks.new places.old places.new labels.old labels.new starts.old
+        starts.new) }
 {
     let mut place = from;
     for action in list {
@@ -90,7 +93,10 @@ fn survey_inside(
     list: &[Action],
     from: u32,
 ) -> Result<u32, Memory>
-    ensures { IfOk result (λ next. SurveysList from (map action_view list.now) (places_of (list_labels from (map action_view list.now)) ++ plans_of from (actions_of (map action_view list.now))) [] next marks.old marks.new places.old places.new [] [] starts.old starts.new) }
+    ensures { IfOk result (λ next. SurveysList from (map action_view list.now)
+        (places_of (list_labels from (map action_view list.now))
+        ++ plans_of from (actions_of (map action_view list.now))) [] next marks.old marks.new places.old places.new []
+        [] starts.old starts.new) }
 {
     let names = block_names(alloc, list)?;
     let room = hold(places, names.len())?;
@@ -109,7 +115,8 @@ fn survey_switched(
     list: &[Action],
     place: u32,
 ) -> Result<u32, Memory>
-    ensures { IfOk result (λ next. SurveysSwitch place (block nowhere (actions_of (map action_view list.now)) nowhere) next marks.old marks.new places.old places.new [] []) }
+    ensures { IfOk result (λ next. SurveysSwitch place (block nowhere (actions_of (map action_view list.now))
+        nowhere) next marks.old marks.new places.old places.new [] []) }
 {
     let end = hold(places, 1)?;
     let begun = hold(places, list.len())?;
@@ -135,7 +142,8 @@ fn survey_inner(
     list: &[Action],
     pc: u32,
 ) -> Result<u32, Memory>
-    ensures { IfOk result (λ next. SurveysStmt pc (block nowhere (actions_of (map action_view list.now)) nowhere) next marks.old marks.new places.old places.new [] []) }
+    ensures { IfOk result (λ next. SurveysStmt pc (block nowhere (actions_of (map action_view list.now)) nowhere)
+        next marks.old marks.new places.old places.new [] []) }
 {
     let own = declared_count(list)?;
     let from = place_after(pc, own)?;
@@ -154,7 +162,8 @@ fn survey_skipped(
     body: &Action,
     place: u32,
 ) -> Result<u32, Memory>
-    ensures { IfOk result (λ next. SurveysSkipped place (action_view body.now) next marks.old marks.new places.old places.new labels.old labels.new) }
+    ensures { IfOk result (λ next. SurveysSkipped place (action_view body.now) next marks.old marks.new places.old
+        places.new labels.old labels.new) }
 {
     let end = hold(places, 1)?;
     let from = place_after(place, 1)?;
@@ -174,7 +183,8 @@ fn survey_choice(
     body: &Action,
     place: u32,
 ) -> Result<u32, Memory>
-    ensures { IfOk result (λ next. SurveysSwitch place (action_view body.now) next marks.old marks.new places.old places.new labels.old labels.new) }
+    ensures { IfOk result (λ next. SurveysSwitch place (action_view body.now) next marks.old marks.new places.old
+        places.new labels.old labels.new) }
 {
     match &body.node {
         ActionNode::Block(list, _) => survey_switched(alloc, marks, places, list, place),
@@ -211,7 +221,9 @@ fn survey_for(
     test: &Option<Box<Node>>,
     last: &Option<Box<Node>>,
 ) -> Result<u32, Memory>
-    ensures { IfOk result (λ next. SurveysStmt pc (for pos (map declared_view reached.now) (optional_view first.now) (optional_view test.now) (optional_view last.now) (action_view body.now)) next marks.old marks.new places.old places.new labels.old labels.new) }
+    ensures { IfOk result (λ next. SurveysStmt pc (for pos (map declared_view reached.now) (optional_view first.now)
+        (optional_view test.now) (optional_view last.now) (action_view body.now)) next marks.old marks.new places.old
+        places.new labels.old labels.new) }
 {
     let room = hold(places, 2)?;
     let top = for_head(pc, reached, first)?;
@@ -237,7 +249,8 @@ fn survey_else(
     pos: Pos,
     c: &Node,
 ) -> Result<u32, Memory>
-    ensures { IfOk result (λ next. SurveysStmt pc (if_else pos (value_view c.now) (action_view a.now) (action_view b.now)) next marks.old marks.new places.old places.new labels.old labels.new) }
+    ensures { IfOk result (λ next. SurveysStmt pc (if_else pos (value_view c.now) (action_view a.now)
+        (action_view b.now)) next marks.old marks.new places.old places.new labels.old labels.new) }
 {
     let _place = pos;
     let room = hold(places, 2)?;
@@ -261,7 +274,8 @@ fn survey_if(
     pos: Pos,
     c: &Node,
 ) -> Result<u32, Memory>
-    ensures { IfOk result (λ next. SurveysStmt pc (if_only pos (value_view c.now) (action_view body.now)) next marks.old marks.new places.old places.new labels.old labels.new) }
+    ensures { IfOk result (λ next. SurveysStmt pc (if_only pos (value_view c.now) (action_view body.now)) next
+        marks.old marks.new places.old places.new labels.old labels.new) }
 {
     let _place = pos;
     let room = hold(places, 1)?;
@@ -283,7 +297,8 @@ fn survey_while(
     pos: Pos,
     c: &Node,
 ) -> Result<u32, Memory>
-    ensures { IfOk result (λ next. SurveysStmt pc (while pos (value_view c.now) (action_view body.now)) next marks.old marks.new places.old places.new labels.old labels.new) }
+    ensures { IfOk result (λ next. SurveysStmt pc (while pos (value_view c.now) (action_view body.now)) next
+        marks.old marks.new places.old places.new labels.old labels.new) }
 {
     let room = hold(places, 1)?;
     marks.push(Mark::OfLoop(head(pc, pos)))?;
@@ -306,7 +321,8 @@ fn survey_until(
     pos: Pos,
     c: &Node,
 ) -> Result<u32, Memory>
-    ensures { IfOk result (λ next. SurveysStmt pc (do_while pos (action_view body.now) (value_view c.now)) next marks.old marks.new places.old places.new labels.old labels.new) }
+    ensures { IfOk result (λ next. SurveysStmt pc (do_while pos (action_view body.now) (value_view c.now)) next
+        marks.old marks.new places.old places.new labels.old labels.new) }
 {
     let room = hold(places, 2)?;
     let top = place_after(pc, 1)?;
@@ -330,7 +346,8 @@ fn survey_label(
     pos: Pos,
     name: Name,
 ) -> Result<u32, Memory>
-    ensures { IfOk result (λ next. SurveysStmt pc (label pos name (action_view body.now)) next marks.old marks.new places.old places.new labels.old labels.new) }
+    ensures { IfOk result (λ next. SurveysStmt pc (label pos name (action_view body.now)) next marks.old marks.new
+        places.old places.new labels.old labels.new) }
 {
     let _name = name;
     labels.push(pc)?;
@@ -351,7 +368,8 @@ fn survey_switch(
     pos: Pos,
     node: &Node,
 ) -> Result<u32, Memory>
-    ensures { IfOk result (λ next. SurveysStmt pc (switch pos (value_view node.now) (action_view body.now)) next marks.old marks.new places.old places.new labels.old labels.new) }
+    ensures { IfOk result (λ next. SurveysStmt pc (switch pos (value_view node.now) (action_view body.now)) next
+        marks.old marks.new places.old places.new labels.old labels.new) }
 {
     let _place = pos;
     let place = after_value(pc, node)?;
@@ -371,7 +389,8 @@ pub fn survey_stmt(
     action: &Action,
     pc: u32,
 ) -> Result<u32, Memory>
-    ensures { IfOk result (λ next. SurveysStmt pc (action_view action.now) next marks.old marks.new places.old places.new labels.old labels.new) }
+    ensures { IfOk result (λ next. SurveysStmt pc (action_view action.now) next marks.old marks.new places.old
+        places.new labels.old labels.new) }
 {
     let pos = action.pos;
     match &action.node {

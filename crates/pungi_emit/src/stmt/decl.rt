@@ -5,7 +5,8 @@ ghost use Rattle.pungi_resolved.specs.ValueView.{value_view, optional_view};
 ghost use Rattle.pungi_meaning.specs.Work.{block_locals, action_locals};
 ghost use Rattle.pungi_layout.specs.code.Sizes.{expr_size, test_size};
 ghost use Rattle.pungi_layout.specs.code.Temporaries.{temp_of};
-ghost use Rattle.pungi_layout.specs.code.StmtCode.{unset_code, value_code, option_code, bind_code, declare_code, test_code, tested_code};
+ghost use Rattle.pungi_layout.specs.code.StmtCode.{unset_code, value_code, option_code, bind_code, declare_code};
+ghost use Rattle.pungi_layout.specs.code.StmtCode.{test_code, tested_code};
 
 use crate::code::instructions::{Around, next_place, put};
 use crate::code::number::small;
@@ -18,7 +19,8 @@ use pungi_resolved::{Action, ActionNode, DeclaredLocal, Value as Node};
 /// A value that is the only one. The answer is the variable in which it stands.
 pub fn emit_alone(code: &mut Seq<Line>, around: Around, node: &Node) -> Result<u32, Memory>
     ensures var { IfOk result (λ x. x ≡ temp_of around.locals 0 (value_view node.now)) }
-    ensures code { OnOk result (code.new ≡ code.old ++ value_code around.locals (length code.old) (value_view node.now)) }
+    ensures code { OnOk result (code.new ≡ code.old ++ value_code around.locals (length code.old)
+        (value_view node.now)) }
 {
     let target = temp_of(around.locals, 0, node)?;
     emit_value(code, around, 0, target, node)?;
@@ -31,7 +33,8 @@ pub fn emit_option(
     around: Around,
     node: &Option<Box<Node>>,
 ) -> Result<(), Memory>
-    ensures { OnOk result (code.new ≡ code.old ++ option_code around.locals (length code.old) (optional_view node.now)) }
+    ensures { OnOk result (code.new ≡ code.old ++ option_code around.locals (length code.old)
+        (optional_view node.now)) }
 {
     if let Some(node) = node {
         emit_alone(code, around, node)?;
@@ -43,7 +46,8 @@ pub fn emit_option(
 
 /// A declared local: it gets its value, or becomes unset.
 fn emit_bind(code: &mut Seq<Line>, around: Around, reached: &DeclaredLocal) -> Result<(), Memory>
-    ensures { OnOk result (code.new ≡ code.old ++ bind_code around.locals (length code.old) reached.now.at reached.now.number reached.now.kind (optional_view reached.now.value)) }
+    ensures { OnOk result (code.new ≡ code.old ++ bind_code around.locals (length code.old) reached.now.at
+        reached.now.number reached.now.kind (optional_view reached.now.value)) }
 {
     let local = small(reached.number as u64)?;
     if let Some(node) = &reached.value {
@@ -61,7 +65,8 @@ pub fn emit_declared(
     around: Around,
     list: &[DeclaredLocal],
 ) -> Result<(), Memory>
-    ensures { OnOk result (code.new ≡ code.old ++ declare_code around.locals (length code.old) (map declared_view list.now)) }
+    ensures { OnOk result (code.new ≡ code.old ++ declare_code around.locals (length code.old)
+        (map declared_view list.now)) }
 {
     for reached in list {
         emit_bind(code, around, reached)?;
@@ -109,7 +114,8 @@ pub fn emit_test(
     test: &Node,
     other: u32,
 ) -> Result<(), Memory>
-    ensures { OnOk result (code.new ≡ code.old ++ test_code pos around.locals (length code.old) (value_view test.now) (length code.old + expr_size (value_view test.now) + 1) other) }
+    ensures { OnOk result (code.new ≡ code.old ++ test_code pos around.locals (length code.old)
+        (value_view test.now) (length code.old + expr_size (value_view test.now) + 1) other) }
 {
     let value = emit_alone(code, around, test)?;
     let place = next_place(code)?;
@@ -130,7 +136,8 @@ pub fn emit_tested(
     test: &Option<Box<Node>>,
     other: u32,
 ) -> Result<(), Memory>
-    ensures { OnOk result (code.new ≡ code.old ++ tested_code pos around.locals (length code.old) (optional_view test.now) (length code.old + test_size (optional_view test.now)) other) }
+    ensures { OnOk result (code.new ≡ code.old ++ tested_code pos around.locals (length code.old)
+        (optional_view test.now) (length code.old + test_size (optional_view test.now)) other) }
 {
     if let Some(test) = test {
         emit_test(code, around, pos, test, other)

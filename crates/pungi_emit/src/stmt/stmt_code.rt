@@ -33,7 +33,8 @@ fn emit_return(
     pos: Pos,
     node: &Option<Box<Node>>,
 ) -> Result<(), Memory>
-    ensures { OnOk result (code.new ≡ code.old ++ return_code around.locals (length code.old) pos (optional_view node.now)) }
+    ensures { OnOk result (code.new ≡ code.old ++ return_code around.locals (length code.old) pos
+        (optional_view node.now)) }
 {
     if let Some(node) = node {
         let value = emit_alone(code, around, node)?;
@@ -54,8 +55,10 @@ fn emit_if(
     c: &Node,
     body: &Action,
 ) -> Result<(), Memory>
-    requires plan { Begins (plan_of (length code.old) (if_only pos (value_view c.now) (action_view body.now))) plan.old.left.now }
-    ensures { OnOk result (EmitsStmt around.locals (env_of scope.now) (if_only pos (value_view c.now) (action_view body.now)) code.old code.new plan.old.left.now plan.new.left.now) }
+    requires plan { Begins (plan_of (length code.old) (if_only pos (value_view c.now) (action_view body.now)))
+        plan.old.left.now }
+    ensures { OnOk result (EmitsStmt around.locals (env_of scope.now) (if_only pos (value_view c.now)
+        (action_view body.now)) code.old code.new plan.old.left.now plan.new.left.now) }
 {
     let other = next_planned(plan);
     emit_test(code, around, pos, c, other)?;
@@ -75,8 +78,10 @@ fn emit_else(
     a: &Action,
     b: &Action,
 ) -> Result<(), Memory>
-    requires plan { Begins (plan_of (length code.old) (if_else pos (value_view c.now) (action_view a.now) (action_view b.now))) plan.old.left.now }
-    ensures { OnOk result (EmitsStmt around.locals (env_of scope.now) (if_else pos (value_view c.now) (action_view a.now) (action_view b.now)) code.old code.new plan.old.left.now plan.new.left.now) }
+    requires plan { Begins (plan_of (length code.old) (if_else pos (value_view c.now) (action_view a.now)
+        (action_view b.now))) plan.old.left.now }
+    ensures { OnOk result (EmitsStmt around.locals (env_of scope.now) (if_else pos (value_view c.now)
+        (action_view a.now) (action_view b.now)) code.old code.new plan.old.left.now plan.new.left.now) }
 {
     let other = next_planned(plan);
     let end = next_planned(plan);
@@ -98,8 +103,10 @@ fn emit_while(
     c: &Node,
     body: &Action,
 ) -> Result<(), Memory>
-    requires plan { Begins (plan_of (length code.old) (while pos (value_view c.now) (action_view body.now))) plan.old.left.now }
-    ensures { OnOk result (EmitsStmt around.locals (env_of scope.now) (while pos (value_view c.now) (action_view body.now)) code.old code.new plan.old.left.now plan.new.left.now) }
+    requires plan { Begins (plan_of (length code.old) (while pos (value_view c.now) (action_view body.now)))
+        plan.old.left.now }
+    ensures { OnOk result (EmitsStmt around.locals (env_of scope.now) (while pos (value_view c.now)
+        (action_view body.now)) code.old code.new plan.old.left.now plan.new.left.now) }
 {
     let head = next_place(code)?;
     let again = next_planned(plan);
@@ -126,8 +133,10 @@ fn emit_until(
     body: &Action,
     c: &Node,
 ) -> Result<(), Memory>
-    requires plan { Begins (plan_of (length code.old) (do_while pos (action_view body.now) (value_view c.now))) plan.old.left.now }
-    ensures { OnOk result (EmitsStmt around.locals (env_of scope.now) (do_while pos (action_view body.now) (value_view c.now)) code.old code.new plan.old.left.now plan.new.left.now) }
+    requires plan { Begins (plan_of (length code.old) (do_while pos (action_view body.now) (value_view c.now)))
+        plan.old.left.now }
+    ensures { OnOk result (EmitsStmt around.locals (env_of scope.now) (do_while pos (action_view body.now)
+        (value_view c.now)) code.old code.new plan.old.left.now plan.new.left.now) }
 {
     let go = next_planned(plan);
     let again = next_planned(plan);
@@ -159,8 +168,12 @@ fn emit_for(
     last: &Option<Box<Node>>,
     body: &Action,
 ) -> Result<(), Memory>
-    requires plan { Begins (plan_of (length code.old) (for pos (map declared_view reached.now) (optional_view first.now) (optional_view c.now) (optional_view last.now) (action_view body.now))) plan.old.left.now }
-    ensures { OnOk result (EmitsStmt around.locals (env_of scope.now) (for pos (map declared_view reached.now) (optional_view first.now) (optional_view c.now) (optional_view last.now) (action_view body.now)) code.old code.new plan.old.left.now plan.new.left.now) }
+    requires plan { Begins (plan_of (length code.old) (for pos (map declared_view reached.now)
+        (optional_view first.now) (optional_view c.now) (optional_view last.now) (action_view body.now)))
+        plan.old.left.now }
+    ensures { OnOk result (EmitsStmt around.locals (env_of scope.now) (for pos (map declared_view reached.now)
+        (optional_view first.now) (optional_view c.now) (optional_view last.now) (action_view body.now)) code.old
+        code.new plan.old.left.now plan.new.left.now) }
 {
     let again = next_planned(plan);
     let end = next_planned(plan);
@@ -190,7 +203,8 @@ fn emit_list(
     plan: &mut Plan<'_>,
 ) -> Result<(), Memory>
     requires plan { Begins (plans_of (length code.old) (actions_of (map action_view list.now))) plan.old.left.now }
-    ensures { OnOk result (EmitsList around.locals (env_of scope.now) (map action_view list.now) code.old code.new plan.old.left.now plan.new.left.now) }
+    ensures { OnOk result (EmitsList around.locals (env_of scope.now) (map action_view list.now) code.old code.new
+        plan.old.left.now plan.new.left.now) }
 {
     for action in list {
         emit_stmt(code, around, scope, plan, action)?;
@@ -210,7 +224,8 @@ fn emit_inside(
 ) -> Result<(), Memory>
     requires plan { Begins (plans_of (length code.old) (actions_of (map action_view list.now))) plan.old.left.now }
     requires own { own.now ≡ list_labels (length code.old) (map action_view list.now) }
-    ensures { OnOk result (EmitsList around.locals (in_block (env_of scope.now) (length code.old) (map action_view list.now)) (map action_view list.now) code.old code.new plan.old.left.now plan.new.left.now) }
+    ensures { OnOk result (EmitsList around.locals (in_block (env_of scope.now) (length code.old)
+        (map action_view list.now)) (map action_view list.now) code.old code.new plan.old.left.now plan.new.left.now) }
 {
     let labels = Labels::Inside(own, scope.labels);
     let inner = Scope {
@@ -232,8 +247,10 @@ fn emit_block(
     plan: &mut Plan<'_>,
     pos: Pos,
 ) -> Result<(), Memory>
-    requires plan { Begins (plan_of (length code.old) (block pos (actions_of (map action_view list.now)) nowhere)) plan.old.left.now }
-    ensures { OnOk result (EmitsStmt around.locals (env_of scope.now) (block pos (actions_of (map action_view list.now)) nowhere) code.old code.new plan.old.left.now plan.new.left.now) }
+    requires plan { Begins (plan_of (length code.old) (block pos (actions_of (map action_view list.now)) nowhere))
+        plan.old.left.now }
+    ensures { OnOk result (EmitsStmt around.locals (env_of scope.now) (block pos
+        (actions_of (map action_view list.now)) nowhere) code.old code.new plan.old.left.now plan.new.left.now) }
 {
     let own = plan_labels(around.alloc, plan, list)?;
     emit_unsets(code, pos, list)?;
@@ -256,11 +273,18 @@ fn emit_switched(
     own: &[Placed],
     end: u32,
 ) -> Result<(), Memory>
-    requires plan { Begins (plans_of (switch_from (length code.old + expr_size (value_view node.now)) (map action_view list.now)) (actions_of (map action_view list.now))) plan.old.left.now }
-    requires starts { starts.now ≡ list_starts (switch_from (length code.old + expr_size (value_view node.now)) (map action_view list.now)) (map action_view list.now) }
-    requires own { own.now ≡ list_labels (switch_from (length code.old + expr_size (value_view node.now)) (map action_view list.now)) (map action_view list.now) }
-    requires end { end ≡ switch_from (length code.old + expr_size (value_view node.now)) (map action_view list.now) + stmts_size (actions_of (map action_view list.now)) }
-    ensures { OnOk result (Emits (stmt_code around.locals (env_of scope.now) (length code.old) (switch pos (value_view node.now) (block nowhere (actions_of (map action_view list.now)) nowhere))) (plans_of (switch_from (length code.old + expr_size (value_view node.now)) (map action_view list.now)) (actions_of (map action_view list.now))) code.old code.new plan.old.left.now plan.new.left.now) }
+    requires plan { Begins (plans_of (switch_from (length code.old + expr_size (value_view node.now))
+        (map action_view list.now)) (actions_of (map action_view list.now))) plan.old.left.now }
+    requires starts { starts.now ≡ list_starts (switch_from (length code.old + expr_size (value_view node.now))
+        (map action_view list.now)) (map action_view list.now) }
+    requires own { own.now ≡ list_labels (switch_from (length code.old + expr_size (value_view node.now))
+        (map action_view list.now)) (map action_view list.now) }
+    requires end { end ≡ switch_from (length code.old + expr_size (value_view node.now)) (map action_view list.now)
+        + stmts_size (actions_of (map action_view list.now)) }
+    ensures { OnOk result (Emits (stmt_code around.locals (env_of scope.now) (length code.old)
+        (switch pos (value_view node.now) (block nowhere (actions_of (map action_view list.now)) nowhere)))
+        (plans_of (switch_from (length code.old + expr_size (value_view node.now)) (map action_view list.now))
+        (actions_of (map action_view list.now))) code.old code.new plan.old.left.now plan.new.left.now) }
 {
     let inner = Scope {
         breaks: end,
@@ -288,8 +312,11 @@ fn emit_switch(
     pos: Pos,
     node: &Node,
 ) -> Result<(), Memory>
-    requires plan { Begins (plan_of (length code.old) (switch pos (value_view node.now) (block nowhere (actions_of (map action_view list.now)) nowhere))) plan.old.left.now }
-    ensures { OnOk result (EmitsStmt around.locals (env_of scope.now) (switch pos (value_view node.now) (block nowhere (actions_of (map action_view list.now)) nowhere)) code.old code.new plan.old.left.now plan.new.left.now) }
+    requires plan { Begins (plan_of (length code.old) (switch pos (value_view node.now)
+        (block nowhere (actions_of (map action_view list.now)) nowhere))) plan.old.left.now }
+    ensures { OnOk result (EmitsStmt around.locals (env_of scope.now) (switch pos (value_view node.now)
+        (block nowhere (actions_of (map action_view list.now)) nowhere)) code.old code.new plan.old.left.now
+        plan.new.left.now) }
 {
     let end = next_planned(plan);
     let starts = planned_all(plan, list.len());
@@ -312,8 +339,12 @@ fn emit_skipped(
     node: &Node,
     body: &Action,
 ) -> Result<(), Memory>
-    requires plan { Begins (skipped_plan (length code.old + expr_size (value_view node.now)) (action_view body.now)) plan.old.left.now }
-    ensures { OnOk result (Emits (skipped_code around.locals (env_of scope.now) (length code.old) pos (value_view node.now) (action_view body.now)) (skipped_plan (length code.old + expr_size (value_view node.now)) (action_view body.now)) code.old code.new plan.old.left.now plan.new.left.now) }
+    requires plan { Begins (skipped_plan (length code.old + expr_size (value_view node.now)) (action_view body.now))
+        plan.old.left.now }
+    ensures { OnOk result (Emits (skipped_code around.locals (env_of scope.now) (length code.old) pos
+        (value_view node.now) (action_view body.now)) (skipped_plan (length code.old
+        + expr_size (value_view node.now)) (action_view body.now)) code.old code.new plan.old.left.now
+        plan.new.left.now) }
 {
     let end = next_planned(plan);
     let inner = Scope {
@@ -338,8 +369,10 @@ fn emit_choice(
     node: &Node,
     body: &Action,
 ) -> Result<(), Memory>
-    requires plan { Begins (plan_of (length code.old) (switch pos (value_view node.now) (action_view body.now))) plan.old.left.now }
-    ensures { OnOk result (EmitsStmt around.locals (env_of scope.now) (switch pos (value_view node.now) (action_view body.now)) code.old code.new plan.old.left.now plan.new.left.now) }
+    requires plan { Begins (plan_of (length code.old) (switch pos (value_view node.now) (action_view body.now)))
+        plan.old.left.now }
+    ensures { OnOk result (EmitsStmt around.locals (env_of scope.now) (switch pos (value_view node.now)
+        (action_view body.now)) code.old code.new plan.old.left.now plan.new.left.now) }
 {
     if is_block(body) {
         emit_body(code, around, body, scope, plan, pos, node)?;
@@ -361,8 +394,10 @@ fn emit_body(
     pos: Pos,
     node: &Node,
 ) -> Result<(), Memory>
-    requires plan { Begins (plan_of (length code.old) (switch pos (value_view node.now) (action_view body.now))) plan.old.left.now }
-    ensures { OnOk result (EmitsStmt around.locals (env_of scope.now) (switch pos (value_view node.now) (action_view body.now)) code.old code.new plan.old.left.now plan.new.left.now) }
+    requires plan { Begins (plan_of (length code.old) (switch pos (value_view node.now) (action_view body.now)))
+        plan.old.left.now }
+    ensures { OnOk result (EmitsStmt around.locals (env_of scope.now) (switch pos (value_view node.now)
+        (action_view body.now)) code.old code.new plan.old.left.now plan.new.left.now) }
 {
     if let ActionNode::Block(list, _) = &body.node {
         emit_switch(code, around, list, scope, plan, pos, node)?;
@@ -383,7 +418,8 @@ pub fn emit_stmt(
     action: &Action,
 ) -> Result<(), Memory>
     requires plan { Begins (plan_of (length code.old) (action_view action.now)) plan.old.left.now }
-    ensures { OnOk result (EmitsStmt around.locals (env_of scope.now) (action_view action.now) code.old code.new plan.old.left.now plan.new.left.now) }
+    ensures { OnOk result (EmitsStmt around.locals (env_of scope.now) (action_view action.now) code.old code.new
+        plan.old.left.now plan.new.left.now) }
 {
     let pos = action.pos;
     match &action.node {

@@ -46,7 +46,8 @@ fn emit_own_cases(
     place: u32,
     action: &Action,
 ) -> Result<(), Memory>
-    ensures { OnOk result (code.new ≡ code.old ++ case_code pos value outcome (length code.old) (placed_cases place (cases_of (action_view action.now)))) }
+    ensures { OnOk result (code.new ≡ code.old ++ case_code pos value outcome (length code.old)
+        (placed_cases place (cases_of (action_view action.now)))) }
 {
     match &action.node {
         ActionNode::Case(number, a) => {
@@ -84,7 +85,8 @@ pub fn emit_cases(
     starts: &[u32],
 ) -> Result<(), Memory>
     requires { length list.now ≡ length starts.now }
-    ensures { OnOk result (code.new ≡ code.old ++ case_code pos value outcome (length code.old) (cases_at (map action_view list.now) starts.now)) }
+    ensures { OnOk result (code.new ≡ code.old ++ case_code pos value outcome (length code.old)
+        (cases_at (map action_view list.now) starts.now)) }
 {
     for i in 0..list.len() {
         emit_own_cases(code, pos, value, outcome, starts[i], &list[i])?;

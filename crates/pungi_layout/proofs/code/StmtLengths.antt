@@ -1,5 +1,6 @@
 -- The instructions of a statement are as many as its size says.
-use Rattle.std.proofs.Common.{◌≡◌, ℕ, suc, ◌+◌, ◌*◌, ℤ, Bool, true, false, List, [], ◌∷◌, ◌++◌, length, Option, Some, None, refl, sym, ap, ◌∙◌, arith, length-append}
+use Rattle.std.proofs.Common.{◌≡◌, ℕ, suc, ◌+◌, ◌*◌, ℤ, Bool, true, false, List, [], ◌∷◌, ◌++◌, length, Option, Some}
+use Rattle.std.proofs.Common.{None, refl, sym, ap, ◌∙◌, arith, length-append}
 use Rattle.pungi_base.specs.declared.pos.Pos.{Pos}
 use Rattle.pungi_types.specs.declared.kind.ValueKind.{ValueKind}
 use Rattle.pungi_types.specs.Operators.{is_void}
@@ -14,8 +15,10 @@ use Rattle.pungi_code.specs.declared.instr.Instr.TheVariants.{Set, Jump, Branch,
 use Rattle.pungi_layout.specs.code.Sizes.{expr_size, option_size, declare_size, test_size, stmt_size, stmts_size}
 use Rattle.pungi_layout.specs.code.Temporaries.{temp, temp_of, operand, local_column}
 use Rattle.pungi_layout.specs.code.ExprCode.{line, to_var, var, at_label, expr_code}
-use Rattle.pungi_layout.specs.code.Scopes.{Env, everywhere, for_head, placed_cases, list_cases, in_block, in_loop, in_switch}
-use Rattle.pungi_layout.specs.code.StmtCode.{unset_code, value_code, option_code, bind_code, declare_code, test_code, tested_code, case_code, stmt_code, stmts_code, end_code, body_code}
+use Rattle.pungi_layout.specs.code.Scopes.{Env, everywhere, for_head, placed_cases, list_cases, in_block, in_loop}
+use Rattle.pungi_layout.specs.code.Scopes.{in_switch}
+use Rattle.pungi_layout.specs.code.StmtCode.{unset_code, value_code, option_code, bind_code, declare_code, test_code}
+use Rattle.pungi_layout.specs.code.StmtCode.{tested_code, case_code, stmt_code, stmts_code, end_code, body_code}
 use Rattle.pungi_layout.proofs.code.ExprLengths.{more_long, long_append, expr_long}
 
 pub unset_long : (rs : List stmt.DeclaredLocal) (p : Pos) → length (unset_code p rs) ≡ length rs
@@ -29,21 +32,29 @@ pub option_long : (o : Option expr.Value) (nl pc : ℕ) → length (option_code 
 option_long None nl pc = refl
 option_long (Some v) nl pc = value_long v nl pc
 
-pub bind_long : (o : Option expr.Value) (nl pc x : ℕ) (p : Pos) (kind : Option ValueKind) → length (bind_code nl pc p x kind o) ≡ option_size o + 1
+pub bind_long : (o : Option expr.Value) (nl pc x : ℕ) (p : Pos) (kind : Option ValueKind)
+    → length (bind_code nl pc p x kind o) ≡ option_size o + 1
 bind_long None nl pc x p kind = refl
 bind_long (Some v) nl pc x p kind =
     let y = operand nl 0 (local_column kind) v in
-    long_append (expr_code nl 0 y pc v) (line p (Set (to_var x) (var y)) ∷ []) (expr_size v) 1 (expr_long v nl 0 y pc) refl
+    long_append (expr_code nl 0 y pc v) (line p (Set (to_var x) (var y)) ∷ []) (expr_size v) 1
+    (expr_long v nl 0 y pc) refl
 
 pub declare_long : (rs : List stmt.DeclaredLocal) (nl pc : ℕ) → length (declare_code nl pc rs) ≡ declare_size rs
 declare_long [] nl pc = refl
 declare_long (r ∷ rs) nl pc =
-    long_append (bind_code nl pc r.at r.number r.kind r.value) (declare_code nl (pc + option_size r.value + 1) rs) (option_size r.value + 1) (declare_size rs) (bind_long r.value nl pc r.number r.at r.kind) (declare_long rs nl (pc + option_size r.value + 1))
+    long_append (bind_code nl pc r.at r.number r.kind r.value) (declare_code nl (pc + option_size r.value + 1) rs)
+    (option_size r.value + 1) (declare_size rs) (bind_long r.value nl pc r.number r.at r.kind)
+    (declare_long rs nl (pc + option_size r.value + 1))
 
-pub test_long : (c : expr.Value) (p : Pos) (nl pc go other : ℕ) → length (test_code p nl pc c go other) ≡ expr_size c + 1
-test_long c p nl pc go other = long_append (value_code nl pc c) (line p (Branch (var (temp_of nl 0 c)) (at_label go) (at_label other)) ∷ []) (expr_size c) 1 (value_long c nl pc) refl
+pub test_long : (c : expr.Value) (p : Pos) (nl pc go other : ℕ)
+    → length (test_code p nl pc c go other) ≡ expr_size c + 1
+test_long c p nl pc go other =
+    long_append (value_code nl pc c) (line p (Branch (var (temp_of nl 0 c)) (at_label go) (at_label other)) ∷ [])
+    (expr_size c) 1 (value_long c nl pc) refl
 
-pub tested_long : (o : Option expr.Value) (p : Pos) (nl pc go other : ℕ) → length (tested_code p nl pc o go other) ≡ test_size o
+pub tested_long : (o : Option expr.Value) (p : Pos) (nl pc go other : ℕ)
+    → length (tested_code p nl pc o go other) ≡ test_size o
 tested_long None p nl pc go other = refl
 tested_long (Some c) p nl pc go other = test_long c p nl pc go other
 
@@ -85,24 +96,32 @@ mutual
   stmt_long (stmt.block p ss q) nl env pc =
       let own = block_locals (listed ss) in
       let from = pc + length own in
-      long_append (unset_code p own) (stmts_code nl (in_block env from (listed ss)) from ss) (length own) (stmts_size ss) (unset_long own p) (stmts_long ss nl (in_block env from (listed ss)) from)
+      long_append (unset_code p own) (stmts_code nl (in_block env from (listed ss)) from ss) (length own)
+      (stmts_size ss) (unset_long own p) (stmts_long ss nl (in_block env from (listed ss)) from)
   stmt_long (stmt.declare p rs) nl env pc = declare_long rs nl pc
   stmt_long (stmt.do_expr p v) nl env pc = option_long v nl pc
   stmt_long (stmt.if_only p c a) nl env pc =
-      long_append (test_code p nl pc c (pc + expr_size c + 1) (pc + expr_size c + 1 + stmt_size a)) (stmt_code nl env (pc + expr_size c + 1) a) (expr_size c + 1) (stmt_size a) (test_long c p nl pc (pc + expr_size c + 1) (pc + expr_size c + 1 + stmt_size a)) (stmt_long a nl env (pc + expr_size c + 1))
+      long_append (test_code p nl pc c (pc + expr_size c + 1) (pc + expr_size c + 1 + stmt_size a))
+      (stmt_code nl env (pc + expr_size c + 1) a) (expr_size c + 1) (stmt_size a)
+      (test_long c p nl pc (pc + expr_size c + 1) (pc + expr_size c + 1 + stmt_size a))
+      (stmt_long a nl env (pc + expr_size c + 1))
   stmt_long (stmt.if_else p c a b) nl env pc =
       let pa = pc + expr_size c + 1 in
       let pb = pa + stmt_size a + 1 in
       let jump = line p (Jump (at_label (pb + stmt_size b))) in
-      long_append (test_code p nl pc c pa pb) (stmt_code nl env pa a ++ jump ∷ stmt_code nl env pb b) (expr_size c + 1) (stmt_size a + (1 + stmt_size b)) (test_long c p nl pc pa pb)
-      (long_append (stmt_code nl env pa a) (jump ∷ stmt_code nl env pb b) (stmt_size a) (1 + stmt_size b) (stmt_long a nl env pa) (more_long _ _ (stmt_long b nl env pb)))
+      long_append (test_code p nl pc c pa pb) (stmt_code nl env pa a ++ jump ∷ stmt_code nl env pb b)
+      (expr_size c + 1) (stmt_size a + (1 + stmt_size b)) (test_long c p nl pc pa pb)
+      (long_append (stmt_code nl env pa a) (jump ∷ stmt_code nl env pb b) (stmt_size a) (1 + stmt_size b)
+      (stmt_long a nl env pa) (more_long _ _ (stmt_long b nl env pb)))
       ∙ else_sum (expr_size c) (stmt_size a) (stmt_size b)
   stmt_long (stmt.while p c a) nl env pc =
       let go = pc + (expr_size c + 1) in
       let end = go + stmt_size a + 0 + 1 in
       let inner = in_loop env (go + stmt_size a) end in
-      long_append (test_code p nl pc c go end) (stmt_code nl inner go a ++ line p (Jump (at_label pc)) ∷ []) (expr_size c + 1) (stmt_size a + 1) (test_long c p nl pc go end)
-      (long_append (stmt_code nl inner go a) (line p (Jump (at_label pc)) ∷ []) (stmt_size a) 1 (stmt_long a nl inner go) refl)
+      long_append (test_code p nl pc c go end) (stmt_code nl inner go a ++ line p (Jump (at_label pc)) ∷ [])
+      (expr_size c + 1) (stmt_size a + 1) (test_long c p nl pc go end)
+      (long_append (stmt_code nl inner go a) (line p (Jump (at_label pc)) ∷ []) (stmt_size a) 1
+      (stmt_long a nl inner go) refl)
       ∙ while_sum (expr_size c) (stmt_size a)
   stmt_long (stmt.do_while p a c) nl env pc =
       let head = pc + 1 in
@@ -110,8 +129,10 @@ mutual
       let end = go + stmt_size a + 0 + 1 in
       let inner = in_loop env (go + stmt_size a) end in
       more_long _ _
-      (long_append (test_code p nl head c go end) (stmt_code nl inner go a ++ line p (Jump (at_label head)) ∷ []) (expr_size c + 1) (stmt_size a + 1) (test_long c p nl head go end)
-      (long_append (stmt_code nl inner go a) (line p (Jump (at_label head)) ∷ []) (stmt_size a) 1 (stmt_long a nl inner go) refl))
+      (long_append (test_code p nl head c go end) (stmt_code nl inner go a ++ line p (Jump (at_label head)) ∷ [])
+      (expr_size c + 1) (stmt_size a + 1) (test_long c p nl head go end)
+      (long_append (stmt_code nl inner go a) (line p (Jump (at_label head)) ∷ []) (stmt_size a) 1
+      (stmt_long a nl inner go) refl))
       ∙ until_sum (expr_size c) (stmt_size a)
   stmt_long (stmt.for p rs u c w a) nl env pc =
       let head = for_head pc rs u in
@@ -120,10 +141,14 @@ mutual
       let end = again + option_size w + 1 in
       let inner = in_loop env again end in
       let jump = line p (Jump (at_label head)) in
-      long_append (unset_code p rs) _ (length rs) (declare_size rs + (option_size u + (test_size c + (stmt_size a + (option_size w + 1))))) (unset_long rs p)
-      (long_append (declare_code nl (pc + length rs) rs) _ (declare_size rs) (option_size u + (test_size c + (stmt_size a + (option_size w + 1)))) (declare_long rs nl (pc + length rs))
-      (long_append (option_code nl (pc + length rs + declare_size rs) u) _ (option_size u) (test_size c + (stmt_size a + (option_size w + 1))) (option_long u nl (pc + length rs + declare_size rs))
-      (long_append (tested_code p nl head c go end) _ (test_size c) (stmt_size a + (option_size w + 1)) (tested_long c p nl head go end)
+      long_append (unset_code p rs) _ (length rs) (declare_size rs
+      + (option_size u + (test_size c + (stmt_size a + (option_size w + 1))))) (unset_long rs p)
+      (long_append (declare_code nl (pc + length rs) rs) _ (declare_size rs)
+      (option_size u + (test_size c + (stmt_size a + (option_size w + 1)))) (declare_long rs nl (pc + length rs))
+      (long_append (option_code nl (pc + length rs + declare_size rs) u) _ (option_size u)
+      (test_size c + (stmt_size a + (option_size w + 1))) (option_long u nl (pc + length rs + declare_size rs))
+      (long_append (tested_code p nl head c go end) _ (test_size c) (stmt_size a + (option_size w + 1))
+      (tested_long c p nl head go end)
       (long_append (stmt_code nl inner go a) _ (stmt_size a) (option_size w + 1) (stmt_long a nl inner go)
       (long_append (option_code nl again w) (jump ∷ []) (option_size w) 1 (option_long w nl again) refl)))))
       ∙ for_sum (length rs) (declare_size rs) (option_size u) (test_size c) (stmt_size a) (option_size w)
@@ -136,14 +161,18 @@ mutual
       let cs = list_cases from (listed ss) in
       let at = pc + expr_size v + count in
       let n = 2 * length (block_cases (listed ss)) in
-      let lc : length (case_code p (temp_of nl 0 v) (temp nl 1 0) at cs) ≡ n = case_long cs p (temp_of nl 0 v) (temp nl 1 0) at ∙ ap (λ x. 2 * x) (cases_long (listed ss) from) in
+      let lc : length (case_code p (temp_of nl 0 v) (temp nl 1 0) at cs)
+      ≡ n = case_long cs p (temp_of nl 0 v) (temp nl 1 0) at ∙ ap (λ x. 2 * x) (cases_long (listed ss) from) in
       long_append (value_code nl pc v) _ (expr_size v) (count + (n + (1 + stmts_size ss))) (value_long v nl pc)
       (long_append (unset_code p own) _ count (n + (1 + stmts_size ss)) (unset_long own p)
-      (long_append (case_code p (temp_of nl 0 v) (temp nl 1 0) at cs) (_ ∷ stmts_code nl inner from ss) n (1 + stmts_size ss) lc (more_long _ _ (stmts_long ss nl inner from))))
+      (long_append (case_code p (temp_of nl 0 v) (temp nl 1 0) at cs) (_ ∷ stmts_code nl inner from ss) n
+      (1 + stmts_size ss) lc (more_long _ _ (stmts_long ss nl inner from))))
       ∙ switch_sum (expr_size v) count n (stmts_size ss)
   stmt_long (stmt.switch p v a) nl env pc =
       let end = pc + expr_size v + 1 + stmt_size a in
-      long_append (value_code nl pc v) (line p (Jump (at_label end)) ∷ stmt_code nl (in_switch env end) (pc + expr_size v + 1) a) (expr_size v) (1 + stmt_size a) (value_long v nl pc) (more_long _ _ (stmt_long a nl (in_switch env end) (pc + expr_size v + 1)))
+      long_append (value_code nl pc v) (line p (Jump (at_label end))
+      ∷ stmt_code nl (in_switch env end) (pc + expr_size v + 1) a) (expr_size v) (1 + stmt_size a)
+      (value_long v nl pc) (more_long _ _ (stmt_long a nl (in_switch env end) (pc + expr_size v + 1)))
   stmt_long (stmt.case p n a) nl env pc = stmt_long a nl env pc
   stmt_long (stmt.default p a) nl env pc = stmt_long a nl env pc
   stmt_long (stmt.label p l a) nl env pc = stmt_long a nl env pc
@@ -151,12 +180,14 @@ mutual
   stmt_long (stmt.break p) nl env pc = refl
   stmt_long (stmt.continue p) nl env pc = refl
   stmt_long (stmt.return p None) nl env pc = refl
-  stmt_long (stmt.return p (Some v)) nl env pc = long_append (value_code nl pc v) (line p (Return (Some (var (temp_of nl 0 v)))) ∷ []) (expr_size v) 1 (value_long v nl pc) refl
+  stmt_long (stmt.return p (Some v)) nl env pc = long_append (value_code nl pc v)
+      (line p (Return (Some (var (temp_of nl 0 v)))) ∷ []) (expr_size v) 1 (value_long v nl pc) refl
 
   pub stmts_long : (ss : stmt.Actions) (nl : ℕ) (env : Env) (pc : ℕ) → length (stmts_code nl env pc ss) ≡ stmts_size ss
   stmts_long stmt.no_actions nl env pc = refl
   stmts_long (stmt.action_and a ss) nl env pc =
-      long_append (stmt_code nl env pc a) (stmts_code nl env (pc + stmt_size a) ss) (stmt_size a) (stmts_size ss) (stmt_long a nl env pc) (stmts_long ss nl env (pc + stmt_size a))
+      long_append (stmt_code nl env pc a) (stmts_code nl env (pc + stmt_size a) ss) (stmt_size a) (stmts_size ss)
+      (stmt_long a nl env pc) (stmts_long ss nl env (pc + stmt_size a))
 
 -- ---- a function
 
@@ -167,5 +198,6 @@ end-long p false = refl
 -- the code of a function is its statement and one instruction more
 pub body-long : (f : ResolvedFunction) → length (body_code f) ≡ stmt_size f.body + 1
 body-long f =
-    long_append (stmt_code f.locals (everywhere (stmt_size f.body)) 0 f.body) (end_code (closing_brace f.body) (is_void f.result)) (stmt_size f.body) 1
+    long_append (stmt_code f.locals (everywhere (stmt_size f.body)) 0 f.body)
+    (end_code (closing_brace f.body) (is_void f.result)) (stmt_size f.body) 1
     (stmt_long f.body f.locals (everywhere (stmt_size f.body)) 0) (end-long (closing_brace f.body) (is_void f.result))

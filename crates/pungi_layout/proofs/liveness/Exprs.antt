@@ -1,5 +1,6 @@
 -- The instructions of an expression read no temporary that they did not write before.
-use Rattle.std.proofs.Common.{◌≡◌, inl, inr, ℕ, ◌+◌, List, [], ◌∷◌, ◌++◌, length, map, Some, None, refl, sym, subst, arith, Bool, true, false, not, if◌then◌else◌}
+use Rattle.std.proofs.Common.{◌≡◌, inl, inr, ℕ, ◌+◌, List, [], ◌∷◌, ◌++◌, length, map, Some, None, refl, sym, subst}
+use Rattle.std.proofs.Common.{arith, Bool, true, false, not, if◌then◌else◌}
 use Rattle.std.specs.Prelude.{slice_get}
 use Rattle.pungi_base.specs.declared.kind.Kind.{Kind}
 use Rattle.pungi_base.specs.declared.pos.Pos.{Pos}
@@ -18,7 +19,9 @@ use Rattle.pungi_code.specs.declared.instr.Instr.TheVariants.{Set, Fit, Api}
 use Rattle.pungi_layout.specs.code.Parts.{is_minus, gives, gives_answer}
 use Rattle.pungi_layout.specs.code.Sizes.{expr_size, place_size, values_size, fit_size, store_size, sign_size}
 use Rattle.pungi_layout.specs.code.Temporaries.{column, temp, value_column, temp_of, operand, tail, arg_var, arg_vars}
-use Rattle.pungi_layout.specs.code.ExprCode.{line, to_var, var, bit, branch_on, fit_code, old_code, store_code, above, stored_var, counted_var, base_var, sign_code, sign_var, step_code, expr_code, base_code, args_code}
+use Rattle.pungi_layout.specs.code.ExprCode.{line, to_var, var, bit, branch_on, fit_code, old_code, store_code, above}
+use Rattle.pungi_layout.specs.code.ExprCode.{stored_var, counted_var, base_var, sign_code, sign_var, step_code}
+use Rattle.pungi_layout.specs.code.ExprCode.{expr_code, base_code, args_code}
 use Rattle.pungi_layout.specs.code.Sound.{IsSound, IsPlaceSound, AreSound}
 use Rattle.pungi_layout.specs.liveness.Liveness.{atom_vars, atoms_vars, Among, AreKnown, WritesFirst}
 use Rattle.pungi_layout.proofs.relation.Relation.{is_same}
@@ -67,7 +70,8 @@ within_fitted : (same : Bool) (s : ℕ) (ws : List ℕ) → Within ws (fitted sa
 within_fitted true s ws = within_all ws
 within_fitted false s ws = within_more ws ws s (within_all ws)
 
-base_fitted : (place : expr.Place) (b : ℕ) (same : Bool) (s : ℕ) (ws : List ℕ) → HasBase place b ws → HasBase place b (fitted same s ws)
+base_fitted : (place : expr.Place) (b : ℕ) (same : Bool) (s : ℕ) (ws : List ℕ) → HasBase place b ws
+    → HasBase place b (fitted same s ws)
 base_fitted place b true s ws h = h
 base_fitted place b false s ws h = base_more place b s ws h
 
@@ -87,13 +91,18 @@ within_argued : (nl d : ℕ) (ps : List Param) (vs : expr.Values) (ws : List ℕ
 within_argued nl d ps expr.no_values ws = within_all ws
 within_argued nl d ps (expr.value_and v vs) ws =
     let us = arg_var nl d ps v ∷ ws in
-    within_trans ws us (argued nl (d + 1) (tail ps) vs us) (within_more ws ws (arg_var nl d ps v) (within_all ws)) (within_argued nl (d + 1) (tail ps) vs us)
+    within_trans ws us (argued nl (d + 1) (tail ps) vs us) (within_more ws ws (arg_var nl d ps v) (within_all ws))
+    (within_argued nl (d + 1) (tail ps) vs us)
 
-args_known : (nl d : ℕ) (ps : List Param) (vs : expr.Values) (ws : List ℕ) → AreKnown nl (argued nl d ps vs ws) (atoms_vars (map var (arg_vars nl d ps (listed_values vs))))
+args_known : (nl d : ℕ) (ps : List Param) (vs : expr.Values) (ws : List ℕ)
+    → AreKnown nl (argued nl d ps vs ws) (atoms_vars (map var (arg_vars nl d ps (listed_values vs))))
 args_known nl d ps expr.no_values ws = tt
 args_known nl d ps (expr.value_and v vs) ws =
-    let us = arg_var nl d ps v ∷ ws in
-    (inr (within_argued nl (d + 1) (tail ps) vs us (arg_var nl d ps v) (inl refl)), args_known nl (d + 1) (tail ps) vs us)
+    let us = arg_var nl d ps v ∷ ws in (
+      inr (within_argued nl (d + 1) (tail ps) vs us (arg_var nl d ps v) (inl refl)),
+      args_known nl (d + 1) (tail ps)
+          vs us,
+    )
 
 within_left : (b : Bool) (t : ℕ) (ws vs : List ℕ) → Within ws vs → Within (left b t ws) (left b t vs)
 within_left true t ws vs h = within_both ws vs t h
@@ -109,9 +118,11 @@ module _ (code : List Line) (nl : ℕ) where
 
   -- after another that was written
   under : (n pc : ℕ) (ws : List ℕ) (t a : ℕ) → WritesFirst code nl n pc (t ∷ ws) → WritesFirst code nl n pc (t ∷ a ∷ ws)
-  under n pc ws t a h = more code nl n pc (t ∷ ws) (t ∷ a ∷ ws) (within_both ws (a ∷ ws) t (within_more ws ws a (within_all ws))) h
+  under n pc ws t a h = more code nl n pc (t ∷ ws) (t ∷ a
+      ∷ ws) (within_both ws (a ∷ ws) t (within_more ws ws a (within_all ws))) h
 
-  pub given : (b : Bool) (n pc t : ℕ) (ws : List ℕ) → b ≡ true → WritesFirst code nl n pc (t ∷ ws) → WritesFirst code nl n pc (left b t ws)
+  pub given : (b : Bool) (n pc t : ℕ) (ws : List ℕ) → b ≡ true → WritesFirst code nl n pc (t ∷ ws)
+      → WritesFirst code nl n pc (left b t ws)
   given b n pc t ws e h = subst (λ x. WritesFirst code nl n pc (left x t ws)) (sym e) h
 
   pub moved : (n a b : ℕ) (ws : List ℕ) → a ≡ b → WritesFirst code nl n a ws → WritesFirst code nl n b ws
@@ -119,27 +130,39 @@ module _ (code : List Line) (nl : ℕ) where
 
   -- ---- single instructions
 
-  set_first : (n pc : ℕ) (ws : List ℕ) (p : Pos) (t : ℕ) (a : Atom) → slice_get code pc ≡ Some (line p (Set (to_var t) a)) → AreKnown nl ws (atom_vars a) → WritesFirst code nl n (pc + 1) (t ∷ ws) → WritesFirst code nl n pc ws
+  set_first : (n pc : ℕ) (ws : List ℕ) (p : Pos) (t : ℕ) (a : Atom)
+      → slice_get code pc ≡ Some (line p (Set (to_var t) a)) → AreKnown nl ws (atom_vars a)
+      → WritesFirst code nl n (pc + 1) (t ∷ ws) → WritesFirst code nl n pc ws
   set_first n pc ws p t a here known next = by_line code nl n pc ws (line p (Set (to_var t) a)) here known (next, tt)
 
-  bit_first : (n pc : ℕ) (ws : List ℕ) (p : Pos) (t : ℕ) (b : Bool) → slice_get code pc ≡ Some (line p (Set (to_var t) (bit b))) → WritesFirst code nl n (pc + 1) (t ∷ ws) → WritesFirst code nl n pc ws
-  bit_first n pc ws p t b here next = set_first n pc ws p t (bit b) here (subst (AreKnown nl ws) (sym (bit_vars b)) tt) next
+  bit_first : (n pc : ℕ) (ws : List ℕ) (p : Pos) (t : ℕ) (b : Bool)
+      → slice_get code pc ≡ Some (line p (Set (to_var t) (bit b))) → WritesFirst code nl n (pc + 1) (t ∷ ws)
+      → WritesFirst code nl n pc ws
+  bit_first n pc ws p t b here next = set_first n pc ws p t (bit b) here
+      (subst (AreKnown nl ws) (sym (bit_vars b)) tt) next
 
   -- ---- places
 
-  old_first : (n pc : ℕ) (ws : List ℕ) (kind : ValueKind) (place : expr.Place) (t b : ℕ) → IsPlaceSound nl place → HasBase place b ws → HasAt code pc (old_code kind place t b) → WritesFirst code nl n (pc + 1) (t ∷ ws) → WritesFirst code nl n pc ws
+  old_first : (n pc : ℕ) (ws : List ℕ) (kind : ValueKind) (place : expr.Place) (t b : ℕ) → IsPlaceSound nl place
+      → HasBase place b ws → HasAt code pc (old_code kind place t b) → WritesFirst code nl n (pc + 1) (t ∷ ws)
+      → WritesFirst code nl n pc ws
   old_first n pc ws kind (expr.local_place p x) t b s k h next = by_line code nl n pc ws _ h.0 (inl s, tt) (next, tt)
   old_first n pc ws kind (expr.global_place p m) t b s k h next = by_line code nl n pc ws _ h.0 tt (next, tt)
-  old_first n pc ws kind (expr.field_place p base tag field) t b s k h next = by_line code nl n pc ws _ h.0 (inr k, tt) (next, tt)
+  old_first n pc ws kind (expr.field_place p base tag field) t b s k h next = by_line code nl n pc ws _ h.0
+      (inr k, tt) (next, tt)
   old_first n pc ws kind expr.no_place t b s k h next = absurd s
 
   -- a stored value stands in the variable of the whole afterwards
-  copy_first : (n pc : ℕ) (ws : List ℕ) (p : Pos) (t v : ℕ) → Among v ws → slice_get code (pc + 1) ≡ Some (line p (Set (to_var t) (var v))) → WritesFirst code nl n (pc + 2) (t ∷ ws) → WritesFirst code nl n (pc + 1) ws
+  copy_first : (n pc : ℕ) (ws : List ℕ) (p : Pos) (t v : ℕ) → Among v ws
+      → slice_get code (pc + 1) ≡ Some (line p (Set (to_var t) (var v))) → WritesFirst code nl n (pc + 2) (t ∷ ws)
+      → WritesFirst code nl n (pc + 1) ws
   copy_first n pc ws p t v m here next =
       let e : pc + 2 ≡ pc + 1 + 1 = omega arith in
       set_first n (pc + 1) ws p t (var v) here (inr m, tt) (moved n (pc + 2) (pc + 1 + 1) (t ∷ ws) e next)
 
-  store_first : (n pc : ℕ) (ws : List ℕ) (kind : ValueKind) (place : expr.Place) (t b v : ℕ) → IsPlaceSound nl place → HasBase place b ws → Among v ws → HasAt code pc (store_code kind place t b v) → WritesFirst code nl n (pc + store_size) (t ∷ ws) → WritesFirst code nl n pc ws
+  store_first : (n pc : ℕ) (ws : List ℕ) (kind : ValueKind) (place : expr.Place) (t b v : ℕ) → IsPlaceSound nl place
+      → HasBase place b ws → Among v ws → HasAt code pc (store_code kind place t b v)
+      → WritesFirst code nl n (pc + store_size) (t ∷ ws) → WritesFirst code nl n pc ws
   store_first n pc ws kind (expr.local_place p x) t b v s k m h next =
       by_line code nl n pc ws _ h.0 (inr m, tt) (one_more n (pc + 1) ws x (copy_first n pc ws p t v m h.1.0 next), tt)
   store_first n pc ws kind (expr.global_place p g) t b v s k m h next =
@@ -148,41 +171,71 @@ module _ (code : List Line) (nl : ℕ) where
       by_line code nl n pc ws _ h.0 (inr k, (inr m, tt)) (copy_first n pc ws p t v m h.1.0 next, tt)
   store_first n pc ws kind expr.no_place t b v s k m h next = absurd s
 
-  fit_first : (same : Bool) (n pc : ℕ) (ws : List ℕ) (p : Pos) (kind : ValueKind) (s x : ℕ) → Among (if same then s else x) ws → HasAt code pc (if same then [] else line p (Fit (to_var s) kind (var (if same then s else x))) ∷ []) → WritesFirst code nl n (pc + (if same then 0 else 1)) (fitted same s ws) → WritesFirst code nl n pc ws
+  fit_first : (same : Bool) (n pc : ℕ) (ws : List ℕ) (p : Pos) (kind : ValueKind) (s x : ℕ)
+      → Among (if same then s else x) ws → HasAt code pc (if same then [] else line p
+      (Fit (to_var s) kind (var (if same then s else x))) ∷ [])
+      → WritesFirst code nl n (pc + (if same then 0 else 1)) (fitted same s ws) → WritesFirst code nl n pc ws
   fit_first true n pc ws p kind s x m h next = let e : pc + 0 ≡ pc = omega arith in moved n (pc + 0) pc ws e next
   fit_first false n pc ws p kind s x m h next = by_line code nl n pc ws _ h.0 (inr m, tt) (next, tt)
 
-  put_first : (n pc : ℕ) (ws : List ℕ) (p : Pos) (kind counted : ValueKind) (place : expr.Place) (d t b : ℕ) → IsPlaceSound nl place → HasBase place b ws → Among (counted_var nl place d kind counted) ws → HasAt code pc (fit_code p kind counted (stored_var nl place d kind) (counted_var nl place d kind counted) ++ store_code kind place t b (stored_var nl place d kind)) → WritesFirst code nl n (pc + (fit_size kind counted + store_size)) (t ∷ ws) → WritesFirst code nl n pc ws
+  put_first : (n pc : ℕ) (ws : List ℕ) (p : Pos) (kind counted : ValueKind) (place : expr.Place) (d t b : ℕ)
+      → IsPlaceSound nl place → HasBase place b ws → Among (counted_var nl place d kind counted) ws
+      → HasAt code pc (fit_code p kind counted (stored_var nl place d kind) (counted_var nl place d kind counted)
+      ++ store_code kind place t b (stored_var nl place d kind))
+      → WritesFirst code nl n (pc + (fit_size kind counted + store_size)) (t ∷ ws) → WritesFirst code nl n pc ws
   put_first n pc ws p kind counted place d t b s k m h next =
       let same = is_same kind counted in
       let v = stored_var nl place d kind in
       let x = temp nl (above place d) (column counted) in
-      let g = has_cut code pc (fit_size kind counted) (fit_code p kind counted v (counted_var nl place d kind counted)) (store_code kind place t b v) (fit_long same (line p (Fit (to_var v) kind (var (counted_var nl place d kind counted))))) h in
+      let g = has_cut code pc (fit_size kind counted) (fit_code p kind counted v
+      (counted_var nl place d kind counted)) (store_code kind place t b v) (fit_long same
+      (line p (Fit (to_var v) kind (var (counted_var nl place d kind counted))))) h in
       let e : pc + (fit_size kind counted + store_size) ≡ pc + fit_size kind counted + store_size = omega arith in
-      let next' = more code nl n _ (t ∷ ws) (t ∷ fitted same v ws) (within_both ws (fitted same v ws) t (within_fitted same v ws)) (moved n _ _ (t ∷ ws) e next) in
-      fit_first same n pc ws p kind v x m g.0 (store_first n (pc + fit_size kind counted) (fitted same v ws) kind place t b v s (base_fitted place b same v ws k) (among_fitted same v x ws m) g.1 next')
+      let next' = more code nl n _ (t ∷ ws) (t ∷ fitted same v ws) (within_both ws (fitted same v ws) t
+      (within_fitted same v ws)) (moved n _ _ (t ∷ ws) e next) in
+      fit_first same n pc ws p kind v x m g.0 (store_first n (pc + fit_size kind counted) (fitted same v ws) kind
+      place t b v s (base_fitted place b same v ws k) (among_fitted same v x ws m) g.1 next')
 
   -- `++` and `--`, once the old content is there
-  step_first : (n pc : ℕ) (ws : List ℕ) (p : Pos) (m : Kind) (kind : ValueKind) (place : expr.Place) (d t : ℕ) → IsPlaceSound nl place → HasBase place (base_var nl place d) ws → Among (temp nl (above place d) (column kind)) ws → HasAt code pc (step_code nl d t p m kind place) → WritesFirst code nl n (pc + 1 + (fit_size kind (wide kind) + store_size)) (t ∷ ws) → WritesFirst code nl n pc ws
+  step_first : (n pc : ℕ) (ws : List ℕ) (p : Pos) (m : Kind) (kind : ValueKind) (place : expr.Place) (d t : ℕ)
+      → IsPlaceSound nl place → HasBase place (base_var nl place d) ws
+      → Among (temp nl (above place d) (column kind)) ws → HasAt code pc (step_code nl d t p m kind place)
+      → WritesFirst code nl n (pc + 1 + (fit_size kind (wide kind) + store_size)) (t ∷ ws)
+      → WritesFirst code nl n pc ws
   step_first n pc ws p m kind place d t s k o h next =
       let c = counted_var nl place d kind (wide kind) in
-      by_line code nl n pc ws _ h.0 (inr o, tt)
-      (put_first n (pc + 1) (c ∷ ws) p kind (wide kind) place d t (base_var nl place d) s (base_more place (base_var nl place d) c ws k) (inl refl) h.1 (under n _ ws t c next), tt)
+      by_line code nl n pc ws _ h.0 (inr o, tt) (
+        put_first n (pc + 1) (c ∷ ws) p kind (wide kind) place d t (base_var nl place d) s
+            (base_more place (base_var nl place d) c ws k) (inl refl) h.1 (under n _ ws t c next),
+        tt,
+      )
 
-  branch_first : (on : Bool) (n pc : ℕ) (ws : List ℕ) (p : Pos) (x go other : ℕ) → slice_get code pc ≡ Some (line p (branch_on on x go other)) → Among x ws → WritesFirst code nl n go ws → WritesFirst code nl n other ws → WritesFirst code nl n pc ws
-  branch_first true n pc ws p x go other here m this that = by_line code nl n pc ws _ here (inr m, tt) (this, (that, tt))
-  branch_first false n pc ws p x go other here m this that = by_line code nl n pc ws _ here (inr m, tt) (that, (this, tt))
+  branch_first : (on : Bool) (n pc : ℕ) (ws : List ℕ) (p : Pos) (x go other : ℕ)
+      → slice_get code pc ≡ Some (line p (branch_on on x go other)) → Among x ws → WritesFirst code nl n go ws
+      → WritesFirst code nl n other ws → WritesFirst code nl n pc ws
+  branch_first true n pc ws p x go other here m this that = by_line code nl n pc ws _ here (inr m, tt)
+      (this, (that, tt))
+  branch_first false n pc ws p x go other here m this that = by_line code nl n pc ws _ here (inr m, tt)
+      (that, (this, tt))
 
-  answer_first : (b : Bool) (n pc : ℕ) (ws : List ℕ) (p : Pos) (t : ℕ) (row : Row) (as' : List Atom) → slice_get code pc ≡ Some (line p (Api (if b then Some (to_var t) else None) (shape_of row) as' [])) → AreKnown nl ws (atoms_vars as') → WritesFirst code nl n (pc + 1) (left b t ws) → WritesFirst code nl n pc ws
+  answer_first : (b : Bool) (n pc : ℕ) (ws : List ℕ) (p : Pos) (t : ℕ) (row : Row) (as' : List Atom)
+      → slice_get code pc ≡ Some (line p (Api (if b then Some (to_var t) else None) (shape_of row) as' []))
+      → AreKnown nl ws (atoms_vars as') → WritesFirst code nl n (pc + 1) (left b t ws) → WritesFirst code nl n pc ws
   answer_first true n pc ws p t row as' here known next = by_line code nl n pc ws _ here known (next, tt)
   answer_first false n pc ws p t row as' here known next = by_line code nl n pc ws _ here known (next, tt)
 
-  sign_first : (minus : Bool) (p : Pos) (kind : ValueKind) (v : expr.Value) (d t pc n : ℕ) (ws : List ℕ) → ((t' : ℕ) → length (expr_code nl d t' pc v) ≡ expr_size v) → ((t' : ℕ) → HasAt code pc (expr_code nl d t' pc v) → WritesFirst code nl n (pc + expr_size v) (t' ∷ ws) → WritesFirst code nl n pc ws) → HasAt code pc (expr_code nl d (sign_var minus t (temp_of nl d v)) pc v ++ sign_code minus p kind t (temp_of nl d v)) → WritesFirst code nl n (pc + (expr_size v + sign_size minus)) (t ∷ ws) → WritesFirst code nl n pc ws
+  sign_first : (minus : Bool) (p : Pos) (kind : ValueKind) (v : expr.Value) (d t pc n : ℕ) (ws : List ℕ)
+      → ((t' : ℕ) → length (expr_code nl d t' pc v) ≡ expr_size v)
+      → ((t' : ℕ) → HasAt code pc (expr_code nl d t' pc v) → WritesFirst code nl n (pc + expr_size v) (t' ∷ ws)
+      → WritesFirst code nl n pc ws) → HasAt code pc (expr_code nl d (sign_var minus t (temp_of nl d v)) pc v
+      ++ sign_code minus p kind t (temp_of nl d v))
+      → WritesFirst code nl n (pc + (expr_size v + sign_size minus)) (t ∷ ws) → WritesFirst code nl n pc ws
   sign_first true p kind v d t pc n ws long part h next =
       let x = temp_of nl d v in
       let g = has_cut code pc (expr_size v) (expr_code nl d x pc v) _ (long x) h in
       let e : pc + (expr_size v + 1) ≡ pc + expr_size v + 1 = omega arith in
-      part x g.0 (by_line code nl n (pc + expr_size v) (x ∷ ws) _ g.1.0 (inr (inl refl), tt) (under n _ ws t x (moved n _ _ (t ∷ ws) e next), tt))
+      part x g.0 (by_line code nl n (pc + expr_size v) (x ∷ ws) _ g.1.0 (inr (inl refl), tt)
+      (under n _ ws t x (moved n _ _ (t ∷ ws) e next), tt))
   sign_first false p kind v d t pc n ws long part h next =
       let e : pc + (expr_size v + 0) ≡ pc + expr_size v = omega arith in
       part t (has_front code pc (expr_code nl d t pc v) [] h) (moved n _ _ (t ∷ ws) e next)
@@ -190,7 +243,9 @@ module _ (code : List Line) (nl : ℕ) where
   -- ---- expressions
 
   mutual
-    pub expr_first : (v : expr.Value) (d t pc n : ℕ) (ws : List ℕ) → IsSound nl v → HasAt code pc (expr_code nl d t pc v) → WritesFirst code nl n (pc + expr_size v) (left (gives v) t ws) → WritesFirst code nl n pc ws
+    pub expr_first : (v : expr.Value) (d t pc n : ℕ) (ws : List ℕ) → IsSound nl v
+        → HasAt code pc (expr_code nl d t pc v) → WritesFirst code nl n (pc + expr_size v) (left (gives v) t ws)
+        → WritesFirst code nl n pc ws
     expr_first (expr.constant p m) d t pc n ws s h next = set_first n pc ws p t (atom.Int m) h.0 tt next
     expr_first (expr.text_of p ns) d t pc n ws s h next = set_first n pc ws p t atom.Text h.0 tt next
     expr_first (expr.null_of p) d t pc n ws s h next = set_first n pc ws p t atom.Null h.0 tt next
@@ -200,23 +255,32 @@ module _ (code : List Line) (nl : ℕ) where
         let b = base_var nl place d in
         let g = has_cut code pc (place_size place) (base_code nl d pc place) _ (base_long place nl d pc) h in
         let e : pc + (place_size place + 1) ≡ pc + place_size place + 1 = omega arith in
-        let next' = more code nl n _ (t ∷ ws) (t ∷ based place b ws) (within_both ws (based place b ws) t (within_based place b ws)) (moved n _ _ (t ∷ ws) e next) in
-        base_first place d pc n ws s g.0 (old_first n (pc + place_size place) (based place b ws) kind place t b s (has_based place b ws) g.1 next')
+        let next' = more code nl n _ (t ∷ ws) (t ∷ based place b ws) (within_both ws (based place b ws) t
+        (within_based place b ws)) (moved n _ _ (t ∷ ws) e next) in
+        base_first place d pc n ws s g.0 (old_first n (pc + place_size place) (based place b ws) kind place t b s
+        (has_based place b ws) g.1 next')
     expr_first (expr.inner p v) d t pc n ws s h next = expr_first v d t pc n ws s h next
     expr_first (expr.signed p m kind v) d t pc n ws s h next =
-        sign_first (is_minus m) p kind v d t pc n ws (λ t'. expr_long v nl d t' pc) (λ t' g k. expr_first v d t' pc n ws s.1 g (given (gives v) n _ t' ws s.0 k)) h next
+        sign_first (is_minus m) p kind v d t pc n ws (λ t'. expr_long v nl d t' pc)
+        (λ t' g k. expr_first v d t' pc n ws s.1 g (given (gives v) n _ t' ws s.0 k)) h next
     expr_first (expr.negated p v) d t pc n ws s h next =
         let x = temp_of nl (d + 1) v in
         let q = pc + 1 + expr_size v in
-        let g = has_cut code (pc + 1) (expr_size v) (expr_code nl (d + 1) x (pc + 1) v) _ (expr_long v nl (d + 1) x (pc + 1)) h.1 in
+        let g = has_cut code (pc + 1) (expr_size v) (expr_code nl (d + 1) x (pc + 1) v) _
+        (expr_long v nl (d + 1) x (pc + 1)) h.1 in
         let e : pc + (1 + expr_size v + 2) ≡ q + 2 = omega arith in
         let f : q + 2 ≡ q + 1 + 1 = omega arith in
         let vs = x ∷ t ∷ ws in
-        let end = more code nl n (q + 2) (t ∷ ws) vs (within_more (t ∷ ws) (t ∷ ws) x (within_all (t ∷ ws))) (moved n _ _ (t ∷ ws) e next) in
+        let end = more code nl n (q + 2) (t ∷ ws) vs (within_more (t ∷ ws) (t ∷ ws) x (within_all (t ∷ ws)))
+        (moved n _ _ (t ∷ ws) e next) in
         bit_first n pc ws p t true h.0
         (expr_first v (d + 1) x (pc + 1) n (t ∷ ws) s.1 g.0
         (given (gives v) n q x (t ∷ ws) s.0
-        (by_line code nl n q vs _ g.1.0 (inr (inl refl), tt) (bit_first n (q + 1) vs p t false g.1.1.0 (one_more n _ vs t (moved n _ _ vs f end)), (end, tt)))))
+        (by_line code nl n q vs _ g.1.0 (inr (inl refl), tt) (
+          bit_first n (q + 1) vs p t false g.1.1.0
+              (one_more n _ vs t (moved n _ _ vs f end)),
+          (end, tt),
+        ))))
     expr_first (expr.stepped p false m kind place) d t pc n ws s h next =
         let b = base_var nl place d in
         let o = temp nl (above place d) (column kind) in
@@ -224,27 +288,36 @@ module _ (code : List Line) (nl : ℕ) where
         let vs = based place b ws in
         let g = has_cut code pc (place_size place) (base_code nl d pc place) _ (base_long place nl d pc) h in
         let f = has_cut code q 1 (old_code kind place o b) _ (old_long nl kind place o b) g.1 in
-        let e : pc + (0 + place_size place + 1 + 0 + 1 + fit_size kind (wide kind) + store_size) ≡ q + 1 + 1 + (fit_size kind (wide kind) + store_size) = omega arith in
-        let next' = more code nl n _ (t ∷ ws) (t ∷ o ∷ vs) (within_both ws (o ∷ vs) t (within_more ws vs o (within_based place b ws))) (moved n _ _ (t ∷ ws) e next) in
+        let e : pc + (0 + place_size place + 1 + 0 + 1 + fit_size kind (wide kind) + store_size)
+        ≡ q + 1 + 1 + (fit_size kind (wide kind) + store_size) = omega arith in
+        let next' = more code nl n _ (t ∷ ws) (t ∷ o ∷ vs) (within_both ws (o ∷ vs) t
+        (within_more ws vs o (within_based place b ws))) (moved n _ _ (t ∷ ws) e next) in
         base_first place d pc n ws s g.0
         (old_first n q vs kind place o b s (has_based place b ws) f.0
-        (step_first n (q + 1) (o ∷ vs) p m kind place d t s (base_more place b o vs (has_based place b ws)) (inl refl) f.1 next'))
+        (step_first n (q + 1) (o ∷ vs) p m kind place d t s (base_more place b o vs (has_based place b ws))
+        (inl refl) f.1 next'))
     expr_first (expr.stepped p true m kind place) d t pc n ws s h next =
         let b = base_var nl place (d + 1) in
         let o = temp nl (above place (d + 1)) (column kind) in
         let x = temp nl (d + 1) (column kind) in
         let q = pc + 1 + place_size place in
         let vs = based place b (t ∷ ws) in
-        let g = has_cut code (pc + 1) (place_size place) (base_code nl (d + 1) (pc + 1) place) _ (base_long place nl (d + 1) (pc + 1)) h.1 in
+        let g = has_cut code (pc + 1) (place_size place) (base_code nl (d + 1) (pc + 1) place) _
+        (base_long place nl (d + 1) (pc + 1)) h.1 in
         let f = has_cut code q 1 (old_code kind place o b) _ (old_long nl kind place o b) g.1 in
-        let e : pc + (1 + place_size place + 1 + 1 + 1 + fit_size kind (wide kind) + store_size) ≡ q + 1 + 1 + 1 + (fit_size kind (wide kind) + store_size) = omega arith in
-        let inner : Within ws (o ∷ vs) = within_more ws vs o (within_trans ws (t ∷ ws) vs (within_more ws ws t (within_all ws)) (within_based place b (t ∷ ws))) in
-        let next' = more code nl n _ (t ∷ ws) (x ∷ t ∷ o ∷ vs) (within_more (t ∷ ws) (t ∷ o ∷ vs) x (within_both ws (o ∷ vs) t inner)) (moved n _ _ (t ∷ ws) e next) in
+        let e : pc + (1 + place_size place + 1 + 1 + 1 + fit_size kind (wide kind) + store_size)
+        ≡ q + 1 + 1 + 1 + (fit_size kind (wide kind) + store_size) = omega arith in
+        let inner : Within ws (o ∷ vs) = within_more ws vs o (within_trans ws (t ∷ ws) vs
+        (within_more ws ws t (within_all ws)) (within_based place b (t ∷ ws))) in
+        let next' = more code nl n _ (t ∷ ws) (x ∷ t ∷ o ∷ vs) (within_more (t ∷ ws) (t ∷ o ∷ vs) x
+        (within_both ws (o ∷ vs) t inner)) (moved n _ _ (t ∷ ws) e next) in
         bit_first n pc ws p t false h.0
         (base_first place (d + 1) (pc + 1) n (t ∷ ws) s g.0
         (old_first n q vs kind place o b s (has_based place b (t ∷ ws)) f.0
         (set_first n (q + 1) (o ∷ vs) p t (var o) f.1.0 (inr (inl refl), tt)
-        (step_first n (q + 1 + 1) (t ∷ o ∷ vs) p m kind place (d + 1) x s (base_more place b t (o ∷ vs) (base_more place b o vs (has_based place b (t ∷ ws)))) (inr (inl refl)) f.1.1 next'))))
+        (step_first n (q + 1 + 1) (t ∷ o ∷ vs) p m kind place (d
+        + 1) x s (base_more place b t (o ∷ vs) (base_more place b o vs (has_based place b (t ∷ ws))))
+        (inr (inl refl)) f.1.1 next'))))
     expr_first (expr.computed p m kind a b) d t pc n ws s h next =
         let x = temp_of nl d a in
         let y = temp_of nl (d + 1) b in
@@ -257,7 +330,8 @@ module _ (code : List Line) (nl : ℕ) where
         (given (gives a) n q x ws s.0
         (expr_first b (d + 1) y q n (x ∷ ws) s.3 f.0
         (given (gives b) n (q + expr_size b) y (x ∷ ws) s.2
-        (by_line code nl n (q + expr_size b) (y ∷ x ∷ ws) _ f.1.0 (inr (inr (inl refl)), (inr (inl refl), tt)) (next', tt)))))
+        (by_line code nl n (q + expr_size b) (y ∷ x ∷ ws) _ f.1.0 (inr (inr (inl refl)), (inr (inl refl), tt))
+        (next', tt)))))
     expr_first (expr.compared p m a b) d t pc n ws s h next =
         let x = operand nl d (value_column b) a in
         let y = operand nl (d + 1) (value_column a) b in
@@ -270,20 +344,24 @@ module _ (code : List Line) (nl : ℕ) where
         (given (gives a) n q x ws s.0
         (expr_first b (d + 1) y q n (x ∷ ws) s.3 f.0
         (given (gives b) n (q + expr_size b) y (x ∷ ws) s.2
-        (by_line code nl n (q + expr_size b) (y ∷ x ∷ ws) _ f.1.0 (inr (inr (inl refl)), (inr (inl refl), tt)) (next', tt)))))
+        (by_line code nl n (q + expr_size b) (y ∷ x ∷ ws) _ f.1.0 (inr (inr (inl refl)), (inr (inl refl), tt))
+        (next', tt)))))
     expr_first (expr.joined_by p m a b) d t pc n ws s h next =
         let x = temp_of nl (d + 1) a in
         let y = temp_of nl (d + 1) b in
         let qa = pc + 1 + expr_size a in
         let qb = qa + 1 + expr_size b in
         let on = is_and m in
-        let g = has_cut code (pc + 1) (expr_size a) (expr_code nl (d + 1) x (pc + 1) a) _ (expr_long a nl (d + 1) x (pc + 1)) h.1 in
-        let f = has_cut code (qa + 1) (expr_size b) (expr_code nl (d + 1) y (qa + 1) b) _ (expr_long b nl (d + 1) y (qa + 1)) g.1.1 in
+        let g = has_cut code (pc + 1) (expr_size a) (expr_code nl (d + 1) x (pc + 1) a) _
+        (expr_long a nl (d + 1) x (pc + 1)) h.1 in
+        let f = has_cut code (qa + 1) (expr_size b) (expr_code nl (d + 1) y (qa + 1) b) _
+        (expr_long b nl (d + 1) y (qa + 1)) g.1.1 in
         let e : pc + (1 + expr_size a + 1 + expr_size b + 2) ≡ qb + 2 = omega arith in
         let e' : qb + 2 ≡ qb + 1 + 1 = omega arith in
         let us = x ∷ t ∷ ws in
         let vs = y ∷ us in
-        let end = more code nl n (qb + 2) (t ∷ ws) us (within_more (t ∷ ws) (t ∷ ws) x (within_all (t ∷ ws))) (moved n _ _ (t ∷ ws) e next) in
+        let end = more code nl n (qb + 2) (t ∷ ws) us (within_more (t ∷ ws) (t ∷ ws) x (within_all (t ∷ ws)))
+        (moved n _ _ (t ∷ ws) e next) in
         let end' = one_more n (qb + 2) us y end in
         bit_first n pc ws p t (not on) h.0
         (expr_first a (d + 1) x (pc + 1) n (t ∷ ws) s.1 g.0
@@ -291,7 +369,8 @@ module _ (code : List Line) (nl : ℕ) where
         (branch_first on n qa us p x (qa + 1) (qb + 2) g.1.0 (inl refl)
         (expr_first b (d + 1) y (qa + 1) n us s.3 f.0
         (given (gives b) n qb y us s.2
-        (branch_first on n qb vs p y (qb + 1) (qb + 2) f.1.0 (inl refl) (bit_first n (qb + 1) vs p t on f.1.1.0 (one_more n _ vs t (moved n _ _ vs e' end'))) end')))
+        (branch_first on n qb vs p y (qb + 1) (qb + 2) f.1.0 (inl refl) (bit_first n (qb + 1) vs p t on f.1.1.0
+        (one_more n _ vs t (moved n _ _ vs e' end'))) end')))
         end)))
     expr_first (expr.stored p kind place v) d t pc n ws s h next =
         let b = base_var nl place d in
@@ -299,13 +378,16 @@ module _ (code : List Line) (nl : ℕ) where
         let q = pc + place_size place in
         let vs = based place b ws in
         let g = has_cut code pc (place_size place) (base_code nl d pc place) _ (base_long place nl d pc) h in
-        let f = has_cut code q (expr_size v) (expr_code nl (above place d) x q v) _ (expr_long v nl (above place d) x q) g.1 in
+        let f = has_cut code q (expr_size v) (expr_code nl (above place d) x q v) _
+        (expr_long v nl (above place d) x q) g.1 in
         let e : pc + (place_size place + expr_size v + store_size) ≡ q + expr_size v + store_size = omega arith in
-        let next' = more code nl n _ (t ∷ ws) (t ∷ x ∷ vs) (within_both ws (x ∷ vs) t (within_more ws vs x (within_based place b ws))) (moved n _ _ (t ∷ ws) e next) in
+        let next' = more code nl n _ (t ∷ ws) (t ∷ x ∷ vs) (within_both ws (x ∷ vs) t
+        (within_more ws vs x (within_based place b ws))) (moved n _ _ (t ∷ ws) e next) in
         base_first place d pc n ws s.0 g.0
         (expr_first v (above place d) x q n vs s.2 f.0
         (given (gives v) n (q + expr_size v) x vs s.1
-        (store_first n (q + expr_size v) (x ∷ vs) kind place t b x s.0 (base_more place b x vs (has_based place b ws)) (inl refl) f.1 next')))
+        (store_first n (q + expr_size v) (x ∷ vs) kind place t b x s.0 (base_more place b x vs
+        (has_based place b ws)) (inl refl) f.1 next')))
     expr_first (expr.updated p m counted kind place v) d t pc n ws s h next =
         let b = base_var nl place d in
         let o = temp nl (above place d) (column kind) in
@@ -317,29 +399,36 @@ module _ (code : List Line) (nl : ℕ) where
         let us = c ∷ y ∷ o ∷ vs in
         let g = has_cut code pc (place_size place) (base_code nl d pc place) _ (base_long place nl d pc) h in
         let f = has_cut code q 1 (old_code kind place o b) _ (old_long nl kind place o b) g.1 in
-        let k = has_cut code (q + 1) (expr_size v) (expr_code nl (above place d + 1) y (q + 1) v) _ (expr_long v nl (above place d + 1) y (q + 1)) f.1 in
-        let e : pc + (place_size place + 1 + expr_size v + 1 + fit_size kind counted + store_size) ≡ r + 1 + (fit_size kind counted + store_size) = omega arith in
-        let inner : Within ws us = within_more ws (y ∷ o ∷ vs) c (within_more ws (o ∷ vs) y (within_more ws vs o (within_based place b ws))) in
+        let k = has_cut code (q + 1) (expr_size v) (expr_code nl (above place d + 1) y (q + 1) v) _
+        (expr_long v nl (above place d + 1) y (q + 1)) f.1 in
+        let e : pc + (place_size place + 1 + expr_size v + 1 + fit_size kind counted + store_size)
+        ≡ r + 1 + (fit_size kind counted + store_size) = omega arith in
+        let inner : Within ws us = within_more ws (y ∷ o ∷ vs) c (within_more ws (o ∷ vs) y
+        (within_more ws vs o (within_based place b ws))) in
         let next' = more code nl n _ (t ∷ ws) (t ∷ us) (within_both ws us t inner) (moved n _ _ (t ∷ ws) e next) in
-        let hb = base_more place b c (y ∷ o ∷ vs) (base_more place b y (o ∷ vs) (base_more place b o vs (has_based place b ws))) in
+        let hb = base_more place b c (y ∷ o ∷ vs) (base_more place b y (o ∷ vs)
+        (base_more place b o vs (has_based place b ws))) in
         base_first place d pc n ws s.0 g.0
         (old_first n q vs kind place o b s.0 (has_based place b ws) f.0
         (expr_first v (above place d + 1) y (q + 1) n (o ∷ vs) s.2 k.0
         (given (gives v) n r y (o ∷ vs) s.1
-        (by_line code nl n r (y ∷ o ∷ vs) _ k.1.0 (inr (inr (inl refl)), (inr (inl refl), tt)) (put_first n (r + 1) us p kind counted place d t b s.0 hb (inl refl) k.1.1 next', tt)))))
+        (by_line code nl n r (y ∷ o ∷ vs) _ k.1.0 (inr (inr (inl refl)), (inr (inl refl), tt))
+        (put_first n (r + 1) us p kind counted place d t b s.0 hb (inl refl) k.1.1 next', tt)))))
     expr_first (expr.chosen p c a b) d t pc n ws s h next =
         let x = temp_of nl d c in
         let qc = pc + expr_size c in
         let qa = qc + 1 + expr_size a in
         let g = has_cut code pc (expr_size c) (expr_code nl d x pc c) _ (expr_long c nl d x pc) h in
-        let f = has_cut code (qc + 1) (expr_size a) (expr_code nl d t (qc + 1) a) _ (expr_long a nl d t (qc + 1)) g.1.1 in
+        let f = has_cut code (qc + 1) (expr_size a) (expr_code nl d t (qc + 1) a) _ (expr_long a nl d t (qc + 1))
+        g.1.1 in
         let e : pc + (expr_size c + 1 + expr_size a + 1 + expr_size b) ≡ qa + 1 + expr_size b = omega arith in
         let us = x ∷ ws in
         let end = under n _ ws t x (moved n _ _ (t ∷ ws) e next) in
         expr_first c d x pc n ws s.1 g.0
         (given (gives c) n qc x ws s.0
         (by_line code nl n qc us _ g.1.0 (inr (inl refl), tt) (
-          expr_first a d t (qc + 1) n us s.3 f.0 (given (gives a) n qa t us s.2 (by_line code nl n qa (t ∷ us) _ f.1.0 tt (end, tt))),
+          expr_first a d t (qc + 1) n us s.3 f.0 (given (gives a) n qa t us s.2 (by_line code nl n qa (t ∷ us) _
+              f.1.0 tt (end, tt))),
           (expr_first b d t (qa + 1) n us s.5 f.1.1 (given (gives b) n (qa + 1 + expr_size b) t us s.4 end), tt),
         )))
     expr_first (expr.converted p kind v) d t pc n ws s h next =
@@ -348,28 +437,37 @@ module _ (code : List Line) (nl : ℕ) where
         let g = has_cut code pc (expr_size v) (expr_code nl d x pc v) _ (expr_long v nl d x pc) h in
         let e : pc + (expr_size v + 1) ≡ q + 1 = omega arith in
         expr_first v d x pc n ws s.1 g.0
-        (given (gives v) n q x ws s.0 (by_line code nl n q (x ∷ ws) _ g.1.0 (inr (inl refl), tt) (under n _ ws t x (moved n _ _ (t ∷ ws) e next), tt)))
+        (given (gives v) n q x ws s.0 (by_line code nl n q (x ∷ ws) _ g.1.0 (inr (inl refl), tt)
+        (under n _ ws t x (moved n _ _ (t ∷ ws) e next), tt)))
     expr_first (expr.cast_of p v) d t pc n ws s h next = expr_first v d t pc n ws s h next
     expr_first (expr.dropped p v) d t pc n ws s h next = expr_first v d t pc n ws s h next
     expr_first (expr.called p m vs) d t pc n ws s h next = by_line code nl n pc ws _ h.0 tt tt
     expr_first (expr.called_row p m row vs) d t pc n ws s h next =
         let q = pc + values_size vs in
         let us = argued nl d row.params vs ws in
-        let g = has_cut code pc (values_size vs) (args_code nl d pc row.params vs) _ (args_long vs nl d pc row.params) h in
+        let g = has_cut code pc (values_size vs) (args_code nl d pc row.params vs) _
+        (args_long vs nl d pc row.params) h in
         let e : pc + (values_size vs + 1) ≡ q + 1 = omega arith in
         let b = gives_answer row in
-        let next' = more code nl n _ (left b t ws) (left b t us) (within_left b t ws us (within_argued nl d row.params vs ws)) (moved n _ _ (left b t ws) e next) in
-        args_first vs d pc n row.params ws s g.0 (answer_first b n q us p t row _ g.1.0 (args_known nl d row.params vs ws) next')
+        let next' = more code nl n _ (left b t ws) (left b t us) (within_left b t ws us
+        (within_argued nl d row.params vs ws)) (moved n _ _ (left b t ws) e next) in
+        args_first vs d pc n row.params ws s g.0 (answer_first b n q us p t row _ g.1.0
+        (args_known nl d row.params vs ws) next')
     expr_first (expr.nonsense p) d t pc n ws s h next = by_line code nl n pc ws _ h.0 tt tt
 
-    base_first : (place : expr.Place) (d pc n : ℕ) (ws : List ℕ) → IsPlaceSound nl place → HasAt code pc (base_code nl d pc place) → WritesFirst code nl n (pc + place_size place) (based place (base_var nl place d) ws) → WritesFirst code nl n pc ws
+    base_first : (place : expr.Place) (d pc n : ℕ) (ws : List ℕ) → IsPlaceSound nl place
+        → HasAt code pc (base_code nl d pc place)
+        → WritesFirst code nl n (pc + place_size place) (based place (base_var nl place d) ws)
+        → WritesFirst code nl n pc ws
     base_first (expr.local_place p x) d pc n ws s h next = let e : pc + 0 ≡ pc = omega arith in moved n _ _ ws e next
     base_first (expr.global_place p m) d pc n ws s h next = let e : pc + 0 ≡ pc = omega arith in moved n _ _ ws e next
     base_first (expr.field_place p base tag field) d pc n ws s h next =
         expr_first base d (temp_of nl d base) pc n ws s.1 h (given (gives base) n _ (temp_of nl d base) ws s.0 next)
     base_first expr.no_place d pc n ws s h next = absurd s
 
-    args_first : (vs : expr.Values) (d pc n : ℕ) (ps : List Param) (ws : List ℕ) → AreSound nl vs → HasAt code pc (args_code nl d pc ps vs) → WritesFirst code nl n (pc + values_size vs) (argued nl d ps vs ws) → WritesFirst code nl n pc ws
+    args_first : (vs : expr.Values) (d pc n : ℕ) (ps : List Param) (ws : List ℕ) → AreSound nl vs
+        → HasAt code pc (args_code nl d pc ps vs) → WritesFirst code nl n (pc + values_size vs) (argued nl d ps vs ws)
+        → WritesFirst code nl n pc ws
     args_first expr.no_values d pc n ps ws s h next = let e : pc + 0 ≡ pc = omega arith in moved n _ _ ws e next
     args_first (expr.value_and v vs) d pc n ps ws s h next =
         let x = arg_var nl d ps v in
@@ -377,4 +475,5 @@ module _ (code : List Line) (nl : ℕ) where
         let g = has_cut code pc (expr_size v) (expr_code nl d x pc v) _ (expr_long v nl d x pc) h in
         let e : pc + (expr_size v + values_size vs) ≡ q + values_size vs = omega arith in
         expr_first v d x pc n ws s.1 g.0
-        (given (gives v) n q x ws s.0 (args_first vs (d + 1) q n (tail ps) (x ∷ ws) s.2 g.1 (moved n _ _ (argued nl (d + 1) (tail ps) vs (x ∷ ws)) e next)))
+        (given (gives v) n q x ws s.0 (args_first vs (d + 1) q n (tail ps) (x ∷ ws) s.2 g.1
+        (moved n _ _ (argued nl (d + 1) (tail ps) vs (x ∷ ws)) e next)))

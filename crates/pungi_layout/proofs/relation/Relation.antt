@@ -1,5 +1,6 @@
 -- What remains of a function, and a place of its code.
-use Rattle.std.proofs.Common.{◌≡◌, ℕ, suc, ◌+◌, ◌*◌, ◌<◌, ◌≤◌, ◌⊎◌, List, [], ◌∷◌, map, take, drop, length, Option, Some, None, Bool, true, false, not, ℤ, pos}
+use Rattle.std.proofs.Common.{◌≡◌, ℕ, suc, ◌+◌, ◌*◌, ◌<◌, ◌≤◌, ◌⊎◌, List, [], ◌∷◌, map, take, drop, length, Option}
+use Rattle.std.proofs.Common.{Some, None, Bool, true, false, not, ℤ, pos}
 use mathlib.Core.List.{reverse_aux}
 use Rattle.std.specs.Prelude.{slice_get}
 use Rattle.pungi_base.specs.declared.kind.Kind.{Kind}
@@ -15,17 +16,23 @@ use Rattle.pungi_meaning.specs.declared.cmp.Cmp.TheVariants as cmps
 use Rattle.pungi_meaning.specs.Stmts.{block_cases}
 use Rattle.pungi_meaning.specs.Exprs.{step_op, is_and}
 use Rattle.pungi_meaning.specs.Work.{block_locals, shape_of}
-use Rattle.pungi_meaning.specs.Todo.{Loop, Todo, ToEval, ToLoad, ToOld, ToKeep, ToStep, ToMinus, ToCompute, ToFit, ToCompare, ToNot, ToRight, ToTruth, ToPick, ToStore, ToPop, ToArgs, ToExec, ToForget, ToDeclare, ToBind, ToChoose, ToJoin, ToRest, ToTest, ToTurn, ToAgain, ToBack, ToSwitch, ToSwitchEnd, ToReturn, ToEnd, listed}
+use Rattle.pungi_meaning.specs.Todo.{Loop, Todo, ToEval, ToLoad, ToOld, ToKeep, ToStep, ToMinus, ToCompute, ToFit}
+use Rattle.pungi_meaning.specs.Todo.{ToCompare, ToNot, ToRight, ToTruth, ToPick, ToStore, ToPop, ToArgs, ToExec}
+use Rattle.pungi_meaning.specs.Todo.{ToForget, ToDeclare, ToBind, ToChoose, ToJoin, ToRest, ToTest, ToTurn, ToAgain}
+use Rattle.pungi_meaning.specs.Todo.{ToBack, ToSwitch, ToSwitchEnd, ToReturn, ToEnd, listed}
 use Rattle.pungi_code.specs.declared.atom.Atom.TheVariants as atom
 use Rattle.pungi_code.specs.declared.atom.Var.{Var}
 use Rattle.pungi_code.specs.declared.code.Line.{Line}
 use Rattle.pungi_code.specs.declared.instr.Instr.{Instr}
-use Rattle.pungi_code.specs.declared.instr.Instr.TheVariants.{Set, Arith, Fit, Compare, Load, Store, Api, Call, Unset, Jump, Branch, Return, Fall}
+use Rattle.pungi_code.specs.declared.instr.Instr.TheVariants.{Set, Arith, Fit, Compare, Load, Store, Api, Call, Unset}
+use Rattle.pungi_code.specs.declared.instr.Instr.TheVariants.{Jump, Branch, Return, Fall}
 use Rattle.pungi_code.specs.declared.place.Place.TheVariants.{Global, Field}
 use Rattle.pungi_layout.specs.code.Parts.{is_minus, gives, gives_answer}
-use Rattle.pungi_layout.specs.code.Sizes.{expr_size, place_size, values_size, args_size, fit_size, store_size, option_size, declare_size, test_size, switch_size, stmt_size, stmts_size}
+use Rattle.pungi_layout.specs.code.Sizes.{expr_size, place_size, values_size, args_size, fit_size, store_size}
+use Rattle.pungi_layout.specs.code.Sizes.{option_size, declare_size, test_size, switch_size, stmt_size, stmts_size}
 use Rattle.pungi_layout.specs.code.ExprCode.{line, to_var, var, at_label, bit, branch_on}
-use Rattle.pungi_layout.specs.code.Scopes.{Env, label_or, for_head, list_label, list_cases, list_default, in_block, in_loop, in_switch}
+use Rattle.pungi_layout.specs.code.Scopes.{Env, label_or, for_head, list_label, list_cases, list_default, in_block}
+use Rattle.pungi_layout.specs.code.Scopes.{in_loop, in_switch}
 
 -- a value that waits: its variable, and its truth, where that is known beforehand
 pub record Waiting : Type 0 where
@@ -133,12 +140,15 @@ module _ (code : List Line) (nl room : ℕ) where
   abbrev pub OldAt : ValueKind → expr.Place → ℕ → ℕ → ℕ → Type 0
   OldAt kind (expr.local_place p x) t b pc = (x < nl) × Stands pc p (Set (to_var t) (var x))
   OldAt kind (expr.global_place p n) t b pc = Stands pc p (Load (to_var t) (Global n (slot_kind kind)))
-  OldAt kind (expr.field_place p base tag field) t b pc = Stands pc p (Load (to_var t) (Field (var b) tag field (slot_kind kind)))
+  OldAt kind (expr.field_place p base tag field) t b pc = Stands pc p (Load (to_var t)
+      (Field (var b) tag field (slot_kind kind)))
   OldAt kind expr.no_place t b pc = ⊥
 
   abbrev pub StoreAt : ValueKind → expr.Place → ℕ → ℕ → ℕ → ℕ → Type 0
-  StoreAt kind (expr.local_place p x) t b v pc = (x < nl) × Does pc (Set (to_var x) (var v)) × Does (pc + 1) (Set (to_var t) (var v))
-  StoreAt kind (expr.global_place p n) t b v pc = Stands pc p (Store (Global n (slot_kind kind)) (var v)) × Does (pc + 1) (Set (to_var t) (var v))
+  StoreAt kind (expr.local_place p x) t b v pc = (x < nl) × Does pc (Set (to_var x) (var v))
+      × Does (pc + 1) (Set (to_var t) (var v))
+  StoreAt kind (expr.global_place p n) t b v pc = Stands pc p (Store (Global n (slot_kind kind)) (var v))
+      × Does (pc + 1) (Set (to_var t) (var v))
   StoreAt kind (expr.field_place p base tag field) t b v pc =
       Stands pc p (Store (Field (var b) tag field (slot_kind kind)) (var v)) × Does (pc + 1) (Set (to_var t) (var v))
   StoreAt kind expr.no_place t b v pc = ⊥
@@ -146,12 +156,14 @@ module _ (code : List Line) (nl room : ℕ) where
   -- a counted value, in c, is converted and stored
   abbrev pub PutAt : Pos → ValueKind → ValueKind → expr.Place → ℕ → ℕ → ℕ → ℕ → ℕ → Type 0
   PutAt p kind counted place d t b c pc =
-      (s : ℕ) × IsTemp (level place d) c × IsTemp (level place d) s × FitAt (is_same kind counted) p kind s c pc × StoreAt kind place t b s (pc + fit_size kind counted)
+      (s : ℕ) × IsTemp (level place d) c × IsTemp (level place d) s × FitAt (is_same kind counted) p kind s c pc
+      × StoreAt kind place t b s (pc + fit_size kind counted)
 
   -- `++` and `--` of what o holds
   abbrev pub StepAt : Pos → Kind → ValueKind → expr.Place → ℕ → ℕ → ℕ → ℕ → ℕ → Type 0
   StepAt p m kind place d t b o pc =
-      (c : ℕ) × IsTemp (level place d) o × Stands pc p (Arith (to_var c) (wide kind) (step_op m) (var o) (atom.Int (pos 1))) × PutAt p kind (wide kind) place d t b c (pc + 1)
+      (c : ℕ) × IsTemp (level place d) o × Stands pc p (Arith (to_var c) (wide kind) (step_op m) (var o)
+      (atom.Int (pos 1))) × PutAt p kind (wide kind) place d t b c (pc + 1)
 
   -- the end of `&&` and `||`, whose right side stands in b
   abbrev pub TruthAt : Bool → ℕ → ℕ → ℕ → Type 0
@@ -168,35 +180,66 @@ module _ (code : List Line) (nl room : ℕ) where
     ExprAt d t pc (expr.read p kind (expr.local_place q x)) = (x < nl) × Stands pc q (Set (to_var t) (var x))
     ExprAt d t pc (expr.read p kind (expr.global_place q n)) = Stands pc q (Load (to_var t) (Global n (slot_kind kind)))
     ExprAt d t pc (expr.read p kind (expr.field_place q base tag field)) =
-        (b : ℕ) × (gives base ≡ true) × IsTemp d b × ExprAt d b pc base × Stands (pc + expr_size base) q (Load (to_var t) (Field (var b) tag field (slot_kind kind)))
+        (b : ℕ) × (gives base ≡ true) × IsTemp d b × ExprAt d b pc base
+        × Stands (pc + expr_size base) q (Load (to_var t) (Field (var b) tag field (slot_kind kind)))
     ExprAt d t pc (expr.read p kind expr.no_place) = ⊥
     ExprAt d t pc (expr.inner p v) = ExprAt d t pc v
-    ExprAt d t pc (expr.signed p m kind v) = (gives v ≡ true) × One (is_minus m) ((x : ℕ) × IsTemp d x × ExprAt d x pc v × Stands (pc + expr_size v) p (Arith (to_var t) kind ops.Sub (atom.Int (pos 0)) (var x))) (ExprAt d t pc v)
+    ExprAt d t pc (expr.signed p m kind v) = (gives v ≡ true)
+        × One (is_minus m) ((x : ℕ) × IsTemp d x × ExprAt d x pc v
+        × Stands (pc + expr_size v) p (Arith (to_var t) kind ops.Sub (atom.Int (pos 0)) (var x))) (ExprAt d t pc v)
     ExprAt d t pc (expr.negated p v) =
-        (x : ℕ) × Does pc (Set (to_var t) (bit true)) × (gives v ≡ true) × IsTemp (suc d) x × ExprAt (suc d) x (pc + 1) v × Does (pc + 1 + expr_size v) (Branch (var x) (at_label (pc + 1 + expr_size v + 1)) (at_label (pc + 1 + expr_size v + 2))) × Does (pc + 1 + expr_size v + 1) (Set (to_var t) (bit false))
+        (x : ℕ) × Does pc (Set (to_var t) (bit true)) × (gives v ≡ true) × IsTemp (suc d) x
+        × ExprAt (suc d) x (pc + 1) v × Does (pc + 1 + expr_size v) (Branch (var x)
+        (at_label (pc + 1 + expr_size v + 1)) (at_label (pc + 1 + expr_size v + 2)))
+        × Does (pc + 1 + expr_size v + 1) (Set (to_var t) (bit false))
     ExprAt d t pc (expr.stepped p false m kind place) =
-        (b : ℕ) × (o : ℕ) × BaseAt d b pc place × OldAt kind place o b (pc + place_size place) × StepAt p m kind place d t b o (pc + place_size place + 1)
+        (b : ℕ) × (o : ℕ) × BaseAt d b pc place × OldAt kind place o b (pc + place_size place)
+        × StepAt p m kind place d t b o (pc + place_size place + 1)
     ExprAt d t pc (expr.stepped p true m kind place) =
-        (b : ℕ) × (o : ℕ) × (x : ℕ) × Does pc (Set (to_var t) (bit false)) × BaseAt (suc d) b (pc + 1) place × OldAt kind place o b (pc + 1 + place_size place) × Does (pc + 1 + place_size place + 1) (Set (to_var t) (var o)) × IsTemp (suc d) x × StepAt p m kind place (suc d) x b o (pc + 1 + place_size place + 2)
+        (b : ℕ) × (o : ℕ) × (x : ℕ) × Does pc (Set (to_var t) (bit false)) × BaseAt (suc d) b (pc + 1) place
+        × OldAt kind place o b (pc + 1 + place_size place)
+        × Does (pc + 1 + place_size place + 1) (Set (to_var t) (var o)) × IsTemp (suc d) x
+        × StepAt p m kind place (suc d) x b o (pc + 1 + place_size place + 2)
     ExprAt d t pc (expr.computed p m kind a b) =
-        (x : ℕ) × (y : ℕ) × (gives a ≡ true) × IsTemp d x × ExprAt d x pc a × (gives b ≡ true) × IsTemp (suc d) y × ExprAt (suc d) y (pc + expr_size a) b × Stands (pc + expr_size a + expr_size b) p (Arith (to_var t) kind (op_of m) (var x) (var y))
+        (x : ℕ) × (y : ℕ) × (gives a ≡ true) × IsTemp d x × ExprAt d x pc a × (gives b ≡ true) × IsTemp (suc d) y
+        × ExprAt (suc d) y (pc + expr_size a) b × Stands (pc + expr_size a + expr_size b) p
+        (Arith (to_var t) kind (op_of m) (var x) (var y))
     ExprAt d t pc (expr.compared p m a b) =
-        (x : ℕ) × (y : ℕ) × (gives a ≡ true) × IsTemp d x × ExprAt d x pc a × (gives b ≡ true) × IsTemp (suc d) y × ExprAt (suc d) y (pc + expr_size a) b × Stands (pc + expr_size a + expr_size b) p (Compare (to_var t) (cmp_of m) (var x) (var y))
+        (x : ℕ) × (y : ℕ) × (gives a ≡ true) × IsTemp d x × ExprAt d x pc a × (gives b ≡ true) × IsTemp (suc d) y
+        × ExprAt (suc d) y (pc + expr_size a) b × Stands (pc + expr_size a + expr_size b) p
+        (Compare (to_var t) (cmp_of m) (var x) (var y))
     ExprAt d t pc (expr.joined_by p m a b) =
-        (x : ℕ) × (y : ℕ) × Does pc (Set (to_var t) (bit (not (is_and m)))) × (gives a ≡ true) × IsTemp (suc d) x × ExprAt (suc d) x (pc + 1) a × Does (pc + 1 + expr_size a) (branch_on (is_and m) x (pc + 1 + expr_size a + 1) (pc + 1 + expr_size a + 1 + expr_size b + 2)) × (gives b ≡ true) × IsTemp (suc d) y × ExprAt (suc d) y (pc + 1 + expr_size a + 1) b × TruthAt (is_and m) t y (pc + 1 + expr_size a + 1 + expr_size b)
+        (x : ℕ) × (y : ℕ) × Does pc (Set (to_var t) (bit (not (is_and m)))) × (gives a ≡ true) × IsTemp (suc d) x
+        × ExprAt (suc d) x (pc + 1) a × Does (pc + 1 + expr_size a) (branch_on (is_and m) x
+        (pc + 1 + expr_size a + 1) (pc + 1 + expr_size a + 1 + expr_size b + 2)) × (gives b ≡ true)
+        × IsTemp (suc d) y × ExprAt (suc d) y (pc + 1 + expr_size a + 1) b
+        × TruthAt (is_and m) t y (pc + 1 + expr_size a + 1 + expr_size b)
     ExprAt d t pc (expr.stored p kind place v) =
-        (b : ℕ) × (s : ℕ) × BaseAt d b pc place × (gives v ≡ true) × IsTemp (level place d) s × ExprAt (level place d) s (pc + place_size place) v × StoreAt kind place t b s (pc + place_size place + expr_size v)
+        (b : ℕ) × (s : ℕ) × BaseAt d b pc place × (gives v ≡ true) × IsTemp (level place d) s
+        × ExprAt (level place d) s (pc + place_size place) v
+        × StoreAt kind place t b s (pc + place_size place + expr_size v)
     ExprAt d t pc (expr.updated p m counted kind place v) =
-        (b : ℕ) × (o : ℕ) × (y : ℕ) × (c : ℕ) × BaseAt d b pc place × IsTemp (level place d) o × OldAt kind place o b (pc + place_size place) × (gives v ≡ true) × IsTemp (suc (level place d)) y × ExprAt (suc (level place d)) y (pc + place_size place + 1) v × Stands (pc + place_size place + 1 + expr_size v) p (Arith (to_var c) counted (op_of m) (var o) (var y)) × PutAt p kind counted place d t b c (pc + place_size place + 1 + expr_size v + 1)
+        (b : ℕ) × (o : ℕ) × (y : ℕ) × (c : ℕ) × BaseAt d b pc place × IsTemp (level place d) o
+        × OldAt kind place o b (pc + place_size place) × (gives v ≡ true) × IsTemp (suc (level place d)) y
+        × ExprAt (suc (level place d)) y (pc + place_size place + 1) v
+        × Stands (pc + place_size place + 1 + expr_size v) p (Arith (to_var c) counted (op_of m) (var o) (var y))
+        × PutAt p kind counted place d t b c (pc + place_size place + 1 + expr_size v + 1)
     ExprAt d t pc (expr.chosen p c a b) =
-        (x : ℕ) × (gives c ≡ true) × IsTemp d x × ExprAt d x pc c × Does (pc + expr_size c) (Branch (var x) (at_label (pc + expr_size c + 1)) (at_label (pc + expr_size c + 1 + expr_size a + 1))) × (gives a ≡ true) × ExprAt d t (pc + expr_size c + 1) a × Does (pc + expr_size c + 1 + expr_size a) (Jump (at_label (pc + expr_size c + 1 + expr_size a + 1 + expr_size b))) × (gives b ≡ true) × ExprAt d t (pc + expr_size c + 1 + expr_size a + 1) b
+        (x : ℕ) × (gives c ≡ true) × IsTemp d x × ExprAt d x pc c
+        × Does (pc + expr_size c) (Branch (var x) (at_label (pc + expr_size c + 1))
+        (at_label (pc + expr_size c + 1 + expr_size a + 1))) × (gives a ≡ true)
+        × ExprAt d t (pc + expr_size c + 1) a × Does (pc + expr_size c + 1 + expr_size a)
+        (Jump (at_label (pc + expr_size c + 1 + expr_size a + 1 + expr_size b))) × (gives b ≡ true)
+        × ExprAt d t (pc + expr_size c + 1 + expr_size a + 1) b
     ExprAt d t pc (expr.converted p kind v) =
-        (x : ℕ) × (gives v ≡ true) × IsTemp d x × ExprAt d x pc v × Stands (pc + expr_size v) p (Fit (to_var t) kind (var x))
+        (x : ℕ) × (gives v ≡ true) × IsTemp d x × ExprAt d x pc v
+        × Stands (pc + expr_size v) p (Fit (to_var t) kind (var x))
     ExprAt d t pc (expr.cast_of p v) = ExprAt d t pc v
     ExprAt d t pc (expr.dropped p v) = ExprAt d t pc v
     ExprAt d t pc (expr.called p n vs) = Stands pc p (Call None 0 [])
     ExprAt d t pc (expr.called_row p n row vs) =
-        (ts : List ℕ) × ArgsAt d ts pc vs × Stands (pc + values_size vs) p (Api (answer_var (gives_answer row) t) (shape_of row) (map var ts) [])
+        (ts : List ℕ) × ArgsAt d ts pc vs × Stands (pc + values_size vs) p (Api (answer_var (gives_answer row) t)
+        (shape_of row) (map var ts) [])
     ExprAt d t pc (expr.nonsense p) = Stands pc p Fall
 
     pub BaseAt : ℕ → ℕ → ℕ → expr.Place → Type 0
@@ -232,7 +275,8 @@ module _ (code : List Line) (nl room : ℕ) where
   abbrev pub BindAt : ℕ → ℕ → Option expr.Value → Type 0
   BindAt x pc None = (x < nl) × Does pc (Unset (to_var x))
   BindAt x pc (Some v) =
-      (t : ℕ) × (gives v ≡ true) × IsTemp 0 t × ExprAt 0 t pc v × (x < nl) × Does (pc + expr_size v) (Set (to_var x) (var t))
+      (t : ℕ) × (gives v ≡ true) × IsTemp 0 t × ExprAt 0 t pc v × (x < nl)
+      × Does (pc + expr_size v) (Set (to_var x) (var t))
 
   abbrev pub ReachAt : ℕ → List stmt.DeclaredLocal → Type 0
   ReachAt pc [] = Unit {0}
@@ -242,17 +286,20 @@ module _ (code : List Line) (nl room : ℕ) where
   abbrev pub TestAt : ℕ → Option expr.Value → ℕ → ℕ → Type 0
   TestAt pc None go other = Unit {0}
   TestAt pc (Some c) go other =
-      (t : ℕ) × (gives c ≡ true) × IsTemp 0 t × ExprAt 0 t pc c × Does (pc + expr_size c) (Branch (var t) (at_label go) (at_label other))
+      (t : ℕ) × (gives c ≡ true) × IsTemp 0 t × ExprAt 0 t pc c
+      × Does (pc + expr_size c) (Branch (var t) (at_label go) (at_label other))
 
   abbrev pub GiveAt : Pos → ℕ → Option expr.Value → Type 0
   GiveAt p pc None = Stands pc p (Return None)
-  GiveAt p pc (Some v) = (t : ℕ) × (gives v ≡ true) × IsTemp 0 t × ExprAt 0 t pc v × Stands (pc + expr_size v) p (Return (Some (var t)))
+  GiveAt p pc (Some v) = (t : ℕ) × (gives v ≡ true) × IsTemp 0 t × ExprAt 0 t pc v
+      × Stands (pc + expr_size v) p (Return (Some (var t)))
 
   -- the comparisons of a value with the cases, and the jump after them
   abbrev pub ComparedAt : Pos → ℕ → ℕ → ℕ → List (ℤ × ℕ) → ℕ → Type 0
   ComparedAt p x y pc [] other = Does pc (Jump (at_label other))
   ComparedAt p x y pc (c ∷ cs) other =
-      Stands pc p (Compare (to_var y) cmps.Equal (var x) (atom.Int c.0)) × Does (pc + 1) (Branch (var y) (at_label c.1) (at_label (pc + 2))) × ComparedAt p x y (pc + 2) cs other
+      Stands pc p (Compare (to_var y) cmps.Equal (var x) (atom.Int c.0))
+      × Does (pc + 1) (Branch (var y) (at_label c.1) (at_label (pc + 2))) × ComparedAt p x y (pc + 2) cs other
 
   abbrev pub CasesAt : Pos → ℕ → ℕ → List (ℤ × ℕ) → ℕ → Type 0
   CasesAt p x pc cs other = (y : ℕ) × IsTemp 1 y × ComparedAt p x y pc cs other
@@ -260,23 +307,48 @@ module _ (code : List Line) (nl room : ℕ) where
   abbrev mutual
     pub StmtAt : Env → ℕ → stmt.Action → Type 0
     StmtAt env pc (stmt.block p ss q) =
-        UnsetAt (block_locals (listed ss)) pc × StmtsAt (in_block env (pc + length (block_locals (listed ss))) (listed ss)) (pc + length (block_locals (listed ss))) ss
+        UnsetAt (block_locals (listed ss)) pc × StmtsAt (in_block env (pc + length (block_locals (listed ss)))
+        (listed ss)) (pc + length (block_locals (listed ss))) ss
     StmtAt env pc (stmt.declare p rs) = ReachAt pc rs
     StmtAt env pc (stmt.do_expr p v) = OptionAt pc v
     StmtAt env pc (stmt.if_only p c a) =
-        TestAt pc (Some c) (pc + expr_size c + 1) (pc + expr_size c + 1 + stmt_size a) × StmtAt env (pc + expr_size c + 1) a
+        TestAt pc (Some c) (pc + expr_size c + 1) (pc + expr_size c + 1 + stmt_size a)
+        × StmtAt env (pc + expr_size c + 1) a
     StmtAt env pc (stmt.if_else p c a b) =
-        TestAt pc (Some c) (pc + expr_size c + 1) (pc + expr_size c + 1 + stmt_size a + 1) × StmtAt env (pc + expr_size c + 1) a × Does (pc + expr_size c + 1 + stmt_size a) (Jump (at_label (pc + expr_size c + 1 + stmt_size a + 1 + stmt_size b))) × StmtAt env (pc + expr_size c + 1 + stmt_size a + 1) b
+        TestAt pc (Some c) (pc + expr_size c + 1) (pc + expr_size c + 1 + stmt_size a + 1)
+        × StmtAt env (pc + expr_size c + 1) a × Does (pc + expr_size c + 1 + stmt_size a)
+        (Jump (at_label (pc + expr_size c + 1 + stmt_size a + 1 + stmt_size b)))
+        × StmtAt env (pc + expr_size c + 1 + stmt_size a + 1) b
     StmtAt env pc (stmt.while p c a) =
-        TestAt pc (Some c) (loop_body pc (Some c)) (loop_end pc (Some c) a None) × StmtAt (in_loop env (loop_again pc (Some c) a) (loop_end pc (Some c) a None)) (loop_body pc (Some c)) a × Does (loop_again pc (Some c) a + option_size None) (Jump (at_label pc))
+        TestAt pc (Some c) (loop_body pc (Some c)) (loop_end pc (Some c) a None)
+        × StmtAt (in_loop env (loop_again pc (Some c) a) (loop_end pc (Some c) a None)) (loop_body pc (Some c)) a
+        × Does (loop_again pc (Some c) a + option_size None) (Jump (at_label pc))
     StmtAt env pc (stmt.do_while p a c) =
-        Does pc (Jump (at_label (loop_body (pc + 1) (Some c)))) × TestAt (pc + 1) (Some c) (loop_body (pc + 1) (Some c)) (loop_end (pc + 1) (Some c) a None) × StmtAt (in_loop env (loop_again (pc + 1) (Some c) a) (loop_end (pc + 1) (Some c) a None)) (loop_body (pc + 1) (Some c)) a × Does (loop_again (pc + 1) (Some c) a + option_size None) (Jump (at_label (pc + 1)))
+        Does pc (Jump (at_label (loop_body (pc + 1) (Some c))))
+        × TestAt (pc + 1) (Some c) (loop_body (pc + 1) (Some c)) (loop_end (pc + 1) (Some c) a None)
+        × StmtAt (in_loop env (loop_again (pc + 1) (Some c) a) (loop_end (pc + 1) (Some c) a None))
+        (loop_body (pc + 1) (Some c)) a × Does (loop_again (pc + 1) (Some c) a + option_size None)
+        (Jump (at_label (pc + 1)))
     StmtAt env pc (stmt.for p rs u c w' a) =
-        UnsetAt rs pc × ReachAt (pc + length rs) rs × OptionAt (pc + length rs + declare_size rs) u × TestAt (for_head pc rs u) c (loop_body (for_head pc rs u) c) (loop_end (for_head pc rs u) c a w') × StmtAt (in_loop env (loop_again (for_head pc rs u) c a) (loop_end (for_head pc rs u) c a w')) (loop_body (for_head pc rs u) c) a × OptionAt (loop_again (for_head pc rs u) c a) w' × Does (loop_again (for_head pc rs u) c a + option_size w') (Jump (at_label (for_head pc rs u)))
+        UnsetAt rs pc × ReachAt (pc + length rs) rs × OptionAt (pc + length rs + declare_size rs) u
+        × TestAt (for_head pc rs u) c (loop_body (for_head pc rs u) c) (loop_end (for_head pc rs u) c a w')
+        × StmtAt (in_loop env (loop_again (for_head pc rs u) c a) (loop_end (for_head pc rs u) c a w'))
+        (loop_body (for_head pc rs u) c) a × OptionAt (loop_again (for_head pc rs u) c a) w'
+        × Does (loop_again (for_head pc rs u) c a + option_size w') (Jump (at_label (for_head pc rs u)))
     StmtAt env pc (stmt.switch p v (stmt.block q ss r)) =
-        (x : ℕ) × (gives v ≡ true) × IsTemp 0 x × ExprAt 0 x pc v × UnsetAt (block_locals (listed ss)) (pc + expr_size v) × CasesAt p x (pc + expr_size v + length (block_locals (listed ss))) (list_cases (switch_first (pc + expr_size v) (length (block_locals (listed ss))) ss) (listed ss)) (label_or (list_default (switch_first (pc + expr_size v) (length (block_locals (listed ss))) ss) (listed ss)) (switch_first (pc + expr_size v) (length (block_locals (listed ss))) ss + stmts_size ss)) × StmtsAt (in_block (in_switch env (switch_first (pc + expr_size v) (length (block_locals (listed ss))) ss + stmts_size ss)) (switch_first (pc + expr_size v) (length (block_locals (listed ss))) ss) (listed ss)) (switch_first (pc + expr_size v) (length (block_locals (listed ss))) ss) ss
+        (x : ℕ) × (gives v ≡ true) × IsTemp 0 x × ExprAt 0 x pc v
+        × UnsetAt (block_locals (listed ss)) (pc + expr_size v)
+        × CasesAt p x (pc + expr_size v + length (block_locals (listed ss))) (list_cases
+        (switch_first (pc + expr_size v) (length (block_locals (listed ss))) ss) (listed ss))
+        (label_or (list_default (switch_first (pc + expr_size v) (length (block_locals (listed ss))) ss)
+        (listed ss)) (switch_first (pc + expr_size v) (length (block_locals (listed ss))) ss + stmts_size ss))
+        × StmtsAt (in_block (in_switch env (switch_first (pc + expr_size v) (length (block_locals (listed ss))) ss
+        + stmts_size ss)) (switch_first (pc + expr_size v) (length (block_locals (listed ss))) ss) (listed ss))
+        (switch_first (pc + expr_size v) (length (block_locals (listed ss))) ss) ss
     StmtAt env pc (stmt.switch p v a) =
-        (x : ℕ) × (gives v ≡ true) × IsTemp 0 x × ExprAt 0 x pc v × Does (pc + expr_size v) (Jump (at_label (pc + expr_size v + 1 + stmt_size a))) × StmtAt (in_switch env (pc + expr_size v + 1 + stmt_size a)) (pc + expr_size v + 1) a
+        (x : ℕ) × (gives v ≡ true) × IsTemp 0 x × ExprAt 0 x pc v
+        × Does (pc + expr_size v) (Jump (at_label (pc + expr_size v + 1 + stmt_size a)))
+        × StmtAt (in_switch env (pc + expr_size v + 1 + stmt_size a)) (pc + expr_size v + 1) a
     StmtAt env pc (stmt.case p n a) = StmtAt env pc a
     StmtAt env pc (stmt.default p a) = StmtAt env pc a
     StmtAt env pc (stmt.label p l a) = StmtAt env pc a
@@ -292,14 +364,24 @@ module _ (code : List Line) (nl room : ℕ) where
   -- a `switch` after its value
   abbrev pub SwitchAt : Env → ℕ → Pos → ℕ → stmt.Action → Type 0
   SwitchAt env pc p x (stmt.block q ss r) =
-      UnsetAt (block_locals (listed ss)) pc × CasesAt p x (pc + length (block_locals (listed ss))) (list_cases (switch_first pc (length (block_locals (listed ss))) ss) (listed ss)) (label_or (list_default (switch_first pc (length (block_locals (listed ss))) ss) (listed ss)) (switch_first pc (length (block_locals (listed ss))) ss + stmts_size ss)) × StmtsAt (in_block (in_switch env (switch_first pc (length (block_locals (listed ss))) ss + stmts_size ss)) (switch_first pc (length (block_locals (listed ss))) ss) (listed ss)) (switch_first pc (length (block_locals (listed ss))) ss) ss
+      UnsetAt (block_locals (listed ss)) pc × CasesAt p x (pc + length (block_locals (listed ss)))
+      (list_cases (switch_first pc (length (block_locals (listed ss))) ss) (listed ss))
+      (label_or (list_default (switch_first pc (length (block_locals (listed ss))) ss) (listed ss))
+      (switch_first pc (length (block_locals (listed ss))) ss + stmts_size ss))
+      × StmtsAt (in_block (in_switch env (switch_first pc (length (block_locals (listed ss))) ss + stmts_size ss))
+      (switch_first pc (length (block_locals (listed ss))) ss) (listed ss)) (switch_first pc
+      (length (block_locals (listed ss))) ss) ss
   SwitchAt env pc p x a =
       Does pc (Jump (at_label (pc + 1 + stmt_size a))) × StmtAt (in_switch env (pc + 1 + stmt_size a)) (pc + 1) a
 
   -- a loop's instructions
   abbrev pub LoopAt : Env → ℕ → Loop → Type 0
   LoopAt env head loop =
-      TestAt head loop.test (loop_body head loop.test) (loop_end head loop.test loop.body loop.increment) × StmtAt (in_loop env (loop_again head loop.test loop.body) (loop_end head loop.test loop.body loop.increment)) (loop_body head loop.test) loop.body × OptionAt (loop_again head loop.test loop.body) loop.increment × Does (loop_again head loop.test loop.body + option_size loop.increment) (Jump (at_label head))
+      TestAt head loop.test (loop_body head loop.test) (loop_end head loop.test loop.body loop.increment)
+      × StmtAt (in_loop env (loop_again head loop.test loop.body) (loop_end head loop.test loop.body
+      loop.increment)) (loop_body head loop.test) loop.body
+      × OptionAt (loop_again head loop.test loop.body) loop.increment
+      × Does (loop_again head loop.test loop.body + option_size loop.increment) (Jump (at_label head))
 
   -- the instructions of statements, from a place to an end
   abbrev pub ListAt : Env → ℕ → List stmt.Action → ℕ → Type 0
@@ -330,62 +412,106 @@ module _ (code : List Line) (nl room : ℕ) where
   -- `++` after its operand keeps the old content below it and below the base of a field
   abbrev pub KeepAt : expr.Place → List Waiting → ℕ → Type 0
   KeepAt (expr.field_place p base tag field) ks pc =
-      HasThree ks × Does pc (Set (to_var (top_var (rest (rest ks)))) (var (top_var ks))) × (top_known (rest (rest ks)) ≡ None)
-  KeepAt place ks pc = HasTwo ks × Does pc (Set (to_var (top_var (rest ks))) (var (top_var ks))) × (top_known (rest ks) ≡ None)
+      HasThree ks × Does pc (Set (to_var (top_var (rest (rest ks)))) (var (top_var ks)))
+      × (top_known (rest (rest ks)) ≡ None)
+  KeepAt place ks pc = HasTwo ks × Does pc (Set (to_var (top_var (rest ks))) (var (top_var ks)))
+      × (top_known (rest ks) ≡ None)
 
   -- what remains to be done, while these values wait, has its instructions at this place
   abbrev pub IsAt : Env → List Todo → ℕ → List Waiting → Type 0
   IsAt env [] pc ks = ⊥
   IsAt env (ToEval v ∷ k) pc ks =
-      (t : ℕ) × IsTemp (length ks) t × ExprAt (length ks) t pc v × IsAt env k (pc + expr_size v) (pushed_if (gives v) t ks)
+      (t : ℕ) × IsTemp (length ks) t × ExprAt (length ks) t pc v
+      × IsAt env k (pc + expr_size v) (pushed_if (gives v) t ks)
   IsAt env (ToLoad p kind tag field ∷ k) pc ks =
-      (t : ℕ) × HasOne ks × IsTemp (length (rest ks)) t × Stands pc p (Load (to_var t) (Field (var (top_var ks)) tag field (slot_kind kind))) × IsAt env k (pc + 1) (w t ∷ rest ks)
+      (t : ℕ) × HasOne ks × IsTemp (length (rest ks)) t
+      × Stands pc p (Load (to_var t) (Field (var (top_var ks)) tag field (slot_kind kind)))
+      × IsAt env k (pc + 1) (w t ∷ rest ks)
   IsAt env (ToOld kind place ∷ k) pc ks =
-      (t : ℕ) × IsTemp (length ks) t × BaseWaits place ks × OldAt kind place t (top_var ks) pc × IsAt env k (pc + 1) (w t ∷ ks)
+      (t : ℕ) × IsTemp (length ks) t × BaseWaits place ks × OldAt kind place t (top_var ks) pc
+      × IsAt env k (pc + 1) (w t ∷ ks)
   IsAt env (ToKeep place ∷ k) pc ks = KeepAt place ks pc × IsAt env k (pc + 1) ks
   IsAt env (ToStep p o kind ∷ k) pc ks =
-      (t : ℕ) × HasOne ks × IsTemp (length (rest ks)) t × Stands pc p (Arith (to_var t) kind o (var (top_var ks)) (atom.Int (pos 1))) × IsAt env k (pc + 1) (w t ∷ rest ks)
+      (t : ℕ) × HasOne ks × IsTemp (length (rest ks)) t
+      × Stands pc p (Arith (to_var t) kind o (var (top_var ks)) (atom.Int (pos 1)))
+      × IsAt env k (pc + 1) (w t ∷ rest ks)
   IsAt env (ToMinus p kind ∷ k) pc ks =
-      (t : ℕ) × HasOne ks × IsTemp (length (rest ks)) t × Stands pc p (Arith (to_var t) kind ops.Sub (atom.Int (pos 0)) (var (top_var ks))) × IsAt env k (pc + 1) (w t ∷ rest ks)
+      (t : ℕ) × HasOne ks × IsTemp (length (rest ks)) t
+      × Stands pc p (Arith (to_var t) kind ops.Sub (atom.Int (pos 0)) (var (top_var ks)))
+      × IsAt env k (pc + 1) (w t ∷ rest ks)
   IsAt env (ToCompute p o kind ∷ k) pc ks =
-      (t : ℕ) × HasTwo ks × IsTemp (length (rest (rest ks))) t × Stands pc p (Arith (to_var t) kind o (var (top_var (rest ks))) (var (top_var ks))) × IsAt env k (pc + 1) (w t ∷ rest (rest ks))
+      (t : ℕ) × HasTwo ks × IsTemp (length (rest (rest ks))) t
+      × Stands pc p (Arith (to_var t) kind o (var (top_var (rest ks))) (var (top_var ks)))
+      × IsAt env k (pc + 1) (w t ∷ rest (rest ks))
   IsAt env (ToFit p kind ∷ k) pc ks =
-      (t : ℕ) × HasOne ks × IsTemp (length (rest ks)) t × Stands pc p (Fit (to_var t) kind (var (top_var ks))) × IsAt env k (pc + 1) (w t ∷ rest ks)
+      (t : ℕ) × HasOne ks × IsTemp (length (rest ks)) t × Stands pc p (Fit (to_var t) kind (var (top_var ks)))
+      × IsAt env k (pc + 1) (w t ∷ rest ks)
   IsAt env (ToCompare p c ∷ k) pc ks =
-      (t : ℕ) × HasTwo ks × IsTemp (length (rest (rest ks))) t × Stands pc p (Compare (to_var t) c (var (top_var (rest ks))) (var (top_var ks))) × IsAt env k (pc + 1) (w t ∷ rest (rest ks))
+      (t : ℕ) × HasTwo ks × IsTemp (length (rest (rest ks))) t
+      × Stands pc p (Compare (to_var t) c (var (top_var (rest ks))) (var (top_var ks)))
+      × IsAt env k (pc + 1) (w t ∷ rest (rest ks))
   IsAt env (ToNot ∷ k) pc ks =
-      HasTwo ks × (top_known (rest ks) ≡ Some true) × Does pc (Branch (var (top_var ks)) (at_label (pc + 1)) (at_label (pc + 2))) × Does (pc + 1) (Set (to_var (top_var (rest ks))) (bit false)) × IsAt env k (pc + 2) (w (top_var (rest ks)) ∷ rest (rest ks))
+      HasTwo ks × (top_known (rest ks) ≡ Some true)
+      × Does pc (Branch (var (top_var ks)) (at_label (pc + 1)) (at_label (pc + 2)))
+      × Does (pc + 1) (Set (to_var (top_var (rest ks))) (bit false))
+      × IsAt env k (pc + 2) (w (top_var (rest ks)) ∷ rest (rest ks))
   IsAt env (ToRight on b ∷ k) pc ks =
-      (y : ℕ) × (end : ℕ) × HasTwo ks × (top_known (rest ks) ≡ Some (not on)) × Does pc (branch_on on (top_var ks) (pc + 1) end) × (gives b ≡ true) × IsTemp (length (rest ks)) y × ExprAt (length (rest ks)) y (pc + 1) b × TruthAt on (top_var (rest ks)) y (pc + 1 + expr_size b) × (pc + 1 + expr_size b + 2 ≡ end) × IsAt env k end (w (top_var (rest ks)) ∷ rest (rest ks))
+      (y : ℕ) × (end : ℕ) × HasTwo ks × (top_known (rest ks) ≡ Some (not on))
+      × Does pc (branch_on on (top_var ks) (pc + 1) end) × (gives b ≡ true) × IsTemp (length (rest ks)) y
+      × ExprAt (length (rest ks)) y (pc + 1) b × TruthAt on (top_var (rest ks)) y (pc + 1 + expr_size b)
+      × (pc + 1 + expr_size b + 2 ≡ end) × IsAt env k end (w (top_var (rest ks)) ∷ rest (rest ks))
   IsAt env (ToTruth ∷ k) pc ks =
-      (on : Bool) × HasTwo ks × (top_known (rest ks) ≡ Some (not on)) × TruthAt on (top_var (rest ks)) (top_var ks) pc × IsAt env k (pc + 2) (w (top_var (rest ks)) ∷ rest (rest ks))
+      (on : Bool) × HasTwo ks × (top_known (rest ks) ≡ Some (not on))
+      × TruthAt on (top_var (rest ks)) (top_var ks) pc
+      × IsAt env k (pc + 2) (w (top_var (rest ks)) ∷ rest (rest ks))
   IsAt env (ToPick a b ∷ k) pc ks =
-      (t : ℕ) × (end : ℕ) × HasOne ks × IsTemp (length (rest ks)) t × Does pc (Branch (var (top_var ks)) (at_label (pc + 1)) (at_label (pc + 1 + expr_size a + 1))) × (gives a ≡ true) × ExprAt (length (rest ks)) t (pc + 1) a × Does (pc + 1 + expr_size a) (Jump (at_label end)) × (gives b ≡ true) × ExprAt (length (rest ks)) t (pc + 1 + expr_size a + 1) b × (pc + 1 + expr_size a + 1 + expr_size b ≡ end) × IsAt env k end (w t ∷ rest ks)
+      (t : ℕ) × (end : ℕ) × HasOne ks × IsTemp (length (rest ks)) t
+      × Does pc (Branch (var (top_var ks)) (at_label (pc + 1)) (at_label (pc + 1 + expr_size a + 1)))
+      × (gives a ≡ true) × ExprAt (length (rest ks)) t (pc + 1) a
+      × Does (pc + 1 + expr_size a) (Jump (at_label end)) × (gives b ≡ true)
+      × ExprAt (length (rest ks)) t (pc + 1 + expr_size a + 1) b × (pc + 1 + expr_size a + 1 + expr_size b ≡ end)
+      × IsAt env k end (w t ∷ rest ks)
   IsAt env (ToStore kind place ∷ k) pc ks =
-      (t : ℕ) × HasOne ks × BaseWaits place (rest ks) × IsTemp (length (below_store place ks)) t × StoreAt kind place t (top_var (rest ks)) (top_var ks) pc × IsAt env k (pc + store_size) (w t ∷ below_store place ks)
+      (t : ℕ) × HasOne ks × BaseWaits place (rest ks) × IsTemp (length (below_store place ks)) t
+      × StoreAt kind place t (top_var (rest ks)) (top_var ks) pc
+      × IsAt env k (pc + store_size) (w t ∷ below_store place ks)
   IsAt env (ToPop ∷ k) pc ks = HasOne ks × IsAt env k pc (rest ks)
   IsAt env (ToArgs p row args i ∷ k) pc ks =
-      (ts : List ℕ) × (t : ℕ) × (i ≤ length args) × (i ≤ length ks) × ListArgsAt (length ks) ts pc (drop i args) × IsTemp (length (drop i ks)) t × Stands (pc + args_size (drop i args)) p (Api (answer_var (gives_answer row) t) (shape_of row) (map var (reverse_aux (vars_of (take i ks)) ts)) []) × IsAt env k (pc + args_size (drop i args) + 1) (pushed_if (gives_answer row) t (drop i ks))
+      (ts : List ℕ) × (t : ℕ) × (i ≤ length args) × (i ≤ length ks) × ListArgsAt (length ks) ts pc (drop i args)
+      × IsTemp (length (drop i ks)) t × Stands (pc + args_size (drop i args)) p
+      (Api (answer_var (gives_answer row) t) (shape_of row) (map var (reverse_aux (vars_of (take i ks)) ts)) [])
+      × IsAt env k (pc + args_size (drop i args) + 1) (pushed_if (gives_answer row) t (drop i ks))
   IsAt env (ToForget ∷ k) pc ks = IsAt env k pc []
   IsAt env (ToExec a ∷ k) pc ks = (ks ≡ []) × StmtAt env pc a × IsAt env k (pc + stmt_size a) []
   IsAt env (ToDeclare rs ∷ k) pc ks = (ks ≡ []) × ReachAt pc rs × IsAt env k (pc + declare_size rs) []
-  IsAt env (ToBind x ∷ k) pc ks = HasOne ks × (rest ks ≡ []) × (x < nl) × Does pc (Set (to_var x) (var (top_var ks))) × IsAt env k (pc + 1) []
+  IsAt env (ToBind x ∷ k) pc ks = HasOne ks × (rest ks ≡ []) × (x < nl)
+      × Does pc (Set (to_var x) (var (top_var ks))) × IsAt env k (pc + 1) []
   IsAt env (ToChoose a b ∷ k) pc ks =
-      (end : ℕ) × HasOne ks × (rest ks ≡ []) × Does pc (Branch (var (top_var ks)) (at_label (pc + 1)) (at_label (pc + 1 + stmt_size a + join_size b))) × StmtAt env (pc + 1) a × JoinAt b (pc + 1 + stmt_size a) end × OtherAt env b (pc + 1 + stmt_size a + join_size b) end × IsAt env k end []
+      (end : ℕ) × HasOne ks × (rest ks ≡ []) × Does pc (Branch (var (top_var ks)) (at_label (pc + 1))
+      (at_label (pc + 1 + stmt_size a + join_size b))) × StmtAt env (pc + 1) a
+      × JoinAt b (pc + 1 + stmt_size a) end × OtherAt env b (pc + 1 + stmt_size a + join_size b) end
+      × IsAt env k end []
   IsAt env (ToJoin ∷ k) pc ks = (end : ℕ) × ((pc ≡ end) ⊎ Does pc (Jump (at_label end))) × IsAt env k end ks
   IsAt env (ToRest block i ∷ k) pc ks =
-      (outer : Env) × (end : ℕ) × (ks ≡ []) × ListAt env pc (drop i block) end × Inside env outer block end × IsAt outer k end []
+      (outer : Env) × (end : ℕ) × (ks ≡ []) × ListAt env pc (drop i block) end × Inside env outer block end
+      × IsAt outer k end []
   IsAt env (ToTest loop ∷ k) pc ks = (ks ≡ []) × LoopAt env pc loop × IsAt env k (end_of_loop pc loop) []
   IsAt env (ToTurn loop ∷ k) pc ks =
-      (head : ℕ) × HasOne ks × (rest ks ≡ []) × Does pc (Branch (var (top_var ks)) (at_label (loop_body head loop.test)) (at_label (end_of_loop head loop))) × LoopAt env head loop × IsAt env k (end_of_loop head loop) []
+      (head : ℕ) × HasOne ks × (rest ks ≡ []) × Does pc (Branch (var (top_var ks))
+      (at_label (loop_body head loop.test)) (at_label (end_of_loop head loop))) × LoopAt env head loop
+      × IsAt env k (end_of_loop head loop) []
   IsAt env (ToAgain loop ∷ k) pc ks =
-      (outer : Env) × (head : ℕ) × (ks ≡ []) × LoopAt outer head loop × (pc ≡ loop_again head loop.test loop.body) × (env.breaks ≡ end_of_loop head loop) × (env.continues ≡ pc) × ((l : Name) → env.labels l ≡ outer.labels l) × IsAt outer k (end_of_loop head loop) []
+      (outer : Env) × (head : ℕ) × (ks ≡ []) × LoopAt outer head loop × (pc ≡ loop_again head loop.test loop.body)
+      × (env.breaks ≡ end_of_loop head loop) × (env.continues ≡ pc) × ((l : Name) → env.labels l ≡ outer.labels l)
+      × IsAt outer k (end_of_loop head loop) []
   IsAt env (ToBack loop ∷ k) pc ks =
-      (head : ℕ) × (ks ≡ []) × Does pc (Jump (at_label head)) × LoopAt env head loop × IsAt env k (end_of_loop head loop) []
+      (head : ℕ) × (ks ≡ []) × Does pc (Jump (at_label head)) × LoopAt env head loop
+      × IsAt env k (end_of_loop head loop) []
   IsAt env (ToSwitch p a ∷ k) pc ks =
       HasOne ks × (rest ks ≡ []) × SwitchAt env pc p (top_var ks) a × IsAt env k (pc + switch_size a) []
   IsAt env (ToSwitchEnd ∷ k) pc ks =
-      (outer : Env) × (ks ≡ []) × (env.breaks ≡ pc) × (env.continues ≡ outer.continues) × ((l : Name) → env.labels l ≡ outer.labels l) × IsAt outer k pc []
+      (outer : Env) × (ks ≡ []) × (env.breaks ≡ pc) × (env.continues ≡ outer.continues)
+      × ((l : Name) → env.labels l ≡ outer.labels l) × IsAt outer k pc []
   IsAt env (ToReturn p ∷ k) pc ks = HasOne ks × Stands pc p (Return (Some (var (top_var ks)))) × IsAt env k (pc + 1) []
   IsAt env (ToEnd p v ∷ k) pc ks =
       (ks ≡ []) × (env.breaks ≡ pc) × (env.continues ≡ pc) × ((l : Name) → env.labels l ≡ pc) × EndAt v p pc

@@ -1,5 +1,6 @@
 -- The values of a run of a function, in the variables of its code.
-use Rattle.std.proofs.Common.{◌≡◌, ◌≢◌, ℕ, zero, suc, ◌+◌, ◌*◌, ◌<◌, ◌≤◌, ◌⊎◌, List, [], ◌∷◌, ◌++◌, length, replicate, Option, Some, None, refl, sym, ap, ◌∙◌, subst, arith, inl, inr, Bool}
+use Rattle.std.proofs.Common.{◌≡◌, ◌≢◌, ℕ, zero, suc, ◌+◌, ◌*◌, ◌<◌, ◌≤◌, ◌⊎◌, List, [], ◌∷◌, ◌++◌, length, replicate}
+use Rattle.std.proofs.Common.{Option, Some, None, refl, sym, ap, ◌∙◌, subst, arith, inl, inr, Bool}
 use Rattle.std.specs.Prelude.{slice_set}
 use Rattle.std.proofs.lemmas.Bool.{cases_eq}
 use Rattle.pungi_base.specs.declared.pos.Pos.{Pos}
@@ -22,7 +23,8 @@ set_same [] x c h = absurd (omega arith)
 set_same (v ∷ vars) zero c h = refl
 set_same (v ∷ vars) (suc x) c h = set_same vars x c (omega arith)
 
-pub set_other : (vars : List Content) (x y : ℕ) (c : Content) → x ≢ y → content_at (slice_set vars x c) y ≡ content_at vars y
+pub set_other : (vars : List Content) (x y : ℕ) (c : Content) → x ≢ y
+    → content_at (slice_set vars x c) y ≡ content_at vars y
 set_other [] x y c h = refl
 set_other (v ∷ vars) zero zero c h = absurd (h refl)
 set_other (v ∷ vars) zero (suc y) c h = refl
@@ -58,7 +60,8 @@ module _ (code : List Line) (nl room : ℕ) where
     pub enough : nl ≤ room
 
   -- a write elsewhere leaves them
-  pub stack_above : (vars : List Content) (vs : List Value) (ks : List Waiting) (x : ℕ) (c : Content) → nl + 5 * length ks ≤ x → Stack vars vs ks → Stack (slice_set vars x c) vs ks
+  pub stack_above : (vars : List Content) (vs : List Value) (ks : List Waiting) (x : ℕ) (c : Content)
+      → nl + 5 * length ks ≤ x → Stack vars vs ks → Stack (slice_set vars x c) vs ks
   stack_above vars [] [] x c h k = tt
   stack_above vars [] (y ∷ ks) x c h k = absurd k
   stack_above vars (v ∷ vs) [] x c h k = absurd k
@@ -67,7 +70,8 @@ module _ (code : List Line) (nl room : ℕ) where
       let ne : x ≢ y.var = omega (arith, h, up) in
       (set_other vars x y.var c ne ∙ k.0, k.1, k.2, stack_above vars vs ks x c (omega (arith, h)) k.3)
 
-  pub stack_below : (vars : List Content) (vs : List Value) (ks : List Waiting) (x : ℕ) (c : Content) → x < nl → Stack vars vs ks → Stack (slice_set vars x c) vs ks
+  pub stack_below : (vars : List Content) (vs : List Value) (ks : List Waiting) (x : ℕ) (c : Content) → x < nl
+      → Stack vars vs ks → Stack (slice_set vars x c) vs ks
   stack_below vars [] [] x c h k = tt
   stack_below vars [] (y ∷ ks) x c h k = absurd k
   stack_below vars (v ∷ vs) [] x c h k = absurd k
@@ -77,7 +81,10 @@ module _ (code : List Line) (nl room : ℕ) where
       (set_other vars x y.var c ne ∙ k.0, k.1, k.2, stack_below vars vs ks x c h k.3)
 
   -- a value that was computed stands above the values vs
-  pub pushed_known : (kn : Option Bool) (ls : List Waiting) (s : State) (m : Regs) (vs : List Value) (ks : List Waiting) (t : ℕ) (v : Value) → IsKnown kn v → IsTemp code nl room (length ks) t → Match ls s m → Stack m.vars vs ks → Match (record { var = t; known = kn } ∷ ks) (record s { values = v ∷ vs }) (put (to_var t) (Holds v) m)
+  pub pushed_known : (kn : Option Bool) (ls : List Waiting) (s : State) (m : Regs) (vs : List Value)
+      (ks : List Waiting) (t : ℕ) (v : Value) → IsKnown kn v → IsTemp code nl room (length ks) t → Match ls s m
+      → Stack m.vars vs ks → Match (record { var = t; known = kn } ∷ ks) (record s { values = v ∷ vs })
+      (put (to_var t) (Holds v) m)
   pushed_known kn ls s m vs ks t v is at h k =
       let long : length m.vars ≡ room = h.long in
       let low : nl + 5 * length ks ≤ t = at.0 in
@@ -88,17 +95,26 @@ module _ (code : List Line) (nl room : ℕ) where
         locals = λ x lt.
             let ne : t ≢ x = omega (arith, lt, low) in
             set_other m.vars t x (Holds v) ne ∙ h.locals x lt;
-        stack = (set_same m.vars t (Holds v) (omega (arith, in', long)), is, at, stack_above m.vars vs ks t (Holds v) low k);
+        stack = (
+          set_same m.vars t (Holds v) (omega (arith, in', long)),
+          is,
+          at,
+          stack_above m.vars vs ks t
+              (Holds v) low k,
+        );
         long = set_long m.vars t (Holds v) ∙ h.long;
         few = h.few;
         enough = h.enough;
       }
 
-  pub pushed : (ls : List Waiting) (s : State) (m : Regs) (vs : List Value) (ks : List Waiting) (t : ℕ) (v : Value) → IsTemp code nl room (length ks) t → Match ls s m → Stack m.vars vs ks → Match (w t ∷ ks) (record s { values = v ∷ vs }) (put (to_var t) (Holds v) m)
+  pub pushed : (ls : List Waiting) (s : State) (m : Regs) (vs : List Value) (ks : List Waiting) (t : ℕ) (v : Value)
+      → IsTemp code nl room (length ks) t → Match ls s m → Stack m.vars vs ks
+      → Match (w t ∷ ks) (record s { values = v ∷ vs }) (put (to_var t) (Holds v) m)
   pushed ls s m vs ks t v at h k = pushed_known None ls s m vs ks t v tt at h k
 
   -- fewer values
-  pub popped : (ls : List Waiting) (s : State) (m : Regs) (vs : List Value) (ks : List Waiting) → Match ls s m → Stack m.vars vs ks → Match ks (record s { values = vs }) m
+  pub popped : (ls : List Waiting) (s : State) (m : Regs) (vs : List Value) (ks : List Waiting) → Match ls s m
+      → Stack m.vars vs ks → Match ks (record s { values = vs }) m
   popped ls s m vs ks h k = record {
     world = h.world;
     used = h.used;
@@ -110,12 +126,16 @@ module _ (code : List Line) (nl room : ℕ) where
   }
 
   -- a local that was written
-  assigned_local : (locals vars : List Content) (x y : ℕ) (c : Content) → x < length locals → x < length vars → (x ≡ y) ⊎ (x ≢ y) → content_at vars y ≡ content_at locals y → content_at (slice_set vars x c) y ≡ content_at (slice_set locals x c) y
+  assigned_local : (locals vars : List Content) (x y : ℕ) (c : Content) → x < length locals → x < length vars
+      → (x ≡ y) ⊎ (x ≢ y) → content_at vars y ≡ content_at locals y
+      → content_at (slice_set vars x c) y ≡ content_at (slice_set locals x c) y
   assigned_local locals vars x y c a b (inl e) h =
-      subst (λ z. content_at (slice_set vars x c) z ≡ content_at (slice_set locals x c) z) e (set_same vars x c b ∙ sym (set_same locals x c a))
+      subst (λ z. content_at (slice_set vars x c) z ≡ content_at (slice_set locals x c) z) e
+      (set_same vars x c b ∙ sym (set_same locals x c a))
   assigned_local locals vars x y c a b (inr ne) h = set_other vars x y c ne ∙ h ∙ sym (set_other locals x y c ne)
 
-  pub assigned : (ks : List Waiting) (s : State) (m : Regs) (x : ℕ) (c : Content) → x < nl → Match ks s m → Match ks (record s { locals = slice_set s.locals x c }) (put (to_var x) c m)
+  pub assigned : (ks : List Waiting) (s : State) (m : Regs) (x : ℕ) (c : Content) → x < nl → Match ks s m
+      → Match ks (record s { locals = slice_set s.locals x c }) (put (to_var x) c m)
   assigned ks s m x c lt h =
       let few : length s.locals ≡ nl = h.few in
       let long : length m.vars ≡ room = h.long in
@@ -123,7 +143,8 @@ module _ (code : List Line) (nl room : ℕ) where
       record {
         world = h.world;
         used = h.used;
-        locals = λ y in'. assigned_local s.locals m.vars x y c (omega (arith, lt, few)) (omega (arith, lt, long, enough)) (cases_eq x y) (h.locals y in');
+        locals = λ y in'. assigned_local s.locals m.vars x y c (omega (arith, lt, few))
+            (omega (arith, lt, long, enough)) (cases_eq x y) (h.locals y in');
         stack = stack_below m.vars s.values ks x c lt h.stack;
         long = set_long m.vars x c ∙ h.long;
         few = set_long s.locals x c ∙ h.few;
@@ -131,7 +152,8 @@ module _ (code : List Line) (nl room : ℕ) where
       }
 
   -- a write above what waits
-  pub written_above : (ks : List Waiting) (s : State) (m : Regs) (t : ℕ) (c : Content) → IsTemp code nl room (length ks) t → Match ks s m → Match ks s (put (to_var t) c m)
+  pub written_above : (ks : List Waiting) (s : State) (m : Regs) (t : ℕ) (c : Content)
+      → IsTemp code nl room (length ks) t → Match ks s m → Match ks s (put (to_var t) c m)
   written_above ks s m t c at h =
       let low : nl + 5 * length ks ≤ t = at.0 in
       record {
@@ -147,7 +169,9 @@ module _ (code : List Line) (nl room : ℕ) where
       }
 
   -- what the world returned
-  pub reacted : (ks : List Waiting) (s : State) (m : Regs) (x : World) (n : ℕ) (p : Pos) → Match ks s m → Match ks (record s { world = x; used = s.used ++ replicate n p }) (record m { world = x; used = m.used ++ replicate n p })
+  pub reacted : (ks : List Waiting) (s : State) (m : Regs) (x : World) (n : ℕ) (p : Pos) → Match ks s m
+      → Match ks (record s { world = x; used = s.used ++ replicate n p }) (record m
+      { world = x; used = m.used ++ replicate n p })
   reacted ks s m x n p h = record {
     world = refl;
     used = ap (λ u. u ++ replicate n p) h.used;
@@ -159,11 +183,14 @@ module _ (code : List Line) (nl room : ℕ) where
   }
 
   -- what is known of a value may be forgotten
-  pub forgot : (vars : List Content) (v : Value) (vs : List Value) (x : Waiting) (ks : List Waiting) → Stack vars (v ∷ vs) (x ∷ ks) → Stack vars (v ∷ vs) (w x.var ∷ ks)
+  pub forgot : (vars : List Content) (v : Value) (vs : List Value) (x : Waiting) (ks : List Waiting)
+      → Stack vars (v ∷ vs) (x ∷ ks) → Stack vars (v ∷ vs) (w x.var ∷ ks)
   forgot vars v vs x ks h = (h.0, tt, h.2, h.3)
 
   -- one value is written over another, below others
-  pub kept_below : (ls : List Waiting) (s : State) (m : Regs) (o v : Value) (vs : List Value) (x z : Waiting) (ks : List Waiting) → z.known ≡ None → Match ls s m → Stack m.vars (o ∷ v ∷ vs) (x ∷ z ∷ ks) → Match (x ∷ z ∷ ks) (record s { values = o ∷ o ∷ vs }) (put (to_var z.var) (Holds o) m)
+  pub kept_below : (ls : List Waiting) (s : State) (m : Regs) (o v : Value) (vs : List Value) (x z : Waiting)
+      (ks : List Waiting) → z.known ≡ None → Match ls s m → Stack m.vars (o ∷ v ∷ vs) (x ∷ z ∷ ks)
+      → Match (x ∷ z ∷ ks) (record s { values = o ∷ o ∷ vs }) (put (to_var z.var) (Holds o) m)
   kept_below ls s m o v vs x z ks un h k =
       let long : length m.vars ≡ room = h.long in
       let zlow : nl + 5 * length ks ≤ z.var = k.3.2.0 in
@@ -177,13 +204,27 @@ module _ (code : List Line) (nl room : ℕ) where
         locals = λ y lt.
             let ne' : z.var ≢ y = omega (arith, lt, zlow) in
             set_other m.vars z.var y (Holds o) ne' ∙ h.locals y lt;
-        stack = (set_other m.vars z.var x.var (Holds o) ne ∙ k.0, k.1, k.2, (set_same m.vars z.var (Holds o) (omega (arith, zin, long)), subst (λ b. IsKnown b o) (sym un) tt, k.3.2, stack_above m.vars vs ks z.var (Holds o) zlow k.3.3));
+        stack = (
+          set_other m.vars z.var x.var (Holds o) ne
+              ∙ k.0,
+          k.1,
+          k.2,
+          (
+            set_same m.vars z.var (Holds o) (omega (arith, zin, long)),
+            subst (λ b. IsKnown b o)
+                (sym un) tt,
+            k.3.2,
+            stack_above m.vars vs ks z.var (Holds o) zlow k.3.3,
+          ),
+        );
         long = set_long m.vars z.var (Holds o) ∙ h.long;
         few = h.few;
         enough = h.enough;
       }
 
-  pub kept_under : (ls : List Waiting) (s : State) (m : Regs) (o b v : Value) (vs : List Value) (x y z : Waiting) (ks : List Waiting) → z.known ≡ None → Match ls s m → Stack m.vars (o ∷ b ∷ v ∷ vs) (x ∷ y ∷ z ∷ ks) → Match (x ∷ y ∷ z ∷ ks) (record s { values = o ∷ b ∷ o ∷ vs }) (put (to_var z.var) (Holds o) m)
+  pub kept_under : (ls : List Waiting) (s : State) (m : Regs) (o b v : Value) (vs : List Value) (x y z : Waiting)
+      (ks : List Waiting) → z.known ≡ None → Match ls s m → Stack m.vars (o ∷ b ∷ v ∷ vs) (x ∷ y ∷ z ∷ ks)
+      → Match (x ∷ y ∷ z ∷ ks) (record s { values = o ∷ b ∷ o ∷ vs }) (put (to_var z.var) (Holds o) m)
   kept_under ls s m o b v vs x y z ks un h k =
       let long : length m.vars ≡ room = h.long in
       let zlow : nl + 5 * length ks ≤ z.var = k.3.3.2.0 in
@@ -199,7 +240,25 @@ module _ (code : List Line) (nl room : ℕ) where
         locals = λ i lt.
             let ne' : z.var ≢ i = omega (arith, lt, zlow) in
             set_other m.vars z.var i (Holds o) ne' ∙ h.locals i lt;
-        stack = (set_other m.vars z.var x.var (Holds o) nex ∙ k.0, k.1, k.2, (set_other m.vars z.var y.var (Holds o) ney ∙ k.3.0, k.3.1, k.3.2, (set_same m.vars z.var (Holds o) (omega (arith, zin, long)), subst (λ c. IsKnown c o) (sym un) tt, k.3.3.2, stack_above m.vars vs ks z.var (Holds o) zlow k.3.3.3)));
+        stack = (
+          set_other m.vars z.var x.var (Holds o) nex
+              ∙ k.0,
+          k.1,
+          k.2,
+          (
+            set_other m.vars z.var y.var (Holds o) ney
+                ∙ k.3.0,
+            k.3.1,
+            k.3.2,
+            (
+              set_same m.vars z.var (Holds o) (omega (arith, zin, long)),
+              subst
+                  (λ c. IsKnown c o) (sym un) tt,
+              k.3.3.2,
+              stack_above m.vars vs ks z.var (Holds o) zlow k.3.3.3,
+            ),
+          ),
+        );
         long = set_long m.vars z.var (Holds o) ∙ h.long;
         few = h.few;
         enough = h.enough;

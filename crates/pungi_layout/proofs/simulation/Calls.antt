@@ -1,5 +1,6 @@
 -- The code does the calls of a function.
-use Rattle.std.proofs.Common.{◌≡◌, ℕ, zero, suc, ◌+◌, ◌≤◌, List, [], ◌∷◌, ◌++◌, length, map, take, drop, replicate, Option, Some, None, refl, sym, ap, ◌∙◌, subst, arith, Bool, true, false}
+use Rattle.std.proofs.Common.{◌≡◌, ℕ, zero, suc, ◌+◌, ◌≤◌, List, [], ◌∷◌, ◌++◌, length, map, take, drop, replicate}
+use Rattle.std.proofs.Common.{Option, Some, None, refl, sym, ap, ◌∙◌, subst, arith, Bool, true, false}
 use mathlib.Core.List.{reverse_aux}
 use Rattle.std.specs.Prelude.{slice_get}
 use Rattle.pungi_base.specs.declared.choice.Choice.{Choice}
@@ -17,14 +18,16 @@ use Rattle.pungi_meaning.specs.Run.{with_operations, act}
 use Rattle.pungi_meaning.specs.Work.{newest, unused, with_result, shape_of}
 use Rattle.pungi_code.specs.declared.code.Line.{Line}
 use Rattle.pungi_code.specs.declared.instr.Instr.TheVariants.{Api}
-use Rattle.pungi_code.specs.Registers.{Regs, put, both_values, all_values, with_values, after_effect, choices_left, put_answer}
+use Rattle.pungi_code.specs.Registers.{Regs, put, both_values, all_values, with_values, after_effect, choices_left}
+use Rattle.pungi_code.specs.Registers.{put_answer}
 use Rattle.pungi_code.specs.Perform as does
 use Rattle.pungi_code.specs.Run.{exec}
 use Rattle.pungi_layout.specs.code.Parts.{gives_answer}
 use Rattle.pungi_layout.specs.code.Sizes.{expr_size, args_size}
 use Rattle.pungi_layout.specs.code.ExprCode.{to_var, var}
 use Rattle.pungi_layout.specs.code.Scopes.{Env}
-use Rattle.pungi_layout.proofs.relation.Relation.{Waiting, w, vars_of, answer_var, pushed_if, Stands, IsTemp, ListArgsAt, IsAt}
+use Rattle.pungi_layout.proofs.relation.Relation.{Waiting, w, vars_of, answer_var, pushed_if, Stands, IsTemp}
+use Rattle.pungi_layout.proofs.relation.Relation.{ListArgsAt, IsAt}
 use Rattle.pungi_layout.proofs.relation.Values.{Stack, Match, pushed, popped, reacted}
 use Rattle.pungi_layout.proofs.simulation.WorldAnswers.{IsAnswer, call_answer}
 use Rattle.pungi_layout.proofs.relation.Steps.{Continues, IsDone, first, still, one, react_by}
@@ -40,7 +43,8 @@ is_next [] (suc i) = refl
 is_next (x ∷ xs) zero = refl
 is_next (x ∷ xs) (suc i) = is_later x xs i (slice_get xs i) (is_next xs i)
   where
-    is_later : {A : Type 0} (x : A) (xs : List A) (i : ℕ) (o : Option A) → IsNext xs i o (drop i xs) → IsNext (x ∷ xs) (suc i) o (drop i xs)
+    is_later : {A : Type 0} (x : A) (xs : List A) (i : ℕ) (o : Option A) → IsNext xs i o (drop i xs)
+        → IsNext (x ∷ xs) (suc i) o (drop i xs)
     is_later x xs i None h = h
     is_later x xs i (Some a) h = h
 
@@ -52,7 +56,10 @@ all_dropped (x ∷ xs) (suc i) le e = ap suc (all_dropped xs i (omega (arith, le
 
 module _ (choices : List Choice) (code : List Line) (nl room : ℕ) where
   -- the values of the newest variables, before others
-  values_before : (n : ℕ) (vars : List Content) (vs : List Value) (ks : List Waiting) (others : List ℕ) (known : List Value) → n ≤ length ks → Stack code nl room vars vs ks → all_values (map var others) vars ≡ Some known → all_values (map var (reverse_aux (vars_of (take n ks)) others)) vars ≡ Some (reverse_aux (take n vs) known)
+  values_before : (n : ℕ) (vars : List Content) (vs : List Value) (ks : List Waiting) (others : List ℕ)
+      (known : List Value) → n ≤ length ks → Stack code nl room vars vs ks
+      → all_values (map var others) vars ≡ Some known
+      → all_values (map var (reverse_aux (vars_of (take n ks)) others)) vars ≡ Some (reverse_aux (take n vs) known)
   values_before zero vars vs ks others known le sk e = e
   values_before (suc n) vars vs [] others known le sk e = absurd (omega (arith, le))
   values_before (suc n) vars [] (x ∷ ks) others known le sk e = absurd sk
@@ -60,48 +67,84 @@ module _ (choices : List Choice) (code : List Line) (nl room : ℕ) where
       values_before n vars vs ks (x.var ∷ others) (v ∷ known) (omega (arith, le)) sk.3
       (ap (λ c. both_values c (all_values (map var others) vars)) sk.0 ∙ ap (λ o. both_values (Holds v) o) e)
 
-  pub newest_values : (n : ℕ) (vars : List Content) (vs : List Value) (ks : List Waiting) → n ≤ length ks → Stack code nl room vars vs ks → all_values (map var (reverse_aux (vars_of (take n ks)) [])) vars ≡ Some (newest n vs)
+  pub newest_values : (n : ℕ) (vars : List Content) (vs : List Value) (ks : List Waiting) → n ≤ length ks
+      → Stack code nl room vars vs ks → all_values (map var (reverse_aux (vars_of (take n ks)) [])) vars
+      ≡ Some (newest n vs)
   newest_values n vars vs ks le sk = values_before n vars vs ks [] [] le sk refl
 
   -- the values below
-  pub stack_drop : (n : ℕ) (vars : List Content) (vs : List Value) (ks : List Waiting) → Stack code nl room vars vs ks → Stack code nl room vars (drop n vs) (drop n ks)
+  pub stack_drop : (n : ℕ) (vars : List Content) (vs : List Value) (ks : List Waiting)
+      → Stack code nl room vars vs ks → Stack code nl room vars (drop n vs) (drop n ks)
   stack_drop zero vars vs ks sk = sk
   stack_drop (suc n) vars [] [] sk = tt
   stack_drop (suc n) vars [] (x ∷ ks) sk = absurd sk
   stack_drop (suc n) vars (v ∷ vs) [] sk = absurd sk
   stack_drop (suc n) vars (v ∷ vs) (x ∷ ks) sk = stack_drop n vars vs ks sk.3
 
-  answered_by : (g : Bool) (o : Option Value) → IsAnswer g o → (op : Operation) (t : ℕ) (k : List Todo) (s : State) (env : Env) (pc : ℕ) (ks ls : List Waiting) (vs : List Value) (m q : Regs) → ((j : ℕ) → exec choices code (suc j) pc m ≡ with_operations (op ∷ []) (exec choices code j (pc + 1) (put_answer (answer_var g t) o q))) → IsTemp code nl room (length ks) t → IsAt code nl room env k (pc + 1) (pushed_if g t ks) → Match code nl room ls s q → Stack code nl room q.vars vs ks → Continues choices code nl room (op ∷ []) k (record s { values = with_result o vs }) 0 pc m
-  answered_by true None has op t k s env pc ks ls vs m q e at is ma sk = absurd (let h : None ≡ Some has.0 = has.1 in cc)
+  answered_by : (g : Bool) (o : Option Value) → IsAnswer g o
+      → (op : Operation) (t : ℕ) (k : List Todo) (s : State) (env : Env) (pc : ℕ) (ks ls : List Waiting)
+      (vs : List Value) (m q : Regs) → ((j : ℕ)
+      → exec choices code (suc j) pc m ≡ with_operations (op
+      ∷ []) (exec choices code j (pc + 1) (put_answer (answer_var g t) o q))) → IsTemp code nl room (length ks) t
+      → IsAt code nl room env k (pc + 1) (pushed_if g t ks) → Match code nl room ls s q
+      → Stack code nl room q.vars vs ks → Continues choices code nl room (op ∷ []) k
+      (record s { values = with_result o vs }) 0 pc m
+  answered_by true None has op t k s env pc ks ls vs m q e at is ma sk = absurd
+      (let h : None ≡ Some has.0 = has.1 in cc)
   answered_by true (Some v) has op t k s env pc ks ls vs m q e at is ma sk =
-      one choices code nl room (op ∷ []) k (record s { values = v ∷ vs }) 0 pc m (pc + 1) (put (to_var t) (Holds v) q) env (w t ∷ ks) (omega arith) e is (pushed code nl room ls s q vs ks t v at ma sk)
+      one choices code nl room (op ∷ []) k (record s { values = v ∷ vs }) 0 pc m (pc + 1)
+      (put (to_var t) (Holds v) q) env (w t ∷ ks) (omega arith) e is (pushed code nl room ls s q vs ks t v at ma
+      sk)
   answered_by false (Some v) has op t k s env pc ks ls vs m q e at is ma sk = absurd (cc)
   answered_by false None has op t k s env pc ks ls vs m q e at is ma sk =
-      one choices code nl room (op ∷ []) k (record s { values = vs }) 0 pc m (pc + 1) q env ks (omega arith) e is (popped code nl room ls s q vs ks ma sk)
+      one choices code nl room (op ∷ []) k (record s { values = vs }) 0 pc m (pc + 1) q env ks (omega arith) e is
+      (popped code nl room ls s q vs ks ma sk)
 
   -- a call with its arguments
-  call_sim : (p : Pos) (row : Row) (n t : ℕ) (k : List Todo) (s : State) (env : Env) (pc : ℕ) (ks : List Waiting) (m : Regs) → n ≤ length ks → Stands code nl room pc p (Api (answer_var (gives_answer row) t) (shape_of row) (map var (reverse_aux (vars_of (take n ks)) [])) []) → IsTemp code nl room (length (drop n ks)) t → IsAt code nl room env k (pc + 1) (pushed_if (gives_answer row) t (drop n ks)) → Match code nl room ks s m → IsDone choices code nl room (call choices p row n k s) 0 pc m
+  call_sim : (p : Pos) (row : Row) (n t : ℕ) (k : List Todo) (s : State) (env : Env) (pc : ℕ) (ks : List Waiting)
+      (m : Regs) → n ≤ length ks → Stands code nl room pc p (Api (answer_var (gives_answer row) t) (shape_of row)
+      (map var (reverse_aux (vars_of (take n ks)) [])) []) → IsTemp code nl room (length (drop n ks)) t
+      → IsAt code nl room env k (pc + 1) (pushed_if (gives_answer row) t (drop n ks)) → Match code nl room ks s m
+      → IsDone choices code nl room (call choices p row n k s) 0 pc m
   call_sim p row n t k s env pc ks m le h at is ma =
       let g = gives_answer row in
       let vals = newest n s.values in
-      let go = λ (j : ℕ) (x : Effect) (q : Regs). with_operations (Called p (shape_of row) vals x ∷ []) (exec choices code j (pc + 1) (put_answer (answer_var g t) x.value q)) in
-      react_by choices code nl room (call_effect s.world (shape_of row) vals (unused choices s)) p s m pc (after_call p row vals (drop n s.values) k) go
-      (λ j. first choices code nl room pc p (Api (answer_var g t) (shape_of row) (map var (reverse_aux (vars_of (take n ks)) [])) []) m h j
-      ∙ ap (λ o. with_values o p (does.call choices (answer_var g t) (shape_of row) [] p (exec choices code j) pc m)) (newest_values n m.vars s.values ks le ma.stack)
+      let go = λ (j : ℕ) (x : Effect) (q : Regs). with_operations (Called p (shape_of row) vals x ∷ [])
+      (exec choices code j (pc + 1) (put_answer (answer_var g t) x.value q)) in
+      react_by choices code nl room (call_effect s.world (shape_of row) vals (unused choices s)) p s m pc
+      (after_call p row vals (drop n s.values) k) go
+      (λ j. first choices code nl room pc p (Api (answer_var g t) (shape_of row)
+      (map var (reverse_aux (vars_of (take n ks)) [])) []) m h j
+      ∙ ap (λ o. with_values o p (does.call choices (answer_var g t) (shape_of row) [] p (exec choices code j) pc
+      m)) (newest_values n m.vars s.values ks le ma.stack)
       ∙ ap (λ x. after_effect p (call_effect x (shape_of row) vals (choices_left choices m)) m (go j)) ma.world
       ∙ ap (λ us. after_effect p (call_effect s.world (shape_of row) vals (drop (length us) choices)) m (go j)) ma.used)
-      (λ x is' step. answered_by g x.0.value (call_answer s.world (shape_of row) vals (unused choices s) x is') (Called p (shape_of row) vals x.0) t k (record s { world = x.1; used = s.used ++ replicate x.0.used p }) env pc (drop n ks) ks (drop n s.values) m (record m { world = x.1; used = m.used ++ replicate x.0.used p }) step at is (reacted code nl room ks s m x.1 x.0.used p ma) (stack_drop n m.vars s.values ks ma.stack))
+      (λ x is' step. answered_by g x.0.value (call_answer s.world (shape_of row) vals (unused choices s) x is')
+      (Called p (shape_of row) vals x.0) t k (record s { world = x.1; used = s.used ++ replicate x.0.used p }) env
+      pc (drop n ks) ks (drop n s.values) m (record m { world = x.1; used = m.used ++ replicate x.0.used p }) step
+      at is (reacted code nl room ks s m x.1 x.0.used p ma) (stack_drop n m.vars s.values ks ma.stack))
 
   -- the next argument stands in its variable
-  next_by : (o : Option expr.Value) (p : Pos) (row : Row) (args : List expr.Value) (i : ℕ) (others : List expr.Value) (k : List Todo) (s : State) (env : Env) (pc : ℕ) (ks : List Waiting) (m : Regs) (ts : List ℕ) (t : ℕ) → IsNext args i o others → drop i args ≡ others → i ≤ length args → i ≤ length ks → ListArgsAt code nl room (length ks) ts pc others → IsTemp code nl room (length (drop i ks)) t → Stands code nl room (pc + args_size others) p (Api (answer_var (gives_answer row) t) (shape_of row) (map var (reverse_aux (vars_of (take i ks)) ts)) []) → IsAt code nl room env k (pc + args_size others + 1) (pushed_if (gives_answer row) t (drop i ks)) → Match code nl room ks s m → IsDone choices code nl room (next_arg choices p row args i o k s) 0 pc m
+  next_by : (o : Option expr.Value) (p : Pos) (row : Row) (args : List expr.Value) (i : ℕ)
+      (others : List expr.Value) (k : List Todo) (s : State) (env : Env) (pc : ℕ) (ks : List Waiting) (m : Regs)
+      (ts : List ℕ) (t : ℕ) → IsNext args i o others → drop i args ≡ others → i ≤ length args → i ≤ length ks
+      → ListArgsAt code nl room (length ks) ts pc others → IsTemp code nl room (length (drop i ks)) t
+      → Stands code nl room (pc + args_size others) p (Api (answer_var (gives_answer row) t) (shape_of row)
+      (map var (reverse_aux (vars_of (take i ks)) ts)) [])
+      → IsAt code nl room env k (pc + args_size others + 1) (pushed_if (gives_answer row) t (drop i ks))
+      → Match code nl room ks s m → IsDone choices code nl room (next_arg choices p row args i o k s) 0 pc m
   next_by None p row args i others k s env pc ks m ts t ne same le le' at tmp h is ma =
       let e0 : i ≡ length args = all_dropped args i le (same ∙ ne) in
       let at' : ts ≡ [] = subst (λ xs. ListArgsAt code nl room (length ks) ts pc xs) ne at in
       let size : args_size others ≡ 0 = ap args_size ne in
       let q : pc + args_size others ≡ pc = omega (arith, size) in
-      let h' = subst (λ us. Stands code nl room pc p (Api (answer_var (gives_answer row) t) (shape_of row) (map var (reverse_aux (vars_of (take i ks)) us)) [])) at' (subst (λ x. Stands code nl room x p (Api (answer_var (gives_answer row) t) (shape_of row) (map var (reverse_aux (vars_of (take i ks)) ts)) [])) q h) in
+      let h' = subst (λ us. Stands code nl room pc p (Api (answer_var (gives_answer row) t) (shape_of row)
+      (map var (reverse_aux (vars_of (take i ks)) us)) [])) at' (subst (λ x. Stands code nl room x p
+      (Api (answer_var (gives_answer row) t) (shape_of row) (map var (reverse_aux (vars_of (take i ks)) ts)) []))
+      q h) in
       let is' = subst (λ x. IsAt code nl room env k (x + 1) (pushed_if (gives_answer row) t (drop i ks))) q is in
-      subst (λ n. IsDone choices code nl room (call choices p row n k s) 0 pc m) e0 (call_sim p row i t k s env pc ks m le' h' tmp is' ma)
+      subst (λ n. IsDone choices code nl room (call choices p row n k s) 0 pc m) e0
+      (call_sim p row i t k s env pc ks m le' h' tmp is' ma)
   next_by (Some v) p row args i others k s env pc ks m [] t ne same le le' at tmp h is ma =
       absurd (subst (λ xs. ListArgsAt code nl room (length ks) [] pc xs) ne at)
   next_by (Some v) p row args i others k s env pc ks m (t0 ∷ ts) t ne same le le' at tmp h is ma =
@@ -111,13 +154,15 @@ module _ (choices : List Choice) (code : List Line) (nl room : ℕ) where
       let q : pc + args_size others ≡ pc + expr_size v + args_size rest' = omega (arith, size) in
       let ei : suc i ≡ i + 1 = omega arith in
       let le2 : suc i ≤ length args = next_within args i v (same ∙ ne) in
-      let h' = subst (λ x. Stands code nl room x p (Api (answer_var (gives_answer row) t) (shape_of row) (map var (reverse_aux (vars_of (take i ks)) (t0 ∷ ts))) [])) q h in
+      let h' = subst (λ x. Stands code nl room x p (Api (answer_var (gives_answer row) t) (shape_of row)
+      (map var (reverse_aux (vars_of (take i ks)) (t0 ∷ ts))) [])) q h in
       let is' = subst (λ x. IsAt code nl room env k (x + 1) (pushed_if (gives_answer row) t (drop i ks))) q is in
       still choices code nl room (ToEval v ∷ ToArgs p row args (i + 1) ∷ k) s pc m env ks (
         t0,
         at'.1,
         at'.2,
-        subst (λ b. IsAt code nl room env (ToArgs p row args (i + 1) ∷ k) (pc + expr_size v) (pushed_if b t0 ks)) (sym at'.0)
+        subst (λ b. IsAt code nl room env (ToArgs p row args (i + 1) ∷ k) (pc + expr_size v) (pushed_if b t0 ks))
+            (sym at'.0)
             (subst (λ n. IsAt code nl room env (ToArgs p row args n ∷ k) (pc + expr_size v) (w t0 ∷ ks)) ei
             (ts, t, le2, omega (arith, le'), at'.3, tmp, h', is')),
       ) ma
@@ -128,6 +173,9 @@ module _ (choices : List Choice) (code : List Line) (nl room : ℕ) where
       next_within (y ∷ xs) zero x e = omega arith
       next_within (y ∷ xs) (suc i) x e = omega (arith, next_within xs i x e)
 
-  pub args_sim : (p : Pos) (row : Row) (args : List expr.Value) (i : ℕ) (k : List Todo) (s : State) (env : Env) (pc : ℕ) (ks : List Waiting) (m : Regs) → IsAt code nl room env (ToArgs p row args i ∷ k) pc ks → Match code nl room ks s m → IsDone choices code nl room (act choices (ToArgs p row args i ∷ k) s) 0 pc m
+  pub args_sim : (p : Pos) (row : Row) (args : List expr.Value) (i : ℕ) (k : List Todo) (s : State) (env : Env)
+      (pc : ℕ) (ks : List Waiting) (m : Regs) → IsAt code nl room env (ToArgs p row args i ∷ k) pc ks
+      → Match code nl room ks s m → IsDone choices code nl room (act choices (ToArgs p row args i ∷ k) s) 0 pc m
   args_sim p row args i k s env pc ks m h ma =
-      next_by (slice_get args i) p row args i (drop i args) k s env pc ks m h.0 h.1 (is_next args i) refl h.2 h.3 h.4 h.5 h.6 h.7 ma
+      next_by (slice_get args i) p row args i (drop i args) k s env pc ks m h.0 h.1 (is_next args i) refl h.2 h.3
+      h.4 h.5 h.6 h.7 ma

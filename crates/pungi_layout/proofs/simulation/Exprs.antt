@@ -1,5 +1,6 @@
 -- The code does the expressions of a function: what each leaves has its instructions where the relation says.
-use Rattle.std.proofs.Common.{◌≡◌, ℕ, suc, ◌+◌, pos, List, [], ◌∷◌, length, map, Some, None, refl, sym, ap, subst, arith, Bool, true, false, not, if◌then◌else◌}
+use Rattle.std.proofs.Common.{◌≡◌, ℕ, suc, ◌+◌, pos, List, [], ◌∷◌, length, map, Some, None, refl, sym, ap, subst}
+use Rattle.std.proofs.Common.{arith, Bool, true, false, not, if◌then◌else◌}
 use Rattle.pungi_base.specs.declared.choice.Choice.{Choice}
 use Rattle.pungi_base.specs.declared.kind.Kind.{Kind}
 use Rattle.pungi_base.specs.declared.kind.Kind.TheVariants as tokens
@@ -13,7 +14,8 @@ use Rattle.pungi_world.specs.declared.content.Content.TheVariants.{Holds}
 use Rattle.pungi_world.specs.declared.slot.Slot.TheVariants as slot
 use Rattle.pungi_meaning.specs.declared.op.Op.TheVariants as ops
 use Rattle.pungi_meaning.specs.Values.{op_of, cmp_of, wide, slot_kind, truth}
-use Rattle.pungi_meaning.specs.Todo.{Todo, ToEval, ToLoad, ToOld, ToKeep, ToMinus, ToCompute, ToFit, ToCompare, ToNot, ToRight, ToPick, ToStore, ToPop, ToArgs, State, listed_values}
+use Rattle.pungi_meaning.specs.Todo.{Todo, ToEval, ToLoad, ToOld, ToKeep, ToMinus, ToCompute, ToFit, ToCompare, ToNot}
+use Rattle.pungi_meaning.specs.Todo.{ToRight, ToPick, ToStore, ToPop, ToArgs, State, listed_values}
 use Rattle.pungi_meaning.specs.Exprs.{evaluate, base_first, convert, sign, step, is_and}
 use Rattle.pungi_meaning.specs.Work.{content_at, shape_of}
 use Rattle.pungi_code.specs.declared.atom.Atom.{Atom}
@@ -23,16 +25,20 @@ use Rattle.pungi_code.specs.declared.instr.Instr.TheVariants.{Set, Arith, Load, 
 use Rattle.pungi_code.specs.declared.place.Place.TheVariants.{Global}
 use Rattle.pungi_code.specs.Registers.{Regs, put, content_of}
 use Rattle.pungi_layout.specs.code.Parts.{is_minus, gives, gives_answer}
-use Rattle.pungi_layout.specs.code.Sizes.{expr_size, place_size, values_size, args_size, fit_size, store_size, sign_size}
+use Rattle.pungi_layout.specs.code.Sizes.{expr_size, place_size, values_size, args_size, fit_size, store_size}
+use Rattle.pungi_layout.specs.code.Sizes.{sign_size}
 use Rattle.pungi_layout.specs.code.ExprCode.{to_var, var, bit}
 use Rattle.pungi_layout.specs.code.Scopes.{Env}
-use Rattle.pungi_layout.proofs.relation.Relation.{Waiting, w, answer_var, pushed_if, Stands, Does, One, is_same, IsTemp, FitAt, OldAt, StoreAt, level, PutAt, StepAt, ExprAt, BaseAt, ArgsAt, ListArgsAt, IsAt}
+use Rattle.pungi_layout.proofs.relation.Relation.{Waiting, w, answer_var, pushed_if, Stands, Does, One, is_same, IsTemp}
+use Rattle.pungi_layout.proofs.relation.Relation.{FitAt, OldAt, StoreAt, level, PutAt, StepAt, ExprAt, BaseAt, ArgsAt}
+use Rattle.pungi_layout.proofs.relation.Relation.{ListArgsAt, IsAt}
 use Rattle.pungi_layout.proofs.relation.Values.{Match, pushed, pushed_known}
 use Rattle.pungi_layout.proofs.relation.Steps.{Continues, IsDone, first, set_step, still, one, moved}
 use Rattle.pungi_layout.proofs.simulation.Operators.{bit_is}
 use Rattle.pungi_layout.proofs.simulation.Places.{read_sim, load_sim}
 
-signing_is : (p : Pos) (m : Kind) (kind : ValueKind) (k : List Todo) → sign p m kind k ≡ (if is_minus m then ToMinus p kind ∷ k else k)
+signing_is : (p : Pos) (m : Kind) (kind : ValueKind) (k : List Todo)
+    → sign p m kind k ≡ (if is_minus m then ToMinus p kind ∷ k else k)
 signing_is p (tokens.Punct puncts.Minus) kind k = refl
 signing_is p m kind k = refl
 
@@ -43,22 +49,41 @@ based place b ks = ks
 
 module _ (choices : List Choice) (code : List Line) (nl room : ℕ) where
   -- an operand whose value is wanted
-  pub eval_at : (v : expr.Value) (k : List Todo) (env : Env) (pc t : ℕ) (ks : List Waiting) → gives v ≡ true → IsTemp code nl room (length ks) t → ExprAt code nl room (length ks) t pc v → IsAt code nl room env k (pc + expr_size v) (w t ∷ ks) → IsAt code nl room env (ToEval v ∷ k) pc ks
-  eval_at v k env pc t ks g at e h = (t, at, e, subst (λ b. IsAt code nl room env k (pc + expr_size v) (pushed_if b t ks)) (sym g) h)
+  pub eval_at : (v : expr.Value) (k : List Todo) (env : Env) (pc t : ℕ) (ks : List Waiting) → gives v ≡ true
+      → IsTemp code nl room (length ks) t → ExprAt code nl room (length ks) t pc v
+      → IsAt code nl room env k (pc + expr_size v) (w t ∷ ks) → IsAt code nl room env (ToEval v ∷ k) pc ks
+  eval_at v k env pc t ks g at e h = (
+    t,
+    at,
+    e,
+    subst (λ b. IsAt code nl room env k (pc + expr_size v)
+        (pushed_if b t ks)) (sym g) h,
+  )
 
-  base_at : (place : expr.Place) (k : List Todo) (env : Env) (pc b : ℕ) (ks : List Waiting) → BaseAt code nl room (length ks) b pc place → IsAt code nl room env k (pc + place_size place) (based place b ks) → IsAt code nl room env (base_first place k) pc ks
-  base_at (expr.local_place p n) k env pc b ks h is = let e : pc + 0 ≡ pc = omega arith in moved choices code nl room env k (pc + 0) pc ks e is
-  base_at (expr.global_place p n) k env pc b ks h is = let e : pc + 0 ≡ pc = omega arith in moved choices code nl room env k (pc + 0) pc ks e is
+  base_at : (place : expr.Place) (k : List Todo) (env : Env) (pc b : ℕ) (ks : List Waiting)
+      → BaseAt code nl room (length ks) b pc place
+      → IsAt code nl room env k (pc + place_size place) (based place b ks)
+      → IsAt code nl room env (base_first place k) pc ks
+  base_at (expr.local_place p n) k env pc b ks h is = let e : pc + 0
+      ≡ pc = omega arith in moved choices code nl room env k (pc + 0) pc ks e is
+  base_at (expr.global_place p n) k env pc b ks h is = let e : pc + 0
+      ≡ pc = omega arith in moved choices code nl room env k (pc + 0) pc ks e is
   base_at (expr.field_place p base tag field) k env pc b ks h is = eval_at base k env pc b ks h.0 h.1 h.2 is
   base_at expr.no_place k env pc b ks h is = absurd h
 
-  old_at : (kind : ValueKind) (place : expr.Place) (k : List Todo) (env : Env) (pc b o : ℕ) (ks : List Waiting) → IsTemp code nl room (level place (length ks)) o → OldAt code nl room kind place o b pc → IsAt code nl room env k (pc + 1) (w o ∷ based place b ks) → IsAt code nl room env (ToOld kind place ∷ k) pc (based place b ks)
+  old_at : (kind : ValueKind) (place : expr.Place) (k : List Todo) (env : Env) (pc b o : ℕ) (ks : List Waiting)
+      → IsTemp code nl room (level place (length ks)) o → OldAt code nl room kind place o b pc
+      → IsAt code nl room env k (pc + 1) (w o ∷ based place b ks)
+      → IsAt code nl room env (ToOld kind place ∷ k) pc (based place b ks)
   old_at kind (expr.local_place p n) k env pc b o ks at h is = (o, at, tt, h, is)
   old_at kind (expr.global_place p n) k env pc b o ks at h is = (o, at, tt, h, is)
   old_at kind (expr.field_place p base tag field) k env pc b o ks at h is = (o, at, tt, h, is)
   old_at kind expr.no_place k env pc b o ks at h is = absurd h
 
-  store_at : (kind : ValueKind) (place : expr.Place) (k : List Todo) (env : Env) (pc b s t : ℕ) (ks : List Waiting) → IsTemp code nl room (length ks) t → StoreAt code nl room kind place t b s pc → IsAt code nl room env k (pc + store_size) (w t ∷ ks) → IsAt code nl room env (ToStore kind place ∷ k) pc (w s ∷ based place b ks)
+  store_at : (kind : ValueKind) (place : expr.Place) (k : List Todo) (env : Env) (pc b s t : ℕ) (ks : List Waiting)
+      → IsTemp code nl room (length ks) t → StoreAt code nl room kind place t b s pc
+      → IsAt code nl room env k (pc + store_size) (w t ∷ ks)
+      → IsAt code nl room env (ToStore kind place ∷ k) pc (w s ∷ based place b ks)
   store_at kind (expr.local_place p n) k env pc b s t ks at h is = (t, tt, tt, at, h, is)
   store_at kind (expr.global_place p n) k env pc b s t ks at h is = (t, tt, tt, at, h, is)
   store_at kind (expr.field_place p base tag field) k env pc b s t ks at h is = (t, tt, tt, at, h, is)
@@ -71,44 +96,85 @@ module _ (choices : List Choice) (code : List Line) (nl room : ℕ) where
   based_long expr.no_place b ks = refl
 
   -- an operand above the base of a field
-  over_base : (place : expr.Place) (v : expr.Value) (k : List Todo) (env : Env) (pc b t : ℕ) (ks : List Waiting) → gives v ≡ true → IsTemp code nl room (level place (length ks)) t → ExprAt code nl room (level place (length ks)) t pc v → IsAt code nl room env k (pc + expr_size v) (w t ∷ based place b ks) → IsAt code nl room env (ToEval v ∷ k) pc (based place b ks)
+  over_base : (place : expr.Place) (v : expr.Value) (k : List Todo) (env : Env) (pc b t : ℕ) (ks : List Waiting)
+      → gives v ≡ true → IsTemp code nl room (level place (length ks)) t
+      → ExprAt code nl room (level place (length ks)) t pc v
+      → IsAt code nl room env k (pc + expr_size v) (w t ∷ based place b ks)
+      → IsAt code nl room env (ToEval v ∷ k) pc (based place b ks)
   over_base place v k env pc b t ks g at e is =
       let q = based_long place b ks in
-      eval_at v k env pc t (based place b ks) g (subst (λ d. IsTemp code nl room d t) q at) (subst (λ d. ExprAt code nl room d t pc v) q e) is
+      eval_at v k env pc t (based place b ks) g (subst (λ d. IsTemp code nl room d t) q at)
+      (subst (λ d. ExprAt code nl room d t pc v) q e) is
 
   -- .. and above what it holds
-  over_old : (place : expr.Place) (v : expr.Value) (k : List Todo) (env : Env) (pc b o t : ℕ) (ks : List Waiting) → gives v ≡ true → IsTemp code nl room (suc (level place (length ks))) t → ExprAt code nl room (suc (level place (length ks))) t pc v → IsAt code nl room env k (pc + expr_size v) (w t ∷ w o ∷ based place b ks) → IsAt code nl room env (ToEval v ∷ k) pc (w o ∷ based place b ks)
+  over_old : (place : expr.Place) (v : expr.Value) (k : List Todo) (env : Env) (pc b o t : ℕ) (ks : List Waiting)
+      → gives v ≡ true → IsTemp code nl room (suc (level place (length ks))) t
+      → ExprAt code nl room (suc (level place (length ks))) t pc v
+      → IsAt code nl room env k (pc + expr_size v) (w t ∷ w o ∷ based place b ks)
+      → IsAt code nl room env (ToEval v ∷ k) pc (w o ∷ based place b ks)
   over_old place v k env pc b o t ks g at e is =
       let q = ap suc (based_long place b ks) in
-      eval_at v k env pc t (w o ∷ based place b ks) g (subst (λ d. IsTemp code nl room d t) q at) (subst (λ d. ExprAt code nl room d t pc v) q e) is
+      eval_at v k env pc t (w o ∷ based place b ks) g (subst (λ d. IsTemp code nl room d t) q at)
+      (subst (λ d. ExprAt code nl room d t pc v) q e) is
 
   -- a counted value is converted and stored
-  fit_at : (same : Bool) (p : Pos) (kind : ValueKind) (place : expr.Place) (k : List Todo) (env : Env) (pc b c s t : ℕ) (ks : List Waiting) → IsTemp code nl room (length ks) t → IsTemp code nl room (level place (length ks)) s → FitAt code nl room same p kind s c pc → StoreAt code nl room kind place t b s (pc + (if same then 0 else 1)) → IsAt code nl room env k (pc + (if same then 0 else 1) + store_size) (w t ∷ ks) → IsAt code nl room env (if same then ToStore kind place ∷ k else ToFit p kind ∷ ToStore kind place ∷ k) pc (w c ∷ based place b ks)
+  fit_at : (same : Bool) (p : Pos) (kind : ValueKind) (place : expr.Place) (k : List Todo) (env : Env)
+      (pc b c s t : ℕ) (ks : List Waiting) → IsTemp code nl room (length ks) t
+      → IsTemp code nl room (level place (length ks)) s → FitAt code nl room same p kind s c pc
+      → StoreAt code nl room kind place t b s (pc + (if same then 0 else 1))
+      → IsAt code nl room env k (pc + (if same then 0 else 1) + store_size) (w t ∷ ks)
+      → IsAt code nl room env (if same then ToStore kind place ∷ k else ToFit p kind ∷ ToStore kind place ∷ k) pc
+      (w c ∷ based place b ks)
   fit_at true p kind place k env pc b c s t ks at ats f h is =
       let e : pc + 0 ≡ pc = omega arith in
       let f' : s ≡ c = sym f in
       subst (λ x. IsAt code nl room env (ToStore kind place ∷ k) pc (w x ∷ based place b ks)) f'
-      (store_at kind place k env pc b s t ks at (subst (λ x. StoreAt code nl room kind place t b s x) e h) (subst (λ x. IsAt code nl room env k (x + store_size) (w t ∷ ks)) e is))
-  fit_at false p kind place k env pc b c s t ks at ats f h is =
-      (s, tt, subst (λ d. IsTemp code nl room d s) (based_long place b ks) ats, f, store_at kind place k env (pc + 1) b s t ks at h is)
+      (store_at kind place k env pc b s t ks at (subst (λ x. StoreAt code nl room kind place t b s x) e h)
+      (subst (λ x. IsAt code nl room env k (x + store_size) (w t ∷ ks)) e is))
+  fit_at false p kind place k env pc b c s t ks at ats f h is = (
+    s,
+    tt,
+    subst (λ d. IsTemp code nl room d s) (based_long place b ks) ats,
+    f,
+    store_at kind place k env
+        (pc + 1) b s t ks at h is,
+  )
 
-  put_at : (p : Pos) (kind counted : ValueKind) (place : expr.Place) (k : List Todo) (env : Env) (pc b c t : ℕ) (ks : List Waiting) → IsTemp code nl room (length ks) t → PutAt code nl room p kind counted place (length ks) t b c pc → IsAt code nl room env k (pc + fit_size kind counted + store_size) (w t ∷ ks) → IsAt code nl room env (convert p kind counted (ToStore kind place ∷ k)) pc (w c ∷ based place b ks)
+  put_at : (p : Pos) (kind counted : ValueKind) (place : expr.Place) (k : List Todo) (env : Env) (pc b c t : ℕ)
+      (ks : List Waiting) → IsTemp code nl room (length ks) t
+      → PutAt code nl room p kind counted place (length ks) t b c pc
+      → IsAt code nl room env k (pc + fit_size kind counted + store_size) (w t ∷ ks)
+      → IsAt code nl room env (convert p kind counted (ToStore kind place ∷ k)) pc (w c ∷ based place b ks)
   put_at p kind counted place k env pc b c t ks at h is =
       fit_at (is_same kind counted) p kind place k env pc b c h.0 t ks at h.2 h.3 h.4 is
 
   -- `++` and `--` of what o holds
-  step_at : (p : Pos) (m : Kind) (kind : ValueKind) (place : expr.Place) (k : List Todo) (env : Env) (pc b o t : ℕ) (ks : List Waiting) → IsTemp code nl room (length ks) t → StepAt code nl room p m kind place (length ks) t b o pc → IsAt code nl room env k (pc + 1 + fit_size kind (wide kind) + store_size) (w t ∷ ks) → IsAt code nl room env (step p m kind place k) pc (w o ∷ based place b ks)
-  step_at p m kind place k env pc b o t ks at h is =
-      (h.0, tt, subst (λ d. IsTemp code nl room d h.0) (based_long place b ks) h.3.1, h.2, put_at p kind (wide kind) place k env (pc + 1) b h.0 t ks at h.3 is)
+  step_at : (p : Pos) (m : Kind) (kind : ValueKind) (place : expr.Place) (k : List Todo) (env : Env) (pc b o t : ℕ)
+      (ks : List Waiting) → IsTemp code nl room (length ks) t
+      → StepAt code nl room p m kind place (length ks) t b o pc
+      → IsAt code nl room env k (pc + 1 + fit_size kind (wide kind) + store_size) (w t ∷ ks)
+      → IsAt code nl room env (step p m kind place k) pc (w o ∷ based place b ks)
+  step_at p m kind place k env pc b o t ks at h is = (
+    h.0,
+    tt,
+    subst (λ d. IsTemp code nl room d h.0) (based_long place b ks) h.3.1,
+    h.2,
+    put_at p kind (wide kind)
+        place k env (pc + 1) b h.0 t ks at h.3 is,
+  )
 
-  keep_at : (place : expr.Place) (k : List Todo) (env : Env) (pc b o t : ℕ) (ks : List Waiting) → Does code nl room pc (Set (to_var t) (var o)) → IsAt code nl room env k (pc + 1) (w o ∷ based place b (w t ∷ ks)) → IsAt code nl room env (ToKeep place ∷ k) pc (w o ∷ based place b (w t ∷ ks))
+  keep_at : (place : expr.Place) (k : List Todo) (env : Env) (pc b o t : ℕ) (ks : List Waiting)
+      → Does code nl room pc (Set (to_var t) (var o))
+      → IsAt code nl room env k (pc + 1) (w o ∷ based place b (w t ∷ ks))
+      → IsAt code nl room env (ToKeep place ∷ k) pc (w o ∷ based place b (w t ∷ ks))
   keep_at (expr.local_place p n) k env pc b o t ks d is = ((tt, d, refl), is)
   keep_at (expr.global_place p n) k env pc b o t ks d is = ((tt, d, refl), is)
   keep_at (expr.field_place p base tag field) k env pc b o t ks d is = ((tt, d, refl), is)
   keep_at expr.no_place k env pc b o t ks d is = ((tt, d, refl), is)
 
   -- arguments in a list
-  args_listed : (vs : expr.Values) (d : ℕ) (ts : List ℕ) (pc : ℕ) → ArgsAt code nl room d ts pc vs → ListArgsAt code nl room d ts pc (listed_values vs)
+  args_listed : (vs : expr.Values) (d : ℕ) (ts : List ℕ) (pc : ℕ) → ArgsAt code nl room d ts pc vs
+      → ListArgsAt code nl room d ts pc (listed_values vs)
   args_listed expr.no_values d ts pc h = h
   args_listed (expr.value_and v vs) d [] pc h = absurd h
   args_listed (expr.value_and v vs) d (t ∷ ts) pc h = (h.0, h.1, h.2, args_listed vs (suc d) ts (pc + expr_size v) h.3)
@@ -117,23 +183,48 @@ module _ (choices : List Choice) (code : List Line) (nl room : ℕ) where
   args_long expr.no_values = refl
   args_long (expr.value_and v vs) = ap (λ n. expr_size v + n) (args_long vs)
 
-  signed_at : (minus : Bool) (p : Pos) (kind : ValueKind) (v : expr.Value) (k : List Todo) (env : Env) (pc t : ℕ) (ks : List Waiting) → gives v ≡ true → IsTemp code nl room (length ks) t → One minus ((x : ℕ) × IsTemp code nl room (length ks) x × ExprAt code nl room (length ks) x pc v × Stands code nl room (pc + expr_size v) p (Arith (to_var t) kind ops.Sub (atom.Int (pos 0)) (var x))) (ExprAt code nl room (length ks) t pc v) → IsAt code nl room env k (pc + (expr_size v + sign_size minus)) (w t ∷ ks) → IsAt code nl room env (ToEval v ∷ (if minus then ToMinus p kind ∷ k else k)) pc ks
+  signed_at : (minus : Bool) (p : Pos) (kind : ValueKind) (v : expr.Value) (k : List Todo) (env : Env) (pc t : ℕ)
+      (ks : List Waiting) → gives v ≡ true → IsTemp code nl room (length ks) t
+      → One minus ((x : ℕ) × IsTemp code nl room (length ks) x × ExprAt code nl room (length ks) x pc v
+      × Stands code nl room (pc + expr_size v) p (Arith (to_var t) kind ops.Sub (atom.Int (pos 0)) (var x)))
+      (ExprAt code nl room (length ks) t pc v)
+      → IsAt code nl room env k (pc + (expr_size v + sign_size minus)) (w t ∷ ks)
+      → IsAt code nl room env (ToEval v ∷ (if minus then ToMinus p kind ∷ k else k)) pc ks
   signed_at true p kind v k env pc t ks g at h is =
       let e : pc + (expr_size v + 1) ≡ pc + expr_size v + 1 = omega arith in
-      eval_at v (ToMinus p kind ∷ k) env pc h.0 ks g h.1 h.2 (t, tt, at, h.3, moved choices code nl room env k (pc + (expr_size v + 1)) (pc + expr_size v + 1) (w t ∷ ks) e is)
+      eval_at v (ToMinus p kind ∷ k) env pc h.0 ks g h.1 h.2 (
+        t,
+        tt,
+        at,
+        h.3,
+        moved choices code nl room env k
+            (pc + (expr_size v + 1)) (pc + expr_size v + 1) (w t ∷ ks) e is,
+      )
   signed_at false p kind v k env pc t ks g at h is =
       let e : pc + (expr_size v + 0) ≡ pc + expr_size v = omega arith in
-      eval_at v k env pc t ks g at h (moved choices code nl room env k (pc + (expr_size v + 0)) (pc + expr_size v) (w t ∷ ks) e is)
+      eval_at v k env pc t ks g at h (moved choices code nl room env k (pc + (expr_size v + 0)) (pc + expr_size v)
+      (w t ∷ ks) e is)
 
   -- a leaf
-  leaf : (a : Atom) (v : Value) (k : List Todo) (s : State) (env : Env) (pc t : ℕ) (ks : List Waiting) (m : Regs) → content_of a m.vars ≡ Holds v → IsTemp code nl room (length ks) t → Does code nl room pc (Set (to_var t) a) → IsAt code nl room env k (pc + 1) (w t ∷ ks) → Match code nl room ks s m → Continues choices code nl room [] k (record s { values = v ∷ s.values }) 0 pc m
+  leaf : (a : Atom) (v : Value) (k : List Todo) (s : State) (env : Env) (pc t : ℕ) (ks : List Waiting) (m : Regs)
+      → content_of a m.vars ≡ Holds v → IsTemp code nl room (length ks) t → Does code nl room pc (Set (to_var t) a)
+      → IsAt code nl room env k (pc + 1) (w t ∷ ks) → Match code nl room ks s m
+      → Continues choices code nl room [] k (record s { values = v ∷ s.values }) 0 pc m
   leaf a v k s env pc t ks m e at d is ma =
-      one choices code nl room [] k (record s { values = v ∷ s.values }) 0 pc m (pc + 1) (put (to_var t) (Holds v) m) env (w t ∷ ks) (omega arith) (set_step choices code nl room pc t a m v d e) is (pushed code nl room ks s m s.values ks t v at ma ma.stack)
+      one choices code nl room [] k (record s { values = v ∷ s.values }) 0 pc m (pc + 1)
+      (put (to_var t) (Holds v) m) env (w t ∷ ks) (omega arith) (set_step choices code nl room pc t a m v d e) is
+      (pushed code nl room ks s m s.values ks t v at ma ma.stack)
 
   -- a truth that waits, and may be set to the other one
-  preset : (b : Bool) (k : List Todo) (s : State) (env : Env) (pc t : ℕ) (ks : List Waiting) (m : Regs) → IsTemp code nl room (length ks) t → Does code nl room pc (Set (to_var t) (bit b)) → IsAt code nl room env k (pc + 1) (record { var = t; known = Some b } ∷ ks) → Match code nl room ks s m → Continues choices code nl room [] k (record s { values = truth b ∷ s.values }) 0 pc m
+  preset : (b : Bool) (k : List Todo) (s : State) (env : Env) (pc t : ℕ) (ks : List Waiting) (m : Regs)
+      → IsTemp code nl room (length ks) t → Does code nl room pc (Set (to_var t) (bit b))
+      → IsAt code nl room env k (pc + 1) (record { var = t; known = Some b } ∷ ks) → Match code nl room ks s m
+      → Continues choices code nl room [] k (record s { values = truth b ∷ s.values }) 0 pc m
   preset b k s env pc t ks m at d is ma =
-      one choices code nl room [] k (record s { values = truth b ∷ s.values }) 0 pc m (pc + 1) (put (to_var t) (Holds (truth b)) m) env (record { var = t; known = Some b } ∷ ks) (omega arith) (set_step choices code nl room pc t (bit b) m (truth b) d (bit_is b m.vars)) is (pushed_known code nl room (Some b) ks s m s.values ks t (truth b) refl at ma ma.stack)
+      one choices code nl room [] k (record s { values = truth b ∷ s.values }) 0 pc m (pc + 1)
+      (put (to_var t) (Holds (truth b)) m) env (record { var = t; known = Some b } ∷ ks) (omega arith)
+      (set_step choices code nl room pc t (bit b) m (truth b) d (bit_is b m.vars)) is
+      (pushed_known code nl room (Some b) ks s m s.values ks t (truth b) refl at ma ma.stack)
 
   -- ---- sums of sizes
 
@@ -146,51 +237,77 @@ module _ (choices : List Choice) (code : List Line) (nl room : ℕ) where
   update_sum : (pc a v f s : ℕ) → pc + (a + 1 + v + 1 + f + s) ≡ pc + a + 1 + v + 1 + f + s
   update_sum pc a v f s = omega arith
 
-  pub evaluate_sim : (v : expr.Value) (k : List Todo) (s : State) (env : Env) (pc : ℕ) (ks : List Waiting) (m : Regs) → IsAt code nl room env (ToEval v ∷ k) pc ks → Match code nl room ks s m → IsDone choices code nl room (evaluate choices v k s) 0 pc m
-  evaluate_sim (expr.constant p n) k s env pc ks m h ma = leaf (atom.Int n) (value.Int n) k s env pc h.0 ks m refl h.1 h.2 h.3 ma
-  evaluate_sim (expr.text_of p ns) k s env pc ks m h ma = leaf atom.Text value.Text k s env pc h.0 ks m refl h.1 h.2 h.3 ma
+  pub evaluate_sim : (v : expr.Value) (k : List Todo) (s : State) (env : Env) (pc : ℕ) (ks : List Waiting)
+      (m : Regs) → IsAt code nl room env (ToEval v ∷ k) pc ks → Match code nl room ks s m
+      → IsDone choices code nl room (evaluate choices v k s) 0 pc m
+  evaluate_sim (expr.constant p n) k s env pc ks m h ma = leaf (atom.Int n) (value.Int n) k s env pc h.0 ks m refl
+      h.1 h.2 h.3 ma
+  evaluate_sim (expr.text_of p ns) k s env pc ks m h ma = leaf atom.Text value.Text k s env pc h.0 ks m refl h.1 h.2
+      h.3 ma
   evaluate_sim (expr.null_of p) k s env pc ks m h ma = leaf atom.Null value.Null k s env pc h.0 ks m refl h.1 h.2 h.3 ma
-  evaluate_sim (expr.static_of p n) k s env pc ks m h ma = leaf (atom.Static n) (value.Object n) k s env pc h.0 ks m refl h.1 h.2 h.3 ma
-  evaluate_sim (expr.module_of p n) k s env pc ks m h ma = leaf atom.Text value.Text k s env pc h.0 ks m refl h.1 h.2 h.3 ma
+  evaluate_sim (expr.static_of p n) k s env pc ks m h ma = leaf (atom.Static n) (value.Object n) k s env pc h.0 ks m
+      refl h.1 h.2 h.3 ma
+  evaluate_sim (expr.module_of p n) k s env pc ks m h ma = leaf atom.Text value.Text k s env pc h.0 ks m refl h.1
+      h.2 h.3 ma
   evaluate_sim (expr.read p kind (expr.local_place q n)) k s env pc ks m h ma =
       read_sim choices code nl room (content_at s.locals n) q n h.0 k s env pc ks m (ma.locals n h.2.0) h.1 h.2.1 h.3 ma
   evaluate_sim (expr.read p kind (expr.global_place q n)) k s env pc ks m h ma =
-      load_sim choices code nl room q kind (slot.Global n) h.0 k s env pc ks ks m (first choices code nl room pc q (Load (to_var h.0) (Global n (slot_kind kind))) m h.2) h.1 h.3 ma ma.stack
+      load_sim choices code nl room q kind (slot.Global n) h.0 k s env pc ks ks m
+      (first choices code nl room pc q (Load (to_var h.0) (Global n (slot_kind kind))) m h.2) h.1 h.3 ma ma.stack
   evaluate_sim (expr.read p kind (expr.field_place q base tag field)) k s env pc ks m h ma =
       let e : pc + (expr_size base + 1) ≡ pc + expr_size base + 1 = omega arith in
       still choices code nl room (ToEval base ∷ ToLoad q kind tag field ∷ k) s pc m env ks
-      (eval_at base (ToLoad q kind tag field ∷ k) env pc h.2.0 ks h.2.1 h.2.2 h.2.3
-      (h.0, tt, h.1, h.2.4, moved choices code nl room env k (pc + (expr_size base + 1)) (pc + expr_size base + 1) (w h.0 ∷ ks) e h.3)) ma
+      (eval_at base (ToLoad q kind tag field ∷ k) env pc h.2.0 ks h.2.1 h.2.2 h.2.3 (
+        h.0,
+        tt,
+        h.1,
+        h.2.4,
+        moved choices code nl room env k (pc + (expr_size base + 1)) (pc + expr_size base + 1)
+            (w h.0 ∷ ks) e h.3,
+      )) ma
   evaluate_sim (expr.read p kind expr.no_place) k s env pc ks m h ma = absurd h.2
   evaluate_sim (expr.inner p v) k s env pc ks m h ma = still choices code nl room (ToEval v ∷ k) s pc m env ks h ma
   evaluate_sim (expr.signed p mk kind v) k s env pc ks m h ma =
       still choices code nl room (ToEval v ∷ sign p mk kind k) s pc m env ks
-      (subst (λ l. IsAt code nl room env (ToEval v ∷ l) pc ks) (sym (signing_is p mk kind k)) (signed_at (is_minus mk) p kind v k env pc h.0 ks h.2.0 h.1 h.2.1 h.3)) ma
+      (subst (λ l. IsAt code nl room env (ToEval v ∷ l) pc ks) (sym (signing_is p mk kind k))
+      (signed_at (is_minus mk) p kind v k env pc h.0 ks h.2.0 h.1 h.2.1 h.3)) ma
   evaluate_sim (expr.negated p v) k s env pc ks m h ma =
       let e : pc + (1 + expr_size v + 2) ≡ pc + 1 + expr_size v + 2 = omega arith in
       preset true (ToEval v ∷ ToNot ∷ k) s env pc h.0 ks m h.1 h.2.1
-      (eval_at v (ToNot ∷ k) env (pc + 1) h.2.0 (record { var = h.0; known = Some true } ∷ ks) h.2.2 h.2.3 h.2.4
-      (tt, refl, h.2.5, h.2.6, moved choices code nl room env k (pc + (1 + expr_size v + 2)) (pc + 1 + expr_size v + 2) (w h.0 ∷ ks) e h.3)) ma
+      (eval_at v (ToNot ∷ k) env (pc + 1) h.2.0 (record { var = h.0; known = Some true } ∷ ks) h.2.2 h.2.3 h.2.4 (
+        tt,
+        refl,
+        h.2.5,
+        h.2.6,
+        moved choices code nl room env k (pc + (1 + expr_size v + 2))
+            (pc + 1 + expr_size v + 2) (w h.0 ∷ ks) e h.3,
+      )) ma
   evaluate_sim (expr.stepped p false mk kind place) k s env pc ks m h ma =
       let at = pc + place_size place in
       still choices code nl room (base_first place (ToOld kind place ∷ step p mk kind place k)) s pc m env ks
       (base_at place (ToOld kind place ∷ step p mk kind place k) env pc h.2.0 ks h.2.2
       (old_at kind place (step p mk kind place k) env at h.2.0 h.2.1 ks h.2.4.1 h.2.3
       (step_at p mk kind place k env (at + 1) h.2.0 h.2.1 h.0 ks h.1 h.2.4
-      (moved choices code nl room env k _ _ (w h.0 ∷ ks) (step_sum pc (place_size place) (fit_size kind (wide kind)) (store_size)) h.3)))) ma
+      (moved choices code nl room env k _ _ (w h.0 ∷ ks) (step_sum pc (place_size place) (fit_size kind (wide kind))
+      (store_size)) h.3)))) ma
   evaluate_sim (expr.stepped p true mk kind place) k s env pc ks m h ma =
       let at = pc + 1 + place_size place in
       let ls = w h.0 ∷ ks in
       let later = ToOld kind place ∷ ToKeep place ∷ step p mk kind place (ToPop ∷ k) in
       let e : at + 1 + 1 ≡ at + 2 = omega arith in
-      one choices code nl room [] (base_first place later) (record s { values = value.Int (pos 0) ∷ s.values }) 0 pc m (pc + 1) (put (to_var h.0) (Holds (value.Int (pos 0))) m) env ls (omega arith)
+      one choices code nl room [] (base_first place later) (record s { values = value.Int (pos 0) ∷ s.values }) 0 pc
+      m (pc + 1) (put (to_var h.0) (Holds (value.Int (pos 0))) m) env ls (omega arith)
       (set_step choices code nl room pc h.0 (bit false) m (value.Int (pos 0)) h.2.3 refl)
       (base_at place later env (pc + 1) h.2.0 ls h.2.4
       (old_at kind place (ToKeep place ∷ step p mk kind place (ToPop ∷ k)) env at h.2.0 h.2.1 ls h.2.8.1 h.2.5
       (keep_at place (step p mk kind place (ToPop ∷ k)) env (at + 1) h.2.0 h.2.1 h.0 ks h.2.6
-      (moved choices code nl room env (step p mk kind place (ToPop ∷ k)) (at + 2) (at + 1 + 1) (w h.2.1 ∷ based place h.2.0 ls) (sym e)
-      (step_at p mk kind place (ToPop ∷ k) env (at + 2) h.2.0 h.2.1 h.2.2 ls h.2.7 h.2.8
-      (tt, moved choices code nl room env k _ _ ls (behind_sum pc (place_size place) (fit_size kind (wide kind)) (store_size)) h.3))))))
+      (moved choices code nl room env (step p mk kind place (ToPop ∷ k)) (at + 2) (at + 1 + 1)
+      (w h.2.1 ∷ based place h.2.0 ls) (sym e)
+      (step_at p mk kind place (ToPop ∷ k) env (at + 2) h.2.0 h.2.1 h.2.2 ls h.2.7 h.2.8 (
+        tt,
+        moved choices code nl room env k _ _ ls (behind_sum pc (place_size place) (fit_size kind (wide kind))
+            (store_size)) h.3,
+      ))))))
       (pushed code nl room ks s m s.values ks h.0 (value.Int (pos 0)) h.1 ma ma.stack)
   evaluate_sim (expr.computed p mk kind a b) k s env pc ks m h ma =
       let e : pc + (expr_size a + expr_size b + 1) ≡ pc + expr_size a + expr_size b + 1 = omega arith in
@@ -207,14 +324,31 @@ module _ (choices : List Choice) (code : List Line) (nl room : ℕ) where
   evaluate_sim (expr.joined_by p mk a b) k s env pc ks m h ma =
       let e : pc + (1 + expr_size a + 1 + expr_size b + 2) ≡ pc + 1 + expr_size a + 1 + expr_size b + 2 = omega arith in
       preset (not (is_and mk)) (ToEval a ∷ ToRight (is_and mk) b ∷ k) s env pc h.0 ks m h.1 h.2.2
-      (eval_at a (ToRight (is_and mk) b ∷ k) env (pc + 1) h.2.0 (record { var = h.0; known = Some (not (is_and mk)) } ∷ ks) h.2.3 h.2.4 h.2.5
-      (h.2.1, pc + 1 + expr_size a + 1 + expr_size b + 2, tt, refl, h.2.6, h.2.7, h.2.8, h.2.9, h.2.10, refl, moved choices code nl room env k _ _ (w h.0 ∷ ks) e h.3)) ma
+      (eval_at a (ToRight (is_and mk) b ∷ k) env (pc + 1) h.2.0 (record {
+        var = h.0;
+        known = Some (not (is_and mk));
+      } ∷ ks) h.2.3 h.2.4 h.2.5 (
+        h.2.1,
+        pc + 1 + expr_size a + 1 + expr_size b + 2,
+        tt,
+        refl,
+        h.2.6,
+        h.2.7,
+        h.2.8,
+        h.2.9,
+        h.2.10,
+        refl,
+        moved
+            choices code nl room env k _ _ (w h.0 ∷ ks) e h.3,
+      )) ma
   evaluate_sim (expr.stored p kind place v) k s env pc ks m h ma =
-      let e : pc + (place_size place + expr_size v + store_size) ≡ pc + place_size place + expr_size v + store_size = omega arith in
+      let e : pc + (place_size place + expr_size v + store_size)
+      ≡ pc + place_size place + expr_size v + store_size = omega arith in
       still choices code nl room (base_first place (ToEval v ∷ ToStore kind place ∷ k)) s pc m env ks
       (base_at place (ToEval v ∷ ToStore kind place ∷ k) env pc h.2.0 ks h.2.2
       (over_base place v (ToStore kind place ∷ k) env (pc + place_size place) h.2.0 h.2.1 ks h.2.3 h.2.4 h.2.5
-      (store_at kind place k env (pc + place_size place + expr_size v) h.2.0 h.2.1 h.0 ks h.1 h.2.6 (moved choices code nl room env k _ _ (w h.0 ∷ ks) e h.3)))) ma
+      (store_at kind place k env (pc + place_size place + expr_size v) h.2.0 h.2.1 h.0 ks h.1 h.2.6
+      (moved choices code nl room env k _ _ (w h.0 ∷ ks) e h.3)))) ma
   evaluate_sim (expr.updated p mk counted kind place v) k s env pc ks m h ma =
       let at = pc + place_size place in
       let last = convert p kind counted (ToStore kind place ∷ k) in
@@ -227,17 +361,39 @@ module _ (choices : List Choice) (code : List Line) (nl room : ℕ) where
         tt,
         subst (λ d. IsTemp code nl room d h.2.3) (based_long place h.2.0 ks) h.2.11.1,
         h.2.10,
-        put_at p kind counted place k env (at + 1 + expr_size v + 1) h.2.0 h.2.3 h.0 ks h.1 h.2.11 (moved choices code nl room env k _ _ (w h.0 ∷ ks) (update_sum pc (place_size place) (expr_size v) (fit_size kind counted) (store_size)) h.3),
+        put_at p kind counted place k env (at + 1 + expr_size v + 1) h.2.0 h.2.3 h.0 ks h.1 h.2.11
+            (moved choices code nl room env k _ _ (w h.0 ∷ ks) (update_sum pc (place_size place) (expr_size v)
+            (fit_size kind counted) (store_size)) h.3),
       )))) ma
   evaluate_sim (expr.chosen p c a b) k s env pc ks m h ma =
-      let e : pc + (expr_size c + 1 + expr_size a + 1 + expr_size b) ≡ pc + expr_size c + 1 + expr_size a + 1 + expr_size b = omega arith in
+      let e : pc + (expr_size c + 1 + expr_size a + 1 + expr_size b)
+      ≡ pc + expr_size c + 1 + expr_size a + 1 + expr_size b = omega arith in
       still choices code nl room (ToEval c ∷ ToPick a b ∷ k) s pc m env ks
-      (eval_at c (ToPick a b ∷ k) env pc h.2.0 ks h.2.1 h.2.2 h.2.3
-      (h.0, pc + expr_size c + 1 + expr_size a + 1 + expr_size b, tt, h.1, h.2.4, h.2.5, h.2.6, h.2.7, h.2.8, h.2.9, refl, moved choices code nl room env k _ _ (w h.0 ∷ ks) e h.3)) ma
+      (eval_at c (ToPick a b ∷ k) env pc h.2.0 ks h.2.1 h.2.2 h.2.3 (
+        h.0,
+        pc + expr_size c + 1 + expr_size a + 1 + expr_size b,
+        tt,
+        h.1,
+        h.2.4,
+        h.2.5,
+        h.2.6,
+        h.2.7,
+        h.2.8,
+        h.2.9,
+        refl,
+        moved choices code nl room env k _ _ (w h.0 ∷ ks) e h.3,
+      )) ma
   evaluate_sim (expr.converted p kind v) k s env pc ks m h ma =
       let e : pc + (expr_size v + 1) ≡ pc + expr_size v + 1 = omega arith in
       still choices code nl room (ToEval v ∷ ToFit p kind ∷ k) s pc m env ks
-      (eval_at v (ToFit p kind ∷ k) env pc h.2.0 ks h.2.1 h.2.2 h.2.3 (h.0, tt, h.1, h.2.4, moved choices code nl room env k _ _ (w h.0 ∷ ks) e h.3)) ma
+      (eval_at v (ToFit p kind ∷ k) env pc h.2.0 ks h.2.1 h.2.2 h.2.3 (
+        h.0,
+        tt,
+        h.1,
+        h.2.4,
+        moved choices code nl
+            room env k _ _ (w h.0 ∷ ks) e h.3,
+      )) ma
   evaluate_sim (expr.cast_of p v) k s env pc ks m h ma = still choices code nl room (ToEval v ∷ k) s pc m env ks h ma
   evaluate_sim (expr.dropped p v) k s env pc ks m h ma = still choices code nl room (ToEval v ∷ k) s pc m env ks h ma
   evaluate_sim (expr.called p n vs) k s env pc ks m h ma = (1, first choices code nl room pc p (Call None 0 []) m h.2 0)
@@ -251,7 +407,8 @@ module _ (choices : List Choice) (code : List Line) (nl room : ℕ) where
         omega arith,
         args_listed vs (length ks) h.2.0 pc h.2.1,
         h.1,
-        subst (λ x. Stands code nl room (pc + x) p (Api (answer_var (gives_answer row) h.0) (shape_of row) (map var h.2.0) [])) q h.2.2,
+        subst (λ x. Stands code nl room (pc + x) p (Api (answer_var (gives_answer row) h.0) (shape_of row)
+            (map var h.2.0) [])) q h.2.2,
         moved choices code nl room env k _ _ (pushed_if (gives_answer row) h.0 ks) e h.3,
       ) ma
   evaluate_sim (expr.nonsense p) k s env pc ks m h ma = (1, first choices code nl room pc p Fall m h.2 0)

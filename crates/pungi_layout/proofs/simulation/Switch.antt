@@ -1,5 +1,7 @@
--- The code does the `switch` of a function: it compares the value with the cases in order, and goes on where the meaning does.
-use Rattle.std.proofs.Common.{◌≡◌, ℕ, suc, ◌+◌, ◌*◌, ℤ, List, [], ◌∷◌, ◌++◌, length, drop, Option, Some, None, refl, sym, ap, ◌∙◌, subst, arith, Bool, true, false, if◌then◌else◌}
+-- The code does the `switch` of a function: it compares the value with the cases in order, and goes on where the
+-- meaning does.
+use Rattle.std.proofs.Common.{◌≡◌, ℕ, suc, ◌+◌, ◌*◌, ℤ, List, [], ◌∷◌, ◌++◌, length, drop, Option, Some, None, refl}
+use Rattle.std.proofs.Common.{sym, ap, ◌∙◌, subst, arith, Bool, true, false, if◌then◌else◌}
 use Rattle.pungi_base.specs.declared.choice.Choice.{Choice}
 use Rattle.pungi_base.specs.declared.pos.Pos.{Pos}
 use Rattle.pungi_base.specs.declared.value.Value.{Value}
@@ -11,7 +13,8 @@ use Rattle.pungi_world.specs.declared.world.World.{World}
 use Rattle.pungi_meaning.specs.declared.cmp.Cmp.TheVariants as cmps
 use Rattle.pungi_meaning.specs.Values.{is_equal, is_true, truth}
 use Rattle.pungi_meaning.specs.Todo.{Compared, Todo, ToSwitch, State, listed}
-use Rattle.pungi_meaning.specs.Stmts.{bears_case, is_default, cases_of, block_cases, case_comparisons, first_from, target, enter_at}
+use Rattle.pungi_meaning.specs.Stmts.{bears_case, is_default, cases_of, block_cases, case_comparisons, first_from}
+use Rattle.pungi_meaning.specs.Stmts.{target, enter_at}
 use Rattle.pungi_meaning.specs.Run.{with_operations, act}
 use Rattle.pungi_meaning.specs.Work.{content_at, or_else, block_locals, unset_locals}
 use Rattle.pungi_code.specs.declared.atom.Atom.TheVariants as atom
@@ -53,11 +56,14 @@ list_numbers (a ∷ list) pc =
     ∙ ap (λ l. cases_of a ++ l) (list_numbers list (pc + stmt_size a))
 
 -- the cases of one statement lead to its place
-case_by : (b c : Bool) (pc n : ℕ) → (if b then pc else (if c then pc else n)) ≡ (if (if b then true else c) then pc else n)
+case_by : (b c : Bool) (pc n : ℕ) → (if b then pc else (if c then pc else n))
+    ≡ (if (if b then true else c) then pc else n)
 case_by true c pc n = refl
 case_by false c pc n = refl
 
-pub bears_first : (a : stmt.Action) (v : Value) (pc : ℕ) (others : List (ℤ × ℕ)) (other : ℕ) → first_place v (placed_cases pc (cases_of a) ++ others) other ≡ (if bears_case v a then pc else first_place v others other)
+pub bears_first : (a : stmt.Action) (v : Value) (pc : ℕ) (others : List (ℤ × ℕ)) (other : ℕ)
+    → first_place v (placed_cases pc (cases_of a) ++ others) other
+    ≡ (if bears_case v a then pc else first_place v others other)
 bears_first (stmt.case p n a) v pc others other =
     ap (λ x. if is_equal v (value.Int n) then pc else x) (bears_first a v pc others other)
     ∙ case_by (is_equal v (value.Int n)) (bears_case v a) pc (first_place v others other)
@@ -71,54 +77,91 @@ module _ (choices : List Choice) (code : List Line) (nl room : ℕ) where
   Found env block end None n other = n ≡ other
   Found env block end (Some j) n other = ListAt code nl room env n (drop j block) end
 
-  found_by : (b : Bool) (env : Env) (block : List stmt.Action) (i pc end : ℕ) (o : Option ℕ) (n other : ℕ) → ListAt code nl room env pc (drop i block) end → Found env block end o n other → Found env block end (if b then Some i else o) (if b then pc else n) other
+  found_by : (b : Bool) (env : Env) (block : List stmt.Action) (i pc end : ℕ) (o : Option ℕ) (n other : ℕ)
+      → ListAt code nl room env pc (drop i block) end → Found env block end o n other
+      → Found env block end (if b then Some i else o) (if b then pc else n) other
   found_by true env block i pc end o n other h g = h
   found_by false env block i pc end o n other h g = g
 
-  pub find_case : (v : Value) (list block : List stmt.Action) (i pc end other : ℕ) (env : Env) → drop i block ≡ list → ListAt code nl room env pc list end → Found env block end (first_from (bears_case v) i list) (first_place v (list_cases pc list) other) other
+  pub find_case : (v : Value) (list block : List stmt.Action) (i pc end other : ℕ) (env : Env) → drop i block ≡ list
+      → ListAt code nl room env pc list end → Found env block end (first_from (bears_case v) i list)
+      (first_place v (list_cases pc list) other) other
   find_case v [] block i pc end other env e h = refl
   find_case v (a ∷ list) block i pc end other env e h =
       let s : suc i ≡ i + 1 = omega arith in
       let d = subst (λ n. drop n block ≡ list) s (drop_next block i a list e) in
-      subst (λ n. Found env block end (first_from (bears_case v) i (a ∷ list)) n other) (sym (bears_first a v pc (list_cases (pc + stmt_size a) list) other))
-      (found_by (bears_case v a) env block i pc end (first_from (bears_case v) (i + 1) list) (first_place v (list_cases (pc + stmt_size a) list) other) other
-      (subst (λ l. ListAt code nl room env pc l end) (sym e) h) (find_case v list block (i + 1) (pc + stmt_size a) end other env d h.1))
+      subst (λ n. Found env block end (first_from (bears_case v) i (a ∷ list)) n other)
+      (sym (bears_first a v pc (list_cases (pc + stmt_size a) list) other))
+      (found_by (bears_case v a) env block i pc end (first_from (bears_case v) (i + 1) list)
+      (first_place v (list_cases (pc + stmt_size a) list) other) other
+      (subst (λ l. ListAt code nl room env pc l end) (sym e) h) (find_case v list block (i + 1) (pc + stmt_size a)
+      end other env d h.1))
 
-  default_by : (b : Bool) (pc : ℕ) (o : Option ℕ) (n : ℕ) → label_or (if b then Some pc else o) n ≡ (if b then pc else label_or o n)
+  default_by : (b : Bool) (pc : ℕ) (o : Option ℕ) (n : ℕ)
+      → label_or (if b then Some pc else o) n ≡ (if b then pc else label_or o n)
   default_by true pc o n = refl
   default_by false pc o n = refl
 
-  pub find_default : (list block : List stmt.Action) (i pc end : ℕ) (env : Env) → drop i block ≡ list → ListAt code nl room env pc list end → Found env block end (first_from is_default i list) (label_or (list_default pc list) end) end
+  pub find_default : (list block : List stmt.Action) (i pc end : ℕ) (env : Env) → drop i block ≡ list
+      → ListAt code nl room env pc list end → Found env block end (first_from is_default i list)
+      (label_or (list_default pc list) end) end
   find_default [] block i pc end env e h = refl
   find_default (a ∷ list) block i pc end env e h =
       let s : suc i ≡ i + 1 = omega arith in
       let d = subst (λ n. drop n block ≡ list) s (drop_next block i a list e) in
-      subst (λ n. Found env block end (first_from is_default i (a ∷ list)) n end) (sym (default_by (is_default a) pc (list_default (pc + stmt_size a) list) end))
-      (found_by (is_default a) env block i pc end (first_from is_default (i + 1) list) (label_or (list_default (pc + stmt_size a) list) end) end
-      (subst (λ l. ListAt code nl room env pc l end) (sym e) h) (find_default list block (i + 1) (pc + stmt_size a) end env d h.1))
+      subst (λ n. Found env block end (first_from is_default i (a ∷ list)) n end)
+      (sym (default_by (is_default a) pc (list_default (pc + stmt_size a) list) end))
+      (found_by (is_default a) env block i pc end (first_from is_default (i + 1) list)
+      (label_or (list_default (pc + stmt_size a) list) end) end
+      (subst (λ l. ListAt code nl room env pc l end) (sym e) h) (find_default list block (i + 1) (pc + stmt_size a)
+      end env d h.1))
 
-  found_or : (o o' : Option ℕ) (env : Env) (block : List stmt.Action) (end n other : ℕ) → Found env block end o n other → Found env block end o' other end → Found env block end (or_else o o') n end
+  found_or : (o o' : Option ℕ) (env : Env) (block : List stmt.Action) (end n other : ℕ)
+      → Found env block end o n other → Found env block end o' other end → Found env block end (or_else o o') n end
   found_or None o' env block end n other e h = subst (λ x. Found env block end o' x end) (sym e) h
   found_or (Some j) o' env block end n other h g = h
 
   -- the comparisons, one after another
-  pub record Compares (p : Pos) (v : Value) (cs : List (ℤ × ℕ)) (to pc : ℕ) (ks : List Waiting) (s : State) (m : Regs) : Type 0 where
+  pub record Compares (p : Pos) (v : Value) (cs : List (ℤ × ℕ)) (to pc : ℕ) (ks : List Waiting) (s : State)
+      (m : Regs) : Type 0 where
     pub count : ℕ
     pub regs : Regs
-    pub by : (j : ℕ) → exec choices code (ahead count j) pc m ≡ with_operations (case_comparisons p v (numbers cs)) (exec choices code j to regs)
+    pub by : (j : ℕ) → exec choices code (ahead count j) pc m
+        ≡ with_operations (case_comparisons p v (numbers cs)) (exec choices code j to regs)
     pub matches : Match code nl room ks s regs
 
-  compared_by : (b : Bool) (p : Pos) (v : Value) (c : ℤ × ℕ) (cs : List (ℤ × ℕ)) (other pc : ℕ) (ks : List Waiting) (s : State) (m q : Regs) → ((j : ℕ) → exec choices code (suc (suc j)) pc m ≡ with_operations (Compared p cmps.Equal v (value.Int c.0) ∷ []) (exec choices code j (if b then c.1 else pc + 2) q)) → Match code nl room ks s q → Compares p v cs (first_place v cs other) (pc + 2) ks s q → (r : ℕ × Regs) × ((j : ℕ) → exec choices code (ahead r.0 j) pc m ≡ with_operations (Compared p cmps.Equal v (value.Int c.0) ∷ (if b then [] else case_comparisons p v (numbers cs))) (exec choices code j (if b then c.1 else first_place v cs other) r.1)) × Match code nl room ks s r.1
+  compared_by : (b : Bool) (p : Pos) (v : Value) (c : ℤ × ℕ) (cs : List (ℤ × ℕ)) (other pc : ℕ) (ks : List Waiting)
+      (s : State) (m q : Regs) → ((j : ℕ) → exec choices code (suc (suc j)) pc m
+      ≡ with_operations (Compared p cmps.Equal v (value.Int c.0)
+      ∷ []) (exec choices code j (if b then c.1 else pc + 2) q)) → Match code nl room ks s q
+      → Compares p v cs (first_place v cs other) (pc + 2) ks s q
+      → (r : ℕ × Regs) × ((j : ℕ) → exec choices code (ahead r.0 j) pc m
+      ≡ with_operations (Compared p cmps.Equal v (value.Int c.0)
+      ∷ (if b then [] else case_comparisons p v (numbers cs))) (exec choices code j
+      (if b then c.1 else first_place v cs other) r.1)) × Match code nl room ks s r.1
   compared_by true p v c cs other pc ks s m q e ma g = ((2, q), e, ma)
-  compared_by false p v c cs other pc ks s m q e ma g =
-      ((suc (suc g.count), g.regs), λ j. e (ahead g.count j) ∙ ap (with_operations (Compared p cmps.Equal v (value.Int c.0) ∷ [])) (g.by j), g.matches)
+  compared_by false p v c cs other pc ks s m q e ma g = (
+    (suc (suc g.count), g.regs),
+    λ j. e (ahead g.count j)
+        ∙ ap (with_operations (Compared p cmps.Equal v (value.Int c.0) ∷ [])) (g.by j),
+    g.matches,
+  )
 
   true_of : (b : Bool) → is_true (truth b) ≡ b
   true_of true = refl
   true_of false = refl
 
-  pub compares : (cs : List (ℤ × ℕ)) (p : Pos) (a : Waiting) (y other pc : ℕ) (v : Value) (s : State) (m : Regs) → ComparedAt code nl room p a.var y pc cs other → IsTemp code nl room 1 y → s.values ≡ v ∷ [] → Match code nl room (a ∷ []) s m → content_at m.vars a.var ≡ Holds v → Compares p v cs (first_place v cs other) pc (a ∷ []) s m
-  compares [] p a y other pc v s m h at vs ma e = record { count = 1; regs = m; by = jump_step choices code nl room pc other m h; matches = ma }
+  pub compares : (cs : List (ℤ × ℕ)) (p : Pos) (a : Waiting) (y other pc : ℕ) (v : Value) (s : State) (m : Regs)
+      → ComparedAt code nl room p a.var y pc cs other → IsTemp code nl room 1 y → s.values ≡ v ∷ []
+      → Match code nl room (a ∷ []) s m → content_at m.vars a.var ≡ Holds v
+      → Compares p v cs (first_place v cs other) pc (a ∷ []) s m
+  compares [] p a y other pc v s m h at vs ma e = record {
+    count = 1;
+    regs = m;
+    by = jump_step choices code nl room
+        pc other m h;
+    matches = ma;
+  }
   compares (c ∷ cs) p a y other pc v s m h at vs ma e =
       let b = is_equal v (value.Int c.0) in
       let q = put (to_var y) (Holds (truth b)) m in
@@ -128,19 +171,40 @@ module _ (choices : List Choice) (code : List Line) (nl room : ℕ) where
       let e' : pc + 1 + 1 ≡ pc + 2 = omega arith in
       let g = compares cs p a y other (pc + 2) v s q h.2 at vs ma' (still_holds s q v vs ma') in
       let r = compared_by b p v c cs other pc (a ∷ []) s m q
-      (λ j. compare_step choices code nl room pc p y cmps.Equal (var a.var) (atom.Int c.0) m v (value.Int c.0) h.0 e refl (suc j)
-      ∙ ap (with_operations (Compared p cmps.Equal v (value.Int c.0) ∷ [])) (branch_step choices code nl room (pc + 1) y c.1 (pc + 2) q (truth b) h.1 here j ∙ ap (λ x. exec choices code j (if x then c.1 else pc + 2) q) (true_of b))) ma' g in
+      (λ j. compare_step choices code nl room pc p y cmps.Equal (var a.var) (atom.Int c.0) m v (value.Int c.0) h.0 e
+      refl (suc j)
+      ∙ ap (with_operations (Compared p cmps.Equal v (value.Int c.0) ∷ [])) (branch_step choices code nl room
+      (pc + 1) y c.1 (pc + 2) q (truth b) h.1 here j ∙ ap (λ x. exec choices code j (if x then c.1 else pc + 2) q)
+      (true_of b))) ma' g in
       record { count = r.0.0; regs = r.0.1; by = r.1; matches = r.2 }
     where
-      still_holds : (s : State) (q : Regs) (v : Value) → s.values ≡ v ∷ [] → Match code nl room (a ∷ []) s q → content_at q.vars a.var ≡ Holds v
+      still_holds : (s : State) (q : Regs) (v : Value) → s.values ≡ v ∷ [] → Match code nl room (a ∷ []) s q
+          → content_at q.vars a.var ≡ Holds v
       still_holds s q v vs mq = (subst (λ xs. Stack code nl room q.vars xs (a ∷ [])) vs mq.stack).0
 
   -- where a `switch` goes on
-  entered_at : (o : Option ℕ) (k : List Todo) (env : Env) (list : List stmt.Action) (first n end : ℕ) → Found (in_block (in_switch env end) first list) list end o n end → ListAt code nl room (in_block (in_switch env end) first list) first list end → IsAt code nl room env k end [] → (e : Env) × IsAt code nl room e (enter_at list o k) n []
+  entered_at : (o : Option ℕ) (k : List Todo) (env : Env) (list : List stmt.Action) (first n end : ℕ)
+      → Found (in_block (in_switch env end) first list) list end o n end
+      → ListAt code nl room (in_block (in_switch env end) first list) first list end → IsAt code nl room env k end []
+      → (e : Env) × IsAt code nl room e (enter_at list o k) n []
   entered_at None k env list first n end f h is = (env, moved choices code nl room env k end n [] (sym f) is)
   entered_at (Some j) k env list first n end f h is = (
     in_block (in_switch env end) first list,
-    (in_switch env end, end, refl, f, record { first = first; list = h; breaks = refl; continues = refl; labels = λ l. refl }, (env, refl, refl, refl, λ l. refl, is)),
+    (
+      in_switch env end,
+      end,
+      refl,
+      f,
+      record {
+        first = first;
+        list = h;
+        breaks = refl;
+        continues = refl;
+        labels = λ
+            l. refl;
+      },
+      (env, refl, refl, refl, λ l. refl, is),
+    ),
   )
 
   ahead_sum : (a b j : ℕ) → ahead (a + b) j ≡ ahead a (ahead b j)
@@ -149,7 +213,10 @@ module _ (choices : List Choice) (code : List Line) (nl room : ℕ) where
       both : a + b + j ≡ a + ahead b j
       both = let e = ahead_is b j in omega (arith, e)
 
-  pub switch_sim : (p : Pos) (a : stmt.Action) (k : List Todo) (x : World) (u : List Pos) (l : List Content) (vs : List Value) (env : Env) (pc : ℕ) (ks : List Waiting) (m : Regs) → IsAt code nl room env (ToSwitch p a ∷ k) pc ks → Match code nl room ks (st x u l vs) m → IsDone choices code nl room (act choices (ToSwitch p a ∷ k) (st x u l vs)) 0 pc m
+  pub switch_sim : (p : Pos) (a : stmt.Action) (k : List Todo) (x : World) (u : List Pos) (l : List Content)
+      (vs : List Value) (env : Env) (pc : ℕ) (ks : List Waiting) (m : Regs)
+      → IsAt code nl room env (ToSwitch p a ∷ k) pc ks → Match code nl room ks (st x u l vs) m
+      → IsDone choices code nl room (act choices (ToSwitch p a ∷ k) (st x u l vs)) 0 pc m
   switch_sim p a k x u l vs env pc [] m h ma = absurd h.0
   switch_sim p a k x u l [] env pc (q ∷ ks) m h ma = absurd ma.stack
   switch_sim p a k x u l (v ∷ vs) env pc (q ∷ q2 ∷ ks) m h ma = absurd (let z : q2 ∷ ks ≡ [] = h.1 in cc)
@@ -167,9 +234,12 @@ module _ (choices : List Choice) (code : List Line) (nl room : ℕ) where
       let s' = st x u (unset_locals own l) (v ∷ []) in
       let g = compares cs p q h.2.1.0 other (pc + n) v s' z.0 h.2.1.2 h.2.1.1 refl z.2 z.2.stack.0 in
       let here = list_at choices code nl room ss inner first h.2.2 in
-      let f = found_or (first_from (bears_case v) 0 list) (first_from is_default 0 list) inner list end (first_place v cs other) other (find_case v list list 0 first end other inner refl here) (find_default list list 0 first end inner refl here) in
+      let f = found_or (first_from (bears_case v) 0 list) (first_from is_default 0 list) inner list end
+      (first_place v cs other) other (find_case v list list 0 first end other inner refl here)
+      (find_default list list 0 first end inner refl here) in
       let e : pc + (n + 2 * length (block_cases list) + 1 + stmts_size ss) ≡ end = omega arith in
-      let at = entered_at (target v list) k env list first (first_place v cs other) end f here (moved choices code nl room env k _ _ [] e h.3) in
+      let at = entered_at (target v list) k env list first (first_place v cs other) end f here
+      (moved choices code nl room env k _ _ [] e h.3) in
       record {
         count = n + g.count;
         least = omega arith;
@@ -179,10 +249,13 @@ module _ (choices : List Choice) (code : List Line) (nl room : ℕ) where
             ap (λ i. exec choices code i pc m) (ahead_sum n g.count j)
             ∙ z.1 (ahead g.count j)
             ∙ g.by j
-            ∙ ap (λ os. with_operations (case_comparisons p v os) (exec choices code j (first_place v cs other) g.regs)) (list_numbers list first);
+            ∙ ap (λ os. with_operations (case_comparisons p v os) (exec choices code j (first_place v cs other)
+            g.regs)) (list_numbers list first);
         stands = (at.0, [], at.1, popped code nl room (q ∷ []) s' g.regs [] [] g.matches tt);
       }
   switch_sim p a k x u l (v ∷ []) env pc (q ∷ []) m h ma =
-      step_to choices code nl room k (st x u l []) 0 pc m (pc + 1 + stmt_size a) m env (omega arith) (jump_step choices code nl room pc (pc + 1 + stmt_size a) m h.2.0)
-      (let e : pc + (1 + stmt_size a) ≡ pc + 1 + stmt_size a = omega arith in moved choices code nl room env k _ _ [] e h.3)
+      step_to choices code nl room k (st x u l []) 0 pc m (pc + 1 + stmt_size a) m env (omega arith)
+      (jump_step choices code nl room pc (pc + 1 + stmt_size a) m h.2.0)
+      (let e : pc + (1 + stmt_size a) ≡ pc + 1 + stmt_size a = omega arith in moved choices code nl room env k _ _
+      [] e h.3)
       (popped code nl room (q ∷ []) (st x u l (v ∷ [])) m [] [] ma tt)

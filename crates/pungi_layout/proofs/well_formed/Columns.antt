@@ -16,13 +16,15 @@ use Rattle.pungi_layout.proofs.well_formed.Both.{and_left, and_right}
 use Rattle.pungi_layout.specs.code.Temporaries.{joined_column, answer_column, form_column, value_column, fitting_column}
 use Rattle.pungi_layout.specs.code.ExprCode.{above}
 use Rattle.pungi_layout.specs.code.Sound.{expr_nodes, place_nodes}
-use Rattle.pungi_layout.specs.kinds.Typed.{is_counted, is_null, IsNumber, IsText, IsObject, Goes, GoesIn, Alike, are_numbers, are_objects, are_texts}
+use Rattle.pungi_layout.specs.kinds.Typed.{is_counted, is_null, IsNumber, IsText, IsObject, Goes, GoesIn, Alike}
+use Rattle.pungi_layout.specs.kinds.Typed.{are_numbers, are_objects, are_texts}
 use Rattle.pungi_layout.proofs.well_formed.Instructions.{column_kind, column_low, wide_goes}
 
 -- .. columns of values
 joined_low : (a b : ℕ) → a ≤ 4 → b ≤ 4 → joined_column a b ≤ 4
 joined_low a b h k =
-    elim (nat_le a 2 && nat_le b 2) as (λ x. (if x then (if a + b == 0 then 0 else 1) else (if nat_le a b then a else b)) ≤ 4) [
+    elim (nat_le a 2 && nat_le b 2) as (λ x. (if x then (if a + b == 0 then 0 else 1) else
+    (if nat_le a b then a else b)) ≤ 4) [
       | true ↦ elim (a + b == 0) as (λ y. (if y then 0 else 1) ≤ 4) [ true ↦ omega arith | false ↦ omega arith ]
       | false ↦ elim (nat_le a b) as (λ y. (if y then a else b) ≤ 4) [ true ↦ h | false ↦ k ]
     ]
@@ -103,21 +105,27 @@ joined_texts : (a b : expr.Value) → IsText a → IsText b → Joined (value_co
 joined_texts a b (inl e) (inl f) = as_text (joined_is _ _ 3 3 e f)
 joined_texts a b (inl e) (inr f) = as_text (joined_is _ _ 3 4 e (null_column b f))
 joined_texts a b (inr e) (inl f) = as_text (joined_is _ _ 4 3 (null_column a e) f)
-joined_texts a b (inr e) (inr f) = as_nulls (null_column a e) (null_column b f) (joined_is _ _ 4 4 (null_column a e) (null_column b f))
+joined_texts a b (inr e) (inr f) =
+    as_nulls (null_column a e) (null_column b f) (joined_is _ _ 4 4 (null_column a e) (null_column b f))
 
 both_null : (a b : expr.Value) → (is_null a && is_null b) ≡ true → IsText a × IsText b
 both_null a b h = (inr (and_left (is_null a) (is_null b) h), inr (and_right (is_null a) (is_null b) h))
 
-numbers_go : (k : Param) (a b : expr.Value) → IsNumber a → IsNumber b → Goes k (joined_column (value_column a) (value_column b)) (is_null a && is_null b) → GoesIn k a × GoesIn k b
+numbers_go : (k : Param) (a b : expr.Value) → IsNumber a → IsNumber b
+    → Goes k (joined_column (value_column a) (value_column b)) (is_null a && is_null b) → GoesIn k a × GoesIn k b
 numbers_go param.Int a b x y g = (joined_numbers (value_column a) (value_column b) x y).1 g
 numbers_go param.Long a b x y g = (x, y)
 numbers_go param.Size a b x y g = (x, y)
-numbers_go param.TextOrNull a b x y (inl e) = let j = (joined_numbers (value_column a) (value_column b) x y).0 in absurd (omega (arith, e, j))
+numbers_go param.TextOrNull a b x y (inl e) =
+    let j = (joined_numbers (value_column a) (value_column b) x y).0 in absurd (omega (arith, e, j))
 numbers_go param.TextOrNull a b x y (inr e) = both_null a b e
-numbers_go param.ObjectOrNull a b x y g = let j = (joined_numbers (value_column a) (value_column b) x y).0 in absurd (omega (arith, g, j))
+numbers_go param.ObjectOrNull a b x y g =
+    let j = (joined_numbers (value_column a) (value_column b) x y).0 in absurd (omega (arith, g, j))
 numbers_go _ a b x y g = absurd g
 
-objects_go : (k : Param) (a b : expr.Value) → IsObject a → IsObject b → joined_column (value_column a) (value_column b) ≡ 4 → Goes k (joined_column (value_column a) (value_column b)) (is_null a && is_null b) → GoesIn k a × GoesIn k b
+objects_go : (k : Param) (a b : expr.Value) → IsObject a → IsObject b
+    → joined_column (value_column a) (value_column b) ≡ 4
+    → Goes k (joined_column (value_column a) (value_column b)) (is_null a && is_null b) → GoesIn k a × GoesIn k b
 objects_go param.Int a b x y j g = absurd (omega (arith, g, j))
 objects_go param.Long a b x y j g = absurd (omega (arith, g, j))
 objects_go param.Size a b x y j g = absurd (omega (arith, g, j))
@@ -126,7 +134,9 @@ objects_go param.TextOrNull a b x y j (inr e) = both_null a b e
 objects_go param.ObjectOrNull a b x y j g = (x, y)
 objects_go _ a b x y j g = absurd g
 
-text_goes_on : (k : Param) (a b : expr.Value) → IsText a → IsText b → joined_column (value_column a) (value_column b) ≡ 3 → Goes k (joined_column (value_column a) (value_column b)) (is_null a && is_null b) → GoesIn k a × GoesIn k b
+text_goes_on : (k : Param) (a b : expr.Value) → IsText a → IsText b
+    → joined_column (value_column a) (value_column b) ≡ 3
+    → Goes k (joined_column (value_column a) (value_column b)) (is_null a && is_null b) → GoesIn k a × GoesIn k b
 text_goes_on param.Int a b x y j g = absurd (omega (arith, g, j))
 text_goes_on param.Long a b x y j g = absurd (omega (arith, g, j))
 text_goes_on param.Size a b x y j g = absurd (omega (arith, g, j))
@@ -134,12 +144,14 @@ text_goes_on param.TextOrNull a b x y j g = (x, y)
 text_goes_on param.ObjectOrNull a b x y j g = absurd (omega (arith, g, j))
 text_goes_on _ a b x y j g = absurd g
 
-texts_go : (k : Param) (a b : expr.Value) → IsText a → IsText b → Joined (value_column a) (value_column b) → Goes k (joined_column (value_column a) (value_column b)) (is_null a && is_null b) → GoesIn k a × GoesIn k b
+texts_go : (k : Param) (a b : expr.Value) → IsText a → IsText b → Joined (value_column a) (value_column b)
+    → Goes k (joined_column (value_column a) (value_column b)) (is_null a && is_null b) → GoesIn k a × GoesIn k b
 texts_go k a b x y (as_text j) g = text_goes_on k a b x y j g
 texts_go k a b x y (as_nulls e f j) g = objects_go k a b e f j g
 
 -- what holds the value of `?:` may hold that of each branch
-pub chosen_goes : (k : Param) (a b : expr.Value) → Alike a b → Goes k (joined_column (value_column a) (value_column b)) (is_null a && is_null b) → GoesIn k a × GoesIn k b
+pub chosen_goes : (k : Param) (a b : expr.Value) → Alike a b
+    → Goes k (joined_column (value_column a) (value_column b)) (is_null a && is_null b) → GoesIn k a × GoesIn k b
 chosen_goes k a b (are_numbers x y) g = numbers_go k a b x y g
 chosen_goes k a b (are_objects x y) g = objects_go k a b x y (joined_is _ _ 4 4 x y) g
 chosen_goes k a b (are_texts x y) g = texts_go k a b x y (joined_texts a b x y) g
@@ -177,7 +189,8 @@ number_wide (suc zero) h = refl
 number_wide (suc (suc zero)) h = refl
 number_wide (suc (suc (suc c))) h = absurd (omega (arith, h))
 
-pub answer_goes : (f : Form) (a : Answer) (k : Param) → Goes k (form_column f a) false → is_wide (form_answer f a) k ≡ true
+pub answer_goes : (f : Form) (a : Answer) (k : Param) → Goes k (form_column f a) false
+    → is_wide (form_answer f a) k ≡ true
 answer_goes form.Plain answer.Status k g = wide_goes kinds.Int k g
 answer_goes form.Plain answer.Truth k g = wide_goes kinds.Int k g
 answer_goes form.Plain answer.Int k g = wide_goes kinds.Int k g

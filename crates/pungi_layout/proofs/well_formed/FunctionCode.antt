@@ -1,5 +1,7 @@
 -- The code of a function whose parts are of the kinds that they need is well-formed.
-use Rattle.std.proofs.Common.{◌≡◌, ◌∙◌, ℕ, zero, suc, ◌+◌, ◌*◌, ◌<◌, ◌≤◌, arith, Bool, true, false, List, [], ◌∷◌, ◌++◌, length, length-append, append_assoc, map, get_or, Option, Some, None, refl, sym, ap, subst}
+use Rattle.std.proofs.Common.{◌≡◌, ◌∙◌, ℕ, zero, suc, ◌+◌, ◌*◌, ◌<◌, ◌≤◌, arith, Bool, true, false, List, [], ◌∷◌, ◌++◌}
+use Rattle.std.proofs.Common.{length, length-append, append_assoc, map, get_or, Option, Some, None, refl, sym, ap}
+use Rattle.std.proofs.Common.{subst}
 use Rattle.std.specs.Prelude.{◌&&◌, ◌||◌, ◌==◌, nat_lt, nat_le, slice_get, is_some}
 use Rattle.std.specs.List.{list_any, list_all}
 use Rattle.std.proofs.lemmas.List.{get_or-append-add}
@@ -19,7 +21,8 @@ use Rattle.pungi_code.specs.declared.instr.Instr.TheVariants.{Jump, Branch, Retu
 use Rattle.pungi_code.specs.declared.instr.Label.{Label}
 use Rattle.pungi_code.specs.WellFormed.{is_sound, leads_on, targets, is_head, goes_back, IsWellFormed}
 use Rattle.pungi_layout.specs.declared.mark.Mark.{Mark}
-use Rattle.pungi_layout.specs.code.Heads.{head_at, stmt_marks, loop_pos, label_pos, names, leads_back, back_pos, head_pos, found_head, heads_below, heads_of}
+use Rattle.pungi_layout.specs.code.Heads.{head_at, stmt_marks, loop_pos, label_pos, names, leads_back, back_pos}
+use Rattle.pungi_layout.specs.code.Heads.{head_pos, found_head, heads_below, heads_of}
 use Rattle.pungi_layout.specs.code.Sizes.{stmt_size}
 use Rattle.pungi_layout.specs.code.Temporaries.{temp}
 use Rattle.pungi_layout.specs.code.ExprCode.{line, at_label}
@@ -30,7 +33,8 @@ use Rattle.pungi_layout.specs.kinds.Typed.{IsHeld, IsStmtTyped}
 use Rattle.pungi_layout.specs.code.Calls.{has_no_call}
 use Rattle.pungi_layout.specs.code.FunctionCode.{code_of, HasLocals}
 use Rattle.pungi_layout.specs.code.VarKinds.{held_kind, kind_held, stmt_declared, temp_kinds, var_kinds}
-use Rattle.pungi_layout.proofs.well_formed.Instructions.{column_kind, AreFine, fine_append, le_true, or_true_left, or_true_right}
+use Rattle.pungi_layout.proofs.well_formed.Instructions.{column_kind, AreFine, fine_append, le_true, or_true_left}
+use Rattle.pungi_layout.proofs.well_formed.Instructions.{or_true_right}
 use Rattle.pungi_layout.proofs.well_formed.Both.{and_true}
 use Rattle.pungi_layout.proofs.well_formed.Stmts.{stmt_fine}
 use Rattle.pungi_layout.proofs.code.StmtLengths.{end-long, body-long}
@@ -71,7 +75,9 @@ front_long f h =
 
 vars_are : (f : ResolvedFunction) → var_kinds f ≡ front f ++ temp_kinds (stmt_nodes f.body)
 unfolding front
-vars_are f = sym (append_assoc (map held_kind f.params) (map kind_held (stmt_declared f.body)) (temp_kinds (stmt_nodes f.body)))
+vars_are f =
+    sym (append_assoc (map held_kind f.params) (map kind_held (stmt_declared f.body))
+    (temp_kinds (stmt_nodes f.body)))
 
 pub vars_long : (f : ResolvedFunction) → HasLocals f → length (var_kinds f) ≡ f.locals + 5 * stmt_nodes f.body
 vars_long f h =
@@ -81,18 +87,23 @@ vars_long f h =
     let d = temps_long (stmt_nodes f.body) in
     omega (arith, a, b, c, d)
 
-temp_held : (f : ResolvedFunction) → HasLocals f → (d c : ℕ) → d < stmt_nodes f.body → c ≤ 4 → IsHeld (var_kinds f) (temp f.locals d c) (column_kind c)
+temp_held : (f : ResolvedFunction) → HasLocals f → (d c : ℕ) → d < stmt_nodes f.body → c ≤ 4
+    → IsHeld (var_kinds f) (temp f.locals d c) (column_kind c)
 temp_held f h d c lt le =
     let l = vars_long f h in
     let e : temp f.locals d c ≡ length (front f) + (5 * d + c) = let g = front_long f h in omega (arith, g) in
-    let at : get_or (front f ++ temp_kinds (stmt_nodes f.body)) (length (front f) + (5 * d + c)) param.ModuleDef ≡ column_kind c =
-    get_or-append-add (front f) (temp_kinds (stmt_nodes f.body)) (5 * d + c) param.ModuleDef ∙ temp_in (stmt_nodes f.body) d c lt le in (
+    let at : get_or (front f ++ temp_kinds (stmt_nodes f.body)) (length (front f) + (5 * d + c)) param.ModuleDef
+    ≡ column_kind c =
+    get_or-append-add (front f) (temp_kinds (stmt_nodes f.body)) (5 * d + c) param.ModuleDef
+    ∙ temp_in (stmt_nodes f.body) d c lt le in (
       omega (arith, l, lt, le),
-      ap (λ (i : ℕ). get_or (var_kinds f) i param.ModuleDef) e ∙ ap (λ (vs : List Param). get_or vs (length (front f) + (5 * d + c)) param.ModuleDef) (vars_are f) ∙ at,
+      ap (λ (i : ℕ). get_or (var_kinds f) i param.ModuleDef) e
+          ∙ ap (λ (vs : List Param). get_or vs (length (front f) + (5 * d + c)) param.ModuleDef) (vars_are f) ∙ at,
     )
 
 -- .. instructions
-at_fine : (code : Code) (ls : List Line) → AreFine code ls → (i : ℕ) (l : Line) → slice_get ls i ≡ Some l → is_sound code l.instr ≡ true
+at_fine : (code : Code) (ls : List Line) → AreFine code ls → (i : ℕ) (l : Line) → slice_get ls i ≡ Some l
+    → is_sound code l.instr ≡ true
 at_fine code [] h i l e = absurd (cc)
 at_fine code (x ∷ ls) h zero l e = let same : x ≡ l = cc in subst (λ (y : Line). is_sound code y.instr ≡ true) same h.0
 at_fine code (x ∷ ls) h (suc i) l e = at_fine code ls h.1 i l e
@@ -112,7 +123,8 @@ seam [] b = refl
 seam (x ∷ a) b = seam a b
 
 end_leads : (p : Pos) (v : Bool) (l : Line) → slice_get (end_code p v) 0 ≡ Some l → leads_on l.instr ≡ false
-end_leads p true l e = let same : line p (Return None) ≡ l = cc in subst (λ (y : Line). leads_on y.instr ≡ false) same refl
+end_leads p true l e =
+    let same : line p (Return None) ≡ l = cc in subst (λ (y : Line). leads_on y.instr ≡ false) same refl
 end_leads p false l e = let same : line p Fall ≡ l = cc in subst (λ (y : Line). leads_on y.instr ≡ false) same refl
 
 less : (m n : ℕ) → nat_lt m n ≡ true → m < n
@@ -121,7 +133,8 @@ less m n h = grind (arith, nat_tests)
 not_less : (m n : ℕ) → nat_lt m n ≡ false → n ≤ m
 not_less m n h = grind (arith, nat_tests)
 
-last_ends : (a : List Line) (p : Pos) (v : Bool) (i : ℕ) (l : Line) → slice_get (a ++ end_code p v) i ≡ Some l → leads_on l.instr ≡ true → i + 1 < length (a ++ end_code p v)
+last_ends : (a : List Line) (p : Pos) (v : Bool) (i : ℕ) (l : Line) → slice_get (a ++ end_code p v) i ≡ Some l
+    → leads_on l.instr ≡ true → i + 1 < length (a ++ end_code p v)
 last_ends a p v i l e h =
     let long = length-append a (end_code p v) in
     let one = end-long p v in
@@ -131,7 +144,8 @@ last_ends a p v i l e h =
       | false ↦ λ t.
           let k = not_less i (length a) t in
           let there : i ≡ length a = omega (arith, long, one, within, k) in
-          let g : slice_get (end_code p v) 0 ≡ Some l = sym (seam a (end_code p v)) ∙ ap (λ (j : ℕ). slice_get (a ++ end_code p v) j) (sym there) ∙ e in
+          let g : slice_get (end_code p v) 0 ≡ Some l = sym (seam a (end_code p v))
+          ∙ ap (λ (j : ℕ). slice_get (a ++ end_code p v) j) (sym there) ∙ e in
           let n = end_leads p v l g in
           absurd (cc)
     ] refl
@@ -155,13 +169,15 @@ own_names (Branch a this other) = (
 own_names _ = tt
 
 -- an instruction that leads back to a place is found
-found_back : (ls : List Line) (i m k : ℕ) (l : Line) → slice_get ls i ≡ Some l → m ≤ k + i → names m (targets l.instr) ≡ true → leads_back m k ls ≡ true
+found_back : (ls : List Line) (i m k : ℕ) (l : Line) → slice_get ls i ≡ Some l → m ≤ k + i
+    → names m (targets l.instr) ≡ true → leads_back m k ls ≡ true
 found_back [] i m k l e le h = absurd (cc)
 found_back (x ∷ ls) zero m k l e le h =
     let same : l ≡ x = cc in
     let n : names m (targets x.instr) ≡ true = subst (λ (y : Line). names m (targets y.instr) ≡ true) same h in
     or_true_left _ _ (and_true _ _ (le_true m k (omega (arith, le))) n)
-found_back (x ∷ ls) (suc i) m k l e le h = or_true_right (nat_le m k && names m (targets x.instr)) _ (found_back ls i m (k + 1) l e (omega (arith, le)) h)
+found_back (x ∷ ls) (suc i) m k l e le h =
+    or_true_right (nat_le m k && names m (targets x.instr)) _ (found_back ls i m (k + 1) l e (omega (arith, le)) h)
 
 any_append : (p : Head → Bool) (a b : List Head) → list_any p b ≡ true → list_any p (a ++ b) ≡ true
 any_append p [] b h = h
@@ -182,7 +198,8 @@ found n m None h e = absurd (cc)
 found n m (Some p) h e = own_head n m p e
 
 -- each head in front of a place is among those below it
-in_below : (ms : List Mark) (code : List Line) (n m : ℕ) → m < n → is_some (head_pos ms code m) ≡ true → is_head (heads_below ms code n) (at_label m) ≡ true
+in_below : (ms : List Mark) (code : List Line) (n m : ℕ) → m < n → is_some (head_pos ms code m) ≡ true
+    → is_head (heads_below ms code n) (at_label m) ≡ true
 in_below ms code zero m lt h = absurd (omega (arith, lt))
 in_below ms code (suc n) m lt h =
     elim (nat_lt m n) as (λ b. (nat_lt m n ≡ b) → is_head (heads_below ms code (suc n)) (at_label m) ≡ true) [
@@ -199,7 +216,8 @@ back_some (Some p) b u h = refl
 back_some None true u h = refl
 back_some None false u h = absurd (cc)
 
-all_back : (heads : List Head) (place : ℕ) (all ls : List Label) → Among all ls → ((m : ℕ) → names m all ≡ true → m ≤ place → is_head heads (at_label m) ≡ true)
+all_back : (heads : List Head) (place : ℕ) (all ls : List Label) → Among all ls
+    → ((m : ℕ) → names m all ≡ true → m ≤ place → is_head heads (at_label m) ≡ true)
     → list_all (λ l. nat_lt place l.0 || is_head heads l) ls ≡ true
 unfolding Among
 all_back heads place all [] h f = refl
@@ -211,7 +229,8 @@ all_back heads place all (l ∷ ls) h f =
     ] refl in
     and_true _ _ one (all_back heads place all ls h.1 f)
 
-back_fine : (f : ResolvedFunction) (place : ℕ) (l : Line) → slice_get (body_code f) place ≡ Some l → goes_back (heads_of f) place l.instr ≡ true
+back_fine : (f : ResolvedFunction) (place : ℕ) (l : Line) → slice_get (body_code f) place ≡ Some l
+    → goes_back (heads_of f) place l.instr ≡ true
 back_fine f place l e =
     all_back (heads_of f) place (targets l.instr) (targets l.instr) (own_names l.instr) (λ m n le.
     let b = found_back (body_code f) place m 0 l e (omega (arith, le)) n in
@@ -220,17 +239,22 @@ back_fine f place l e =
     (back_some (loop_pos m (stmt_marks 0 f.body)) (leads_back m 0 (body_code f)) (label_pos m (stmt_marks 0 f.body)) b))
 
 -- .. the whole
-body_fine : (file : List Item) (f : ResolvedFunction) → HasLocals f → IsStmtTyped file (var_kinds f) f.body → has_no_call f.body ≡ true → stmt_nodes f.body ≤ 12288 → AreFine (code_of f) (body_code f)
+body_fine : (file : List Item) (f : ResolvedFunction) → HasLocals f → IsStmtTyped file (var_kinds f) f.body
+    → has_no_call f.body ≡ true → stmt_nodes f.body ≤ 12288 → AreFine (code_of f) (body_code f)
 body_fine file f h t c n =
     let size = stmt_size f.body in
     let l = body-long f in
-    fine_append (code_of f) (stmt_code f.locals (everywhere size) 0 f.body) (end_code (closing_brace f.body) (is_void f.result))
-    (stmt_fine file (code_of f) f.locals (stmt_nodes f.body) (temp_held f h) (omega (arith, n)) f.body (everywhere size) 0 (omega arith) (omega (arith, l))
+    fine_append (code_of f) (stmt_code f.locals (everywhere size) 0 f.body)
+    (end_code (closing_brace f.body) (is_void f.result))
+    (stmt_fine file (code_of f) f.locals (stmt_nodes f.body) (temp_held f h) (omega (arith, n)) f.body
+    (everywhere size) 0 (omega arith) (omega (arith, l))
     (record { breaks = omega (arith, l); continues = omega (arith, l); labels = λ x. omega (arith, l) }) t c)
     (end_fine (code_of f) (closing_brace f.body) (is_void f.result))
 
--- a function whose parts are of the kinds that they need, that calls none of the file, and that is within the limits, has well-formed code
-pub well-formed : (file : List Item) (f : ResolvedFunction) → HasLocals f → IsStmtTyped file (var_kinds f) f.body → has_no_call f.body ≡ true → f.locals ≤ 32 → stmt_nodes f.body ≤ 12288 → stmt_size f.body + 1 ≤ 16384
+-- a function whose parts are of the kinds that they need, that calls none of the file, and that is within the limits,
+-- has well-formed code
+pub well-formed : (file : List Item) (f : ResolvedFunction) → HasLocals f → IsStmtTyped file (var_kinds f) f.body
+    → has_no_call f.body ≡ true → f.locals ≤ 32 → stmt_nodes f.body ≤ 12288 → stmt_size f.body + 1 ≤ 16384
     → IsWellFormed (code_of f)
 well-formed file f h t c locals n size =
     let l = body-long f in
@@ -243,6 +267,7 @@ well-formed file f h t c locals n size =
       vars = omega (arith, v, locals, n);
       few = omega (arith, l, size);
       sound = λ i x e. at_fine (code_of f) (body_code f) fine i x e;
-      last = λ i x e k. last_ends (stmt_code f.locals (everywhere (stmt_size f.body)) 0 f.body) (closing_brace f.body) (is_void f.result) i x e k;
+      last = λ i x e k. last_ends (stmt_code f.locals (everywhere (stmt_size f.body)) 0 f.body)
+          (closing_brace f.body) (is_void f.result) i x e k;
       back = λ i x e. back_fine f i x e;
     }

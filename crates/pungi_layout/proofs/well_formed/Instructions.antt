@@ -1,5 +1,6 @@
 -- What instructions need of their variables.
-use Rattle.std.proofs.Common.{◌≡◌, ◌∙◌, ℕ, zero, suc, ◌<◌, ◌≤◌, ◌⊎◌, inl, inr, ℤ, arith, Bool, true, false, List, [], ◌∷◌, ◌++◌, length, Some, refl, ap}
+use Rattle.std.proofs.Common.{◌≡◌, ◌∙◌, ℕ, zero, suc, ◌<◌, ◌≤◌, ◌⊎◌, inl, inr, ℤ, arith, Bool, true, false, List, []}
+use Rattle.std.proofs.Common.{◌∷◌, ◌++◌, length, Some, refl, ap}
 use Rattle.std.specs.Prelude.{◌&&◌, ◌||◌, nat_lt, nat_le, if◌then◌else◌}
 use Rattle.std.proofs.lemmas.Bool.Decides.{nat_tests}
 use Rattle.pungi_api.specs.declared.param.Param.{Param}
@@ -18,7 +19,8 @@ use Rattle.pungi_code.specs.declared.instr.Instr.TheVariants.{Set, Arith, Fit, C
 use Rattle.pungi_base.specs.declared.names.Name.{Name}
 use Rattle.pungi_code.specs.declared.place.Place.{Place}
 use Rattle.pungi_code.specs.declared.place.Place.TheVariants.{Global, Field}
-use Rattle.pungi_code.specs.WellFormed.{var_kind, is_integer, is_wide, atom_is, is_number, is_condition, are_alike, is_order, counts_in, is_slot_kind, is_place, place_kind, is_label, is_sound}
+use Rattle.pungi_code.specs.WellFormed.{var_kind, is_integer, is_wide, atom_is, is_number, is_condition, are_alike}
+use Rattle.pungi_code.specs.WellFormed.{is_order, counts_in, is_slot_kind, is_place, place_kind, is_label, is_sound}
 use Rattle.pungi_layout.proofs.well_formed.Both.{and_true}
 use Rattle.pungi_layout.specs.code.ExprCode.{to_var, var, at_label, bit}
 use Rattle.pungi_layout.specs.code.Temporaries.{column}
@@ -167,7 +169,8 @@ wide_goes kind param.TextOrNull g = wide_text kind (text_only (column kind) g)
 wide_goes kind param.ObjectOrNull g = wide_object kind g
 wide_goes kind _ g = absurd g
 
-pub counts_goes : (kind : ValueKind) (k : Param) → is_counted kind ≡ true → Goes k (column kind) false → counts_in kind k ≡ true
+pub counts_goes : (kind : ValueKind) (k : Param) → is_counted kind ≡ true → Goes k (column kind) false
+    → counts_in kind k ≡ true
 counts_goes kinds.Int param.Int c g = refl
 counts_goes kinds.Int param.Long c g = refl
 counts_goes kinds.Int param.Size c g = refl
@@ -209,9 +212,11 @@ at_most_one : (b : Bool) → (if b then 0 else 1) ≤ 1
 at_most_one true = omega arith
 at_most_one false = omega arith
 
-pub constant_goes : (vars : List Param) (k : Param) (i : ℤ) → fits kinds.Long i ≡ true → Goes k (if fits kinds.Int i then 0 else 1) false → atom_is vars k (atom.Int i) ≡ true
+pub constant_goes : (vars : List Param) (k : Param) (i : ℤ) → fits kinds.Long i ≡ true
+    → Goes k (if fits kinds.Int i then 0 else 1) false → atom_is vars k (atom.Int i) ≡ true
 constant_goes vars param.Int i f g =
-    elim (fits kinds.Int i) as (λ b. (fits kinds.Int i ≡ b) → Goes param.Int (if b then 0 else 1) false → fits kinds.Int i ≡ true) [
+    elim (fits kinds.Int i) as (λ b. (fits kinds.Int i ≡ b) → Goes param.Int (if b then 0 else 1) false
+    → fits kinds.Int i ≡ true) [
       | true ↦ λ e h. e
       | false ↦ λ e h. absurd (omega (arith, h))
     ] refl g
@@ -249,7 +254,8 @@ static_goes vars param.ObjectOrNull i g = refl
 static_goes vars _ i g = absurd g
 
 -- a value of this kind goes where that of the column goes
-pub slot_goes : (kind : ValueKind) (k : Param) (c : ℕ) (n : Bool) → is_counted kind ≡ true → Goes k (column kind) false → Goes (slot_kind kind) c n → c ≤ 2 → Goes k c n
+pub slot_goes : (kind : ValueKind) (k : Param) (c : ℕ) (n : Bool) → is_counted kind ≡ true
+    → Goes k (column kind) false → Goes (slot_kind kind) c n → c ≤ 2 → Goes k c n
 slot_goes kinds.Int param.Int c n h g s l = s
 slot_goes kinds.Long param.Int c n h g s l = absurd (omega (arith, g))
 slot_goes kinds.Size param.Int c n h g s l = absurd (omega (arith, g))
@@ -267,44 +273,58 @@ slot_goes kind param.Int c n h g s l = absurd (cc)
 
 -- .. instructions
 module _ (code : Code) where
-  pub var_fine : (x : ℕ) (k : Param) → IsHeld code.vars x k → (b : Param → Bool) → b k ≡ true → (nat_lt x (length code.vars) && b (var_kind code.vars (to_var x))) ≡ true
+  pub var_fine : (x : ℕ) (k : Param) → IsHeld code.vars x k → (b : Param → Bool) → b k ≡ true
+      → (nat_lt x (length code.vars) && b (var_kind code.vars (to_var x))) ≡ true
   var_fine x k h b e = and_true _ _ (lt_true x (length code.vars) h.0) (ap b h.1 ∙ e)
 
   pub var_atom : (x : ℕ) (k l : Param) → IsHeld code.vars x k → is_wide k l ≡ true → atom_is code.vars l (var x) ≡ true
   var_atom x k l h e = var_fine x k h (λ q. is_wide q l) e
 
-  pub number_atom : (x : ℕ) (k : Param) → IsHeld code.vars x k → is_integer k ≡ true → is_number code.vars (var x) ≡ true
+  pub number_atom : (x : ℕ) (k : Param) → IsHeld code.vars x k → is_integer k ≡ true
+      → is_number code.vars (var x) ≡ true
   number_atom x k h e = var_atom x k param.Long h (integer_wide k e)
 
-  pub set_fine : (x : ℕ) (k : Param) (a : Atom) → IsHeld code.vars x k → atom_is code.vars k a ≡ true → is_sound code (Set (to_var x) a) ≡ true
+  pub set_fine : (x : ℕ) (k : Param) (a : Atom) → IsHeld code.vars x k → atom_is code.vars k a ≡ true
+      → is_sound code (Set (to_var x) a) ≡ true
   set_fine x k a h e = var_fine x k h (λ q. atom_is code.vars q a) e
 
-  pub arith_fine : (x : ℕ) (k : Param) (kind : ValueKind) (o : Op) (a b : Atom) → IsHeld code.vars x k → counts_in kind k ≡ true → is_number code.vars a ≡ true → is_number code.vars b ≡ true
+  pub arith_fine : (x : ℕ) (k : Param) (kind : ValueKind) (o : Op) (a b : Atom) → IsHeld code.vars x k
+      → counts_in kind k ≡ true → is_number code.vars a ≡ true → is_number code.vars b ≡ true
       → is_sound code (Arith (to_var x) kind o a b) ≡ true
-  arith_fine x k kind o a b h c f g = var_fine x k h (λ q. counts_in kind q && (is_number code.vars a && is_number code.vars b)) (and_true _ _ c (and_true _ _ f g))
+  arith_fine x k kind o a b h c f g = var_fine x k h (λ q. counts_in kind q
+      && (is_number code.vars a && is_number code.vars b)) (and_true _ _ c (and_true _ _ f g))
 
-  pub fit_fine : (x : ℕ) (k : Param) (kind : ValueKind) (a : Atom) → IsHeld code.vars x k → counts_in kind k ≡ true → is_number code.vars a ≡ true → is_sound code (Fit (to_var x) kind a) ≡ true
+  pub fit_fine : (x : ℕ) (k : Param) (kind : ValueKind) (a : Atom) → IsHeld code.vars x k → counts_in kind k ≡ true
+      → is_number code.vars a ≡ true → is_sound code (Fit (to_var x) kind a) ≡ true
   fit_fine x k kind a h c f = var_fine x k h (λ q. counts_in kind q && is_number code.vars a) (and_true _ _ c f)
 
   -- the operands of a comparison
   abbrev pub are_compared : Bool → Atom → Atom → Bool
   are_compared order a b = if order then is_number code.vars a && is_number code.vars b else are_alike code.vars a b
 
-  pub compare_fine : (x : ℕ) (k : Param) (c : Cmp) (a b : Atom) → IsHeld code.vars x k → is_integer k ≡ true → are_compared (is_order c) a b ≡ true → is_sound code (Compare (to_var x) c a b) ≡ true
+  pub compare_fine : (x : ℕ) (k : Param) (c : Cmp) (a b : Atom) → IsHeld code.vars x k → is_integer k ≡ true
+      → are_compared (is_order c) a b ≡ true → is_sound code (Compare (to_var x) c a b) ≡ true
   compare_fine x k c a b h i e = var_fine x k h (λ q. is_integer q && are_compared (is_order c) a b) (and_true _ _ i e)
 
   -- .. places
-  pub load_fine : (x : ℕ) (k : Param) (place : Place) → IsHeld code.vars x k → is_place code.vars place (place_kind place) ≡ true → is_wide (place_kind place) k ≡ true → is_sound code (Load (to_var x) place) ≡ true
-  load_fine x k place h p e = var_fine x k h (λ q. is_place code.vars place (place_kind place) && is_wide (place_kind place) q) (and_true _ _ p e)
+  pub load_fine : (x : ℕ) (k : Param) (place : Place) → IsHeld code.vars x k
+      → is_place code.vars place (place_kind place) ≡ true → is_wide (place_kind place) k ≡ true
+      → is_sound code (Load (to_var x) place) ≡ true
+  load_fine x k place h p e = var_fine x k h (λ q. is_place code.vars place (place_kind place)
+      && is_wide (place_kind place) q) (and_true _ _ p e)
 
-  pub store_fine : (place : Place) (a : Atom) → is_place code.vars place (place_kind place) ≡ true → atom_is code.vars (place_kind place) a ≡ true → is_sound code (Store place a) ≡ true
+  pub store_fine : (place : Place) (a : Atom) → is_place code.vars place (place_kind place) ≡ true
+      → atom_is code.vars (place_kind place) a ≡ true → is_sound code (Store place a) ≡ true
   store_fine place a p e = and_true _ _ p e
 
-  pub global_fine : (n : Name) (kind : ValueKind) → is_place code.vars (Global n (slot_kind kind)) (slot_kind kind) ≡ true
+  pub global_fine : (n : Name) (kind : ValueKind)
+      → is_place code.vars (Global n (slot_kind kind)) (slot_kind kind) ≡ true
   global_fine n kind = and_true _ _ (slot_is kind) (and_true _ _ (slot_wide kind) (slot_wide kind))
 
-  pub field_fine : (b : ℕ) (tag field : Name) (kind : ValueKind) → IsHeld code.vars b param.ObjectOrNull → is_place code.vars (Field (var b) tag field (slot_kind kind)) (slot_kind kind) ≡ true
-  field_fine b tag field kind h = and_true _ _ (var_atom b param.ObjectOrNull param.ObjectOrNull h refl) (and_true _ _ (slot_is kind) (and_true _ _ (slot_wide kind) (slot_wide kind)))
+  pub field_fine : (b : ℕ) (tag field : Name) (kind : ValueKind) → IsHeld code.vars b param.ObjectOrNull
+      → is_place code.vars (Field (var b) tag field (slot_kind kind)) (slot_kind kind) ≡ true
+  field_fine b tag field kind h = and_true _ _ (var_atom b param.ObjectOrNull param.ObjectOrNull h refl)
+      (and_true _ _ (slot_is kind) (and_true _ _ (slot_wide kind) (slot_wide kind)))
 
   -- .. jumps
   pub label_fine : (l : ℕ) → l < length code.instrs → is_label code (at_label l) ≡ true
@@ -313,12 +333,17 @@ module _ (code : Code) where
   abbrev pub is_tested : Param → Bool
   is_tested k = is_wide k param.Long || (is_wide k param.ObjectOrNull || is_wide k param.TextOrNull)
 
-  pub condition_fine : (x : ℕ) (k : Param) → IsHeld code.vars x k → is_tested k ≡ true → is_condition code.vars (var x) ≡ true
+  pub condition_fine : (x : ℕ) (k : Param) → IsHeld code.vars x k → is_tested k ≡ true
+      → is_condition code.vars (var x) ≡ true
   condition_fine x k h e =
-      ap (λ (i : Bool). (i && is_wide (var_kind code.vars (to_var x)) param.Long) || ((i && is_wide (var_kind code.vars (to_var x)) param.ObjectOrNull) || (i && is_wide (var_kind code.vars (to_var x)) param.TextOrNull))) (lt_true x (length code.vars) h.0)
+      ap (λ (i : Bool). (i && is_wide (var_kind code.vars (to_var x)) param.Long)
+      || ((i && is_wide (var_kind code.vars (to_var x)) param.ObjectOrNull)
+      || (i && is_wide (var_kind code.vars (to_var x)) param.TextOrNull))) (lt_true x (length code.vars) h.0)
       ∙ ap is_tested h.1 ∙ e
 
-  pub branch_fine : (x : ℕ) (k : Param) (l m : ℕ) → IsHeld code.vars x k → is_tested k ≡ true → l < length code.instrs → m < length code.instrs → is_sound code (Branch (var x) (at_label l) (at_label m)) ≡ true
+  pub branch_fine : (x : ℕ) (k : Param) (l m : ℕ) → IsHeld code.vars x k → is_tested k ≡ true
+      → l < length code.instrs → m < length code.instrs
+      → is_sound code (Branch (var x) (at_label l) (at_label m)) ≡ true
   branch_fine x k l m h e f g = and_true _ _ (condition_fine x k h e) (and_true _ _ (label_fine l f) (label_fine m g))
 
   pub tested_fine : (c : ℕ) → c ≤ 4 → is_tested (column_kind c) ≡ true
@@ -329,16 +354,21 @@ module _ (code : Code) where
   tested_fine (suc (suc (suc (suc c)))) h = refl
 
   -- .. comparisons
-  pub numbers_compared : (order : Bool) (a b : Atom) → is_number code.vars a ≡ true → is_number code.vars b ≡ true → are_compared order a b ≡ true
+  pub numbers_compared : (order : Bool) (a b : Atom) → is_number code.vars a ≡ true → is_number code.vars b ≡ true
+      → are_compared order a b ≡ true
   numbers_compared true a b f g = and_true _ _ f g
   numbers_compared false a b f g = or_true_left _ _ (and_true _ _ f g)
 
-  pub objects_compared : (a b : Atom) → atom_is code.vars param.ObjectOrNull a ≡ true → atom_is code.vars param.ObjectOrNull b ≡ true → are_compared false a b ≡ true
-  objects_compared a b f g = or_true_right (is_number code.vars a && is_number code.vars b) _ (or_true_left _ _ (and_true _ _ f g))
+  pub objects_compared : (a b : Atom) → atom_is code.vars param.ObjectOrNull a ≡ true
+      → atom_is code.vars param.ObjectOrNull b ≡ true → are_compared false a b ≡ true
+  objects_compared a b f g = or_true_right (is_number code.vars a && is_number code.vars b) _
+      (or_true_left _ _ (and_true _ _ f g))
 
-  pub texts_compared : (a b : Atom) → atom_is code.vars param.TextOrNull a ≡ true → atom_is code.vars param.TextOrNull b ≡ true → are_compared false a b ≡ true
+  pub texts_compared : (a b : Atom) → atom_is code.vars param.TextOrNull a ≡ true
+      → atom_is code.vars param.TextOrNull b ≡ true → are_compared false a b ≡ true
   texts_compared a b f g =
-      or_true_right (is_number code.vars a && is_number code.vars b) _ (or_true_right (atom_is code.vars param.ObjectOrNull a && atom_is code.vars param.ObjectOrNull b) _ (and_true _ _ f g))
+      or_true_right (is_number code.vars a && is_number code.vars b) _ (or_true_right
+      (atom_is code.vars param.ObjectOrNull a && atom_is code.vars param.ObjectOrNull b) _ (and_true _ _ f g))
 
   -- .. lists of instructions
   abbrev pub AreFine : List Line → Type 0

@@ -1,5 +1,7 @@
--- The instructions of a statement whose parts are of the kinds that they need name what is there, and of the kind that they need.
-use Rattle.std.proofs.Common.{◌≡◌, ℕ, ◌+◌, ◌*◌, ◌<◌, ◌≤◌, ℤ, arith, true, false, List, [], ◌∷◌, ◌++◌, length, Option, Some, None, refl}
+-- The instructions of a statement whose parts are of the kinds that they need name what is there, and of the kind that
+-- they need.
+use Rattle.std.proofs.Common.{◌≡◌, ℕ, ◌+◌, ◌*◌, ◌<◌, ◌≤◌, ℤ, arith, true, false, List, [], ◌∷◌, ◌++◌, length, Option}
+use Rattle.std.proofs.Common.{Some, None, refl}
 use Rattle.std.specs.Prelude.{◌&&◌, ◌^◌}
 use Rattle.pungi_base.specs.declared.pos.Pos.{Pos}
 use Rattle.pungi_tree.specs.Syntax.{Item}
@@ -22,18 +24,25 @@ use Rattle.pungi_layout.proofs.well_formed.Both.{and_left, and_right}
 use Rattle.pungi_layout.specs.code.Sizes.{expr_size, option_size, declare_size, test_size, stmt_size, stmts_size}
 use Rattle.pungi_layout.specs.code.Temporaries.{temp, value_column, temp_of, operand, local_column}
 use Rattle.pungi_layout.specs.code.ExprCode.{var, expr_code}
-use Rattle.pungi_layout.specs.code.Scopes.{Env, label_or, for_head, list_cases, list_default, in_block, in_loop, in_switch}
-use Rattle.pungi_layout.specs.code.StmtCode.{unset_code, value_code, option_code, bind_code, declare_code, test_code, tested_code, case_code, stmt_code, stmts_code}
+use Rattle.pungi_layout.specs.code.Scopes.{Env, label_or, for_head, list_cases, list_default, in_block, in_loop}
+use Rattle.pungi_layout.specs.code.Scopes.{in_switch}
+use Rattle.pungi_layout.specs.code.StmtCode.{unset_code, value_code, option_code, bind_code, declare_code, test_code}
+use Rattle.pungi_layout.specs.code.StmtCode.{tested_code, case_code, stmt_code, stmts_code}
 use Rattle.pungi_layout.specs.code.Sound.{expr_nodes, option_nodes, declare_nodes, stmt_nodes, stmts_nodes}
-use Rattle.pungi_layout.specs.kinds.Typed.{is_kept, GoesIn, IsHeld, IsTyped, IsOptionTyped, IsDeclaredTyped, AreDeclaredTyped, IsStmtTyped, AreStmtsTyped}
+use Rattle.pungi_layout.specs.kinds.Typed.{is_kept, GoesIn, IsHeld, IsTyped, IsOptionTyped, IsDeclaredTyped}
+use Rattle.pungi_layout.specs.kinds.Typed.{AreDeclaredTyped, IsStmtTyped, AreStmtsTyped}
 use Rattle.pungi_layout.specs.code.Calls.{calls_none, is_free_option, are_free_locals, has_no_call, have_no_call}
-use Rattle.pungi_layout.proofs.well_formed.Instructions.{column_kind, number_kind, integer_wide, lt_true, var_atom, number_atom, set_fine, compare_fine, label_fine, condition_fine, branch_fine, tested_fine, numbers_compared, AreFine, fine_append}
+use Rattle.pungi_layout.proofs.well_formed.Instructions.{column_kind, number_kind, integer_wide, lt_true, var_atom}
+use Rattle.pungi_layout.proofs.well_formed.Instructions.{number_atom, set_fine, compare_fine, label_fine}
+use Rattle.pungi_layout.proofs.well_formed.Instructions.{condition_fine, branch_fine, tested_fine, numbers_compared}
+use Rattle.pungi_layout.proofs.well_formed.Instructions.{AreFine, fine_append}
 use Rattle.pungi_layout.proofs.well_formed.Columns.{number_wide, value_low, some_nodes}
 use Rattle.pungi_layout.proofs.well_formed.Exprs.{own_held, own_in, known_held, expr_fine}
 use Rattle.pungi_layout.proofs.code.StmtLengths.{cases_long}
 use Rattle.pungi_layout.proofs.well_formed.JumpPlaces.{label_in, default_in, EnvIn, block_in, CasesIn, list_cases_in}
 
-module _ (file : List Item) (code : Code) (nl n : ℕ) (temps : (d c : ℕ) → d < n → c ≤ 4 → IsHeld code.vars (temp nl d c) (column_kind c)) (few : n ≤ 2 ^ 14) where
+module _ (file : List Item) (code : Code) (nl n : ℕ) (temps : (d c : ℕ) → d < n → c ≤ 4
+    → IsHeld code.vars (temp nl d c) (column_kind c)) (few : n ≤ 2 ^ 14) where
   abbrev IsFine : List Line → Type 0
   IsFine ls = AreFine code ls
 
@@ -45,7 +54,8 @@ module _ (file : List Item) (code : Code) (nl n : ℕ) (temps : (d c : ℕ) → 
   AreThere [] = Unit {0}
   AreThere (r ∷ rs) = (r.number < length code.vars) × AreThere rs
 
-  one_there : (x : ℕ) (k : Option ValueKind) (v : Option expr.Value) → IsDeclaredTyped file code.vars x k v → x < length code.vars
+  one_there : (x : ℕ) (k : Option ValueKind) (v : Option expr.Value) → IsDeclaredTyped file code.vars x k v
+      → x < length code.vars
   one_there x None v h = absurd h
   one_there x (Some k) v h = h.1.0
 
@@ -63,7 +73,8 @@ module _ (file : List Item) (code : Code) (nl n : ℕ) (temps : (d c : ℕ) → 
 
   declared_there : (ss : stmt.Actions) → AreStmtsTyped file code.vars ss → AreThere (block_locals (listed ss))
   declared_there stmt.no_actions h = tt
-  declared_there (stmt.action_and a ss) h = there_append (action_locals a) (block_locals (listed ss)) (own_there a h.0) (declared_there ss h.1)
+  declared_there (stmt.action_and a ss) h = there_append (action_locals a) (block_locals (listed ss))
+      (own_there a h.0) (declared_there ss h.1)
 
   unset_fine : (p : Pos) (rs : List stmt.DeclaredLocal) → AreThere rs → IsFine (unset_code p rs)
   unset_fine p [] h = tt
@@ -77,50 +88,98 @@ module _ (file : List Item) (code : Code) (nl n : ℕ) (temps : (d c : ℕ) → 
     wide : is_wide held_kind (slot_kind kind) ≡ true
 
   bound : (kind : ValueKind) (v : expr.Value) → 0 < n → is_kept kind ≡ true → GoesIn (slot_kind kind) v → Bound kind v
-  bound kinds.Int v lt k g = record { held_kind = param.Int; held = known_held file code nl n temps few 0 v 0 lt g (omega arith); goes = g; wide = refl }
+  bound kinds.Int v lt k g = record {
+    held_kind = param.Int;
+    held = known_held file code nl n temps few 0 v 0 lt g
+        (omega arith);
+    goes = g;
+    wide = refl;
+  }
   bound kinds.Long v lt k g =
-      record { held_kind = column_kind (value_column v); held = own_held file code nl n temps few 0 v lt; goes = own_in file code nl n temps few v; wide = integer_wide (column_kind (value_column v)) (number_kind (value_column v) g) }
+      record {
+        held_kind = column_kind (value_column v);
+        held = own_held file code nl n temps few 0 v lt;
+        goes
+            = own_in file code nl n temps few v;
+        wide = integer_wide (column_kind (value_column v))
+            (number_kind (value_column v) g);
+      }
   bound kinds.Size v lt k g =
-      record { held_kind = column_kind (value_column v); held = own_held file code nl n temps few 0 v lt; goes = own_in file code nl n temps few v; wide = number_wide (value_column v) g }
-  bound kinds.Text v lt k g = record { held_kind = param.TextOrNull; held = temps 0 3 lt (omega arith); goes = g; wide = refl }
-  bound (kinds.Object tag) v lt k g = record { held_kind = param.ObjectOrNull; held = known_held file code nl n temps few 0 v 4 lt g (omega arith); goes = g; wide = refl }
+      record {
+        held_kind = column_kind (value_column v);
+        held = own_held file code nl n temps few 0 v lt;
+        goes
+            = own_in file code nl n temps few v;
+        wide = number_wide (value_column v) g;
+      }
+  bound kinds.Text v lt k g = record {
+    held_kind = param.TextOrNull;
+    held = temps 0 3 lt (omega arith);
+    goes = g;
+    wide = refl;
+  }
+  bound (kinds.Object tag) v lt k g = record {
+    held_kind = param.ObjectOrNull;
+    held = known_held file code nl n
+        temps few 0 v 4 lt g (omega arith);
+    goes = g;
+    wide = refl;
+  }
   bound kinds.Null v lt k g = absurd (cc)
   bound kinds.Void v lt k g = absurd (cc)
 
-  bind_fine : (pc : ℕ) (p : Pos) (x : ℕ) (kind : Option ValueKind) (v : Option expr.Value) → 0 < n → option_nodes v ≤ n → pc + option_size v + 1 < length code.instrs → IsDeclaredTyped file code.vars x kind v → is_free_option v ≡ true
+  bind_fine : (pc : ℕ) (p : Pos) (x : ℕ) (kind : Option ValueKind) (v : Option expr.Value) → 0 < n
+      → option_nodes v ≤ n → pc + option_size v + 1 < length code.instrs → IsDeclaredTyped file code.vars x kind v
+      → is_free_option v ≡ true
       → IsFine (bind_code nl pc p x kind v)
   bind_fine pc p x None v lt le at h f = absurd h
   bind_fine pc p x (Some kind) None lt le at h f = (lt_true x (length code.vars) h.1.0, tt)
   bind_fine pc p x (Some kind) (Some v) lt le at h f =
       let b = bound kind v lt h.0 h.2.0 in
       let t = operand nl 0 (local_column (Some kind)) v in
-      joins (expr_code nl 0 t pc v) _ (expr_fine file code nl n temps few v 0 t pc b.held_kind (omega (arith, le)) (omega (arith, at)) b.held b.goes h.2.1 f)
+      joins (expr_code nl 0 t pc v) _ (expr_fine file code nl n temps few v 0 t pc b.held_kind (omega (arith, le))
+      (omega (arith, at)) b.held b.goes h.2.1 f)
       (set_fine code x (slot_kind kind) (var t) h.1 (var_atom code t b.held_kind (slot_kind kind) b.held b.wide), tt)
 
-  declare_fine : (rs : List stmt.DeclaredLocal) (pc : ℕ) → 0 < n → declare_nodes rs ≤ n → pc + declare_size rs < length code.instrs → AreDeclaredTyped file code.vars rs → are_free_locals rs ≡ true → IsFine (declare_code nl pc rs)
+  declare_fine : (rs : List stmt.DeclaredLocal) (pc : ℕ) → 0 < n → declare_nodes rs ≤ n
+      → pc + declare_size rs < length code.instrs → AreDeclaredTyped file code.vars rs → are_free_locals rs ≡ true
+      → IsFine (declare_code nl pc rs)
   declare_fine [] pc lt le at h f = tt
   declare_fine (r ∷ rs) pc lt le at h f =
-      joins (bind_code nl pc r.at r.number r.kind r.value) _ (bind_fine pc r.at r.number r.kind r.value lt (omega (arith, le)) (omega (arith, at)) h.0 (and_left (is_free_option r.value) (are_free_locals rs) f))
-      (declare_fine rs (pc + option_size r.value + 1) lt (omega (arith, le)) (omega (arith, at)) h.1 (and_right (is_free_option r.value) (are_free_locals rs) f))
+      joins (bind_code nl pc r.at r.number r.kind r.value) _ (bind_fine pc r.at r.number r.kind r.value lt
+      (omega (arith, le)) (omega (arith, at)) h.0 (and_left (is_free_option r.value) (are_free_locals rs) f))
+      (declare_fine rs (pc + option_size r.value + 1) lt (omega (arith, le)) (omega (arith, at)) h.1
+      (and_right (is_free_option r.value) (are_free_locals rs) f))
 
   -- .. values
-  value_fine : (v : expr.Value) (pc : ℕ) → expr_nodes v ≤ n → pc + expr_size v < length code.instrs → IsTyped file code.vars v → calls_none v ≡ true → IsFine (value_code nl pc v)
+  value_fine : (v : expr.Value) (pc : ℕ) → expr_nodes v ≤ n → pc + expr_size v < length code.instrs
+      → IsTyped file code.vars v → calls_none v ≡ true → IsFine (value_code nl pc v)
   value_fine v pc le at h f =
       let o = some_nodes v in
-      expr_fine file code nl n temps few v 0 (temp_of nl 0 v) pc (column_kind (value_column v)) (omega (arith, le)) at (own_held file code nl n temps few 0 v (omega (arith, le, o))) (own_in file code nl n temps few v) h f
+      expr_fine file code nl n temps few v 0 (temp_of nl 0 v) pc (column_kind (value_column v)) (omega (arith, le))
+      at (own_held file code nl n temps few 0 v (omega (arith, le, o))) (own_in file code nl n temps few v) h f
 
-  option_fine : (o : Option expr.Value) (pc : ℕ) → option_nodes o ≤ n → pc + option_size o < length code.instrs → IsOptionTyped file code.vars o → is_free_option o ≡ true → IsFine (option_code nl pc o)
+  option_fine : (o : Option expr.Value) (pc : ℕ) → option_nodes o ≤ n → pc + option_size o < length code.instrs
+      → IsOptionTyped file code.vars o → is_free_option o ≡ true → IsFine (option_code nl pc o)
   option_fine None pc le at h f = tt
   option_fine (Some v) pc le at h f = value_fine v pc le at h f
 
-  test_fine : (p : Pos) (c : expr.Value) (pc go other : ℕ) → expr_nodes c ≤ n → pc + expr_size c < length code.instrs → go < length code.instrs → other < length code.instrs → IsTyped file code.vars c → calls_none c ≡ true
+  test_fine : (p : Pos) (c : expr.Value) (pc go other : ℕ) → expr_nodes c ≤ n
+      → pc + expr_size c < length code.instrs → go < length code.instrs → other < length code.instrs
+      → IsTyped file code.vars c → calls_none c ≡ true
       → IsFine (test_code p nl pc c go other)
   test_fine p c pc go other le at g o h f =
       let m = some_nodes c in
-      joins (value_code nl pc c) _ (value_fine c pc le at h f)
-      (branch_fine code (temp_of nl 0 c) (column_kind (value_column c)) go other (own_held file code nl n temps few 0 c (omega (arith, le, m))) (tested_fine code (value_column c) (value_low c)) g o, tt)
+      joins (value_code nl pc c) _ (value_fine c pc le at h f) (
+        branch_fine code (temp_of nl 0 c) (column_kind (value_column c)) go other
+            (own_held file code nl n temps few 0 c (omega (arith, le, m))) (tested_fine code (value_column c)
+            (value_low c)) g o,
+        tt,
+      )
 
-  tested_option : (p : Pos) (c : Option expr.Value) (pc go other : ℕ) → option_nodes c ≤ n → pc + option_size c < length code.instrs → go < length code.instrs → other < length code.instrs → IsOptionTyped file code.vars c → is_free_option c ≡ true
+  tested_option : (p : Pos) (c : Option expr.Value) (pc go other : ℕ) → option_nodes c ≤ n
+      → pc + option_size c < length code.instrs → go < length code.instrs → other < length code.instrs
+      → IsOptionTyped file code.vars c → is_free_option c ≡ true
       → IsFine (tested_code p nl pc c go other)
   tested_option p None pc go other le at g o h f = tt
   tested_option p (Some c) pc go other le at g o h f = test_fine p c pc go other le at g o h f
@@ -130,11 +189,14 @@ module _ (file : List Item) (code : Code) (nl n : ℕ) (temps : (d c : ℕ) → 
   tested_more (Some c) = omega arith
 
   -- .. the comparisons of a `switch`
-  case_fine : (p : Pos) (x y : ℕ) (k : Param) (cs : List (ℤ × ℕ)) (pc : ℕ) → IsHeld code.vars y param.Int → IsHeld code.vars x k → is_integer k ≡ true → pc + 2 * length cs < length code.instrs → CasesIn (length code.instrs) cs
+  case_fine : (p : Pos) (x y : ℕ) (k : Param) (cs : List (ℤ × ℕ)) (pc : ℕ) → IsHeld code.vars y param.Int
+      → IsHeld code.vars x k → is_integer k ≡ true → pc + 2 * length cs < length code.instrs
+      → CasesIn (length code.instrs) cs
       → IsFine (case_code p x y pc cs)
   case_fine p x y k [] pc hy hx i at h = tt
   case_fine p x y k (c ∷ cs) pc hy hx i at h = (
-    compare_fine code y param.Int cmps.Equal (var x) (atom.Int c.0) hy refl (numbers_compared code false (var x) (atom.Int c.0) (number_atom code x k hx i) h.0),
+    compare_fine code y param.Int cmps.Equal (var x) (atom.Int c.0) hy refl
+        (numbers_compared code false (var x) (atom.Int c.0) (number_atom code x k hx i) h.0),
     (
       branch_fine code y param.Int c.1 (pc + 2) hy refl h.1 (omega (arith, at)),
       case_fine p x y k cs (pc + 2) hy hx i (omega (arith, at)) h.2,
@@ -142,41 +204,57 @@ module _ (file : List Item) (code : Code) (nl n : ℕ) (temps : (d c : ℕ) → 
   )
 
   -- .. statements
-  loop_in : (env : Env) (again end : ℕ) → again < length code.instrs → end < length code.instrs → EnvIn (length code.instrs) env → EnvIn (length code.instrs) (in_loop env again end)
+  loop_in : (env : Env) (again end : ℕ) → again < length code.instrs → end < length code.instrs
+      → EnvIn (length code.instrs) env → EnvIn (length code.instrs) (in_loop env again end)
   loop_in env again end a b e = record { breaks = b; continues = a; labels = e.labels }
 
-  switch_in : (env : Env) (end : ℕ) → end < length code.instrs → EnvIn (length code.instrs) env → EnvIn (length code.instrs) (in_switch env end)
+  switch_in : (env : Env) (end : ℕ) → end < length code.instrs → EnvIn (length code.instrs) env
+      → EnvIn (length code.instrs) (in_switch env end)
   switch_in env end b e = record { breaks = b; continues = e.continues; labels = e.labels }
 
   mutual
-    pub stmt_fine : (a : stmt.Action) (env : Env) (pc : ℕ) → stmt_nodes a ≤ n → pc + stmt_size a < length code.instrs → EnvIn (length code.instrs) env → IsStmtTyped file code.vars a → has_no_call a ≡ true
+    pub stmt_fine : (a : stmt.Action) (env : Env) (pc : ℕ) → stmt_nodes a ≤ n
+        → pc + stmt_size a < length code.instrs → EnvIn (length code.instrs) env → IsStmtTyped file code.vars a
+        → has_no_call a ≡ true
         → IsFine (stmt_code nl env pc a)
     stmt_fine (stmt.block p ss q) env pc le at e h f =
         let from = pc + length (block_locals (listed ss)) in
-        joins (unset_code p (block_locals (listed ss))) _ (unset_fine p (block_locals (listed ss)) (declared_there ss h))
-        (stmts_fine ss (in_block env from (listed ss)) from (omega (arith, le)) (omega (arith, at)) (block_in (length code.instrs) env from ss (omega (arith, at)) e) h f)
+        joins (unset_code p (block_locals (listed ss))) _ (unset_fine p (block_locals (listed ss))
+        (declared_there ss h))
+        (stmts_fine ss (in_block env from (listed ss)) from (omega (arith, le)) (omega (arith, at))
+        (block_in (length code.instrs) env from ss (omega (arith, at)) e) h f)
     stmt_fine (stmt.declare p rs) env pc le at e h f = declare_fine rs pc (omega (arith, le)) (omega (arith, le)) at h f
     stmt_fine (stmt.do_expr p v) env pc le at e h f = option_fine v pc (omega (arith, le)) at h f
     stmt_fine (stmt.if_only p c a) env pc le at e h f =
         joins (test_code p nl pc c (pc + expr_size c + 1) (pc + expr_size c + 1 + stmt_size a)) _
-        (test_fine p c pc (pc + expr_size c + 1) (pc + expr_size c + 1 + stmt_size a) (omega (arith, le)) (omega (arith, at)) (omega (arith, at)) (omega (arith, at)) h.0 (and_left (calls_none c) (has_no_call a) f))
-        (stmt_fine a env (pc + expr_size c + 1) (omega (arith, le)) (omega (arith, at)) e h.1 (and_right (calls_none c) (has_no_call a) f))
+        (test_fine p c pc (pc + expr_size c + 1) (pc + expr_size c + 1 + stmt_size a) (omega (arith, le))
+        (omega (arith, at)) (omega (arith, at)) (omega (arith, at)) h.0 (and_left (calls_none c) (has_no_call a)
+        f))
+        (stmt_fine a env (pc + expr_size c + 1) (omega (arith, le)) (omega (arith, at)) e h.1
+        (and_right (calls_none c) (has_no_call a) f))
     stmt_fine (stmt.if_else p c a b) env pc le at e h f =
         let g = and_right (calls_none c) (has_no_call a && has_no_call b) f in
         joins (test_code p nl pc c (pc + expr_size c + 1) (pc + expr_size c + 1 + stmt_size a + 1)) _
-        (test_fine p c pc (pc + expr_size c + 1) (pc + expr_size c + 1 + stmt_size a + 1) (omega (arith, le)) (omega (arith, at)) (omega (arith, at)) (omega (arith, at)) h.0 (and_left (calls_none c) (has_no_call a && has_no_call b) f))
-        (joins (stmt_code nl env (pc + expr_size c + 1) a) _ (stmt_fine a env (pc + expr_size c + 1) (omega (arith, le)) (omega (arith, at)) e h.1 (and_left (has_no_call a) (has_no_call b) g)) (
+        (test_fine p c pc (pc + expr_size c + 1) (pc + expr_size c + 1 + stmt_size a + 1) (omega (arith, le))
+        (omega (arith, at)) (omega (arith, at)) (omega (arith, at)) h.0 (and_left (calls_none c)
+        (has_no_call a && has_no_call b) f))
+        (joins (stmt_code nl env (pc + expr_size c + 1) a) _ (stmt_fine a env (pc + expr_size c + 1)
+        (omega (arith, le)) (omega (arith, at)) e h.1 (and_left (has_no_call a) (has_no_call b) g)) (
           label_fine code (pc + expr_size c + 1 + stmt_size a + 1 + stmt_size b) (omega (arith, at)),
-          stmt_fine b env (pc + expr_size c + 1 + stmt_size a + 1) (omega (arith, le)) (omega (arith, at)) e h.2 (and_right (has_no_call a) (has_no_call b) g),
+          stmt_fine b env (pc + expr_size c + 1 + stmt_size a + 1) (omega (arith, le)) (omega (arith, at)) e h.2
+              (and_right (has_no_call a) (has_no_call b) g),
         ))
     stmt_fine (stmt.while p c a) env pc le at e h f =
         let from = pc + (expr_size c + 1) in
         let again = from + stmt_size a in
         let end = from + stmt_size a + 0 + 1 in
         joins (test_code p nl pc c from end) _
-        (test_fine p c pc from end (omega (arith, le)) (omega (arith, at)) (omega (arith, at)) (omega (arith, at)) h.0 (and_left (calls_none c) (has_no_call a) f))
+        (test_fine p c pc from end (omega (arith, le)) (omega (arith, at)) (omega (arith, at)) (omega (arith, at))
+        h.0 (and_left (calls_none c) (has_no_call a) f))
         (joins (stmt_code nl (in_loop env again end) from a) _
-        (stmt_fine a (in_loop env again end) from (omega (arith, le)) (omega (arith, at)) (loop_in env again end (omega (arith, at)) (omega (arith, at)) e) h.1 (and_right (calls_none c) (has_no_call a) f))
+        (stmt_fine a (in_loop env again end) from (omega (arith, le)) (omega (arith, at))
+        (loop_in env again end (omega (arith, at)) (omega (arith, at)) e) h.1 (and_right (calls_none c)
+        (has_no_call a) f))
         (label_fine code pc (omega (arith, at)), tt))
     stmt_fine (stmt.do_while p a c) env pc le at e h f =
         let from = pc + 1 + (expr_size c + 1) in
@@ -184,9 +262,12 @@ module _ (file : List Item) (code : Code) (nl n : ℕ) (temps : (d c : ℕ) → 
         let end = from + stmt_size a + 0 + 1 in (
           label_fine code from (omega (arith, at)),
           joins (test_code p nl (pc + 1) c from end) _
-              (test_fine p c (pc + 1) from end (omega (arith, le)) (omega (arith, at)) (omega (arith, at)) (omega (arith, at)) h.0 (and_left (calls_none c) (has_no_call a) f))
+              (test_fine p c (pc + 1) from end (omega (arith, le)) (omega (arith, at)) (omega (arith, at))
+              (omega (arith, at)) h.0 (and_left (calls_none c) (has_no_call a) f))
               (joins (stmt_code nl (in_loop env again end) from a) _
-              (stmt_fine a (in_loop env again end) from (omega (arith, le)) (omega (arith, at)) (loop_in env again end (omega (arith, at)) (omega (arith, at)) e) h.1 (and_right (calls_none c) (has_no_call a) f))
+              (stmt_fine a (in_loop env again end) from (omega (arith, le)) (omega (arith, at))
+              (loop_in env again end (omega (arith, at)) (omega (arith, at)) e) h.1 (and_right (calls_none c)
+              (has_no_call a) f))
               (label_fine code (pc + 1) (omega (arith, at)), tt)),
         )
     stmt_fine (stmt.for p rs u c w a) env pc le at e h f =
@@ -199,12 +280,21 @@ module _ (file : List Item) (code : Code) (nl n : ℕ) (temps : (d c : ℕ) → 
         let f2 = and_right (is_free_option u) _ f1 in
         let f3 = and_right (is_free_option c) _ f2 in
         joins (unset_code p rs) _ (unset_fine p rs (all_there rs h.0))
-        (joins (declare_code nl (pc + length rs) rs) _ (declare_fine rs (pc + length rs) (omega (arith, le)) (omega (arith, le)) (omega (arith, at)) h.0 (and_left (are_free_locals rs) (is_free_option u && (is_free_option c && (is_free_option w && has_no_call a))) f))
-        (joins (option_code nl (pc + length rs + declare_size rs) u) _ (option_fine u (pc + length rs + declare_size rs) (omega (arith, le)) (omega (arith, at)) h.1 (and_left (is_free_option u) (is_free_option c && (is_free_option w && has_no_call a)) f1))
-        (joins (tested_code p nl head c go end) _ (tested_option p c head go end (omega (arith, le)) (omega (arith, at, tested)) (omega (arith, at)) (omega (arith, at)) h.2 (and_left (is_free_option c) (is_free_option w && has_no_call a) f2))
+        (joins (declare_code nl (pc + length rs) rs) _ (declare_fine rs (pc + length rs) (omega (arith, le))
+        (omega (arith, le)) (omega (arith, at)) h.0 (and_left (are_free_locals rs)
+        (is_free_option u && (is_free_option c && (is_free_option w && has_no_call a))) f))
+        (joins (option_code nl (pc + length rs + declare_size rs) u) _ (option_fine u
+        (pc + length rs + declare_size rs) (omega (arith, le)) (omega (arith, at)) h.1
+        (and_left (is_free_option u) (is_free_option c && (is_free_option w && has_no_call a)) f1))
+        (joins (tested_code p nl head c go end) _ (tested_option p c head go end (omega (arith, le))
+        (omega (arith, at, tested)) (omega (arith, at)) (omega (arith, at)) h.2
+        (and_left (is_free_option c) (is_free_option w && has_no_call a) f2))
         (joins (stmt_code nl (in_loop env again end) go a) _
-        (stmt_fine a (in_loop env again end) go (omega (arith, le)) (omega (arith, at)) (loop_in env again end (omega (arith, at)) (omega (arith, at)) e) h.4 (and_right (is_free_option w) (has_no_call a) f3))
-        (joins (option_code nl again w) _ (option_fine w again (omega (arith, le)) (omega (arith, at)) h.3 (and_left (is_free_option w) (has_no_call a) f3))
+        (stmt_fine a (in_loop env again end) go (omega (arith, le)) (omega (arith, at))
+        (loop_in env again end (omega (arith, at)) (omega (arith, at)) e) h.4 (and_right (is_free_option w)
+        (has_no_call a) f3))
+        (joins (option_code nl again w) _ (option_fine w again (omega (arith, le)) (omega (arith, at)) h.3
+        (and_left (is_free_option w) (has_no_call a) f3))
         (label_fine code head (omega (arith, at)), tt))))))
     stmt_fine (stmt.switch p v (stmt.block q ss r)) env pc le at e h f =
         let count = length (block_locals (listed ss)) in
@@ -214,19 +304,29 @@ module _ (file : List Item) (code : Code) (nl n : ℕ) (temps : (d c : ℕ) → 
         let inner = in_switch env end in
         let place = label_or (list_default first (listed ss)) end in
         let long = cases_long (listed ss) first in
-        joins (value_code nl pc v) _ (value_fine v pc (omega (arith, le)) (omega (arith, at)) h.1 (and_left (calls_none v) (have_no_call ss) f))
-        (joins (unset_code p (block_locals (listed ss))) _ (unset_fine p (block_locals (listed ss)) (declared_there ss h.2))
+        joins (value_code nl pc v) _ (value_fine v pc (omega (arith, le)) (omega (arith, at)) h.1
+        (and_left (calls_none v) (have_no_call ss) f))
+        (joins (unset_code p (block_locals (listed ss))) _ (unset_fine p (block_locals (listed ss))
+        (declared_there ss h.2))
         (joins (case_code p (temp_of nl 0 v) (temp nl 1 0) (pc + expr_size v + count) (list_cases first (listed ss))) _
-        (case_fine p (temp_of nl 0 v) (temp nl 1 0) (column_kind (value_column v)) (list_cases first (listed ss)) (pc + expr_size v + count) (temps 1 0 (omega (arith, le, o)) (omega arith)) (own_held file code nl n temps few 0 v (omega (arith, le, o))) (number_kind (value_column v) h.0)
-        (omega (arith, at, long)) (list_cases_in file code.vars (length code.instrs) first ss (omega (arith, at)) h.2)) (
-          label_fine code place (label_in (length code.instrs) (list_default first (listed ss)) end (default_in (length code.instrs) first ss (omega (arith, at))) (omega (arith, at))),
-          stmts_fine ss (in_block inner first (listed ss)) first (omega (arith, le)) (omega (arith, at)) (block_in (length code.instrs) inner first ss (omega (arith, at)) (switch_in env end (omega (arith, at)) e)) h.2 (and_right (calls_none v) (have_no_call ss) f),
+        (case_fine p (temp_of nl 0 v) (temp nl 1 0) (column_kind (value_column v)) (list_cases first (listed ss))
+        (pc + expr_size v + count) (temps 1 0 (omega (arith, le, o)) (omega arith))
+        (own_held file code nl n temps few 0 v (omega (arith, le, o))) (number_kind (value_column v) h.0)
+        (omega (arith, at, long)) (list_cases_in file code.vars (length code.instrs) first ss (omega (arith, at))
+        h.2)) (
+          label_fine code place (label_in (length code.instrs) (list_default first (listed ss)) end
+              (default_in (length code.instrs) first ss (omega (arith, at))) (omega (arith, at))),
+          stmts_fine ss (in_block inner first (listed ss)) first (omega (arith, le)) (omega (arith, at))
+              (block_in (length code.instrs) inner first ss (omega (arith, at)) (switch_in env end (omega (arith, at))
+              e)) h.2 (and_right (calls_none v) (have_no_call ss) f),
         )))
     stmt_fine (stmt.switch p v a) env pc le at e h f =
         let end = pc + expr_size v + 1 + stmt_size a in
-        joins (value_code nl pc v) _ (value_fine v pc (omega (arith, le)) (omega (arith, at)) h.1 (and_left (calls_none v) (has_no_call a) f)) (
+        joins (value_code nl pc v) _ (value_fine v pc (omega (arith, le)) (omega (arith, at)) h.1
+        (and_left (calls_none v) (has_no_call a) f)) (
           label_fine code end (omega (arith, at)),
-          stmt_fine a (in_switch env end) (pc + expr_size v + 1) (omega (arith, le)) (omega (arith, at)) (switch_in env end (omega (arith, at)) e) h.2 (and_right (calls_none v) (has_no_call a) f),
+          stmt_fine a (in_switch env end) (pc + expr_size v + 1) (omega (arith, le)) (omega (arith, at))
+              (switch_in env end (omega (arith, at)) e) h.2 (and_right (calls_none v) (has_no_call a) f),
         )
     stmt_fine (stmt.case p i a) env pc le at e h f = stmt_fine a env pc (omega (arith, le)) at e h.1 f
     stmt_fine (stmt.default p a) env pc le at e h f = stmt_fine a env pc (omega (arith, le)) at e h f
@@ -237,12 +337,19 @@ module _ (file : List Item) (code : Code) (nl n : ℕ) (temps : (d c : ℕ) → 
     stmt_fine (stmt.return p None) env pc le at e h f = (refl, tt)
     stmt_fine (stmt.return p (Some v)) env pc le at e h f =
         let o = some_nodes v in
-        joins (value_code nl pc v) _ (value_fine v pc (omega (arith, le)) (omega (arith, at)) h f)
-        (condition_fine code (temp_of nl 0 v) (column_kind (value_column v)) (own_held file code nl n temps few 0 v (omega (arith, le, o))) (tested_fine code (value_column v) (value_low v)), tt)
+        joins (value_code nl pc v) _ (value_fine v pc (omega (arith, le)) (omega (arith, at)) h f) (
+          condition_fine code (temp_of nl 0 v) (column_kind (value_column v)) (own_held file code nl n temps few 0 v
+              (omega (arith, le, o))) (tested_fine code (value_column v) (value_low v)),
+          tt,
+        )
 
-    stmts_fine : (ss : stmt.Actions) (env : Env) (pc : ℕ) → stmts_nodes ss ≤ n → pc + stmts_size ss < length code.instrs → EnvIn (length code.instrs) env → AreStmtsTyped file code.vars ss → have_no_call ss ≡ true
+    stmts_fine : (ss : stmt.Actions) (env : Env) (pc : ℕ) → stmts_nodes ss ≤ n
+        → pc + stmts_size ss < length code.instrs → EnvIn (length code.instrs) env → AreStmtsTyped file code.vars ss
+        → have_no_call ss ≡ true
         → IsFine (stmts_code nl env pc ss)
     stmts_fine stmt.no_actions env pc le at e h f = tt
     stmts_fine (stmt.action_and a ss) env pc le at e h f =
-        joins (stmt_code nl env pc a) _ (stmt_fine a env pc (omega (arith, le)) (omega (arith, at)) e h.0 (and_left (has_no_call a) (have_no_call ss) f))
-        (stmts_fine ss env (pc + stmt_size a) (omega (arith, le)) (omega (arith, at)) e h.1 (and_right (has_no_call a) (have_no_call ss) f))
+        joins (stmt_code nl env pc a) _ (stmt_fine a env pc (omega (arith, le)) (omega (arith, at)) e h.0
+        (and_left (has_no_call a) (have_no_call ss) f))
+        (stmts_fine ss env (pc + stmt_size a) (omega (arith, le)) (omega (arith, at)) e h.1
+        (and_right (has_no_call a) (have_no_call ss) f))

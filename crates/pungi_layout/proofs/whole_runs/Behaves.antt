@@ -1,5 +1,6 @@
 -- The code of a function behaves as the function.
-use Rattle.std.proofs.Common.{◌≡◌, ℕ, zero, suc, ◌+◌, ◌-◌, ◌*◌, ◌≤◌, List, [], ◌∷◌, ◌++◌, length, map, replicate, refl, sym, ap, ◌∙◌, arith, length-append, Bool, true, false}
+use Rattle.std.proofs.Common.{◌≡◌, ℕ, zero, suc, ◌+◌, ◌-◌, ◌*◌, ◌≤◌, List, [], ◌∷◌, ◌++◌, length, map, replicate, refl}
+use Rattle.std.proofs.Common.{sym, ap, ◌∙◌, arith, length-append, Bool, true, false}
 use Rattle.pungi_base.specs.declared.choice.Choice.{Choice}
 use Rattle.pungi_base.specs.declared.entry.Entry.{Entry}
 use Rattle.pungi_base.specs.declared.pos.Pos.{Pos}
@@ -25,7 +26,8 @@ use Rattle.pungi_layout.proofs.relation.PlacedExprs.{HasAt, has_all, has_cut}
 use Rattle.pungi_layout.proofs.code.StmtLengths.{stmt_long}
 use Rattle.pungi_layout.proofs.relation.PlacedStmts.{stmt_placed}
 
-end_placed : (v : Bool) (code : List Line) (nl room pc : ℕ) (p : Pos) → HasAt code pc (end_code p v) → EndAt code nl room v p pc
+end_placed : (v : Bool) (code : List Line) (nl room pc : ℕ) (p : Pos) → HasAt code pc (end_code p v)
+    → EndAt code nl room v p pc
 end_placed true code nl room pc p h = h.0
 end_placed false code nl room pc p h = h.0
 
@@ -47,7 +49,8 @@ same_unset m n x = is_unset m x ∙ sym (is_unset n x)
     is_unset (suc n) zero = refl
     is_unset (suc n) (suc x) = is_unset n x
 
-same_behind : (as' : List Content) (m n x : ℕ) → content_at (as' ++ replicate m Unset) x ≡ content_at (as' ++ replicate n Unset) x
+same_behind : (as' : List Content) (m n x : ℕ)
+    → content_at (as' ++ replicate m Unset) x ≡ content_at (as' ++ replicate n Unset) x
 same_behind [] m n x = same_unset m n x
 same_behind (a ∷ as') m n zero = refl
 same_behind (a ∷ as') m n (suc x) = same_behind as' m n x
@@ -59,8 +62,11 @@ vars_long vs n le =
     let u = unset_long (n - length vs) in
     omega (arith, e, m, u, le)
 
-module _ (f : ResolvedFunction) (most : ℕ) (s : IsStmtSound (f.locals) f.body) (light : stmt_weight f.body + 1 ≤ most) where
-  begins : (entry : Entry) (choices : List Choice) → length entry.args ≤ f.locals → At choices (body_code f) (f.locals) (f.locals + temps_of f) (body_of f) (start f entry) 0 (first_regs (f.locals + temps_of f) entry)
+module _ (f : ResolvedFunction) (most : ℕ) (s : IsStmtSound (f.locals) f.body)
+    (light : stmt_weight f.body + 1 ≤ most) where
+  begins : (entry : Entry) (choices : List Choice) → length entry.args ≤ f.locals
+      → At choices (body_code f) (f.locals) (f.locals + temps_of f) (body_of f) (start f entry) 0
+      (first_regs (f.locals + temps_of f) entry)
   begins entry choices le =
       let nl = f.locals in
       let room = nl + temps_of f in
@@ -68,7 +74,8 @@ module _ (f : ResolvedFunction) (most : ℕ) (s : IsStmtSound (f.locals) f.body)
       let size = stmt_size f.body in
       let body = stmt_code nl (everywhere size) 0 f.body in
       let h = has_all code [] in
-      let g = has_cut code 0 size body (end_code (closing_brace f.body) (is_void f.result)) (stmt_long f.body nl (everywhere size) 0) h in
+      let g = has_cut code 0 size body (end_code (closing_brace f.body) (is_void f.result))
+      (stmt_long f.body nl (everywhere size) 0) h in
       let z : 0 + size ≡ size = omega arith in
       let e : size ≡ 0 + size = omega arith in (
         everywhere size,
@@ -92,9 +99,12 @@ module _ (f : ResolvedFunction) (most : ℕ) (s : IsStmtSound (f.locals) f.body)
   pub behaves : Behaves f (body_code f) (f.locals + temps_of f) most
   behaves = record {
     alike = λ entry choices le.
-        alike choices (body_code f) (f.locals) (f.locals + temps_of f) most (body_of f) (start f entry) 0 (first_regs (f.locals + temps_of f) entry) (omega (arith, light)) (omega (arith, light)) (omega (arith, light), (tt, tt)) (begins entry choices le);
+        alike choices (body_code f) (f.locals) (f.locals + temps_of f) most (body_of f) (start f entry) 0
+        (first_regs (f.locals + temps_of f) entry) (omega (arith, light)) (omega (arith, light))
+        (omega (arith, light), (tt, tt)) (begins entry choices le);
   }
 
 -- .. with the bound that five steps a node give
-pub laid_out : (f : ResolvedFunction) → IsStmtSound (f.locals) f.body → 5 * stmt_nodes f.body ≤ 65536 → Behaves f (body_code f) (f.locals + temps_of f) 65536
+pub laid_out : (f : ResolvedFunction) → IsStmtSound (f.locals) f.body → 5 * stmt_nodes f.body ≤ 65536
+    → Behaves f (body_code f) (f.locals + temps_of f) 65536
 laid_out f s le = let a = stmt_light f.body in behaves f 65536 s (omega (arith, a, le))

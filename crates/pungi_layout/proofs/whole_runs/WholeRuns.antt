@@ -19,19 +19,32 @@ module _ (choices : List Choice) (code : List Line) (nl room most : ℕ) where
   abbrev pub IsReached : List Todo → State → ℕ → Regs → Type 0
   IsReached k s pc m = At choices code nl room k s pc m × AreLight most k
 
-  joined : (st : Step) (n b pc : ℕ) (m : Regs) → IsDone choices code nl room st b pc m → Leaves most (n + most * b) st → Simulates choices code IsReached weight most st n pc m
+  joined : (st : Step) (n b pc : ℕ) (m : Regs) → IsDone choices code nl room st b pc m
+      → Leaves most (n + most * b) st → Simulates choices code IsReached weight most st n pc m
   joined (Goes ops k s) n b pc m g l = record {
     jumps = b;
-    leads = record { count = g.count; least = g.least; place = g.place; regs = g.regs; by = g.by; stands = (g.stands, l.1) };
+    leads = record {
+      count = g.count;
+      least = g.least;
+      place = g.place;
+      regs = g.regs;
+      by = g.by;
+      stands
+          = (g.stands, l.1);
+    };
     lighter = l.0;
   }
   joined (Returns w v p u) n b pc m g l = record { jumps = b; leads = g; lighter = tt }
   joined (Stops p) n b pc m g l = record { jumps = b; leads = g; lighter = tt }
   joined Wants n b pc m g l = record { jumps = b; leads = g; lighter = tt }
 
-  simulates : (k : List Todo) (s : State) (pc : ℕ) (m : Regs) → IsReached k s pc m → Simulates choices code IsReached weight most (act choices k s) (weight k) pc m
-  simulates k s pc m h = joined (act choices k s) (weight k) (jumps k) pc m (sim choices code nl room k s pc m h.0) (step_light most choices k s h.1)
+  simulates : (k : List Todo) (s : State) (pc : ℕ) (m : Regs) → IsReached k s pc m
+      → Simulates choices code IsReached weight most (act choices k s) (weight k) pc m
+  simulates k s pc m h = joined (act choices k s) (weight k) (jumps k) pc m (sim choices code nl room k s pc m h.0)
+      (step_light most choices k s h.1)
 
-  pub alike : (k : List Todo) (s : State) (pc : ℕ) (m : Regs) → 1 ≤ most → weight k ≤ most → AreLight most k → At choices code nl room k s pc m → Alike (λ n. run_from choices n k s) (λ n. exec choices code n pc m) most
+  pub alike : (k : List Todo) (s : State) (pc : ℕ) (m : Regs) → 1 ≤ most → weight k ≤ most → AreLight most k
+      → At choices code nl room k s pc m → Alike (λ n. run_from choices n k s) (λ n. exec choices code n pc m) most
   alike k s pc m some le l h =
-      alike_by choices code IsReached weight most k s (weight k) pc m some le (λ n. follows choices code IsReached weight most simulates n k s pc m (h, l))
+      alike_by choices code IsReached weight most k s (weight k) pc m some le
+      (λ n. follows choices code IsReached weight most simulates n k s pc m (h, l))

@@ -34,4 +34,5 @@ abbrev pub target : List Line → ℕ → Entry → List Choice → ℕ → Run
 target code vars entry choices n = exec choices code n 0 (first_regs vars entry)
 
 pub record Behaves (f : ResolvedFunction) (code : List Line) (vars most : ℕ) : Type 0 where
-  pub alike : (entry : Entry) (choices : List Choice) → length entry.args ≤ f.locals → Alike (source f entry choices) (target code vars entry choices) most
+  pub alike : (entry : Entry) (choices : List Choice) → length entry.args ≤ f.locals
+      → Alike (source f entry choices) (target code vars entry choices) most

@@ -10,7 +10,8 @@
 use Rattle.std.specs.Prelude.{ℕ, ◌+◌, List, [], ◌∷◌, drop, Option, Some, None}
 use Rattle.pungi_resolved.specs.Values as expr
 use Rattle.pungi_resolved.specs.Actions as stmt
-use Rattle.pungi_meaning.specs.Todo.{Loop, Todo, ToEval, ToRight, ToPick, ToArgs, ToExec, ToDeclare, ToChoose, ToRest, ToTest, ToTurn, ToAgain, ToSwitch}
+use Rattle.pungi_meaning.specs.Todo.{Loop, Todo, ToEval, ToRight, ToPick, ToArgs, ToExec, ToDeclare, ToChoose, ToRest}
+use Rattle.pungi_meaning.specs.Todo.{ToTest, ToTurn, ToAgain, ToSwitch}
 
 abbrev mutual
   pub expr_weight : expr.Value → ℕ

@@ -51,7 +51,8 @@ abbrev mutual
   has_no_call (stmt.if_else p c a b) = calls_none c && (has_no_call a && has_no_call b)
   has_no_call (stmt.while p c a) = calls_none c && has_no_call a
   has_no_call (stmt.do_while p a c) = calls_none c && has_no_call a
-  has_no_call (stmt.for p rs u c w a) = are_free_locals rs && (is_free_option u && (is_free_option c && (is_free_option w && has_no_call a)))
+  has_no_call (stmt.for p rs u c w a) = are_free_locals rs
+      && (is_free_option u && (is_free_option c && (is_free_option w && has_no_call a)))
   has_no_call (stmt.switch p v a) = calls_none v && has_no_call a
   has_no_call (stmt.case p n a) = has_no_call a
   has_no_call (stmt.default p a) = has_no_call a

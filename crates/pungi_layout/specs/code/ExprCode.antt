@@ -5,13 +5,14 @@
 --   fit_code                     a conversion, where the kinds differ
 --   old_code, store_code         what a place holds; a store, which leaves the stored value in a variable
 --   above place d                how many values wait below one that is stored to a place
---   base_var, stored_var, counted_var    the variables of a field's base, of a value that is stored, and of one before it is
+--   base_var, stored_var, counted_var    the variables of a field's base, of a value that is stored, and of one before
+--                                        it is
 --                                converted to the kind of the place
 --   sign_var, sign_code          a sign
 --   step_code                    `++` and `--`, once the old content is there
 --   row_code                     a call of the API, once its arguments are there
---   expr_code nl d t pc v        the instructions of an expression at this place: they leave its value in the variable t, where
---                                d values wait below it
+--   expr_code nl d t pc v        the instructions of an expression at this place: they leave its value in the variable
+--                                t, where d values wait below it
 --   base_code, args_code         those of a field's base, those of arguments
 use Rattle.std.specs.Prelude.{ℕ, ◌+◌, Bool, true, false, not, List, [], ◌∷◌, ◌++◌, map, Some, None, if◌then◌else◌, pos}
 use Rattle.pungi_base.specs.declared.kind.Kind.{Kind}
@@ -32,7 +33,8 @@ use Rattle.pungi_code.specs.declared.atom.Atom.TheVariants as atom
 use Rattle.pungi_code.specs.declared.atom.Var.{Var}
 use Rattle.pungi_code.specs.declared.code.Line.{Line}
 use Rattle.pungi_code.specs.declared.instr.Instr.{Instr}
-use Rattle.pungi_code.specs.declared.instr.Instr.TheVariants.{Set, Arith, Fit, Compare, Load, Store, Api, Call, Branch, Jump, Fall}
+use Rattle.pungi_code.specs.declared.instr.Instr.TheVariants.{Set, Arith, Fit, Compare, Load, Store, Api, Call, Branch}
+use Rattle.pungi_code.specs.declared.instr.Instr.TheVariants.{Jump, Fall}
 use Rattle.pungi_code.specs.declared.instr.Label.{Label}
 use Rattle.pungi_code.specs.declared.place.Place.TheVariants.{Global, Field}
 use Rattle.pungi_layout.specs.code.Parts.{is_minus, gives_answer}
@@ -58,7 +60,8 @@ bit false = atom.Int (pos 0)
 
 -- on the wanted truth to the one place, else to the other
 abbrev pub branch_on : Bool → ℕ → ℕ → ℕ → Instr
-branch_on on x go other = if on then Branch (var x) (at_label go) (at_label other) else Branch (var x) (at_label other) (at_label go)
+branch_on on x go other =
+    if on then Branch (var x) (at_label go) (at_label other) else Branch (var x) (at_label other) (at_label go)
 
 abbrev pub fit_code : Pos → ValueKind → ValueKind → ℕ → ℕ → List Line
 fit_code p to from t x = if is_same_kind (Some to) (Some from) then [] else line p (Fit (to_var t) to (var x)) ∷ []
@@ -67,13 +70,15 @@ fit_code p to from t x = if is_same_kind (Some to) (Some from) then [] else line
 abbrev pub old_code : ValueKind → expr.Place → ℕ → ℕ → List Line
 old_code kind (expr.local_place p x) t b = line p (Set (to_var t) (var x)) ∷ []
 old_code kind (expr.global_place p n) t b = line p (Load (to_var t) (Global n (slot_kind kind))) ∷ []
-old_code kind (expr.field_place p base tag field) t b = line p (Load (to_var t) (Field (var b) tag field (slot_kind kind))) ∷ []
+old_code kind (expr.field_place p base tag field) t b =
+    line p (Load (to_var t) (Field (var b) tag field (slot_kind kind))) ∷ []
 old_code kind expr.no_place t b = line nowhere Fall ∷ []
 
 -- v holds the value, t gets it too
 abbrev pub store_code : ValueKind → expr.Place → ℕ → ℕ → ℕ → List Line
 store_code kind (expr.local_place p x) t b v = line p (Set (to_var x) (var v)) ∷ line p (Set (to_var t) (var v)) ∷ []
-store_code kind (expr.global_place p n) t b v = line p (Store (Global n (slot_kind kind)) (var v)) ∷ line p (Set (to_var t) (var v)) ∷ []
+store_code kind (expr.global_place p n) t b v =
+    line p (Store (Global n (slot_kind kind)) (var v)) ∷ line p (Set (to_var t) (var v)) ∷ []
 store_code kind (expr.field_place p base tag field) t b v =
     line p (Store (Field (var b) tag field (slot_kind kind)) (var v)) ∷ line p (Set (to_var t) (var v)) ∷ []
 store_code kind expr.no_place t b v = line nowhere Fall ∷ line nowhere Fall ∷ []
@@ -88,14 +93,17 @@ stored_var nl place d kind = temp nl (above place d) (column kind)
 
 -- where a counted value stands: in the variable that it is stored from, where it isn't converted
 abbrev pub counted_var : ℕ → expr.Place → ℕ → ValueKind → ValueKind → ℕ
-counted_var nl place d kind counted = if is_same_kind (Some kind) (Some counted) then stored_var nl place d kind else temp nl (above place d) (column counted)
+counted_var nl place d kind counted =
+    if is_same_kind (Some kind) (Some counted) then stored_var nl place d kind else temp nl (above place d)
+    (column counted)
 
 abbrev pub base_var : ℕ → expr.Place → ℕ → ℕ
 base_var nl (expr.field_place p base tag field) d = temp_of nl d base
 base_var nl place d = 0
 
 abbrev pub sign_code : Bool → Pos → ValueKind → ℕ → ℕ → List Line
-sign_code minus p kind t x = if minus then line p (Arith (to_var t) kind ops.Sub (atom.Int (pos 0)) (var x)) ∷ [] else []
+sign_code minus p kind t x =
+    if minus then line p (Arith (to_var t) kind ops.Sub (atom.Int (pos 0)) (var x)) ∷ [] else []
 
 abbrev pub sign_var : Bool → ℕ → ℕ → ℕ
 sign_var minus t x = if minus then x else t
@@ -103,11 +111,16 @@ sign_var minus t x = if minus then x else t
 -- .. `++` and `--` of a place, with d values below its base: the result stands in t
 abbrev pub step_code : ℕ → ℕ → ℕ → Pos → Kind → ValueKind → expr.Place → List Line
 step_code nl d t p m kind place =
-    line p (Arith (to_var (counted_var nl place d kind (wide kind))) (wide kind) (step_op m) (var (temp nl (above place d) (column kind))) (atom.Int (pos 1))) ∷ (fit_code p kind (wide kind) (stored_var nl place d kind) (counted_var nl place d kind (wide kind)) ++ store_code kind place t (base_var nl place d) (stored_var nl place d kind))
+    line p (Arith (to_var (counted_var nl place d kind (wide kind))) (wide kind) (step_op m)
+    (var (temp nl (above place d) (column kind))) (atom.Int (pos 1)))
+    ∷ (fit_code p kind (wide kind) (stored_var nl place d kind) (counted_var nl place d kind (wide kind))
+    ++ store_code kind place t (base_var nl place d) (stored_var nl place d kind))
 
 -- a call of a row, once its arguments stand in their variables
 abbrev pub row_code : ℕ → ℕ → ℕ → Pos → Row → List expr.Value → List Line
-row_code nl d t p row vs = line p (Api (if gives_answer row then Some (to_var t) else None) (shape_of row) (map var (arg_vars nl d row.params vs)) []) ∷ []
+row_code nl d t p row vs =
+    line p (Api (if gives_answer row then Some (to_var t) else None) (shape_of row)
+    (map var (arg_vars nl d row.params vs)) []) ∷ []
 
 abbrev mutual
   pub expr_code : ℕ → ℕ → ℕ → ℕ → expr.Value → List Line
@@ -121,24 +134,50 @@ abbrev mutual
   expr_code nl d t pc (expr.signed p m kind v) =
       expr_code nl d (sign_var (is_minus m) t (temp_of nl d v)) pc v ++ sign_code (is_minus m) p kind t (temp_of nl d v)
   expr_code nl d t pc (expr.negated p v) =
-      line p (Set (to_var t) (bit true)) ∷ (expr_code nl (d + 1) (temp_of nl (d + 1) v) (pc + 1) v ++ line p (Branch (var (temp_of nl (d + 1) v)) (at_label (pc + 1 + expr_size v + 1)) (at_label (pc + 1 + expr_size v + 2))) ∷ line p (Set (to_var t) (bit false)) ∷ [])
+      line p (Set (to_var t) (bit true)) ∷ (expr_code nl (d + 1) (temp_of nl (d + 1) v) (pc + 1) v
+      ++ line p (Branch (var (temp_of nl (d + 1) v)) (at_label (pc + 1 + expr_size v + 1))
+      (at_label (pc + 1 + expr_size v + 2))) ∷ line p (Set (to_var t) (bit false)) ∷ [])
   expr_code nl d t pc (expr.stepped p false m kind place) =
-      base_code nl d pc place ++ (old_code kind place (temp nl (above place d) (column kind)) (base_var nl place d) ++ step_code nl d t p m kind place)
+      base_code nl d pc place ++ (old_code kind place (temp nl (above place d) (column kind)) (base_var nl place d)
+      ++ step_code nl d t p m kind place)
   expr_code nl d t pc (expr.stepped p true m kind place) =
-      line p (Set (to_var t) (bit false)) ∷ (base_code nl (d + 1) (pc + 1) place ++ (old_code kind place (temp nl (above place (d + 1)) (column kind)) (base_var nl place (d + 1)) ++ line p (Set (to_var t) (var (temp nl (above place (d + 1)) (column kind)))) ∷ step_code nl (d + 1) (temp nl (d + 1) (column kind)) p m kind place))
+      line p (Set (to_var t) (bit false)) ∷ (base_code nl (d + 1) (pc + 1) place
+      ++ (old_code kind place (temp nl (above place (d + 1)) (column kind)) (base_var nl place (d + 1))
+      ++ line p (Set (to_var t) (var (temp nl (above place (d + 1)) (column kind))))
+      ∷ step_code nl (d + 1) (temp nl (d + 1) (column kind)) p m kind place))
   expr_code nl d t pc (expr.computed p m kind a b) =
-      expr_code nl d (temp_of nl d a) pc a ++ (expr_code nl (d + 1) (temp_of nl (d + 1) b) (pc + expr_size a) b ++ line p (Arith (to_var t) kind (op_of m) (var (temp_of nl d a)) (var (temp_of nl (d + 1) b))) ∷ [])
+      expr_code nl d (temp_of nl d a) pc a ++ (expr_code nl (d + 1) (temp_of nl (d + 1) b) (pc + expr_size a) b
+      ++ line p (Arith (to_var t) kind (op_of m) (var (temp_of nl d a)) (var (temp_of nl (d + 1) b))) ∷ [])
   expr_code nl d t pc (expr.compared p m a b) =
-      expr_code nl d (operand nl d (value_column b) a) pc a ++ (expr_code nl (d + 1) (operand nl (d + 1) (value_column a) b) (pc + expr_size a) b ++ line p (Compare (to_var t) (cmp_of m) (var (operand nl d (value_column b) a)) (var (operand nl (d + 1) (value_column a) b))) ∷ [])
+      expr_code nl d (operand nl d (value_column b) a) pc a
+      ++ (expr_code nl (d + 1) (operand nl (d + 1) (value_column a) b) (pc + expr_size a) b
+      ++ line p (Compare (to_var t) (cmp_of m) (var (operand nl d (value_column b) a))
+      (var (operand nl (d + 1) (value_column a) b))) ∷ [])
   expr_code nl d t pc (expr.joined_by p m a b) =
-      line p (Set (to_var t) (bit (not (is_and m)))) ∷ (expr_code nl (d + 1) (temp_of nl (d + 1) a) (pc + 1) a ++ line p (branch_on (is_and m) (temp_of nl (d + 1) a) (pc + 1 + expr_size a + 1) (pc + 1 + expr_size a + 1 + expr_size b + 2)) ∷ (expr_code nl (d + 1) (temp_of nl (d + 1) b) (pc + 1 + expr_size a + 1) b ++ line p (branch_on (is_and m) (temp_of nl (d + 1) b) (pc + 1 + expr_size a + 1 + expr_size b + 1) (pc + 1 + expr_size a + 1 + expr_size b + 2)) ∷ line p (Set (to_var t) (bit (is_and m))) ∷ []))
+      line p (Set (to_var t) (bit (not (is_and m)))) ∷ (expr_code nl (d + 1) (temp_of nl (d + 1) a) (pc + 1) a
+      ++ line p (branch_on (is_and m) (temp_of nl (d + 1) a) (pc + 1 + expr_size a + 1)
+      (pc + 1 + expr_size a + 1 + expr_size b + 2)) ∷ (expr_code nl (d + 1) (temp_of nl (d + 1) b)
+      (pc + 1 + expr_size a + 1) b ++ line p (branch_on (is_and m) (temp_of nl (d + 1) b)
+      (pc + 1 + expr_size a + 1 + expr_size b + 1) (pc + 1 + expr_size a + 1 + expr_size b + 2))
+      ∷ line p (Set (to_var t) (bit (is_and m))) ∷ []))
   expr_code nl d t pc (expr.stored p kind place v) =
-      base_code nl d pc place ++ (expr_code nl (above place d) (stored_var nl place d kind) (pc + place_size place) v ++ store_code kind place t (base_var nl place d) (stored_var nl place d kind))
+      base_code nl d pc place ++ (expr_code nl (above place d) (stored_var nl place d kind) (pc + place_size place)
+      v ++ store_code kind place t (base_var nl place d) (stored_var nl place d kind))
   expr_code nl d t pc (expr.updated p m counted kind place v) =
-      base_code nl d pc place ++ (old_code kind place (temp nl (above place d) (column kind)) (base_var nl place d) ++ (expr_code nl (above place d + 1) (temp_of nl (above place d + 1) v) (pc + place_size place + 1) v ++ line p (Arith (to_var (counted_var nl place d kind counted)) counted (op_of m) (var (temp nl (above place d) (column kind))) (var (temp_of nl (above place d + 1) v))) ∷ (fit_code p kind counted (stored_var nl place d kind) (counted_var nl place d kind counted) ++ store_code kind place t (base_var nl place d) (stored_var nl place d kind))))
+      base_code nl d pc place ++ (old_code kind place (temp nl (above place d) (column kind)) (base_var nl place d)
+      ++ (expr_code nl (above place d + 1) (temp_of nl (above place d + 1) v) (pc + place_size place + 1) v
+      ++ line p (Arith (to_var (counted_var nl place d kind counted)) counted (op_of m)
+      (var (temp nl (above place d) (column kind))) (var (temp_of nl (above place d + 1) v)))
+      ∷ (fit_code p kind counted (stored_var nl place d kind) (counted_var nl place d kind counted)
+      ++ store_code kind place t (base_var nl place d) (stored_var nl place d kind))))
   expr_code nl d t pc (expr.chosen p c a b) =
-      expr_code nl d (temp_of nl d c) pc c ++ line p (Branch (var (temp_of nl d c)) (at_label (pc + expr_size c + 1)) (at_label (pc + expr_size c + 1 + expr_size a + 1))) ∷ (expr_code nl d t (pc + expr_size c + 1) a ++ line p (Jump (at_label (pc + expr_size c + 1 + expr_size a + 1 + expr_size b))) ∷ expr_code nl d t (pc + expr_size c + 1 + expr_size a + 1) b)
-  expr_code nl d t pc (expr.converted p kind v) = expr_code nl d (temp_of nl d v) pc v ++ line p (Fit (to_var t) kind (var (temp_of nl d v))) ∷ []
+      expr_code nl d (temp_of nl d c) pc c ++ line p (Branch (var (temp_of nl d c))
+      (at_label (pc + expr_size c + 1)) (at_label (pc + expr_size c + 1 + expr_size a + 1)))
+      ∷ (expr_code nl d t (pc + expr_size c + 1) a ++ line p (Jump (at_label
+      (pc + expr_size c + 1 + expr_size a + 1 + expr_size b)))
+      ∷ expr_code nl d t (pc + expr_size c + 1 + expr_size a + 1) b)
+  expr_code nl d t pc (expr.converted p kind v) = expr_code nl d (temp_of nl d v) pc v
+      ++ line p (Fit (to_var t) kind (var (temp_of nl d v))) ∷ []
   expr_code nl d t pc (expr.cast_of p v) = expr_code nl d t pc v
   expr_code nl d t pc (expr.dropped p v) = expr_code nl d t pc v
   expr_code nl d t pc (expr.called p n vs) = line p (Call None 0 []) ∷ []
@@ -155,4 +194,5 @@ abbrev mutual
 
   pub args_code : ℕ → ℕ → ℕ → List Param → expr.Values → List Line
   args_code nl d pc ps expr.no_values = []
-  args_code nl d pc ps (expr.value_and v vs) = expr_code nl d (arg_var nl d ps v) pc v ++ args_code nl (d + 1) (pc + expr_size v) (tail ps) vs
+  args_code nl d pc ps (expr.value_and v vs) = expr_code nl d (arg_var nl d ps v) pc v
+      ++ args_code nl (d + 1) (pc + expr_size v) (tail ps) vs

@@ -9,7 +9,15 @@ use Rattle.pungi_layout.specs.code.StmtCode.{body_code}
 use Rattle.pungi_layout.specs.code.VarKinds.{stmt_declared, var_kinds}
 
 abbrev pub code_of : ResolvedFunction → Code
-code_of f = record { instrs = body_code f; vars = var_kinds f; params = length f.params; locals = f.locals; heads = heads_of f }
+code_of f =
+    record {
+      instrs = body_code f;
+      vars = var_kinds f;
+      params = length f.params;
+      locals = f.locals;
+      heads = heads_of
+          f;
+    }
 
 abbrev pub HasLocals : ResolvedFunction → Type 0
 HasLocals f = length f.params + length (stmt_declared f.body) ≡ f.locals

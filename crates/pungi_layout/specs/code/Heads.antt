@@ -1,18 +1,23 @@
 -- The heads of a function's loops: the places of tests of loops, and those to which an instruction leads back.
---   stmt_marks pc a, stmts_marks pc ss    the loops and labels of a statement that begins at this place, those of the statements in it
---                                too, in the order of the text: each with the place of its code and its place in the text
+--   stmt_marks pc a, stmts_marks pc ss    the loops and labels of a statement that begins at this place, those of the
+--                                         statements in it
+--                                too, in the order of the text: each with the place of its code and its place in the
+--                                text
 --   head_at n p                  a head
 --   switch_marks pc a            those of a `switch`, after its value
 --   first_pos p q               the first of two places that is there
---   loop_pos n ms, label_pos n ms    where the first loop stands whose head is at this place of the code; the first label
---   names n ls, leads_back n i code    a label of a list is this place; of instructions whose first has the number i, one that is not in
+--   loop_pos n ms, label_pos n ms    where the first loop stands whose head is at this place of the code; the first
+--                                    label
+--   names n ls, leads_back n i code    a label of a list is this place; of instructions whose first has the number i,
+--                                      one that is not in
 --                                front of the place n leads to it
 --   pos_or o p                   a place of the text that was found, or else this
 --   back_pos, head_pos ms code n    where the head at this place of the code stands in the text, if there is one
 --   found_head n o               it, where it is there
 --   heads_below ms code n        the heads at the places below n, in order
 --   heads_of f                   the heads of a function
-use Rattle.std.specs.Prelude.{ℕ, zero, suc, ◌+◌, ◌*◌, ◌==◌, nat_le, Bool, true, false, ◌&&◌, ◌||◌, List, [], ◌∷◌, ◌++◌, length, Option, Some, None, if◌then◌else◌}
+use Rattle.std.specs.Prelude.{ℕ, zero, suc, ◌+◌, ◌*◌, ◌==◌, nat_le, Bool, true, false, ◌&&◌, ◌||◌, List, [], ◌∷◌, ◌++◌}
+use Rattle.std.specs.Prelude.{length, Option, Some, None, if◌then◌else◌}
 use Rattle.pungi_base.specs.declared.pos.Pos.{Pos}
 use Rattle.pungi_resolved.specs.Actions as stmt
 use Rattle.pungi_resolved.specs.Functions.{ResolvedFunction}
@@ -42,7 +47,8 @@ abbrev mutual
       stmt_marks (pc + expr_size c + 1) a ++ stmt_marks (pc + expr_size c + 1 + stmt_size a + 1) b
   stmt_marks pc (stmt.while p c a) = OfLoop (head_at pc p) ∷ stmt_marks (pc + (expr_size c + 1)) a
   stmt_marks pc (stmt.do_while p a c) = OfLoop (head_at (pc + 1) p) ∷ stmt_marks (pc + 1 + (expr_size c + 1)) a
-  stmt_marks pc (stmt.for p rs u c w a) = OfLoop (head_at (for_head pc rs u) p) ∷ stmt_marks (for_head pc rs u + test_size c) a
+  stmt_marks pc (stmt.for p rs u c w a) = OfLoop (head_at (for_head pc rs u) p)
+      ∷ stmt_marks (for_head pc rs u + test_size c) a
   stmt_marks pc (stmt.switch p v (stmt.block q ss r)) =
       stmts_marks (pc + expr_size v + length (block_locals (listed ss)) + 2 * length (block_cases (listed ss)) + 1) ss
   stmt_marks pc (stmt.switch p v a) = stmt_marks (pc + expr_size v + 1) a
@@ -57,7 +63,8 @@ abbrev mutual
 
 -- those of a `switch`, after its value
 abbrev pub switch_marks : ℕ → stmt.Action → List Mark
-switch_marks pc (stmt.block q ss r) = stmts_marks (pc + length (block_locals (listed ss)) + 2 * length (block_cases (listed ss)) + 1) ss
+switch_marks pc (stmt.block q ss r) =
+    stmts_marks (pc + length (block_locals (listed ss)) + 2 * length (block_cases (listed ss)) + 1) ss
 switch_marks pc a = stmt_marks (pc + 1) a
 
 -- ---- which places are heads

@@ -49,7 +49,13 @@ list_label l pc [] = None
 list_label l pc (a ∷ rest) = or_else (stmt_label l pc a) (list_label l (pc + stmt_size a) rest)
 
 abbrev pub in_block : Env → ℕ → List stmt.Action → Env
-in_block env pc block = record { breaks = env.breaks; continues = env.continues; labels = λ l. label_or (list_label l pc block) (env.labels l) }
+in_block env pc block =
+    record {
+      breaks = env.breaks;
+      continues = env.continues;
+      labels = λ l. label_or (list_label l pc block)
+          (env.labels l);
+    }
 
 abbrev pub in_loop : Env → ℕ → ℕ → Env
 in_loop env continues end = record { breaks = end; continues = continues; labels = env.labels }

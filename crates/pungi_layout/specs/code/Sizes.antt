@@ -45,12 +45,14 @@ abbrev mutual
   expr_size (expr.inner p v) = expr_size v
   expr_size (expr.signed p m kind v) = expr_size v + sign_size (is_minus m)
   expr_size (expr.negated p v) = 1 + expr_size v + 2
-  expr_size (expr.stepped p is_postfix m kind place) = keep_size is_postfix + place_size place + 1 + keep_size is_postfix + 1 + fit_size kind (wide kind) + store_size
+  expr_size (expr.stepped p is_postfix m kind place) = keep_size is_postfix + place_size place + 1
+      + keep_size is_postfix + 1 + fit_size kind (wide kind) + store_size
   expr_size (expr.computed p m kind a b) = expr_size a + expr_size b + 1
   expr_size (expr.compared p m a b) = expr_size a + expr_size b + 1
   expr_size (expr.joined_by p m a b) = 1 + expr_size a + 1 + expr_size b + 2
   expr_size (expr.stored p kind place v) = place_size place + expr_size v + store_size
-  expr_size (expr.updated p m counted kind place v) = place_size place + 1 + expr_size v + 1 + fit_size kind counted + store_size
+  expr_size (expr.updated p m counted kind place v) = place_size place + 1 + expr_size v + 1 + fit_size kind counted
+      + store_size
   expr_size (expr.chosen p c a b) = expr_size c + 1 + expr_size a + 1 + expr_size b
   expr_size (expr.converted p kind v) = expr_size v + 1
   expr_size (expr.cast_of p v) = expr_size v
@@ -97,8 +99,10 @@ abbrev mutual
   stmt_size (stmt.if_else p c a b) = expr_size c + 1 + stmt_size a + 1 + stmt_size b
   stmt_size (stmt.while p c a) = expr_size c + 1 + stmt_size a + 1
   stmt_size (stmt.do_while p a c) = 1 + expr_size c + 1 + stmt_size a + 1
-  stmt_size (stmt.for p rs u c w a) = length rs + declare_size rs + option_size u + test_size c + stmt_size a + option_size w + 1
-  stmt_size (stmt.switch p v (stmt.block q ss r)) = expr_size v + (length (block_locals (listed ss)) + 2 * length (block_cases (listed ss)) + 1 + stmts_size ss)
+  stmt_size (stmt.for p rs u c w a) = length rs + declare_size rs + option_size u + test_size c + stmt_size a
+      + option_size w + 1
+  stmt_size (stmt.switch p v (stmt.block q ss r)) = expr_size v
+      + (length (block_locals (listed ss)) + 2 * length (block_cases (listed ss)) + 1 + stmts_size ss)
   stmt_size (stmt.switch p v a) = expr_size v + (1 + stmt_size a)
   stmt_size (stmt.case p n a) = stmt_size a
   stmt_size (stmt.default p a) = stmt_size a
@@ -114,7 +118,8 @@ abbrev mutual
 
 -- of a `switch`, after its value: the locals of its block are unset, then come the comparisons, then the block
 abbrev pub switch_size : stmt.Action → ℕ
-switch_size (stmt.block q ss r) = length (block_locals (listed ss)) + 2 * length (block_cases (listed ss)) + 1 + stmts_size ss
+switch_size (stmt.block q ss r) =
+    length (block_locals (listed ss)) + 2 * length (block_cases (listed ss)) + 1 + stmts_size ss
 switch_size a = 1 + stmt_size a
 
 abbrev pub list_size : List stmt.Action → ℕ

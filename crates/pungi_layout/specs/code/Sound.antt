@@ -23,7 +23,8 @@ abbrev mutual
   IsSound nl (expr.joined_by p m a b) = (gives a ≡ true) × IsSound nl a × (gives b ≡ true) × IsSound nl b
   IsSound nl (expr.stored p kind place v) = IsPlaceSound nl place × (gives v ≡ true) × IsSound nl v
   IsSound nl (expr.updated p m counted kind place v) = IsPlaceSound nl place × (gives v ≡ true) × IsSound nl v
-  IsSound nl (expr.chosen p c a b) = (gives c ≡ true) × IsSound nl c × (gives a ≡ true) × IsSound nl a × (gives b ≡ true) × IsSound nl b
+  IsSound nl (expr.chosen p c a b) = (gives c ≡ true) × IsSound nl c × (gives a ≡ true) × IsSound nl a
+      × (gives b ≡ true) × IsSound nl b
   IsSound nl (expr.converted p kind v) = (gives v ≡ true) × IsSound nl v
   IsSound nl (expr.cast_of p v) = IsSound nl v
   IsSound nl (expr.dropped p v) = IsSound nl v
@@ -64,7 +65,8 @@ abbrev mutual
   IsStmtSound nl (stmt.if_else p c a b) = IsWanted nl c × IsStmtSound nl a × IsStmtSound nl b
   IsStmtSound nl (stmt.while p c a) = IsWanted nl c × IsStmtSound nl a
   IsStmtSound nl (stmt.do_while p a c) = IsWanted nl c × IsStmtSound nl a
-  IsStmtSound nl (stmt.for p rs u c w a) = AreDeclared nl rs × IsOptionSound nl u × IsOptionWanted nl c × IsOptionSound nl w × IsStmtSound nl a
+  IsStmtSound nl (stmt.for p rs u c w a) = AreDeclared nl rs × IsOptionSound nl u × IsOptionWanted nl c
+      × IsOptionSound nl w × IsStmtSound nl a
   IsStmtSound nl (stmt.switch p v a) = IsWanted nl v × IsStmtSound nl a
   IsStmtSound nl (stmt.case p n a) = IsStmtSound nl a
   IsStmtSound nl (stmt.default p a) = IsStmtSound nl a
@@ -122,7 +124,8 @@ abbrev mutual
   stmt_nodes (stmt.if_else p c a b) = expr_nodes c + stmt_nodes a + stmt_nodes b + 1
   stmt_nodes (stmt.while p c a) = expr_nodes c + stmt_nodes a + 1
   stmt_nodes (stmt.do_while p a c) = expr_nodes c + stmt_nodes a + 1
-  stmt_nodes (stmt.for p rs u c w a) = declare_nodes rs + option_nodes u + option_nodes c + option_nodes w + stmt_nodes a + 1
+  stmt_nodes (stmt.for p rs u c w a) = declare_nodes rs + option_nodes u + option_nodes c + option_nodes w
+      + stmt_nodes a + 1
   stmt_nodes (stmt.switch p v a) = expr_nodes v + stmt_nodes a + 1
   stmt_nodes (stmt.case p n a) = stmt_nodes a + 1
   stmt_nodes (stmt.default p a) = stmt_nodes a + 1

@@ -10,7 +10,8 @@
 --   operand nl d want v     the variable of such an operand
 --   local_column k, param_column p    the column that a local of a kind needs, and a parameter
 --   front_column ps, tail ps    the column of the first of the parameters that are left, if any, and those after it
---   arg_var nl d ps v, arg_vars nl d ps vs    the variable of an argument of a call where these parameters are left, and those of all, in order
+--   arg_var nl d ps v, arg_vars nl d ps vs    the variable of an argument of a call where these parameters are left,
+--                                             and those of all, in order
 use Rattle.std.specs.Prelude.{ℕ, ◌+◌, ◌*◌, ◌==◌, nat_le, ◌&&◌, List, [], ◌∷◌, Option, Some, None, if◌then◌else◌}
 use Rattle.pungi_api.specs.declared.answer.Answer.{Answer}
 use Rattle.pungi_api.specs.declared.answer.Answer.TheVariants as answer

@@ -1,4 +1,5 @@
--- What the variables of a code hold: first the parameters, then the other locals in the order of the text, then the temporaries.
+-- What the variables of a code hold: first the parameters, then the other locals in the order of the text, then the
+-- temporaries.
 --   held_kind k, kind_held r       what a local of this kind holds; a declared local
 --   stmt_declared a, stmts_declared ss  the locals that a statement declares, those of the statements in it too
 --   temp_kinds n                   so many times five temporaries

@@ -15,8 +15,12 @@ use Rattle.pungi_layout.specs.code.FunctionCode.{code_of, HasLocals}
 use Rattle.pungi_layout.specs.code.VarKinds.{var_kinds}
 
 abbrev pub IsWellFormedIfTyped : ResolvedFunction → Type 0
-IsWellFormedIfTyped f = (file : List Item) → HasLocals f → IsStmtTyped file (var_kinds f) f.body → has_no_call f.body ≡ true
-    → f.locals ≤ most_locals → stmt_nodes f.body ≤ 3 * most_nodes → stmt_size f.body + 1 ≤ most_instructions → IsWellFormed (code_of f)
+IsWellFormedIfTyped f =
+    (file : List Item) → HasLocals f → IsStmtTyped file (var_kinds f) f.body → has_no_call f.body ≡ true
+    → f.locals ≤ most_locals → stmt_nodes f.body ≤ 3 * most_nodes → stmt_size f.body + 1 ≤ most_instructions
+    → IsWellFormed (code_of f)
 
 abbrev pub AgreeIfTyped : ResolvedFunction → ResolvedFunction → Type 0
-AgreeIfTyped f g = (file : List Item) → IsStmtTyped file (var_kinds f) f.body → IsStmtTyped file (var_kinds g) g.body → AgreeOnKinds (code_of f) (code_of g)
+AgreeIfTyped f g =
+    (file : List Item) → IsStmtTyped file (var_kinds f) f.body → IsStmtTyped file (var_kinds g) g.body
+    → AgreeOnKinds (code_of f) (code_of g)

@@ -3,7 +3,8 @@
 --   is_null v                       nothing but NULL
 --   IsNumber, IsText, IsObject v    what a value is; NULL is a text, too
 --   Goes k c n, GoesIn k v          a value may stand in a variable of this kind: by its column, and whether it is NULL
---   Alike a b                       two values that `==` may compare, and `?:` join: are_numbers, are_objects, are_texts
+--   Alike a b                       two values that `==` may compare, and `?:` join: are_numbers, are_objects,
+--                                   are_texts
 --   AreComparable order a b         so, and numbers where the order is compared
 --   IsHeld vars x k                 a variable is there and holds this
 --   IsArgument p v                  a value may be passed for a parameter
@@ -93,15 +94,21 @@ abbrev mutual
   IsTyped file vars (expr.constant p n) = fits kinds.Long n ≡ true
   IsTyped file vars (expr.read p kind place) = IsPlaceTyped file vars kind place
   IsTyped file vars (expr.inner p v) = IsTyped file vars v
-  IsTyped file vars (expr.signed p m kind v) = (is_counted kind ≡ true) × GoesIn (slot_kind kind) v × IsTyped file vars v
+  IsTyped file vars (expr.signed p m kind v) = (is_counted kind ≡ true) × GoesIn (slot_kind kind) v
+      × IsTyped file vars v
   IsTyped file vars (expr.negated p v) = IsTyped file vars v
-  IsTyped file vars (expr.stepped p is_postfix m kind place) = (is_counted kind ≡ true) × IsPlaceTyped file vars kind place
-  IsTyped file vars (expr.computed p m kind a b) = (is_counted kind ≡ true) × IsNumber a × IsTyped file vars a × IsNumber b × IsTyped file vars b
-  IsTyped file vars (expr.compared p m a b) = AreComparable (is_order (cmp_of m)) a b × IsTyped file vars a × IsTyped file vars b
+  IsTyped file vars (expr.stepped p is_postfix m kind place) = (is_counted kind ≡ true)
+      × IsPlaceTyped file vars kind place
+  IsTyped file vars (expr.computed p m kind a b) = (is_counted kind ≡ true) × IsNumber a × IsTyped file vars a
+      × IsNumber b × IsTyped file vars b
+  IsTyped file vars (expr.compared p m a b) = AreComparable (is_order (cmp_of m)) a b × IsTyped file vars a
+      × IsTyped file vars b
   IsTyped file vars (expr.joined_by p m a b) = IsTyped file vars a × IsTyped file vars b
-  IsTyped file vars (expr.stored p kind place v) = IsPlaceTyped file vars kind place × GoesIn (slot_kind kind) v × IsTyped file vars v
+  IsTyped file vars (expr.stored p kind place v) = IsPlaceTyped file vars kind place × GoesIn (slot_kind kind) v
+      × IsTyped file vars v
   IsTyped file vars (expr.updated p m counted kind place v) =
-      (is_counted counted ≡ true) × (is_counted kind ≡ true) × IsPlaceTyped file vars kind place × IsNumber v × IsTyped file vars v
+      (is_counted counted ≡ true) × (is_counted kind ≡ true) × IsPlaceTyped file vars kind place × IsNumber v
+      × IsTyped file vars v
   IsTyped file vars (expr.chosen p c a b) = IsTyped file vars c × Alike a b × IsTyped file vars a × IsTyped file vars b
   IsTyped file vars (expr.converted p kind v) = (is_counted kind ≡ true) × IsNumber v × IsTyped file vars v
   IsTyped file vars (expr.cast_of p v) = IsTyped file vars v
@@ -114,7 +121,8 @@ abbrev mutual
   IsPlaceTyped file vars kind (expr.local_place p x) = (is_kept kind ≡ true) × IsHeld vars x (slot_kind kind)
   IsPlaceTyped file vars kind (expr.global_place p n) = (is_kept kind ≡ true) × (global_kind file n.0 ≡ Some kind)
   IsPlaceTyped file vars kind (expr.field_place p base tag field) =
-      (is_kept kind ≡ true) × (field_in_some file (struct_fields file tag.0) field.0 ≡ Some kind) × IsObject base × IsTyped file vars base
+      (is_kept kind ≡ true) × (field_in_some file (struct_fields file tag.0) field.0 ≡ Some kind) × IsObject base
+      × IsTyped file vars base
   IsPlaceTyped file vars kind expr.no_place = ⊥
 
   pub AreTyped : List Item → List Param → List Param → expr.Values → Type 0
@@ -135,7 +143,8 @@ IsInitial file vars kind (Some v) = GoesIn (slot_kind kind) v × IsTyped file va
 
 abbrev pub IsDeclaredTyped : List Item → List Param → ℕ → Option ValueKind → Option expr.Value → Type 0
 IsDeclaredTyped file vars x None v = ⊥
-IsDeclaredTyped file vars x (Some kind) v = (is_kept kind ≡ true) × IsHeld vars x (slot_kind kind) × IsInitial file vars kind v
+IsDeclaredTyped file vars x (Some kind) v =
+    (is_kept kind ≡ true) × IsHeld vars x (slot_kind kind) × IsInitial file vars kind v
 
 abbrev pub AreDeclaredTyped : List Item → List Param → List stmt.DeclaredLocal → Type 0
 AreDeclaredTyped file vars [] = Unit {0}
@@ -151,7 +160,8 @@ abbrev mutual
   IsStmtTyped file vars (stmt.while p c a) = IsTyped file vars c × IsStmtTyped file vars a
   IsStmtTyped file vars (stmt.do_while p a c) = IsTyped file vars c × IsStmtTyped file vars a
   IsStmtTyped file vars (stmt.for p rs u c w a) =
-      AreDeclaredTyped file vars rs × IsOptionTyped file vars u × IsOptionTyped file vars c × IsOptionTyped file vars w × IsStmtTyped file vars a
+      AreDeclaredTyped file vars rs × IsOptionTyped file vars u × IsOptionTyped file vars c
+      × IsOptionTyped file vars w × IsStmtTyped file vars a
   IsStmtTyped file vars (stmt.switch p v a) = IsNumber v × IsTyped file vars v × IsStmtTyped file vars a
   IsStmtTyped file vars (stmt.case p n a) = (fits kinds.Long n ≡ true) × IsStmtTyped file vars a
   IsStmtTyped file vars (stmt.default p a) = IsStmtTyped file vars a

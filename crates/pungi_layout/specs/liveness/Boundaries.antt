@@ -1,5 +1,6 @@
 -- Where one statement's instructions end and another's begin, no temporary is kept.
---   expr_positions v, place_positions place, values_positions vs    the places in the text of the nodes of an expression
+--   expr_positions v, place_positions place, values_positions vs    the places in the text of the nodes of an
+--                                                                   expression
 --   option_positions o, declare_positions rs  those of one that may be missing, and of declared locals with their first
 --                                             values
 --   own a                       those of a statement's own nodes: without those of the statements in it
@@ -7,7 +8,8 @@
 --   IsAmong p ps, IsPart a as   members
 --   IsHead h heads              one of the heads
 --   ShareStatement f p q        some statement of a function has own nodes at both places
---   KeepsNothing f code heads nl    where one instruction leads to another, and no statement has own nodes at the places of both, and at
+--   KeepsNothing f code heads nl    where one instruction leads to another, and no statement has own nodes at the
+--                                   places of both, and at
 --                               each head, no path reads a temporary before it writes it
 use Rattle.std.specs.Prelude.{◌≡◌, ◌⊎◌, ℕ, List, [], ◌∷◌, ◌++◌, slice_get, Option, Some, None}
 use Rattle.pungi_base.specs.declared.pos.Pos.{Pos}
@@ -71,7 +73,8 @@ own (stmt.if_only p c a) = p ∷ expr_positions c
 own (stmt.if_else p c a b) = p ∷ expr_positions c
 own (stmt.while p c a) = p ∷ expr_positions c
 own (stmt.do_while p a c) = p ∷ expr_positions c
-own (stmt.for p rs u c w a) = p ∷ (declare_positions rs ++ (option_positions u ++ (option_positions c ++ option_positions w)))
+own (stmt.for p rs u c w a) =
+    p ∷ (declare_positions rs ++ (option_positions u ++ (option_positions c ++ option_positions w)))
 own (stmt.switch p v a) = p ∷ expr_positions v
 own (stmt.case p n a) = p ∷ []
 own (stmt.default p a) = p ∷ []
@@ -122,5 +125,7 @@ IsHead h [] = ⊥
 IsHead h (k ∷ ks) = (h ≡ k) ⊎ IsHead h ks
 
 pub record KeepsNothing (f : ResolvedFunction) (code : List Line) (heads : List Head) (nl : ℕ) : Type 0 where
-  pub between : (from to : ℕ) (line next : Line) → slice_get code from ≡ Some line → Among to (following from line.instr) → slice_get code to ≡ Some next → (ShareStatement f line.pos next.pos → ⊥) → AreDead code nl to
+  pub between : (from to : ℕ) (line next : Line) → slice_get code from ≡ Some line
+      → Among to (following from line.instr) → slice_get code to ≡ Some next
+      → (ShareStatement f line.pos next.pos → ⊥) → AreDead code nl to
   pub at_heads : (h : Head) → IsHead h heads → AreDead code nl h.label.0

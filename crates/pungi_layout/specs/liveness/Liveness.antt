@@ -1,12 +1,14 @@
 -- Which variables an instruction reads and writes, and where it leads. What is written before it is read.
---   atom_vars a, atoms_vars as, place_vars place, var_of o, vars_of os    the variables of atoms, of a place, of results
+--   atom_vars a, atoms_vars as, place_vars place, var_of o, vars_of os    the variables of atoms, of a place, of
+--                                                                         results
 --   reads i, writes i           the variables that an instruction reads, and those that it writes
 --   following pc i              the places that may come after an instruction at this place
 --   Among x xs                  a member
 --   IsKnown nl ws x, AreKnown nl ws xs    a local, or one of those that were written
 --   Each next ws qs             from each of these places on
 --   LineKeeps next nl ws pc o   an instruction reads only what is known, and so do those after it
---   WritesFirst code nl n pc ws    on no path of n instructions from this place is a variable read that is no local, not one of
+--   WritesFirst code nl n pc ws    on no path of n instructions from this place is a variable read that is no local,
+--                                  not one of
 --                               these, and was not written before on the path
 --   AreDead code nl pc          no path from this place reads a temporary before it writes it
 use Rattle.std.specs.Prelude.{◌≡◌, ◌⊎◌, ℕ, zero, suc, ◌+◌, ◌<◌, List, [], ◌∷◌, ◌++◌, slice_get, Option, Some, None}
@@ -15,7 +17,8 @@ use Rattle.pungi_code.specs.declared.atom.Atom.TheVariants as atom
 use Rattle.pungi_code.specs.declared.atom.Var.{Var}
 use Rattle.pungi_code.specs.declared.code.Line.{Line}
 use Rattle.pungi_code.specs.declared.instr.Instr.{Instr}
-use Rattle.pungi_code.specs.declared.instr.Instr.TheVariants.{Set, Arith, Fit, Compare, Load, Store, Api, Call, Unset, Jump, Branch, Return, Fall}
+use Rattle.pungi_code.specs.declared.instr.Instr.TheVariants.{Set, Arith, Fit, Compare, Load, Store, Api, Call, Unset}
+use Rattle.pungi_code.specs.declared.instr.Instr.TheVariants.{Jump, Branch, Return, Fall}
 use Rattle.pungi_code.specs.declared.place.Place.{Place}
 use Rattle.pungi_code.specs.declared.place.Place.TheVariants.{Global, Field}
 
@@ -96,7 +99,8 @@ Each next ws (q ∷ qs) = next q ws × Each next ws qs
 
 abbrev pub LineKeeps : (ℕ → List ℕ → Type 0) → ℕ → List ℕ → ℕ → Option Line → Type 0
 LineKeeps next nl ws pc None = Unit {0}
-LineKeeps next nl ws pc (Some l) = AreKnown nl ws (reads l.instr) × Each next (writes l.instr ++ ws) (following pc l.instr)
+LineKeeps next nl ws pc (Some l) =
+    AreKnown nl ws (reads l.instr) × Each next (writes l.instr ++ ws) (following pc l.instr)
 
 abbrev pub WritesFirst : List Line → ℕ → ℕ → ℕ → List ℕ → Type 0
 WritesFirst code nl zero pc ws = Unit {0}

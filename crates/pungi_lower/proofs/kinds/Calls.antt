@@ -1,5 +1,6 @@
 -- Casts, addresses and calls of the kinds that the rules know.
-use Rattle.std.proofs.Common.{◌≡◌, ℕ, inl, arith, Bool, true, false, List, ◌∷◌, map, Option, Some, None, refl, sym, subst}
+use Rattle.std.proofs.Common.{◌≡◌, ℕ, inl, arith, Bool, true, false, List, ◌∷◌, map, Option, Some, None, refl, sym}
+use Rattle.std.proofs.Common.{subst}
 use Rattle.std.specs.Prelude.{◌&&◌, ◌||◌, not, is_some, is_none, if◌then◌else◌}
 use Rattle.pungi_base.specs.declared.kind.Kind.{Kind}
 use Rattle.pungi_base.specs.declared.names.Name.{Name}
@@ -21,8 +22,11 @@ use Rattle.pungi_types.specs.declared.lookup.Want.{Want}
 use Rattle.pungi_types.specs.Files.{SourceFile, Definition, definitions, definition_in}
 use Rattle.pungi_types.specs.Names.{Env, local_in, global_kind, is_own_static}
 use Rattle.pungi_types.specs.Operators.{prefix_of, is_integer, is_void, fits, is_same_kind}
-use Rattle.pungi_types.specs.Exprs.{kind_of, cast_kind, names_type_object, names_module, is_address, is_module_address, Callee, a_value, a_row, no_function, callee, local_called_or, defined_or, row_or, param_want, row_wants, row_kind, wants_module, first_met}
-use Rattle.pungi_resolve.specs.Exprs.{convert, convert_some, cast_value, static_address, module_address, resolve, want_kind, expr_pos}
+use Rattle.pungi_types.specs.Exprs.{kind_of, cast_kind, names_type_object, names_module, is_address, is_module_address}
+use Rattle.pungi_types.specs.Exprs.{Callee, a_value, a_row, no_function, callee, local_called_or, defined_or, row_or}
+use Rattle.pungi_types.specs.Exprs.{param_want, row_wants, row_kind, wants_module, first_met}
+use Rattle.pungi_resolve.specs.Exprs.{convert, convert_some, cast_value, static_address, module_address, resolve}
+use Rattle.pungi_resolve.specs.Exprs.{want_kind, expr_pos}
 use Rattle.pungi_resolved.specs.Values.{Value, Values, called_row, converted, cast_of, dropped}
 use Rattle.pungi_code.specs.WellFormed.{form_params, wanted_params}
 use Rattle.pungi_resolve.proofs.Clean.{and_right}
@@ -42,42 +46,64 @@ unless_void false s f e h = h
 unless_void true s f e h = absurd (cc)
 
 module _ (file : List Item) (vars : List Param) where
-  to_number : (p : Pos) (to from : Option ValueKind) (v : Value) → is_integer to ≡ true → is_integer from ≡ true → Typed file vars from v → Typed file vars to (convert_some p to v)
+  to_number : (p : Pos) (to from : Option ValueKind) (v : Value) → is_integer to ≡ true → is_integer from ≡ true
+      → Typed file vars from v → Typed file vars to (convert_some p to v)
   to_number p None from v i j x = absurd (cc)
   to_number p (Some k) from v i j x =
       let c = number_column k i in
-      record { typed = λ n. (c, kin_number from v j (x.kin n), x.typed n); kin = λ n. kin_column k (converted p k v) (counted_kept k c) refl }
+      record {
+        typed = λ n. (c, kin_number from v j (x.kin n), x.typed n);
+        kin = λ n. kin_column k (converted p k v)
+            (counted_kept k c) refl;
+      }
 
-  to_scalar : (p : Pos) (to from : Option ValueKind) (v : Value) → fits to from ≡ true → Typed file vars from v → Typed file vars to (if is_integer to && not (is_same_kind to from) then convert_some p to v else cast_of p v)
+  to_scalar : (p : Pos) (to from : Option ValueKind) (v : Value) → fits to from ≡ true → Typed file vars from v
+      → Typed file vars to (if is_integer to && not (is_same_kind to from) then convert_some p to v else cast_of p v)
   to_scalar p to from v f x =
-      elim (is_integer to && not (is_same_kind to from)) as (λ b. ((is_integer to && not (is_same_kind to from)) ≡ b) → Typed file vars to (if b then convert_some p to v else cast_of p v)) [
+      elim (is_integer to && not (is_same_kind to from)) as (λ b. ((is_integer to && not (is_same_kind to from))
+      ≡ b) → Typed file vars to (if b then convert_some p to v else cast_of p v)) [
         | true ↦ λ e. let c = cast_numbers to from f e in to_number p to from v c.0 c.1 x
         | false ↦ λ e. record { typed = x.typed; kin = λ n. kin_cast p to from v f e (x.kin n) }
       ] refl
 
-  pub cast_typed : (p : Pos) (to from : Option ValueKind) (v : Value) → is_some (cast_kind to from) ≡ true → Typed file vars from v → Typed file vars (cast_kind to from) (cast_value p to from v)
+  pub cast_typed : (p : Pos) (to from : Option ValueKind) (v : Value) → is_some (cast_kind to from) ≡ true
+      → Typed file vars from v → Typed file vars (cast_kind to from) (cast_value p to from v)
   cast_typed p to from v h x =
       let c = found ((is_void to && is_some from) || fits to from) to h in
-      elim (is_void to) as (λ b. (is_void to ≡ b) → Typed file vars (cast_kind to from) (if b then dropped p v else (if is_integer to && not (is_same_kind to from) then convert_some p to v else cast_of p v))) [
-        | true ↦ λ e. record { typed = x.typed; kin = λ n. kin_if ((is_void to && is_some from) || fits to from) to (dropped p v) (kin_void to (dropped p v) e) }
+      elim (is_void to) as (λ b. (is_void to ≡ b)
+      → Typed file vars (cast_kind to from) (if b then dropped p v else (if is_integer to
+      && not (is_same_kind to from) then convert_some p to v else cast_of p v))) [
+        | true ↦ λ e. record {
+          typed = x.typed;
+          kin = λ n. kin_if ((is_void to && is_some from) || fits to from) to
+              (dropped p v) (kin_void to (dropped p v) e);
+        }
         | false ↦ λ e.
             let t = to_scalar p to from v (unless_void (is_void to) (is_some from) (fits to from) e c) x in
             record { typed = t.typed; kin = λ n. kin_if ((is_void to && is_some from) || fits to from) to _ (t.kin n) }
       ] refl
 
   -- .. addresses
-  pub static_typed : (env : Env) (p : Pos) (e : Expr) → is_some (if names_type_object env e then Some (kinds.Object None) else None) ≡ true
+  pub static_typed : (env : Env) (p : Pos) (e : Expr)
+      → is_some (if names_type_object env e then Some (kinds.Object None) else None) ≡ true
       → Typed file vars (if names_type_object env e then Some (kinds.Object None) else None) (static_address env p e)
-  static_typed env p (word q w) h = record { typed = λ n. tt; kin = λ n. kin_if (names_type_object env (word q w)) (Some (kinds.Object None)) (static_address env p (word q w)) refl }
+  static_typed env p (word q w) h = record {
+    typed = λ n. tt;
+    kin = λ n. kin_if (names_type_object env (word q w))
+        (Some (kinds.Object None)) (static_address env p (word q w)) refl;
+  }
   static_typed env p _ h = absurd (cc)
 
   -- the address of a module table is one
-  under_module : (env : Env) (p : Pos) (k : Kind) (e : Expr) → names_module env e ≡ true → (value_column (module_address (unary p k e)) ≡ 3) × IsTyped file vars (module_address (unary p k e))
+  under_module : (env : Env) (p : Pos) (k : Kind) (e : Expr) → names_module env e ≡ true
+      → (value_column (module_address (unary p k e)) ≡ 3) × IsTyped file vars (module_address (unary p k e))
   under_module env p k (word q w) h = (refl, tt)
   under_module env p k _ h = absurd (cc)
 
-  module_typed : (env : Env) (e : Expr) → is_module_address env e ≡ true → (value_column (module_address e) ≡ 3) × IsTyped file vars (module_address e)
-  module_typed env (unary p k e) h = under_module env p k e (and_right (is_address (prefix_of k)) (names_module env e) h)
+  module_typed : (env : Env) (e : Expr) → is_module_address env e ≡ true
+      → (value_column (module_address e) ≡ 3) × IsTyped file vars (module_address e)
+  module_typed env (unary p k e) h = under_module env p k e (and_right (is_address (prefix_of k))
+      (names_module env e) h)
   module_typed env _ h = absurd (cc)
 
   -- .. calls
@@ -94,8 +120,14 @@ module _ (file : List Item) (vars : List Param) where
   row_kin (forms.Special specials.XNewRef) a v e = e
   row_kin (forms.Special _) a v e = tt
 
-  pub row_typed : (p : Pos) (w : Name) (row : Row) (vs : Values) → is_row row ≡ true → (call_none vs ≡ true → AreTyped file vars (wanted_params row) vs) → Typed file vars (Some (row_kind row.form row.answer)) (called_row p w row vs)
-  row_typed p w row vs r h = record { typed = λ n. (r, h n); kin = λ n. row_kin row.form row.answer (called_row p w row vs) refl }
+  pub row_typed : (p : Pos) (w : Name) (row : Row) (vs : Values) → is_row row ≡ true
+      → (call_none vs ≡ true → AreTyped file vars (wanted_params row) vs)
+      → Typed file vars (Some (row_kind row.form row.answer)) (called_row p w row vs)
+  row_typed p w row vs r h = record {
+    typed = λ n. (r, h n);
+    kin = λ n. row_kin row.form row.answer
+        (called_row p w row vs) refl;
+  }
 
   -- .. arguments
   -- an argument that a parameter takes
@@ -103,43 +135,58 @@ module _ (file : List Item) (vars : List Param) where
     pub typed : calls_none v ≡ true → IsTyped file vars v
     pub fits : calls_none v ≡ true → IsArgument p v
 
-  known_fits : (w : ValueKind) (k : Option ValueKind) → is_some k ≡ true → (is_none k || fits (Some w) k) ≡ true → fits (Some w) k ≡ true
+  known_fits : (w : ValueKind) (k : Option ValueKind) → is_some k ≡ true → (is_none k || fits (Some w) k) ≡ true
+      → fits (Some w) k ≡ true
   known_fits w None s h = absurd (cc)
   known_fits w (Some k) s h = h
 
-  table_address : (m : Bool) (k : Option ValueKind) → (m ≡ false → is_some k ≡ true) → (m || is_none k) ≡ true → m ≡ true
+  table_address : (m : Bool) (k : Option ValueKind) → (m ≡ false → is_some k ≡ true) → (m || is_none k) ≡ true
+      → m ≡ true
   table_address true k s h = refl
   table_address false None s h = let e = s refl in absurd (cc)
   table_address false (Some k) s h = absurd (cc)
 
-  pub arg_typed : (env : Env) (p : Param) (ws : List Want) (e : Expr) → first_met (param_want p ∷ ws) (is_module_address env e) (kind_of env e) ≡ true
-      → ((wants_module (param_want p ∷ ws) && is_module_address env e) ≡ false → is_some (kind_of env e) ≡ true) → ((wants_module (param_want p ∷ ws) && is_module_address env e) ≡ false → Typed file vars (kind_of env e) (resolve env e))
-      → ArgTyped p (if wants_module (param_want p ∷ ws) && is_module_address env e then module_address e else convert (expr_pos e) (want_kind (param_want p ∷ ws)) (kind_of env e) (resolve env e))
+  pub arg_typed : (env : Env) (p : Param) (ws : List Want) (e : Expr)
+      → first_met (param_want p ∷ ws) (is_module_address env e) (kind_of env e) ≡ true
+      → ((wants_module (param_want p ∷ ws) && is_module_address env e) ≡ false → is_some (kind_of env e) ≡ true)
+      → ((wants_module (param_want p ∷ ws) && is_module_address env e) ≡ false
+      → Typed file vars (kind_of env e) (resolve env e))
+      → ArgTyped p (if wants_module (param_want p ∷ ws)
+      && is_module_address env e then module_address e else convert (expr_pos e) (want_kind (param_want p ∷ ws))
+      (kind_of env e) (resolve env e))
   arg_typed env param.Int ws e h s t =
-      let g = convert_going file vars (expr_pos e) (Some kinds.Int) (kind_of env e) (resolve env e) (known_fits kinds.Int (kind_of env e) (s refl) h) (t refl) in
+      let g = convert_going file vars (expr_pos e) (Some kinds.Int) (kind_of env e) (resolve env e)
+      (known_fits kinds.Int (kind_of env e) (s refl) h) (t refl) in
       record { typed = g.typed; fits = λ n. (g.goes n).1 }
   arg_typed env param.Long ws e h s t =
-      let g = convert_going file vars (expr_pos e) (Some kinds.Long) (kind_of env e) (resolve env e) (known_fits kinds.Long (kind_of env e) (s refl) h) (t refl) in
+      let g = convert_going file vars (expr_pos e) (Some kinds.Long) (kind_of env e) (resolve env e)
+      (known_fits kinds.Long (kind_of env e) (s refl) h) (t refl) in
       record { typed = g.typed; fits = λ n. (g.goes n).1 }
   arg_typed env param.Size ws e h s t =
-      let g = convert_going file vars (expr_pos e) (Some kinds.Size) (kind_of env e) (resolve env e) (known_fits kinds.Size (kind_of env e) (s refl) h) (t refl) in
+      let g = convert_going file vars (expr_pos e) (Some kinds.Size) (kind_of env e) (resolve env e)
+      (known_fits kinds.Size (kind_of env e) (s refl) h) (t refl) in
       record { typed = g.typed; fits = λ n. (g.goes n).1 }
   arg_typed env param.Text ws e h s t =
-      let g = convert_going file vars (expr_pos e) (Some kinds.Text) (kind_of env e) (resolve env e) (known_fits kinds.Text (kind_of env e) (s refl) h) (t refl) in
+      let g = convert_going file vars (expr_pos e) (Some kinds.Text) (kind_of env e) (resolve env e)
+      (known_fits kinds.Text (kind_of env e) (s refl) h) (t refl) in
       record { typed = g.typed; fits = λ n. (g.goes n).1 }
   arg_typed env param.TextOrNull ws e h s t =
-      let g = convert_going file vars (expr_pos e) (Some kinds.Text) (kind_of env e) (resolve env e) (known_fits kinds.Text (kind_of env e) (s refl) h) (t refl) in
+      let g = convert_going file vars (expr_pos e) (Some kinds.Text) (kind_of env e) (resolve env e)
+      (known_fits kinds.Text (kind_of env e) (s refl) h) (t refl) in
       record { typed = g.typed; fits = λ n. (g.goes n).1 }
   arg_typed env param.Object ws e h s t =
-      let g = convert_going file vars (expr_pos e) (Some (kinds.Object None)) (kind_of env e) (resolve env e) (known_fits (kinds.Object None) (kind_of env e) (s refl) h) (t refl) in
+      let g = convert_going file vars (expr_pos e) (Some (kinds.Object None)) (kind_of env e) (resolve env e)
+      (known_fits (kinds.Object None) (kind_of env e) (s refl) h) (t refl) in
       record { typed = g.typed; fits = λ n. (g.goes n).1 }
   arg_typed env param.ObjectOrNull ws e h s t =
-      let g = convert_going file vars (expr_pos e) (Some (kinds.Object None)) (kind_of env e) (resolve env e) (known_fits (kinds.Object None) (kind_of env e) (s refl) h) (t refl) in
+      let g = convert_going file vars (expr_pos e) (Some (kinds.Object None)) (kind_of env e) (resolve env e)
+      (known_fits (kinds.Object None) (kind_of env e) (s refl) h) (t refl) in
       record { typed = g.typed; fits = λ n. (g.goes n).1 }
   arg_typed env param.ModuleDef ws e h s t =
       let m = table_address (is_module_address env e) (kind_of env e) s h in
       let g = module_typed env e m in
-      subst (λ (b : Bool). ArgTyped param.ModuleDef (if b then module_address e else convert (expr_pos e) None (kind_of env e) (resolve env e))) (sym m) (record { typed = λ n. g.1; fits = λ n. g.0 })
+      subst (λ (b : Bool). ArgTyped param.ModuleDef (if b then module_address e else convert (expr_pos e) None
+      (kind_of env e) (resolve env e))) (sym m) (record { typed = λ n. g.1; fits = λ n. g.0 })
 
   -- what the rules want is what a row takes
   pub same_wants : (f : Form) (ps : List Param) → row_wants f ps ≡ map param_want (form_params f ps)
@@ -155,10 +202,12 @@ abbrev pub IsRowOf : Callee → Type 0
 IsRowOf (a_row r) = is_row r ≡ true
 IsRowOf c = Unit {0}
 
-row_of : (file : SourceFile) (w : ℕ) (o : Option Row) → row_in file.rows w ≡ o → ((r : Row) → row_in file.rows w ≡ Some r → is_row r ≡ true) → IsRowOf (row_or file.items w o)
+row_of : (file : SourceFile) (w : ℕ) (o : Option Row) → row_in file.rows w ≡ o
+    → ((r : Row) → row_in file.rows w ≡ Some r → is_row r ≡ true) → IsRowOf (row_or file.items w o)
 row_of file w (Some r) e h = h r e
 row_of file w None e h =
-    elim (is_some (global_kind file.items w) || is_own_static file.items w) as (λ b. IsRowOf (if b then a_value else no_function)) [ true ↦ tt | false ↦ tt ]
+    elim (is_some (global_kind file.items w) || is_own_static file.items w) as
+    (λ b. IsRowOf (if b then a_value else no_function)) [ true ↦ tt | false ↦ tt ]
 
 defined_row : (env : Env) → HasRows env → (w : ℕ) (x : Option Definition) → IsRowOf (defined_or env w x)
 defined_row env h w (Some d) = tt

@@ -5,7 +5,9 @@ use Rattle.pungi_base.specs.declared.kind.Kind.{Kind}
 use Rattle.pungi_base.specs.declared.names.Name.{Name}
 use Rattle.pungi_base.specs.declared.pos.Pos.{Pos}
 use Rattle.pungi_base.specs.declared.punct.Punct.{Punct}
-use Rattle.pungi_tree.specs.Syntax.{Expr, word, int, float, char, text, null, paren, unary, post, binary, assign, conditional, comma, cast, size_of_type, call, new, index, dot, arrow, Exprs, no_exprs, expr_and, Item}
+use Rattle.pungi_tree.specs.Syntax.{Expr, word, int, float, char, text, null, paren, unary, post, binary, assign}
+use Rattle.pungi_tree.specs.Syntax.{conditional, comma, cast, size_of_type, call, new, index, dot, arrow, Exprs}
+use Rattle.pungi_tree.specs.Syntax.{no_exprs, expr_and, Item}
 use Rattle.pungi_api.specs.declared.param.Param.{Param}
 use Rattle.pungi_types.specs.declared.kind.ValueKind.{ValueKind}
 use Rattle.pungi_types.specs.declared.kind.ValueKind.TheVariants as kinds
@@ -16,8 +18,12 @@ use Rattle.pungi_types.specs.Names.{Env, local_in}
 use Rattle.pungi_types.specs.Kinds.{type_name_kind}
 use Rattle.pungi_types.specs.Findings.{Findings, nothing_found, ◌and◌}
 use Rattle.pungi_types.specs.Operators.{prefix_of, is_integer, is_bits_assign, is_arithmetic_assign}
-use Rattle.pungi_types.specs.Exprs.{Callee, no_word, a_value, defined, a_row, no_function, kind_of, is_place, is_address, names_type_object, is_module_address, callee, param_want, wants, wants_module, first_met, are_met, is_word, operand, result_kind, unary_kind, assign_kind, void_use, expr_findings, args_findings}
-use Rattle.pungi_resolve.specs.Exprs.{post_kind, resolve, place_of, resolve_all, call_value, callee_name, unary_value, convert, want_kind, expr_pos, module_address}
+use Rattle.pungi_types.specs.Exprs.{Callee, no_word, a_value, defined, a_row, no_function, kind_of, is_place}
+use Rattle.pungi_types.specs.Exprs.{is_address, names_type_object, is_module_address, callee, param_want, wants}
+use Rattle.pungi_types.specs.Exprs.{wants_module, first_met, are_met, is_word, operand, result_kind, unary_kind}
+use Rattle.pungi_types.specs.Exprs.{assign_kind, void_use, expr_findings, args_findings}
+use Rattle.pungi_resolve.specs.Exprs.{post_kind, resolve, place_of, resolve_all, call_value, callee_name, unary_value}
+use Rattle.pungi_resolve.specs.Exprs.{convert, want_kind, expr_pos, module_address}
 use Rattle.pungi_resolved.specs.Values.{Value, Values, inner}
 use Rattle.pungi_code.specs.WellFormed.{wanted_params}
 use Rattle.pungi_resolve.proofs.Clean.{Clean, left, right, not_when, not_false, and_left, and_right}
@@ -28,25 +34,33 @@ use Rattle.pungi_resolve.proofs.SoundExprs.{expr-good, node, unless, answered}
 use Rattle.pungi_layout.specs.kinds.Typed.{AreTyped}
 use Rattle.pungi_layout.specs.code.Calls.{calls_none, is_free_place, call_none}
 use Rattle.pungi_lower.proofs.kinds.Parts.{Kin, Typed, kin_if}
-use Rattle.pungi_lower.proofs.kinds.Operators.{IsPlaceOf, found, binary_typed, assign_typed, step_typed, sign_typed, negation_typed, cond_typed}
+use Rattle.pungi_lower.proofs.kinds.Operators.{IsPlaceOf, found, binary_typed, assign_typed, step_typed, sign_typed}
+use Rattle.pungi_lower.proofs.kinds.Operators.{negation_typed, cond_typed}
 use Rattle.pungi_lower.proofs.kinds.Words.{HasVars, char_typed, int_typed, word_typed, field_typed}
-use Rattle.pungi_lower.proofs.kinds.Calls.{HasRows, IsRowOf, callee_row, cast_typed, static_typed, row_typed, arg_typed, same_wants}
+use Rattle.pungi_lower.proofs.kinds.Calls.{HasRows, IsRowOf, callee_row, cast_typed, static_typed, row_typed, arg_typed}
+use Rattle.pungi_lower.proofs.kinds.Calls.{same_wants}
 
 -- an expression of its kind, also as a place
 pub record ExprKinds (vars : List Param) (env : Env) (e : Expr) : Type 0 where
   pub value : Typed env.file.items vars (kind_of env e) (resolve env e)
-  pub place : is_place env e ≡ true → is_free_place (place_of env e) ≡ true → IsPlaceOf env.file.items vars (kind_of env e) (place_of env e)
+  pub place : is_place env e ≡ true → is_free_place (place_of env e) ≡ true
+      → IsPlaceOf env.file.items vars (kind_of env e) (place_of env e)
 
 -- .. a node before its operand
-unary_kinds : (vars : List Param) (env : Env) (p : Pos) (k : Kind) (pr : Prefix) (e : Expr) → is_some (unary_kind pr (names_type_object env e) (is_place env e) (kind_of env e)) ≡ true
+unary_kinds : (vars : List Param) (env : Env) (p : Pos) (k : Kind) (pr : Prefix) (e : Expr)
+    → is_some (unary_kind pr (names_type_object env e) (is_place env e) (kind_of env e)) ≡ true
     → ((is_address pr && names_type_object env e) ≡ false → ExprKinds vars env e)
-    → Typed env.file.items vars (unary_kind pr (names_type_object env e) (is_place env e) (kind_of env e)) (unary_value env p k e pr (resolve env e) (place_of env e))
+    → Typed env.file.items vars (unary_kind pr (names_type_object env e) (is_place env e) (kind_of env e))
+    (unary_value env p k e pr (resolve env e) (place_of env e))
 unary_kinds vars env p k prefixes.Address e h x = static_typed env.file.items vars env p e h
 unary_kinds vars env p k prefixes.Step e h x =
-    let c = and_left (is_place env e) (is_integer (kind_of env e)) (found (is_place env e && is_integer (kind_of env e)) (kind_of env e) h) in
+    let c = and_left (is_place env e) (is_integer (kind_of env e)) (found (is_place env e
+    && is_integer (kind_of env e)) (kind_of env e) h) in
     step_typed env.file.items vars p false k (is_place env e) (kind_of env e) (place_of env e) h ((x refl).place c)
-unary_kinds vars env p k prefixes.Sign e h x = sign_typed env.file.items vars p k (kind_of env e) (resolve env e) h (x refl).value
-unary_kinds vars env p k prefixes.Negation e h x = negation_typed env.file.items vars p (kind_of env e) (resolve env e) (x refl).value
+unary_kinds vars env p k prefixes.Sign e h x =
+    sign_typed env.file.items vars p k (kind_of env e) (resolve env e) h (x refl).value
+unary_kinds vars env p k prefixes.Negation e h x =
+    negation_typed env.file.items vars p (kind_of env e) (resolve env e) (x refl).value
 unary_kinds vars env p k prefixes.LeftOut e h x = absurd (cc)
 
 -- .. calls
@@ -60,23 +74,33 @@ RowArgs file vars (a_row r) vs = call_none vs ≡ true → AreTyped file vars (w
 RowArgs file vars c vs = Unit {0}
 
 abbrev ArgsFit : List Param → Env → List Param → List Want → Exprs → Type 0
-ArgsFit vars env ps ws es = Clean (args_findings env ws es) → are_met env ws es ≡ true → call_none (resolve_all env ws es) ≡ true → AreTyped env.file.items vars ps (resolve_all env ws es)
+ArgsFit vars env ps ws es =
+    Clean (args_findings env ws es) → are_met env ws es ≡ true → call_none (resolve_all env ws es) ≡ true
+    → AreTyped env.file.items vars ps (resolve_all env ws es)
 
-row_args : (vars : List Param) (env : Env) (c : Callee) (es : Exprs) → ((ps : List Param) → ArgsFit vars env ps (map param_want ps) es) → Clean (args_findings env (wants env c) es) → are_met env (wants env c) es ≡ true
+row_args : (vars : List Param) (env : Env) (c : Callee) (es : Exprs)
+    → ((ps : List Param) → ArgsFit vars env ps (map param_want ps) es) → Clean (args_findings env (wants env c) es)
+    → are_met env (wants env c) es ≡ true
     → RowArgs env.file.items vars c (resolve_all env (wants env c) es)
 row_args vars env (a_row r) es f c m =
-    subst (λ (ws : List Want). ArgsFit vars env (wanted_params r) ws es) (sym (same_wants env.file.items vars r.form r.params)) (f (wanted_params r)) c m
+    subst (λ (ws : List Want). ArgsFit vars env (wanted_params r) ws es) (sym
+    (same_wants env.file.items vars r.form r.params)) (f (wanted_params r)) c m
 row_args vars env (defined d) es f c m = tt
 row_args vars env no_word es f c m = tt
 row_args vars env a_value es f c m = tt
 row_args vars env no_function es f c m = tt
 
-call_kinds : (vars : List Param) (env : Env) (c : Callee) (b : Bool) (p : Pos) (w : Name) (vs : Values) → IsRowOf c → is_some (if b then result_kind env c else None) ≡ true → RowArgs env.file.items vars c vs
+call_kinds : (vars : List Param) (env : Env) (c : Callee) (b : Bool) (p : Pos) (w : Name) (vs : Values) → IsRowOf c
+    → is_some (if b then result_kind env c else None) ≡ true → RowArgs env.file.items vars c vs
     → Typed env.file.items vars (if b then result_kind env c else None) (call_value p c w vs)
 call_kinds vars env (defined d) b p w vs r h a = record { typed = λ n. tt; kin = λ n. absurd (cc) }
 call_kinds vars env (a_row row) b p w vs r h a =
     let t = row_typed env.file.items vars p w row vs r a in
-    record { typed = t.typed; kin = λ n. kin_if b (result_kind env (a_row row)) (call_value p (a_row row) w vs) (t.kin n) }
+    record {
+      typed = t.typed;
+      kin = λ n. kin_if b (result_kind env (a_row row)) (call_value p (a_row row) w vs)
+          (t.kin n);
+    }
 call_kinds vars env no_word b p w vs r h a = absurd (none_found b (result_kind env no_word) refl h)
 call_kinds vars env a_value b p w vs r h a = absurd (none_found b (result_kind env a_value) refl h)
 call_kinds vars env no_function b p w vs r h a = absurd (none_found b (result_kind env no_function) refl h)
@@ -88,28 +112,59 @@ kin_inner (Some kinds.Void) p v h = tt
 kin_inner (Some _) p v h = h
 
 -- what is assigned to is a place
-assigned_place : (m : Punct) (place : Bool) (a b : Option ValueKind) → is_some (assign_kind m place a b) ≡ true → place ≡ true
+assigned_place : (m : Punct) (place : Bool) (a b : Option ValueKind) → is_some (assign_kind m place a b) ≡ true
+    → place ≡ true
 assigned_place m true a b h = refl
 assigned_place m false a b h = absurd (unassigned (is_bits_assign m) (is_arithmetic_assign m) a h)
   where
-    unassigned : (x y : Bool) (k : Option ValueKind) → is_some (if x then None else (if y then (if false then k else None) else (if false then k else None))) ≡ true → ⊥
+    unassigned : (x y : Bool) (k : Option ValueKind)
+        → is_some (if x then None else (if y then (if false then k else None) else (if false then k else None)))
+        ≡ true → ⊥
     unassigned true y k h = cc
     unassigned false true k h = cc
     unassigned false false k h = cc
 
 mutual
-  pub expr_kinds : (vars : List Param) (env : Env) → HasKinds env → HasVars vars env → HasRows env → (e : Expr) → Clean (expr_findings env e) → ExprKinds vars env e
+  pub expr_kinds : (vars : List Param) (env : Env) → HasKinds env → HasVars vars env → HasRows env → (e : Expr)
+      → Clean (expr_findings env e) → ExprKinds vars env e
   expr_kinds vars env h b r (word p w) c =
       let t = word_typed env.file.items vars p w (local_in env.locals w.0) (b.locals w.0) in
       record { value = t.value; place = λ s n. t.place s }
-  expr_kinds vars env h b r (int p v l u) c = record { value = int_typed env.file.items vars p v l u; place = λ s. absurd (cc) }
-  expr_kinds vars env h b r (float p) c = record { value = record { typed = λ n. tt; kin = λ n. tt }; place = λ s. absurd (cc) }
-  expr_kinds vars env h b r (char p x) c = record { value = char_typed env.file.items vars p x; place = λ s. absurd (cc) }
-  expr_kinds vars env h b r (text p ns) c = record { value = record { typed = λ n. tt; kin = λ n. inl refl }; place = λ s. absurd (cc) }
-  expr_kinds vars env h b r (null p) c = record { value = record { typed = λ n. tt; kin = λ n. refl }; place = λ s. absurd (cc) }
+  expr_kinds vars env h b r (int p v l u) c = record {
+    value = int_typed env.file.items vars p v l u;
+    place = λ s.
+        absurd (cc);
+  }
+  expr_kinds vars env h b r (float p) c = record {
+    value = record { typed = λ n. tt; kin = λ n. tt };
+    place = λ s.
+        absurd (cc);
+  }
+  expr_kinds vars env h b r (char p x) c = record {
+    value = char_typed env.file.items vars p x;
+    place = λ s. absurd
+        (cc);
+  }
+  expr_kinds vars env h b r (text p ns) c = record {
+    value = record { typed = λ n. tt; kin = λ n. inl refl };
+    place
+        = λ s. absurd (cc);
+  }
+  expr_kinds vars env h b r (null p) c = record {
+    value = record { typed = λ n. tt; kin = λ n. refl };
+    place = λ s.
+        absurd (cc);
+  }
   expr_kinds vars env h b r (paren p e) c =
       let x = expr_kinds vars env h b r e c in
-      record { value = record { typed = x.value.typed; kin = λ n. kin_inner (kind_of env e) p (resolve env e) (x.value.kin n) }; place = λ s. absurd (cc) }
+      record {
+        value = record {
+          typed = x.value.typed;
+          kin = λ n. kin_inner (kind_of env e) p (resolve env e)
+              (x.value.kin n);
+        };
+        place = λ s. absurd (cc);
+      }
   expr_kinds vars env h b r (unary p k e) c =
       let skipped = is_address (prefix_of k) && names_type_object env e in
       let fs : Findings = (if skipped then nothing_found else expr_findings env e) in
@@ -121,20 +176,31 @@ mutual
   expr_kinds vars env h b r (post p m e) c =
       let x = expr_kinds vars env h b r e (left (expr_findings env e) _ c) in
       let known = (expr-good env h (post p m e) c).known in
-      let t = and_left (is_place env e) (is_integer (kind_of env e)) (found (is_place env e && is_integer (kind_of env e)) (kind_of env e) known) in
-      record { value = step_typed env.file.items vars p true (post_kind m) (is_place env e) (kind_of env e) (place_of env e) known (x.place t); place = λ s. absurd (cc) }
+      let t = and_left (is_place env e) (is_integer (kind_of env e)) (found (is_place env e
+      && is_integer (kind_of env e)) (kind_of env e) known) in
+      record {
+        value = step_typed env.file.items vars p true (post_kind m) (is_place env e) (kind_of env e)
+            (place_of env e) known (x.place t);
+        place = λ s. absurd (cc);
+      }
   expr_kinds vars env h b r (binary p m x y) c =
       let rest = right (expr_findings env x) _ c in
       let kx = expr_kinds vars env h b r x (left (expr_findings env x) _ c) in
       let ky = expr_kinds vars env h b r y (left (expr_findings env y) _ rest) in
-      record { value = binary_typed env.file.items vars p m (kind_of env x) (kind_of env y) (resolve env x) (resolve env y) (expr-good env h (binary p m x y) c).known kx.value ky.value; place = λ s. absurd (cc) }
+      record {
+        value = binary_typed env.file.items vars p m (kind_of env x) (kind_of env y) (resolve env x)
+            (resolve env y) (expr-good env h (binary p m x y) c).known kx.value ky.value;
+        place = λ s. absurd (cc);
+      }
   expr_kinds vars env h b r (assign p m x y) c =
       let rest = right (expr_findings env x) _ c in
       let kx = expr_kinds vars env h b r x (left (expr_findings env x) _ c) in
       let ky = expr_kinds vars env h b r y (left (expr_findings env y) _ rest) in
       let known = (expr-good env h (assign p m x y) c).known in
       record {
-        value = assign_typed env.file.items vars p m (is_place env x) (kind_of env x) (kind_of env y) (place_of env x) (resolve env y) known (kx.place (assigned_place m (is_place env x) (kind_of env x) (kind_of env y) known)) ky.value;
+        value = assign_typed env.file.items vars p m (is_place env x) (kind_of env x) (kind_of env y)
+            (place_of env x) (resolve env y) known (kx.place (assigned_place m (is_place env x) (kind_of env x)
+            (kind_of env y) known)) ky.value;
         place = λ s. absurd (cc);
       }
   expr_kinds vars env h b r (conditional p t x y) c =
@@ -144,34 +210,65 @@ mutual
       let kx = expr_kinds vars env h b r x (left (expr_findings env x) _ more) in
       let ky = expr_kinds vars env h b r y (left (expr_findings env y) _ rest) in
       record {
-        value = cond_typed env.file.items vars p (kind_of env t) (kind_of env x) (kind_of env y) (resolve env t) (resolve env x) (resolve env y) (expr-good env h (conditional p t x y) c).known kt.value kx.value ky.value;
+        value = cond_typed env.file.items vars p (kind_of env t) (kind_of env x) (kind_of env y) (resolve env t)
+            (resolve env x) (resolve env y) (expr-good env h (conditional p t x y) c).known kt.value kx.value
+            ky.value;
         place = λ s. absurd (cc);
       }
-  expr_kinds vars env h b r (comma p x y) c = record { value = record { typed = λ n. tt; kin = λ n. tt }; place = λ s. absurd (cc) }
+  expr_kinds vars env h b r (comma p x y) c = record {
+    value = record { typed = λ n. tt; kin = λ n. tt };
+    place = λ
+        s. absurd (cc);
+  }
   expr_kinds vars env h b r (cast p t e) c =
       let x = expr_kinds vars env h b r e (left (expr_findings env e) _ c) in
-      record { value = cast_typed env.file.items vars p (type_name_kind env.file.items t) (kind_of env e) (resolve env e) (expr-good env h (cast p t e) c).known x.value; place = λ s. absurd (cc) }
-  expr_kinds vars env h b r (size_of_type p t) c = record { value = record { typed = λ n. tt; kin = λ n. tt }; place = λ s. absurd (cc) }
+      record {
+        value = cast_typed env.file.items vars p (type_name_kind env.file.items t) (kind_of env e)
+            (resolve env e) (expr-good env h (cast p t e) c).known x.value;
+        place = λ s. absurd (cc);
+      }
+  expr_kinds vars env h b r (size_of_type p t) c = record {
+    value = record { typed = λ n. tt; kin = λ n. tt };
+    place
+        = λ s. absurd (cc);
+  }
   expr_kinds vars env h b r (call p f es) c =
       let ws = wants env (callee env f) in
       let args = args_findings env ws es in
       let m = node env (call p f es) (right _ _ (right args _ c)) in
       let w = not_false (is_word f) (not_when _ p 3 m.three) in
-      let met = (call-holds env (callee env f) (are_met env ws es) (word-callable env f w) (answered env h f) (not_when _ p 9 m.nine) (not_when _ p 10 m.ten)).all_met in
+      let met = (call-holds env (callee env f) (are_met env ws es) (word-callable env f w) (answered env h f)
+      (not_when _ p 9 m.nine) (not_when _ p 10 m.ten)).all_met in
       record {
-        value = call_kinds vars env (callee env f) (is_word f && are_met env ws es) p (callee_name f) (resolve_all env ws es) (callee_row env r f) (expr-good env h (call p f es) c).known
-            (row_args vars env (callee env f) es (λ ps k m n. args_kinds vars env h b r ps es k m n) (left args _ c) met);
+        value = call_kinds vars env (callee env f) (is_word f && are_met env ws es) p (callee_name f)
+            (resolve_all env ws es) (callee_row env r f) (expr-good env h (call p f es) c).known
+            (row_args vars env (callee env f) es (λ ps k m n. args_kinds vars env h b r ps es k m n) (left args _ c)
+            met);
         place = λ s. absurd (cc);
       }
-  expr_kinds vars env h b r (new p t e) c = record { value = record { typed = λ n. tt; kin = λ n. tt }; place = λ s. absurd (cc) }
-  expr_kinds vars env h b r (index p x y) c = record { value = record { typed = λ n. tt; kin = λ n. tt }; place = λ s. absurd (cc) }
-  expr_kinds vars env h b r (dot p e w) c = record { value = record { typed = λ n. tt; kin = λ n. tt }; place = λ s. absurd (cc) }
+  expr_kinds vars env h b r (new p t e) c = record {
+    value = record { typed = λ n. tt; kin = λ n. tt };
+    place = λ s.
+        absurd (cc);
+  }
+  expr_kinds vars env h b r (index p x y) c = record {
+    value = record { typed = λ n. tt; kin = λ n. tt };
+    place = λ
+        s. absurd (cc);
+  }
+  expr_kinds vars env h b r (dot p e w) c = record {
+    value = record { typed = λ n. tt; kin = λ n. tt };
+    place = λ s.
+        absurd (cc);
+  }
   expr_kinds vars env h b r (arrow p e w) c =
       let x = expr_kinds vars env h b r e (left (expr_findings env e) _ c) in
-      let t = field_typed env.file.items vars p w (kind_of env e) (resolve env e) (expr-good env h (arrow p e w) c).known x.value in
+      let t = field_typed env.file.items vars p w (kind_of env e) (resolve env e)
+      (expr-good env h (arrow p e w) c).known x.value in
       record { value = t.value; place = λ s n. t.place n }
 
-  args_kinds : (vars : List Param) (env : Env) → HasKinds env → HasVars vars env → HasRows env → (ps : List Param) (es : Exprs) → ArgsFit vars env ps (map param_want ps) es
+  args_kinds : (vars : List Param) (env : Env) → HasKinds env → HasVars vars env → HasRows env
+      → (ps : List Param) (es : Exprs) → ArgsFit vars env ps (map param_want ps) es
   args_kinds vars env h b r [] no_exprs c m n = tt
   args_kinds vars env h b r (q ∷ ps) no_exprs c m n = absurd (cc)
   args_kinds vars env h b r [] (expr_and e es) c m n = absurd (cc)
@@ -180,10 +277,17 @@ mutual
       let skipped = wants_module ws && is_module_address env e in
       let first : Findings = (if skipped then nothing_found else expr_findings env e and void_use env e) in
       let one = left first _ c in
-      let x = arg_typed env.file.items vars env q (map param_want ps) e (argument-met env ws e one (and_left (first_met ws (is_module_address env e) (operand (kind_of env e) e)) _ m))
+      let x = arg_typed env.file.items vars env q (map param_want ps) e (argument-met env ws e one
+      (and_left (first_met ws (is_module_address env e) (operand (kind_of env e) e)) _ m))
       (λ s. (expr-good env h e (left (expr_findings env e) _ (unless skipped _ one s))).known)
       (λ s. (expr_kinds vars env h b r e (left (expr_findings env e) _ (unless skipped _ one s))).value) in
-      let v : Value = (if skipped then module_address e else convert (expr_pos e) (want_kind ws) (kind_of env e) (resolve env e)) in
+      let v : Value = (if skipped then module_address e else convert (expr_pos e) (want_kind ws) (kind_of env e)
+      (resolve env e)) in
       let more = resolve_all env (map param_want ps) es in
-      let n1 = and_left (calls_none v) (call_none more) n in
-      (x.fits n1, x.typed n1, args_kinds vars env h b r ps es (right first _ c) (and_right (first_met ws (is_module_address env e) (operand (kind_of env e) e)) _ m) (and_right (calls_none v) (call_none more) n))
+      let n1 = and_left (calls_none v) (call_none more) n in (
+        x.fits n1,
+        x.typed n1,
+        args_kinds vars env h b r ps es (right first _ c)
+            (and_right (first_met ws (is_module_address env e) (operand (kind_of env e) e)) _ m)
+            (and_right (calls_none v) (call_none more) n),
+      )

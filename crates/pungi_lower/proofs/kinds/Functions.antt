@@ -1,9 +1,11 @@
 -- A function in which no rule holds is of the kinds that it needs, and its code is well-formed.
-use Rattle.std.proofs.Common.{◌≡◌, ◌∙◌, ℕ, suc, ◌+◌, ◌<◌, arith, true, false, List, [], ◌∷◌, ◌++◌, length, map, Some, refl, sym, ap, subst}
+use Rattle.std.proofs.Common.{◌≡◌, ◌∙◌, ℕ, suc, ◌+◌, ◌<◌, arith, true, false, List, [], ◌∷◌, ◌++◌, length, map, Some}
+use Rattle.std.proofs.Common.{refl, sym, ap, subst}
 use Rattle.std.specs.Prelude.{◌==◌, is_none, is_some, if◌then◌else◌}
 use Rattle.pungi_base.specs.declared.key.Key.{Key}
 use Rattle.pungi_base.specs.declared.pos.Pos.{Pos}
-use Rattle.pungi_tree.specs.Syntax.{Spec, Params, params, param_decl, ParamDecls, no_params, param_and, ParamDeclr, named, bare, unused, Stmt, block, Item}
+use Rattle.pungi_tree.specs.Syntax.{Spec, Params, params, param_decl, ParamDecls, no_params, param_and, ParamDeclr}
+use Rattle.pungi_tree.specs.Syntax.{named, bare, unused, Stmt, block, Item}
 use Rattle.pungi_api.specs.Rows.{row_in, is_row, are_rows}
 use Rattle.pungi_api.specs.declared.param.Param.{Param}
 use Rattle.pungi_api.specs.declared.row.Row.{Row}
@@ -11,7 +13,9 @@ use Rattle.pungi_types.specs.declared.local.Local.{Local}
 use Rattle.pungi_types.specs.Files.{Definition, declr_name}
 use Rattle.pungi_types.specs.Names.{Env, local_in}
 use Rattle.pungi_types.specs.Exprs.{param_kind}
-use Rattle.pungi_types.specs.Functions.{first_frame, after_param, after_params, params_frame, name_findings, param_findings, params_findings, dots_findings, body_findings, result_findings, params_count, body_locals}
+use Rattle.pungi_types.specs.Functions.{first_frame, after_param, after_params, params_frame, name_findings}
+use Rattle.pungi_types.specs.Functions.{param_findings, params_findings, dots_findings, body_findings, result_findings}
+use Rattle.pungi_types.specs.Functions.{params_count, body_locals}
 use Rattle.pungi_types.specs.Labels.{label_findings, param_count}
 use Rattle.pungi_resolve.specs.Functions.{params_kinds, param_kinds, first_site, resolved_in}
 use Rattle.pungi_resolve.specs.Stmts.{Site, with_params, params_site, body_action}
@@ -71,7 +75,9 @@ record Behind (vars : List Param) (f g : Frame) (m : ℕ) : Type 0 where
   next : g.next ≡ f.next + m
   result : g.result ≡ f.result
 
-param_behind : (vars : List Param) (f : Frame) (qs : List Key) (s : Spec) (d : ParamDeclr) → Knows vars f.env → IsHeld vars f.next (held_kind (param_kind f.env.file.items s d)) → is_none (param_kind f.env.file.items s d) ≡ false
+param_behind : (vars : List Param) (f : Frame) (qs : List Key) (s : Spec) (d : ParamDeclr) → Knows vars f.env
+    → IsHeld vars f.next (held_kind (param_kind f.env.file.items s d))
+    → is_none (param_kind f.env.file.items s d) ≡ false
     → Behind vars f (after_param f (param_decl qs s d)) 1
 param_behind vars f qs s (named d) h b k =
     let kind = param_kind f.env.file.items s (named d) in
@@ -79,7 +85,8 @@ param_behind vars f qs s (named d) h b k =
     record {
       names = record {
         kinds = one_more f.env l (value_kind kind k (declared-not_void f.env.file.items s d)) h.kinds;
-        held = one_more_held vars f.env l (kind_of_held vars f.next kind (param_kept f.env.file.items s (named d)) b) h.held;
+        held = one_more_held vars f.env l (kind_of_held vars f.next kind (param_kept f.env.file.items s (named d))
+            b) h.held;
         rows = h.rows;
       };
       file = refl;
@@ -89,7 +96,9 @@ param_behind vars f qs s (named d) h b k =
 param_behind vars f qs s (bare stars) h b k = record { names = h; file = refl; next = refl; result = refl }
 param_behind vars f qs s (unused stars n p) h b k = record { names = h; file = refl; next = refl; result = refl }
 
-params_behind : (vars : List Param) (f : Frame) (ds : ParamDecls) → Knows vars f.env → Seg vars f.next (map held_kind (param_kinds f.env.file.items ds)) → Clean (param_findings f ds) → Behind vars f (after_params f ds) (param_count ds)
+params_behind : (vars : List Param) (f : Frame) (ds : ParamDecls) → Knows vars f.env
+    → Seg vars f.next (map held_kind (param_kinds f.env.file.items ds)) → Clean (param_findings f ds)
+    → Behind vars f (after_params f ds) (param_count ds)
 params_behind vars f no_params h b c = record { names = h; file = refl; next = omega arith; result = refl }
 params_behind vars f (param_and (param_decl qs s d) ds) h b c =
     let n1 = not_when _ (spec_pos s) 1 (left (declared_n1 qs s (param_kind f.env.file.items s d)) _ c) in
@@ -97,36 +106,55 @@ params_behind vars f (param_and (param_decl qs s d) ds) h b c =
     let g = after_param f (param_decl qs s d) in
     let one = param_behind vars f qs s d h b.0 k in
     let more : Seg vars g.next (map held_kind (param_kinds g.env.file.items ds)) =
-    subst (λ (m : ℕ). Seg vars m (map held_kind (param_kinds g.env.file.items ds))) (sym one.next) (subst (λ (fl : List Item). Seg vars (f.next + 1) (map held_kind (param_kinds fl ds))) (sym one.file) b.1) in
-    let rest = params_behind vars g ds one.names more (right (name_findings f d) _ (right (declared_n1 qs s (param_kind f.env.file.items s d)) _ c)) in
-    record { names = rest.names; file = rest.file ∙ one.file; next = omega (arith, rest.next, one.next); result = rest.result ∙ one.result }
+    subst (λ (m : ℕ). Seg vars m (map held_kind (param_kinds g.env.file.items ds))) (sym one.next)
+    (subst (λ (fl : List Item). Seg vars (f.next + 1) (map held_kind (param_kinds fl ds))) (sym one.file) b.1) in
+    let rest = params_behind vars g ds one.names more (right (name_findings f d) _
+    (right (declared_n1 qs s (param_kind f.env.file.items s d)) _ c)) in
+    record {
+      names = rest.names;
+      file = rest.file ∙ one.file;
+      next = omega (arith, rest.next, one.next);
+      result
+          = rest.result ∙ one.result;
+    }
 
 -- .. the body
-body_kinds : (vars : List Param) (p : Pos) (f : Frame) (s : Stmt) → Knows vars f.env → is_some f.result ≡ true → AreHeld vars f.next (stmt_declared (body_action p (site f) s)) → Clean (body_findings f s) → has_no_call (body_action p (site f) s) ≡ true
+body_kinds : (vars : List Param) (p : Pos) (f : Frame) (s : Stmt) → Knows vars f.env → is_some f.result ≡ true
+    → AreHeld vars f.next (stmt_declared (body_action p (site f) s)) → Clean (body_findings f s)
+    → has_no_call (body_action p (site f) s) ≡ true
     → IsStmtTyped f.env.file.items vars (body_action p (site f) s)
-body_kinds vars p f (block q ss t) h r b c n = stmts_kinds vars (record (in_block f ss) { block = f.block }) ss h r b c n
+body_kinds vars p f (block q ss t) h r b c n =
+    stmts_kinds vars (record (in_block f ss) { block = f.block }) ss h r b c n
 body_kinds vars p f _ h r b c n = tt
 
-of_params : (vars : List Param) (f : Frame) (p : Pos) (s : Stmt) (ps : Params) → Knows vars f.env → is_some f.result ≡ true → Seg vars f.next (map held_kind (params_kinds f.env.file.items ps))
-    → AreHeld vars (f.next + params_count ps) (stmt_declared (body_action p (params_site (site f) ps) s)) → Clean (params_findings f ps) → Clean (body_findings (params_frame f ps) s)
-    → has_no_call (body_action p (params_site (site f) ps) s) ≡ true → IsStmtTyped f.env.file.items vars (body_action p (params_site (site f) ps) s)
+of_params : (vars : List Param) (f : Frame) (p : Pos) (s : Stmt) (ps : Params) → Knows vars f.env
+    → is_some f.result ≡ true → Seg vars f.next (map held_kind (params_kinds f.env.file.items ps))
+    → AreHeld vars (f.next + params_count ps) (stmt_declared (body_action p (params_site (site f) ps) s))
+    → Clean (params_findings f ps) → Clean (body_findings (params_frame f ps) s)
+    → has_no_call (body_action p (params_site (site f) ps) s) ≡ true
+    → IsStmtTyped f.env.file.items vars (body_action p (params_site (site f) ps) s)
 of_params vars f p s (params ds v dots) h r b held c d n =
     let g = after_params f ds in
     let k = params_behind vars f ds h b (right (dots_findings dots) _ c) in
     let e = params-site f ds in
     let Held : Site → Type 0 = λ x. AreHeld vars g.next (stmt_declared (body_action p x s)) in
-    let there : Held (site g) = subst Held (sym e) (subst (λ (m : ℕ). AreHeld vars m (stmt_declared (body_action p (with_params (site f) ds) s))) (sym k.next) held) in
+    let there : Held (site g) = subst Held (sym e) (subst (λ (m : ℕ). AreHeld vars m
+    (stmt_declared (body_action p (with_params (site f) ds) s))) (sym k.next) held) in
     let Free : Site → Type 0 = λ x. has_no_call (body_action p x s) ≡ true in
     let typed = body_kinds vars p g s k.names (ap is_some k.result ∙ r) there d (subst Free (sym e) n) in
-    subst (λ (fl : List Item). IsStmtTyped fl vars (body_action p (with_params (site f) ds) s)) k.file (subst (λ (x : Site). IsStmtTyped g.env.file.items vars (body_action p x s)) e typed)
+    subst (λ (fl : List Item). IsStmtTyped fl vars (body_action p (with_params (site f) ds) s)) k.file
+    (subst (λ (x : Site). IsStmtTyped g.env.file.items vars (body_action p x s)) e typed)
 
 -- .. the whole
-rows-are : (table : List (ℕ × Row)) (w : ℕ) (r : Row) → are_rows table ≡ true → row_in table w ≡ Some r → is_row r ≡ true
+rows-are : (table : List (ℕ × Row)) (w : ℕ) (r : Row) → are_rows table ≡ true → row_in table w ≡ Some r
+    → is_row r ≡ true
 rows-are [] w r h e = absurd (cc)
-rows-are (x ∷ table) w r h e = elim (w == x.0) as (λ b. ((w == x.0) ≡ b) → (if b then Some x.1 else row_in table w) ≡ Some r → is_row r ≡ true) [
-  | true ↦ λ t k. let same : x.1 ≡ r = cc in subst (λ (y : Row). is_row y ≡ true) same (and_left (is_row x.1) (are_rows table) h)
-  | false ↦ λ t k. rows-are table w r (and_right (is_row x.1) (are_rows table) h) k
-] refl e
+rows-are (x ∷ table) w r h e =
+    elim (w == x.0) as (λ b. ((w == x.0) ≡ b) → (if b then Some x.1 else row_in table w) ≡ Some r → is_row r ≡ true) [
+      | true ↦ λ t k. let same : x.1 ≡ r = cc in subst (λ (y : Row). is_row y ≡ true) same
+          (and_left (is_row x.1) (are_rows table) h)
+      | false ↦ λ t k. rows-are table w r (and_right (is_row x.1) (are_rows table) h) k
+    ] refl e
 
 none_held : (vars : List Param) (env : Env) → env.locals ≡ [] → HasVars vars env
 none_held vars env e = record { locals = λ w. subst (λ (ls : List Local). IsLocalHeld vars (local_in ls w)) (sym e) tt }
@@ -147,7 +175,9 @@ function-locals env d =
     omega (arith, a, b)
 
 -- a function in which no rule holds, and which calls none of the file
-pub function-kinds : (env : Env) (d : Definition) → IsPassed env d → are_rows env.file.rows ≡ true → has_no_call (resolved_in env d).body ≡ true → IsStmtTyped env.file.items (var_kinds (resolved_in env d)) (resolved_in env d).body
+pub function-kinds : (env : Env) (d : Definition) → IsPassed env d → are_rows env.file.rows ≡ true
+    → has_no_call (resolved_in env d).body ≡ true
+    → IsStmtTyped env.file.items (var_kinds (resolved_in env d)) (resolved_in env d).body
 function-kinds env d h rows n =
     let f = resolved_in env d in
     let frame = first_frame env d in
@@ -155,14 +185,24 @@ function-kinds env d h rows n =
     let pre = map held_kind f.params in
     let own = map kind_held (stmt_declared f.body) in
     let temps = temp_kinds (stmt_nodes f.body) in
-    let e : length pre ≡ 0 + params_count d.params = let l = map_long held_kind f.params in let k = params-long env d in omega (arith, l, k) in
+    let e : length pre ≡ 0 + params_count d.params = let l = map_long held_kind f.params in let k = params-long env
+    d in omega (arith, l, k) in
     let held = seg_declared (var_kinds f) (length pre) (stmt_declared f.body) (seg_of pre own temps) in
-    of_params (var_kinds f) frame d.pos d.body d.params (record { kinds = names-passed env d h; held = none_held (var_kinds f) env h.outside; rows = λ w r k. rows-are env.file.rows w r rows k })
-    (result-known env d h.passed) (seg_front pre (own ++ temps)) (subst (λ (m : ℕ). AreHeld (var_kinds f) m (stmt_declared f.body)) e held)
-    (left (params_findings frame d.params) _ c) (right (label_findings [] d.body) _ (right (params_findings frame d.params) _ c)) n
+    of_params (var_kinds f) frame d.pos d.body d.params (record {
+      kinds = names-passed env d h;
+      held = none_held
+          (var_kinds f) env h.outside;
+      rows = λ w r k. rows-are env.file.rows w r rows k;
+    })
+    (result-known env d h.passed) (seg_front pre (own ++ temps)) (subst (λ (m : ℕ). AreHeld (var_kinds f) m
+    (stmt_declared f.body)) e held)
+    (left (params_findings frame d.params) _ c) (right (label_findings [] d.body) _
+    (right (params_findings frame d.params) _ c)) n
 
 -- its code is well-formed
-pub function-well-formed : (env : Env) (d : Definition) → IsPassed env d → are_rows env.file.rows ≡ true → has_no_call (resolved_in env d).body ≡ true → IsWellFormed (code_of (resolved_in env d))
+pub function-well-formed : (env : Env) (d : Definition) → IsPassed env d → are_rows env.file.rows ≡ true
+    → has_no_call (resolved_in env d).body ≡ true → IsWellFormed (code_of (resolved_in env d))
 function-well-formed env d h rows n =
     let l = within-limits env d h.passed in
-    well-formed env.file.items (resolved_in env d) (function-locals env d) (function-kinds env d h rows n) n l.locals (nodes-bounded env d h) (size-bounded env d h)
+    well-formed env.file.items (resolved_in env d) (function-locals env d) (function-kinds env d h rows n) n
+    l.locals (nodes-bounded env d h) (size-bounded env d h)

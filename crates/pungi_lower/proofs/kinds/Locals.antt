@@ -1,8 +1,12 @@
 -- The locals that a statement declares, in order, and their variables.
-use Rattle.std.proofs.Common.{◌≡◌, ◌∙◌, ℕ, suc, ◌+◌, arith, true, false, List, [], ◌∷◌, ◌++◌, length, length-append, Option, Some, None, refl, ap, subst}
+use Rattle.std.proofs.Common.{◌≡◌, ◌∙◌, ℕ, suc, ◌+◌, arith, true, false, List, [], ◌∷◌, ◌++◌, length, length-append}
+use Rattle.std.proofs.Common.{Option, Some, None, refl, ap, subst}
 use Rattle.std.specs.Prelude.{◌==◌, is_some, if◌then◌else◌}
 use Rattle.pungi_base.specs.declared.key.Key.{Key}
-use Rattle.pungi_tree.specs.Syntax.{Spec, Declr, Init, value, table, VarDecl, var_decl, decl, ForStart, start_decl, start_expr, Stmt, block, declare, do_expr, if_only, if_else, while, do_while, for, switch, case, default, label, goto, break, continue, return, Stmts, no_stmts, stmt_and, Item}
+use Rattle.pungi_tree.specs.Syntax.{Spec, Declr, Init, value, table, VarDecl, var_decl, decl, ForStart, start_decl}
+use Rattle.pungi_tree.specs.Syntax.{start_expr, Stmt, block, declare, do_expr, if_only, if_else, while, do_while, for}
+use Rattle.pungi_tree.specs.Syntax.{switch, case, default, label, goto, break, continue, return, Stmts, no_stmts}
+use Rattle.pungi_tree.specs.Syntax.{stmt_and, Item}
 use Rattle.pungi_api.specs.declared.param.Param.{Param}
 use Rattle.pungi_types.specs.declared.kind.ValueKind.{ValueKind}
 use Rattle.pungi_types.specs.declared.kind.ValueKind.TheVariants as kinds
@@ -15,9 +19,12 @@ use Rattle.pungi_types.specs.Exprs.{kind_of, expr_findings}
 use Rattle.pungi_types.specs.Labels.{stmt_locals, stmts_locals, start_locals}
 use Rattle.pungi_resolve.specs.Exprs.{resolve, convert}
 use Rattle.pungi_resolved.specs.Values.{Value}
-use Rattle.pungi_resolve.specs.Stmts.{Site, with_var, with_start, site_past, site_after, initial_value, declared_locals, start_declared, action, actions}
+use Rattle.pungi_resolve.specs.Stmts.{Site, with_var, with_start, site_past, site_after, initial_value, declared_locals}
+use Rattle.pungi_resolve.specs.Stmts.{start_declared, action, actions}
 use Rattle.pungi_resolved.specs.Actions.{DeclaredLocal}
-use Rattle.pungi_types.specs.Stmts.{Frame, with_local, spec_pos, has_file_storage, declared_n1, declared_n8, is_wrong_initial, first_value_findings, after_var, after_vars, var_findings, vars_findings}
+use Rattle.pungi_types.specs.Stmts.{Frame, with_local, spec_pos, has_file_storage, declared_n1, declared_n8}
+use Rattle.pungi_types.specs.Stmts.{is_wrong_initial, first_value_findings, after_var, after_vars, var_findings}
+use Rattle.pungi_types.specs.Stmts.{vars_findings}
 use Rattle.pungi_meaning.specs.Values.{slot_kind}
 use Rattle.pungi_resolve.proofs.Clean.{Clean, left, right, not_when, is_there, or_left, and_left, and_right}
 use Rattle.pungi_resolve.proofs.Known.{HasKinds, one_more, declared-not_void}
@@ -83,11 +90,13 @@ abbrev pub AreHeld : List Param → ℕ → List DeclaredLocal → Type 0
 AreHeld vars n [] = Unit {0}
 AreHeld vars n (r ∷ rs) = IsHeld vars n (kind_held r) × AreHeld vars (n + 1) rs
 
-pub held_front : (vars : List Param) (n : ℕ) (rs qs : List DeclaredLocal) → AreHeld vars n (rs ++ qs) → AreHeld vars n rs
+pub held_front : (vars : List Param) (n : ℕ) (rs qs : List DeclaredLocal) → AreHeld vars n (rs ++ qs)
+    → AreHeld vars n rs
 held_front vars n [] qs h = tt
 held_front vars n (r ∷ rs) qs h = (h.0, held_front vars (n + 1) rs qs h.1)
 
-pub held_behind : (vars : List Param) (n m : ℕ) (rs qs : List DeclaredLocal) → AreHeld vars n (rs ++ qs) → n + length rs ≡ m → AreHeld vars m qs
+pub held_behind : (vars : List Param) (n m : ℕ) (rs qs : List DeclaredLocal) → AreHeld vars n (rs ++ qs)
+    → n + length rs ≡ m → AreHeld vars m qs
 held_behind vars n m [] qs h e = let k : n ≡ m = omega (arith, e) in subst (λ (x : ℕ). AreHeld vars x qs) k h
 held_behind vars n m (r ∷ rs) qs h e = held_behind vars (n + 1) m rs qs h.1 (omega (arith, e))
 
@@ -99,7 +108,8 @@ kept_slot kinds.Text h = refl
 kept_slot (kinds.Object s) h = refl
 kept_slot _ h = absurd (cc)
 
-pub kind_of_held : (vars : List Param) (x : ℕ) (k : Option ValueKind) → may_be_kept k ≡ true → IsHeld vars x (held_kind k) → IsKindHeld vars x k
+pub kind_of_held : (vars : List Param) (x : ℕ) (k : Option ValueKind) → may_be_kept k ≡ true
+    → IsHeld vars x (held_kind k) → IsKindHeld vars x k
 kind_of_held vars x None m h = tt
 kind_of_held vars x (Some k) m h = (m, (h.0, h.1 ∙ kept_slot k m))
 
@@ -109,13 +119,16 @@ pub record Knows (vars : List Param) (env : Env) : Type 0 where
   pub held : HasVars vars env
   pub rows : HasRows env
 
-pub one_more_held : (vars : List Param) (env : Env) (l : Local) → IsKindHeld vars l.number l.kind → HasVars vars env → HasVars vars (with_local env l)
+pub one_more_held : (vars : List Param) (env : Env) (l : Local) → IsKindHeld vars l.number l.kind → HasVars vars env
+    → HasVars vars (with_local env l)
 one_more_held vars env l k h = record {
-  locals = λ w. elim (l.name.0 == w) as (λ b. IsLocalHeld vars (if b then Some l else local_in env.locals w)) [ true ↦ k | false ↦ h.locals w ];
+  locals = λ w. elim (l.name.0 == w) as (λ b. IsLocalHeld vars (if b then Some l else local_in env.locals w))
+      [ true ↦ k | false ↦ h.locals w ];
 }
 
 -- .. a first value
-initial_for : (file : List Item) (vars : List Param) (k : ValueKind) (v : Value) → Going file vars (Some k) v → calls_none v ≡ true → IsInitial file vars k (Some v)
+initial_for : (file : List Item) (vars : List Param) (k : ValueKind) (v : Value) → Going file vars (Some k) v
+    → calls_none v ≡ true → IsInitial file vars k (Some v)
 initial_for file vars k v g n = ((g.goes n).1, g.typed n)
 
 -- of a local whose kind is known
@@ -123,7 +136,8 @@ abbrev IsFirst : List Item → List Param → Option ValueKind → Option Value 
 IsFirst file vars None v = Unit {0}
 IsFirst file vars (Some k) v = IsInitial file vars k v
 
-first_going : (file : List Item) (vars : List Param) (k : Option ValueKind) (v : Value) → Going file vars k v → calls_none v ≡ true → IsFirst file vars k (Some v)
+first_going : (file : List Item) (vars : List Param) (k : Option ValueKind) (v : Value) → Going file vars k v
+    → calls_none v ≡ true → IsFirst file vars k (Some v)
 first_going file vars None v g n = tt
 first_going file vars (Some k) v g n = initial_for file vars k v g n
 
@@ -131,22 +145,27 @@ first_none : (file : List Item) (vars : List Param) (k : Option ValueKind) → I
 first_none file vars None = tt
 first_none file vars (Some k) = tt
 
-initial_typed : (vars : List Param) (f : Frame) (s : Spec) (d : Declr) (i : Option Init) → Knows vars (after_var f s (var_decl d i)).env → is_some (declared_kind f.env.file.items s d) ≡ true
-    → Clean (first_value_findings (after_var f s (var_decl d i)).env (declared_kind f.env.file.items s d) (declr_pos d) i) → is_free_option (initial_value (site f) s (var_decl d i)) ≡ true
+initial_typed : (vars : List Param) (f : Frame) (s : Spec) (d : Declr) (i : Option Init)
+    → Knows vars (after_var f s (var_decl d i)).env → is_some (declared_kind f.env.file.items s d) ≡ true
+    → Clean (first_value_findings (after_var f s (var_decl d i)).env (declared_kind f.env.file.items s d)
+    (declr_pos d) i) → is_free_option (initial_value (site f) s (var_decl d i)) ≡ true
     → IsFirst f.env.file.items vars (declared_kind f.env.file.items s d) (initial_value (site f) s (var_decl d i))
 initial_typed vars f s d None h t c n = first_none f.env.file.items vars (declared_kind f.env.file.items s d)
-initial_typed vars f s d (Some (table ts)) h t c n = first_none f.env.file.items vars (declared_kind f.env.file.items s d)
+initial_typed vars f s d (Some (table ts)) h t c n =
+    first_none f.env.file.items vars (declared_kind f.env.file.items s d)
 initial_typed vars f s d (Some (value e)) h t c n =
     let env = (after_var f s (var_decl d None)).env in
     let k = declared_kind f.env.file.items s d in
     let one = left (expr_findings env e) _ c in
     let x = expr_kinds vars env h.kinds h.held h.rows e one in
     let ten = one-asked env (is_wrong_initial k) (declr_pos d) e (right (expr_findings env e) _ c) in
-    let fit = known-fit (is_some k) (is_some (kind_of env e)) (is_void (kind_of env e)) (fits k (kind_of env e)) true t (expr-good env h.kinds e one).known ten in
+    let fit = known-fit (is_some k) (is_some (kind_of env e)) (is_void (kind_of env e)) (fits k (kind_of env e))
+    true t (expr-good env h.kinds e one).known ten in
     let g = convert_going f.env.file.items vars (declr_pos d) k (kind_of env e) (resolve env e) fit x.value in
     first_going f.env.file.items vars k (convert (declr_pos d) k (kind_of env e) (resolve env e)) g n
 
-declared_typed : (file : List Item) (vars : List Param) (x : ℕ) (k : Option ValueKind) (v : Option Value) → is_some k ≡ true → IsKindHeld vars x k → IsFirst file vars k v → IsDeclaredTyped file vars x k v
+declared_typed : (file : List Item) (vars : List Param) (x : ℕ) (k : Option ValueKind) (v : Option Value)
+    → is_some k ≡ true → IsKindHeld vars x k → IsFirst file vars k v → IsDeclaredTyped file vars x k v
 declared_typed file vars x None v s h i = absurd (cc)
 declared_typed file vars x (Some k) v s h i = (h.0, h.1, i)
 
@@ -157,9 +176,11 @@ pub record Declared (vars : List Param) (f : Frame) (s : Spec) (vs : List VarDec
   pub file : (after_vars f s vs).env.file.items ≡ f.env.file.items
   pub next : (after_vars f s vs).next ≡ f.next + length vs
   pub result : (after_vars f s vs).result ≡ f.result
-  pub typed : are_free_locals (declared_locals (site f) s vs) ≡ true → AreDeclaredTyped f.env.file.items vars (declared_locals (site f) s vs)
+  pub typed : are_free_locals (declared_locals (site f) s vs) ≡ true
+      → AreDeclaredTyped f.env.file.items vars (declared_locals (site f) s vs)
 
-pub vars_kinds : (vars : List Param) (f : Frame) (qs : List Key) (s : Spec) (vs : List VarDecl) → Knows vars f.env → AreHeld vars f.next (declared_locals (site f) s vs) → Clean (vars_findings f qs s vs) → Declared vars f s vs
+pub vars_kinds : (vars : List Param) (f : Frame) (qs : List Key) (s : Spec) (vs : List VarDecl) → Knows vars f.env
+    → AreHeld vars f.next (declared_locals (site f) s vs) → Clean (vars_findings f qs s vs) → Declared vars f s vs
 vars_kinds vars f qs s [] h b c = record { names = h; file = refl; next = omega arith; result = refl; typed = λ n. tt }
 vars_kinds vars f qs s (var_decl d i ∷ vs) h b c =
     let k = declared_kind f.env.file.items s d in
@@ -172,7 +193,8 @@ vars_kinds vars f qs s (var_decl d i ∷ vs) h b c =
       held = one_more_held vars f.env l held h.held;
       rows = h.rows;
     } in
-    let rest = vars_kinds vars (after_var f s (var_decl d i)) qs s vs g b.1 (right (var_findings f qs s (var_decl d i)) _ c) in
+    let rest = vars_kinds vars (after_var f s (var_decl d i)) qs s vs g b.1
+    (right (var_findings f qs s (var_decl d i)) _ c) in
     let two = right (declared_n8 f.env f.block (declr_name d) (declr_pos d)) _ (right (declared_n1 qs s k) _ one) in
     record {
       names = rest.names;
@@ -181,7 +203,8 @@ vars_kinds vars f qs s (var_decl d i ∷ vs) h b c =
       result = rest.result;
       typed = λ n. (
         declared_typed f.env.file.items vars f.next k (initial_value (site f) s (var_decl d i)) (is_there k n1) held
-            (initial_typed vars f s d i g (is_there k n1) two (and_left (is_free_option (initial_value (site f) s (var_decl d i))) _ n)),
+            (initial_typed vars f s d i g (is_there k n1) two (and_left (is_free_option
+            (initial_value (site f) s (var_decl d i))) _ n)),
         rest.typed (and_right (is_free_option (initial_value (site f) s (var_decl d i))) _ n),
       );
     }

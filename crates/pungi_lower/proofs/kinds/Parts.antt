@@ -50,7 +50,8 @@ abbrev pub GoesTo : Option ValueKind → Value → Type 0
 GoesTo None v = ⊥
 GoesTo (Some k) v = (is_kept k ≡ true) × GoesIn (slot_kind k) v
 
-pub fits_goes : (p : Pos) (to from : Option ValueKind) (v : Value) → fits to from ≡ true → Kin from v → GoesTo to (convert p to from v)
+pub fits_goes : (p : Pos) (to from : Option ValueKind) (v : Value) → fits to from ≡ true → Kin from v
+    → GoesTo to (convert p to from v)
 fits_goes p (Some kinds.Int) (Some kinds.Int) v h g = (refl, g)
 fits_goes p (Some kinds.Int) (Some kinds.Long) v h g = (refl, refl)
 fits_goes p (Some kinds.Int) (Some kinds.Size) v h g = (refl, refl)
@@ -77,10 +78,12 @@ module _ (file : List Item) (vars : List Param) where
     pub typed : calls_none v ≡ true → IsTyped file vars v
     pub goes : calls_none v ≡ true → GoesTo to v
 
-  converted_typed : (p : Pos) (k from : ValueKind) (v : Value) → is_counted k ≡ true → is_integer (Some from) ≡ true → Typed (Some from) v → calls_none v ≡ true → IsTyped file vars (converted p k v)
+  converted_typed : (p : Pos) (k from : ValueKind) (v : Value) → is_counted k ≡ true → is_integer (Some from) ≡ true
+      → Typed (Some from) v → calls_none v ≡ true → IsTyped file vars (converted p k v)
   converted_typed p k from v c i t n = (c, kin_number (Some from) v i (t.kin n), t.typed n)
 
-  pub convert_typed : (p : Pos) (to from : Option ValueKind) (v : Value) → fits to from ≡ true → Typed from v → calls_none (convert p to from v) ≡ true → IsTyped file vars (convert p to from v)
+  pub convert_typed : (p : Pos) (to from : Option ValueKind) (v : Value) → fits to from ≡ true → Typed from v
+      → calls_none (convert p to from v) ≡ true → IsTyped file vars (convert p to from v)
   convert_typed p (Some kinds.Int) (Some kinds.Int) v h t n = t.typed n
   convert_typed p (Some kinds.Int) (Some kinds.Long) v h t n = converted_typed p kinds.Int kinds.Long v refl refl t n
   convert_typed p (Some kinds.Int) (Some kinds.Size) v h t n = converted_typed p kinds.Int kinds.Size v refl refl t n
@@ -100,13 +103,16 @@ module _ (file : List Item) (vars : List Param) where
   some_free p None v = refl
   some_free p (Some k) v = refl
 
-  pub convert_free : (p : Pos) (to from : Option ValueKind) (v : Value) → calls_none (convert p to from v) ≡ calls_none v
-  convert_free p to from v = elim (is_integer to && (is_integer from && not (is_same_kind to from))) as (λ b. calls_none (if b then convert_some p to v else v) ≡ calls_none v) [
-    | true ↦ some_free p to v
-    | false ↦ refl
-  ]
+  pub convert_free : (p : Pos) (to from : Option ValueKind) (v : Value)
+      → calls_none (convert p to from v) ≡ calls_none v
+  convert_free p to from v = elim (is_integer to && (is_integer from && not (is_same_kind to from))) as
+      (λ b. calls_none (if b then convert_some p to v else v) ≡ calls_none v) [
+        | true ↦ some_free p to v
+        | false ↦ refl
+      ]
 
-  pub convert_going : (p : Pos) (to from : Option ValueKind) (v : Value) → fits to from ≡ true → Typed from v → Going to (convert p to from v)
+  pub convert_going : (p : Pos) (to from : Option ValueKind) (v : Value) → fits to from ≡ true → Typed from v
+      → Going to (convert p to from v)
   convert_going p to from v h t = record {
     typed = λ n. convert_typed p to from v h t n;
     goes = λ n. fits_goes p to from v h (t.kin (sym (convert_free p to from v) ∙ n));

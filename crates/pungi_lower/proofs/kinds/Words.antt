@@ -1,5 +1,6 @@
 -- Constants, words and fields of the kinds that the rules know.
-use Rattle.std.proofs.Common.{◌≡◌, ◌∙◌, ℕ, ◌+◌, ◌≤◌, ℤ, pos, negsuc, arith, Bool, true, false, List, [], ◌∷◌, Option, Some, None, refl, sym, ap}
+use Rattle.std.proofs.Common.{◌≡◌, ◌∙◌, ℕ, ◌+◌, ◌≤◌, ℤ, pos, negsuc, arith, Bool, true, false, List, [], ◌∷◌, Option}
+use Rattle.std.proofs.Common.{Some, None, refl, sym, ap}
 use Rattle.std.specs.Prelude.{◌&&◌, ◌||◌, ◌==◌, not, nat_lt, int_lt, is_some, if◌then◌else◌}
 use Rattle.std.proofs.lemmas.Bool.Decides.{nat_tests}
 use Rattle.pungi_base.specs.declared.names.Name.{Name}
@@ -11,8 +12,13 @@ use Rattle.pungi_types.specs.declared.kind.ValueKind.{ValueKind}
 use Rattle.pungi_types.specs.declared.kind.ValueKind.TheVariants as kinds
 use Rattle.pungi_types.specs.declared.local.Local.{Local}
 use Rattle.pungi_types.specs.Files.{Variable, variables_of, declr_name, declr_tail, declr_stars, is_plain_tail}
-use Rattle.pungi_types.specs.Kinds.{Core, base_words, builtin, struct_of, no_core, core_of, core_kind, type_kind, not_void, spec_base, declared_kind, declr_named, member_kind, field_in, field_in_some, field_kind, struct_fields, is_object_struct, only, both, is_int_key, is_long_key, is_void_key, is_char_key}
-use Rattle.pungi_types.specs.Names.{Env, Meaning, a_global, a_function, a_static, unknown, local_in, local_or, global_or, global_in, global_kind, is_table, is_function, is_own_static, static_number}
+use Rattle.pungi_types.specs.Kinds.{Core, base_words, builtin, struct_of, no_core, core_of, core_kind, type_kind}
+use Rattle.pungi_types.specs.Kinds.{not_void, spec_base, declared_kind, declr_named, member_kind, field_in}
+use Rattle.pungi_types.specs.Kinds.{field_in_some, field_kind, struct_fields, is_object_struct, only, both, is_int_key}
+use Rattle.pungi_types.specs.Kinds.{is_long_key, is_void_key, is_char_key}
+use Rattle.pungi_types.specs.Names.{Env, Meaning, a_global, a_function, a_static, unknown, local_in, local_or}
+use Rattle.pungi_types.specs.Names.{global_or, global_in, global_kind, is_table, is_function, is_own_static}
+use Rattle.pungi_types.specs.Names.{static_number}
 use Rattle.pungi_types.specs.Exprs.{is_slot, meaning_kind, int_kind, is_bad_int}
 use Rattle.pungi_types.specs.Labels.{byte}
 use Rattle.pungi_types.specs.Operators.{struct_part}
@@ -69,16 +75,26 @@ module _ (file : List Item) (vars : List Param) where
   pub bounded : (v : ℤ) (u : Bool) → is_bad_int v u ≡ false → Bounded v
   bounded (pos n) u h =
       let r = or_right (int_lt (pos n) (pos 0)) _ (or_right u _ h) in
-      record { long = fits_long n (not_less 9223372036854775807 n r); int = λ k. fits_pos kinds.Int n (not_less 2147483647 n k) }
+      record {
+        long = fits_long n (not_less 9223372036854775807 n r);
+        int = λ k. fits_pos kinds.Int n
+            (not_less 2147483647 n k);
+      }
   bounded (negsuc n) u h = let r : true ≡ false = or_right u true h in absurd (cc)
 
   pub int_typed : (p : Pos) (v : ℤ) (l u : Bool) → Typed file vars (int_kind v l u) (int_value p (int_kind v l u) v)
   int_typed p v l u =
-      elim (is_bad_int v u) as (λ b. (is_bad_int v u ≡ b) → Typed file vars (if b then None else (if l || int_lt (pos 2147483647) v then Some kinds.Long else Some kinds.Int)) (int_value p (if b then None else (if l || int_lt (pos 2147483647) v then Some kinds.Long else Some kinds.Int)) v)) [
+      elim (is_bad_int v u) as (λ b. (is_bad_int v u ≡ b)
+      → Typed file vars (if b then None else (if l
+      || int_lt (pos 2147483647) v then Some kinds.Long else Some kinds.Int))
+      (int_value p (if b then None else (if l || int_lt (pos 2147483647) v then Some kinds.Long else Some
+      kinds.Int)) v)) [
         | true ↦ λ e. record { typed = λ n. tt; kin = λ n. tt }
         | false ↦ λ e.
             let h = bounded v u e in
-            elim (l || int_lt (pos 2147483647) v) as (λ c. ((l || int_lt (pos 2147483647) v) ≡ c) → Typed file vars (if c then Some kinds.Long else Some kinds.Int) (int_value p (if c then Some kinds.Long else Some kinds.Int) v)) [
+            elim (l || int_lt (pos 2147483647) v) as (λ c. ((l || int_lt (pos 2147483647) v) ≡ c)
+            → Typed file vars (if c then Some kinds.Long else Some kinds.Int) (int_value p
+            (if c then Some kinds.Long else Some kinds.Int) v)) [
               | true ↦ λ f. record { typed = λ n. h.long; kin = λ n. constant_one (fits kinds.Int v) }
               | false ↦ λ f. record { typed = λ n. h.long; kin = λ n. int_column p v (h.int (or_right l _ f)) }
             ] refl
@@ -93,7 +109,8 @@ abbrev is_written : Option ValueKind → Bool
 is_written (Some kinds.Null) = false
 is_written k = true
 
-if_written : (c : Bool) (a b : Option ValueKind) → is_written a ≡ true → is_written b ≡ true → is_written (if c then a else b) ≡ true
+if_written : (c : Bool) (a b : Option ValueKind) → is_written a ≡ true → is_written b ≡ true
+    → is_written (if c then a else b) ≡ true
 if_written true a b h k = h
 if_written false a b h k = k
 
@@ -101,10 +118,13 @@ core_written : (file : List Item) (c : Core) (n : ℕ) → is_written (core_kind
 core_written file (base_words ks) n =
     if_written (n == 0 && only is_int_key ks) (Some kinds.Int) _ refl
     (if_written (n == 0 && (only is_long_key ks || both is_long_key is_int_key ks)) (Some kinds.Long) _ refl
-    (if_written (n == 0 && only is_void_key ks) (Some kinds.Void) _ refl (if_written (n == 1 && only is_char_key ks) (Some kinds.Text) None refl refl)))
+    (if_written (n == 0 && only is_void_key ks) (Some kinds.Void) _ refl (if_written (n == 1 && only is_char_key ks)
+    (Some kinds.Text) None refl refl)))
 core_written file (builtin w) n =
-    if_written (n == 0 && w.0 == py_ssize_t) (Some kinds.Size) _ refl (if_written (n == 1 && (w.0 == py_object || w.0 == py_type_object)) (Some (kinds.Object None)) None refl refl)
-core_written file (struct_of w) n = if_written (n == 1 && is_object_struct file w.0) (Some (kinds.Object (Some w))) None refl refl
+    if_written (n == 0 && w.0 == py_ssize_t) (Some kinds.Size) _ refl (if_written
+    (n == 1 && (w.0 == py_object || w.0 == py_type_object)) (Some (kinds.Object None)) None refl refl)
+core_written file (struct_of w) n =
+    if_written (n == 1 && is_object_struct file w.0) (Some (kinds.Object (Some w))) None refl refl
 core_written file no_core n = refl
 
 kept_if : (k : Option ValueKind) → is_written k ≡ true → may_be_kept (not_void k) ≡ true
@@ -118,23 +138,28 @@ kept_if (Some kinds.Void) h = refl
 kept_if (Some kinds.Null) h = absurd (cc)
 
 pub plain_kept : (file : List Item) (s : Spec) (n : ℕ) → may_be_kept (not_void (type_kind file (spec_base s) n)) ≡ true
-plain_kept file s n = kept_if (type_kind file (spec_base s) n) (core_written file (core_of file (spec_base s)).core ((core_of file (spec_base s)).stars + n))
+plain_kept file s n =
+    kept_if (type_kind file (spec_base s) n) (core_written file (core_of file (spec_base s)).core
+    ((core_of file (spec_base s)).stars + n))
 
 pub declared_kept : (file : List Item) (s : Spec) (d : Declr) → may_be_kept (declared_kind file s d) ≡ true
 declared_kept file s d =
-    elim (is_plain_tail (declr_tail d)) as (λ b. may_be_kept (if b then not_void (type_kind file (spec_base s) (declr_stars d)) else None) ≡ true) [
+    elim (is_plain_tail (declr_tail d)) as (λ b. may_be_kept (if b then not_void
+    (type_kind file (spec_base s) (declr_stars d)) else None) ≡ true) [
       | true ↦ plain_kept file s (declr_stars d)
       | false ↦ refl
     ]
 
-member_kept : (file : List Item) (s : Spec) (o : Option Declr) (k : Option ValueKind) → may_be_kept k ≡ true → may_be_kept (member_kind file s o k) ≡ true
+member_kept : (file : List Item) (s : Spec) (o : Option Declr) (k : Option ValueKind) → may_be_kept k ≡ true
+    → may_be_kept (member_kind file s o k) ≡ true
 member_kept file s None k h = h
 member_kept file s (Some d) k h = declared_kept file s d
 
 field_kept : (file : List Item) (fs : Fields) (w : ℕ) → may_be_kept (field_in file fs w) ≡ true
 field_kept file no_fields w = refl
 field_kept file (field_and empty fs) w = field_kept file fs w
-field_kept file (field_and (members qs s ds) fs) w = member_kept file s (declr_named ds w) (field_in file fs w) (field_kept file fs w)
+field_kept file (field_and (members qs s ds) fs) w =
+    member_kept file s (declr_named ds w) (field_in file fs w) (field_kept file fs w)
 
 some_field_kept : (file : List Item) (fs : Option Fields) (w : ℕ) → may_be_kept (field_in_some file fs w) ≡ true
 some_field_kept file None w = refl
@@ -143,7 +168,8 @@ some_field_kept file (Some fs) w = field_kept file fs w
 global_in_kept : (file : List Item) (vs : List Variable) (w : ℕ) → may_be_kept (global_in file vs w) ≡ true
 global_in_kept file [] w = refl
 global_in_kept file (v ∷ vs) w =
-    elim ((declr_name v.declr).0 == w && not (is_table file v)) as (λ b. may_be_kept (if b then declared_kind file v.spec v.declr else global_in file vs w) ≡ true) [
+    elim ((declr_name v.declr).0 == w && not (is_table file v)) as (λ b. may_be_kept
+    (if b then declared_kind file v.spec v.declr else global_in file vs w) ≡ true) [
       | true ↦ declared_kept file v.spec v.declr
       | false ↦ global_in_kept file vs w
     ]
@@ -166,59 +192,80 @@ pub record WordTyped (file : List Item) (vars : List Param) (p : Pos) (w : Name)
   pub value : Typed file vars (meaning_kind m) (word_value p w m (meaning_kind m))
   pub place : is_slot m ≡ true → IsPlaceOf file vars (meaning_kind m) (word_place p m w)
 
-read_local : (file : List Item) (vars : List Param) (p : Pos) (x : ℕ) (k : Option ValueKind) → IsKindHeld vars x k → Typed file vars k (read_as p k (local_place p x))
+read_local : (file : List Item) (vars : List Param) (p : Pos) (x : ℕ) (k : Option ValueKind) → IsKindHeld vars x k
+    → Typed file vars k (read_as p k (local_place p x))
 read_local file vars p x None h = record { typed = λ n. tt; kin = λ n. tt }
-read_local file vars p x (Some k) h = record { typed = λ n. h; kin = λ n. kin_column k (read p k (local_place p x)) h.0 refl }
+read_local file vars p x (Some k) h =
+    record { typed = λ n. h; kin = λ n. kin_column k (read p k (local_place p x)) h.0 refl }
 
-to_local : (file : List Item) (vars : List Param) (p : Pos) (x : ℕ) (k : Option ValueKind) → IsKindHeld vars x k → IsPlaceOf file vars k (local_place p x)
+to_local : (file : List Item) (vars : List Param) (p : Pos) (x : ℕ) (k : Option ValueKind) → IsKindHeld vars x k
+    → IsPlaceOf file vars k (local_place p x)
 to_local file vars p x None h = tt
 to_local file vars p x (Some k) h = h
 
-known_global : (file : List Item) (vars : List Param) (p : Pos) (w : Name) (k : ValueKind) → global_kind file w.0 ≡ Some k → is_kept k ≡ true → WordTyped file vars p w (a_global k)
+known_global : (file : List Item) (vars : List Param) (p : Pos) (w : Name) (k : ValueKind)
+    → global_kind file w.0 ≡ Some k → is_kept k ≡ true → WordTyped file vars p w (a_global k)
 known_global file vars p w k e h = record {
   value = record { typed = λ n. (h, e); kin = λ n. kin_column k (read p k (word_place p (a_global k) w)) h refl };
   place = λ s. (h, e);
 }
 
-no_value : (file : List Item) (vars : List Param) (p : Pos) (w : Name) (m : Meaning) → Typed file vars (meaning_kind m) (word_value p w m (meaning_kind m)) → is_slot m ≡ false → WordTyped file vars p w m
+no_value : (file : List Item) (vars : List Param) (p : Pos) (w : Name) (m : Meaning)
+    → Typed file vars (meaning_kind m) (word_value p w m (meaning_kind m)) → is_slot m ≡ false
+    → WordTyped file vars p w m
 no_value file vars p w m t e = record { value = t; place = λ s. absurd (cc) }
 
-global_typed : (file : List Item) (vars : List Param) (p : Pos) (w : Name) (g : Option ValueKind) → global_kind file w.0 ≡ g → WordTyped file vars p w (global_or file w.0 g)
-global_typed file vars p w (Some k) e = known_global file vars p w k e (ap may_be_kept (sym e) ∙ global_in_kept file (variables_of file) w.0)
+global_typed : (file : List Item) (vars : List Param) (p : Pos) (w : Name) (g : Option ValueKind)
+    → global_kind file w.0 ≡ g → WordTyped file vars p w (global_or file w.0 g)
+global_typed file vars p w (Some k) e =
+    known_global file vars p w k e (ap may_be_kept (sym e) ∙ global_in_kept file (variables_of file) w.0)
 global_typed file vars p w None e =
-    elim (is_own_static file w.0) as (λ b. WordTyped file vars p w (if b then a_static (static_number file w.0) else unknown)) [
-      | true ↦ no_value file vars p w (a_static (static_number file w.0)) (record { typed = λ n. tt; kin = λ n. refl }) refl
+    elim (is_own_static file w.0) as (λ b. WordTyped file vars p w (if b then a_static (static_number file w.0) else
+    unknown)) [
+      | true ↦ no_value file vars p w (a_static (static_number file w.0)) (record
+          { typed = λ n. tt; kin = λ n. refl }) refl
       | false ↦ no_value file vars p w unknown (record { typed = λ n. tt; kin = λ n. tt }) refl
     ]
 
-pub word_typed : (file : List Item) (vars : List Param) (p : Pos) (w : Name) (o : Option Local) → IsLocalHeld vars o → WordTyped file vars p w (local_or file w.0 o)
-word_typed file vars p w (Some l) h = record { value = read_local file vars p l.number l.kind h; place = λ s. to_local file vars p l.number l.kind h }
+pub word_typed : (file : List Item) (vars : List Param) (p : Pos) (w : Name) (o : Option Local) → IsLocalHeld vars o
+    → WordTyped file vars p w (local_or file w.0 o)
+word_typed file vars p w (Some l) h =
+    record { value = read_local file vars p l.number l.kind h; place = λ s. to_local file vars p l.number l.kind h }
 word_typed file vars p w None h =
-    elim (is_function file w.0) as (λ b. WordTyped file vars p w (if b then a_function else global_or file w.0 (global_kind file w.0))) [
+    elim (is_function file w.0) as (λ b. WordTyped file vars p w (if b then a_function else global_or file w.0
+    (global_kind file w.0))) [
       | true ↦ no_value file vars p w a_function (record { typed = λ n. tt; kin = λ n. tt }) refl
       | false ↦ global_typed file vars p w (global_kind file w.0) refl
     ]
 
 -- .. fields
 -- a field as a value and as a place
-pub record FieldTyped (file : List Item) (vars : List Param) (p : Pos) (w : Name) (k : Option ValueKind) (v : Value) : Type 0 where
-  pub value : Typed file vars (field_kind file k w.0) (read_as p (field_kind file k w.0) (field_of p v (struct_part k) w))
-  pub place : is_free_place (field_of p v (struct_part k) w) ≡ true → IsPlaceOf file vars (field_kind file k w.0) (field_of p v (struct_part k) w)
+pub record FieldTyped (file : List Item) (vars : List Param) (p : Pos) (w : Name) (k : Option ValueKind) (v : Value)
+    : Type 0 where
+  pub value : Typed file vars (field_kind file k w.0) (read_as p (field_kind file k w.0)
+      (field_of p v (struct_part k) w))
+  pub place : is_free_place (field_of p v (struct_part k) w) ≡ true
+      → IsPlaceOf file vars (field_kind file k w.0) (field_of p v (struct_part k) w)
 
-field_place_typed : (file : List Item) (vars : List Param) (p : Pos) (w s : Name) (v : Value) (g : Option ValueKind) → field_in_some file (struct_fields file s.0) w.0 ≡ g → may_be_kept g ≡ true → IsObject v → IsTyped file vars v
+field_place_typed : (file : List Item) (vars : List Param) (p : Pos) (w s : Name) (v : Value) (g : Option ValueKind)
+    → field_in_some file (struct_fields file s.0) w.0 ≡ g → may_be_kept g ≡ true → IsObject v → IsTyped file vars v
     → IsPlaceOf file vars g (field_place p v s w)
 field_place_typed file vars p w s v None e k o t = tt
 field_place_typed file vars p w s v (Some g) e k o t = (k, e, o, t)
 
-field_value_typed : (file : List Item) (vars : List Param) (p : Pos) (w s : Name) (v : Value) (g : Option ValueKind) → may_be_kept g ≡ true → (calls_none v ≡ true → IsPlaceOf file vars g (field_place p v s w))
+field_value_typed : (file : List Item) (vars : List Param) (p : Pos) (w s : Name) (v : Value) (g : Option ValueKind)
+    → may_be_kept g ≡ true → (calls_none v ≡ true → IsPlaceOf file vars g (field_place p v s w))
     → Typed file vars g (read_as p g (field_place p v s w))
 field_value_typed file vars p w s v None k h = record { typed = λ n. tt; kin = λ n. tt }
-field_value_typed file vars p w s v (Some g) k h = record { typed = h; kin = λ n. kin_column g (read p g (field_place p v s w)) k refl }
+field_value_typed file vars p w s v (Some g) k h =
+    record { typed = h; kin = λ n. kin_column g (read p g (field_place p v s w)) k refl }
 
-pub field_typed : (file : List Item) (vars : List Param) (p : Pos) (w : Name) (k : Option ValueKind) (v : Value) → is_some (field_kind file k w.0) ≡ true → Typed file vars k v → FieldTyped file vars p w k v
+pub field_typed : (file : List Item) (vars : List Param) (p : Pos) (w : Name) (k : Option ValueKind) (v : Value)
+    → is_some (field_kind file k w.0) ≡ true → Typed file vars k v → FieldTyped file vars p w k v
 field_typed file vars p w (Some (kinds.Object (Some s))) v h t =
     let g = field_in_some file (struct_fields file s.0) w.0 in
     let kept = some_field_kept file (struct_fields file s.0) w.0 in
-    let place : calls_none v ≡ true → IsPlaceOf file vars g (field_place p v s w) = λ n. field_place_typed file vars p w s v g refl kept (t.kin n) (t.typed n) in
+    let place : calls_none v ≡ true → IsPlaceOf file vars g (field_place p v s w) = λ n. field_place_typed file vars
+    p w s v g refl kept (t.kin n) (t.typed n) in
     record { value = field_value_typed file vars p w s v g kept place; place = place }
 field_typed file vars p w _ v h t = absurd (cc)

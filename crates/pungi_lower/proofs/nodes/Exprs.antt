@@ -1,12 +1,14 @@
--- An expression of the text becomes at most three nodes for each of its nodes, and four instructions; a conversion of its
--- value, where one is wanted, is among them.
+-- An expression of the text becomes at most three nodes for each of its nodes, and four instructions; a conversion of
+-- its value, where one is wanted, is among them.
 use Rattle.std.proofs.Common.{ℕ, ◌+◌, ◌*◌, ◌≤◌, arith, Bool, true, false, List, Option, Some, None}
 use Rattle.std.specs.Prelude.{◌&&◌, ◌||◌, not, if◌then◌else◌, ℤ}
 use Rattle.pungi_base.specs.declared.kind.Kind.{Kind}
 use Rattle.pungi_base.specs.declared.names.Name.{Name}
 use Rattle.pungi_base.specs.declared.pos.Pos.{Pos}
 use Rattle.pungi_base.specs.declared.punct.Punct.{Punct}
-use Rattle.pungi_tree.specs.Syntax.{Expr, word, int, float, char, text, null, paren, unary, post, binary, assign, conditional, comma, cast, size_of_type, call, new, index, dot, arrow, Exprs, no_exprs, expr_and}
+use Rattle.pungi_tree.specs.Syntax.{Expr, word, int, float, char, text, null, paren, unary, post, binary, assign}
+use Rattle.pungi_tree.specs.Syntax.{conditional, comma, cast, size_of_type, call, new, index, dot, arrow, Exprs}
+use Rattle.pungi_tree.specs.Syntax.{no_exprs, expr_and}
 use Rattle.pungi_types.specs.declared.kind.ValueKind.{ValueKind}
 use Rattle.pungi_types.specs.declared.lookup.Want.{Want}
 use Rattle.pungi_types.specs.declared.operator.Prefix.{Prefix}
@@ -14,10 +16,16 @@ use Rattle.pungi_types.specs.declared.operator.Prefix.TheVariants as prefixes
 use Rattle.pungi_types.specs.Kinds.{type_name_kind}
 use Rattle.pungi_types.specs.Names.{Env, Meaning, a_local, a_global, a_function, a_static, unknown, meaning_of}
 use Rattle.pungi_types.specs.Nodes as written
-use Rattle.pungi_types.specs.Operators.{prefix_of, is_integer, is_void, is_order, is_equality, is_arithmetic, is_arithmetic_assign, struct_part, wider, is_same_kind}
-use Rattle.pungi_types.specs.Exprs.{Callee, no_word, a_value, defined, a_row, no_function, callee, int_kind, kind_of, is_module_address, wants, wants_module, other_wants}
-use Rattle.pungi_resolve.specs.Exprs.{resolve, place_of, resolve_all, convert, convert_some, cast_value, read_as, field_of, word_place, word_value, int_value, or_int, binary_value, assign_value, call_value, callee_name, static_address, module_address, unary_value, want_kind, expr_pos}
-use Rattle.pungi_resolved.specs.Values.{Value, Values, Place, computed, compared, joined_by, updated, stored, dropped, cast_of}
+use Rattle.pungi_types.specs.Operators.{prefix_of, is_integer, is_void, is_order, is_equality, is_arithmetic}
+use Rattle.pungi_types.specs.Operators.{is_arithmetic_assign, struct_part, wider, is_same_kind}
+use Rattle.pungi_types.specs.Exprs.{Callee, no_word, a_value, defined, a_row, no_function, callee, int_kind, kind_of}
+use Rattle.pungi_types.specs.Exprs.{is_module_address, wants, wants_module, other_wants}
+use Rattle.pungi_resolve.specs.Exprs.{resolve, place_of, resolve_all, convert, convert_some, cast_value, read_as}
+use Rattle.pungi_resolve.specs.Exprs.{field_of, word_place, word_value, int_value, or_int, binary_value, assign_value}
+use Rattle.pungi_resolve.specs.Exprs.{call_value, callee_name, static_address, module_address, unary_value, want_kind}
+use Rattle.pungi_resolve.specs.Exprs.{expr_pos}
+use Rattle.pungi_resolved.specs.Values.{Value, Values, Place, computed, compared, joined_by, updated, stored, dropped}
+use Rattle.pungi_resolved.specs.Values.{cast_of}
 use Rattle.pungi_meaning.specs.Values.{wide}
 use Rattle.pungi_layout.specs.code.Parts.{is_minus}
 use Rattle.pungi_layout.specs.code.Sizes.{expr_size, place_size, values_size, fit_size, store_size}
@@ -60,26 +68,32 @@ some-few p (Some k) v n h = record { nodes = h.nodes; size = h.size }
 
 pub convert-few : (p : Pos) (to from : Option ValueKind) (v : Value) (n : ℕ) → Few v n → Bare (convert p to from v) n
 convert-few p to from v n h =
-    elim (is_integer to && (is_integer from && not (is_same_kind to from))) as (λ b. Bare (if b then convert_some p to v else v) n) [
+    elim (is_integer to && (is_integer from && not (is_same_kind to from))) as
+    (λ b. Bare (if b then convert_some p to v else v) n) [
       | true ↦ some-few p to v n h
       | false ↦ record { nodes = omega (arith, h.nodes); size = omega (arith, h.size) }
     ]
 
-binary-few : (p : Pos) (m : Punct) (k : Option ValueKind) (a b : Value) (i j : ℕ) → Few a i → Few b j → Few (binary_value p m k a b) (i + j + 1)
+binary-few : (p : Pos) (m : Punct) (k : Option ValueKind) (a b : Value) (i j : ℕ) → Few a i → Few b j
+    → Few (binary_value p m k a b) (i + j + 1)
 binary-few p m k a b i j f g =
-    elim (is_arithmetic m) as (λ x. Few (if x then computed p m (or_int k) a b else (if is_order m || is_equality m then compared p m a b else joined_by p m a b)) (i + j + 1)) [
+    elim (is_arithmetic m) as (λ x. Few (if x then computed p m (or_int k) a b else
+    (if is_order m || is_equality m then compared p m a b else joined_by p m a b)) (i + j + 1)) [
       | true ↦ record { nodes = omega (arith, f.nodes, g.nodes); size = omega (arith, f.size, g.size) }
-      | false ↦ elim (is_order m || is_equality m) as (λ y. Few (if y then compared p m a b else joined_by p m a b) (i + j + 1)) [
-        | true ↦ record { nodes = omega (arith, f.nodes, g.nodes); size = omega (arith, f.size, g.size) }
-        | false ↦ record { nodes = omega (arith, f.nodes, g.nodes); size = omega (arith, f.size, g.size) }
-      ]
+      | false ↦ elim (is_order m || is_equality m) as (λ y. Few (if y then compared p m a b else joined_by p m a b)
+          (i + j + 1)) [
+            | true ↦ record { nodes = omega (arith, f.nodes, g.nodes); size = omega (arith, f.size, g.size) }
+            | false ↦ record { nodes = omega (arith, f.nodes, g.nodes); size = omega (arith, f.size, g.size) }
+          ]
     ]
 
-assign-few : (p : Pos) (m : Punct) (k from : Option ValueKind) (s : Place) (v : Value) (i j : ℕ) → FewPlace s i → Few v j → Few (assign_value p m k from s v) (i + j + 1)
+assign-few : (p : Pos) (m : Punct) (k from : Option ValueKind) (s : Place) (v : Value) (i j : ℕ) → FewPlace s i
+    → Few v j → Few (assign_value p m k from s v) (i + j + 1)
 assign-few p m k from s v i j f g =
     let c = convert-few p k from v j g in
     let t = fit_few (or_int k) (wider k from) in
-    elim (is_arithmetic_assign m) as (λ x. Few (if x then updated p m (wider k from) (or_int k) s v else stored p (or_int k) s (convert p k from v)) (i + j + 1)) [
+    elim (is_arithmetic_assign m) as (λ x. Few (if x then updated p m (wider k from) (or_int k) s v else stored p
+    (or_int k) s (convert p k from v)) (i + j + 1)) [
       | true ↦ record { nodes = omega (arith, f.nodes, g.nodes); size = omega (arith, f.size, g.size, t) }
       | false ↦ record { nodes = omega (arith, f.nodes, c.nodes); size = omega (arith, f.size, c.size) }
     ]
@@ -87,15 +101,18 @@ assign-few p m k from s v i j f g =
 cast-few : (p : Pos) (to from : Option ValueKind) (v : Value) (n : ℕ) → Few v n → Few (cast_value p to from v) (n + 1)
 cast-few p to from v n h =
     let s = some-few p to v n h in
-    elim (is_void to) as (λ b. Few (if b then dropped p v else (if is_integer to && not (is_same_kind to from) then convert_some p to v else cast_of p v)) (n + 1)) [
+    elim (is_void to) as (λ b. Few (if b then dropped p v else (if is_integer to
+    && not (is_same_kind to from) then convert_some p to v else cast_of p v)) (n + 1)) [
       | true ↦ record { nodes = omega (arith, h.nodes); size = omega (arith, h.size) }
-      | false ↦ elim (is_integer to && not (is_same_kind to from)) as (λ c. Few (if c then convert_some p to v else cast_of p v) (n + 1)) [
-        | true ↦ record { nodes = omega (arith, s.nodes); size = omega (arith, s.size) }
-        | false ↦ record { nodes = omega (arith, h.nodes); size = omega (arith, h.size) }
-      ]
+      | false ↦ elim (is_integer to && not (is_same_kind to from)) as (λ c. Few
+          (if c then convert_some p to v else cast_of p v) (n + 1)) [
+            | true ↦ record { nodes = omega (arith, s.nodes); size = omega (arith, s.size) }
+            | false ↦ record { nodes = omega (arith, h.nodes); size = omega (arith, h.size) }
+          ]
     ]
 
-call-few : (p : Pos) (c : Callee) (w : Name) (vs : Values) (m n : ℕ) → FewValues vs n → Few (call_value p c w vs) (m + n + 1)
+call-few : (p : Pos) (c : Callee) (w : Name) (vs : Values) (m n : ℕ) → FewValues vs n
+    → Few (call_value p c w vs) (m + n + 1)
 call-few p (defined d) w vs m n h = record { nodes = omega arith; size = omega arith }
 call-few p (a_row r) w vs m n h = record { nodes = omega (arith, h.nodes); size = omega (arith, h.size) }
 call-few p no_word w vs m n h = record { nodes = omega arith; size = omega arith }
@@ -112,7 +129,8 @@ place-few p unknown n = record { nodes = omega arith; size = omega arith; base =
 
 field-few : (p : Pos) (v : Value) (o : Option Name) (w : Name) (n : ℕ) → Few v n → FewPlace (field_of p v o w) (n + 1)
 field-few p v None w n h = record { nodes = omega arith; size = omega arith; base = omega arith }
-field-few p v (Some s) w n h = record { nodes = omega (arith, h.nodes); size = omega (arith, h.size); base = omega (arith, h.size) }
+field-few p v (Some s) w n h =
+    record { nodes = omega (arith, h.nodes); size = omega (arith, h.size); base = omega (arith, h.size) }
 
 word_read-few : (p : Pos) (m : Meaning) (n : Name) (k : Option ValueKind) → Few (read_as p k (word_place p m n)) 1
 word_read-few p m n None = record { nodes = omega arith; size = omega arith }
@@ -129,7 +147,8 @@ word-few p (a_global g) n k = word_read-few p (a_global g) n k
 word-few p a_function n k = word_read-few p a_function n k
 word-few p unknown n k = word_read-few p unknown n k
 
-field_read-few : (p : Pos) (k : Option ValueKind) (v : Value) (o : Option Name) (w : Name) (n : ℕ) → Few v n → Few (read_as p k (field_of p v o w)) (n + 1)
+field_read-few : (p : Pos) (k : Option ValueKind) (v : Value) (o : Option Name) (w : Name) (n : ℕ) → Few v n
+    → Few (read_as p k (field_of p v o w)) (n + 1)
 field_read-few p None v o w n h = record { nodes = omega arith; size = omega arith }
 field_read-few p (Some k) v None w n h = record { nodes = omega arith; size = omega arith }
 field_read-few p (Some k) v (Some s) w n h = record { nodes = omega (arith, h.nodes); size = omega (arith, h.size) }
@@ -150,10 +169,12 @@ module-few : (e : Expr) (n : ℕ) → 1 ≤ n → Bare (module_address e) n
 module-few (unary p k e) n h = under-few p k e n h
 module-few _ n h = record { nodes = omega (arith, h); size = omega (arith, h) }
 
-step-few : (k : ValueKind) (s : Place) (n : ℕ) → FewPlace s n → 1 + place_size s + 1 + 1 + 1 + fit_size k (wide k) + store_size + 1 ≤ 4 * (n + 1)
+step-few : (k : ValueKind) (s : Place) (n : ℕ) → FewPlace s n
+    → 1 + place_size s + 1 + 1 + 1 + fit_size k (wide k) + store_size + 1 ≤ 4 * (n + 1)
 step-few k s n h = let t = fit_few k (wide k) in omega (arith, h.size, t)
 
-unary-few : (env : Env) (p : Pos) (k : Kind) (pr : Prefix) (e : Expr) (v : Value) (s : Place) (n : ℕ) → Few v n → FewPlace s n → Few (unary_value env p k e pr v s) (n + 1)
+unary-few : (env : Env) (p : Pos) (k : Kind) (pr : Prefix) (e : Expr) (v : Value) (s : Place) (n : ℕ) → Few v n
+    → FewPlace s n → Few (unary_value env p k e pr v s) (n + 1)
 unary-few env p k prefixes.Address e v s n h f = static-few env p e n
 unary-few env p k prefixes.Step e v s n h f =
     let t = step-few (or_int (kind_of env e)) s n f in
@@ -161,7 +182,8 @@ unary-few env p k prefixes.Step e v s n h f =
 unary-few env p k prefixes.Sign e v s n h f =
     let b = one_at_least (is_minus k) in
     record { nodes = omega (arith, h.nodes); size = omega (arith, h.size, b) }
-unary-few env p k prefixes.Negation e v s n h f = record { nodes = omega (arith, h.nodes); size = omega (arith, h.size) }
+unary-few env p k prefixes.Negation e v s n h f =
+    record { nodes = omega (arith, h.nodes); size = omega (arith, h.size) }
 unary-few env p k prefixes.LeftOut e v s n h f = record { nodes = omega arith; size = omega arith }
 
 arg-few : (env : Env) (ws : List Want) (e : Expr) (b : Bool) (n : ℕ) → Few (resolve env e) n
@@ -176,30 +198,40 @@ mutual
   expr-few env (char p x) = record { nodes = omega arith; size = omega arith }
   expr-few env (text p ns) = record { nodes = omega arith; size = omega arith }
   expr-few env (null p) = record { nodes = omega arith; size = omega arith }
-  expr-few env (paren p e) = let h = expr-few env e in record { nodes = omega (arith, h.nodes); size = omega (arith, h.size) }
+  expr-few env (paren p e) = let h = expr-few env e in record {
+    nodes = omega (arith, h.nodes);
+    size = omega
+        (arith, h.size);
+  }
   expr-few env (unary p k e) =
-      unary-few env p k (prefix_of k) e (resolve env e) (place_of env e) (written.expr_nodes e) (expr-few env e) (to_place-few env e)
+      unary-few env p k (prefix_of k) e (resolve env e) (place_of env e) (written.expr_nodes e) (expr-few env e)
+      (to_place-few env e)
   expr-few env (post p m e) =
       let f = to_place-few env e in
       let t = step-few (or_int (kind_of env e)) (place_of env e) (written.expr_nodes e) f in
       record { nodes = omega (arith, f.nodes); size = omega (arith, t) }
   expr-few env (binary p m a b) =
-      binary-few p m (kind_of env (binary p m a b)) (resolve env a) (resolve env b) (written.expr_nodes a) (written.expr_nodes b) (expr-few env a) (expr-few env b)
+      binary-few p m (kind_of env (binary p m a b)) (resolve env a) (resolve env b) (written.expr_nodes a)
+      (written.expr_nodes b) (expr-few env a) (expr-few env b)
   expr-few env (assign p m a b) =
-      assign-few p m (kind_of env a) (kind_of env b) (place_of env a) (resolve env b) (written.expr_nodes a) (written.expr_nodes b) (to_place-few env a) (expr-few env b)
+      assign-few p m (kind_of env a) (kind_of env b) (place_of env a) (resolve env b) (written.expr_nodes a)
+      (written.expr_nodes b) (to_place-few env a) (expr-few env b)
   expr-few env (conditional p c a b) =
       let h = expr-few env c in
       let f = expr-few env a in
       let g = expr-few env b in
       record { nodes = omega (arith, h.nodes, f.nodes, g.nodes); size = omega (arith, h.size, f.size, g.size) }
   expr-few env (cast p t e) =
-      let h = cast-few p (type_name_kind env.file.items t) (kind_of env e) (resolve env e) (written.expr_nodes e) (expr-few env e) in
+      let h = cast-few p (type_name_kind env.file.items t) (kind_of env e) (resolve env e) (written.expr_nodes e)
+      (expr-few env e) in
       record { nodes = omega (arith, h.nodes); size = omega (arith, h.size) }
   expr-few env (call p f es) =
-      call-few p (callee env f) (callee_name f) (resolve_all env (wants env (callee env f)) es) (written.expr_nodes f) (written.exprs_nodes es)
+      call-few p (callee env f) (callee_name f) (resolve_all env (wants env (callee env f)) es)
+      (written.expr_nodes f) (written.exprs_nodes es)
       (args-few env (wants env (callee env f)) es)
   expr-few env (arrow p e n) =
-      field_read-few p (kind_of env (arrow p e n)) (resolve env e) (struct_part (kind_of env e)) n (written.expr_nodes e) (expr-few env e)
+      field_read-few p (kind_of env (arrow p e n)) (resolve env e) (struct_part (kind_of env e)) n
+      (written.expr_nodes e) (expr-few env e)
   expr-few env (float p) = record { nodes = omega arith; size = omega arith }
   expr-few env (comma p a b) = record { nodes = omega arith; size = omega arith }
   expr-few env (size_of_type p t) = record { nodes = omega arith; size = omega arith }
@@ -209,7 +241,8 @@ mutual
 
   to_place-few : (env : Env) (e : Expr) → FewPlace (place_of env e) (written.expr_nodes e)
   to_place-few env (word p n) = place-few p (meaning_of env n.0) n
-  to_place-few env (arrow p e n) = field-few p (resolve env e) (struct_part (kind_of env e)) n (written.expr_nodes e) (expr-few env e)
+  to_place-few env (arrow p e n) = field-few p (resolve env e) (struct_part (kind_of env e)) n
+      (written.expr_nodes e) (expr-few env e)
   to_place-few env e = record { nodes = omega arith; size = omega arith; base = omega arith }
 
   args-few : (env : Env) (ws : List Want) (es : Exprs) → FewValues (resolve_all env ws es) (written.exprs_nodes es)

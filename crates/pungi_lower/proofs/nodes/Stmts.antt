@@ -1,9 +1,12 @@
--- A statement of the text becomes at most three nodes for each of its nodes, and four instructions; those that unset the locals of a
--- block, and the comparisons of a `switch`, are among them.
-use Rattle.std.proofs.Common.{◌≡◌, ℕ, ◌+◌, ◌*◌, ◌≤◌, arith, List, [], ◌∷◌, length, length-append, Option, Some, None, refl}
+-- A statement of the text becomes at most three nodes for each of its nodes, and four instructions; those that unset
+-- the locals of a block, and the comparisons of a `switch`, are among them.
+use Rattle.std.proofs.Common.{◌≡◌, ℕ, ◌+◌, ◌*◌, ◌≤◌, arith, List, [], ◌∷◌, length, length-append, Option, Some, None}
+use Rattle.std.proofs.Common.{refl}
 use Rattle.pungi_base.specs.declared.pos.Pos.{Pos}
 use Rattle.pungi_tree.specs.Syntax as tree
-use Rattle.pungi_tree.specs.Syntax.{Expr, Spec, Declr, Init, value, table, VarDecl, var_decl, decl, ForStart, start_decl, start_expr, Stmt, declare, do_expr, if_only, if_else, while, do_while, for, case, default, label, goto, break, continue, return, Stmts, no_stmts, stmt_and}
+use Rattle.pungi_tree.specs.Syntax.{Expr, Spec, Declr, Init, value, table, VarDecl, var_decl, decl, ForStart}
+use Rattle.pungi_tree.specs.Syntax.{start_decl, start_expr, Stmt, declare, do_expr, if_only, if_else, while, do_while}
+use Rattle.pungi_tree.specs.Syntax.{for, case, default, label, goto, break, continue, return, Stmts, no_stmts, stmt_and}
 use Rattle.pungi_types.specs.Files.{declr_pos}
 use Rattle.pungi_types.specs.Kinds.{declared_kind}
 use Rattle.pungi_types.specs.Names.{Env}
@@ -11,12 +14,14 @@ use Rattle.pungi_types.specs.Nodes as written
 use Rattle.pungi_types.specs.Exprs.{kind_of}
 use Rattle.pungi_resolve.specs.Exprs.{resolve}
 use Rattle.pungi_resolved.specs.Values.{Value}
-use Rattle.pungi_resolve.specs.Stmts.{Site, with_var, with_start, site_past, site_after, initial_value, declared_locals, start_declared, start_value, option_value, return_value, action, actions}
+use Rattle.pungi_resolve.specs.Stmts.{Site, with_var, with_start, site_past, site_after, initial_value, declared_locals}
+use Rattle.pungi_resolve.specs.Stmts.{start_declared, start_value, option_value, return_value, action, actions}
 use Rattle.pungi_resolved.specs.Actions.{DeclaredLocal, Action, Actions, block, switch}
 use Rattle.pungi_meaning.specs.Todo.{listed}
 use Rattle.pungi_meaning.specs.Stmts.{cases_of, block_cases}
 use Rattle.pungi_meaning.specs.Work.{block_locals, action_locals}
-use Rattle.pungi_layout.specs.code.Sizes.{expr_size, option_size, declare_size, test_size, stmt_size, stmts_size, switch_size}
+use Rattle.pungi_layout.specs.code.Sizes.{expr_size, option_size, declare_size, test_size, stmt_size, stmts_size}
+use Rattle.pungi_layout.specs.code.Sizes.{switch_size}
 use Rattle.pungi_layout.specs.code.Sound.{option_nodes, declare_nodes, stmt_nodes, stmts_nodes}
 use Rattle.pungi_lower.proofs.nodes.Exprs.{convert-few, expr-few}
 
@@ -41,7 +46,8 @@ pub record FewStmts (ss : Actions) (n : ℕ) : Type 0 where
 -- .. expressions of a statement
 option-few : (env : Env) (e : Option Expr) → FewOption (option_value env e) (written.option_nodes e)
 option-few env None = record { nodes = omega arith; size = omega arith }
-option-few env (Some e) = let h = expr-few env e in record { nodes = omega (arith, h.nodes); size = omega (arith, h.size) }
+option-few env (Some e) =
+    let h = expr-few env e in record { nodes = omega (arith, h.nodes); size = omega (arith, h.size) }
 
 tested-few : (env : Env) (e : Option Expr) → test_size (option_value env e) ≤ 4 * written.option_nodes e
 tested-few env None = omega arith
@@ -53,12 +59,14 @@ returned-few f p (Some e) =
     let h = convert-few p f.result (kind_of f.env e) (resolve f.env e) (written.expr_nodes e) (expr-few f.env e) in
     record { nodes = omega (arith, h.nodes); size = omega (arith, h.size) }
 
-initial-few : (f : Site) (s : Spec) (d : Declr) (i : Option Init) → FewOption (initial_value f s (var_decl d i)) (written.init_nodes i)
+initial-few : (f : Site) (s : Spec) (d : Declr) (i : Option Init)
+    → FewOption (initial_value f s (var_decl d i)) (written.init_nodes i)
 initial-few f s d None = record { nodes = omega arith; size = omega arith }
 initial-few f s d (Some (table ts)) = record { nodes = omega arith; size = omega arith }
 initial-few f s d (Some (value e)) =
     let env = (with_var f s (var_decl d None)).env in
-    let h = convert-few (declr_pos d) (declared_kind f.env.file.items s d) (kind_of env e) (resolve env e) (written.expr_nodes e) (expr-few env e) in
+    let h = convert-few (declr_pos d) (declared_kind f.env.file.items s d) (kind_of env e) (resolve env e)
+    (written.expr_nodes e) (expr-few env e) in
     record { nodes = omega (arith, h.nodes); size = omega (arith, h.size) }
 
 declared-few : (f : Site) (s : Spec) (vs : List VarDecl) → FewReached (declared_locals f s vs) (written.vars_nodes vs)
@@ -69,7 +77,8 @@ declared-few f s (var_decl d i ∷ vs) =
     record { nodes = omega (arith, h.nodes, g.nodes); size = omega (arith, h.size, g.size) }
 
 started-few : (f : Site) (a : ForStart) → FewReached (start_declared f a) (written.start_nodes a)
-started-few f (start_decl (decl qs s vs)) = let h = declared-few f s vs in record { nodes = omega (arith, h.nodes); size = omega (arith, h.size) }
+started-few f (start_decl (decl qs s vs)) =
+    let h = declared-few f s vs in record { nodes = omega (arith, h.nodes); size = omega (arith, h.size) }
 started-few f (start_expr e) = record { nodes = omega arith; size = omega arith }
 
 -- what a `for` does first: it declares, or it evaluates
@@ -78,8 +87,10 @@ record FewStart (rs : List DeclaredLocal) (u : Option Value) (n : ℕ) : Type 0 
   size : length rs + declare_size rs + option_size u ≤ 4 * n
 
 start-few : (f : Site) (a : ForStart) → FewStart (start_declared f a) (start_value f.env a) (written.start_nodes a)
-start-few f (start_decl d) = let h = started-few f (start_decl d) in record { nodes = omega (arith, h.nodes); size = omega (arith, h.size) }
-start-few f (start_expr e) = let h = option-few f.env e in record { nodes = omega (arith, h.nodes); size = omega (arith, h.size) }
+start-few f (start_decl d) =
+    let h = started-few f (start_decl d) in record { nodes = omega (arith, h.nodes); size = omega (arith, h.size) }
+start-few f (start_expr e) =
+    let h = option-few f.env e in record { nodes = omega (arith, h.nodes); size = omega (arith, h.size) }
 
 -- .. statements
 switch-is : (p : Pos) (v : Value) (a : Action) → stmt_size (switch p v a) ≡ expr_size v + switch_size a
@@ -100,20 +111,39 @@ mutual
   stmt-few f (if_only p e s) =
       let h = expr-few f.env e in
       let g = stmt-few f s in
-      record { nodes = omega (arith, h.nodes, g.nodes); size = omega (arith, h.size, g.size); switched = omega (arith, h.size, g.size) }
+      record {
+        nodes = omega (arith, h.nodes, g.nodes);
+        size = omega (arith, h.size, g.size);
+        switched = omega
+            (arith, h.size, g.size);
+      }
   stmt-few f (if_else p e s t) =
       let h = expr-few f.env e in
       let g = stmt-few f s in
       let k = stmt-few (site_past f s) t in
-      record { nodes = omega (arith, h.nodes, g.nodes, k.nodes); size = omega (arith, h.size, g.size, k.size); switched = omega (arith, h.size, g.size, k.size) }
+      record {
+        nodes = omega (arith, h.nodes, g.nodes, k.nodes);
+        size = omega (arith, h.size, g.size, k.size);
+        switched = omega (arith, h.size, g.size, k.size);
+      }
   stmt-few f (while p e s) =
       let h = expr-few f.env e in
       let g = stmt-few f s in
-      record { nodes = omega (arith, h.nodes, g.nodes); size = omega (arith, h.size, g.size); switched = omega (arith, h.size, g.size) }
+      record {
+        nodes = omega (arith, h.nodes, g.nodes);
+        size = omega (arith, h.size, g.size);
+        switched = omega
+            (arith, h.size, g.size);
+      }
   stmt-few f (do_while p s e) =
       let h = expr-few f.env e in
       let g = stmt-few f s in
-      record { nodes = omega (arith, h.nodes, g.nodes); size = omega (arith, h.size, g.size); switched = omega (arith, h.size, g.size) }
+      record {
+        nodes = omega (arith, h.nodes, g.nodes);
+        size = omega (arith, h.size, g.size);
+        switched = omega
+            (arith, h.size, g.size);
+      }
   stmt-few f (for p a b c s) =
       let i = start-few f a in
       let j = option-few (with_start f a).env b in
@@ -129,7 +159,12 @@ mutual
       let h = expr-few f.env e in
       let g = stmt-few f s in
       let i = switch-is p (resolve f.env e) (action f s) in
-      record { nodes = omega (arith, h.nodes, g.nodes); size = omega (arith, h.size, g.switched, i); switched = omega (arith, h.size, g.switched, i) }
+      record {
+        nodes = omega (arith, h.nodes, g.nodes);
+        size = omega (arith, h.size, g.switched, i);
+        switched
+            = omega (arith, h.size, g.switched, i);
+      }
   stmt-few f (case p e s) =
       let g = stmt-few f s in
       record { nodes = omega (arith, g.nodes); size = omega (arith, g.size); switched = omega (arith, g.size) }

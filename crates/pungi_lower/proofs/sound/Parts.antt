@@ -18,12 +18,20 @@ use Rattle.pungi_types.specs.declared.lookup.Want.{Want}
 use Rattle.pungi_types.specs.declared.lookup.Want.TheVariants as wanted
 use Rattle.pungi_types.specs.declared.operator.Prefix.{Prefix}
 use Rattle.pungi_types.specs.declared.operator.Prefix.TheVariants as prefixes
-use Rattle.pungi_types.specs.Names.{Env, Meaning, a_local, a_global, a_function, a_static, unknown, local_in, local_or, global_or, global_kind, is_function, is_own_static, static_number}
+use Rattle.pungi_types.specs.Names.{Env, Meaning, a_local, a_global, a_function, a_static, unknown, local_in, local_or}
+use Rattle.pungi_types.specs.Names.{global_or, global_kind, is_function, is_own_static, static_number}
 use Rattle.pungi_types.specs.Kinds.{field_kind}
-use Rattle.pungi_types.specs.Operators.{is_arithmetic, is_order, is_equality, is_arithmetic_assign, is_integer, is_pointer, is_void, is_object, is_text, fits, wider, is_same_kind}
-use Rattle.pungi_types.specs.Exprs.{kind_of, is_place, is_slot, is_address, is_step_or_sign, names_type_object, is_module_address, Callee, no_word, a_value, defined, a_row, no_function, wants_module, first_met, unary_wrong, cast_wrong, cast_kind, row_kind, result_kind, meaning_kind}
-use Rattle.pungi_resolve.specs.Exprs.{resolve, place_of, convert, convert_some, cast_value, read_as, field_of, word_place, word_value, or_int, binary_value, assign_value, call_value, static_address, module_address, unary_value, want_kind, expr_pos}
-use Rattle.pungi_resolved.specs.Values.{Value, Values, Place, computed, compared, joined_by, updated, stored, dropped, cast_of}
+use Rattle.pungi_types.specs.Operators.{is_arithmetic, is_order, is_equality, is_arithmetic_assign, is_integer}
+use Rattle.pungi_types.specs.Operators.{is_pointer, is_void, is_object, is_text, fits, wider, is_same_kind}
+use Rattle.pungi_types.specs.Exprs.{kind_of, is_place, is_slot, is_address, is_step_or_sign, names_type_object}
+use Rattle.pungi_types.specs.Exprs.{is_module_address, Callee, no_word, a_value, defined, a_row, no_function}
+use Rattle.pungi_types.specs.Exprs.{wants_module, first_met, unary_wrong, cast_wrong, cast_kind, row_kind, result_kind}
+use Rattle.pungi_types.specs.Exprs.{meaning_kind}
+use Rattle.pungi_resolve.specs.Exprs.{resolve, place_of, convert, convert_some, cast_value, read_as, field_of}
+use Rattle.pungi_resolve.specs.Exprs.{word_place, word_value, or_int, binary_value, assign_value, call_value}
+use Rattle.pungi_resolve.specs.Exprs.{static_address, module_address, unary_value, want_kind, expr_pos}
+use Rattle.pungi_resolved.specs.Values.{Value, Values, Place, computed, compared, joined_by, updated, stored, dropped}
+use Rattle.pungi_resolved.specs.Values.{cast_of}
 use Rattle.pungi_resolve.proofs.Clean.{or_left, or_right}
 use Rattle.pungi_resolve.proofs.OperatorKinds.{step-kept}
 use Rattle.pungi_resolve.proofs.SoundExprs.{Good}
@@ -50,18 +58,22 @@ pub record Given (n : ℕ) (v : Value) (void : Bool) : Type 0 where
   pub sound : IsSound n v
   pub gives : void ≡ false → gives v ≡ true
 
-some-works : (n : ℕ) (p : Pos) (to : Option ValueKind) (v : Value) → gives v ≡ true → IsSound n v → Given n (convert_some p to v) false
+some-works : (n : ℕ) (p : Pos) (to : Option ValueKind) (v : Value) → gives v ≡ true → IsSound n v
+    → Given n (convert_some p to v) false
 some-works n p None v g s = record { sound = s; gives = λ x. g }
 some-works n p (Some k) v g s = record { sound = (g, s); gives = λ x. refl }
 
-pub convert-works : (n : ℕ) (p : Pos) (to from : Option ValueKind) (v : Value) → gives v ≡ true → IsSound n v → Given n (convert p to from v) false
+pub convert-works : (n : ℕ) (p : Pos) (to from : Option ValueKind) (v : Value) → gives v ≡ true → IsSound n v
+    → Given n (convert p to from v) false
 convert-works n p to from v g s =
-    elim (is_integer to && (is_integer from && not (is_same_kind to from))) as (λ b. Given n (if b then convert_some p to v else v) false) [
+    elim (is_integer to && (is_integer from && not (is_same_kind to from))) as
+    (λ b. Given n (if b then convert_some p to v else v) false) [
       | true ↦ some-works n p to v g s
       | false ↦ record { sound = s; gives = λ x. g }
     ]
 
-cast_void : (to from : Option ValueKind) → is_void to ≡ true → is_some from ≡ true → is_void (cast_kind to from) ≡ false → ⊥
+cast_void : (to from : Option ValueKind) → is_void to ≡ true → is_some from ≡ true
+    → is_void (cast_kind to from) ≡ false → ⊥
 cast_void (Some kinds.Void) (Some k) e s h = cc
 cast_void _ _ e s h = cc
 
@@ -69,30 +81,37 @@ cast-scalar : (s t v x : Bool) → s ≡ true → t ≡ false → (s && (not t &
 cast-scalar true false v x e f h = or_left v x h
 cast-scalar _ _ v x e f h = absurd (cc)
 
-pub cast-works : (n : ℕ) (p : Pos) (to from : Option ValueKind) (v : Value) → IsSound n v → (is_void from ≡ false → gives v ≡ true) → is_some from ≡ true → is_some to ≡ true → cast_wrong to from ≡ false
+pub cast-works : (n : ℕ) (p : Pos) (to from : Option ValueKind) (v : Value) → IsSound n v
+    → (is_void from ≡ false → gives v ≡ true) → is_some from ≡ true → is_some to ≡ true → cast_wrong to from ≡ false
     → Given n (cast_value p to from v) (is_void (cast_kind to from))
 cast-works n p to from v s g f t w =
-    elim (is_void to) as (λ b. (is_void to ≡ b) → Given n (if b then dropped p v else (if is_integer to && not (is_same_kind to from) then convert_some p to v else cast_of p v)) (is_void (cast_kind to from))) [
+    elim (is_void to) as (λ b. (is_void to ≡ b)
+    → Given n (if b then dropped p v else (if is_integer to
+    && not (is_same_kind to from) then convert_some p to v else cast_of p v)) (is_void (cast_kind to from))) [
       | true ↦ λ e. record { sound = s; gives = λ x. absurd (cast_void to from e f x) }
       | false ↦ λ e.
           let h = g (cast-scalar (is_some to) (is_void to) (is_void from) _ t e w) in
-          elim (is_integer to && not (is_same_kind to from)) as (λ c. Given n (if c then convert_some p to v else cast_of p v) (is_void (cast_kind to from))) [
+          elim (is_integer to && not (is_same_kind to from)) as (λ c. Given n (if c then convert_some p to v else
+          cast_of p v) (is_void (cast_kind to from))) [
             | true ↦ let k = some-works n p to v h s in record { sound = k.sound; gives = λ x. k.gives refl }
             | false ↦ record { sound = s; gives = λ x. h }
           ]
     ] refl
 
 -- .. words
-pub place-works : (n : ℕ) (p : Pos) (file : List Item) (w : Name) (o : Option Local) → IsBelow n o → is_slot (local_or file w.0 o) ≡ true → IsPlaceSound n (word_place p (local_or file w.0 o) w)
+pub place-works : (n : ℕ) (p : Pos) (file : List Item) (w : Name) (o : Option Local) → IsBelow n o
+    → is_slot (local_or file w.0 o) ≡ true → IsPlaceSound n (word_place p (local_or file w.0 o) w)
 place-works n p file w (Some l) b s = b
 place-works n p file w None b s =
-    elim (is_function file w.0) as (λ x. is_slot (if x then a_function else global_or file w.0 (global_kind file w.0)) ≡ true
+    elim (is_function file w.0) as (λ x. is_slot (if x then a_function else global_or file w.0
+    (global_kind file w.0)) ≡ true
     → IsPlaceSound n (word_place p (if x then a_function else global_or file w.0 (global_kind file w.0)) w)) [
       | true ↦ λ k. absurd (cc)
       | false ↦ λ k. global-place n p file w (global_kind file w.0) k
     ] s
   where
-    global-place : (n : ℕ) (p : Pos) (file : List Item) (w : Name) (g : Option ValueKind) → is_slot (global_or file w.0 g) ≡ true → IsPlaceSound n (word_place p (global_or file w.0 g) w)
+    global-place : (n : ℕ) (p : Pos) (file : List Item) (w : Name) (g : Option ValueKind)
+        → is_slot (global_or file w.0 g) ≡ true → IsPlaceSound n (word_place p (global_or file w.0 g) w)
     global-place n p file w (Some k) s = tt
     global-place n p file w None s =
         elim (is_own_static file w.0) as (λ x. is_slot (if x then a_static (static_number file w.0) else unknown) ≡ true
@@ -101,12 +120,14 @@ place-works n p file w None b s =
           | false ↦ λ k. absurd (cc)
         ] s
 
-pub read-works : (n : ℕ) (p : Pos) (k : Option ValueKind) (s : Place) (void : Bool) → (is_some k ≡ true → IsPlaceSound n s) → Given n (read_as p k s) void
+pub read-works : (n : ℕ) (p : Pos) (k : Option ValueKind) (s : Place) (void : Bool)
+    → (is_some k ≡ true → IsPlaceSound n s) → Given n (read_as p k s) void
 read-works n p None s void h = record { sound = tt; gives = λ x. refl }
 read-works n p (Some k) s void h = record { sound = h refl; gives = λ x. refl }
 
 -- a word of a kind that isn't a static is a slot
-pub word-works : (n : ℕ) (p : Pos) (w : Name) (m : Meaning) (void : Bool) → (is_slot m ≡ true → IsPlaceSound n (word_place p m w)) → Given n (word_value p w m (meaning_kind m)) void
+pub word-works : (n : ℕ) (p : Pos) (w : Name) (m : Meaning) (void : Bool)
+    → (is_slot m ≡ true → IsPlaceSound n (word_place p m w)) → Given n (word_value p w m (meaning_kind m)) void
 word-works n p w (a_static i) void h = record { sound = tt; gives = λ x. refl }
 word-works n p w (a_local l) void h = read-works n p l.kind (word_place p (a_local l) w) void (λ x. h refl)
 word-works n p w (a_global k) void h = record { sound = h refl; gives = λ x. refl }
@@ -133,29 +154,37 @@ pub record Before (n : ℕ) (env : Env) (pr : Prefix) (e : Expr) : Type 0 where
   pub good : (is_address pr && names_type_object env e) ≡ false → Good env e
   pub works : (is_address pr && names_type_object env e) ≡ false → Works n env e
 
-pub unary-works : (n : ℕ) (env : Env) (p : Pos) (k : Kind) (pr : Prefix) (e : Expr) (void : Bool) → Before n env pr e → Given n (unary_value env p k e pr (resolve env e) (place_of env e)) void
+pub unary-works : (n : ℕ) (env : Env) (p : Pos) (k : Kind) (pr : Prefix) (e : Expr) (void : Bool)
+    → Before n env pr e → Given n (unary_value env p k e pr (resolve env e) (place_of env e)) void
 unary-works n env p k prefixes.Address e void b = static-works n env p e void
 unary-works n env p k prefixes.Step e void b =
     let s = step-kept (is_place env e) (kind_of env e) (b.good refl).known b.ten b.thirteen in
     record { sound = (b.works refl).place s.0; gives = λ x. refl }
-unary-works n env p k prefixes.Sign e void b = let w = b.works refl in record { sound = (w.gives b.ten, w.sound); gives = λ x. refl }
-unary-works n env p k prefixes.Negation e void b = let w = b.works refl in record { sound = (w.gives b.ten, w.sound); gives = λ x. refl }
+unary-works n env p k prefixes.Sign e void b =
+    let w = b.works refl in record { sound = (w.gives b.ten, w.sound); gives = λ x. refl }
+unary-works n env p k prefixes.Negation e void b =
+    let w = b.works refl in record { sound = (w.gives b.ten, w.sound); gives = λ x. refl }
 unary-works n env p k prefixes.LeftOut e void b = record { sound = tt; gives = λ x. refl }
 
-pub binary-works : (n : ℕ) (p : Pos) (m : Punct) (k : Option ValueKind) (a b : Value) (void : Bool) → gives a ≡ true → IsSound n a → gives b ≡ true → IsSound n b → Given n (binary_value p m k a b) void
+pub binary-works : (n : ℕ) (p : Pos) (m : Punct) (k : Option ValueKind) (a b : Value) (void : Bool) → gives a ≡ true
+    → IsSound n a → gives b ≡ true → IsSound n b → Given n (binary_value p m k a b) void
 binary-works n p m k a b void g s h t =
-    elim (is_arithmetic m) as (λ x. Given n (if x then computed p m (or_int k) a b else (if is_order m || is_equality m then compared p m a b else joined_by p m a b)) void) [
+    elim (is_arithmetic m) as (λ x. Given n (if x then computed p m (or_int k) a b else
+    (if is_order m || is_equality m then compared p m a b else joined_by p m a b)) void) [
       | true ↦ record { sound = (g, s, h, t); gives = λ x. refl }
-      | false ↦ elim (is_order m || is_equality m) as (λ y. Given n (if y then compared p m a b else joined_by p m a b) void) [
-        | true ↦ record { sound = (g, s, h, t); gives = λ x. refl }
-        | false ↦ record { sound = (g, s, h, t); gives = λ x. refl }
-      ]
+      | false ↦ elim (is_order m || is_equality m) as (λ y. Given n (if y then compared p m a b else joined_by p m a
+          b) void) [
+            | true ↦ record { sound = (g, s, h, t); gives = λ x. refl }
+            | false ↦ record { sound = (g, s, h, t); gives = λ x. refl }
+          ]
     ]
 
-pub assign-works : (n : ℕ) (p : Pos) (m : Punct) (k from : Option ValueKind) (s : Place) (v : Value) (void : Bool) → IsPlaceSound n s → gives v ≡ true → IsSound n v → Given n (assign_value p m k from s v) void
+pub assign-works : (n : ℕ) (p : Pos) (m : Punct) (k from : Option ValueKind) (s : Place) (v : Value) (void : Bool)
+    → IsPlaceSound n s → gives v ≡ true → IsSound n v → Given n (assign_value p m k from s v) void
 assign-works n p m k from s v void h g t =
     let c = convert-works n p k from v g t in
-    elim (is_arithmetic_assign m) as (λ x. Given n (if x then updated p m (wider k from) (or_int k) s v else stored p (or_int k) s (convert p k from v)) void) [
+    elim (is_arithmetic_assign m) as (λ x. Given n (if x then updated p m (wider k from) (or_int k) s v else stored
+    p (or_int k) s (convert p k from v)) void) [
       | true ↦ record { sound = (h, g, t); gives = λ x. refl }
       | false ↦ record { sound = (h, c.gives refl, c.sound); gives = λ x. refl }
     ]
@@ -169,11 +198,13 @@ pub right_side : (bits a b x : Bool) → bits ≡ false → (not bits && (a || (
 right_side bits a b x e h = (operands bits a b x e h).1
 
 -- .. fields
-pub field-not_void : (file : List Item) (k : Option ValueKind) (w : ℕ) → is_some (field_kind file k w) ≡ true → is_void k ≡ false
+pub field-not_void : (file : List Item) (k : Option ValueKind) (w : ℕ) → is_some (field_kind file k w) ≡ true
+    → is_void k ≡ false
 field-not_void file (Some (kinds.Object (Some s))) w h = refl
 field-not_void file _ w h = absurd (cc)
 
-pub field-works : (n : ℕ) (p : Pos) (v : Value) (o : Option Name) (w : Name) → is_some o ≡ true → gives v ≡ true → IsSound n v → IsPlaceSound n (field_of p v o w)
+pub field-works : (n : ℕ) (p : Pos) (v : Value) (o : Option Name) (w : Name) → is_some o ≡ true → gives v ≡ true
+    → IsSound n v → IsPlaceSound n (field_of p v o w)
 field-works n p v None w e g s = absurd (cc)
 field-works n p v (Some t) w e g s = (g, s)
 
@@ -185,14 +216,16 @@ row-gives (forms.Special specials.NewRef) a h = refl
 row-gives (forms.Special specials.XNewRef) a h = refl
 row-gives (forms.Special _) a h = absurd (cc)
 
-pub callee-works : (n : ℕ) (env : Env) (c : Callee) (p : Pos) (w : Name) (vs : Values) → AreSound n vs → Given n (call_value p c w vs) (is_void (result_kind env c))
+pub callee-works : (n : ℕ) (env : Env) (c : Callee) (p : Pos) (w : Name) (vs : Values) → AreSound n vs
+    → Given n (call_value p c w vs) (is_void (result_kind env c))
 callee-works n env (defined d) p w vs s = record { sound = tt; gives = λ x. refl }
 callee-works n env (a_row r) p w vs s = record { sound = s; gives = row-gives r.form r.answer }
 callee-works n env no_word p w vs s = record { sound = tt; gives = λ x. refl }
 callee-works n env a_value p w vs s = record { sound = tt; gives = λ x. refl }
 callee-works n env no_function p w vs s = record { sound = tt; gives = λ x. refl }
 
-pub met-same : (w m : Bool) (k : Option ValueKind) → w ≡ true → m ≡ true → is_void (if w && m then k else None) ≡ false → is_void k ≡ false
+pub met-same : (w m : Bool) (k : Option ValueKind) → w ≡ true → m ≡ true
+    → is_void (if w && m then k else None) ≡ false → is_void k ≡ false
 met-same true true k e f h = h
 met-same _ _ k e f h = absurd (cc)
 
@@ -219,19 +252,25 @@ anything-met : (b : Bool) → not b ≡ true → b ≡ false
 anything-met false h = refl
 anything-met true h = absurd (cc)
 
-table-met : (m : Bool) (k : Option ValueKind) → (m || is_none k) ≡ true → m ≡ false → is_some k ≡ true → is_void k ≡ false
+table-met : (m : Bool) (k : Option ValueKind) → (m || is_none k) ≡ true → m ≡ false → is_some k ≡ true
+    → is_void k ≡ false
 table-met false None h e s = absurd (cc)
 table-met false (Some k) h e s = absurd (cc)
 table-met true k h e s = absurd (cc)
 
-arg-not_void : (ws : List Want) (m : Bool) (k : Option ValueKind) → first_met ws m k ≡ true → (wants_module ws && m) ≡ false → is_some k ≡ true → is_void k ≡ false
+arg-not_void : (ws : List Want) (m : Bool) (k : Option ValueKind) → first_met ws m k ≡ true
+    → (wants_module ws && m) ≡ false → is_some k ≡ true → is_void k ≡ false
 arg-not_void [] m k h e s = absurd (cc)
 arg-not_void (wanted.Anything ∷ ws) m k h e s = anything-met (is_void k) h
 arg-not_void (wanted.OfKind w ∷ ws) m k h e s = kind-met w k h
 arg-not_void (wanted.ModuleTable ∷ ws) m k h e s = table-met m k h e s
 
-pub arg-works : (n : ℕ) (env : Env) (ws : List Want) (e : Expr) (b : Bool) → (wants_module ws && is_module_address env e) ≡ b → first_met ws (is_module_address env e) (kind_of env e) ≡ true
-    → (b ≡ false → Good env e) → (b ≡ false → Works n env e) → Given n (if b then module_address e else convert (expr_pos e) (want_kind ws) (kind_of env e) (resolve env e)) false
+pub arg-works : (n : ℕ) (env : Env) (ws : List Want) (e : Expr) (b : Bool)
+    → (wants_module ws && is_module_address env e) ≡ b
+    → first_met ws (is_module_address env e) (kind_of env e) ≡ true
+    → (b ≡ false → Good env e) → (b ≡ false → Works n env e)
+    → Given n (if b then module_address e else convert (expr_pos e) (want_kind ws) (kind_of env e)
+    (resolve env e)) false
 arg-works n env ws e true t m g w = module-works n e
 arg-works n env ws e false t m g w =
     let k = arg-not_void ws (is_module_address env e) (kind_of env e) m t (g refl).known in

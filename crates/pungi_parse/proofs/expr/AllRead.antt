@@ -1,14 +1,32 @@
--- Each expression, type, declarator and list of parameters that stands at the front of the tokens is read: one case for each form.
+-- Each expression, type, declarator and list of parameters that stands at the front of the tokens is read: one case for
+-- each form.
 --   expr_steps .. params_all    the facts of a tree, by those of its parts
 use Rattle.std.proofs.Common.{true, false, List}
 use Rattle.pungi_base.specs.declared.names.Name.{Name}
-use Rattle.pungi_parse.proofs.trees.Facts.{SpecReads, ParamsReads, TypeNameReads, BaseReads, FieldReads, FieldsRead, TailReads, DeclrReads, DeclrsRead, MoreDeclrsRead, SizesRead, ParamDeclrReads, ParamDeclReads, MoreParamsRead}
-use Rattle.pungi_parse.proofs.types.ParamComplete.{param_named, param_bare, param_unused, param_reads, more_params_end, more_params_and, params_void, params_none, params_read}
-use Rattle.pungi_parse.proofs.expr.PostfixComplete.{ArgsRead, MoreArgsRead, more_args_end, more_args_and, args_end, args_and, word_steps, int_steps, float_steps, char_steps, null_steps, text_steps, paren_steps, new_steps, post_steps, call_steps, index_steps, dot_steps, arrow_steps}
+use Rattle.pungi_parse.proofs.trees.Facts.{SpecReads, ParamsReads, TypeNameReads, BaseReads, FieldReads, FieldsRead}
+use Rattle.pungi_parse.proofs.trees.Facts.{TailReads, DeclrReads, DeclrsRead, MoreDeclrsRead, SizesRead}
+use Rattle.pungi_parse.proofs.trees.Facts.{ParamDeclrReads, ParamDeclReads, MoreParamsRead}
+use Rattle.pungi_parse.proofs.types.ParamComplete.{param_named, param_bare, param_unused, param_reads, more_params_end}
+use Rattle.pungi_parse.proofs.types.ParamComplete.{more_params_and, params_void, params_none, params_read}
+use Rattle.pungi_parse.proofs.expr.PostfixComplete.{ArgsRead, MoreArgsRead, more_args_end, more_args_and, args_end}
+use Rattle.pungi_parse.proofs.expr.PostfixComplete.{args_and, word_steps, int_steps, float_steps, char_steps}
+use Rattle.pungi_parse.proofs.expr.PostfixComplete.{null_steps, text_steps, paren_steps, new_steps, post_steps}
+use Rattle.pungi_parse.proofs.expr.PostfixComplete.{call_steps, index_steps, dot_steps, arrow_steps}
 use Rattle.pungi_parse.proofs.expr.ExprSteps.{Steps, whole}
-use Rattle.pungi_parse.proofs.expr.TightComplete.{prefix_steps, sizeof_steps, casts_steps, binary_steps, conditionals_steps, assigns_steps, commas_steps}
-use Rattle.pungi_parse.proofs.types.TypeComplete.{type_name_reads, sizes_end, sizes_open, sizes_expr, tail_sizes, tail_function, declr_reads, more_declrs_end, more_declrs_and, declrs_read, no_declrs_read, field_empty, field_members, fields_end, fields_and, base_words, base_alias, base_tagged, base_fields, spec_reads}
-use Rattle.pungi_tree.specs.Syntax.{Expr, word, int, float, char, text, null, paren, unary, post, binary, assign, conditional, comma, cast, size_of_type, call, new, index, dot, arrow, Exprs, no_exprs, expr_and, TypeName, type_name, Spec, spec, Base, words, alias, tagged, tagged_fields, Field, empty, members, Fields, no_fields, field_and, Declr, declr, Declrs, no_declrs, declr_and, Tail, sizes, function, Sizes, no_sizes, open_and, size_and, Params, params, ParamDecl, param_decl, ParamDecls, no_params, param_and, ParamDeclr, named, bare, unused}
+use Rattle.pungi_parse.proofs.expr.TightComplete.{prefix_steps, sizeof_steps, casts_steps, binary_steps}
+use Rattle.pungi_parse.proofs.expr.TightComplete.{conditionals_steps, assigns_steps, commas_steps}
+use Rattle.pungi_parse.proofs.types.TypeComplete.{type_name_reads, sizes_end, sizes_open, sizes_expr, tail_sizes}
+use Rattle.pungi_parse.proofs.types.TypeComplete.{tail_function, declr_reads, more_declrs_end, more_declrs_and}
+use Rattle.pungi_parse.proofs.types.TypeComplete.{declrs_read, no_declrs_read, field_empty, field_members, fields_end}
+use Rattle.pungi_parse.proofs.types.TypeComplete.{fields_and, base_words, base_alias, base_tagged, base_fields}
+use Rattle.pungi_parse.proofs.types.TypeComplete.{spec_reads}
+use Rattle.pungi_tree.specs.Syntax.{Expr, word, int, float, char, text, null, paren, unary, post, binary, assign}
+use Rattle.pungi_tree.specs.Syntax.{conditional, comma, cast, size_of_type, call, new, index, dot, arrow, Exprs}
+use Rattle.pungi_tree.specs.Syntax.{no_exprs, expr_and, TypeName, type_name, Spec, spec, Base, words, alias, tagged}
+use Rattle.pungi_tree.specs.Syntax.{tagged_fields, Field, empty, members, Fields, no_fields, field_and, Declr, declr}
+use Rattle.pungi_tree.specs.Syntax.{Declrs, no_declrs, declr_and, Tail, sizes, function, Sizes, no_sizes, open_and}
+use Rattle.pungi_tree.specs.Syntax.{size_and, Params, params, ParamDecl, param_decl, ParamDecls, no_params, param_and}
+use Rattle.pungi_tree.specs.Syntax.{ParamDeclr, named, bare, unused}
 
 module _ (types : List Name) where
   mutual
@@ -24,7 +42,8 @@ module _ (types : List Name) where
     expr_steps (post p m e) = post_steps types p m e (expr_steps e)
     expr_steps (binary p m a b) = binary_steps types p m a b (expr_steps a) (whole types b (expr_steps b))
     expr_steps (assign p m a b) = assigns_steps types p m a b (expr_steps a) (whole types b (expr_steps b))
-    expr_steps (conditional p a b c) = conditionals_steps types p a b c (expr_steps a) (whole types b (expr_steps b)) (whole types c (expr_steps c))
+    expr_steps (conditional p a b c) = conditionals_steps types p a b c (expr_steps a)
+        (whole types b (expr_steps b)) (whole types c (expr_steps c))
     expr_steps (comma p a b) = commas_steps types p a b (expr_steps a) (whole types b (expr_steps b))
     expr_steps (cast p t e) = casts_steps types p t e (type_name_all t) (whole types e (expr_steps e))
     expr_steps (size_of_type p t) = sizeof_steps types p t (type_name_all t)
@@ -85,7 +104,8 @@ module _ (types : List Name) where
     pub params_all : (ps : Params) → ParamsReads types ps
     params_all (params ds true dots) = params_void types ds dots
     params_all (params no_params false dots) = params_none types dots
-    params_all (params (param_and d ds) false dots) = params_read types d ds dots (param_decl_all d) (more_params_all ds)
+    params_all (params (param_and d ds) false dots) = params_read types d ds dots (param_decl_all d)
+        (more_params_all ds)
 
     param_decl_all : (d : ParamDecl) → ParamDeclReads types d
     param_decl_all (param_decl qs c d) = param_reads types qs c d (spec_all c) (param_declr_all d)

@@ -1,6 +1,8 @@
 -- Reading an expression of a level by the case that the level is.
---   read_at_comma, read_at_assign, read_at_conditional, read_at_climb, read_at_unary    the levels 0, 1, 2, 3 to 13, and from 14 on
---   expr_none, expr_flat, expr_some, spec_none, spec_some, params_none, params_some    nothing where no node may be nested, else what is read one level in
+--   read_at_comma, read_at_assign, read_at_conditional, read_at_climb, read_at_unary    the levels 0, 1, 2, 3 to 13,
+--   and from 14 on
+--   expr_none, expr_flat, expr_some, spec_none, spec_some, params_none, params_some    nothing where no node may be
+--   nested, else what is read one level in
 use Rattle.std.proofs.Common.{◌≡◌, ℕ, zero, suc, ◌-◌, ◌<◌, ◌≤◌, List, None, refl, sub-one, arith}
 use Rattle.pungi_base.specs.declared.names.Name.{Name}
 use Rattle.pungi_parse.specs.expr.ExprReader.{read_at, comma_at, assign_at, conditional_at, climb, unary, expr_at}
@@ -48,7 +50,8 @@ module _ (types : List Name) where
   expr_flat (suc n) zero l ts h = refl
   expr_flat (suc n) (suc d) l ts h = absurd (omega arith)
 
-  pub expr_some : (n d l : ℕ) (ts : List Placed) → 0 < n → 0 < d → (readers types n d).expr l ts ≡ read_at types (readers types (n - 1) (d - 1)) (suc (d - 1)) l ts
+  pub expr_some : (n d l : ℕ) (ts : List Placed) → 0 < n → 0 < d
+      → (readers types n d).expr l ts ≡ read_at types (readers types (n - 1) (d - 1)) (suc (d - 1)) l ts
   unfolding readers expr_at
   expr_some zero d l ts h g = absurd (omega arith)
   expr_some (suc n) zero l ts h g = absurd (omega arith)
@@ -59,7 +62,8 @@ module _ (types : List Name) where
   spec_none zero d ts h = refl
   spec_none (suc n) d ts h = absurd (omega arith)
 
-  pub spec_some : (n d : ℕ) (ts : List Placed) → 0 < n → (readers types n d).spec ts ≡ spec_at types (readers types (n - 1) d) ts
+  pub spec_some : (n d : ℕ) (ts : List Placed) → 0 < n
+      → (readers types n d).spec ts ≡ spec_at types (readers types (n - 1) d) ts
   unfolding readers
   spec_some zero d ts h = absurd (omega arith)
   spec_some (suc n) d ts h = rw sub-one refl
@@ -69,7 +73,8 @@ module _ (types : List Name) where
   params_none zero d ts h = refl
   params_none (suc n) d ts h = absurd (omega arith)
 
-  pub params_some : (n d : ℕ) (ts : List Placed) → 0 < n → (readers types n d).params ts ≡ params_at types (readers types (n - 1) d) ts
+  pub params_some : (n d : ℕ) (ts : List Placed) → 0 < n
+      → (readers types n d).params ts ≡ params_at types (readers types (n - 1) d) ts
   unfolding readers
   params_some zero d ts h = absurd (omega arith)
   params_some (suc n) d ts h = rw sub-one refl

@@ -1,5 +1,6 @@
 -- What reading is to give: a tree that stands at the front of the tokens, is allowed, and is no deeper than it may be.
---   ReadsExpr, ReadsSpec, ReadsTypeName, ReadsParams, ReadsDeclr    an expression of a level, a type without its pointers, a type, parameters with their
+--   ReadsExpr, ReadsSpec, ReadsTypeName, ReadsParams, ReadsDeclr    an expression of a level, a type without its
+--                                                                   pointers, a type, parameters with their
 --                     closing parenthesis, a declarator
 use Rattle.std.proofs.Common.{◌≡◌, ℕ, ◌≤◌, true, List, ◌∷◌}
 use Rattle.pungi_base.specs.declared.names.Name.{Name}

@@ -4,18 +4,24 @@ use Rattle.pungi_base.specs.declared.key.Key.TheVariants as keys
 use Rattle.pungi_base.specs.declared.names.Name.{Name}
 use Rattle.pungi_base.specs.declared.pos.Pos.{Pos}
 use Rattle.pungi_base.specs.declared.punct.Punct.TheVariants as puncts
-use Rattle.pungi_parse.specs.stmt.Begun.{Head, Begun, whole, braced, branched, headed, while_head, do_head, for_head, switch_head, case_head, default_head, label_head, branch_front, while_front, for_head_at, for_front, switch_front, case_front, default_front, whole_at, label_or_whole, begin_at, do_end, finish_at, branch_rest, go_on}
+use Rattle.pungi_parse.specs.stmt.Begun.{Head, Begun, whole, braced, branched, headed, while_head, do_head, for_head}
+use Rattle.pungi_parse.specs.stmt.Begun.{switch_head, case_head, default_head, label_head, branch_front, while_front}
+use Rattle.pungi_parse.specs.stmt.Begun.{for_head_at, for_front, switch_front, case_front, default_front, whole_at}
+use Rattle.pungi_parse.specs.stmt.Begun.{label_or_whole, begin_at, do_end, finish_at, branch_rest, go_on}
 use Rattle.pungi_parse.specs.tokens.OneToken.{eat, eat_key}
 use Rattle.pungi_parse.specs.Gives.{Fails}
 use Rattle.pungi_parse.specs.Reading.{Read, ◌>>=◌, chain, on_some}
-use Rattle.pungi_parse.specs.stmt.StmtReader.{optional, condition, start_at, label_front, jump_or_expression, label_or_jump, block_at, if_at, while_at, do_at, for_at, switch_at, case_at, default_at, label_at, stmt_at}
+use Rattle.pungi_parse.specs.stmt.StmtReader.{optional, condition, start_at, label_front, jump_or_expression}
+use Rattle.pungi_parse.specs.stmt.StmtReader.{label_or_jump, block_at, if_at, while_at, do_at, for_at, switch_at}
+use Rattle.pungi_parse.specs.stmt.StmtReader.{case_at, default_at, label_at, stmt_at}
 use Rattle.pungi_parse.specs.types.TypeReader.{Lower}
 use Rattle.pungi_parse.specs.declared.stop.Stop.{Stop}
 use Rattle.pungi_parse.specs.declared.stop.Stop.TheVariants as stops
 use Rattle.pungi_tree.specs.Placed.{Placed}
 use Rattle.pungi_tree.specs.Syntax.{Stmt}
 
-chain_then : {A B C : Type 0} (o : Option A) (f : A → Option B) (g : B → Option C) (h : A → Option C) → ((x : A) → chain (f x) g ≡ h x) → chain (chain o f) g ≡ chain o h
+chain_then : {A B C : Type 0} (o : Option A) (f : A → Option B) (g : B → Option C) (h : A → Option C)
+    → ((x : A) → chain (f x) g ≡ h x) → chain (chain o f) g ≡ chain o h
 unfolding chain
 chain_then None f g h e = refl
 chain_then (Some x) f g h e = e x
@@ -24,7 +30,8 @@ some_then : {A B : Type 0} (x : A) (g : A → Option B) → chain (Some x) g ≡
 unfolding chain
 some_then x g = refl
 
-choice_then : {A B C : Type 0} (o : Option A) (f : A → Option B) (b : Option B) (g : B → Option C) (h : A → Option C) (c : Option C)
+choice_then : {A B C : Type 0} (o : Option A) (f : A → Option B) (b : Option B) (g : B → Option C)
+    (h : A → Option C) (c : Option C)
     → ((x : A) → chain (f x) g ≡ h x) → chain b g ≡ c → chain (on_some o f b) g ≡ on_some o h c
 unfolding on_some
 choice_then None f b g h c e d = d
@@ -34,11 +41,13 @@ module _ (types : List Name) (low : Lower) (stmt element : List Placed → Read 
   abbrev Rest : Begun × List Placed → Read Stmt
   Rest x = go_on types low stmt element x.0 x.1
 
-  branch_goes : (p : Pos) (ts : List Placed) → chain (branch_front types low p ts) Rest ≡ if_at types low stmt element p ts
+  branch_goes : (p : Pos) (ts : List Placed)
+      → chain (branch_front types low p ts) Rest ≡ if_at types low stmt element p ts
   unfolding branch_front if_at branch_rest
   branch_goes p ts = chain_then (condition types low ts) _ Rest _ (λ e. some_then (branched p e.0, e.1) Rest)
 
-  while_goes : (p : Pos) (ts : List Placed) → chain (while_front types low p ts) Rest ≡ while_at types low stmt element p ts
+  while_goes : (p : Pos) (ts : List Placed)
+      → chain (while_front types low p ts) Rest ≡ while_at types low stmt element p ts
   unfolding while_front while_at
   while_goes p ts = chain_then (condition types low ts) _ Rest _ (λ e. some_then (headed p (while_head e.0), e.1) Rest)
 
@@ -57,24 +66,31 @@ module _ (types : List Name) (low : Lower) (stmt element : List Placed → Read 
       chain_then (optional types low puncts.RightParen b.1) _ Then _ (λ c.
       some_then (for_head a.0 b.0 c.0, c.1) Then))))
 
-  switch_goes : (p : Pos) (ts : List Placed) → chain (switch_front types low p ts) Rest ≡ switch_at types low stmt element p ts
+  switch_goes : (p : Pos) (ts : List Placed)
+      → chain (switch_front types low p ts) Rest ≡ switch_at types low stmt element p ts
   unfolding switch_front switch_at
-  switch_goes p ts = chain_then (condition types low ts) _ Rest _ (λ e. some_then (headed p (switch_head e.0), e.1) Rest)
+  switch_goes p ts = chain_then (condition types low ts) _ Rest _ (λ e. some_then (headed p (switch_head e.0), e.1)
+      Rest)
 
-  case_goes : (p : Pos) (ts : List Placed) → chain (case_front types low p ts) Rest ≡ case_at types low stmt element p ts
+  case_goes : (p : Pos) (ts : List Placed)
+      → chain (case_front types low p ts) Rest ≡ case_at types low stmt element p ts
   unfolding case_front case_at
   case_goes p ts =
-      chain_then (low.expr 2 ts) _ Rest _ (λ e. chain_then (eat puncts.Colon e.1) _ Rest _ (λ c. some_then (headed p (case_head e.0), c.1) Rest))
+      chain_then (low.expr 2 ts) _ Rest _ (λ e. chain_then (eat puncts.Colon e.1) _ Rest _
+      (λ c. some_then (headed p (case_head e.0), c.1) Rest))
 
-  default_goes : (p : Pos) (ts : List Placed) → chain (default_front types low p ts) Rest ≡ default_at types low stmt element p ts
+  default_goes : (p : Pos) (ts : List Placed)
+      → chain (default_front types low p ts) Rest ≡ default_at types low stmt element p ts
   unfolding default_front default_at
   default_goes p ts = chain_then (eat puncts.Colon ts) _ Rest _ (λ c. some_then (headed p default_head, c.1) Rest)
 
-  label_goes : (w : Name × Pos × List Placed) → chain (Some (headed w.1 (label_head w.0), w.2)) Rest ≡ label_at types low stmt element w.1 w.0 w.2
+  label_goes : (w : Name × Pos × List Placed)
+      → chain (Some (headed w.1 (label_head w.0), w.2)) Rest ≡ label_at types low stmt element w.1 w.0 w.2
   unfolding label_at
   label_goes w = some_then (headed w.1 (label_head w.0), w.2) Rest
 
-  whole_goes : (ts : List Placed) → chain (whole_at types low stmt element ts) Rest ≡ jump_or_expression types low stmt element ts
+  whole_goes : (ts : List Placed) → chain (whole_at types low stmt element ts) Rest
+      ≡ jump_or_expression types low stmt element ts
   unfolding whole_at chain
   whole_goes ts = read_again (jump_or_expression types low stmt element ts)
     where
@@ -82,14 +98,16 @@ module _ (types : List Name) (low : Lower) (stmt element : List Placed → Read 
       read_again None = refl
       read_again (Some x) = refl
 
-  label_or_whole_goes : (ts : List Placed) → chain (label_or_whole types low stmt element ts) Rest ≡ label_or_jump types low stmt element ts
+  label_or_whole_goes : (ts : List Placed)
+      → chain (label_or_whole types low stmt element ts) Rest ≡ label_or_jump types low stmt element ts
   unfolding label_or_whole label_or_jump
   label_or_whole_goes ts =
       choice_then (eat_key keys.Case ts) _ _ Rest _ _ (λ k. case_goes k.0 k.1)
       (choice_then (eat_key keys.Default ts) _ _ Rest _ _ (λ k. default_goes k.0 k.1)
       (choice_then (label_front types low ts) _ _ Rest _ _ label_goes (whole_goes ts)))
 
-  pub begun_goes : (ts : List Placed) → chain (begin_at types low stmt element ts) Rest ≡ stmt_at types low stmt element ts
+  pub begun_goes : (ts : List Placed) → chain (begin_at types low stmt element ts) Rest
+      ≡ stmt_at types low stmt element ts
   unfolding begin_at stmt_at
   begun_goes ts =
       choice_then (eat puncts.LeftBrace ts) _ _ Rest _ _ (λ o. some_then (braced o.0, o.1) Rest)
@@ -100,13 +118,16 @@ module _ (types : List Name) (low : Lower) (stmt element : List Placed → Read 
       (choice_then (eat_key keys.Switch ts) _ _ Rest _ _ (λ k. switch_goes k.0 k.1) (label_or_whole_goes ts))))))
 
   -- what is begun goes on as the whole statement does
-  pub begun_is : (ts : List Placed) (b : Begun) (rest : List Placed) → begin_at types low stmt element ts ≡ Some (b, rest) → go_on types low stmt element b rest ≡ stmt_at types low stmt element ts
+  pub begun_is : (ts : List Placed) (b : Begun) (rest : List Placed)
+      → begin_at types low stmt element ts ≡ Some (b, rest)
+      → go_on types low stmt element b rest ≡ stmt_at types low stmt element ts
   begun_is ts b rest h = sym (some_then (b, rest) Rest) ∙ ap (λ (o : Read Begun). chain o Rest) (sym h) ∙ begun_goes ts
 
   none_then : chain None Rest ≡ None
   unfolding chain
   none_then = refl
 
-  pub none_begun : (ts : List Placed) (e : Stop) → Fails e (begin_at types low stmt element ts) → Fails e (stmt_at types low stmt element ts)
+  pub none_begun : (ts : List Placed) (e : Stop) → Fails e (begin_at types low stmt element ts)
+      → Fails e (stmt_at types low stmt element ts)
   none_begun ts stops.Memory h = tt
   none_begun ts stops.NothingRead h = sym (begun_goes ts) ∙ ap (λ (o : Read Begun). chain o Rest) h ∙ none_then

@@ -17,12 +17,20 @@ pub record ReadsTable (awaited : List Punct) (ts : List Placed) (x : List Placed
   pub stands : ts ≡ x.0 ++ mark_at puncts.RightBrace close ∷ x.1
   pub closed : closes x.0 awaited ≡ true
 
-one_more : (awaited after : List Punct) (t : Placed) (ts : List Placed) (more x : List Placed × List Placed) → awaited_after t.0 awaited ≡ Some after → ReadsTable after ts more → Some (t ∷ more.0, more.1) ≡ Some x → ReadsTable awaited (t ∷ ts) x
+one_more : (awaited after : List Punct) (t : Placed) (ts : List Placed) (more x : List Placed × List Placed)
+    → awaited_after t.0 awaited ≡ Some after → ReadsTable after ts more → Some (t ∷ more.0, more.1) ≡ Some x
+    → ReadsTable awaited (t ∷ ts) x
 one_more awaited after t ts more x a r h =
     subst (ReadsTable awaited (t ∷ ts)) (some_same (t ∷ more.0, more.1) x h)
-    (record { close = r.close; stands = ap (λ z. t ∷ z) r.stands; closed = ap (λ o. holds_of o (closes more.0)) a ∙ r.closed })
+    (record {
+      close = r.close;
+      stands = ap (λ z. t ∷ z) r.stands;
+      closed = ap (λ o. holds_of o (closes more.0)) a
+          ∙ r.closed;
+    })
 
-pub table_sound : (awaited : List Punct) (ts : List Placed) (x : List Placed × List Placed) → table_in awaited ts ≡ Some x → ReadsTable awaited ts x
+pub table_sound : (awaited : List Punct) (ts : List Placed) (x : List Placed × List Placed)
+    → table_in awaited ts ≡ Some x → ReadsTable awaited ts x
 unfolding table_in
 table_sound awaited [] x h = absurd (cc)
 table_sound (m ∷ ms) (t ∷ ts) x h =
@@ -40,23 +48,28 @@ table_sound [] (t ∷ ts) x h = elim (on_some_cases _ _ _ _ h) [
 ]
 
 -- where one bracket of a table was read, the others close what is awaited then
-after_one : (o : Option (List Punct)) (test : List Punct → Bool) → holds_of o test ≡ true → (after : List Punct) × (o ≡ Some after) × (test after ≡ true)
+after_one : (o : Option (List Punct)) (test : List Punct → Bool) → holds_of o test ≡ true
+    → (after : List Punct) × (o ≡ Some after) × (test after ≡ true)
 after_one None test h = absurd (cc)
 after_one (Some after) test h = (after, refl, h)
 
 -- a brace that is awaited by nothing is no part of a table
-no_brace : (t : Placed) (ts : List Placed) (after : List Punct) → awaited_after t.0 [] ≡ Some after → eat puncts.RightBrace (t ∷ ts) ≡ None
+no_brace : (t : Placed) (ts : List Placed) (after : List Punct) → awaited_after t.0 [] ≡ Some after
+    → eat puncts.RightBrace (t ∷ ts) ≡ None
 no_brace t ts after h = by_what (eat puncts.RightBrace (t ∷ ts)) refl
   where
-    by_what : (o : Option (Pos × List Placed)) → eat puncts.RightBrace (t ∷ ts) ≡ o → eat puncts.RightBrace (t ∷ ts) ≡ None
+    by_what : (o : Option (Pos × List Placed)) → eat puncts.RightBrace (t ∷ ts) ≡ o
+        → eat puncts.RightBrace (t ∷ ts) ≡ None
     by_what None e = e
     by_what (Some x) e =
         let s : t ∷ ts ≡ mark_at puncts.RightBrace x.0 ∷ x.1 = eat_some puncts.RightBrace (t ∷ ts) x e in
         let k : t ≡ mark_at puncts.RightBrace x.0 = cc in
-        let n : awaited_after (mark_at puncts.RightBrace x.0).0 [] ≡ Some after = subst (λ z. awaited_after z.0 [] ≡ Some after) k h in
+        let n : awaited_after (mark_at puncts.RightBrace x.0).0 []
+        ≡ Some after = subst (λ z. awaited_after z.0 [] ≡ Some after) k h in
         absurd (cc)
 
-pub table_complete : (awaited : List Punct) (ks rest : List Placed) (q : Pos) → closes ks awaited ≡ true → table_in awaited (ks ++ mark_at puncts.RightBrace q ∷ rest) ≡ Some (ks, rest)
+pub table_complete : (awaited : List Punct) (ks rest : List Placed) (q : Pos) → closes ks awaited ≡ true
+    → table_in awaited (ks ++ mark_at puncts.RightBrace q ∷ rest) ≡ Some (ks, rest)
 unfolding table_in chain on_some
 table_complete [] [] rest q h = refl
 table_complete (m ∷ ms) [] rest q h = absurd (cc)

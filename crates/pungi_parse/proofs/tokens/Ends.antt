@@ -50,23 +50,108 @@ pub record DeclrEnds (rest : List Placed) : Type 0 where
   pub no_size : eat puncts.LeftBracket rest ≡ None
 
 pub ends_at_paren : (q : Pos) (ts : List Placed) → ExprEnds 0 (mark_at puncts.RightParen q ∷ ts)
-ends_at_paren q ts = record { no_postfix = record { no_text = refl; no_call = refl; no_index = refl; no_dot = refl; no_arrow = refl; no_step = refl }; no_operator = refl; no_question = λ _. refl; no_assign = λ _. refl; no_comma = λ _. refl }
+ends_at_paren q ts =
+    record {
+      no_postfix = record {
+        no_text = refl;
+        no_call = refl;
+        no_index = refl;
+        no_dot = refl;
+        no_arrow = refl;
+        no_step = refl;
+      };
+      no_operator = refl;
+      no_question = λ _. refl;
+      no_assign = λ _. refl;
+      no_comma = λ _. refl;
+    }
 
 pub ends_at_bracket : (q : Pos) (ts : List Placed) → ExprEnds 0 (mark_at puncts.RightBracket q ∷ ts)
-ends_at_bracket q ts = record { no_postfix = record { no_text = refl; no_call = refl; no_index = refl; no_dot = refl; no_arrow = refl; no_step = refl }; no_operator = refl; no_question = λ _. refl; no_assign = λ _. refl; no_comma = λ _. refl }
+ends_at_bracket q ts =
+    record {
+      no_postfix = record {
+        no_text = refl;
+        no_call = refl;
+        no_index = refl;
+        no_dot = refl;
+        no_arrow = refl;
+        no_step = refl;
+      };
+      no_operator = refl;
+      no_question = λ _. refl;
+      no_assign = λ _. refl;
+      no_comma = λ _. refl;
+    }
 
 pub ends_at_semicolon : (q : Pos) (ts : List Placed) → ExprEnds 0 (mark_at puncts.Semicolon q ∷ ts)
-ends_at_semicolon q ts = record { no_postfix = record { no_text = refl; no_call = refl; no_index = refl; no_dot = refl; no_arrow = refl; no_step = refl }; no_operator = refl; no_question = λ _. refl; no_assign = λ _. refl; no_comma = λ _. refl }
+ends_at_semicolon q ts =
+    record {
+      no_postfix = record {
+        no_text = refl;
+        no_call = refl;
+        no_index = refl;
+        no_dot = refl;
+        no_arrow = refl;
+        no_step = refl;
+      };
+      no_operator = refl;
+      no_question = λ _. refl;
+      no_assign = λ _. refl;
+      no_comma = λ _. refl;
+    }
 
 pub ends_at_colon : (q : Pos) (ts : List Placed) → ExprEnds 0 (mark_at puncts.Colon q ∷ ts)
-ends_at_colon q ts = record { no_postfix = record { no_text = refl; no_call = refl; no_index = refl; no_dot = refl; no_arrow = refl; no_step = refl }; no_operator = refl; no_question = λ _. refl; no_assign = λ _. refl; no_comma = λ _. refl }
+ends_at_colon q ts =
+    record {
+      no_postfix = record {
+        no_text = refl;
+        no_call = refl;
+        no_index = refl;
+        no_dot = refl;
+        no_arrow = refl;
+        no_step = refl;
+      };
+      no_operator = refl;
+      no_question = λ _. refl;
+      no_assign = λ _. refl;
+      no_comma = λ _. refl;
+    }
 
 pub ends_at_comma : (q : Pos) (ts : List Placed) → ExprEnds 1 (mark_at puncts.Comma q ∷ ts)
-ends_at_comma q ts = record { no_postfix = record { no_text = refl; no_call = refl; no_index = refl; no_dot = refl; no_arrow = refl; no_step = refl }; no_operator = refl; no_question = λ _. refl; no_assign = λ _. refl; no_comma = λ h. absurd (omega (arith, h)) }
+ends_at_comma q ts =
+    record {
+      no_postfix = record {
+        no_text = refl;
+        no_call = refl;
+        no_index = refl;
+        no_dot = refl;
+        no_arrow = refl;
+        no_step = refl;
+      };
+      no_operator = refl;
+      no_question = λ _. refl;
+      no_assign = λ _. refl;
+      no_comma = λ h. absurd
+          (omega (arith, h));
+    }
 
 -- what stops an expression of level 0 stops one of level 1 or 2 too
 pub ends_at_assignment : (ts : List Placed) → ExprEnds 0 ts → ExprEnds 1 ts
-ends_at_assignment ts e = record { no_postfix = e.no_postfix; no_operator = e.no_operator; no_question = λ _. e.no_question (omega arith); no_assign = λ _. e.no_assign (omega arith); no_comma = λ h. absurd (omega (arith, h)) }
+ends_at_assignment ts e =
+    record {
+      no_postfix = e.no_postfix;
+      no_operator = e.no_operator;
+      no_question = λ _. e.no_question (omega arith);
+      no_assign = λ _. e.no_assign (omega arith);
+      no_comma = λ h. absurd (omega (arith, h));
+    }
 
 pub ends_at_conditional : (ts : List Placed) → ExprEnds 0 ts → ExprEnds 2 ts
-ends_at_conditional ts e = record { no_postfix = e.no_postfix; no_operator = e.no_operator; no_question = λ _. e.no_question (omega arith); no_assign = λ h. absurd (omega (arith, h)); no_comma = λ h. absurd (omega (arith, h)) }
+ends_at_conditional ts e =
+    record {
+      no_postfix = e.no_postfix;
+      no_operator = e.no_operator;
+      no_question = λ _. e.no_question (omega arith);
+      no_assign = λ h. absurd (omega (arith, h));
+      no_comma = λ h. absurd (omega (arith, h));
+    }

@@ -1,6 +1,7 @@
 -- What stands at the front of the tokens of a tree, said by the tests of the readers.
 --   is_expr_key k, is_expr_mark m    an expression may begin with this keyword, with this punctuator
---   ExprBegins types ts    tokens with which an expression begins: no declaration, and no keyword or punctuator that begins none
+--   ExprBegins types ts    tokens with which an expression begins: no declaration, and no keyword or punctuator that
+--                          begins none
 --   TypeBegins types ts    tokens with which a type begins
 --   DeclBegins types ts    tokens with which a declaration begins
 use Rattle.std.proofs.Common.{◌≡◌, Bool, true, false, List, None}

@@ -19,7 +19,8 @@ use Rattle.pungi_parse.proofs.Tools.{le_true, le_from, and_true, and_join}
 use Rattle.pungi_tree.specs.ExprDepth.{expr_depth}
 use Rattle.pungi_tree.specs.ExprLevels.{expr_at}
 use Rattle.pungi_tree.specs.Operators.{binary_level, prefix_need, prefix_mark_need, prefix_key_need, level}
-use Rattle.pungi_tree.specs.Syntax.{Expr, word, int, float, char, text, null, paren, unary, post, binary, assign, conditional, comma, cast, size_of_type, call, new, index, dot, arrow}
+use Rattle.pungi_tree.specs.Syntax.{Expr, word, int, float, char, text, null, paren, unary, post, binary, assign}
+use Rattle.pungi_tree.specs.Syntax.{conditional, comma, cast, size_of_type, call, new, index, dot, arrow}
 
 zero_le : (n : ℕ) → nat_le 0 n ≡ true
 zero_le n = le_true 0 n (omega arith)
@@ -28,7 +29,8 @@ and_one : (b : Bool) → b ≡ (b && true)
 and_one true = refl
 and_one false = refl
 
-pub binary_far : (m : Punct) → (3 ≤ binary_level m) × (binary_level m ≤ 100) × (binary_level m < 100 → binary_level m ≤ 12)
+pub binary_far : (m : Punct) → (3 ≤ binary_level m) × (binary_level m ≤ 100)
+    × (binary_level m < 100 → binary_level m ≤ 12)
 binary_far puncts.LeftParen = (omega arith, omega arith, λ h. omega (arith, h))
 binary_far puncts.RightParen = (omega arith, omega arith, λ h. omega (arith, h))
 binary_far puncts.LeftBracket = (omega arith, omega arith, λ h. omega (arith, h))
@@ -244,20 +246,25 @@ module _ (types : List Name) where
   at_looser l m e h k = at_join l e (omega (arith, h, at_level m e k)) (at_whole m e k)
 
   -- an operator of an allowed expression is a binary one
-  pub binary_bounds : (m : Punct) (b : Expr) → expr_at types (binary_level m + 1) b ≡ true → (3 ≤ binary_level m) × (binary_level m ≤ 12)
+  pub binary_bounds : (m : Punct) (b : Expr) → expr_at types (binary_level m + 1) b ≡ true
+      → (3 ≤ binary_level m) × (binary_level m ≤ 12)
   binary_bounds m b h =
       let far = binary_far m in
       let over = at_level (binary_level m + 1) b h in
       let most = level_far b in
       (far.0, far.2 (omega arith))
 
-  pub binary_parts : (l : ℕ) (p : Pos) (m : Punct) (a b : Expr) → expr_at types l (binary p m a b) ≡ true → (l ≤ binary_level m) × (expr_at types (binary_level m) a ≡ true) × (expr_at types (binary_level m + 1) b ≡ true)
+  pub binary_parts : (l : ℕ) (p : Pos) (m : Punct) (a b : Expr) → expr_at types l (binary p m a b) ≡ true
+      → (l ≤ binary_level m) × (expr_at types (binary_level m) a ≡ true)
+      × (expr_at types (binary_level m + 1) b ≡ true)
   binary_parts l p m a b h =
-      let s = and_true (nat_le l (binary_level m)) (expr_at types (binary_level m) a && expr_at types (binary_level m + 1) b) h in
+      let s = and_true (nat_le l (binary_level m)) (expr_at types (binary_level m) a
+      && expr_at types (binary_level m + 1) b) h in
       let t = and_true (expr_at types (binary_level m) a) (expr_at types (binary_level m + 1) b) s.1 in
       (le_from _ _ s.0, t.0, t.1)
 
-  binary_bound : (l : ℕ) (p : Pos) (m : Punct) (a b : Expr) → expr_at types l (binary p m a b) ≡ true → binary_level m ≤ 16
+  binary_bound : (l : ℕ) (p : Pos) (m : Punct) (a b : Expr) → expr_at types l (binary p m a b) ≡ true
+      → binary_level m ≤ 16
   binary_bound l p m a b h = let c = binary_bounds m b (binary_parts l p m a b h).2 in omega arith
 
   pub level_bound : (l : ℕ) (e : Expr) → expr_at types l e ≡ true → level e ≤ 16
@@ -293,7 +300,8 @@ module _ (types : List Name) where
   need_bound kind.Header h = absurd (omega (arith, h))
 
   -- what a prefix operator is, by its operand
-  pub prefix_bound : (k : Kind) (e : Expr) → expr_at types (prefix_need k) e ≡ true → (13 ≤ prefix_need k) × (prefix_need k ≤ 14)
+  pub prefix_bound : (k : Kind) (e : Expr) → expr_at types (prefix_need k) e ≡ true
+      → (13 ≤ prefix_need k) × (prefix_need k ≤ 14)
   prefix_bound k e h =
       let under = at_level (prefix_need k) e h in
       let most = level_bound (prefix_need k) e h in

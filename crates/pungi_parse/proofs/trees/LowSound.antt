@@ -2,7 +2,8 @@
 --   Gets stands ok deep most    what stands there is allowed and no deeper than it may be
 --   GetsExpr types d l ts x     an expression of a level, after which no operator binds as tightly
 --   GetsTypeName .. GetsParams  the type of the same name
---   LowSound types d low        what the readers `low` read stands there, and has at most `d` nodes of expressions on a path
+--   LowSound types d low        what the readers `low` read stands there, and has at most `d` nodes of expressions on a
+--                               path
 use Rattle.std.proofs.Common.{◌≡◌, ℕ, ◌≤◌, Bool, true, List, ◌∷◌, Option, Some, None}
 use Rattle.pungi_base.specs.declared.names.Name.{Name}
 use Rattle.pungi_base.specs.declared.pos.Pos.{Pos}
@@ -10,11 +11,18 @@ use Rattle.pungi_base.specs.declared.punct.Punct.TheVariants as puncts
 use Rattle.pungi_parse.specs.tokens.OneToken.{eat_operator}
 use Rattle.pungi_parse.specs.types.TypeReader.{Lower}
 use Rattle.pungi_parse.proofs.tokens.Ends.{at_least}
-use Rattle.pungi_tree.specs.ExprDepth.{expr_depth, type_name_depth, spec_depth, base_depth, field_depth, fields_depth, declr_depth, declrs_depth, sizes_depth, params_depth, param_decl_depth, param_decls_depth, param_declr_depth}
-use Rattle.pungi_tree.specs.ExprLevels.{expr_at, type_name_ok, spec_ok, base_ok, field_ok, fields_ok, declr_ok, declrs_ok, some_declrs_ok, sizes_ok, params_ok, param_decl_ok, param_decls_ok, param_declr_ok}
-use Rattle.pungi_tree.specs.ExprSpells.{Spells, SpellsTypeName, SpellsSpec, SpellsBase, SpellsField, SpellsFields, SpellsDeclr, SpellsDeclrs, SpellsMoreDeclrs, SpellsSizes, SpellsParams, SpellsParamDecl, SpellsMoreParamDecls, SpellsParamDeclr, SpellsDots}
+use Rattle.pungi_tree.specs.ExprDepth.{expr_depth, type_name_depth, spec_depth, base_depth, field_depth, fields_depth}
+use Rattle.pungi_tree.specs.ExprDepth.{declr_depth, declrs_depth, sizes_depth, params_depth, param_decl_depth}
+use Rattle.pungi_tree.specs.ExprDepth.{param_decls_depth, param_declr_depth}
+use Rattle.pungi_tree.specs.ExprLevels.{expr_at, type_name_ok, spec_ok, base_ok, field_ok, fields_ok, declr_ok}
+use Rattle.pungi_tree.specs.ExprLevels.{declrs_ok, some_declrs_ok, sizes_ok, params_ok, param_decl_ok, param_decls_ok}
+use Rattle.pungi_tree.specs.ExprLevels.{param_declr_ok}
+use Rattle.pungi_tree.specs.ExprSpells.{Spells, SpellsTypeName, SpellsSpec, SpellsBase, SpellsField, SpellsFields}
+use Rattle.pungi_tree.specs.ExprSpells.{SpellsDeclr, SpellsDeclrs, SpellsMoreDeclrs, SpellsSizes, SpellsParams}
+use Rattle.pungi_tree.specs.ExprSpells.{SpellsParamDecl, SpellsMoreParamDecls, SpellsParamDeclr, SpellsDots}
 use Rattle.pungi_tree.specs.Placed.{Placed, mark_at}
-use Rattle.pungi_tree.specs.Syntax.{Expr, TypeName, Spec, Base, Field, Fields, Declr, Declrs, Sizes, Params, ParamDecl, ParamDecls, ParamDeclr}
+use Rattle.pungi_tree.specs.Syntax.{Expr, TypeName, Spec, Base, Field, Fields, Declr, Declrs, Sizes, Params, ParamDecl}
+use Rattle.pungi_tree.specs.Syntax.{ParamDecls, ParamDeclr}
 
 pub record Gets (stands : Type 0) (ok : Bool) (deep most : ℕ) : Type 0 where
   pub spells : stands
@@ -63,12 +71,15 @@ module _ (types : List Name) (d : ℕ) where
 
   abbrev pub GetsMoreParams : List Placed → (ParamDecls × Option Pos) × List Placed → Type 0
   GetsMoreParams ts x =
-      Gets ((after : List Placed) × SpellsMoreParamDecls x.0.0 ts after × SpellsDots x.0.1 after x.1) (param_decls_ok types x.0.0) (param_decls_depth x.0.0) d
+      Gets ((after : List Placed) × SpellsMoreParamDecls x.0.0 ts after × SpellsDots x.0.1 after x.1)
+      (param_decls_ok types x.0.0) (param_decls_depth x.0.0) d
 
   abbrev pub GetsParams : List Placed → Params × List Placed → Type 0
-  GetsParams ts x = Gets ((q : Pos) × SpellsParams x.0 ts (mark_at puncts.RightParen q ∷ x.1)) (params_ok types x.0) (params_depth x.0) d
+  GetsParams ts x = Gets ((q : Pos) × SpellsParams x.0 ts (mark_at puncts.RightParen q ∷ x.1)) (params_ok types x.0)
+      (params_depth x.0) d
 
 pub record LowSound (types : List Name) (d : ℕ) (low : Lower) : Type 0 where
-  pub expr : (l : ℕ) (ts : List Placed) (x : Expr × List Placed) → low.expr l ts ≡ Some x → l ≤ 14 → GetsExpr types d l ts x
+  pub expr : (l : ℕ) (ts : List Placed) (x : Expr × List Placed) → low.expr l ts ≡ Some x → l ≤ 14
+      → GetsExpr types d l ts x
   pub spec : (ts : List Placed) (x : Spec × List Placed) → low.spec ts ≡ Some x → GetsSpec types d ts x
   pub params : (ts : List Placed) (x : Params × List Placed) → low.params ts ≡ Some x → GetsParams types d ts x

@@ -1,16 +1,23 @@
 -- How near a twin is to the first tree: allowed where it is allowed, as deep, and as near to the lone `void`.
 --   LikeExpr, LikeArgs, .. , LikeParams    an allowed tree of the type of the same name, as deep as the other
---   LikeBase, LikeSpec, LikeParamDeclr, LikeParamDecl, LikeParamDecls    the same, and as near to the lone `void` as the other
+--   LikeBase, LikeSpec, LikeParamDeclr, LikeParamDecl, LikeParamDecls    the same, and as near to the lone `void` as
+--                                                                        the other
 --   void_like    where one is, the lone `void` may stand in the same places
 use Rattle.std.proofs.Common.{◌≡◌, ℕ, Bool, true, false, List, Option, Some, None, refl}
 use Rattle.std.specs.Prelude.{is_none}
 use Rattle.pungi_base.specs.declared.names.Name.{Name}
 use Rattle.pungi_base.specs.declared.pos.Pos.{Pos}
 use Rattle.pungi_parse.proofs.twins.Twin.{Alike}
-use Rattle.pungi_tree.specs.ExprDepth.{expr_depth, exprs_depth, type_name_depth, spec_depth, base_depth, field_depth, fields_depth, declr_depth, declrs_depth, tail_depth, sizes_depth, params_depth, param_decl_depth, param_decls_depth, param_declr_depth}
-use Rattle.pungi_tree.specs.ExprLevels.{is_void_base, is_void_spec, is_nothing, is_void_param, is_lone_void, has_no_params, void_ok, expr_at, args_ok, type_name_ok, spec_ok, base_ok, field_ok, fields_ok, declr_ok, some_declrs_ok, declrs_ok, tail_ok, sizes_ok, params_ok, param_decl_ok, param_decls_ok, param_declr_ok}
+use Rattle.pungi_tree.specs.ExprDepth.{expr_depth, exprs_depth, type_name_depth, spec_depth, base_depth, field_depth}
+use Rattle.pungi_tree.specs.ExprDepth.{fields_depth, declr_depth, declrs_depth, tail_depth, sizes_depth, params_depth}
+use Rattle.pungi_tree.specs.ExprDepth.{param_decl_depth, param_decls_depth, param_declr_depth}
+use Rattle.pungi_tree.specs.ExprLevels.{is_void_base, is_void_spec, is_nothing, is_void_param, is_lone_void}
+use Rattle.pungi_tree.specs.ExprLevels.{has_no_params, void_ok, expr_at, args_ok, type_name_ok, spec_ok, base_ok}
+use Rattle.pungi_tree.specs.ExprLevels.{field_ok, fields_ok, declr_ok, some_declrs_ok, declrs_ok, tail_ok, sizes_ok}
+use Rattle.pungi_tree.specs.ExprLevels.{params_ok, param_decl_ok, param_decls_ok, param_declr_ok}
 use Rattle.pungi_tree.specs.Placed.{Placed, first_place}
-use Rattle.pungi_tree.specs.Syntax.{Expr, Exprs, TypeName, Spec, Base, Field, Fields, Declr, Declrs, Tail, Sizes, Params, ParamDecl, ParamDecls, ParamDeclr}
+use Rattle.pungi_tree.specs.Syntax.{Expr, Exprs, TypeName, Spec, Base, Field, Fields, Declr, Declrs, Tail, Sizes}
+use Rattle.pungi_tree.specs.Syntax.{Params, ParamDecl, ParamDecls, ParamDeclr}
 
 module _ (types : List Name) where
   abbrev pub LikeExpr : ℕ → Expr → Expr → Type 0
@@ -75,7 +82,8 @@ module _ (types : List Name) where
     pub nothing : is_nothing x ≡ is_nothing d
 
   -- whether the lone `void` may stand there
-  pub void_like : (v : Bool) (ds es : ParamDecls) (p q : Option Pos) → has_no_params es ≡ has_no_params ds → is_lone_void es ≡ is_lone_void ds → is_none q ≡ is_none p → void_ok v es q ≡ void_ok v ds p
+  pub void_like : (v : Bool) (ds es : ParamDecls) (p q : Option Pos) → has_no_params es ≡ has_no_params ds
+      → is_lone_void es ≡ is_lone_void ds → is_none q ≡ is_none p → void_ok v es q ≡ void_ok v ds p
   void_like true ds es p q a b c = rw (a, c) refl
   void_like false ds es None None a b c = rw b refl
   void_like false ds es None (Some q) a b c = absurd (cc)

@@ -13,7 +13,8 @@ use Rattle.pungi_parse.proofs.Tools.{and_true, eq_from}
 use Rattle.pungi_tree.specs.ExprLevels.{is_void, is_void_base, is_void_spec, is_nothing, is_void_param}
 use Rattle.pungi_tree.specs.ExprSpells.{SpellsParamDecl}
 use Rattle.pungi_tree.specs.Placed.{Placed, mark_at, key_at}
-use Rattle.pungi_tree.specs.Syntax.{Spec, spec, Base, words, alias, tagged, tagged_fields, ParamDecl, param_decl, ParamDeclr, named, bare, unused}
+use Rattle.pungi_tree.specs.Syntax.{Spec, spec, Base, words, alias, tagged, tagged_fields, ParamDecl, param_decl}
+use Rattle.pungi_tree.specs.Syntax.{ParamDeclr, named, bare, unused}
 
 void_key : (k : Key) → is_void k ≡ true → k ≡ keys.Void
 void_key keys.Void h = refl
@@ -38,21 +39,26 @@ void_spec (spec p b n) h =
     let a = and_true (is_void_base b) (n == 0) h in
     (p, ap₂ (λ c m. spec p c m) (void_base b a.0) (eq_from n 0 a.1))
 
-pub lone_param : (d : ParamDecl) → is_void_param d ≡ true → (p : Pos) × (d ≡ param_decl [] (spec p (words (keys.Void ∷ [])) 0) (bare []))
+pub lone_param : (d : ParamDecl) → is_void_param d ≡ true
+    → (p : Pos) × (d ≡ param_decl [] (spec p (words (keys.Void ∷ [])) 0) (bare []))
 lone_param (param_decl [] s d) h =
     let a = and_true (is_void_spec s) (is_nothing d) h in
     let e = void_spec s a.0 in
     (e.0, ap₂ (λ t c. param_decl [] t c) e.1 (nothing_is d a.1))
 lone_param (param_decl (q ∷ qs) s d) h = absurd (cc)
 
-void_tokens : (q : Pos) (ts rest : List Placed) (p : Pos) → SpellsParamDecl (param_decl [] (spec p (words (keys.Void ∷ [])) 0) (bare [])) ts (mark_at puncts.RightParen q ∷ rest) → (r : Pos) × (ts ≡ key_at keys.Void r ∷ mark_at puncts.RightParen q ∷ rest)
+void_tokens : (q : Pos) (ts rest : List Placed) (p : Pos)
+    → SpellsParamDecl (param_decl [] (spec p (words (keys.Void ∷ [])) 0) (bare [])) ts
+    (mark_at puncts.RightParen q ∷ rest) → (r : Pos)
+    × (ts ≡ key_at keys.Void r ∷ mark_at puncts.RightParen q ∷ rest)
 void_tokens q ts rest p s =
     let b = s.3 in
     let k = b.2 in
     (k.1, s.2 ∙ k.2 ∙ ap (λ z. key_at keys.Void k.1 ∷ z) (k.3 ∙ b.3 ∙ s.4))
 
 -- where a lone `void` stands before the closing parenthesis, the reader sees it
-pub lone_front : (d : ParamDecl) (q : Pos) (ts rest : List Placed) → is_void_param d ≡ true → SpellsParamDecl d ts (mark_at puncts.RightParen q ∷ rest) → void_front ts ≡ Some (q, rest)
+pub lone_front : (d : ParamDecl) (q : Pos) (ts rest : List Placed) → is_void_param d ≡ true
+    → SpellsParamDecl d ts (mark_at puncts.RightParen q ∷ rest) → void_front ts ≡ Some (q, rest)
 unfolding void_front chain
 lone_front d q ts rest h s =
     let e = lone_param d h in

@@ -1,5 +1,6 @@
--- Reading expressions (C11 6.5), all binary levels by one reader. `low` has the readers of what stands inside, whose expressions have at most `most`
--- nodes on a path. A loop to the left adds a node at each turn, and tests the depth before it reads on.
+-- Reading expressions (C11 6.5), all binary levels by one reader. `low` has the readers of what stands inside, whose
+-- expressions have at most `most` nodes on a path. A loop to the left adds a node at each turn, and tests the depth
+-- before it reads on.
 --   more_args, args_at    further arguments, and arguments with their closing parenthesis
 --   new_front, new_at     `PyObject_New (` before a type, and what stands after
 --   word_at, primary      a word that is no type word, a primary expression
@@ -11,26 +12,30 @@
 --   conditional_rest, assign_rest, commas    what stands after a binary expression at the levels 2, 1 and 0
 --   read_at               an expression of a level
 --   expr_at               the same, where it has at most `d` nodes on a path
-use Rattle.std.specs.Prelude.{ℕ, zero, suc, ◌+◌, Bool, true, false, ◌&&◌, ◌==◌, nat_le, nat_lt, List, [], ◌∷◌, length, Option, Some, None, if◌then◌else◌}
+use Rattle.std.specs.Prelude.{ℕ, zero, suc, ◌+◌, Bool, true, false, ◌&&◌, ◌==◌, nat_le, nat_lt, List, [], ◌∷◌, length}
+use Rattle.std.specs.Prelude.{Option, Some, None, if◌then◌else◌}
 use Rattle.pungi_base.specs.declared.key.Key.TheVariants as keys
 use Rattle.pungi_base.specs.declared.kind.Kind.TheVariants as kind
 use Rattle.pungi_base.specs.declared.names.Name.{Name}
 use Rattle.pungi_base.specs.declared.pos.Pos.{Pos}
 use Rattle.pungi_base.specs.declared.punct.Punct.TheVariants as puncts
 use Rattle.pungi_base.specs.Numbers.{py_object_new}
-use Rattle.pungi_parse.specs.tokens.OneToken.{eat, eat_key, eat_literal, eat_prefix, eat_operator, eat_assign, eat_step, eat_word}
+use Rattle.pungi_parse.specs.tokens.OneToken.{eat, eat_key, eat_literal, eat_prefix, eat_operator, eat_assign, eat_step}
+use Rattle.pungi_parse.specs.tokens.OneToken.{eat_word}
 use Rattle.pungi_parse.specs.Reading.{Read, ◌>>=◌, chain, on_some, when, unless}
 use Rattle.pungi_parse.specs.types.TypeReader.{Lower, texts, plain_word, begins_type, type_name_at}
 use Rattle.pungi_tree.specs.ExprDepth.{expr_depth}
 use Rattle.pungi_tree.specs.ExprLevels.{is_empty}
 use Rattle.pungi_tree.specs.Operators.{binary_level, prefix_mark_need, level}
 use Rattle.pungi_tree.specs.Placed.{Placed, first_place}
-use Rattle.pungi_tree.specs.Syntax.{Expr, word, text, paren, unary as prefix, post, binary, assign, conditional, comma, cast, size_of_type, call, new, index, dot, arrow, Exprs, no_exprs, expr_and}
+use Rattle.pungi_tree.specs.Syntax.{Expr, word, text, paren, unary as prefix, post, binary, assign, conditional, comma}
+use Rattle.pungi_tree.specs.Syntax.{cast, size_of_type, call, new, index, dot, arrow, Exprs, no_exprs, expr_and}
 
 module _ (types : List Name) where
   unfoldable pub new_front : List Placed → Option (Pos × List Placed)
   new_front ts =
-      plain_word types ts >>= λ w. when (w.0.0 == py_object_new) (eat puncts.LeftParen w.2 >>= λ o. when (begins_type types o.1) (Some (w.1, o.1)))
+      plain_word types ts >>= λ w. when (w.0.0 == py_object_new) (eat puncts.LeftParen w.2 >>= λ o. when
+      (begins_type types o.1) (Some (w.1, o.1)))
 
   unfoldable pub cast_front : List Placed → Option (Pos × List Placed)
   cast_front ts = eat puncts.LeftParen ts >>= λ o. when (begins_type types o.1) (Some o)
@@ -46,14 +51,16 @@ module _ (types : List Name) (low : Lower) where
 
   unfoldable pub some_args : List Placed → Read Exprs
   some_args ts =
-      low.expr 1 ts >>= λ e. more_args (suc (length e.1)) e.1 >>= λ es. eat puncts.RightParen es.1 >>= λ c. Some (expr_and e.0 es.0, c.1)
+      low.expr 1 ts >>= λ e. more_args (suc (length e.1)) e.1 >>= λ es. eat puncts.RightParen es.1 >>= λ c. Some
+      (expr_and e.0 es.0, c.1)
 
   unfoldable pub args_at : List Placed → Read Exprs
   args_at ts = on_some (eat puncts.RightParen ts) (λ c. Some (no_exprs, c.1)) (some_args ts)
 
   unfoldable pub new_at : Pos → List Placed → Read Expr
   new_at p ts =
-      type_name_at low ts >>= λ t. eat puncts.Comma t.1 >>= λ c. low.expr 1 c.1 >>= λ e. eat puncts.RightParen e.1 >>= λ r.
+      type_name_at low ts >>= λ t. eat puncts.Comma t.1 >>= λ c. low.expr 1 c.1 >>= λ e. eat puncts.RightParen e.1
+      >>= λ r.
       Some (new p t.0 e.0, r.1)
 
   unfoldable pub paren_at : Pos → List Placed → Read Expr
@@ -104,20 +111,23 @@ module _ (types : List Name) (low : Lower) where
 
     unfoldable pub unary : List Placed → Read Expr
     unary ts =
-        on_some (eat_prefix ts) (λ o. low.expr (prefix_mark_need o.0) o.2 >>= λ e. Some (prefix o.1 (kind.Punct o.0) e.0, e.1))
+        on_some (eat_prefix ts) (λ o. low.expr (prefix_mark_need o.0) o.2 >>= λ e. Some
+        (prefix o.1 (kind.Punct o.0) e.0, e.1))
         (on_some (eat_key keys.Sizeof ts) (λ k. sizeof_at k.0 k.1) (postfix ts))
 
     unfoldable pub casted : List Placed → Read Expr
     casted ts =
         on_some (cast_front types ts)
-        (λ o. type_name_at low o.1 >>= λ t. eat puncts.RightParen t.1 >>= λ c. low.expr 13 c.1 >>= λ e. Some (cast o.0 t.0 e.0, e.1))
+        (λ o. type_name_at low o.1 >>= λ t. eat puncts.RightParen t.1 >>= λ c. low.expr 13 c.1 >>= λ e. Some
+        (cast o.0 t.0 e.0, e.1))
         (unary ts)
 
     unfoldable pub operations : ℕ → ℕ → Expr → List Placed → Read Expr
     operations zero l e ts = on_some (eat_operator l ts) (λ o. None) (Some (e, ts))
     operations (suc k) l e ts =
         on_some (eat_operator l ts)
-        (λ o. when (nat_lt (expr_depth e) most) (low.expr (binary_level o.0 + 1) o.2 >>= λ r. operations k l (binary o.1 o.0 e r.0) r.1))
+        (λ o. when (nat_lt (expr_depth e) most) (low.expr (binary_level o.0 + 1) o.2 >>= λ r. operations k l
+        (binary o.1 o.0 e r.0) r.1))
         (Some (e, ts))
 
     unfoldable pub climb : ℕ → List Placed → Read Expr
@@ -127,7 +137,8 @@ module _ (types : List Name) (low : Lower) where
     conditional_rest e ts =
         on_some (eat puncts.Question ts)
         (λ q. when (nat_lt (expr_depth e) most)
-        (low.expr 0 q.1 >>= λ b. eat puncts.Colon b.1 >>= λ c. low.expr 2 c.1 >>= λ d. Some (conditional q.0 e b.0 d.0, d.1)))
+        (low.expr 0 q.1 >>= λ b. eat puncts.Colon b.1 >>= λ c. low.expr 2 c.1 >>= λ d. Some
+        (conditional q.0 e b.0 d.0, d.1)))
         (Some (e, ts))
 
     unfoldable pub conditional_at : List Placed → Read Expr
@@ -136,7 +147,8 @@ module _ (types : List Name) (low : Lower) where
     unfoldable pub assign_rest : Expr → List Placed → Read Expr
     assign_rest e ts =
         on_some (eat_assign ts)
-        (λ o. when (nat_le 14 (level e) && nat_lt (expr_depth e) most) (low.expr 1 o.2 >>= λ r. Some (assign o.1 o.0 e r.0, r.1)))
+        (λ o. when (nat_le 14 (level e) && nat_lt (expr_depth e) most) (low.expr 1 o.2 >>= λ r. Some
+        (assign o.1 o.0 e r.0, r.1)))
         (Some (e, ts))
 
     unfoldable pub assign_at : List Placed → Read Expr

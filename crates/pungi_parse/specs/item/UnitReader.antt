@@ -22,7 +22,8 @@ use Rattle.pungi_parse.specs.types.TypeReader.{Lower, keywords, stars, texts, pl
 use Rattle.pungi_tree.specs.ExprLevels.{is_empty}
 use Rattle.pungi_tree.specs.Operators.{is_qualifier}
 use Rattle.pungi_tree.specs.Placed.{Placed}
-use Rattle.pungi_tree.specs.Syntax.{Spec, Params, decl, Head, head, Item, nothing, doc, typedef, tag, variables, prototype, function_def}
+use Rattle.pungi_tree.specs.Syntax.{Spec, Params, decl, Head, head, Item, nothing, doc, typedef, tag, variables}
+use Rattle.pungi_tree.specs.Syntax.{prototype, function_def}
 
 abbrev pub deepest : ℕ
 deepest = 256
@@ -38,7 +39,8 @@ module _ (types : List Name) where
 
   unfoldable pub typedef_at : Lower → List Placed → Read Item
   typedef_at low ts =
-      low.spec ts >>= λ s. let p = stars s.1 in eat_word p.1 >>= λ w. eat puncts.Semicolon w.2 >>= λ c. Some (typedef s.0 p.0 w.0 w.1, c.1)
+      low.spec ts >>= λ s. let p = stars s.1 in eat_word p.1 >>= λ w. eat puncts.Semicolon w.2 >>= λ c. Some
+      (typedef s.0 p.0 w.0 w.1, c.1)
 
   unfoldable pub head_front : List Placed → Option (List ℕ × Name × Pos × List Placed)
   head_front ts =
@@ -51,7 +53,8 @@ module _ (types : List Name) where
         (readers types n deepest).params ts >>= λ ps.
         on_some (eat puncts.Semicolon ps.1)
         (λ c. Some (prototype (head qs s p w q ps.0), c.1))
-        (eat puncts.LeftBrace ps.1 >>= λ o. read_stmt types n deepest ps.1 >>= λ b. Some (function_def (head qs s p w q ps.0) b.0, b.1))
+        (eat puncts.LeftBrace ps.1 >>= λ o. read_stmt types n deepest ps.1 >>= λ b. Some
+        (function_def (head qs s p w q ps.0) b.0, b.1))
 
     unfoldable pub declared_at : List Key → Spec → List Placed → Read Item
     declared_at qs s ts =
@@ -62,7 +65,8 @@ module _ (types : List Name) where
         (vars_at types (readers types n deepest) ts >>= λ vs. Some (variables (decl qs s vs.0), vs.1)))
 
     unfoldable pub declaration_at : List Placed → Read Item
-    declaration_at ts = let q = keywords is_qualifier ts in (readers types n deepest).spec q.1 >>= λ s. declared_at q.0 s.0 s.1
+    declaration_at ts = let q = keywords is_qualifier ts in (readers types n deepest).spec q.1 >>= λ s. declared_at
+        q.0 s.0 s.1
 
     unfoldable pub item_at : List Placed → Read Item
     item_at ts =

@@ -1,5 +1,6 @@
 -- What of a statement stands in front of the first statement in it, and how the statement goes on from there.
---   Head, Begun       a statement in front of its one body; a whole statement, a block, an `if`, or a statement with one body, each as far as it is read
+--   Head, Begun       a statement in front of its one body; a whole statement, a block, an `if`, or a statement with
+--                     one body, each as far as it is read
 --   for_head_view, head_view, begun_view    those that the parser's stand for
 --   for_head_at       what stands between the parentheses of a `for`, with the closing one
 --   branch_front, while_front, for_front, switch_front, case_front, default_front    what stands after the keyword
@@ -26,7 +27,8 @@ use Rattle.pungi_parse.specs.declared.stmt.begun.StmtHead.TheVariants as heads
 use Rattle.pungi_tree.specs.ExprView.{expr_view, optional_view}
 use Rattle.pungi_tree.specs.Placed.{Placed}
 use Rattle.pungi_tree.specs.StmtView.{for_start_view, stmt_view}
-use Rattle.pungi_tree.specs.Syntax.{Expr, ForStart, Stmt, if_only, if_else, while, do_while, for, switch, case, default, label}
+use Rattle.pungi_tree.specs.Syntax.{Expr, ForStart, Stmt, if_only, if_else, while, do_while, for, switch, case, default}
+use Rattle.pungi_tree.specs.Syntax.{label}
 
 pub data Head : Type 0 where
   while_head : Expr → Head
@@ -70,7 +72,8 @@ module _ (types : List Name) (low : Lower) where
 
   unfoldable pub for_head_at : List Placed → Read Head
   for_head_at ts =
-      start_at types low ts >>= λ a. optional types low puncts.Semicolon a.1 >>= λ b. optional types low puncts.RightParen b.1 >>= λ c.
+      start_at types low ts >>= λ a. optional types low puncts.Semicolon a.1 >>= λ b. optional types low
+      puncts.RightParen b.1 >>= λ c.
       Some (for_head a.0 b.0 c.0, c.1)
 
   unfoldable pub for_front : Pos → List Placed → Read Begun
@@ -87,7 +90,8 @@ module _ (types : List Name) (low : Lower) where
 
   unfoldable pub do_end : Pos → Stmt → List Placed → Read Stmt
   do_end p s ts =
-      eat_key keys.While ts >>= λ k. condition types low k.1 >>= λ e. eat puncts.Semicolon e.1 >>= λ c. Some (do_while p s e.0, c.1)
+      eat_key keys.While ts >>= λ k. condition types low k.1 >>= λ e. eat puncts.Semicolon e.1 >>= λ c. Some
+      (do_while p s e.0, c.1)
 
   abbrev pub finish_at : Pos → Head → Stmt → List Placed → Read Stmt
   finish_at p (while_head e) s ts = Some (while p e s, ts)
@@ -120,7 +124,8 @@ module _ (types : List Name) (low : Lower) where
     unfoldable pub branch_rest : Pos → Expr → List Placed → Read Stmt
     branch_rest p e ts =
         stmt ts >>= λ s.
-        on_some (eat_key keys.Else s.1) (λ k. stmt k.1 >>= λ t. Some (if_else p e s.0 t.0, t.1)) (Some (if_only p e s.0, s.1))
+        on_some (eat_key keys.Else s.1) (λ k. stmt k.1 >>= λ t. Some (if_else p e s.0 t.0, t.1))
+        (Some (if_only p e s.0, s.1))
 
     abbrev pub go_on : Begun → List Placed → Read Stmt
     go_on (whole s) ts = Some (s, ts)

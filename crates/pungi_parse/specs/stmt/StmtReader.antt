@@ -1,11 +1,14 @@
--- Reading declarations and statements (C11 6.7 and 6.8). `low` has the readers of expressions, types and parameters in them.
+-- Reading declarations and statements (C11 6.7 and 6.8). `low` has the readers of expressions, types and parameters in
+-- them.
 --   table_in awaited ts    tokens up to the brace that closes the table, where these brackets are awaited in it
---   init_at, var_at, more_vars, vars_at    a first value with its `=`, a variable, further ones, and all up to the semicolon, which is read
+--   init_at, var_at, more_vars, vars_at    a first value with its `=`, a variable, further ones, and all up to the
+--                                          semicolon, which is read
 --   decl_at            a declaration
 --   optional m ts      an expression, where it is there, and the punctuator `m` after it
 --   condition          an expression in parentheses
 --   stmts_in, block_at statements up to the brace, which stays, and a block after its brace
---   if_at, while_at, do_at, start_at, for_at, switch_at, case_at, default_at, goto_at, label_front, label_at    statements after their keyword
+--   if_at, while_at, do_at, start_at, for_at, switch_at, case_at, default_at, goto_at, label_front, label_at
+--   statements after their keyword
 --   stmt_at            a statement, which is no declaration
 --   read_stmt          the same, where it has at most `d` nodes on a path
 --   read_element       a statement or a declaration
@@ -22,11 +25,15 @@ use Rattle.pungi_parse.specs.types.TypeReader.{Lower, keywords, plain_word, begi
 use Rattle.pungi_tree.specs.Balanced.{awaited_after}
 use Rattle.pungi_tree.specs.Operators.{is_qualifier}
 use Rattle.pungi_tree.specs.Placed.{Placed, first_place}
-use Rattle.pungi_tree.specs.Syntax.{Expr, Init, value, table, VarDecl, var_decl, Decl, decl, ForStart, start_decl, start_expr, Stmt, block, declare, do_expr, if_only, if_else, while, do_while, for, switch, case, default, label, goto, break, continue, return, Stmts, no_stmts, stmt_and}
+use Rattle.pungi_tree.specs.Syntax.{Expr, Init, value, table, VarDecl, var_decl, Decl, decl, ForStart, start_decl}
+use Rattle.pungi_tree.specs.Syntax.{start_expr, Stmt, block, declare, do_expr, if_only, if_else, while, do_while, for}
+use Rattle.pungi_tree.specs.Syntax.{switch, case, default, label, goto, break, continue, return, Stmts, no_stmts}
+use Rattle.pungi_tree.specs.Syntax.{stmt_and}
 
 unfoldable pub table_in : List Punct → List Placed → Read (List Placed)
 table_in awaited [] = None
-table_in (m ∷ ms) (t ∷ ts) = awaited_after t.0 (m ∷ ms) >>= λ after. table_in after ts >>= λ more. Some (t ∷ more.0, more.1)
+table_in (m ∷ ms) (t ∷ ts) =
+    awaited_after t.0 (m ∷ ms) >>= λ after. table_in after ts >>= λ more. Some (t ∷ more.0, more.1)
 table_in [] (t ∷ ts) =
     on_some (eat puncts.RightBrace (t ∷ ts))
     (λ c. Some ([], c.1))
@@ -54,17 +61,20 @@ module _ (types : List Name) (low : Lower) where
 
   unfoldable pub vars_at : List Placed → Read (List VarDecl)
   vars_at ts =
-      var_at ts >>= λ v. more_vars (suc (length v.1)) v.1 >>= λ vs. eat puncts.Semicolon vs.1 >>= λ c. Some (v.0 ∷ vs.0, c.1)
+      var_at ts >>= λ v. more_vars (suc (length v.1)) v.1 >>= λ vs. eat puncts.Semicolon vs.1 >>= λ c. Some
+      (v.0 ∷ vs.0, c.1)
 
   unfoldable pub decl_at : List Placed → Read Decl
-  decl_at ts = let q = keywords is_qualifier ts in low.spec q.1 >>= λ s. vars_at s.1 >>= λ vs. Some (decl q.0 s.0 vs.0, vs.1)
+  decl_at ts = let q = keywords is_qualifier ts in low.spec q.1 >>= λ s. vars_at s.1 >>= λ vs. Some
+      (decl q.0 s.0 vs.0, vs.1)
 
   unfoldable pub optional : Punct → List Placed → Read (Option Expr)
   optional m ts =
       on_some (eat m ts) (λ c. Some (None, c.1)) (low.expr 0 ts >>= λ e. eat m e.1 >>= λ c. Some (Some e.0, c.1))
 
   unfoldable pub condition : List Placed → Read Expr
-  condition ts = eat puncts.LeftParen ts >>= λ o. low.expr 0 o.1 >>= λ e. eat puncts.RightParen e.1 >>= λ c. Some (e.0, c.1)
+  condition ts = eat puncts.LeftParen ts >>= λ o. low.expr 0 o.1 >>= λ e. eat puncts.RightParen e.1 >>= λ c. Some
+      (e.0, c.1)
 
   unfoldable pub declare_at : List Placed → Read Stmt
   declare_at ts = first_place ts >>= λ p. decl_at ts >>= λ d. Some (declare p d.0, d.1)
@@ -97,23 +107,27 @@ module _ (types : List Name) (low : Lower) where
         (element ts >>= λ s. stmts_in k s.1 >>= λ ss. Some (stmt_and s.0 ss.0, ss.1))
 
     unfoldable pub block_at : Pos → List Placed → Read Stmt
-    block_at p ts = stmts_in (suc (length ts)) ts >>= λ ss. eat puncts.RightBrace ss.1 >>= λ c. Some (block p ss.0 c.0, c.1)
+    block_at p ts = stmts_in (suc (length ts)) ts >>= λ ss. eat puncts.RightBrace ss.1 >>= λ c. Some
+        (block p ss.0 c.0, c.1)
 
     unfoldable pub if_at : Pos → List Placed → Read Stmt
     if_at p ts =
         condition ts >>= λ e. stmt e.1 >>= λ s.
-        on_some (eat_key keys.Else s.1) (λ k. stmt k.1 >>= λ t. Some (if_else p e.0 s.0 t.0, t.1)) (Some (if_only p e.0 s.0, s.1))
+        on_some (eat_key keys.Else s.1) (λ k. stmt k.1 >>= λ t. Some (if_else p e.0 s.0 t.0, t.1))
+        (Some (if_only p e.0 s.0, s.1))
 
     unfoldable pub while_at : Pos → List Placed → Read Stmt
     while_at p ts = condition ts >>= λ e. stmt e.1 >>= λ s. Some (while p e.0 s.0, s.1)
 
     unfoldable pub do_at : Pos → List Placed → Read Stmt
     do_at p ts =
-        stmt ts >>= λ s. eat_key keys.While s.1 >>= λ k. condition k.1 >>= λ e. eat puncts.Semicolon e.1 >>= λ c. Some (do_while p s.0 e.0, c.1)
+        stmt ts >>= λ s. eat_key keys.While s.1 >>= λ k. condition k.1 >>= λ e. eat puncts.Semicolon e.1 >>= λ c.
+        Some (do_while p s.0 e.0, c.1)
 
     unfoldable pub for_at : Pos → List Placed → Read Stmt
     for_at p ts =
-        eat puncts.LeftParen ts >>= λ o. start_at o.1 >>= λ a. optional puncts.Semicolon a.1 >>= λ b. optional puncts.RightParen b.1 >>= λ c.
+        eat puncts.LeftParen ts >>= λ o. start_at o.1 >>= λ a. optional puncts.Semicolon a.1 >>= λ b. optional
+        puncts.RightParen b.1 >>= λ c.
         stmt c.1 >>= λ s. Some (for p a.0 b.0 c.0 s.0, s.1)
 
     unfoldable pub switch_at : Pos → List Placed → Read Stmt
@@ -154,7 +168,8 @@ module _ (types : List Name) (low : Lower) where
 -- `stmt` reads a statement with at most `d` nodes on a path
 unfoldable pub element_at : List Name → ℕ → (List Placed → Read Stmt) → ℕ → List Placed → Read Stmt
 element_at types n stmt zero ts = None
-element_at types n stmt (suc d) ts = on_some (when (begins_decl types ts) (Some ts)) (λ us. declare_at types (readers types n d) us) (stmt ts)
+element_at types n stmt (suc d) ts =
+    on_some (when (begins_decl types ts) (Some ts)) (λ us. declare_at types (readers types n d) us) (stmt ts)
 
 unfoldable pub read_stmt : List Name → ℕ → ℕ → List Placed → Read Stmt
 read_stmt types n zero ts = None

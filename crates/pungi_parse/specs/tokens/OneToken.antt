@@ -1,7 +1,8 @@
 -- What one token at the front of a list is: each returns its place and the tokens after it, or nothing where another
 -- token stands there.
 --   punct_number m, key_number k    the place of a punctuator, or of a keyword, among all
---   mark_here, key_here, word_here, text_here, listed_here, null_here, literal_here, prefix_here, operator_here, marked_here
+--   mark_here, key_here, word_here, text_here, listed_here, null_here, literal_here, prefix_here, operator_here,
+--   marked_here
 --                               what a kind is, as each of the following tests, with its place and the tokens after it
 --   eat m ts, eat_key k ts      this punctuator, this keyword
 --   eat_word ts, eat_text ts    a word, a text: its name first
@@ -11,7 +12,8 @@
 --   eat_operator l ts           a binary operator of level `l` or a tighter one, first
 --   eat_marked test ts          a punctuator that passes the test, first
 --   eat_assign ts, eat_step ts  an operator of assignment, `++` or `--`, first
-use Rattle.std.specs.Prelude.{ℕ, Bool, true, false, ◌&&◌, ◌==◌, nat_le, if◌then◌else◌, List, [], ◌∷◌, Option, Some, None}
+use Rattle.std.specs.Prelude.{ℕ, Bool, true, false, ◌&&◌, ◌==◌, nat_le, if◌then◌else◌, List, [], ◌∷◌, Option, Some}
+use Rattle.std.specs.Prelude.{None}
 use Rattle.pungi_base.specs.declared.key.Key.{Key}
 use Rattle.pungi_base.specs.declared.key.Key.TheVariants as keys
 use Rattle.pungi_base.specs.declared.kind.Kind.{Kind}
@@ -174,7 +176,8 @@ eat_prefix [] = None
 eat_prefix (t ∷ ts) = prefix_here t.0 t.1 ts
 
 abbrev pub operator_here : ℕ → Kind → Pos → List Placed → Option (Punct × Pos × List Placed)
-operator_here l (kind.Punct m) p ts = if nat_le l (binary_level m) && nat_le (binary_level m) 12 then Some (m, p, ts) else None
+operator_here l (kind.Punct m) p ts =
+    if nat_le l (binary_level m) && nat_le (binary_level m) 12 then Some (m, p, ts) else None
 operator_here l _ p ts = None
 
 abbrev pub eat_operator : ℕ → List Placed → Option (Punct × Pos × List Placed)

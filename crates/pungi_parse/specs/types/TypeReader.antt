@@ -1,12 +1,14 @@
 -- Reading types, declarators and parameters (C11 6.7.2 to 6.7.7). `low` has the readers of what stands inside.
---   Lower             the readers of what stands deeper: expressions of a level, types, and parameters up to their parenthesis
+--   Lower             the readers of what stands deeper: expressions of a level, types, and parameters up to their
+--                     parenthesis
 --   keywords test ts  as many keywords that pass the test as stand there
 --   consts ts, stars ts    how many `const` stand there, and each `*` with how many `const` after it
 --   texts ts          as many texts as stand there
 --   begins_type, begins_decl    a type, or a declaration, begins here
 --   type_word ts, plain_word ts    a type word, a word that is no type word
 --   unused_front ts   `Py_UNUSED (`
---   begins_name, dots_front, void_front    a declared name or its parenthesis, `, ...`, and the lone `void` with its parenthesis
+--   begins_name, dots_front, void_front    a declared name or its parenthesis, `, ...`, and the lone `void` with its
+--                                          parenthesis
 --   declr_rest, declrs, more_declrs    what stands after the stars of a declarator; declarators with a comma between;
 --                                      further ones
 --   sizes_at, function_rest    the brackets of an array, and a pointer to a function
@@ -16,7 +18,8 @@
 --   type_name_at      a type with its pointers
 --   param_rest, param, params_at    a parameter after its stars, a parameter, and parameters with their closing
 --                                   parenthesis
-use Rattle.std.specs.Prelude.{ℕ, zero, suc, ◌+◌, Bool, true, false, not, ◌&&◌, ◌||◌, ◌==◌, if◌then◌else◌, List, [], ◌∷◌, length, Option, Some, None, is_some}
+use Rattle.std.specs.Prelude.{ℕ, zero, suc, ◌+◌, Bool, true, false, not, ◌&&◌, ◌||◌, ◌==◌, if◌then◌else◌, List, [], ◌∷◌}
+use Rattle.std.specs.Prelude.{length, Option, Some, None, is_some}
 use Rattle.pungi_base.specs.declared.key.Key.{Key}
 use Rattle.pungi_base.specs.declared.key.Key.TheVariants as keys
 use Rattle.pungi_base.specs.declared.names.Name.{Name}
@@ -28,7 +31,11 @@ use Rattle.pungi_parse.specs.Reading.{Read, ◌>>=◌, chain, on_some, when, unl
 use Rattle.pungi_tree.specs.ExprLevels.{is_empty}
 use Rattle.pungi_tree.specs.Operators.{is_base_word, is_qualifier, is_aggregate}
 use Rattle.pungi_tree.specs.Placed.{Placed, first_place}
-use Rattle.pungi_tree.specs.Syntax.{Expr, TypeName, type_name, Spec, spec, Base, words, alias, tagged, tagged_fields, Field, empty, members, Fields, no_fields, field_and, Declr, declr, Declrs, no_declrs, declr_and, Tail, sizes, function, Sizes, no_sizes, open_and, size_and, Params, params, ParamDecl, param_decl, ParamDecls, no_params, param_and, ParamDeclr, named, bare, unused}
+use Rattle.pungi_tree.specs.Syntax.{Expr, TypeName, type_name, Spec, spec, Base, words, alias, tagged, tagged_fields}
+use Rattle.pungi_tree.specs.Syntax.{Field, empty, members, Fields, no_fields, field_and, Declr, declr, Declrs}
+use Rattle.pungi_tree.specs.Syntax.{no_declrs, declr_and, Tail, sizes, function, Sizes, no_sizes, open_and, size_and}
+use Rattle.pungi_tree.specs.Syntax.{Params, params, ParamDecl, param_decl, ParamDecls, no_params, param_and, ParamDeclr}
+use Rattle.pungi_tree.specs.Syntax.{named, bare, unused}
 use Rattle.pungi_tree.specs.TypeWords.{is_type, is_word}
 use Rattle.pungi_tree.specs.Tokens.{named_word}
 
@@ -39,7 +46,8 @@ pub record Lower : Type 0 where
 
 unfoldable pub keywords : (Key → Bool) → List Placed → List Key × List Placed
 keywords test [] = ([], [])
-keywords test (t ∷ ts) = on_some (eat_listed test (t ∷ ts)) (λ k. let more = keywords test ts in (k.0 ∷ more.0, more.1)) ([], t ∷ ts)
+keywords test (t ∷ ts) =
+    on_some (eat_listed test (t ∷ ts)) (λ k. let more = keywords test ts in (k.0 ∷ more.0, more.1)) ([], t ∷ ts)
 
 unfoldable pub consts : List Placed → ℕ × List Placed
 consts [] = (0, [])
@@ -49,7 +57,8 @@ consts (t ∷ ts) = on_some (eat_key keys.Const (t ∷ ts)) (λ c. let more = co
 unfoldable pub stars_in : ℕ → List Placed → List ℕ × List Placed
 stars_in zero ts = ([], ts)
 stars_in (suc k) ts =
-    on_some (eat puncts.Star ts) (λ s. let c = consts s.1 in let more = stars_in k c.1 in (c.0 ∷ more.0, more.1)) ([], ts)
+    on_some (eat puncts.Star ts) (λ s. let c = consts s.1 in let more = stars_in k c.1 in (c.0 ∷ more.0, more.1))
+    ([], ts)
 
 unfoldable pub stars : List Placed → List ℕ × List Placed
 stars ts = stars_in (length ts) ts
@@ -81,7 +90,8 @@ module _ (types : List Name) where
   plain_word ts = eat_word ts >>= λ w. unless (is_type types w.0) (Some w)
 
   unfoldable pub begins_type : List Placed → Bool
-  begins_type ts = is_some (eat_listed is_base_word ts) || (is_some (eat_listed is_aggregate ts) || is_some (type_word ts))
+  begins_type ts = is_some (eat_listed is_base_word ts)
+      || (is_some (eat_listed is_aggregate ts) || is_some (type_word ts))
 
   unfoldable pub begins_decl : List Placed → Bool
   begins_decl ts = is_some (eat_listed is_qualifier ts) || begins_type ts
@@ -100,7 +110,8 @@ module _ (types : List Name) where
         (λ o.
         on_some (eat puncts.RightBracket o.1)
         (λ c. sizes_in k c.1 >>= λ ss. Some (open_and ss.0, ss.1))
-        (low.expr 0 o.1 >>= λ e. eat puncts.RightBracket e.1 >>= λ c. sizes_in k c.1 >>= λ ss. Some (size_and e.0 ss.0, ss.1)))
+        (low.expr 0 o.1 >>= λ e. eat puncts.RightBracket e.1 >>= λ c. sizes_in k c.1 >>= λ ss. Some
+        (size_and e.0 ss.0, ss.1)))
         (Some (no_sizes, ts))
 
     unfoldable pub sizes_at : List Placed → Read Sizes
@@ -108,7 +119,8 @@ module _ (types : List Name) where
 
     unfoldable pub function_rest : List ℕ → List Placed → Read Declr
     function_rest ss ts =
-        eat puncts.LeftParen ts >>= λ o. eat puncts.Star o.1 >>= λ s. plain_word s.1 >>= λ w. eat puncts.RightParen w.2 >>= λ c.
+        eat puncts.LeftParen ts >>= λ o. eat puncts.Star o.1 >>= λ s. plain_word s.1 >>= λ w. eat puncts.RightParen
+        w.2 >>= λ c.
         eat puncts.LeftParen c.1 >>= λ i. low.params i.1 >>= λ ps. Some (declr ss w.0 w.1 (function ps.0), ps.1)
 
     unfoldable pub declr_rest : List ℕ → List Placed → Read Declr
@@ -134,7 +146,8 @@ module _ (types : List Name) where
     field ts =
         on_some (eat puncts.Semicolon ts)
         (λ c. Some (empty, c.1))
-        (let q = keywords is_qualifier ts in low.spec q.1 >>= λ s. declrs s.1 >>= λ ds. eat puncts.Semicolon ds.1 >>= λ c. Some (members q.0 s.0 ds.0, c.1))
+        (let q = keywords is_qualifier ts in low.spec q.1 >>= λ s. declrs s.1 >>= λ ds. eat puncts.Semicolon ds.1
+        >>= λ c. Some (members q.0 s.0 ds.0, c.1))
 
     -- up to the closing brace, which stays
     unfoldable pub fields : ℕ → List Placed → Read Fields
@@ -145,14 +158,16 @@ module _ (types : List Name) where
         (field ts >>= λ f. fields k f.1 >>= λ fs. Some (field_and f.0 fs.0, fs.1))
 
     unfoldable pub fields_at : Key → Option (Name × Pos) → List Placed → Read Base
-    fields_at of tag ts = fields (suc (length ts)) ts >>= λ fs. eat puncts.RightBrace fs.1 >>= λ c. Some (tagged_fields of tag fs.0, c.1)
+    fields_at of tag ts = fields (suc (length ts)) ts >>= λ fs. eat puncts.RightBrace fs.1 >>= λ c. Some
+        (tagged_fields of tag fs.0, c.1)
 
     unfoldable pub aggregate : Key → List Placed → Read Base
     aggregate of ts =
         on_some (type_word ts)
         (λ w. Some (tagged of (Some (w.0, w.1)), w.2))
         (on_some (eat_word ts)
-        (λ w. on_some (eat puncts.LeftBrace w.2) (λ o. fields_at of (Some (w.0, w.1)) o.1) (Some (tagged of (Some (w.0, w.1)), w.2)))
+        (λ w. on_some (eat puncts.LeftBrace w.2) (λ o. fields_at of (Some (w.0, w.1)) o.1)
+        (Some (tagged of (Some (w.0, w.1)), w.2)))
         (eat puncts.LeftBrace ts >>= λ o. fields_at of None o.1))
 
     unfoldable pub base_at : List Placed → Read Base
@@ -178,7 +193,8 @@ module _ (types : List Name) where
         on_some (when (begins_name s.1) (Some s.1)) (λ ts. param_rest s.0 ts) (Some (bare s.0, s.1))
 
     unfoldable pub param : List Placed → Read ParamDecl
-    param ts = let q = keywords is_qualifier ts in low.spec q.1 >>= λ s. param_declr_at s.1 >>= λ d. Some (param_decl q.0 s.0 d.0, d.1)
+    param ts = let q = keywords is_qualifier ts in low.spec q.1 >>= λ s. param_declr_at s.1 >>= λ d. Some
+        (param_decl q.0 s.0 d.0, d.1)
 
     unfoldable pub more_params : ℕ → List Placed → Read (ParamDecls × Option Pos)
     more_params zero ts = None

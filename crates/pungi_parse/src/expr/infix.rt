@@ -1,5 +1,6 @@
 ghost use Rattle.std.specs.Prelude.{◌<◌, ◌-◌, ◌^◌, suc, length};
-ghost use Rattle.pungi_parse.specs.expr.ExprReader.{read_at, comma_at, assign_at, assign_rest, conditional_at, conditional_rest, climb, casted};
+ghost use Rattle.pungi_parse.specs.expr.ExprReader.{read_at, comma_at, assign_at, assign_rest, conditional_at};
+ghost use Rattle.pungi_parse.specs.expr.ExprReader.{conditional_rest, climb, casted};
 ghost use Rattle.pungi_parse.specs.Readers.{readers};
 ghost use Rattle.pungi_parse.specs.Reads.{Reads};
 ghost use Rattle.pungi_tree.specs.ExprDepth.{expr_depth};

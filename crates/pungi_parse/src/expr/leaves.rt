@@ -44,7 +44,8 @@ impl Parser<'_> {
         &self,
         tokens: &'t [Token],
     ) -> Result<Option<(Box<Expr>, &'t [Token])>, Memory>
-        ensures token { IfOk result (λ o. option_map (λ x. (expr_view x.0.value, placed x.1.now)) o ≡ eat_literal (placed tokens.now)) }
+        ensures token { IfOk result (λ o. option_map (λ x. (expr_view x.0.value, placed x.1.now)) o
+            ≡ eat_literal (placed tokens.now)) }
         ensures shorter { IfOk result (λ o. IfSome o (λ x. length x.1.now < length tokens.now)) }
     {
         let Some((tree, rest)) = eat_literal(tokens) else {

@@ -1,5 +1,6 @@
 ghost use Rattle.std.specs.Prelude.{◌≡◌, ◌≤◌, ◌<◌, ◌-◌, ◌^◌, suc, length, map, IfOk};
-ghost use Rattle.pungi_parse.specs.expr.ExprReader.{unary, sizeof_at, postfix as postfix_of, postfix_turn, call_at, index_at, args_at, primary, paren_at, new_at};
+ghost use Rattle.pungi_parse.specs.expr.ExprReader.{unary, sizeof_at, postfix as postfix_of, postfix_turn, call_at};
+ghost use Rattle.pungi_parse.specs.expr.ExprReader.{index_at, args_at, primary, paren_at, new_at};
 ghost use Rattle.pungi_parse.specs.Readers.{readers};
 ghost use Rattle.pungi_parse.specs.Reads.{Reads};
 ghost use Rattle.pungi_parse.specs.ReaderParts.{joined};

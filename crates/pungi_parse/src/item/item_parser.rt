@@ -3,7 +3,8 @@ ghost use Rattle.pungi_parse.specs.Reading.{chain};
 ghost use Rattle.pungi_parse.specs.Readers.{readers};
 ghost use Rattle.pungi_parse.specs.Reads.{ReadsFront};
 ghost use Rattle.pungi_parse.specs.stmt.StmtReader.{vars_at};
-ghost use Rattle.pungi_parse.specs.item.UnitReader.{deepest, doc_front, doc_at, typedef_at, head_front, function_rest, declared_at, declaration_at, item_at};
+ghost use Rattle.pungi_parse.specs.item.UnitReader.{deepest, doc_front, doc_at, typedef_at, head_front, function_rest};
+ghost use Rattle.pungi_parse.specs.item.UnitReader.{declared_at, declaration_at, item_at};
 ghost use Rattle.pungi_tree.specs.ExprView.{spec_view};
 ghost use Rattle.pungi_tree.specs.Placed.{placed};
 ghost use Rattle.pungi_tree.specs.Syntax as plain;
@@ -48,7 +49,8 @@ impl ItemParser<'_> {
     /// `PyDoc_STRVAR (`: the place of the parenthesis, and the tokens after it.
     #[tactic(auto, unfolding(crate::specs::item::UnitReader::doc_front, crate::specs::Reading::chain, crate::specs::Reading::when))]
     fn doc_front<'t>(&self, tokens: &'t [Token]) -> Option<(Pos, &'t [Token])>
-        ensures token { option_map (λ x. (x.0, placed x.1.now)) result ≡ doc_front self.now.types.now (placed tokens.now) }
+        ensures token { option_map (λ x. (x.0, placed x.1.now)) result
+            ≡ doc_front self.now.types.now (placed tokens.now) }
         ensures shorter { IfSome result (λ x. length x.1.now < length tokens.now) }
     {
         let (name, _, rest) = plain_word(self.types, tokens)?;
@@ -119,7 +121,8 @@ impl ItemParser<'_> {
         &self,
         tokens: &'t [Token],
     ) -> Result<Option<(Vec<u32>, Name, Pos, &'t [Token])>, Memory>
-        ensures token { IfOk result (λ o. option_map (λ x. (x.0.items, x.1, x.2, placed x.3.now)) o ≡ head_front self.now.types.now (placed tokens.now)) }
+        ensures token { IfOk result (λ o. option_map (λ x. (x.0.items, x.1, x.2, placed x.3.now)) o
+            ≡ head_front self.now.types.now (placed tokens.now)) }
         ensures shorter { IfOk result (λ o. IfSome o (λ x. length x.3.now < length tokens.now)) }
     {
         let (stars, after) = stars(self.alloc, tokens)?;
@@ -136,7 +139,8 @@ impl ItemParser<'_> {
     #[tactic(auto, unfolding(crate::specs::item::UnitReader::function_rest, crate::specs::Reading::chain, crate::specs::Reading::on_some))]
     fn function_rest<'t>(&self, front: Signature, tokens: &'t [Token]) -> Front<'t, Item>
         ensures { ReadsFront item_view (length tokens.now) result
-            (function_rest self.now.types.now self.now.nest front.quals.items (spec_view front.result) front.stars.items front.name front.pos (placed tokens.now)) }
+            (function_rest self.now.types.now self.now.nest front.quals.items (spec_view front.result)
+            front.stars.items front.name front.pos (placed tokens.now)) }
     {
         let parser = Parser {
             alloc: self.alloc,

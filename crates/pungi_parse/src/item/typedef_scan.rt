@@ -27,7 +27,10 @@ impl TypedefScan {
     fn read(&mut self, kind: Kind) -> Result<(), Memory>
         requires braces { self.old.braces + 1 < 2 ^ 64 }
         requires waiting { self.old.older + self.old.newer + 1 < 2 ^ 64 }
-        ensures words { OnOk result ((kinds : List TheKind) → scan_gives self.new.words.items self.new.braces self.new.last self.new.older self.new.newer kinds ≡ scan_gives self.old.words.items self.old.braces self.old.last self.old.older self.old.newer (kind ∷ kinds)) }
+        ensures words { OnOk result ((kinds : List TheKind)
+            → scan_gives self.new.words.items self.new.braces self.new.last self.new.older self.new.newer kinds
+            ≡ scan_gives self.old.words.items self.old.braces self.old.last self.old.older self.old.newer
+            (kind ∷ kinds)) }
         ensures braces { self.new.braces ≤ self.old.braces + 1 }
         ensures waiting { self.new.older + self.new.newer ≤ self.old.older + self.old.newer + 1 }
     {

@@ -21,7 +21,8 @@ impl Parser<'_> {
     #[tactic(auto, unfolding(crate::specs::stmt::StmtReader::first_value, crate::specs::Reading::chain, crate::specs::Reading::on_some))]
     fn first_value<'t>(&self, tokens: &'t [Token]) -> Front<'t, Init>
         ensures { ReadsFront init_view (length tokens.now) result
-            (first_value self.now.types.now (readers self.now.types.now self.now.nest self.now.most) (placed tokens.now)) }
+            (first_value self.now.types.now (readers self.now.types.now self.now.nest self.now.most)
+            (placed tokens.now)) }
     {
         if let Some((_, inner)) = eat(Punct::LeftBrace, tokens) {
             let (found, rest) = table(self.alloc, inner)?;

@@ -1,5 +1,7 @@
 ghost use Rattle.std.specs.Prelude.{length};
-ghost use Rattle.pungi_parse.specs.stmt.Begun.{for_head_view, begun_view, branch_front, while_front, for_head_at, for_front, switch_front, case_front, default_front, whole_at, label_or_whole, begin_at, do_end};
+ghost use Rattle.pungi_parse.specs.stmt.Begun.{for_head_view, begun_view, branch_front, while_front, for_head_at};
+ghost use Rattle.pungi_parse.specs.stmt.Begun.{for_front, switch_front, case_front, default_front, whole_at};
+ghost use Rattle.pungi_parse.specs.stmt.Begun.{label_or_whole, begin_at, do_end};
 ghost use Rattle.pungi_parse.specs.Readers.{readers};
 ghost use Rattle.pungi_parse.specs.Reads.{ReadsFront};
 ghost use Rattle.pungi_parse.specs.stmt.StmtReader.{read_stmt, read_element};
@@ -20,7 +22,8 @@ impl Parser<'_> {
     #[tactic(auto, unfolding(crate::specs::stmt::Begun::branch_front, crate::specs::Reading::chain))]
     fn branch_front<'t>(&self, pos: Pos, tokens: &'t [Token]) -> Front<'t, Begun>
         ensures { ReadsFront begun_view (length tokens.now) result
-            (branch_front self.now.types.now (readers self.now.types.now self.now.nest self.now.most) pos (placed tokens.now)) }
+            (branch_front self.now.types.now (readers self.now.types.now self.now.nest self.now.most) pos
+            (placed tokens.now)) }
     {
         let (test, rest) = self.condition(tokens)?;
         Ok((Begun::If(pos, test), rest))
@@ -30,7 +33,8 @@ impl Parser<'_> {
     #[tactic(auto, unfolding(crate::specs::stmt::Begun::while_front, crate::specs::Reading::chain))]
     fn while_front<'t>(&self, pos: Pos, tokens: &'t [Token]) -> Front<'t, Begun>
         ensures { ReadsFront begun_view (length tokens.now) result
-            (while_front self.now.types.now (readers self.now.types.now self.now.nest self.now.most) pos (placed tokens.now)) }
+            (while_front self.now.types.now (readers self.now.types.now self.now.nest self.now.most) pos
+            (placed tokens.now)) }
     {
         let (test, rest) = self.condition(tokens)?;
         Ok((Begun::Before(pos, StmtHead::While(test)), rest))
@@ -40,7 +44,8 @@ impl Parser<'_> {
     #[tactic(auto, unfolding(crate::specs::stmt::Begun::switch_front, crate::specs::Reading::chain))]
     fn switch_front<'t>(&self, pos: Pos, tokens: &'t [Token]) -> Front<'t, Begun>
         ensures { ReadsFront begun_view (length tokens.now) result
-            (switch_front self.now.types.now (readers self.now.types.now self.now.nest self.now.most) pos (placed tokens.now)) }
+            (switch_front self.now.types.now (readers self.now.types.now self.now.nest self.now.most) pos
+            (placed tokens.now)) }
     {
         let (test, rest) = self.condition(tokens)?;
         Ok((Begun::Before(pos, StmtHead::Switch(test)), rest))
@@ -50,7 +55,8 @@ impl Parser<'_> {
     #[tactic(auto, unfolding(crate::specs::stmt::Begun::for_head_at, crate::specs::Reading::chain))]
     fn for_head<'t>(&self, tokens: &'t [Token]) -> Front<'t, ForHead>
         ensures { ReadsFront for_head_view (length tokens.now) result
-            (for_head_at self.now.types.now (readers self.now.types.now self.now.nest self.now.most) (placed tokens.now)) }
+            (for_head_at self.now.types.now (readers self.now.types.now self.now.nest self.now.most)
+            (placed tokens.now)) }
     {
         let (start, after) = self.start(tokens)?;
         let (test, behind) = self.optional(Punct::Semicolon, after)?;
@@ -62,7 +68,8 @@ impl Parser<'_> {
     #[tactic(auto, unfolding(crate::specs::stmt::Begun::for_front, crate::specs::Reading::chain))]
     fn for_front<'t>(&self, pos: Pos, tokens: &'t [Token]) -> Front<'t, Begun>
         ensures { ReadsFront begun_view (length tokens.now) result
-            (for_front self.now.types.now (readers self.now.types.now self.now.nest self.now.most) pos (placed tokens.now)) }
+            (for_front self.now.types.now (readers self.now.types.now self.now.nest self.now.most) pos
+            (placed tokens.now)) }
     {
         let Some((_, inner)) = eat(Punct::LeftParen, tokens) else {
             return Err(Stop::NothingRead);
@@ -76,7 +83,8 @@ impl Parser<'_> {
     #[tactic(auto, unfolding(crate::specs::stmt::Begun::case_front, crate::specs::Reading::chain))]
     fn case_front<'t>(&self, pos: Pos, tokens: &'t [Token]) -> Front<'t, Begun>
         ensures { ReadsFront begun_view (length tokens.now) result
-            (case_front self.now.types.now (readers self.now.types.now self.now.nest self.now.most) pos (placed tokens.now)) }
+            (case_front self.now.types.now (readers self.now.types.now self.now.nest self.now.most) pos
+            (placed tokens.now)) }
     {
         let (value, _, after) = self.expr(2, tokens)?;
         let Some((_, rest)) = eat(Punct::Colon, after) else {
@@ -89,7 +97,8 @@ impl Parser<'_> {
     #[tactic(auto, unfolding(crate::specs::stmt::Begun::default_front, crate::specs::Reading::chain))]
     fn default_front<'t>(&self, pos: Pos, tokens: &'t [Token]) -> Front<'t, Begun>
         ensures { ReadsFront begun_view (length tokens.now) result
-            (default_front self.now.types.now (readers self.now.types.now self.now.nest self.now.most) pos (placed tokens.now)) }
+            (default_front self.now.types.now (readers self.now.types.now self.now.nest self.now.most) pos
+            (placed tokens.now)) }
     {
         let Some((_, rest)) = eat(Punct::Colon, tokens) else {
             return Err(Stop::NothingRead);
@@ -101,7 +110,9 @@ impl Parser<'_> {
     #[tactic(auto, unfolding(crate::specs::stmt::Begun::whole_at, crate::specs::Reading::chain))]
     fn whole<'t>(&self, tokens: &'t [Token]) -> Front<'t, Begun>
         ensures { ReadsFront begun_view (length tokens.now) result
-            (whole_at self.now.types.now (readers self.now.types.now self.now.nest self.now.most) (read_stmt self.now.types.now self.now.nest self.now.most) (read_element self.now.types.now self.now.nest self.now.most) (placed tokens.now)) }
+            (whole_at self.now.types.now (readers self.now.types.now self.now.nest self.now.most)
+            (read_stmt self.now.types.now self.now.nest self.now.most) (read_element self.now.types.now
+            self.now.nest self.now.most) (placed tokens.now)) }
     {
         let (stmt, rest) = self.jump_or_expression(tokens)?;
         Ok((Begun::Whole(stmt), rest))
@@ -111,7 +122,9 @@ impl Parser<'_> {
     #[tactic(auto, unfolding(crate::specs::stmt::Begun::label_or_whole, crate::specs::Reading::on_some))]
     fn label_or_whole<'t>(&self, tokens: &'t [Token]) -> Front<'t, Begun>
         ensures { ReadsFront begun_view (length tokens.now) result
-            (label_or_whole self.now.types.now (readers self.now.types.now self.now.nest self.now.most) (read_stmt self.now.types.now self.now.nest self.now.most) (read_element self.now.types.now self.now.nest self.now.most) (placed tokens.now)) }
+            (label_or_whole self.now.types.now (readers self.now.types.now self.now.nest self.now.most)
+            (read_stmt self.now.types.now self.now.nest self.now.most) (read_element self.now.types.now
+            self.now.nest self.now.most) (placed tokens.now)) }
     {
         if let Some((pos, rest)) = eat_key(Key::Case, tokens) {
             return self.case_front(pos, rest);
@@ -129,7 +142,9 @@ impl Parser<'_> {
     #[tactic(auto, unfolding(crate::specs::stmt::Begun::begin_at, crate::specs::Reading::on_some))]
     pub(crate) fn begin<'t>(&self, tokens: &'t [Token]) -> Front<'t, Begun>
         ensures { ReadsFront begun_view (length tokens.now) result
-            (begin_at self.now.types.now (readers self.now.types.now self.now.nest self.now.most) (read_stmt self.now.types.now self.now.nest self.now.most) (read_element self.now.types.now self.now.nest self.now.most) (placed tokens.now)) }
+            (begin_at self.now.types.now (readers self.now.types.now self.now.nest self.now.most)
+            (read_stmt self.now.types.now self.now.nest self.now.most) (read_element self.now.types.now
+            self.now.nest self.now.most) (placed tokens.now)) }
     {
         if let Some((pos, rest)) = eat(Punct::LeftBrace, tokens) {
             return Ok((Begun::Block(pos), rest));
@@ -161,7 +176,8 @@ impl Parser<'_> {
         tokens: &'t [Token],
     ) -> Front<'t, Box<Stmt>>
         ensures { ReadsFront (λ t. stmt_view t.value) (length tokens.now) result
-            (do_end self.now.types.now (readers self.now.types.now self.now.nest self.now.most) pos (stmt_view body.value) (placed tokens.now)) }
+            (do_end self.now.types.now (readers self.now.types.now self.now.nest self.now.most) pos
+            (stmt_view body.value) (placed tokens.now)) }
     {
         let Some((_, after)) = eat_key(Key::While, tokens) else {
             return Err(Stop::NothingRead);

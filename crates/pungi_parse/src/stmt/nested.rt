@@ -42,7 +42,9 @@ impl Parser<'_> {
     #[cycle(statements)]
     fn go_on<'t>(&self, begun: Begun, tokens: &'t [Token]) -> Front<'t, Box<Stmt>>
         ensures { ReadsFront (λ t. stmt_view t.value) (suc (length tokens.now)) result
-            (go_on self.now.types.now (readers self.now.types.now self.now.nest self.now.most) (read_stmt self.now.types.now self.now.nest self.now.most) (read_element self.now.types.now self.now.nest self.now.most) (begun_view begun) (placed tokens.now)) }
+            (go_on self.now.types.now (readers self.now.types.now self.now.nest self.now.most)
+            (read_stmt self.now.types.now self.now.nest self.now.most) (read_element self.now.types.now
+            self.now.nest self.now.most) (begun_view begun) (placed tokens.now)) }
     {
         match begun {
             Begun::Whole(stmt) => Ok((stmt, tokens)),
@@ -64,7 +66,9 @@ impl Parser<'_> {
     #[cycle(statements)]
     fn branch<'t>(&self, pos: Pos, test: Box<Expr>, tokens: &'t [Token]) -> Front<'t, Box<Stmt>>
         ensures { ReadsFront (λ t. stmt_view t.value) (length tokens.now) result
-            (branch_rest self.now.types.now (readers self.now.types.now self.now.nest self.now.most) (read_stmt self.now.types.now self.now.nest self.now.most) (read_element self.now.types.now self.now.nest self.now.most) pos (expr_view test.value) (placed tokens.now)) }
+            (branch_rest self.now.types.now (readers self.now.types.now self.now.nest self.now.most)
+            (read_stmt self.now.types.now self.now.nest self.now.most) (read_element self.now.types.now
+            self.now.nest self.now.most) pos (expr_view test.value) (placed tokens.now)) }
     {
         let (yes, rest) = self.stmt(tokens)?;
         match eat_key(Key::Else, rest) {
@@ -84,7 +88,9 @@ impl Parser<'_> {
     #[cycle(statements)]
     fn block<'t>(&self, pos: Pos, tokens: &'t [Token]) -> Front<'t, Box<Stmt>>
         ensures { ReadsFront (λ t. stmt_view t.value) (length tokens.now) result
-            (block_at self.now.types.now (readers self.now.types.now self.now.nest self.now.most) (read_stmt self.now.types.now self.now.nest self.now.most) (read_element self.now.types.now self.now.nest self.now.most) pos (placed tokens.now)) }
+            (block_at self.now.types.now (readers self.now.types.now self.now.nest self.now.most)
+            (read_stmt self.now.types.now self.now.nest self.now.most) (read_element self.now.types.now
+            self.now.nest self.now.most) pos (placed tokens.now)) }
     {
         let mut list = Vec::new(self.alloc);
         let mut rest = tokens;

@@ -32,7 +32,8 @@ pub(crate) fn block(
 
 /// A statement with one body, by what stands in front of the body.
 pub(crate) fn headed(pos: Pos, head: StmtHead, body: Box<Stmt>) -> Stmt
-    ensures { (types : List TheName) → (low : Lower) → (ts : List Placed) → finish_at types low pos (head_view head) (stmt_view body.value) ts ≡ Some (stmt_view result, ts) }
+    ensures { (types : List TheName) → (low : Lower) → (ts : List Placed)
+        → finish_at types low pos (head_view head) (stmt_view body.value) ts ≡ Some (stmt_view result, ts) }
 {
     let node = match head {
         StmtHead::While(test) => StmtNode::While(Box::into_inner(test), body),

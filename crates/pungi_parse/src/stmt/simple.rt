@@ -1,7 +1,9 @@
 ghost use Rattle.std.specs.Prelude.{◌≡◌, ◌<◌, length, option_map, IfSome};
 ghost use Rattle.pungi_parse.specs.Readers.{readers};
 ghost use Rattle.pungi_parse.specs.Reads.{ReadsFront};
-ghost use Rattle.pungi_parse.specs.stmt.StmtReader.{optional, condition, declare_at, start_at, expression_at, label_front, goto_at, return_at, jump_or_expression, read_stmt, read_element};
+ghost use Rattle.pungi_parse.specs.stmt.StmtReader.{optional, condition, declare_at, start_at, expression_at};
+ghost use Rattle.pungi_parse.specs.stmt.StmtReader.{label_front, goto_at, return_at, jump_or_expression, read_stmt};
+ghost use Rattle.pungi_parse.specs.stmt.StmtReader.{read_element};
 ghost use Rattle.pungi_tree.specs.ExprView.{expr_view, optional_view};
 ghost use Rattle.pungi_tree.specs.Placed.{placed};
 ghost use Rattle.pungi_tree.specs.StmtView.{for_start_view, stmt_view};
@@ -20,7 +22,8 @@ impl Parser<'_> {
     #[tactic(auto, unfolding(crate::specs::stmt::StmtReader::optional, crate::specs::Reading::chain, crate::specs::Reading::on_some))]
     pub(crate) fn optional<'t>(&self, mark: Punct, tokens: &'t [Token]) -> Front<'t, Option<Expr>>
         ensures { ReadsFront optional_view (length tokens.now) result
-            (optional self.now.types.now (readers self.now.types.now self.now.nest self.now.most) mark (placed tokens.now)) }
+            (optional self.now.types.now (readers self.now.types.now self.now.nest self.now.most) mark
+            (placed tokens.now)) }
     {
         if let Some((_, rest)) = eat(mark, tokens) {
             return Ok((None, rest));
@@ -36,7 +39,8 @@ impl Parser<'_> {
     #[tactic(auto, unfolding(crate::specs::stmt::StmtReader::condition, crate::specs::Reading::chain))]
     pub(crate) fn condition<'t>(&self, tokens: &'t [Token]) -> Front<'t, Box<Expr>>
         ensures { ReadsFront (λ t. expr_view t.value) (length tokens.now) result
-            (condition self.now.types.now (readers self.now.types.now self.now.nest self.now.most) (placed tokens.now)) }
+            (condition self.now.types.now (readers self.now.types.now self.now.nest self.now.most)
+            (placed tokens.now)) }
     {
         let Some((_, inner)) = eat(Punct::LeftParen, tokens) else {
             return Err(Stop::NothingRead);
@@ -52,7 +56,8 @@ impl Parser<'_> {
     #[tactic(auto, unfolding(crate::specs::stmt::StmtReader::declare_at, crate::specs::Reading::chain))]
     pub(crate) fn declare<'t>(&self, tokens: &'t [Token]) -> Front<'t, Box<Stmt>>
         ensures { ReadsFront (λ t. stmt_view t.value) (length tokens.now) result
-            (declare_at self.now.types.now (readers self.now.types.now self.now.nest self.now.most) (placed tokens.now)) }
+            (declare_at self.now.types.now (readers self.now.types.now self.now.nest self.now.most)
+            (placed tokens.now)) }
     {
         let Some(pos) = first_place(tokens) else {
             return Err(Stop::NothingRead);
@@ -80,7 +85,8 @@ impl Parser<'_> {
     #[tactic(auto, unfolding(crate::specs::stmt::StmtReader::expression_at, crate::specs::Reading::chain))]
     fn expression<'t>(&self, tokens: &'t [Token]) -> Front<'t, Box<Stmt>>
         ensures { ReadsFront (λ t. stmt_view t.value) (length tokens.now) result
-            (expression_at self.now.types.now (readers self.now.types.now self.now.nest self.now.most) (placed tokens.now)) }
+            (expression_at self.now.types.now (readers self.now.types.now self.now.nest self.now.most)
+            (placed tokens.now)) }
     {
         let Some(pos) = first_place(tokens) else {
             return Err(Stop::NothingRead);
@@ -94,7 +100,8 @@ impl Parser<'_> {
     #[tactic(auto, unfolding(crate::specs::stmt::StmtReader::label_front, crate::specs::Reading::chain))]
     pub(crate) fn label_front<'t>(&self, tokens: &'t [Token]) -> Option<(Name, Pos, &'t [Token])>
         ensures token { option_map (λ x. (x.0, x.1, placed x.2.now)) result
-            ≡ label_front self.now.types.now (readers self.now.types.now self.now.nest self.now.most) (placed tokens.now) }
+            ≡ label_front self.now.types.now (readers self.now.types.now self.now.nest self.now.most)
+            (placed tokens.now) }
         ensures shorter { IfSome result (λ x. length x.2.now < length tokens.now) }
     {
         let (name, pos, after) = plain_word(self.types, tokens)?;
@@ -106,7 +113,8 @@ impl Parser<'_> {
     #[tactic(auto, unfolding(crate::specs::stmt::StmtReader::goto_at, crate::specs::Reading::chain))]
     fn goto<'t>(&self, pos: Pos, tokens: &'t [Token]) -> Front<'t, Box<Stmt>>
         ensures { ReadsFront (λ t. stmt_view t.value) (length tokens.now) result
-            (goto_at self.now.types.now (readers self.now.types.now self.now.nest self.now.most) pos (placed tokens.now)) }
+            (goto_at self.now.types.now (readers self.now.types.now self.now.nest self.now.most) pos
+            (placed tokens.now)) }
     {
         let Some((name, at, after)) = plain_word(self.types, tokens) else {
             return Err(Stop::NothingRead);
@@ -122,7 +130,8 @@ impl Parser<'_> {
     #[tactic(auto, unfolding(crate::specs::stmt::StmtReader::return_at, crate::specs::Reading::chain))]
     fn give_back<'t>(&self, pos: Pos, tokens: &'t [Token]) -> Front<'t, Box<Stmt>>
         ensures { ReadsFront (λ t. stmt_view t.value) (length tokens.now) result
-            (return_at self.now.types.now (readers self.now.types.now self.now.nest self.now.most) pos (placed tokens.now)) }
+            (return_at self.now.types.now (readers self.now.types.now self.now.nest self.now.most) pos
+            (placed tokens.now)) }
     {
         let (e, rest) = self.optional(Punct::Semicolon, tokens)?;
         let node = StmtNode::Return(e);
@@ -133,7 +142,9 @@ impl Parser<'_> {
     #[tactic(auto, unfolding(crate::specs::stmt::StmtReader::jump_or_expression, crate::specs::Reading::chain, crate::specs::Reading::on_some))]
     pub(crate) fn jump_or_expression<'t>(&self, tokens: &'t [Token]) -> Front<'t, Box<Stmt>>
         ensures { ReadsFront (λ t. stmt_view t.value) (length tokens.now) result
-            (jump_or_expression self.now.types.now (readers self.now.types.now self.now.nest self.now.most) (read_stmt self.now.types.now self.now.nest self.now.most) (read_element self.now.types.now self.now.nest self.now.most) (placed tokens.now)) }
+            (jump_or_expression self.now.types.now (readers self.now.types.now self.now.nest self.now.most)
+            (read_stmt self.now.types.now self.now.nest self.now.most) (read_element self.now.types.now
+            self.now.nest self.now.most) (placed tokens.now)) }
     {
         if let Some((pos, after)) = eat_key(Key::Goto, tokens) {
             return self.goto(pos, after);

@@ -1,5 +1,6 @@
 ghost use Rattle.std.specs.Prelude.{◌≡◌, ◌<◌, length, IfSome, option_map};
-ghost use Rattle.pungi_parse.specs.types.TypeReader.{type_word, plain_word, begins_type, begins_decl, begins_name, dots_front, void_front, unused_front};
+ghost use Rattle.pungi_parse.specs.types.TypeReader.{type_word, plain_word, begins_type, begins_decl, begins_name};
+ghost use Rattle.pungi_parse.specs.types.TypeReader.{dots_front, void_front, unused_front};
 ghost use Rattle.pungi_parse.specs.ReaderParts.{function_front, goes_on, sizeof_front};
 ghost use Rattle.pungi_parse.specs.expr.ExprReader.{new_front, cast_front};
 ghost use Rattle.pungi_tree.specs.Placed.{placed};

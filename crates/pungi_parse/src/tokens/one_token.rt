@@ -1,5 +1,6 @@
 ghost use Rattle.std.specs.Prelude.{◌≡◌, ◌<◌, length, IfSome, option_map};
-ghost use Rattle.pungi_parse.specs.tokens.OneToken.{eat, eat_key, eat_word, eat_text, eat_listed, eat_literal, eat_prefix, eat_operator, eat_assign, eat_step};
+ghost use Rattle.pungi_parse.specs.tokens.OneToken.{eat, eat_key, eat_word, eat_text, eat_listed, eat_literal};
+ghost use Rattle.pungi_parse.specs.tokens.OneToken.{eat_prefix, eat_operator, eat_assign, eat_step};
 ghost use Rattle.pungi_tree.specs.ExprView.{expr_view};
 ghost use Rattle.pungi_tree.specs.Operators as operators;
 ghost use Rattle.pungi_tree.specs.Placed.{placed, first_place};

@@ -1,5 +1,6 @@
 ghost use Rattle.std.specs.Prelude.{◌≡◌};
-ghost use Rattle.pungi_tree.specs.Operators.{binary_level, is_assign, prefix_mark_need, is_step, is_base_word, is_qualifier, is_aggregate, level as level_of};
+ghost use Rattle.pungi_tree.specs.Operators.{binary_level, is_assign, prefix_mark_need, is_step, is_base_word};
+ghost use Rattle.pungi_tree.specs.Operators.{is_qualifier, is_aggregate, level as level_of};
 ghost use Rattle.pungi_tree.specs.ExprView.{expr_view};
 
 use pungi_base::{Key, Punct};

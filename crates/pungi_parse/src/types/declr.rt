@@ -2,7 +2,8 @@ ghost use Rattle.std.specs.Prelude.{suc, length, map};
 ghost use Rattle.pungi_parse.specs.Readers.{readers};
 ghost use Rattle.pungi_parse.specs.Reads.{Reads};
 ghost use Rattle.pungi_parse.specs.ReaderParts.{size_at, size_depth};
-ghost use Rattle.pungi_parse.specs.types.TypeReader.{declrs as declrs_of_tokens, declr_at, declr_rest, function_rest, sizes_at};
+ghost use Rattle.pungi_parse.specs.types.TypeReader.{declrs as declrs_of_tokens, declr_at, declr_rest, function_rest};
+ghost use Rattle.pungi_parse.specs.types.TypeReader.{sizes_at};
 ghost use Rattle.pungi_tree.specs.ExprDepth.{declr_depth, declrs_depth, sizes_depth};
 ghost use Rattle.pungi_tree.specs.ExprView.{declr_view, declrs_of, sizes_of, optional_view};
 ghost use Rattle.pungi_tree.specs.Placed.{placed};
@@ -83,7 +84,8 @@ impl Parser<'_> {
     /// The brackets of an array (C11 6.7.6.2).
     #[cycle(parts)]
     fn sizes<'t>(&self, tokens: &'t [Token]) -> Read<'t, Vec<Option<Expr>>>
-        ensures { Reads (λ t. sizes_of (map optional_view t.items)) sizes_depth self.now.most (suc (length tokens.now)) result
+        ensures { Reads (λ t. sizes_of (map optional_view t.items)) sizes_depth self.now.most
+            (suc (length tokens.now)) result
             (sizes_at self.now.types.now (readers self.now.types.now self.now.nest self.now.most)
             (placed tokens.now)) }
     {

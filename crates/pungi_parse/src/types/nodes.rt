@@ -1,5 +1,7 @@
 ghost use Rattle.std.specs.Prelude.{◌≡◌, Some, None, IfOk, false, map};
-ghost use Rattle.pungi_tree.specs.ExprView.{base_view, field_view, fields_of, spec_view, type_name_view, declr_view, declrs_of, sizes_of, optional_view, params_view, param_declr_view, param_decl_view, param_decls_of};
+ghost use Rattle.pungi_tree.specs.ExprView.{base_view, field_view, fields_of, spec_view, type_name_view, declr_view};
+ghost use Rattle.pungi_tree.specs.ExprView.{declrs_of, sizes_of, optional_view, params_view, param_declr_view};
+ghost use Rattle.pungi_tree.specs.ExprView.{param_decl_view, param_decls_of};
 ghost use Rattle.pungi_tree.specs.Syntax as plain;
 
 use pungi_base::{Key, Memory, Name, Pos};

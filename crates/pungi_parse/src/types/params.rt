@@ -1,7 +1,8 @@
 ghost use Rattle.std.specs.Prelude.{suc, length};
 ghost use Rattle.pungi_parse.specs.Readers.{readers};
 ghost use Rattle.pungi_parse.specs.Reads.{Reads};
-ghost use Rattle.pungi_parse.specs.types.TypeReader.{params_at, some_params, param as param_of, param_declr_at, param_rest};
+ghost use Rattle.pungi_parse.specs.types.TypeReader.{params_at, some_params, param as param_of, param_declr_at};
+ghost use Rattle.pungi_parse.specs.types.TypeReader.{param_rest};
 ghost use Rattle.pungi_tree.specs.ExprDepth.{params_depth, param_decl_depth, param_declr_depth};
 ghost use Rattle.pungi_tree.specs.ExprView.{params_view, param_decl_view, param_declr_view};
 ghost use Rattle.pungi_tree.specs.Placed.{placed};

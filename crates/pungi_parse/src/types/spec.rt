@@ -1,9 +1,13 @@
 ghost use Rattle.std.specs.Prelude.{suc, length, map};
 ghost use Rattle.pungi_parse.specs.Readers.{readers};
 ghost use Rattle.pungi_parse.specs.Reads.{Reads};
-ghost use Rattle.pungi_parse.specs.types.TypeReader.{type_name_at, spec_at, base_at, aggregate, fields_at, fields as fields_of_tokens, field as field_of, declrs as declrs_of_tokens};
-ghost use Rattle.pungi_tree.specs.ExprDepth.{type_name_depth, spec_depth, base_depth, field_depth, fields_depth, declrs_depth};
-ghost use Rattle.pungi_tree.specs.ExprView.{type_name_view, spec_view, base_view, field_view, fields_of, declr_view, declrs_of};
+ghost use Rattle.pungi_parse.specs.types.TypeReader.{type_name_at, spec_at, base_at, aggregate, fields_at};
+ghost use Rattle.pungi_parse.specs.types.TypeReader.{fields as fields_of_tokens, field as field_of};
+ghost use Rattle.pungi_parse.specs.types.TypeReader.{declrs as declrs_of_tokens};
+ghost use Rattle.pungi_tree.specs.ExprDepth.{type_name_depth, spec_depth, base_depth, field_depth, fields_depth};
+ghost use Rattle.pungi_tree.specs.ExprDepth.{declrs_depth};
+ghost use Rattle.pungi_tree.specs.ExprView.{type_name_view, spec_view, base_view, field_view, fields_of, declr_view};
+ghost use Rattle.pungi_tree.specs.ExprView.{declrs_of};
 ghost use Rattle.pungi_tree.specs.Placed.{placed};
 
 use crate::parser::{Parser, Read};
@@ -130,7 +134,8 @@ impl Parser<'_> {
     /// The lines up to the closing brace, which stays (C11 6.7.2.1).
     #[cycle(parts)]
     fn fields<'t>(&self, tokens: &'t [Token]) -> Read<'t, Vec<Field>>
-        ensures { Reads (λ t. fields_of (map field_view t.items)) fields_depth self.now.most (suc (length tokens.now)) result
+        ensures { Reads (λ t. fields_of (map field_view t.items)) fields_depth self.now.most
+            (suc (length tokens.now)) result
             (fields_of_tokens self.now.types.now (readers self.now.types.now self.now.nest self.now.most)
             (suc (length (placed tokens.now))) (placed tokens.now)) }
     {

@@ -58,7 +58,8 @@ fn marks_at(alloc: Global, words: &[Name]) -> Result<Vec<bool>, Memory>
 
 /// Sets the mark at a number.
 fn mark(marks: &mut Vec<bool>, number: usize) -> Result<(), Memory>
-    ensures { OnOk result ((k : ℕ) → slice_index_or marks.new.items k false ≡ (if k == number then true else slice_index_or marks.old.items k false)) }
+    ensures { OnOk result ((k : ℕ) → slice_index_or marks.new.items k false
+        ≡ (if k == number then true else slice_index_or marks.old.items k false)) }
 {
     'room: while marks.len() <= number {
         marks.push(false)?;

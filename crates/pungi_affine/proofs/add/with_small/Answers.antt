@@ -18,76 +18,140 @@ use Rattle.pungi_affine.proofs.add.with_small.Goals as goal
 
 pub returns-in_default-clause-adds : goal.returns-in_default-clause-adds
 returns-in_default-clause-adds c =
-    let left = rw (to_z-of_z w64 c.span.inside.scale (box_fits c.span.inside.scale c.span.invariant.scale), c.as_slice-rows.ensures.value) at c.in_ok-left.ensures in
+    let left = rw (
+      to_z-of_z w64 c.span.inside.scale (box_fits c.span.inside.scale c.span.invariant.scale),
+      c.as_slice-rows.ensures.value,
+    ) at c.in_ok-left.ensures in
     let len = rw (← c.span.view_is) at c.requires.width in
     let none = rw (c.in_default.is, c.as_slice.ensures.value) at c.in_ok-new.ensures in
-    rw (← c.span.view_is) (left_member c.span.inside.width c.span.inside.scale (lines c.span.inside.rows.items) c.args.v.now c.in_ok-left.left.items c.span.invariant len left none)
+    rw (← c.span.view_is) (left_member c.span.inside.width c.span.inside.scale (lines c.span.inside.rows.items)
+    c.args.v.now c.in_ok-left.left.items c.span.invariant len left none)
 
 pub returns-in_default-clause-range : goal.returns-in_default-clause-range
 returns-in_default-clause-range c =
-    let left = rw (to_z-of_z w64 c.span.inside.scale (box_fits c.span.inside.scale c.span.invariant.scale), c.as_slice-rows.ensures.value) at c.in_ok-left.ensures in
+    let left = rw (
+      to_z-of_z w64 c.span.inside.scale (box_fits c.span.inside.scale c.span.invariant.scale),
+      c.as_slice-rows.ensures.value,
+    ) at c.in_ok-left.ensures in
     let len = rw (← c.span.view_is) at c.requires.width in
     let none = rw (c.in_default.is, c.as_slice.ensures.value) at c.in_ok-new.ensures in
     let w : ℕ = c.span.inside.width in
-    let m = left_member w c.span.inside.scale (lines c.span.inside.rows.items) c.args.v.now c.in_ok-left.left.items c.span.invariant len left none in
-    rw (← c.span.view_is) (λ r h. kept_not_large w c.span.inside.scale (lines c.span.inside.rows.items) c.span.invariant r
-    (large_row_same w (Plus w (InSpan w (vectors (lines c.span.inside.rows.items))) (at c.args.v.now)) (InSpan w (vectors (lines c.span.inside.rows.items))) (member_plus w (vectors (lines c.span.inside.rows.items)) (at c.args.v.now) m) r h))
+    let m = left_member w c.span.inside.scale (lines c.span.inside.rows.items) c.args.v.now c.in_ok-left.left.items
+    c.span.invariant len left none in
+    rw (← c.span.view_is) (λ r h. kept_not_large w c.span.inside.scale (lines c.span.inside.rows.items)
+    c.span.invariant r
+    (large_row_same w (Plus w (InSpan w (vectors (lines c.span.inside.rows.items))) (at c.args.v.now))
+    (InSpan w (vectors (lines c.span.inside.rows.items))) (member_plus w (vectors
+    (lines c.span.inside.rows.items)) (at c.args.v.now) m) r h))
 
 pub extended_form-requires-clause-new : goal.extended_form-requires-clause-new
 extended_form-requires-clause-new c =
-    let left = rw (to_z-of_z w64 c.span.inside.scale (box_fits c.span.inside.scale c.span.invariant.scale), c.as_slice-rows.ensures.value) at c.in_ok-left.ensures in
+    let left = rw (
+      to_z-of_z w64 c.span.inside.scale (box_fits c.span.inside.scale c.span.invariant.scale),
+      c.as_slice-rows.ensures.value,
+    ) at c.in_ok-left.ensures in
     let part = rw (c.in-Some.is, c.as_slice.ensures.value) at c.in_ok-new.ensures in
-    part_wide c.span.inside.scale (lines c.span.inside.rows.items) c.args.v.now c.in_ok-left.left.items c.in-Some.new.pivot c.in-Some.new.entries.items left part
+    part_wide c.span.inside.scale (lines c.span.inside.rows.items) c.args.v.now c.in_ok-left.left.items
+    c.in-Some.new.pivot c.in-Some.new.entries.items left part
 
 pub reduced_span-requires : goal.reduced_span-requires
 reduced_span-requires c =
-    let left = rw (to_z-of_z w64 c.span.inside.scale (box_fits c.span.inside.scale c.span.invariant.scale), c.as_slice-rows.ensures.value) at c.in_ok-left.ensures in
+    let left = rw (
+      to_z-of_z w64 c.span.inside.scale (box_fits c.span.inside.scale c.span.invariant.scale),
+      c.as_slice-rows.ensures.value,
+    ) at c.in_ok-left.ensures in
     let part = rw (c.in-Some.is, c.as_slice.ensures.value) at c.in_ok-new.ensures in
-    let x = rw (to_z-of_z w64 c.span.inside.scale (box_fits c.span.inside.scale c.span.invariant.scale), c.as_slice-rows.ensures.value) at c.in_ok-form.ensures in
+    let x = rw (
+      to_z-of_z w64 c.span.inside.scale (box_fits c.span.inside.scale c.span.invariant.scale),
+      c.as_slice-rows.ensures.value,
+    ) at c.in_ok-form.ensures in
     let len = rw (← c.span.view_is) at c.requires.width in
-    (extension c.span.inside.width c.span.inside.scale (lines c.span.inside.rows.items) c.args.v.now c.in_ok-left.left.items (wide_line c.in-Some.new) c.in_ok-form.form.scale (wide_lines c.in_ok-form.form.rows.items) c.span.invariant len left part x).wide
+    (extension c.span.inside.width c.span.inside.scale (lines c.span.inside.rows.items) c.args.v.now
+    c.in_ok-left.left.items (wide_line c.in-Some.new) c.in_ok-form.form.scale
+    (wide_lines c.in_ok-form.form.rows.items) c.span.invariant len left part x).wide
 
 pub returns-in_err-grown-clause-range : goal.returns-in_err-grown-clause-range
 returns-in_err-grown-clause-range c =
-    let left = rw (to_z-of_z w64 c.span.inside.scale (box_fits c.span.inside.scale c.span.invariant.scale), c.as_slice-rows.ensures.value) at c.in_ok-left.ensures in
+    let left = rw (
+      to_z-of_z w64 c.span.inside.scale (box_fits c.span.inside.scale c.span.invariant.scale),
+      c.as_slice-rows.ensures.value,
+    ) at c.in_ok-left.ensures in
     let part = rw (c.in-Some.is, c.as_slice.ensures.value) at c.in_ok-new.ensures in
-    let x = rw (to_z-of_z w64 c.span.inside.scale (box_fits c.span.inside.scale c.span.invariant.scale), c.as_slice-rows.ensures.value) at c.in_ok-form.ensures in
+    let x = rw (
+      to_z-of_z w64 c.span.inside.scale (box_fits c.span.inside.scale c.span.invariant.scale),
+      c.as_slice-rows.ensures.value,
+    ) at c.in_ok-form.ensures in
     let len = rw (← c.span.view_is) at c.requires.width in
     let w : ℕ = c.span.inside.width in
-    let e = extension w c.span.inside.scale (lines c.span.inside.rows.items) c.args.v.now c.in_ok-left.left.items (wide_line c.in-Some.new) c.in_ok-form.form.scale (wide_lines c.in_ok-form.form.rows.items) c.span.invariant len left part x in
+    let e = extension w c.span.inside.scale (lines c.span.inside.rows.items) c.args.v.now c.in_ok-left.left.items
+    (wide_line c.in-Some.new) c.in_ok-form.form.scale (wide_lines c.in_ok-form.form.rows.items) c.span.invariant
+    len left part x in
     let p = err_from_is_err_and c.from_residual-in_err-grown.result c.from_residual-in_err-grown.ensures.1 in
-    rw (← c.span.view_is) (rw (p.1, p.2) (range_fault ℕ ℕ (LargeRow w (InSpan w (vectors (wide_lines c.in_ok-form.form.rows.items)))) (LargeRow w (Plus w (InSpan w (vectors (lines c.span.inside.rows.items))) (at c.args.v.now)))
-    (large_row_same w (InSpan w (vectors (wide_lines c.in_ok-form.form.rows.items))) (Plus w (InSpan w (vectors (lines c.span.inside.rows.items))) (at c.args.v.now))
-    (same_swap (Plus w (InSpan w (vectors (lines c.span.inside.rows.items))) (at c.args.v.now)) (InSpan w (vectors (wide_lines c.in_ok-form.form.rows.items)))
-    (same_chain (Plus w (InSpan w (vectors (lines c.span.inside.rows.items))) (at c.args.v.now)) (InSpan w (c.args.v.now ∷ vectors (lines c.span.inside.rows.items))) (InSpan w (vectors (wide_lines c.in_ok-form.form.rows.items))) (plus_span w (vectors (lines c.span.inside.rows.items)) c.args.v.now) e.members)))
+    rw (← c.span.view_is) (rw (p.1, p.2) (range_fault ℕ ℕ (LargeRow w (InSpan w
+    (vectors (wide_lines c.in_ok-form.form.rows.items)))) (LargeRow w (Plus w
+    (InSpan w (vectors (lines c.span.inside.rows.items))) (at c.args.v.now)))
+    (large_row_same w (InSpan w (vectors (wide_lines c.in_ok-form.form.rows.items)))
+    (Plus w (InSpan w (vectors (lines c.span.inside.rows.items))) (at c.args.v.now))
+    (same_swap (Plus w (InSpan w (vectors (lines c.span.inside.rows.items))) (at c.args.v.now))
+    (InSpan w (vectors (wide_lines c.in_ok-form.form.rows.items)))
+    (same_chain (Plus w (InSpan w (vectors (lines c.span.inside.rows.items))) (at c.args.v.now))
+    (InSpan w (c.args.v.now ∷ vectors (lines c.span.inside.rows.items))) (InSpan w
+    (vectors (wide_lines c.in_ok-form.form.rows.items))) (plus_span w (vectors (lines c.span.inside.rows.items))
+    c.args.v.now) e.members)))
     c.in_err-grown.field-0.0 c.in_err-grown.ensures.range))
 
 pub returns-clause-adds : goal.returns-clause-adds
 returns-clause-adds c =
-    let left = rw (to_z-of_z w64 c.span.inside.scale (box_fits c.span.inside.scale c.span.invariant.scale), c.as_slice-rows.ensures.value) at c.in_ok-left.ensures in
+    let left = rw (
+      to_z-of_z w64 c.span.inside.scale (box_fits c.span.inside.scale c.span.invariant.scale),
+      c.as_slice-rows.ensures.value,
+    ) at c.in_ok-left.ensures in
     let part = rw (c.in-Some.is, c.as_slice.ensures.value) at c.in_ok-new.ensures in
-    let x = rw (to_z-of_z w64 c.span.inside.scale (box_fits c.span.inside.scale c.span.invariant.scale), c.as_slice-rows.ensures.value) at c.in_ok-form.ensures in
+    let x = rw (
+      to_z-of_z w64 c.span.inside.scale (box_fits c.span.inside.scale c.span.invariant.scale),
+      c.as_slice-rows.ensures.value,
+    ) at c.in_ok-form.ensures in
     let len = rw (← c.span.view_is) at c.requires.width in
     let w : ℕ = c.span.inside.width in
-    let e = extension w c.span.inside.scale (lines c.span.inside.rows.items) c.args.v.now c.in_ok-left.left.items (wide_line c.in-Some.new) c.in_ok-form.form.scale (wide_lines c.in_ok-form.form.rows.items) c.span.invariant len left part x in
+    let e = extension w c.span.inside.scale (lines c.span.inside.rows.items) c.args.v.now c.in_ok-left.left.items
+    (wide_line c.in-Some.new) c.in_ok-form.form.scale (wide_lines c.in_ok-form.form.rows.items) c.span.invariant
+    len left part x in
     rw (← c.span.view_is) (record {
       width = c.in_ok-grown.ensures.width;
       more = c.in_ok-grown.ensures.count ∙ e.count;
-      few = (let f = e.wide.few in let a = c.in_ok-grown.ensures.count in let b = c.in_ok-grown.ensures.width in omega (arith, f, a, b));
-      members = same_chain (Plus w (InSpan w (vectors (lines c.span.inside.rows.items))) (at c.args.v.now)) (InSpan w (vectors (wide_lines c.in_ok-form.form.rows.items))) (SpanMember c.in_ok-grown.grown)
-          (same_chain (Plus w (InSpan w (vectors (lines c.span.inside.rows.items))) (at c.args.v.now)) (InSpan w (c.args.v.now ∷ vectors (lines c.span.inside.rows.items))) (InSpan w (vectors (wide_lines c.in_ok-form.form.rows.items))) (plus_span w (vectors (lines c.span.inside.rows.items)) c.args.v.now) e.members)
+      few = (let f = e.wide.few in let a = c.in_ok-grown.ensures.count in let b = c.in_ok-grown.ensures.width in
+          omega (arith, f, a, b));
+      members = same_chain (Plus w (InSpan w (vectors (lines c.span.inside.rows.items))) (at c.args.v.now))
+          (InSpan w (vectors (wide_lines c.in_ok-form.form.rows.items))) (SpanMember c.in_ok-grown.grown)
+          (same_chain (Plus w (InSpan w (vectors (lines c.span.inside.rows.items))) (at c.args.v.now))
+          (InSpan w (c.args.v.now ∷ vectors (lines c.span.inside.rows.items))) (InSpan w
+          (vectors (wide_lines c.in_ok-form.form.rows.items))) (plus_span w (vectors
+          (lines c.span.inside.rows.items)) c.args.v.now) e.members)
           c.in_ok-grown.ensures.members;
-      new = left_no_member w c.span.inside.scale (lines c.span.inside.rows.items) c.args.v.now c.in_ok-left.left.items c.in-Some.new.pivot c.in-Some.new.entries.items c.span.invariant len left part;
+      new = left_no_member w c.span.inside.scale (lines c.span.inside.rows.items) c.args.v.now
+          c.in_ok-left.left.items c.in-Some.new.pivot c.in-Some.new.entries.items c.span.invariant len left part;
     })
 
 pub returns-clause-range : goal.returns-clause-range
 returns-clause-range c =
-    let left = rw (to_z-of_z w64 c.span.inside.scale (box_fits c.span.inside.scale c.span.invariant.scale), c.as_slice-rows.ensures.value) at c.in_ok-left.ensures in
+    let left = rw (
+      to_z-of_z w64 c.span.inside.scale (box_fits c.span.inside.scale c.span.invariant.scale),
+      c.as_slice-rows.ensures.value,
+    ) at c.in_ok-left.ensures in
     let part = rw (c.in-Some.is, c.as_slice.ensures.value) at c.in_ok-new.ensures in
-    let x = rw (to_z-of_z w64 c.span.inside.scale (box_fits c.span.inside.scale c.span.invariant.scale), c.as_slice-rows.ensures.value) at c.in_ok-form.ensures in
+    let x = rw (
+      to_z-of_z w64 c.span.inside.scale (box_fits c.span.inside.scale c.span.invariant.scale),
+      c.as_slice-rows.ensures.value,
+    ) at c.in_ok-form.ensures in
     let len = rw (← c.span.view_is) at c.requires.width in
     let w : ℕ = c.span.inside.width in
-    let e = extension w c.span.inside.scale (lines c.span.inside.rows.items) c.args.v.now c.in_ok-left.left.items (wide_line c.in-Some.new) c.in_ok-form.form.scale (wide_lines c.in_ok-form.form.rows.items) c.span.invariant len left part x in
+    let e = extension w c.span.inside.scale (lines c.span.inside.rows.items) c.args.v.now c.in_ok-left.left.items
+    (wide_line c.in-Some.new) c.in_ok-form.form.scale (wide_lines c.in_ok-form.form.rows.items) c.span.invariant
+    len left part x in
     rw (← c.span.view_is) (λ r h. c.in_ok-grown.ensures.range r
-    (large_row_same w (Plus w (InSpan w (vectors (lines c.span.inside.rows.items))) (at c.args.v.now)) (InSpan w (vectors (wide_lines c.in_ok-form.form.rows.items)))
-    (same_chain (Plus w (InSpan w (vectors (lines c.span.inside.rows.items))) (at c.args.v.now)) (InSpan w (c.args.v.now ∷ vectors (lines c.span.inside.rows.items))) (InSpan w (vectors (wide_lines c.in_ok-form.form.rows.items))) (plus_span w (vectors (lines c.span.inside.rows.items)) c.args.v.now) e.members) r h))
+    (large_row_same w (Plus w (InSpan w (vectors (lines c.span.inside.rows.items))) (at c.args.v.now))
+    (InSpan w (vectors (wide_lines c.in_ok-form.form.rows.items)))
+    (same_chain (Plus w (InSpan w (vectors (lines c.span.inside.rows.items))) (at c.args.v.now))
+    (InSpan w (c.args.v.now ∷ vectors (lines c.span.inside.rows.items))) (InSpan w
+    (vectors (wide_lines c.in_ok-form.form.rows.items))) (plus_span w (vectors (lines c.span.inside.rows.items))
+    c.args.v.now) e.members) r h))

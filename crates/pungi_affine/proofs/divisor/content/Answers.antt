@@ -10,5 +10,7 @@ use Rattle.pungi_affine.proofs.divisor.content.Goals as goal
 pub loop-entry-preserved : goal.loop-entry-preserved
 loop-entry-preserved c =
     let f : SFits w128 (slice_index_or c.args.entries.now c.loop-entry.entry-index (pos 0)) = search rules in
-    content_more c.args.entries.now c.loop-entry.entry-index c.loop-entry.common c.gcd-common.result _ c.loop-entry-test.true refl c.loop-entry.invariant
-    (subst (λ (n : ℕ). IsCommon c.loop-entry.common n c.gcd-common.result) (c.unsigned_abs.ensures.value ∙ ap unsigned_abs (to_z-of_z w128 _ f)) c.gcd-common.ensures)
+    content_more c.args.entries.now c.loop-entry.entry-index c.loop-entry.common c.gcd-common.result _
+    c.loop-entry-test.true refl c.loop-entry.invariant
+    (subst (λ (n : ℕ). IsCommon c.loop-entry.common n c.gcd-common.result)
+    (c.unsigned_abs.ensures.value ∙ ap unsigned_abs (to_z-of_z w128 _ f)) c.gcd-common.ensures)

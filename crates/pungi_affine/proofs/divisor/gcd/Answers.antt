@@ -7,7 +7,11 @@ use Rattle.pungi_affine.proofs.divisor.gcd.Goals as goal
 pub loop-y-preserved : goal.loop-y-preserved
 loop-y-preserved c = record {
   back = λ g h k. c.loop-y.invariant.back g (step_back g c.loop-y.x c.loop-y.y (omega arith) h k) h;
-  on = λ m e p q. let r = c.loop-y.invariant.on m e p q in (r.1, step_on m e c.loop-y.x c.loop-y.y (omega arith) r.0 r.1);
+  on = λ m e p q. let r = c.loop-y.invariant.on m e p q in (
+    r.1,
+    step_on m e c.loop-y.x c.loop-y.y (omega arith) r.0
+        r.1,
+  );
 }
 
 pub returns : goal.returns

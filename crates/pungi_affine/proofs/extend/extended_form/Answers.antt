@@ -11,7 +11,8 @@ returns c =
     let f : SFits w128 c.multiple_entry-scale.result = search rules in
     let m = rw c.as_slice-u.ensures.value at c.in_ok-wide.ensures in
     let d = rw (to_z-of_z w64 c.args.d c.ranges.d) at c.in_ok-row.ensures in
-    let s = rw (to_z-of_z w64 c.args.d c.ranges.d, c.as_slice-u.ensures.value) at c.multiple_entry-scale.ensures.value in
+    let s = rw (to_z-of_z w64 c.args.d c.ranges.d, c.as_slice-u.ensures.value) at
+    c.multiple_entry-scale.ensures.value in
     record {
       mixes = wide_lines c.in_ok-wide.wide.items;
       mixed = m;
@@ -19,6 +20,7 @@ returns c =
       multiple = d;
       place = c.place.result;
       is_place = c.place.ensures;
-      rows = ap wide_lines c.in_ok-insert.ensures.items ∙ mapped_insert wide_line c.place.result c.in_ok-wide.wide.items c.in_ok-row.row;
+      rows = ap wide_lines c.in_ok-insert.ensures.items ∙ mapped_insert wide_line c.place.result
+          c.in_ok-wide.wide.items c.in_ok-row.row;
       scale = to_z-of_z w128 c.multiple_entry-scale.result f ∙ s;
     }

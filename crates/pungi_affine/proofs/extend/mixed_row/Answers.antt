@@ -13,7 +13,13 @@ loop-i-preserved c =
     let f : SFits w128 c.mixed_entry.result = search rules in
     record {
       lengths = search rules;
-      each = rw (c.in_ok-push.ensures.items, to_z-of_z w128 c.mixed_entry.result f) (each_pushed (λ j x. (x ≡ mixed_entry c.args.u.now c.args.q c.args.row.now.entries.items j) × IsWithin (2 ^ 126 + 2 ^ 91) x) c.loop-i.entries.items c.loop-i.i c.mixed_entry.result c.loop-i.invariant.lengths c.loop-i.invariant.each (c.mixed_entry.ensures.value, c.mixed_entry.ensures.within));
+      each = rw (c.in_ok-push.ensures.items, to_z-of_z w128 c.mixed_entry.result f)
+          (each_pushed (λ j x. (x ≡ mixed_entry c.args.u.now c.args.q c.args.row.now.entries.items j)
+          × IsWithin (2 ^ 126 + 2 ^ 91) x) c.loop-i.entries.items c.loop-i.i c.mixed_entry.result
+          c.loop-i.invariant.lengths c.loop-i.invariant.each (
+            c.mixed_entry.ensures.value,
+            c.mixed_entry.ensures.within,
+          ));
     }
 
 pub returns : goal.returns

@@ -6,5 +6,6 @@ use Rattle.pungi_affine.proofs.extend.mixed_row.Given as goal
 abbrev pub invariant-loop-i : goal.invariant-loop-i
 invariant-loop-i l = record {
   lengths : length l.entries.items ≡ l.i;
-  each : (j : ℕ) → j < l.i → (at l.entries.items j ≡ mixed_entry l.u l.q l.row.entries.items j) × IsWithin (2 ^ 126 + 2 ^ 91) (at l.entries.items j);
+  each : (j : ℕ) → j < l.i → (at l.entries.items j ≡ mixed_entry l.u l.q l.row.entries.items j)
+      × IsWithin (2 ^ 126 + 2 ^ 91) (at l.entries.items j);
 }

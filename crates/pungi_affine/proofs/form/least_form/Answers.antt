@@ -14,4 +14,6 @@ returns c =
     let q = rw (to_z-of_z w128 g f, c.as_slice.ensures.value) at c.in_ok-rows.ensures in
     let s = rw (to_z-of_z w128 g f) at c.divided_scale.ensures in
     rw (to_z-of_z w128 c.divided_scale.result e)
-    (quotient_least c.args.width c.args.form.now.scale (wide_lines c.args.form.now.rows.items) c.requires g c.divided_scale.result c.common_divisor-g.ensures.positive s (wide_lines c.in_ok-rows.rows.items) q c.common_divisor-g.ensures.shared)
+    (quotient_least c.args.width c.args.form.now.scale (wide_lines c.args.form.now.rows.items) c.requires g
+    c.divided_scale.result c.common_divisor-g.ensures.positive s (wide_lines c.in_ok-rows.rows.items) q
+    c.common_divisor-g.ensures.shared)

@@ -11,7 +11,10 @@ loop-i-preserved c =
     let f : SFits w128 c.image_at.result = search rules in
     record {
       lengths = search rules;
-      each = rw (c.in_ok-push.ensures.items, to_z-of_z w128 c.image_at.result f) (each_pushed (λ j x. (x ≡ image c.args.matrix.now (at c.as_slice-kept.result.now) j) × IsWithin (2 ^ 126) x) c.loop-i.entries.items c.loop-i.i c.image_at.result c.loop-i.invariant.lengths c.loop-i.invariant.each (c.image_at.ensures.value, c.image_at.ensures.within));
+      each = rw (c.in_ok-push.ensures.items, to_z-of_z w128 c.image_at.result f)
+          (each_pushed (λ j x. (x ≡ image c.args.matrix.now (at c.as_slice-kept.result.now) j) × IsWithin (2 ^ 126) x)
+          c.loop-i.entries.items c.loop-i.i c.image_at.result c.loop-i.invariant.lengths c.loop-i.invariant.each
+          (c.image_at.ensures.value, c.image_at.ensures.within));
     }
 
 pub returns : goal.returns
@@ -19,5 +22,6 @@ returns c =
     let n = c.loop-i.invariant.lengths in
     record {
       lengths = omega arith;
-      each = λ i lt. let h = c.loop-i.invariant.each i (omega (arith, lt)) in (h.0 ∙ ap (λ xs. image c.args.matrix.now (at xs) i) c.as_slice-kept.ensures.value, h.1);
+      each = λ i lt. let h = c.loop-i.invariant.each i (omega (arith, lt)) in
+          (h.0 ∙ ap (λ xs. image c.args.matrix.now (at xs) i) c.as_slice-kept.ensures.value, h.1);
     }

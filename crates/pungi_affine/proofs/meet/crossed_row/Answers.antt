@@ -13,5 +13,12 @@ loop-i-preserved c =
     let f : SFits w128 c.crossed_entry.result = search rules in
     record {
       lengths = search rules;
-      each = rw (c.in_ok-push.ensures.items, to_z-of_z w128 c.crossed_entry.result f) (each_pushed (λ j x. (x ≡ crossed_entry (at c.args.sums.now c.args.p) (line (lines c.args.rows.now) c.args.k) (at c.args.sums.now c.args.k) (line (lines c.args.rows.now) c.args.p) j) × IsWithin (2 ^ 126 + 2 ^ 91) x) c.loop-i.entries.items c.loop-i.i c.crossed_entry.result c.loop-i.invariant.lengths c.loop-i.invariant.each (c.crossed_entry.ensures.value, c.crossed_entry.ensures.within));
+      each = rw (c.in_ok-push.ensures.items, to_z-of_z w128 c.crossed_entry.result f)
+          (each_pushed (λ j x. (x ≡ crossed_entry (at c.args.sums.now c.args.p) (line (lines c.args.rows.now)
+          c.args.k) (at c.args.sums.now c.args.k) (line (lines c.args.rows.now) c.args.p) j)
+          × IsWithin (2 ^ 126 + 2 ^ 91) x) c.loop-i.entries.items c.loop-i.i c.crossed_entry.result
+          c.loop-i.invariant.lengths c.loop-i.invariant.each (
+            c.crossed_entry.ensures.value,
+            c.crossed_entry.ensures.within,
+          ));
     }

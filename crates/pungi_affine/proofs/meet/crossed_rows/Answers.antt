@@ -8,6 +8,11 @@ use Rattle.pungi_affine.proofs.meet.crossed_rows.Goals as goal
 
 pub loop-k-preserved : goal.loop-k-preserved
 loop-k-preserved c = record {
-  count = rw (c.in_ok-push.ensures.items, mapped_push wide_line c.loop-k.crosses.items c.in_ok-crossed_row.field-0) (more_lines (wide_lines c.loop-k.crosses.items) (wide_line c.in_ok-crossed_row.field-0) ∙ ap (λ n. n + 1) c.loop-k.invariant.count);
-  each = rw (c.in_ok-push.ensures.items, mapped_push wide_line c.loop-k.crosses.items c.in_ok-crossed_row.field-0) (crossed_more c.args.sums.now c.args.p (lines c.args.rows.now) (wide_lines c.loop-k.crosses.items) (wide_line c.in_ok-crossed_row.field-0) c.loop-k.k c.loop-k.invariant.count c.loop-k.invariant.each c.in_ok-crossed_row.ensures);
+  count = rw (c.in_ok-push.ensures.items, mapped_push wide_line c.loop-k.crosses.items c.in_ok-crossed_row.field-0)
+      (more_lines (wide_lines c.loop-k.crosses.items) (wide_line c.in_ok-crossed_row.field-0)
+      ∙ ap (λ n. n + 1) c.loop-k.invariant.count);
+  each = rw (c.in_ok-push.ensures.items, mapped_push wide_line c.loop-k.crosses.items c.in_ok-crossed_row.field-0)
+      (crossed_more c.args.sums.now c.args.p (lines c.args.rows.now) (wide_lines c.loop-k.crosses.items)
+      (wide_line c.in_ok-crossed_row.field-0) c.loop-k.k c.loop-k.invariant.count c.loop-k.invariant.each
+      c.in_ok-crossed_row.ensures);
 }

@@ -8,5 +8,6 @@ use Rattle.pungi_affine.proofs.meet.crossed_rows.Given as goal
 abbrev pub invariant-loop-k : goal.invariant-loop-k
 invariant-loop-k l = record {
   count : length (wide_lines l.crosses.items) ≡ l.k;
-  each : (j : ℕ) → j < l.k → IsCrossed (at l.sums l.p) (line (lines l.rows) j) (at l.sums j) (line (lines l.rows) l.p) (line (wide_lines l.crosses.items) j);
+  each : (j : ℕ) → j < l.k → IsCrossed (at l.sums l.p) (line (lines l.rows) j) (at l.sums j)
+      (line (lines l.rows) l.p) (line (wide_lines l.crosses.items) j);
 }

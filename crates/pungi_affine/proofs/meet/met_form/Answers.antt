@@ -16,5 +16,6 @@ returns c =
       crossed = c.in_ok-wide.ensures;
       rows = ap wide_lines c.remove.ensures.items ∙ mapped_remove wide_line c.args.p c.in_ok-wide.wide.items;
       scale = to_z-of_z w128 c.multiple_entry.result f ∙ s;
-      long = rw (to_z-of_z w128 c.multiple_entry.result f) (long_of (2 ^ 125 + 2 ^ 90) c.multiple_entry.result (lit< tt) c.multiple_entry.ensures.within);
+      long = rw (to_z-of_z w128 c.multiple_entry.result f) (long_of (2 ^ 125 + 2 ^ 90) c.multiple_entry.result
+          (lit< tt) c.multiple_entry.ensures.within);
     }

@@ -12,7 +12,8 @@ returns-then-sums-p-lt0 c =
     let w = c.requires.wide c.args.p c.requires.within in
     let t = c.if-sums-p-lt0.true in
     let lt : at c.args.sums.now c.args.p <ℤ pos 0 = grind (arith, ints, t, w) in
-    turned_negated c.args.sums.now c.negate.new.entries c.args.p c.requires.within lt (search rules) c.negate.ensures c.requires.wide
+    turned_negated c.args.sums.now c.negate.new.entries c.args.p c.requires.within lt (search rules)
+    c.negate.ensures c.requires.wide
 
 pub returns-else-sums-p-lt0 : goal.returns-else-sums-p-lt0
 returns-else-sums-p-lt0 c =

@@ -19,18 +19,22 @@ returns c =
       | then-entries-q-lt0 w ↦ (
           let ys : List ℤ = c.if-entries-q-lt0.entries in
           let e = w.entries-is in
-          let neg : (i : ℕ) → i < length ys → at ys i ≡ neg_ℤ (at c.args.entries.now i) = rw (← e) at w.negate.ensures in
+          let neg : (i : ℕ) → i < length ys → at ys i ≡ neg_ℤ (at c.args.entries.now i) = rw (← e) at
+          w.negate.ensures in
           let len2 : length ys ≡ length c.args.entries.now = search rules in
           let q_lt : c.args.q < length ys = omega (arith, len2) in
           let m = neg c.args.q q_lt in
           let t = w.if-entries-q-lt0.true in
           let entry : pos 0 <ℤ at ys c.args.q = grind (arith, ints, t, m, l) in
           negated_part c.args.entries.now ys c.take_out.new.entries c.args.q len2 neg
-          (quotients_part ys c.take_out.new.entries c.divisor-g.result c.args.q c.divisor-g.ensures.positive c.divisor-g.ensures.divisor len q_lt entry taken))
+          (quotients_part ys c.take_out.new.entries c.divisor-g.result c.args.q c.divisor-g.ensures.positive
+          c.divisor-g.ensures.divisor len q_lt entry taken))
       | else-entries-q-lt0 w ↦ (
           let e = w.entries-is in
           let t = w.if-entries-q-lt0.false in
           let entry : pos 0 <ℤ at c.args.entries.now c.args.q = grind (arith, ints, t, n, l) in
-          quotients_part c.args.entries.now c.take_out.new.entries c.divisor-g.result c.args.q c.divisor-g.ensures.positive (subst (λ (ys : List ℤ). IsDivisor ys c.divisor-g.result) e c.divisor-g.ensures.divisor) (len ∙ ap length e) c.requires.within entry
+          quotients_part c.args.entries.now c.take_out.new.entries c.divisor-g.result c.args.q
+          c.divisor-g.ensures.positive (subst (λ (ys : List ℤ). IsDivisor ys c.divisor-g.result) e
+          c.divisor-g.ensures.divisor) (len ∙ ap length e) c.requires.within entry
           (λ i lt. taken i lt ∙ ap (λ ys. at ys i) e))
     ]

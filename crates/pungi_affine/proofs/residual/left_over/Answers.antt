@@ -15,7 +15,14 @@ loop-i-preserved c =
     let v = rw (to_z-of_z w64 c.args.d c.ranges.d) at c.residual_entry.ensures.value in
     record {
       lengths = search rules;
-      each = rw (to_z-of_z w64 c.args.d c.ranges.d, c.in_ok-push.ensures.items, to_z-of_z w128 c.residual_entry.result f) (each_pushed (λ j x. (x ≡ residual c.args.d (lines c.args.rows.now) (at c.args.v.now) j) × IsWithin (2 ^ 71) x) c.loop-i.left.items c.loop-i.i c.residual_entry.result c.loop-i.invariant.lengths inv (v, c.residual_entry.ensures.within));
+      each = rw (
+        to_z-of_z w64 c.args.d c.ranges.d,
+        c.in_ok-push.ensures.items,
+        to_z-of_z w128
+            c.residual_entry.result f,
+      ) (each_pushed (λ j x. (x
+          ≡ residual c.args.d (lines c.args.rows.now) (at c.args.v.now) j) × IsWithin (2 ^ 71) x) c.loop-i.left.items
+          c.loop-i.i c.residual_entry.result c.loop-i.invariant.lengths inv (v, c.residual_entry.ensures.within));
     }
 
 pub returns : goal.returns

@@ -7,5 +7,6 @@ use Rattle.pungi_affine.proofs.residual.left_over.Given as goal
 abbrev pub invariant-loop-i : goal.invariant-loop-i
 invariant-loop-i l = record {
   lengths : length l.left.items ≡ l.i;
-  each : (j : ℕ) → j < l.i → (at l.left.items j ≡ residual l.d (lines l.rows) (at l.v) j) × IsWithin (2 ^ 71) (at l.left.items j);
+  each : (j : ℕ) → j < l.i → (at l.left.items j ≡ residual l.d (lines l.rows) (at l.v) j)
+      × IsWithin (2 ^ 71) (at l.left.items j);
 }

@@ -4,7 +4,8 @@ use mir.Syntax.{w64}
 use Rattle.pungi_affine.proofs.residual.residual_entry.Goals as goal
 
 pub overflow_sub-result : goal.overflow_sub-result
-overflow_sub-result c = (let a = c.scaled_entry.ensures.within in let b = c.filled_entry.ensures.within in grind (arith, ints, a, b))
+overflow_sub-result c =
+    (let a = c.scaled_entry.ensures.within in let b = c.filled_entry.ensures.within in grind (arith, ints, a, b))
 
 pub returns-clause-value : goal.returns-clause-value
 returns-clause-value c =

@@ -9,4 +9,11 @@ returns-clause-within c =
     let a = c.from.ensures ∙ to_z-of_z w64 c.args.a c.ranges.a in
     let b = c.from-2.ensures ∙ to_z-of_z w64 c.args.b c.ranges.b in
     let h = product_within c.args.a c.args.b (2 ^ 31) (2 ^ 31) c.requires.a c.requires.b in
-    rw (a, b, to_z-of_z w128 c.args.a (wide c.args.a c.ranges.a), to_z-of_z w128 c.args.b (wide c.args.b c.ranges.b), to_z-of_z w128 _ (fits_of (2 ^ 62) _ (lit< tt) h)) h
+    rw (
+      a,
+      b,
+      to_z-of_z w128 c.args.a (wide c.args.a c.ranges.a),
+      to_z-of_z w128 c.args.b
+          (wide c.args.b c.ranges.b),
+      to_z-of_z w128 _ (fits_of (2 ^ 62) _ (lit< tt) h),
+    ) h

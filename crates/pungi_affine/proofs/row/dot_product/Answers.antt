@@ -9,7 +9,13 @@ pub overflow_add-sum : goal.overflow_add-sum
 overflow_add-sum c = (let w = c.term-sum.ensures.within in grind (arith, ints, w))
 
 pub loop-i-init : goal.loop-i-init
-loop-i-init c = record { value = search rules; within = (omega (arith, ints), omega (arith, ints)); tight = λ h. (omega (arith, ints), omega (arith, ints)) }
+loop-i-init c =
+    record {
+      value = search rules;
+      within = (omega (arith, ints), omega (arith, ints));
+      tight = λ h.
+          (omega (arith, ints), omega (arith, ints));
+    }
 
 pub loop-i-preserved : goal.loop-i-preserved
 loop-i-preserved c =
@@ -21,9 +27,15 @@ loop-i-preserved c =
       value = omega (arith, ints, w, s, m);
       within = (omega (arith, ints, w), omega (arith, ints, w));
       tight = λ h.
-          let n : 0 < c.loop-i.i → IsWithin (2 ^ 51) c.term-sum.result = λ gt. subst (λ (z : ℤ). IsWithin (2 ^ 51) z) (sym s) (product_within (at c.args.coefficients.now c.loop-i.i) (at c.args.entries.now c.loop-i.i) (2 ^ 20) (2 ^ 31) (h c.loop-i.i gt (omega arith)) (c.requires.small c.loop-i.i (omega arith))) in
-          tight_more c.args.coefficients.now (at c.args.entries.now) c.loop-i.i _ c.term-sum.result _ c.loop-i.invariant.value (c.loop-i.invariant.tight h) w n (omega (arith, ints, w, i));
+          let n : 0 < c.loop-i.i → IsWithin (2 ^ 51) c.term-sum.result = λ gt. subst
+          (λ (z : ℤ). IsWithin (2 ^ 51) z) (sym s) (product_within (at c.args.coefficients.now c.loop-i.i)
+          (at c.args.entries.now c.loop-i.i) (2 ^ 20) (2 ^ 31) (h c.loop-i.i gt (omega arith))
+          (c.requires.small c.loop-i.i (omega arith))) in
+          tight_more c.args.coefficients.now (at c.args.entries.now) c.loop-i.i _ c.term-sum.result _
+          c.loop-i.invariant.value (c.loop-i.invariant.tight h) w n (omega (arith, ints, w, i));
     }
 
 pub returns-clause-wide : goal.returns-clause-wide
-returns-clause-wide c = λ h. (let t = c.loop-i.invariant.tight h in let n = c.requires.narrow in (omega (arith, ints, t, n), omega (arith, ints, t, n)))
+returns-clause-wide c =
+    λ h. (let t = c.loop-i.invariant.tight h in let n = c.requires.narrow in
+    (omega (arith, ints, t, n), omega (arith, ints, t, n)))

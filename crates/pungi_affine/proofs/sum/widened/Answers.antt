@@ -11,7 +11,9 @@ loop-entry-preserved c =
     let front = c.loop-entry.entries.items in
     let fits : SFits w64 (get_or kept c.loop-entry.entry-index (pos 0)) = search rules in
     let wide : SFits w128 c.from.result = search rules in
-    let entry = to_z-of_z w128 c.from.result wide ∙ c.from.ensures ∙ to_z-of_z w64 (get_or kept c.loop-entry.entry-index (pos 0)) fits in
+    let entry = to_z-of_z w128 c.from.result wide ∙ c.from.ensures
+    ∙ to_z-of_z w64 (get_or kept c.loop-entry.entry-index (pos 0)) fits in
     let before : front ≡ take c.loop-entry.entry-index kept = c.loop-entry.invariant in
-    c.in_ok-push.ensures.items ∙ ap (λ (x : ℤ). front ++ x ∷ []) entry ∙ ap (λ (xs : List ℤ). xs ++ get_or kept c.loop-entry.entry-index (pos 0) ∷ []) before
+    c.in_ok-push.ensures.items ∙ ap (λ (x : ℤ). front ++ x ∷ []) entry
+    ∙ ap (λ (xs : List ℤ). xs ++ get_or kept c.loop-entry.entry-index (pos 0) ∷ []) before
     ∙ sym (take_more kept c.loop-entry.entry-index (pos 0) c.loop-entry-test.true)

@@ -7,5 +7,6 @@ use Rattle.pungi_affine.proofs.sum.with_all.Given as goal
 abbrev pub invariant-loop-vector : goal.invariant-loop-vector
 invariant-loop-vector l = record {
   sum : IsSum l.fn.span (given_vectors (take l.vector-index l.vectors)) l.grown.span l.grown.changed;
-  small : (r : List ℤ) → LargeSums l.fn.span.width (SpanMember l.fn.span) (given_vectors (take l.vector-index l.vectors)) r → ⊥;
+  small : (r : List ℤ) → LargeSums l.fn.span.width (SpanMember l.fn.span)
+      (given_vectors (take l.vector-index l.vectors)) r → ⊥;
 }

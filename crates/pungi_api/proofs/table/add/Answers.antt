@@ -4,4 +4,6 @@ use Rattle.pungi_api.proofs.RowLemmas.{none_from_is_none}
 use Rattle.pungi_api.proofs.table.add.Goals as goal
 
 pub returns : goal.returns
-returns c = c.in_ok-insert.ensures.entries ∙ insert_entry-new nat_eq c.args.rows.now c.args.name c.args.row (none_from_is_none _ c.requires)
+returns c =
+    c.in_ok-insert.ensures.entries ∙ insert_entry-new nat_eq c.args.rows.now c.args.name c.args.row
+    (none_from_is_none _ c.requires)

@@ -9,5 +9,6 @@ invariant-loop-name l = record {
   is_finite : (goal.iterator-loop-name).is_finite l.name-iterator;
   counted : into_iter_len l.name-iterator ≡ length (into_iter_items l.name-iterator);
   new : IsTrue (are_new l.rows.entries (map named_row (into_iter_items l.name-iterator)));
-  so_far : l.rows.entries ++ map named_row (into_iter_items l.name-iterator) ≡ l.fn.rows.entries ++ map named_row l.fn.more.items;
+  so_far : l.rows.entries ++ map named_row (into_iter_items l.name-iterator)
+      ≡ l.fn.rows.entries ++ map named_row l.fn.more.items;
 }

@@ -5,4 +5,6 @@ use Rattle.pungi_base.proofs.witness.push_arguments.Given as goal
 
 -- the lines so far and those that are left are all lines
 abbrev pub invariant-loop-value : goal.invariant-loop-value
-invariant-loop-value l = string_bytes l.text ++ flat_map argument_line (drop l.value-index l.args) ≡ string_bytes l.initial.text ++ flat_map argument_line l.args
+invariant-loop-value l =
+    string_bytes l.text ++ flat_map argument_line (drop l.value-index l.args)
+    ≡ string_bytes l.initial.text ++ flat_map argument_line l.args

@@ -9,7 +9,8 @@ returns-in_default c =
     let n = c.args.fuel - (c.loop-i.i + 1) in
     let e : c.args.fuel - c.loop-i.i ≡ suc n = omega arith in
     let at : slice_get c.args.instrs.now c.loop-i.pc ≡ None = c.in_default.ensures in
-    run_past c.args.choices.now c.args.instrs.now (c.args.fuel - c.loop-i.i) n c.loop-i.pc (regs_of c.loop-i.m) e at ∙ c.loop-i.invariant
+    run_past c.args.choices.now c.args.instrs.now (c.args.fuel - c.loop-i.i) n c.loop-i.pc (regs_of c.loop-i.m) e at
+    ∙ c.loop-i.invariant
 
 pub returns-in-None : goal.returns-in-None
 returns-in-None c =
@@ -17,7 +18,8 @@ returns-in-None c =
     let e : c.args.fuel - c.loop-i.i ≡ suc n = omega arith in
     let at : slice_get c.args.instrs.now c.loop-i.pc ≡ Some c.in-Some.line.now = c.in-Some.ensures.0 in
     let is : next_place c.in_ok-after.after ≡ None = sym c.next_place.ensures ∙ c.in-None.is in
-    run_ends c.args.choices.now c.args.instrs.now (c.args.fuel - c.loop-i.i) n c.loop-i.pc (regs_of c.loop-i.m) c.perform.new.m c.in-Some.line.now c.in_ok-after.after e at c.in_ok-after.ensures is
+    run_ends c.args.choices.now c.args.instrs.now (c.args.fuel - c.loop-i.i) n c.loop-i.pc (regs_of c.loop-i.m)
+    c.perform.new.m c.in-Some.line.now c.in_ok-after.after e at c.in_ok-after.ensures is
     ∙ c.loop-i.invariant
 
 pub loop-i-preserved : goal.loop-i-preserved
@@ -25,6 +27,8 @@ loop-i-preserved c =
     let n = c.args.fuel - (c.loop-i.i + 1) in
     let e : c.args.fuel - c.loop-i.i ≡ suc n = omega arith in
     let at : slice_get c.args.instrs.now c.loop-i.pc ≡ Some c.in-Some.line.now = c.in-Some.ensures.0 in
-    let is : next_place c.in_ok-after.after ≡ Some c.in-Some-next_place.next = sym c.next_place.ensures ∙ c.in-Some-next_place.is in
-    run_on c.args.choices.now c.args.instrs.now (c.args.fuel - c.loop-i.i) n c.loop-i.pc c.in-Some-next_place.next (regs_of c.loop-i.m) c.perform.new.m c.in-Some.line.now c.in_ok-after.after e at c.in_ok-after.ensures is
+    let is : next_place c.in_ok-after.after ≡ Some c.in-Some-next_place.next = sym c.next_place.ensures
+    ∙ c.in-Some-next_place.is in
+    run_on c.args.choices.now c.args.instrs.now (c.args.fuel - c.loop-i.i) n c.loop-i.pc c.in-Some-next_place.next
+    (regs_of c.loop-i.m) c.perform.new.m c.in-Some.line.now c.in_ok-after.after e at c.in_ok-after.ensures is
     ∙ c.loop-i.invariant

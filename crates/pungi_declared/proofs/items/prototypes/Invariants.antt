@@ -5,4 +5,6 @@ use Rattle.pungi_types.specs.Files as definition
 use Rattle.pungi_declared.proofs.items.prototypes.Given as goal
 
 abbrev pub invariant-loop-i : goal.invariant-loop-i
-invariant-loop-i l = map place_view l.out.items ++ definition.prototypes (map item_view (drop l.i-index l.unit.items.items)) ≡ definition.prototypes (unit_view l.unit)
+invariant-loop-i l =
+    map place_view l.out.items ++ definition.prototypes (map item_view (drop l.i-index l.unit.items.items))
+    ≡ definition.prototypes (unit_view l.unit)

@@ -7,4 +7,6 @@ use Rattle.pungi_declared.proofs.items.put_variables.Given as goal
 
 abbrev pub invariant-loop-var : goal.invariant-loop-var
 invariant-loop-var l =
-    map variable_view l.out.items ++ decl_variables (spec_view l.spec) (map var_decl_view (drop l.var-index l.vars.items)) ≡ map variable_view l.fn.out.items ++ decl_variables (spec_view l.spec) (map var_decl_view l.vars.items)
+    map variable_view l.out.items ++ decl_variables (spec_view l.spec) (map var_decl_view
+    (drop l.var-index l.vars.items)) ≡ map variable_view l.fn.out.items
+    ++ decl_variables (spec_view l.spec) (map var_decl_view l.vars.items)

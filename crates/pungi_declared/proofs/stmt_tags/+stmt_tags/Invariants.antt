@@ -6,4 +6,5 @@ use Rattle.pungi_declared.proofs.stmt_tags.+stmt_tags.Given as goal
 
 abbrev pub invariant-stmts-loop-s : goal.invariant-stmts-loop-s
 invariant-stmts-loop-s l =
-    map tag_view l.out.items ++ stmts_tags (stmts_of (map stmt_view (drop l.s-index l.list.items))) ≡ map tag_view l.fn.out.items ++ stmts_tags (stmts_of (map stmt_view l.list.items))
+    map tag_view l.out.items ++ stmts_tags (stmts_of (map stmt_view (drop l.s-index l.list.items)))
+    ≡ map tag_view l.fn.out.items ++ stmts_tags (stmts_of (map stmt_view l.list.items))

@@ -6,4 +6,5 @@ use Rattle.pungi_declared.proofs.stmt_tags.vars.Given as goal
 
 abbrev pub invariant-loop-var : goal.invariant-loop-var
 invariant-loop-var l =
-    map tag_view l.out.items ++ vars_tags (map var_decl_view (drop l.var-index l.list.items)) ≡ map tag_view l.fn.out.items ++ vars_tags (map var_decl_view l.list.items)
+    map tag_view l.out.items ++ vars_tags (map var_decl_view (drop l.var-index l.list.items))
+    ≡ map tag_view l.fn.out.items ++ vars_tags (map var_decl_view l.list.items)

@@ -5,4 +5,6 @@ use Rattle.pungi_types.specs.Tags as definition
 use Rattle.pungi_declared.proofs.unit_tags.tags.Given as goal
 
 abbrev pub invariant-loop-i : goal.invariant-loop-i
-invariant-loop-i l = map tag_view l.out.items ++ definition.tags (map item_view (drop l.i-index l.unit.items.items)) ≡ definition.tags (unit_view l.unit)
+invariant-loop-i l =
+    map tag_view l.out.items ++ definition.tags (map item_view (drop l.i-index l.unit.items.items))
+    ≡ definition.tags (unit_view l.unit)

@@ -9,5 +9,6 @@ loop-v-preserved c =
     let t = c.requires.small 0 c.requires.some in
     record {
       lengths = search rules;
-      each = rw c.in_ok-push.ensures.items (moves_on c.args.value.now c.loop-v.moved.items c.loop-v.v-index _ c.loop-v.invariant.lengths c.loop-v.invariant.each (omega (arith, ints, s, t)));
+      each = rw c.in_ok-push.ensures.items (moves_on c.args.value.now c.loop-v.moved.items c.loop-v.v-index _
+          c.loop-v.invariant.lengths c.loop-v.invariant.each (omega (arith, ints, s, t)));
     }

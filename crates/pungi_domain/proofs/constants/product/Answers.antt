@@ -9,4 +9,11 @@ returns-clause-within c =
     let a = c.from.ensures ∙ to_z-of_z w64 c.args.a c.ranges.a in
     let b = c.from-2.ensures ∙ to_z-of_z w64 c.args.b c.ranges.b in
     let h = product_within c.args.a c.args.b (2 ^ 63) (2 ^ 31) (number_within c.args.a c.ranges.a) c.requires in
-    rw (a, b, to_z-of_z w128 c.args.a (wide c.args.a c.ranges.a), to_z-of_z w128 c.args.b (wide c.args.b c.ranges.b), to_z-of_z w128 _ (within_fits _ h)) h
+    rw (
+      a,
+      b,
+      to_z-of_z w128 c.args.a (wide c.args.a c.ranges.a),
+      to_z-of_z w128 c.args.b
+          (wide c.args.b c.ranges.b),
+      to_z-of_z w128 _ (within_fits _ h),
+    ) h

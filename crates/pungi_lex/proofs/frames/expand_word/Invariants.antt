@@ -5,7 +5,8 @@ use Rattle.pungi_lex.proofs.frames.expand_word.Given as goal
 
 abbrev pub invariant-work : goal.invariant-work
 invariant-work l = record {
-  expansion : Expansion l.fn.table.items l.table.items (reverse l.stack.items) l.token l.fn.out.items l.out.items l.used l.count;
+  expansion : Expansion l.fn.table.items l.table.items (reverse l.stack.items) l.token l.fn.out.items l.out.items
+      l.used l.count;
   within : l.count ≤ token_limit;
 }
 

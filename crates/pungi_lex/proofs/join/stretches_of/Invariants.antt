@@ -6,7 +6,8 @@ use Rattle.pungi_lex.proofs.join.stretches_of.Given as goal
 
 abbrev pub invariant-fronts : goal.invariant-fronts
 invariant-fronts l = record {
-  places : places_of (joined l.text) ≡ places_along l.stretches.items ++ places_of (joined_from 0 l.at (drop l.done l.text));
+  places : places_of (joined l.text) ≡ places_along l.stretches.items
+      ++ places_of (joined_from 0 l.at (drop l.done l.text));
   narrow : All IsNarrow l.stretches.items;
   count : length (plain l.text) ≡ l.count + length (bytes_of (joined_from 0 l.at (drop l.done l.text)));
   few : l.count ≤ l.done;

@@ -9,12 +9,28 @@ returns-then-value-base c =
     let base = c.args.base in
     let digits = c.args.digits.now in
     let i = c.loop-b.b-index in
-    let past = past_quotient base c.loop-b.value 170141183460469231731687303715884105727 c.requires.some c.if-value-base.true in
-    omega (arith, past, ap (λ (v : ℕ). base * v) c.loop-b.invariant.value, value_front base (i + 1) digits c.requires.some, fold_more (λ (m : ℕ) (b : ℕ). base * m + digit_value b) 0 digits i 0 c.loop-b-test.true)
+    let past = past_quotient base c.loop-b.value 170141183460469231731687303715884105727 c.requires.some
+    c.if-value-base.true in
+    omega (
+      arith,
+      past,
+      ap (λ (v : ℕ). base * v) c.loop-b.invariant.value,
+      value_front base (i + 1) digits
+          c.requires.some,
+      fold_more (λ (m : ℕ) (b : ℕ). base * m + digit_value b) 0 digits i 0 c.loop-b-test.true,
+    )
 
 pub returns-then-value-gt-MOST : goal.returns-then-value-gt-MOST
 returns-then-value-gt-MOST c =
     let base = c.args.base in
     let digits = c.args.digits.now in
     let i = c.loop-b.b-index in
-    omega (arith, c.if-value-gt-MOST.true, c.digit_value.ensures, ap (λ (v : ℕ). base * v) c.loop-b.invariant.value, value_front base (i + 1) digits c.requires.some, fold_more (λ (m : ℕ) (b : ℕ). base * m + digit_value b) 0 digits i 0 c.loop-b-test.true)
+    omega (
+      arith,
+      c.if-value-gt-MOST.true,
+      c.digit_value.ensures,
+      ap (λ (v : ℕ). base * v) c.loop-b.invariant.value,
+      value_front base (i + 1) digits c.requires.some,
+      fold_more (λ (m : ℕ) (b : ℕ). base * m + digit_value b) 0
+          digits i 0 c.loop-b-test.true,
+    )

@@ -7,7 +7,8 @@ pub tokens-preserved : goal.tokens-preserved
 tokens-preserved c =
     let h = c.stays.ensures.yes c.if-stays.true in
     record {
-      stay = All-more (Stays c.args.table.now.items) c.args.tokens.now c.tokens.count _ c.if-count-tokens.true c.tokens.invariant.stay h;
+      stay = All-more (Stays c.args.table.now.items) c.args.tokens.now c.tokens.count _ c.if-count-tokens.true
+          c.tokens.invariant.stay h;
       within = omega arith;
       few = omega arith;
     }

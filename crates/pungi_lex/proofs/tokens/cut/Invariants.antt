@@ -7,7 +7,8 @@ use Rattle.pungi_lex.proofs.tokens.cut.Given as goal
 
 abbrev pub invariant-pieces : goal.invariant-pieces
 invariant-pieces l = record {
-  progress : Progress l.fn.names l.names l.bytes (place_in (places_along l.stretches)) l.tokens.items l.done l.line l.touching;
+  progress : Progress l.fn.names l.names l.bytes (place_in (places_along l.stretches)) l.tokens.items l.done l.line
+      l.touching;
   here : drop l.done (places_along l.stretches) ≡ places_left l.stretches l.spot;
   end : l.spot.left ≡ 0 → places_left l.stretches l.spot ≡ [];
   col : l.spot.at.col + l.spot.left < 2 ^ 32;

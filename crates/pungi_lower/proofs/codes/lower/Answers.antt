@@ -4,8 +4,12 @@ use Rattle.pungi_lower.proofs.Lowered.{made-lowered, made-well-formed}
 use Rattle.pungi_lower.proofs.codes.lower.Goals as goal
 
 pub returns-clause-lowered : goal.returns-clause-lowered
-returns-clause-lowered c = λ file is. made-lowered file (map resolution_view c.args.functions.now) c.in_ok-codes.codes c.in_ok-codes.ensures is
+returns-clause-lowered c =
+    λ file is. made-lowered file (map resolution_view c.args.functions.now) c.in_ok-codes.codes
+    c.in_ok-codes.ensures is
 
 pub returns-clause-well_formed : goal.returns-clause-well_formed
 returns-clause-well_formed c = λ file is names statics.
-    made-well-formed file (map resolution_view c.args.functions.now) (record { codes = c.in_ok-codes.codes; statics = c.args.statics; names = c.args.names }) c.in_ok-codes.ensures is names statics
+    made-well-formed file (map resolution_view c.args.functions.now) (record
+    { codes = c.in_ok-codes.codes; statics = c.args.statics; names = c.args.names }) c.in_ok-codes.ensures is
+    names statics

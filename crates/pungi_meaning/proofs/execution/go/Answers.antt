@@ -20,4 +20,5 @@ loop-i-preserved c =
     let e : c.args.fuel - c.loop-i.i ≡ suc n = omega arith in
     let st = act c.args.choices.now (todos c.loop-i.m.tasks.items) (state_of c.loop-i.m) in
     let t = subst (λ h. Matches st h c.step.new.m) c.in_default.is c.in_ok-ending.ensures in
-    tells_on c.args.choices.now n st c.step.new.m t ∙ sym (run_more c.args.choices.now (c.args.fuel - c.loop-i.i) n _ _ e) ∙ c.loop-i.invariant
+    tells_on c.args.choices.now n st c.step.new.m t ∙ sym (run_more c.args.choices.now (c.args.fuel - c.loop-i.i) n
+    _ _ e) ∙ c.loop-i.invariant

@@ -14,10 +14,12 @@ loop-action-preserved c =
     let before = c.loop-action.locals in
     let s : i < length xs = omega arith in
     let step = declared_step xs i x before s in
-    let same : unset_locals (action_locals (action_view x)) before ≡ unset_locals (action_locals (action_view (get_or xs i x))) before =
+    let same : unset_locals (action_locals (action_view x)) before
+    ≡ unset_locals (action_locals (action_view (get_or xs i x))) before =
     ap (λ y. unset_locals (action_locals (action_view y)) before) c.action-item.is
     in
-    ap (unset_locals (block_locals (map action_view (drop (i + 1) xs)))) (c.unset_action_locals.ensures ∙ same) ∙ sym step ∙ c.loop-action.invariant
+    ap (unset_locals (block_locals (map action_view (drop (i + 1) xs)))) (c.unset_action_locals.ensures ∙ same)
+    ∙ sym step ∙ c.loop-action.invariant
 
 pub returns : goal.returns
 returns c =

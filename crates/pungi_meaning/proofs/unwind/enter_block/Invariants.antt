@@ -8,6 +8,7 @@ abbrev pub invariant-loop-i : goal.invariant-loop-i
 invariant-loop-i l = record {
   kept : todos l.tasks.items ≡ todos l.initial.tasks.items;
   rest :
-      enter_among l.label (map action_view l.block) l.i (map action_view (drop l.i l.block)) (todos l.initial.tasks.items)
+      enter_among l.label (map action_view l.block) l.i (map action_view (drop l.i l.block))
+      (todos l.initial.tasks.items)
       ≡ enter_among l.label (map action_view l.block) 0 (map action_view l.block) (todos l.initial.tasks.items);
 }

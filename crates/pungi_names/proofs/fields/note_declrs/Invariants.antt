@@ -10,5 +10,7 @@ use Rattle.pungi_names.proofs.fields.note_declrs.Given as goal
 abbrev pub invariant-loop-declr : goal.invariant-loop-declr
 invariant-loop-declr l =
     (w : ℕ) (r : Option ValueKind)
-    → kept_or (get nat_eq l.fields w) (member_kind (unit_view l.kinds.cores.unit.now) (spec_view l.spec) (declr_named (declrs_of (map declr_view (drop l.declr-index l.declrs.items))) w) r)
-    ≡ kept_or (get nat_eq l.fn.fields w) (member_kind (unit_view l.kinds.cores.unit.now) (spec_view l.spec) (declr_named (declrs_of (map declr_view l.declrs.items)) w) r)
+    → kept_or (get nat_eq l.fields w) (member_kind (unit_view l.kinds.cores.unit.now) (spec_view l.spec)
+    (declr_named (declrs_of (map declr_view (drop l.declr-index l.declrs.items))) w) r)
+    ≡ kept_or (get nat_eq l.fn.fields w) (member_kind (unit_view l.kinds.cores.unit.now) (spec_view l.spec)
+    (declr_named (declrs_of (map declr_view l.declrs.items)) w) r)

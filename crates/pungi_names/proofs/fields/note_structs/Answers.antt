@@ -13,8 +13,11 @@ pub returns : goal.returns
 returns c =
     let file = unit_view c.args.kinds.now.cores.unit.now in
     λ s w.
-    fields-found file s w (option_map (kind_in w) (get nat_eq c.args.structs.now s)) (option_map (kind_in w) (get nat_eq c.note_tags.new.structs s))
+    fields-found file s w (option_map (kind_in w) (get nat_eq c.args.structs.now s))
+    (option_map (kind_in w) (get nat_eq c.note_tags.new.structs s))
     (option_map (kind_in w) (get nat_eq c.note_typedefs.new.structs s))
     (ap (λ es. option_map (kind_in w) (lookup (nat_eq s) es)) c.requires.empty)
-    (c.in_ok-note_tags.ensures s w ∙ ap (λ ts. or_first (option_map (kind_in w) (get nat_eq c.args.structs.now s)) (fields_kept file (tagged_in ts s) w)) c.requires.tags)
-    (c.in_ok-note_typedefs.ensures s w ∙ ap (λ ts. or_first (option_map (kind_in w) (get nat_eq c.note_tags.new.structs s)) (typedef_kept file (typedef_in ts s) w)) c.requires.typedefs)
+    (c.in_ok-note_tags.ensures s w ∙ ap (λ ts. or_first (option_map (kind_in w) (get nat_eq c.args.structs.now s))
+    (fields_kept file (tagged_in ts s) w)) c.requires.tags)
+    (c.in_ok-note_typedefs.ensures s w ∙ ap (λ ts. or_first (option_map (kind_in w)
+    (get nat_eq c.note_tags.new.structs s)) (typedef_kept file (typedef_in ts s) w)) c.requires.typedefs)

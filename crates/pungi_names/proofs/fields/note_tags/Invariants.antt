@@ -10,5 +10,8 @@ use Rattle.pungi_names.proofs.fields.note_tags.Given as goal
 
 abbrev pub invariant-loop-tag : goal.invariant-loop-tag
 invariant-loop-tag l =
-    (s : ℕ) (w : ℕ) → or_first (option_map (kind_in w) (get nat_eq l.structs s)) (fields_kept (unit_view l.kinds.cores.unit.now) (tagged_in (map tag_view (drop l.tag-index l.tags.items)) s) w)
-    ≡ or_first (option_map (kind_in w) (get nat_eq l.fn.structs s)) (fields_kept (unit_view l.kinds.cores.unit.now) (tagged_in (map tag_view l.tags.items) s) w)
+    (s : ℕ) (w : ℕ) → or_first (option_map (kind_in w) (get nat_eq l.structs s))
+    (fields_kept (unit_view l.kinds.cores.unit.now) (tagged_in (map tag_view (drop l.tag-index l.tags.items)) s)
+    w)
+    ≡ or_first (option_map (kind_in w) (get nat_eq l.fn.structs s)) (fields_kept (unit_view l.kinds.cores.unit.now)
+    (tagged_in (map tag_view l.tags.items) s) w)

@@ -10,5 +10,8 @@ use Rattle.pungi_names.proofs.fields.note_typedefs.Given as goal
 
 abbrev pub invariant-loop-found : goal.invariant-loop-found
 invariant-loop-found l =
-    (s : ℕ) (w : ℕ) → or_first (option_map (kind_in w) (get nat_eq l.structs s)) (typedef_kept (unit_view l.kinds.cores.unit.now) (typedef_in (map typedef_view (drop l.found-index l.typedefs.items)) s) w)
-    ≡ or_first (option_map (kind_in w) (get nat_eq l.fn.structs s)) (typedef_kept (unit_view l.kinds.cores.unit.now) (typedef_in (map typedef_view l.typedefs.items) s) w)
+    (s : ℕ) (w : ℕ) → or_first (option_map (kind_in w) (get nat_eq l.structs s))
+    (typedef_kept (unit_view l.kinds.cores.unit.now) (typedef_in (map typedef_view
+    (drop l.found-index l.typedefs.items)) s) w)
+    ≡ or_first (option_map (kind_in w) (get nat_eq l.fn.structs s)) (typedef_kept (unit_view l.kinds.cores.unit.now)
+    (typedef_in (map typedef_view l.typedefs.items) s) w)

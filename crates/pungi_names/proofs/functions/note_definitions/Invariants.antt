@@ -9,5 +9,9 @@ use Rattle.pungi_names.proofs.functions.note_definitions.Given as goal
 
 abbrev pub invariant-loop-function : goal.invariant-loop-function
 invariant-loop-function l =
-    (w : ℕ) → or_first (option_map signature_view (get nat_eq l.signatures w)) (option_map (function_signature (unit_view l.kinds.cores.unit.now)) (definition_in (map function_view (drop l.function-index l.functions.items)) w))
-    ≡ or_first (option_map signature_view (get nat_eq l.fn.signatures w)) (option_map (function_signature (unit_view l.kinds.cores.unit.now)) (definition_in (map function_view l.functions.items) w))
+    (w : ℕ) → or_first (option_map signature_view (get nat_eq l.signatures w))
+    (option_map (function_signature (unit_view l.kinds.cores.unit.now)) (definition_in
+    (map function_view (drop l.function-index l.functions.items)) w))
+    ≡ or_first (option_map signature_view (get nat_eq l.fn.signatures w)) (option_map
+    (function_signature (unit_view l.kinds.cores.unit.now)) (definition_in (map function_view l.functions.items)
+    w))

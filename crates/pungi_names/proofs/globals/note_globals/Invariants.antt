@@ -8,5 +8,7 @@ use Rattle.pungi_names.proofs.globals.note_globals.Given as goal
 
 abbrev pub invariant-loop-variable : goal.invariant-loop-variable
 invariant-loop-variable l =
-    (w : ℕ) → kept_or (get nat_eq l.globals w) (global_in (unit_view l.kinds.cores.unit.now) (map variable_view (drop l.variable-index l.variables.items)) w)
-    ≡ kept_or (get nat_eq l.fn.globals w) (global_in (unit_view l.kinds.cores.unit.now) (map variable_view l.variables.items) w)
+    (w : ℕ) → kept_or (get nat_eq l.globals w) (global_in (unit_view l.kinds.cores.unit.now)
+    (map variable_view (drop l.variable-index l.variables.items)) w)
+    ≡ kept_or (get nat_eq l.fn.globals w) (global_in (unit_view l.kinds.cores.unit.now)
+    (map variable_view l.variables.items) w)

@@ -7,5 +7,7 @@ use Rattle.pungi_names.proofs.globals.note_modules.Given as goal
 
 abbrev pub invariant-loop-variable : goal.invariant-loop-variable
 invariant-loop-variable l =
-    (w : ℕ) → (contains nat_eq l.modules w || module_in (unit_view l.kinds.cores.unit.now) (map variable_view (drop l.variable-index l.variables.items)) w)
-    ≡ (contains nat_eq l.fn.modules w || module_in (unit_view l.kinds.cores.unit.now) (map variable_view l.variables.items) w)
+    (w : ℕ) → (contains nat_eq l.modules w || module_in (unit_view l.kinds.cores.unit.now)
+    (map variable_view (drop l.variable-index l.variables.items)) w)
+    ≡ (contains nat_eq l.fn.modules w || module_in (unit_view l.kinds.cores.unit.now)
+    (map variable_view l.variables.items) w)

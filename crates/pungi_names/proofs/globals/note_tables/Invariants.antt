@@ -7,5 +7,7 @@ use Rattle.pungi_names.proofs.globals.note_tables.Given as goal
 
 abbrev pub invariant-loop-variable : goal.invariant-loop-variable
 invariant-loop-variable l =
-    (w : ℕ) → (contains nat_eq l.tables w || table_in (unit_view l.kinds.cores.unit.now) (map variable_view (drop l.variable-index l.variables.items)) w)
-    ≡ (contains nat_eq l.fn.tables w || table_in (unit_view l.kinds.cores.unit.now) (map variable_view l.variables.items) w)
+    (w : ℕ) → (contains nat_eq l.tables w || table_in (unit_view l.kinds.cores.unit.now)
+    (map variable_view (drop l.variable-index l.variables.items)) w)
+    ≡ (contains nat_eq l.fn.tables w || table_in (unit_view l.kinds.cores.unit.now)
+    (map variable_view l.variables.items) w)

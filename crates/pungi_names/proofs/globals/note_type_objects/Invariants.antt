@@ -6,5 +6,6 @@ use Rattle.pungi_names.proofs.globals.note_type_objects.Given as goal
 
 abbrev pub invariant-loop-variable : goal.invariant-loop-variable
 invariant-loop-variable l =
-    type_objects_in (unit_view l.kinds.cores.unit.now) l.objects.keys (map variable_view (drop l.variable-index l.variables.items))
+    type_objects_in (unit_view l.kinds.cores.unit.now) l.objects.keys (map variable_view
+    (drop l.variable-index l.variables.items))
     ≡ type_objects_in (unit_view l.kinds.cores.unit.now) l.fn.objects.keys (map variable_view l.variables.items)

@@ -6,5 +6,6 @@ use Rattle.pungi_names.proofs.heads.begins_with_head.Given as goal
 
 abbrev pub invariant-loop-field : goal.invariant-loop-field
 invariant-loop-field l =
-    begins_with_head (unit_view l.cores.unit.now) (Some (fields_of (map field_view (drop l.field-index l.fields.items))))
+    begins_with_head (unit_view l.cores.unit.now) (Some (fields_of (map field_view
+    (drop l.field-index l.fields.items))))
     ≡ begins_with_head (unit_view l.cores.unit.now) (Some (fields_of (map field_view l.fields.items)))

@@ -10,5 +10,6 @@ pub returns-in-Members : goal.returns-in-Members
 returns-in-Members c =
     let file = unit_view c.args.cores.now.unit.now in
     let ds = c.in-Members.declrs in
-    ap Some (c.is_first_head.ensures ∙ ap (λ b. is_head file (first_declr b (declrs_of (map declr_view ds.items)))) (sym (spec_base-view c.in-Members.spec)))
+    ap Some (c.is_first_head.ensures ∙ ap (λ b. is_head file (first_declr b (declrs_of (map declr_view ds.items))))
+    (sym (spec_base-view c.in-Members.spec)))
     ∙ sym (ap (field_head file) (ap field_view c.in-Members.is ∙ field_view-members _ c.in-Members.spec ds))

@@ -9,5 +9,7 @@ use Rattle.pungi_names.proofs.heads.note_tags.Given as goal
 
 abbrev pub invariant-loop-tag : goal.invariant-loop-tag
 invariant-loop-tag l =
-    (w : ℕ) → or_first (get nat_eq l.objects w) (head_kept (unit_view l.cores.unit.now) (tagged_in (map tag_view (drop l.tag-index l.tags.items)) w))
-    ≡ or_first (get nat_eq l.fn.objects w) (head_kept (unit_view l.cores.unit.now) (tagged_in (map tag_view l.tags.items) w))
+    (w : ℕ) → or_first (get nat_eq l.objects w) (head_kept (unit_view l.cores.unit.now)
+    (tagged_in (map tag_view (drop l.tag-index l.tags.items)) w))
+    ≡ or_first (get nat_eq l.fn.objects w) (head_kept (unit_view l.cores.unit.now)
+    (tagged_in (map tag_view l.tags.items) w))

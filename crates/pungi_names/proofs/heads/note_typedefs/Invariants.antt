@@ -9,5 +9,7 @@ use Rattle.pungi_names.proofs.heads.note_typedefs.Given as goal
 
 abbrev pub invariant-loop-found : goal.invariant-loop-found
 invariant-loop-found l =
-    (w : ℕ) → or_first (get nat_eq l.objects w) (typedef_head (unit_view l.cores.unit.now) (typedef_in (map typedef_view (drop l.found-index l.typedefs.items)) w))
-    ≡ or_first (get nat_eq l.fn.objects w) (typedef_head (unit_view l.cores.unit.now) (typedef_in (map typedef_view l.typedefs.items) w))
+    (w : ℕ) → or_first (get nat_eq l.objects w) (typedef_head (unit_view l.cores.unit.now)
+    (typedef_in (map typedef_view (drop l.found-index l.typedefs.items)) w))
+    ≡ or_first (get nat_eq l.fn.objects w) (typedef_head (unit_view l.cores.unit.now)
+    (typedef_in (map typedef_view l.typedefs.items) w))

@@ -7,5 +7,7 @@ use Rattle.pungi_names.proofs.rows.note_rows.Given as goal
 
 abbrev pub invariant-loop-entry : goal.invariant-loop-entry
 invariant-loop-entry l =
-    (w : ℕ) → or_first (option_map call_view (get nat_eq l.calls w)) (option_map row_seen (row_in (map entry_view (drop l.entry-index l.entries.items)) w))
-    ≡ or_first (option_map call_view (get nat_eq l.fn.calls w)) (option_map row_seen (row_in (map entry_view l.entries.items) w))
+    (w : ℕ) → or_first (option_map call_view (get nat_eq l.calls w)) (option_map row_seen
+    (row_in (map entry_view (drop l.entry-index l.entries.items)) w))
+    ≡ or_first (option_map call_view (get nat_eq l.fn.calls w)) (option_map row_seen
+    (row_in (map entry_view l.entries.items) w))

@@ -7,4 +7,5 @@ pub loop-at-preserved : goal.loop-at-preserved
 loop-at-preserved c =
     let rows = c.args.rows.now in
     let at = c.loop-at.at in
-    c.in_ok-put_row.ensures ∙ ap (λ ys. ys ++ option_to_list (slice_get rows at)) c.loop-at.invariant ∙ sym (take-more at rows)
+    c.in_ok-put_row.ensures ∙ ap (λ ys. ys ++ option_to_list (slice_get rows at)) c.loop-at.invariant
+    ∙ sym (take-more at rows)

@@ -19,5 +19,7 @@ returns-in-None c =
     ends file c.args.word (typedef_view t) (core_view c.own_core.result) c.requires.unlisted c.requires.found
     (ap alias_of (spec_base-view s) ∙ sym c.alias_of.ensures ∙ c.in-None.is)
     (c.own_core.ensures
-    ∙ ap (λ b. own_core b t.name (base_view s.base)) (c.contains.ensures ∙ c.requires.tags c.struct_word.result.0 ∙ ap (λ (w : Name). is_some (tagged_in (tags file) w.0)) c.struct_word.ensures)
-    ∙ ap (λ (b : Base). own_core (is_some (tagged_in (tags file) (struct_word t.name (written_tag b)).0)) t.name b) (sym (spec_base-view s)))
+    ∙ ap (λ b. own_core b t.name (base_view s.base)) (c.contains.ensures ∙ c.requires.tags c.struct_word.result.0
+    ∙ ap (λ (w : Name). is_some (tagged_in (tags file) w.0)) c.struct_word.ensures)
+    ∙ ap (λ (b : Base). own_core (is_some (tagged_in (tags file) (struct_word t.name (written_tag b)).0)) t.name b)
+    (sym (spec_base-view s)))

@@ -10,4 +10,5 @@ use Rattle.pungi_names.proofs.tables.is_core_base.Goals as goal
 pub returns : goal.returns
 returns c =
     c.is_core.ensures
-    ∙ core-seen (is_core c.args.word.0) (followed_view c.core_of-followed.result) (core_of (unit_view c.args.cores.now.unit.now) (base_view c.args.base.now)) c.core_of-followed.ensures
+    ∙ core-seen (is_core c.args.word.0) (followed_view c.core_of-followed.result)
+    (core_of (unit_view c.args.cores.now.unit.now) (base_view c.args.base.now)) c.core_of-followed.ensures

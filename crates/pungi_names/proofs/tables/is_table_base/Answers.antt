@@ -10,5 +10,7 @@ use Rattle.pungi_names.proofs.tables.is_table_base.Goals as goal
 pub returns : goal.returns
 returns c =
     let f = followed_view c.core_of-followed.result in
-    c.both.ensures ∙ ap (λ x. x && c.is_table_core.result) c.is_no_star.ensures ∙ ap (λ y. (f.stars + c.args.stars) == 0 && y) c.is_table_core.ensures
-    ∙ test-seen is_table_core refl c.args.stars f (core_of (unit_view c.args.cores.now.unit.now) (base_view c.args.base.now)) c.core_of-followed.ensures
+    c.both.ensures ∙ ap (λ x. x && c.is_table_core.result) c.is_no_star.ensures
+    ∙ ap (λ y. (f.stars + c.args.stars) == 0 && y) c.is_table_core.ensures
+    ∙ test-seen is_table_core refl c.args.stars f (core_of (unit_view c.args.cores.now.unit.now)
+    (base_view c.args.base.now)) c.core_of-followed.ensures

@@ -7,5 +7,6 @@ use Rattle.pungi_names.proofs.typedefs.first_typedefs.Given as goal
 
 abbrev pub invariant-loop-found : goal.invariant-loop-found
 invariant-loop-found l =
-    (w : ℕ) → or_first (option_map typedef_view (get nat_eq l.first w)) (typedef_in (map typedef_view (drop l.found-index l.typedefs.items)) w)
+    (w : ℕ) → or_first (option_map typedef_view (get nat_eq l.first w)) (typedef_in
+    (map typedef_view (drop l.found-index l.typedefs.items)) w)
     ≡ typedef_in (map typedef_view l.typedefs.items) w

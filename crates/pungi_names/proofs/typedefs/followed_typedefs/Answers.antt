@@ -13,7 +13,13 @@ pub invariant_of-result : goal.invariant_of-result
 invariant_of-result c =
     let file = unit_view c.args.unit.now in
     let items = c.args.typedefs.now.items in
-    let count : c.len.result ≡ length (typedefs file) = omega (arith, c.len.ensures, c.args.typedefs.now.ok.0, length-map items typedef_view, ap length c.requires.typedefs) in
+    let count : c.len.result ≡ length (typedefs file) = omega (
+      arith,
+      c.len.ensures,
+      c.args.typedefs.now.ok.0,
+      length-map items typedef_view,
+      ap length c.requires.typedefs,
+    ) in
     record {
       tags_found = λ w. c.in_ok-words.ensures w ∙ ap (λ ts. is_some (tagged_in ts w)) c.requires.tags;
       followed = λ w h.

@@ -12,6 +12,7 @@ abbrev pub invariant-loop-found : goal.invariant-loop-found
 invariant-loop-found l = record {
   done : AllReach (known_at (unit_view l.unit)) (λ w. option_map reached_view (get nat_eq l.done w));
   all : AllReach (known_at (unit_view l.unit)) (λ w. option_map reached_view (get nat_eq l.all w));
-  words : (w : ℕ) → (is_some (get nat_eq l.all w) || is_some (typedef_in (map typedef_view (drop l.found-index l.typedefs.items)) w))
+  words : (w : ℕ) → (is_some (get nat_eq l.all w)
+      || is_some (typedef_in (map typedef_view (drop l.found-index l.typedefs.items)) w))
       ≡ (is_some (get nat_eq l.fn.all w) || is_some (typedef_in (map typedef_view l.typedefs.items) w));
 }

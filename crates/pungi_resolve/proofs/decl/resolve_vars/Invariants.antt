@@ -11,10 +11,15 @@ abbrev pub invariant-loop-var : goal.invariant-loop-var
 invariant-loop-var g l = record {
   reached :
       map declared_view l.locals.items
-      ++ reached_in (site_of (g.N.Lookup.env l.names) l.walk l.around.result) (spec_view l.spec) (map var_decl_view (drop l.var-index l.list.items))
-      ≡ reached_in (site_of (g.N.Lookup.env l.names) l.fn.walk l.around.result) (spec_view l.spec) (map var_decl_view l.list.items);
-  sound : AreSoundLocals (reached_in (site_of (g.N.Lookup.env l.names) l.walk l.around.result) (spec_view l.spec) (map var_decl_view (drop l.var-index l.list.items)));
+      ++ reached_in (site_of (g.N.Lookup.env l.names) l.walk l.around.result) (spec_view l.spec)
+      (map var_decl_view (drop l.var-index l.list.items))
+      ≡ reached_in (site_of (g.N.Lookup.env l.names) l.fn.walk l.around.result) (spec_view l.spec)
+      (map var_decl_view l.list.items);
+  sound : AreSoundLocals (reached_in (site_of (g.N.Lookup.env l.names) l.walk l.around.result) (spec_view l.spec)
+      (map var_decl_view (drop l.var-index l.list.items)));
   after :
-      with_vars (site_of (g.N.Lookup.env l.names) l.walk l.around.result) (spec_view l.spec) (map var_decl_view (drop l.var-index l.list.items))
-      ≡ with_vars (site_of (g.N.Lookup.env l.names) l.fn.walk l.around.result) (spec_view l.spec) (map var_decl_view l.list.items);
+      with_vars (site_of (g.N.Lookup.env l.names) l.walk l.around.result) (spec_view l.spec)
+      (map var_decl_view (drop l.var-index l.list.items))
+      ≡ with_vars (site_of (g.N.Lookup.env l.names) l.fn.walk l.around.result) (spec_view l.spec)
+      (map var_decl_view l.list.items);
 }

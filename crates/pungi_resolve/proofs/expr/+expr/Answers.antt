@@ -1,5 +1,6 @@
 use borrow.Author.Rules.{get_or_read}
-use Rattle.std.proofs.Common.{◌≡◌, ◌∙◌, ◌<◌, ◌≤◌, ◌+◌, ◌&&◌, true, false, List, [], ◌∷◌, ◌++◌, length, get_or, drop, map, sym, ap, subst, arith, rules}
+use Rattle.std.proofs.Common.{◌≡◌, ◌∙◌, ◌<◌, ◌≤◌, ◌+◌, ◌&&◌, true, false, List, [], ◌∷◌, ◌++◌, length, get_or, drop}
+use Rattle.std.proofs.Common.{map, sym, ap, subst, arith, rules}
 use Rattle.std.proofs.lemmas.List.{drop_all}
 use Rattle.pungi_tree.specs.ExprView.{expr_view, exprs_of, type_name_view}
 use Rattle.pungi_tree.specs.declared.declr.Tail.TheFolds.{the_lemmas}
@@ -12,24 +13,30 @@ use Rattle.pungi_resolved.specs.ValueView.{value_view, boxed_view}
 use Rattle.pungi_resolve.specs.Arguments.{argument_in}
 use Rattle.pungi_resolve.proofs.Clean.{and_left, and_right}
 use Rattle.pungi_resolve.proofs.ListLemmas.{values_before, values_before-one, values_before-all, next_one}
-use Rattle.pungi_resolve.proofs.OperandLemmas.{binary-operands, assign-sides, cond-choices, cast-operand, argument-value, argument-operand, neither-left, neither-right}
+use Rattle.pungi_resolve.proofs.OperandLemmas.{binary-operands, assign-sides, cond-choices, cast-operand}
+use Rattle.pungi_resolve.proofs.OperandLemmas.{argument-value, argument-operand, neither-left, neither-right}
 use Rattle.pungi_resolve.proofs.expr.+expr.Goals as goal
-use Rattle.pungi_resolve.proofs.expr.+expr.Goals.{resolve_arg-else-wants_module-via-then-wants_module+else-is_module, resolve_arg-else-wants_module-via-else-wants_module}
+use Rattle.pungi_resolve.proofs.expr.+expr.Goals.{resolve_arg-else-wants_module-via-then-wants_module+else-is_module}
+use Rattle.pungi_resolve.proofs.expr.+expr.Goals.{resolve_arg-else-wants_module-via-else-wants_module}
 
 pub resolve_expr-resolve_expr-requires : goal.resolve_expr-resolve_expr-requires
 resolve_expr-resolve_expr-requires g t c κs within =
     let env = g.N.Lookup.env c.args.names.now in
     let P : Expr → Type 0 = λ x. is_sound (resolve env (expr_view x)) ≡ true in
-    let k = binary-operands env c.args.e.now c.in-Binary.operator c.in-Binary.a c.in-Binary.b c.in-Binary.is c.requires in
-    let h : is_sound (resolve env (expr_view c.deref-in-Binary.result.now)) ≡ true = subst P (sym c.deref-in-Binary.ensures) k.first in
+    let k = binary-operands env c.args.e.now c.in-Binary.operator c.in-Binary.a c.in-Binary.b c.in-Binary.is
+    c.requires in
+    let h : is_sound (resolve env (expr_view c.deref-in-Binary.result.now))
+    ≡ true = subst P (sym c.deref-in-Binary.ensures) k.first in
     (search (rules, the_lemmas), (search rules, h))
 
 pub resolve_expr-resolve_expr-requires-in-Binary : goal.resolve_expr-resolve_expr-requires-in-Binary
 resolve_expr-resolve_expr-requires-in-Binary g t c κs within =
     let env = g.N.Lookup.env c.args.names.now in
     let P : Expr → Type 0 = λ x. is_sound (resolve env (expr_view x)) ≡ true in
-    let k = binary-operands env c.args.e.now c.in-Binary.operator c.in-Binary.a c.in-Binary.b c.in-Binary.is c.requires in
-    let h : is_sound (resolve env (expr_view c.deref-in-Binary-2.result.now)) ≡ true = subst P (sym c.deref-in-Binary-2.ensures) k.second in
+    let k = binary-operands env c.args.e.now c.in-Binary.operator c.in-Binary.a c.in-Binary.b c.in-Binary.is
+    c.requires in
+    let h : is_sound (resolve env (expr_view c.deref-in-Binary-2.result.now))
+    ≡ true = subst P (sym c.deref-in-Binary-2.ensures) k.second in
     (search (rules, the_lemmas), (search rules, h))
 
 pub resolve_expr-resolve_place-requires : goal.resolve_expr-resolve_place-requires
@@ -37,7 +44,8 @@ resolve_expr-resolve_place-requires g t c κs within =
     let env = g.N.Lookup.env c.args.names.now in
     let P : Expr → Type 0 = λ x. is_sound_place (place_of env (expr_view x)) ≡ true in
     let k = assign-sides env c.args.e.now c.in-Assign.operator c.in-Assign.a c.in-Assign.b c.in-Assign.is c.requires in
-    let h : is_sound_place (place_of env (expr_view c.deref-in-Assign-2.result.now)) ≡ true = subst P (sym c.deref-in-Assign-2.ensures) k.place in
+    let h : is_sound_place (place_of env (expr_view c.deref-in-Assign-2.result.now))
+    ≡ true = subst P (sym c.deref-in-Assign-2.ensures) k.place in
     (search (rules, the_lemmas), (search rules, h))
 
 pub resolve_expr-resolve_expr-requires-in-Assign : goal.resolve_expr-resolve_expr-requires-in-Assign
@@ -45,7 +53,8 @@ resolve_expr-resolve_expr-requires-in-Assign g t c κs within =
     let env = g.N.Lookup.env c.args.names.now in
     let P : Expr → Type 0 = λ x. is_sound (resolve env (expr_view x)) ≡ true in
     let k = assign-sides env c.args.e.now c.in-Assign.operator c.in-Assign.a c.in-Assign.b c.in-Assign.is c.requires in
-    let h : is_sound (resolve env (expr_view c.deref-in-Assign-3.result.now)) ≡ true = subst P (sym c.deref-in-Assign-3.ensures) k.value in
+    let h : is_sound (resolve env (expr_view c.deref-in-Assign-3.result.now))
+    ≡ true = subst P (sym c.deref-in-Assign-3.ensures) k.value in
     (search (rules, the_lemmas), (search rules, h))
 
 pub resolve_expr-resolve_expr-requires-in-Cond : goal.resolve_expr-resolve_expr-requires-in-Cond
@@ -53,7 +62,8 @@ resolve_expr-resolve_expr-requires-in-Cond g t c κs within =
     let env = g.N.Lookup.env c.args.names.now in
     let P : Expr → Type 0 = λ x. is_sound (resolve env (expr_view x)) ≡ true in
     let k = cond-choices env c.args.e.now c.in-Cond.test c.in-Cond.yes c.in-Cond.no c.in-Cond.is c.requires in
-    let h : is_sound (resolve env (expr_view c.deref-in-Cond.result.now)) ≡ true = subst P (sym c.deref-in-Cond.ensures) k.test in
+    let h : is_sound (resolve env (expr_view c.deref-in-Cond.result.now))
+    ≡ true = subst P (sym c.deref-in-Cond.ensures) k.test in
     (search (rules, the_lemmas), (search rules, h))
 
 pub resolve_expr-resolve_expr-requires-in-Cond-2 : goal.resolve_expr-resolve_expr-requires-in-Cond-2
@@ -61,7 +71,8 @@ resolve_expr-resolve_expr-requires-in-Cond-2 g t c κs within =
     let env = g.N.Lookup.env c.args.names.now in
     let P : Expr → Type 0 = λ x. is_sound (resolve env (expr_view x)) ≡ true in
     let k = cond-choices env c.args.e.now c.in-Cond.test c.in-Cond.yes c.in-Cond.no c.in-Cond.is c.requires in
-    let h : is_sound (resolve env (expr_view c.deref-in-Cond-2.result.now)) ≡ true = subst P (sym c.deref-in-Cond-2.ensures) k.yes in
+    let h : is_sound (resolve env (expr_view c.deref-in-Cond-2.result.now))
+    ≡ true = subst P (sym c.deref-in-Cond-2.ensures) k.yes in
     (search (rules, the_lemmas), (search rules, h))
 
 pub resolve_expr-resolve_expr-requires-in-Cond-3 : goal.resolve_expr-resolve_expr-requires-in-Cond-3
@@ -69,13 +80,20 @@ resolve_expr-resolve_expr-requires-in-Cond-3 g t c κs within =
     let env = g.N.Lookup.env c.args.names.now in
     let P : Expr → Type 0 = λ x. is_sound (resolve env (expr_view x)) ≡ true in
     let k = cond-choices env c.args.e.now c.in-Cond.test c.in-Cond.yes c.in-Cond.no c.in-Cond.is c.requires in
-    let h : is_sound (resolve env (expr_view c.deref-in-Cond-3.result.now)) ≡ true = subst P (sym c.deref-in-Cond-3.ensures) k.no in
+    let h : is_sound (resolve env (expr_view c.deref-in-Cond-3.result.now))
+    ≡ true = subst P (sym c.deref-in-Cond-3.ensures) k.no in
     (search (rules, the_lemmas), (search rules, h))
 
 pub resolve_cast-resolve_expr-requires : goal.resolve_cast-resolve_expr-requires
 resolve_cast-resolve_expr-requires g t c κs within =
-    let env = g.N.Lookup.env c.args.names.now in
-    (search (rules, the_lemmas), (search rules, cast-operand env c.args.pos (type_name_view c.args.name.now) (expr_view c.args.a.now) c.requires))
+    let env = g.N.Lookup.env c.args.names.now in (
+      search (rules, the_lemmas),
+      (
+        search rules,
+        cast-operand env c.args.pos (type_name_view c.args.name.now)
+            (expr_view c.args.a.now) c.requires,
+      ),
+    )
 
 pub resolve_arg-resolve_expr-requires : goal.resolve_arg-resolve_expr-requires
 resolve_arg-resolve_expr-requires g t c κs within =
@@ -83,8 +101,10 @@ resolve_arg-resolve_expr-requires g t c κs within =
     let ws = c.args.wants.now in
     let e = expr_view c.args.e.now in
     let f : (wants_module ws && is_module_address env e) ≡ false = elim c.else-wants_module.branch [
-      | resolve_arg-else-wants_module-via-then-wants_module+else-is_module w ↦ neither-right _ _ (sym c.is_module_address-is_module.ensures ∙ w.if-is_module.false)
-      | resolve_arg-else-wants_module-via-else-wants_module w ↦ neither-left _ _ (sym c.wants_module.ensures ∙ w.if-wants_module.false)
+      | resolve_arg-else-wants_module-via-then-wants_module+else-is_module w ↦ neither-right _ _
+          (sym c.is_module_address-is_module.ensures ∙ w.if-is_module.false)
+      | resolve_arg-else-wants_module-via-else-wants_module w ↦ neither-left _ _
+          (sym c.wants_module.ensures ∙ w.if-wants_module.false)
     ] in
     let h : is_sound (resolve env e) ≡ true = argument-operand env ws e f c.requires in
     (search (rules, the_lemmas), (search rules, h))
@@ -95,8 +115,10 @@ resolve_arg-returns-clause-value g t c =
     let ws = c.args.wants.now in
     let e = expr_view c.args.e.now in
     let f : (wants_module ws && is_module_address env e) ≡ false = elim c.else-wants_module.branch [
-      | resolve_arg-else-wants_module-via-then-wants_module+else-is_module w ↦ neither-right _ _ (sym c.is_module_address-is_module.ensures ∙ w.if-is_module.false)
-      | resolve_arg-else-wants_module-via-else-wants_module w ↦ neither-left _ _ (sym c.wants_module.ensures ∙ w.if-wants_module.false)
+      | resolve_arg-else-wants_module-via-then-wants_module+else-is_module w ↦ neither-right _ _
+          (sym c.is_module_address-is_module.ensures ∙ w.if-is_module.false)
+      | resolve_arg-else-wants_module-via-else-wants_module w ↦ neither-left _ _
+          (sym c.wants_module.ensures ∙ w.if-wants_module.false)
     ] in
     c.in_ok-value.ensures
     ∙ ap (λ p. convert p c.want_kind.result c.in_ok-a.a.kind (boxed_view c.in_ok-a.a.value)) c.expr_pos-pos.ensures
@@ -113,8 +135,10 @@ resolve_args-resolve_arg-requires g t c κs within =
     let s : i < length xs = omega (arith, ap length c.deref-e-items.ensures.value) in
     let r : c.e-item.result ≡ get_or xs i c.e-item.result = cc in
     let d = next_one xs i c.e-item.result s r in
-    let P : List Expr → Type 0 = λ ys. are_sound (resolve_all env c.loop-e.rest.now (exprs_of (map expr_view ys))) ≡ true in
-    let h : is_sound (argument_in env c.loop-e.rest.now (expr_view c.e-item.result)) ≡ true = and_left _ _ (subst P d c.loop-e.invariant.sound) in
+    let P : List Expr → Type 0 = λ ys. are_sound (resolve_all env c.loop-e.rest.now (exprs_of (map expr_view ys)))
+    ≡ true in
+    let h : is_sound (argument_in env c.loop-e.rest.now (expr_view c.e-item.result))
+    ≡ true = and_left _ _ (subst P d c.loop-e.invariant.sound) in
     (search (rules, the_lemmas, get_or_read), (search rules, h))
 
 pub resolve_args-returns-clause-values : goal.resolve_args-returns-clause-values
@@ -125,7 +149,8 @@ resolve_args-returns-clause-values g t c =
     let s : length xs ≤ i = omega (arith, ap length c.deref-e-items.ensures.value) in
     let done = map value_view c.loop-e.values.items in
     sym (values_before-all done)
-    ∙ ap (λ ys. values_before done (resolve_all env c.loop-e.rest.now (exprs_of (map expr_view ys)))) (sym (drop_all i xs s))
+    ∙ ap (λ ys. values_before done (resolve_all env c.loop-e.rest.now (exprs_of (map expr_view ys))))
+    (sym (drop_all i xs s))
     ∙ c.loop-e.invariant.values
 
 pub resolve_args-loop-e-preserved : goal.resolve_args-loop-e-preserved
@@ -139,15 +164,20 @@ resolve_args-loop-e-preserved g t c =
     let d = next_one xs i c.e-item.result s r in
     let P : List Expr → Type 0 = λ ys. are_sound (resolve_all env rest (exprs_of (map expr_view ys))) ≡ true in
     let left = exprs_of (map expr_view (drop (i + 1) xs)) in
-    let more : are_sound (resolve_all env (other_wants rest) left) ≡ true = and_right (is_sound (argument_in env rest (expr_view c.e-item.result))) (are_sound (resolve_all env (other_wants rest) left)) (subst P d c.loop-e.invariant.sound) in
+    let more : are_sound (resolve_all env (other_wants rest) left)
+    ≡ true = and_right (is_sound (argument_in env rest (expr_view c.e-item.result)))
+    (are_sound (resolve_all env (other_wants rest) left)) (subst P d c.loop-e.invariant.sound) in
     let done = c.loop-e.values.items in
     let others : c.other_wants-rest.result.now ≡ other_wants rest = c.other_wants-rest.ensures in
     record {
       values =
-          ap (λ ys. values_before (map value_view ys) (resolve_all env c.other_wants-rest.result.now left)) c.in_ok-push.ensures.items
-          ∙ ap (λ ws. values_before (map value_view (done ++ c.into_inner.result ∷ [])) (resolve_all env ws left)) others
+          ap (λ ys. values_before (map value_view ys) (resolve_all env c.other_wants-rest.result.now left))
+          c.in_ok-push.ensures.items
+          ∙ ap (λ ws. values_before (map value_view (done ++ c.into_inner.result ∷ [])) (resolve_all env ws left))
+          others
           ∙ values_before-one value_view done c.into_inner.result (resolve_all env (other_wants rest) left)
-          ∙ ap (λ v. values_before (map value_view done) (value_and v (resolve_all env (other_wants rest) left))) (ap value_view c.into_inner.ensures ∙ c.in_ok-arg.ensures.value)
+          ∙ ap (λ v. values_before (map value_view done) (value_and v (resolve_all env (other_wants rest) left)))
+          (ap value_view c.into_inner.ensures ∙ c.in_ok-arg.ensures.value)
           ∙ ap (λ ys. values_before (map value_view done) (resolve_all env rest (exprs_of (map expr_view ys)))) (sym d)
           ∙ c.loop-e.invariant.values;
       met = search rules;

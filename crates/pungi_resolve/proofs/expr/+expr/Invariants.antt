@@ -10,10 +10,12 @@ use Rattle.pungi_resolve.proofs.expr.+expr.Given as goal
 abbrev pub invariant-resolve_args-loop-e : goal.invariant-resolve_args-loop-e
 invariant-resolve_args-loop-e g l = record {
   values :
-      values_before (map value_view l.values.items) (resolve_all (g.N.Lookup.env l.names) l.rest (exprs_of (map expr_view (drop l.e-index l.list.items))))
+      values_before (map value_view l.values.items) (resolve_all (g.N.Lookup.env l.names) l.rest
+      (exprs_of (map expr_view (drop l.e-index l.list.items))))
       ≡ resolve_all (g.N.Lookup.env l.names) l.wants (exprs_of (map expr_view l.list.items));
   met :
       (l.met && are_met (g.N.Lookup.env l.names) l.rest (exprs_of (map expr_view (drop l.e-index l.list.items))))
       ≡ are_met (g.N.Lookup.env l.names) l.wants (exprs_of (map expr_view l.list.items));
-  sound : are_sound (resolve_all (g.N.Lookup.env l.names) l.rest (exprs_of (map expr_view (drop l.e-index l.list.items)))) ≡ true;
+  sound : are_sound (resolve_all (g.N.Lookup.env l.names) l.rest (exprs_of
+      (map expr_view (drop l.e-index l.list.items)))) ≡ true;
 }

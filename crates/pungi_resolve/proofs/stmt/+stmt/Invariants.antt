@@ -10,10 +10,13 @@ use Rattle.pungi_resolve.proofs.stmt.+stmt.Given as goal
 abbrev pub invariant-resolve_list-loop-s : goal.invariant-resolve_list-loop-s
 invariant-resolve_list-loop-s g l = record {
   actions :
-      actions_before (map action_view l.found.items) (actions_in (site_of (g.N.Lookup.env l.names) l.walk l.around.result) (stmts_of (map stmt_view (drop l.s-index l.list.items))))
+      actions_before (map action_view l.found.items) (actions_in (site_of (g.N.Lookup.env l.names) l.walk
+      l.around.result) (stmts_of (map stmt_view (drop l.s-index l.list.items))))
       ≡ actions_in (site_of (g.N.Lookup.env l.names) l.fn.walk l.around.result) (stmts_of (map stmt_view l.list.items));
-  sound : AreSoundActions (actions_in (site_of (g.N.Lookup.env l.names) l.walk l.around.result) (stmts_of (map stmt_view (drop l.s-index l.list.items))));
+  sound : AreSoundActions (actions_in (site_of (g.N.Lookup.env l.names) l.walk l.around.result)
+      (stmts_of (map stmt_view (drop l.s-index l.list.items))));
   after :
-      after_all (site_of (g.N.Lookup.env l.names) l.walk l.around.result) (stmts_of (map stmt_view (drop l.s-index l.list.items)))
+      after_all (site_of (g.N.Lookup.env l.names) l.walk l.around.result) (stmts_of
+      (map stmt_view (drop l.s-index l.list.items)))
       ≡ after_all (site_of (g.N.Lookup.env l.names) l.fn.walk l.around.result) (stmts_of (map stmt_view l.list.items));
 }

@@ -12,4 +12,5 @@ returns-clause-next g c =
     c.in_ok-check_body.ensures.next
     ∙ ap (λ n. n + body_locals (stmt_view c.args.f.now.body))
     (ap (λ (f : Frame). f.next) c.in_ok-check_params.ensures.frame
-    ∙ params_counted (frame_of (g.N.Lookup.env c.args.names.now) c.args.walk.now c.args.block.now.keys c.args.around.now) (params_view c.args.f.now.params))
+    ∙ params_counted (frame_of (g.N.Lookup.env c.args.names.now) c.args.walk.now c.args.block.now.keys
+    c.args.around.now) (params_view c.args.f.now.params))

@@ -17,12 +17,16 @@ returns-clause-found g c =
     let ss = stmts_of (map stmt_view c.args.list.now.items) in
     let inner = c.in_block_with.result in
     let at : Frame → Option Finding = λ f. least_from old.first (stmts_findings f ss) in
-    IfOk-equal c.check_list.result c.check_list.new.walk.first (at (frame_of env old block inner)) (at (record (in_block (frame_of env old block c.args.around.now) ss) { block = block }))
+    IfOk-equal c.check_list.result c.check_list.new.walk.first (at (frame_of env old block inner))
+    (at (record (in_block (frame_of env old block c.args.around.now) ss) { block = block }))
     c.check_list.ensures.found
-    (ap at (entered_block env old c.args.around.now inner c.in_ok-labels.labels.keys block ss c.in_ok-labels.ensures c.in_block_with.ensures.result c.in_block_with.ensures.labels
-    c.in_block_with.ensures.breaks c.in_block_with.ensures.continues c.in_block_with.ensures.cases c.in_block_with.ensures.switched))
+    (ap at (entered_block env old c.args.around.now inner c.in_ok-labels.labels.keys block ss c.in_ok-labels.ensures
+    c.in_block_with.ensures.result c.in_block_with.ensures.labels
+    c.in_block_with.ensures.breaks c.in_block_with.ensures.continues c.in_block_with.ensures.cases
+    c.in_block_with.ensures.switched))
 
 pub returns-clause-next : goal.returns-clause-next
 returns-clause-next g c =
-    counted c.check_list.result (g.N.Lookup.env c.args.names.now) c.args.walk.now c.check_list.new.walk c.args.block.now.keys c.check_list.new.block.keys c.in_block_with.result
+    counted c.check_list.result (g.N.Lookup.env c.args.names.now) c.args.walk.now c.check_list.new.walk
+    c.args.block.now.keys c.check_list.new.block.keys c.in_block_with.result
     (stmts_of (map stmt_view c.args.list.now.items)) c.check_list.ensures.frame

@@ -6,7 +6,8 @@ use Rattle.pungi_scope.proofs.labels.+all_labels.Given as goal
 
 abbrev pub invariant-note_all_labels-loop-s : goal.invariant-note_all_labels-loop-s
 invariant-note_all_labels-loop-s l = record {
-  kept : labels_after_all l.kept.keys (stmts_of (map stmt_view (drop l.s-index l.list.items))) ≡ labels_after_all l.fn.kept.keys (stmts_of (map stmt_view l.list.items));
+  kept : labels_after_all l.kept.keys (stmts_of (map stmt_view (drop l.s-index l.list.items)))
+      ≡ labels_after_all l.fn.kept.keys (stmts_of (map stmt_view l.list.items));
   found :
       least_from l.first (labels_findings l.kept.keys (stmts_of (map stmt_view (drop l.s-index l.list.items))))
       ≡ least_from l.fn.first (labels_findings l.fn.kept.keys (stmts_of (map stmt_view l.list.items)));

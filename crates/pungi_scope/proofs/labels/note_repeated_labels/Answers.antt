@@ -9,5 +9,6 @@ pub returns : goal.returns
 returns c =
     let first = c.args.first.now in
     let s = stmt_view c.args.body.now in
-    IfOk-equal c.note_labels.result c.note_labels.new.first (least_from first (label_findings c.new-labels.result.keys s)) (least_from first (label_findings [] s))
+    IfOk-equal c.note_labels.result c.note_labels.new.first (least_from first
+    (label_findings c.new-labels.result.keys s)) (least_from first (label_findings [] s))
     c.note_labels.ensures.found (ap (λ ks. least_from first (label_findings ks s)) c.new-labels.ensures.empty)

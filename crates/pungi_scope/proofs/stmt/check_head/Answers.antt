@@ -20,9 +20,12 @@ returns-clause-found g c =
     let E = (start_frame (frame_of env c.args.walk.now [] c.args.around.now) (for_start_view c.args.start.now)).env in
     let there : inner_env env one.locals ≡ E = ap (λ (f : Frame). f.env) c.in_ok-check_start.ensures.frame in
     ap (λ (w : Walk). w.first) c.visit_optional.ensures
-    ∙ ap (λ (w : Walk). least_from w.first (option_findings (inner_env env w.locals) step)) c.visit_optional_condition.ensures
-    ∙ ap (λ (e : Env). least_from (least_from one.first (option_condition e c.args.pos test)) (option_findings e step)) there
-    ∙ ap (λ (x : Option Finding). least_from (least_from x (option_condition E c.args.pos test)) (option_findings E step)) c.in_ok-check_start.ensures.found
+    ∙ ap (λ (w : Walk). least_from w.first (option_findings (inner_env env w.locals) step))
+    c.visit_optional_condition.ensures
+    ∙ ap (λ (e : Env). least_from (least_from one.first (option_condition e c.args.pos test))
+    (option_findings e step)) there
+    ∙ ap (λ (x : Option Finding). least_from (least_from x (option_condition E c.args.pos test))
+    (option_findings E step)) c.in_ok-check_start.ensures.found
 
 pub returns-clause-frame : goal.returns-clause-frame
 returns-clause-frame g c =

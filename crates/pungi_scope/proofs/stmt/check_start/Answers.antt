@@ -12,10 +12,13 @@ returns-in-Decl-clause-found g c =
     let old = c.args.walk.now in
     let around = c.args.around.now in
     let d = decl_view c.in-Decl.d in
-    IfOk-equal c.check_decl.result c.check_decl.new.walk.first (least_from old.first (decl_findings (frame_of env old c.new-block.result.keys around) d))
-    (least_from old.first (start_findings (frame_of env old [] around) (for_start_view c.args.start.now))) c.check_decl.ensures.found
+    IfOk-equal c.check_decl.result c.check_decl.new.walk.first (least_from old.first
+    (decl_findings (frame_of env old c.new-block.result.keys around) d))
+    (least_from old.first (start_findings (frame_of env old [] around) (for_start_view c.args.start.now)))
+    c.check_decl.ensures.found
     (ap (λ ks. least_from old.first (decl_findings (frame_of env old ks around) d)) c.new-block.ensures.empty
-    ∙ sym (ap (λ a. least_from old.first (start_findings (frame_of env old [] around) (for_start_view a))) c.in-Decl.is))
+    ∙ sym (ap (λ a. least_from old.first (start_findings (frame_of env old [] around) (for_start_view a)))
+    c.in-Decl.is))
 
 pub returns-in-Decl-clause-frame : goal.returns-in-Decl-clause-frame
 returns-in-Decl-clause-frame g c =
@@ -24,7 +27,9 @@ returns-in-Decl-clause-frame g c =
     let around = c.args.around.now in
     let d = decl_view c.in-Decl.d in
     on_ok_weaker c.check_decl.result
-    (λ (h : frame_of env c.check_decl.new.walk c.check_decl.new.block.keys around ≡ after_decl (frame_of env old c.new-block.result.keys around) d).
-    ap (λ (f : Frame). record f { block = [] }) (h ∙ ap (λ ks. after_decl (frame_of env old ks around) d) c.new-block.ensures.empty)
+    (λ (h : frame_of env c.check_decl.new.walk c.check_decl.new.block.keys around
+    ≡ after_decl (frame_of env old c.new-block.result.keys around) d).
+    ap (λ (f : Frame). record f { block = [] }) (h ∙ ap (λ ks. after_decl (frame_of env old ks around) d)
+    c.new-block.ensures.empty)
     ∙ sym (ap (λ a. record (start_frame (frame_of env old [] around) (for_start_view a)) { block = [] }) c.in-Decl.is))
     c.check_decl.ensures.frame

@@ -11,4 +11,5 @@ decreases-loop-token l = length l.rest
 
 abbrev pub invariant-loop-token : goal.invariant-loop-token
 invariant-loop-token l =
-    (length l.rest ≤ length l.tokens) × ((awaited : List Punct) → closes l.rest (l.close ∷ awaited) ≡ closes l.tokens (l.close ∷ awaited))
+    (length l.rest ≤ length l.tokens) × ((awaited : List Punct)
+    → closes l.rest (l.close ∷ awaited) ≡ closes l.tokens (l.close ∷ awaited))

@@ -6,4 +6,5 @@ use Rattle.pungi_spelling.proofs.stmt_depth.+stmt_depth.Given as goal
 
 abbrev pub invariant-stmts-loop-s : goal.invariant-stmts-loop-s
 invariant-stmts-loop-s l =
-    max l.deepest (capped (stmts_depth (stmts_of (map stmt_view (drop l.s-index l.list.items))))) ≡ capped (stmts_depth (stmts_of (map stmt_view l.list.items)))
+    max l.deepest (capped (stmts_depth (stmts_of (map stmt_view (drop l.s-index l.list.items)))))
+    ≡ capped (stmts_depth (stmts_of (map stmt_view l.list.items)))

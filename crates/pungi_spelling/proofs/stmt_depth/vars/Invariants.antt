@@ -5,4 +5,6 @@ use Rattle.pungi_tree.specs.StmtDepth.{vars_depth}
 use Rattle.pungi_spelling.proofs.stmt_depth.vars.Given as goal
 
 abbrev pub invariant-loop-v : goal.invariant-loop-v
-invariant-loop-v l = max l.deepest (capped (vars_depth (map var_decl_view (drop l.v-index l.list.items)))) ≡ capped (vars_depth (map var_decl_view l.list.items))
+invariant-loop-v l =
+    max l.deepest (capped (vars_depth (map var_decl_view (drop l.v-index l.list.items))))
+    ≡ capped (vars_depth (map var_decl_view l.list.items))

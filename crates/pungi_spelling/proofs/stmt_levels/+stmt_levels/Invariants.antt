@@ -7,4 +7,5 @@ use Rattle.pungi_spelling.proofs.stmt_levels.+stmt_levels.Given as goal
 
 abbrev pub invariant-stmts-loop-s : goal.invariant-stmts-loop-s
 invariant-stmts-loop-s l =
-    stmts_ok (typedef_names (map item_view l.file)) (stmts_of (map stmt_view (drop l.s-index l.list.items))) ≡ stmts_ok (typedef_names (map item_view l.file)) (stmts_of (map stmt_view l.list.items))
+    stmts_ok (typedef_names (map item_view l.file)) (stmts_of (map stmt_view (drop l.s-index l.list.items)))
+    ≡ stmts_ok (typedef_names (map item_view l.file)) (stmts_of (map stmt_view l.list.items))

@@ -5,4 +5,6 @@ use Rattle.pungi_tree.specs.UnitDepth.{items_depth}
 use Rattle.pungi_spelling.proofs.unit_depth.depth.Given as goal
 
 abbrev pub invariant-loop-i : goal.invariant-loop-i
-invariant-loop-i l = max l.deepest (capped (items_depth (map item_view (drop l.i-index l.unit.items.items)))) ≡ capped (items_depth (unit_view l.unit))
+invariant-loop-i l =
+    max l.deepest (capped (items_depth (map item_view (drop l.i-index l.unit.items.items))))
+    ≡ capped (items_depth (unit_view l.unit))

@@ -4,4 +4,5 @@ use Rattle.pungi_tree.specs.UnitFlat.{items_flat}
 use Rattle.pungi_spelling.proofs.unit_flat.flat.Given as goal
 
 abbrev pub invariant-loop-i : goal.invariant-loop-i
-invariant-loop-i l = l.out.items ++ items_flat (map item_view (drop l.i-index l.unit.items.items)) ≡ items_flat (unit_view l.unit)
+invariant-loop-i l =
+    l.out.items ++ items_flat (map item_view (drop l.i-index l.unit.items.items)) ≡ items_flat (unit_view l.unit)

@@ -6,5 +6,8 @@ use Rattle.pungi_types.proofs.expr.+expr.Given as goal
 
 abbrev pub invariant-args-loop-e : goal.invariant-args-loop-e
 invariant-args-loop-e g l =
-    ((l.met && are_met (g.N.Lookup.env l.names) l.rest (exprs_of (map expr_view (drop l.e-index l.list.items)))) ≡ are_met (g.N.Lookup.env l.names) l.wants (exprs_of (map expr_view l.list.items)))
-    × (least_from l.first (args_findings (g.N.Lookup.env l.names) l.rest (exprs_of (map expr_view (drop l.e-index l.list.items)))) ≡ least_from l.fn.first (args_findings (g.N.Lookup.env l.names) l.wants (exprs_of (map expr_view l.list.items))))
+    ((l.met && are_met (g.N.Lookup.env l.names) l.rest (exprs_of (map expr_view (drop l.e-index l.list.items))))
+    ≡ are_met (g.N.Lookup.env l.names) l.wants (exprs_of (map expr_view l.list.items)))
+    × (least_from l.first (args_findings (g.N.Lookup.env l.names) l.rest (exprs_of
+    (map expr_view (drop l.e-index l.list.items)))) ≡ least_from l.fn.first
+    (args_findings (g.N.Lookup.env l.names) l.wants (exprs_of (map expr_view l.list.items))))

@@ -6,4 +6,5 @@ use Rattle.pungi_types.proofs.tail.is_plain.Goals as goal
 
 pub returns-in-Sizes : goal.returns-in-Sizes
 returns-in-Sizes c =
-    c.is_no_array.ensures ∙ sym (ap is_plain_tail (declr_tail-view c.args.declr.now ∙ ap tail_view c.in-Sizes.is ∙ tail_view-sizes c.in-Sizes.sizes))
+    c.is_no_array.ensures ∙ sym (ap is_plain_tail (declr_tail-view c.args.declr.now ∙ ap tail_view c.in-Sizes.is
+    ∙ tail_view-sizes c.in-Sizes.sizes))

@@ -11,13 +11,20 @@ loop-i-preserved c =
     let i = c.loop-i.i in
     let takes = c.args.takes.now in
     let args = c.args.args.now in
-    let moved : c.take_one.new.world ≡ (if is_taken_at c.args.success takes i then hand_over c.loop-i.world (get_or args i Null) else c.loop-i.world) =
-    c.take_one.ensures ∙ ap (λ (b : Bool). if b then hand_over c.loop-i.world (get_or args i Null) else c.loop-i.world) c.is_taken_at.ensures in
+    let moved : c.take_one.new.world ≡ (if is_taken_at c.args.success takes i then hand_over c.loop-i.world
+    (get_or args i Null) else c.loop-i.world) =
+    c.take_one.ensures ∙ ap (λ (b : Bool). if b then hand_over c.loop-i.world (get_or args i Null) else
+    c.loop-i.world) c.is_taken_at.ensures in
     let Near : World → Type 0 = λ w. AreWithin (2 ^ 61 + 1 + (i + 1)) w in
     record {
-      same = ap (λ (w : World). take_over w c.args.success (drop (i + 1) takes) (drop (i + 1) args)) moved ∙ sym (take_over-turn c.loop-i.world c.args.success takes args i c.loop-i-test.true) ∙ c.loop-i.invariant.same;
-      within = subst Near (sym moved) (within_taken (is_taken_at c.args.success takes i) c.loop-i.world (get_or args i Null) (2 ^ 61 + 1 + i) (2 ^ 61 + 1 + (i + 1)) (omega arith) c.loop-i.invariant.within);
+      same = ap (λ (w : World). take_over w c.args.success (drop (i + 1) takes) (drop (i + 1) args)) moved
+          ∙ sym (take_over-turn c.loop-i.world c.args.success takes args i c.loop-i-test.true)
+          ∙ c.loop-i.invariant.same;
+      within = subst Near (sym moved) (within_taken (is_taken_at c.args.success takes i) c.loop-i.world
+          (get_or args i Null) (2 ^ 61 + 1 + i) (2 ^ 61 + 1 + (i + 1)) (omega arith) c.loop-i.invariant.within);
     }
 
 pub returns : goal.returns
-returns c = sym (take_over-end c.loop-i.world c.args.success c.args.takes.now c.args.args.now c.loop-i.i c.loop-i-test.false) ∙ c.loop-i.invariant.same
+returns c =
+    sym (take_over-end c.loop-i.world c.args.success c.args.takes.now c.args.args.now c.loop-i.i
+    c.loop-i-test.false) ∙ c.loop-i.invariant.same

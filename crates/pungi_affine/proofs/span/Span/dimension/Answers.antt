@@ -14,5 +14,6 @@ overflow_cast-result c =
 
 pub returns : goal.returns
 returns c =
-    let e : c.len.result ≡ length (lines c.self.inside.rows.items) = c.len.ensures ∙ c.self.inside.rows.ok.0 ∙ sym (lines_length c.self.inside.rows.items) in
+    let e : c.len.result ≡ length (lines c.self.inside.rows.items) = c.len.ensures ∙ c.self.inside.rows.ok.0
+    ∙ sym (lines_length c.self.inside.rows.items) in
     rw (← c.self.view_is, e) (dimension_is c.self.inside.width c.self.inside.scale _ c.self.invariant.form)

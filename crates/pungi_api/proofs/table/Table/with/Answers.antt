@@ -8,4 +8,5 @@ pub invariant_of-result : goal.invariant_of-result
 invariant_of-result c =
     let Fits : List (ℕ × Row) → Type 0 = λ rows. IsTrue (are_rows rows) in
     let held : Fits c.args.self = subst Fits c.self.view_is c.self.invariant in
-    subst Fits (sym (c.in_ok-add_all.ensures ∙ ap (λ rows. rows ++ map named_row c.args.rows.items) c.self.view_is)) (rows-with c.args.self (map named_row c.args.rows.items) held c.requires.rows)
+    subst Fits (sym (c.in_ok-add_all.ensures ∙ ap (λ rows. rows ++ map named_row c.args.rows.items) c.self.view_is))
+    (rows-with c.args.self (map named_row c.args.rows.items) held c.requires.rows)

@@ -2,7 +2,8 @@ use Rattle.std.proofs.Common.{◌≡◌, ◌+◌, ◌<◌, ◌++◌, length, map
 use Rattle.pungi_resolved.specs.ValueView.{value_view, values_of, place_view}
 use Rattle.pungi_code.specs.declared.instr.Instr.TheVariants.{Fall}
 use Rattle.pungi_layout.specs.code.ExprCode.{line, args_code}
-use Rattle.pungi_emit.proofs.expr.ExprCode.{operands_emitted, stored_emitted, updated_emitted, negated_emitted, joined_emitted, chosen_emitted, row_emitted, arg_emitted}
+use Rattle.pungi_emit.proofs.expr.ExprCode.{operands_emitted, stored_emitted, updated_emitted, negated_emitted}
+use Rattle.pungi_emit.proofs.expr.ExprCode.{joined_emitted, chosen_emitted, row_emitted, arg_emitted}
 use Rattle.pungi_emit.proofs.code.Lists.{next_one}
 use Rattle.pungi_emit.proofs.expr.expr_code.+emit.Goals as goal
 
@@ -11,17 +12,28 @@ emit_chosen-returns t c =
     let hole = line c.args.pos Fall in
     let e1 = rw c.in_ok-value.ensures at c.in_ok-emit_value.ensures in
     let e10 = rw (c.branch_on-branch.ensures, c.in_ok-value.ensures) at c.replace-2.ensures in
-    chosen_emitted c.args.around.locals c.args.depth c.args.target c.in_ok-test.test c.in_ok-jump.jump c.in_ok-end.end c.args.pos (value_view c.args.c.now) (value_view c.args.a.now) (value_view c.args.b.now) hole hole c.args.code.now c.emit_value.new.code c.put.new.code c.emit_value-2.new.code c.put-2.new.code c.emit_value-3.new.code c.replace.new.code c.replace-2.new.code e1 c.in_ok-test.ensures.place c.in_ok-put.ensures c.in_ok-emit_value-2.ensures c.in_ok-jump.ensures.place c.in_ok-put-2.ensures c.in_ok-emit_value-3.ensures c.in_ok-end.ensures.place c.replace.ensures e10
+    chosen_emitted c.args.around.locals c.args.depth c.args.target c.in_ok-test.test c.in_ok-jump.jump
+    c.in_ok-end.end c.args.pos (value_view c.args.c.now) (value_view c.args.a.now) (value_view c.args.b.now) hole
+    hole c.args.code.now c.emit_value.new.code c.put.new.code c.emit_value-2.new.code c.put-2.new.code
+    c.emit_value-3.new.code c.replace.new.code c.replace-2.new.code e1 c.in_ok-test.ensures.place
+    c.in_ok-put.ensures c.in_ok-emit_value-2.ensures c.in_ok-jump.ensures.place c.in_ok-put-2.ensures
+    c.in_ok-emit_value-3.ensures c.in_ok-end.ensures.place c.replace.ensures e10
 
 pub emit_joined-returns : goal.emit_joined-returns
 emit_joined-returns t c =
     let e1 = rw (c.bit.ensures, c.is_and-on.ensures) at c.in_ok-put.ensures in
     let e2 = rw (c.in_ok-left.ensures, c.in_ok-level.ensures) at c.in_ok-emit_value.ensures in
     let e5 = rw (c.in_ok-right.ensures, c.in_ok-level.ensures) at c.in_ok-emit_value-2.ensures in
-    let e7 = rw (c.branch_on-first.ensures, c.is_and-on.ensures, c.in_ok-left.ensures, c.in_ok-level.ensures) at c.replace.ensures in
-    let e8 = rw (c.branch_on-second.ensures, c.is_and-on.ensures, c.in_ok-right.ensures, c.in_ok-level.ensures) at c.in_ok-put-3.ensures in
+    let e7 = rw (c.branch_on-first.ensures, c.is_and-on.ensures, c.in_ok-left.ensures, c.in_ok-level.ensures) at
+    c.replace.ensures in
+    let e8 = rw (c.branch_on-second.ensures, c.is_and-on.ensures, c.in_ok-right.ensures, c.in_ok-level.ensures) at
+    c.in_ok-put-3.ensures in
     let e9 = rw (c.bit-2.ensures, c.is_and-on.ensures) at c.in_ok-put-4.ensures in
-    joined_emitted c.args.around.locals c.args.depth c.args.target c.in_ok-test.test c.in_ok-last.last c.args.pos c.args.mark (value_view c.args.a.now) (value_view c.args.b.now) (line c.args.pos Fall) c.args.code.now c.put.new.code c.emit_value.new.code c.put-2.new.code c.emit_value-2.new.code c.replace.new.code c.put-3.new.code c.put-4.new.code e1 e2 c.in_ok-test.ensures.place c.in_ok-put-2.ensures e5 c.in_ok-last.ensures.place e7 e8 e9
+    joined_emitted c.args.around.locals c.args.depth c.args.target c.in_ok-test.test c.in_ok-last.last c.args.pos
+    c.args.mark (value_view c.args.a.now) (value_view c.args.b.now) (line c.args.pos Fall) c.args.code.now
+    c.put.new.code c.emit_value.new.code c.put-2.new.code c.emit_value-2.new.code c.replace.new.code
+    c.put-3.new.code c.put-4.new.code e1 e2 c.in_ok-test.ensures.place c.in_ok-put-2.ensures e5
+    c.in_ok-last.ensures.place e7 e8 e9
 
 pub emit_negated-returns : goal.emit_negated-returns
 emit_negated-returns t c =
@@ -29,32 +41,52 @@ emit_negated-returns t c =
     let e2 = rw (c.in_ok-value.ensures, c.in_ok-level.ensures) at c.in_ok-emit_value.ensures in
     let e4 = rw (c.branch_on-branch.ensures, c.in_ok-value.ensures, c.in_ok-level.ensures) at c.in_ok-put-2.ensures in
     let e5 = rw c.bit-2.ensures at c.in_ok-put-3.ensures in
-    negated_emitted c.args.around.locals c.args.depth c.args.target c.in_ok-test.test c.args.pos (value_view c.args.part.now) c.args.code.now c.put.new.code c.emit_value.new.code c.put-2.new.code c.put-3.new.code e1 e2 c.in_ok-test.ensures.place e4 e5
+    negated_emitted c.args.around.locals c.args.depth c.args.target c.in_ok-test.test c.args.pos
+    (value_view c.args.part.now) c.args.code.now c.put.new.code c.emit_value.new.code c.put-2.new.code
+    c.put-3.new.code e1 e2 c.in_ok-test.ensures.place e4 e5
 
 pub emit_operands-returns : goal.emit_operands-returns
 emit_operands-returns t c =
     let e2 = rw c.in_ok-level.ensures at c.in_ok-emit_value-2.ensures in
-    operands_emitted c.args.around.locals c.args.depth c.args.left c.args.right (value_view c.args.a.now) (value_view c.args.b.now) c.args.code.now c.emit_value.new.code c.emit_value-2.new.code c.in_ok-emit_value.ensures e2
+    operands_emitted c.args.around.locals c.args.depth c.args.left c.args.right (value_view c.args.a.now)
+    (value_view c.args.b.now) c.args.code.now c.emit_value.new.code c.emit_value-2.new.code
+    c.in_ok-emit_value.ensures e2
 
 pub emit_stored-returns : goal.emit_stored-returns
 emit_stored-returns t c =
     let e2 = rw (c.in_ok-level.ensures, c.in_ok-value.ensures) at c.in_ok-emit_value.ensures in
     let e3 = rw (c.in_ok-base.ensures, c.in_ok-value.ensures) at c.in_ok-emit_store.ensures in
-    stored_emitted c.args.around.locals c.args.depth c.args.target c.args.pos c.args.kind (place_view c.args.place.now) (value_view c.args.part.now) c.args.code.now c.emit_base.new.code c.emit_value.new.code c.emit_store.new.code c.in_ok-emit_base.ensures e2 e3
+    stored_emitted c.args.around.locals c.args.depth c.args.target c.args.pos c.args.kind
+    (place_view c.args.place.now) (value_view c.args.part.now) c.args.code.now c.emit_base.new.code
+    c.emit_value.new.code c.emit_store.new.code c.in_ok-emit_base.ensures e2 e3
 
 pub emit_updated-returns : goal.emit_updated-returns
 emit_updated-returns t c =
     let e1 = rw (c.in_ok-old.ensures, c.in_ok-level.ensures) at c.in_ok-emit_held.ensures in
-    let e2 = rw (c.in_ok-right.ensures, c.in_ok-next_level.ensures, c.in_ok-level.ensures) at c.in_ok-emit_value.ensures in
-    let e3 = rw (c.in_ok-outcome.ensures, c.of.ensures, c.atom.ensures, c.atom-2.ensures, c.in_ok-old.ensures, c.in_ok-right.ensures, c.in_ok-next_level.ensures, c.in_ok-level.ensures) at c.in_ok-put.ensures in
+    let e2 = rw (c.in_ok-right.ensures, c.in_ok-next_level.ensures, c.in_ok-level.ensures) at
+    c.in_ok-emit_value.ensures in
+    let e3 = rw (
+      c.in_ok-outcome.ensures,
+      c.of.ensures,
+      c.atom.ensures,
+      c.atom-2.ensures,
+      c.in_ok-old.ensures,
+      c.in_ok-right.ensures,
+      c.in_ok-next_level.ensures,
+      c.in_ok-level.ensures,
+    ) at c.in_ok-put.ensures in
     let e4 = rw (c.in_ok-value.ensures, c.in_ok-outcome.ensures) at c.in_ok-emit_fit.ensures in
     let e5 = rw (c.in_ok-base.ensures, c.in_ok-value.ensures) at c.in_ok-emit_store.ensures in
-    updated_emitted c.args.around.locals c.args.depth c.args.target c.args.pos c.args.mark c.args.counted c.args.kind (place_view c.args.place.now) (value_view c.args.part.now) c.args.code.now c.emit_held.new.code c.emit_value.new.code c.put.new.code c.emit_fit.new.code c.emit_store.new.code e1 e2 e3 e4 e5
+    updated_emitted c.args.around.locals c.args.depth c.args.target c.args.pos c.args.mark c.args.counted
+    c.args.kind (place_view c.args.place.now) (value_view c.args.part.now) c.args.code.now c.emit_held.new.code
+    c.emit_value.new.code c.put.new.code c.emit_fit.new.code c.emit_store.new.code e1 e2 e3 e4 e5
 
 pub emit_called-returns : goal.emit_called-returns
 emit_called-returns t c =
     let e = rw c.as_slice.ensures at c.in_ok-emit_args.ensures in
-    row_emitted c.args.around.locals c.args.depth c.args.target c.args.pos c.args.shape.now.row (map value_view c.args.args.now) c.args.code.now c.emit_args.new.code c.emit_row.new.code e c.in_ok-emit_row.ensures
+    row_emitted c.args.around.locals c.args.depth c.args.target c.args.pos c.args.shape.now.row
+    (map value_view c.args.args.now) c.args.code.now c.emit_args.new.code c.emit_row.new.code e
+    c.in_ok-emit_row.ensures
 
 pub emit_args-loop-arg-preserved : goal.emit_args-loop-arg-preserved
 emit_args-loop-arg-preserved t c =
@@ -68,5 +100,8 @@ emit_args-loop-arg-preserved t c =
     let level = c.loop-arg.level in
     let left = c.loop-arg.left.now in
     let e = rw (c.in_ok-target.ensures, c.front_column.ensures) at c.in_ok-emit_value.ensures in
-    let step = arg_emitted nl level left (value_view c.arg-item.result) (values_of (map value_view (drop (i + 1) xs))) so_far c.emit_value.new.code e in
-    rw (c.in_ok-level.ensures, c.tail-left.ensures) (sym step ∙ ap (λ ys. so_far ++ args_code nl level (length so_far) left (values_of (map value_view ys))) (sym d) ∙ c.loop-arg.invariant)
+    let step = arg_emitted nl level left (value_view c.arg-item.result) (values_of
+    (map value_view (drop (i + 1) xs))) so_far c.emit_value.new.code e in
+    rw (c.in_ok-level.ensures, c.tail-left.ensures) (sym step
+    ∙ ap (λ ys. so_far ++ args_code nl level (length so_far) left (values_of (map value_view ys))) (sym d)
+    ∙ c.loop-arg.invariant)

@@ -55,5 +55,7 @@ decreases-emit_chosen l = 4 * max (size-Value l.c.now) (max (size-Value l.a.now)
 
 abbrev pub invariant-emit_args-loop-arg : goal.invariant-emit_args-loop-arg
 invariant-emit_args-loop-arg l =
-    l.code ++ args_code l.around.locals l.level (length l.code) l.left (values_of (map value_view (drop l.arg-index l.args)))
-    ≡ l.initial.code ++ args_code l.around.locals l.depth (length l.initial.code) l.params (values_of (map value_view l.args))
+    l.code ++ args_code l.around.locals l.level (length l.code) l.left (values_of
+    (map value_view (drop l.arg-index l.args)))
+    ≡ l.initial.code ++ args_code l.around.locals l.depth (length l.initial.code) l.params
+    (values_of (map value_view l.args))

@@ -12,7 +12,10 @@ use Rattle.pungi_emit.proofs.function.function_code.emit_body.Goals as goal
 pub emit_stmt-requires : goal.emit_stmt-requires
 emit_stmt-requires c =
     let h = ap length (c.new-code.ensures ∙ c.new.ensures.items) in
-    record { plan = begins_at (λ i. plan_of i (action_view c.args.f.now.body)) 0 (length c.new-code.result) c.args.places.now c.requires h }
+    record {
+      plan = begins_at (λ i. plan_of i (action_view c.args.f.now.body)) 0 (length c.new-code.result)
+          c.args.places.now c.requires h;
+    }
 
 pub returns : goal.returns
 returns c = λ s l.

@@ -12,5 +12,8 @@ add_list-loop-action-preserved t c =
     let s : i < length xs = omega arith in
     let d = next_one xs i c.action-item.result s c.action-item.is in
     let so_far = c.loop-action.kinds in
-    let step = next_added (stmt_declared (action_view c.action-item.result)) (stmts_declared (actions_of (map action_view (drop (i + 1) xs)))) so_far c.add_stmt.new.kinds c.in_ok-add_stmt.ensures in
-    sym step ∙ sym (ap (λ ys. so_far ++ map kind_held (stmts_declared (actions_of (map action_view ys)))) d) ∙ c.loop-action.invariant
+    let step = next_added (stmt_declared (action_view c.action-item.result))
+    (stmts_declared (actions_of (map action_view (drop (i + 1) xs)))) so_far c.add_stmt.new.kinds
+    c.in_ok-add_stmt.ensures in
+    sym step ∙ sym (ap (λ ys. so_far ++ map kind_held (stmts_declared (actions_of (map action_view ys)))) d)
+    ∙ c.loop-action.invariant

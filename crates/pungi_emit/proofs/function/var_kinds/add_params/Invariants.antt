@@ -3,4 +3,5 @@ use Rattle.pungi_layout.specs.code.VarKinds.{held_kind}
 use Rattle.pungi_emit.proofs.function.var_kinds.add_params.Given as goal
 
 abbrev pub invariant-loop-param : goal.invariant-loop-param
-invariant-loop-param l = l.kinds ++ map held_kind (drop l.param-index l.params) ≡ l.initial.kinds ++ map held_kind l.params
+invariant-loop-param l =
+    l.kinds ++ map held_kind (drop l.param-index l.params) ≡ l.initial.kinds ++ map held_kind l.params

@@ -4,4 +4,6 @@ use Rattle.pungi_meaning.specs.Stmts.{block_cases}
 use Rattle.pungi_emit.proofs.planning.counts.cases_count.Given as goal
 
 abbrev pub invariant-loop-action : goal.invariant-loop-action
-invariant-loop-action l = l.total + length (block_cases (map action_view (drop l.action-index l.list))) ≡ length (block_cases (map action_view l.list))
+invariant-loop-action l =
+    l.total + length (block_cases (map action_view (drop l.action-index l.list)))
+    ≡ length (block_cases (map action_view l.list))

@@ -12,5 +12,6 @@ loop-i-preserved c =
     let one : i < length known = omega arith in
     record {
       room = c.requires;
-      places = c.set.ensures ∙ ap (λ p. set p (at + i) (get_or known i 0)) c.loop-i.invariant.places ∙ paste_more old at known i 0 within one;
+      places = c.set.ensures ∙ ap (λ p. set p (at + i) (get_or known i 0)) c.loop-i.invariant.places
+          ∙ paste_more old at known i 0 within one;
     }

@@ -1,4 +1,5 @@
-use Rattle.std.proofs.Common.{◌≡◌, ◌+◌, ◌<◌, List, [], ◌++◌, length, map, drop, refl, ap, sym, ◌∙◌, subst, arith, append_assoc, append-nil}
+use Rattle.std.proofs.Common.{◌≡◌, ◌+◌, ◌<◌, List, [], ◌++◌, length, map, drop, refl, ap, sym, ◌∙◌, subst, arith}
+use Rattle.std.proofs.Common.{append_assoc, append-nil}
 use Rattle.std.proofs.lemmas.List.{length-map, drop_all}
 use Rattle.pungi_resolved.specs.ActionView.{declared_view, action_view, actions_of}
 use Rattle.pungi_resolved.specs.declared.action.Action.{Action as Node}
@@ -13,15 +14,20 @@ use Rattle.pungi_emit.proofs.code.Lists.{next_one}
 use Rattle.pungi_emit.proofs.stmt.StmtCode.{next_start}
 use Rattle.pungi_emit.proofs.planning.PlanLists.{room_is_there, filled, one_filled, two_filled}
 use Rattle.pungi_emit.proofs.planning.Plans.{labels_long, starts_long, block_plan_is, choice_plan}
-use Rattle.pungi_emit.proofs.planning.Surveys.{next_marks, next_size, next_labels, next_places, loop_marks, label_marks, one_more_label, else_marks, else_labels, else_places, block_size, block_marks, switched_size, switched_marks, begun_filled, switched_places, choice_size, choice_marks}
+use Rattle.pungi_emit.proofs.planning.Surveys.{next_marks, next_size, next_labels, next_places, loop_marks, label_marks}
+use Rattle.pungi_emit.proofs.planning.Surveys.{one_more_label, else_marks, else_labels, else_places, block_size}
+use Rattle.pungi_emit.proofs.planning.Surveys.{block_marks, switched_size, switched_marks, begun_filled}
+use Rattle.pungi_emit.proofs.planning.Surveys.{switched_places, choice_size, choice_marks}
 use Rattle.pungi_emit.proofs.planning.survey.+survey.Goals as goal
 
 pub survey_else-fill-requires : goal.survey_else-fill-requires
 survey_else-fill-requires t c =
     let xs = plan_of c.in_ok-go.go (action_view c.args.a.now) in
     let ys = plan_of c.in_ok-middle.middle (action_view c.args.b.now) in
-    let e : c.survey_stmt-2.new.places ≡ c.hold.new.places ++ (xs ++ ys) = c.in_ok-next.ensures.places ∙ ap (λ l. l ++ ys) c.in_ok-last.ensures.places ∙ append_assoc c.hold.new.places xs ys in
-    room_is_there c.args.places.now c.hold.new.places c.survey_stmt-2.new.places (xs ++ ys) c.in_ok-room.room 2 2 c.in_ok-room.ensures.places c.in_ok-room.ensures.room e refl
+    let e : c.survey_stmt-2.new.places ≡ c.hold.new.places ++ (xs ++ ys) = c.in_ok-next.ensures.places
+    ∙ ap (λ l. l ++ ys) c.in_ok-last.ensures.places ∙ append_assoc c.hold.new.places xs ys in
+    room_is_there c.args.places.now c.hold.new.places c.survey_stmt-2.new.places (xs ++ ys) c.in_ok-room.room 2 2
+    c.in_ok-room.ensures.places c.in_ok-room.ensures.room e refl
 
 pub survey_else-returns : goal.survey_else-returns
 survey_else-returns t c =
@@ -36,14 +42,21 @@ survey_else-returns t c =
     let next = e.next in
     record {
       next = omega (arith, g, last, k, next);
-      marks = else_marks c.args.pos v a b c.args.pc c.in_ok-go.go c.in_ok-last.last c.in_ok-middle.middle c.args.marks.now c.survey_stmt.new.marks c.survey_stmt-2.new.marks g last k h.marks e.marks;
-      labels = else_labels c.args.pos v a b c.args.pc c.in_ok-go.go c.in_ok-last.last c.in_ok-middle.middle c.args.labels.now c.survey_stmt.new.labels c.survey_stmt-2.new.labels g last k h.labels e.labels;
-      places = else_places c.args.pos v a b c.args.pc c.in_ok-go.go c.in_ok-last.last c.in_ok-middle.middle c.in_ok-next.next c.in_ok-room.room c.args.places.now c.hold.new.places c.survey_stmt.new.places c.survey_stmt-2.new.places c.fill.new.places g last k next c.in_ok-room.ensures.places c.in_ok-room.ensures.room h.places e.places c.fill.ensures;
+      marks = else_marks c.args.pos v a b c.args.pc c.in_ok-go.go c.in_ok-last.last c.in_ok-middle.middle
+          c.args.marks.now c.survey_stmt.new.marks c.survey_stmt-2.new.marks g last k h.marks e.marks;
+      labels = else_labels c.args.pos v a b c.args.pc c.in_ok-go.go c.in_ok-last.last c.in_ok-middle.middle
+          c.args.labels.now c.survey_stmt.new.labels c.survey_stmt-2.new.labels g last k h.labels e.labels;
+      places = else_places c.args.pos v a b c.args.pc c.in_ok-go.go c.in_ok-last.last c.in_ok-middle.middle
+          c.in_ok-next.next c.in_ok-room.room c.args.places.now c.hold.new.places c.survey_stmt.new.places
+          c.survey_stmt-2.new.places c.fill.new.places g last k next c.in_ok-room.ensures.places
+          c.in_ok-room.ensures.room h.places e.places c.fill.ensures;
     }
 
 pub survey_if-fill-requires : goal.survey_if-fill-requires
 survey_if-fill-requires t c =
-    room_is_there c.args.places.now c.hold.new.places c.survey_stmt.new.places (plan_of c.in_ok-go.go (action_view c.args.body.now)) c.in_ok-room.room 1 1 c.in_ok-room.ensures.places c.in_ok-room.ensures.room c.in_ok-next.ensures.places refl
+    room_is_there c.args.places.now c.hold.new.places c.survey_stmt.new.places
+    (plan_of c.in_ok-go.go (action_view c.args.body.now)) c.in_ok-room.room 1 1 c.in_ok-room.ensures.places
+    c.in_ok-room.ensures.room c.in_ok-next.ensures.places refl
 
 pub survey_if-returns : goal.survey_if-returns
 survey_if-returns t c =
@@ -57,12 +70,16 @@ survey_if-returns t c =
       next = omega (arith, n);
       marks = e.marks ∙ ap (λ i. c.args.marks.now ++ stmt_marks i a) g;
       labels = e.labels ∙ ap (λ i. c.args.labels.now ++ places_of (stmt_labels i a)) g;
-      places = one_filled (λ i. plan_of i a) c.args.places.now c.hold.new.places c.survey_stmt.new.places c.fill.new.places c.in_ok-room.room c.in_ok-next.next (at + stmt_size a) c.in_ok-go.go at c.in_ok-room.ensures.places c.in_ok-room.ensures.room e.places c.fill.ensures n g;
+      places = one_filled (λ i. plan_of i a) c.args.places.now c.hold.new.places c.survey_stmt.new.places
+          c.fill.new.places c.in_ok-room.room c.in_ok-next.next (at + stmt_size a) c.in_ok-go.go at
+          c.in_ok-room.ensures.places c.in_ok-room.ensures.room e.places c.fill.ensures n g;
     }
 
 pub survey_while-fill-requires : goal.survey_while-fill-requires
 survey_while-fill-requires t c =
-    room_is_there c.args.places.now c.hold.new.places c.survey_stmt.new.places (plan_of c.in_ok-go.go (action_view c.args.body.now)) c.in_ok-room.room 1 1 c.in_ok-room.ensures.places c.in_ok-room.ensures.room c.in_ok-next.ensures.places refl
+    room_is_there c.args.places.now c.hold.new.places c.survey_stmt.new.places
+    (plan_of c.in_ok-go.go (action_view c.args.body.now)) c.in_ok-room.room 1 1 c.in_ok-room.ensures.places
+    c.in_ok-room.ensures.room c.in_ok-next.ensures.places refl
 
 pub survey_while-returns : goal.survey_while-returns
 survey_while-returns t c =
@@ -76,14 +93,19 @@ survey_while-returns t c =
     let k = c.in_ok-behind_it.ensures in
     record {
       next = omega (arith, n, k);
-      marks = loop_marks a c.in_ok-go.go at c.args.pc c.args.pos c.head.result c.args.marks.now c.push.new.self c.survey_stmt.new.marks c.head.ensures c.in_ok-push.ensures.ok e.marks g;
+      marks = loop_marks a c.in_ok-go.go at c.args.pc c.args.pos c.head.result c.args.marks.now c.push.new.self
+          c.survey_stmt.new.marks c.head.ensures c.in_ok-push.ensures.ok e.marks g;
       labels = e.labels ∙ ap (λ i. c.args.labels.now ++ places_of (stmt_labels i a)) g;
-      places = one_filled (λ i. plan_of i a) c.args.places.now c.hold.new.places c.survey_stmt.new.places c.fill.new.places c.in_ok-room.room c.in_ok-next.next (at + stmt_size a) c.in_ok-go.go at c.in_ok-room.ensures.places c.in_ok-room.ensures.room e.places c.fill.ensures n g;
+      places = one_filled (λ i. plan_of i a) c.args.places.now c.hold.new.places c.survey_stmt.new.places
+          c.fill.new.places c.in_ok-room.room c.in_ok-next.next (at + stmt_size a) c.in_ok-go.go at
+          c.in_ok-room.ensures.places c.in_ok-room.ensures.room e.places c.fill.ensures n g;
     }
 
 pub survey_until-fill-requires : goal.survey_until-fill-requires
 survey_until-fill-requires t c =
-    room_is_there c.args.places.now c.hold.new.places c.survey_stmt.new.places (plan_of c.in_ok-go.go (action_view c.args.body.now)) c.in_ok-room.room 2 2 c.in_ok-room.ensures.places c.in_ok-room.ensures.room c.in_ok-next.ensures.places refl
+    room_is_there c.args.places.now c.hold.new.places c.survey_stmt.new.places
+    (plan_of c.in_ok-go.go (action_view c.args.body.now)) c.in_ok-room.room 2 2 c.in_ok-room.ensures.places
+    c.in_ok-room.ensures.room c.in_ok-next.ensures.places refl
 
 pub survey_until-returns : goal.survey_until-returns
 survey_until-returns t c =
@@ -98,14 +120,21 @@ survey_until-returns t c =
     let k = c.in_ok-behind_it.ensures in
     record {
       next = omega (arith, n, k);
-      marks = loop_marks a c.in_ok-go.go at (c.args.pc + 1) c.args.pos c.head.result c.args.marks.now c.push.new.self c.survey_stmt.new.marks (c.head.ensures ∙ ap (λ i. head_at i c.args.pos) t0) c.in_ok-push.ensures.ok e.marks g;
+      marks = loop_marks a c.in_ok-go.go at (c.args.pc + 1) c.args.pos c.head.result c.args.marks.now
+          c.push.new.self c.survey_stmt.new.marks (c.head.ensures ∙ ap (λ i. head_at i c.args.pos) t0)
+          c.in_ok-push.ensures.ok e.marks g;
       labels = e.labels ∙ ap (λ i. c.args.labels.now ++ places_of (stmt_labels i a)) g;
-      places = two_filled (plan_of c.in_ok-go.go a) (plan_of at a) c.args.places.now c.hold.new.places c.survey_stmt.new.places c.fill.new.places c.in_ok-room.room c.in_ok-go.go at c.in_ok-next.next (at + stmt_size a) c.in_ok-room.ensures.places c.in_ok-room.ensures.room e.places c.fill.ensures g n (ap (λ i. plan_of i a) g);
+      places = two_filled (plan_of c.in_ok-go.go a) (plan_of at a) c.args.places.now c.hold.new.places
+          c.survey_stmt.new.places c.fill.new.places c.in_ok-room.room c.in_ok-go.go at c.in_ok-next.next
+          (at + stmt_size a) c.in_ok-room.ensures.places c.in_ok-room.ensures.room e.places c.fill.ensures g n
+          (ap (λ i. plan_of i a) g);
     }
 
 pub survey_for-fill-requires : goal.survey_for-fill-requires
 survey_for-fill-requires t c =
-    room_is_there c.args.places.now c.hold.new.places c.survey_stmt.new.places (plan_of c.in_ok-go.go (action_view c.args.body.now)) c.in_ok-room.room 2 2 c.in_ok-room.ensures.places c.in_ok-room.ensures.room c.in_ok-next.ensures.places refl
+    room_is_there c.args.places.now c.hold.new.places c.survey_stmt.new.places
+    (plan_of c.in_ok-go.go (action_view c.args.body.now)) c.in_ok-room.room 2 2 c.in_ok-room.ensures.places
+    c.in_ok-room.ensures.room c.in_ok-next.ensures.places refl
 
 pub survey_for-returns : goal.survey_for-returns
 survey_for-returns t c =
@@ -125,9 +154,14 @@ survey_for-returns t c =
     let q : c.in_ok-behind_it.behind_it ≡ at + stmt_size a + option_size w + 1 = omega (arith, n, h, k) in
     record {
       next = omega (arith, q);
-      marks = loop_marks a c.in_ok-go.go at top c.args.pos c.head.result c.args.marks.now c.push.new.self c.survey_stmt.new.marks (c.head.ensures ∙ ap (λ i. head_at i c.args.pos) {y = top} t0) c.in_ok-push.ensures.ok e.marks g;
+      marks = loop_marks a c.in_ok-go.go at top c.args.pos c.head.result c.args.marks.now c.push.new.self
+          c.survey_stmt.new.marks (c.head.ensures ∙ ap (λ i. head_at i c.args.pos) {y = top} t0)
+          c.in_ok-push.ensures.ok e.marks g;
       labels = e.labels ∙ ap (λ i. c.args.labels.now ++ places_of (stmt_labels i a)) g;
-      places = two_filled (plan_of c.in_ok-go.go a) (plan_of at a) c.args.places.now c.hold.new.places c.survey_stmt.new.places c.fill.new.places c.in_ok-room.room c.in_ok-next.next (at + stmt_size a) c.in_ok-behind_it.behind_it (at + stmt_size a + option_size w + 1) c.in_ok-room.ensures.places c.in_ok-room.ensures.room e.places c.fill.ensures n q (ap (λ i. plan_of i a) g);
+      places = two_filled (plan_of c.in_ok-go.go a) (plan_of at a) c.args.places.now c.hold.new.places
+          c.survey_stmt.new.places c.fill.new.places c.in_ok-room.room c.in_ok-next.next (at + stmt_size a)
+          c.in_ok-behind_it.behind_it (at + stmt_size a + option_size w + 1) c.in_ok-room.ensures.places
+          c.in_ok-room.ensures.room e.places c.fill.ensures n q (ap (λ i. plan_of i a) g);
     }
 
 pub survey_label-returns : goal.survey_label-returns
@@ -136,14 +170,18 @@ survey_label-returns t c =
     let e = c.in_ok-next.ensures in
     record {
       next = e.next;
-      marks = label_marks a c.args.pc c.args.pos c.head.result c.args.marks.now c.push-2.new.self c.survey_stmt.new.marks c.head.ensures c.in_ok-push-2.ensures.ok e.marks;
-      labels = one_more_label (places_of (stmt_labels c.args.pc a)) c.args.labels.now c.push.new.self c.survey_stmt.new.labels c.args.pc c.in_ok-push.ensures.ok e.labels;
+      marks = label_marks a c.args.pc c.args.pos c.head.result c.args.marks.now c.push-2.new.self
+          c.survey_stmt.new.marks c.head.ensures c.in_ok-push-2.ensures.ok e.marks;
+      labels = one_more_label (places_of (stmt_labels c.args.pc a)) c.args.labels.now c.push.new.self
+          c.survey_stmt.new.labels c.args.pc c.in_ok-push.ensures.ok e.labels;
       places = e.places;
     }
 
 pub survey_skipped-fill-requires : goal.survey_skipped-fill-requires
 survey_skipped-fill-requires t c =
-    room_is_there c.args.places.now c.hold.new.places c.survey_stmt.new.places (plan_of c.in_ok-from.from (action_view c.args.body.now)) c.in_ok-end.end 1 1 c.in_ok-end.ensures.places c.in_ok-end.ensures.room c.in_ok-next.ensures.places refl
+    room_is_there c.args.places.now c.hold.new.places c.survey_stmt.new.places
+    (plan_of c.in_ok-from.from (action_view c.args.body.now)) c.in_ok-end.end 1 1 c.in_ok-end.ensures.places
+    c.in_ok-end.ensures.room c.in_ok-next.ensures.places refl
 
 pub survey_skipped-returns : goal.survey_skipped-returns
 survey_skipped-returns t c =
@@ -157,7 +195,9 @@ survey_skipped-returns t c =
       next = omega (arith, n);
       marks = e.marks ∙ ap (λ i. c.args.marks.now ++ stmt_marks i a) g;
       labels = e.labels ∙ ap (λ i. c.args.labels.now ++ places_of (stmt_labels i a)) g;
-      places = one_filled (λ i. plan_of i a) c.args.places.now c.hold.new.places c.survey_stmt.new.places c.fill.new.places c.in_ok-end.end c.in_ok-next.next (at + stmt_size a) c.in_ok-from.from at c.in_ok-end.ensures.places c.in_ok-end.ensures.room e.places c.fill.ensures n g;
+      places = one_filled (λ i. plan_of i a) c.args.places.now c.hold.new.places c.survey_stmt.new.places
+          c.fill.new.places c.in_ok-end.end c.in_ok-next.next (at + stmt_size a) c.in_ok-from.from at
+          c.in_ok-end.ensures.places c.in_ok-end.ensures.room e.places c.fill.ensures n g;
     }
 
 pub survey_inside-fill-requires : goal.survey_inside-fill-requires
@@ -166,9 +206,13 @@ survey_inside-fill-requires t c =
     let from = c.args.from in
     let front = places_of (list_labels from list) in
     let inner = plans_of from (actions_of list) in
-    let known : c.as_slice.result.now ≡ front = c.as_slice.ensures ∙ c.in_ok-next.ensures.found.labels ∙ ap (λ l. l ++ front) (c.new-labels.ensures ∙ c.new.ensures.items) in
-    let long : length c.as_slice.result.now ≡ c.len.result = ap length known ∙ sym (labels_long list from) ∙ sym (c.len.ensures ∙ ap length c.in_ok-names.ensures) in
-    room_is_there c.args.places.now c.hold.new.places c.survey_list.new.places inner c.in_ok-room.room c.len.result (length c.as_slice.result.now) c.in_ok-room.ensures.places c.in_ok-room.ensures.room c.in_ok-next.ensures.found.places long
+    let known : c.as_slice.result.now ≡ front = c.as_slice.ensures ∙ c.in_ok-next.ensures.found.labels
+    ∙ ap (λ l. l ++ front) (c.new-labels.ensures ∙ c.new.ensures.items) in
+    let long : length c.as_slice.result.now ≡ c.len.result = ap length known ∙ sym (labels_long list from)
+    ∙ sym (c.len.ensures ∙ ap length c.in_ok-names.ensures) in
+    room_is_there c.args.places.now c.hold.new.places c.survey_list.new.places inner c.in_ok-room.room c.len.result
+    (length c.as_slice.result.now) c.in_ok-room.ensures.places c.in_ok-room.ensures.room
+    c.in_ok-next.ensures.found.places long
 
 pub survey_inside-returns : goal.survey_inside-returns
 survey_inside-returns t c =
@@ -177,15 +221,19 @@ survey_inside-returns t c =
     let front = places_of (list_labels from list) in
     let inner = plans_of from (actions_of list) in
     let e = c.in_ok-next.ensures.found in
-    let known : c.as_slice.result.now ≡ front = c.as_slice.ensures ∙ e.labels ∙ ap (λ l. l ++ front) (c.new-labels.ensures ∙ c.new.ensures.items) in
-    let long : length c.as_slice.result.now ≡ c.len.result = ap length known ∙ sym (labels_long list from) ∙ sym (c.len.ensures ∙ ap length c.in_ok-names.ensures) in
+    let known : c.as_slice.result.now ≡ front = c.as_slice.ensures ∙ e.labels
+    ∙ ap (λ l. l ++ front) (c.new-labels.ensures ∙ c.new.ensures.items) in
+    let long : length c.as_slice.result.now ≡ c.len.result = ap length known ∙ sym (labels_long list from)
+    ∙ sym (c.len.ensures ∙ ap length c.in_ok-names.ensures) in
     record {
       found = record {
         next = e.next;
         marks = e.marks;
         labels = refl;
         places =
-            filled c.args.places.now c.hold.new.places c.survey_list.new.places c.fill.new.places c.as_slice.result.now inner c.in_ok-room.room c.len.result c.in_ok-room.ensures.places c.in_ok-room.ensures.room e.places long c.fill.ensures
+            filled c.args.places.now c.hold.new.places c.survey_list.new.places c.fill.new.places
+            c.as_slice.result.now inner c.in_ok-room.room c.len.result c.in_ok-room.ensures.places
+            c.in_ok-room.ensures.room e.places long c.fill.ensures
             ∙ ap (λ l. c.args.places.now ++ (l ++ inner)) known;
       };
       starts = c.in_ok-next.ensures.starts;
@@ -197,8 +245,10 @@ survey_inner-returns t c =
     let g = c.in_ok-from.ensures ∙ ap (λ n. c.args.pc + n) c.in_ok-own.ensures in
     let e = c.in_ok-next.ensures.found in
     record {
-      next = block_size nowhere nowhere list c.args.pc c.in_ok-own.own c.in_ok-from.from c.in_ok-next.next c.in_ok-own.ensures c.in_ok-from.ensures e.next;
-      marks = block_marks nowhere nowhere list c.args.pc c.in_ok-own.own c.in_ok-from.from c.args.marks.now c.survey_inside.new.marks c.in_ok-own.ensures c.in_ok-from.ensures e.marks;
+      next = block_size nowhere nowhere list c.args.pc c.in_ok-own.own c.in_ok-from.from c.in_ok-next.next
+          c.in_ok-own.ensures c.in_ok-from.ensures e.next;
+      marks = block_marks nowhere nowhere list c.args.pc c.in_ok-own.own c.in_ok-from.from c.args.marks.now
+          c.survey_inside.new.marks c.in_ok-own.ensures c.in_ok-from.ensures e.marks;
       labels = refl;
       places =
           e.places
@@ -212,10 +262,13 @@ survey_switched-fill-requires t c =
     let from = c.in_ok-from.from in
     let inner = places_of (list_labels from list) ++ plans_of from (actions_of list) in
     let begin = c.as_slice.result.now in
-    let known : begin ≡ list_starts from list = c.as_slice.ensures ∙ c.in_ok-next.ensures.starts ∙ ap (λ l. l ++ list_starts from list) (c.new-starts.ensures ∙ c.new.ensures.items) in
+    let known : begin ≡ list_starts from list = c.as_slice.ensures ∙ c.in_ok-next.ensures.starts
+    ∙ ap (λ l. l ++ list_starts from list) (c.new-starts.ensures ∙ c.new.ensures.items) in
     let count : length c.args.list.now ≡ length list = sym (length-map c.args.list.now action_view) in
     let long : length begin ≡ length c.args.list.now = ap length known ∙ starts_long list from ∙ sym count in
-    room_is_there c.hold.new.places c.hold-2.new.places c.survey_inside.new.places inner c.in_ok-begun.begun (length c.args.list.now) (length begin) c.in_ok-begun.ensures.places c.in_ok-begun.ensures.room c.in_ok-next.ensures.found.places long
+    room_is_there c.hold.new.places c.hold-2.new.places c.survey_inside.new.places inner c.in_ok-begun.begun
+    (length c.args.list.now) (length begin) c.in_ok-begun.ensures.places c.in_ok-begun.ensures.room
+    c.in_ok-next.ensures.found.places long
 
 pub survey_switched-fill-requires-2 : goal.survey_switched-fill-requires-2
 survey_switched-fill-requires-2 t c =
@@ -223,10 +276,14 @@ survey_switched-fill-requires-2 t c =
     let from = c.in_ok-from.from in
     let inner = places_of (list_labels from list) ++ plans_of from (actions_of list) in
     let begin = c.as_slice.result.now in
-    let known : begin ≡ list_starts from list = c.as_slice.ensures ∙ c.in_ok-next.ensures.starts ∙ ap (λ l. l ++ list_starts from list) (c.new-starts.ensures ∙ c.new.ensures.items) in
+    let known : begin ≡ list_starts from list = c.as_slice.ensures ∙ c.in_ok-next.ensures.starts
+    ∙ ap (λ l. l ++ list_starts from list) (c.new-starts.ensures ∙ c.new.ensures.items) in
     let count : length c.args.list.now ≡ length list = sym (length-map c.args.list.now action_view) in
-    let p4 = begun_filled list from c.in_ok-begun.begun (length c.args.list.now) begin inner c.hold.new.places c.hold-2.new.places c.survey_inside.new.places c.fill.new.places c.in_ok-begun.ensures.places c.in_ok-begun.ensures.room c.in_ok-next.ensures.found.places count known c.fill.ensures in
-    room_is_there c.args.places.now c.hold.new.places c.fill.new.places (list_starts from list ++ inner) c.in_ok-end.end 1 1 c.in_ok-end.ensures.places c.in_ok-end.ensures.room p4 refl
+    let p4 = begun_filled list from c.in_ok-begun.begun (length c.args.list.now) begin inner c.hold.new.places
+    c.hold-2.new.places c.survey_inside.new.places c.fill.new.places c.in_ok-begun.ensures.places
+    c.in_ok-begun.ensures.room c.in_ok-next.ensures.found.places count known c.fill.ensures in
+    room_is_there c.args.places.now c.hold.new.places c.fill.new.places (list_starts from list ++ inner)
+    c.in_ok-end.end 1 1 c.in_ok-end.ensures.places c.in_ok-end.ensures.room p4 refl
 
 pub survey_switched-returns : goal.survey_switched-returns
 survey_switched-returns t c =
@@ -234,9 +291,12 @@ survey_switched-returns t c =
     let from = c.in_ok-from.from in
     let inner = places_of (list_labels from list) ++ plans_of from (actions_of list) in
     let begin = c.as_slice.result.now in
-    let known : begin ≡ list_starts from list = c.as_slice.ensures ∙ c.in_ok-next.ensures.starts ∙ ap (λ l. l ++ list_starts from list) (c.new-starts.ensures ∙ c.new.ensures.items) in
+    let known : begin ≡ list_starts from list = c.as_slice.ensures ∙ c.in_ok-next.ensures.starts
+    ∙ ap (λ l. l ++ list_starts from list) (c.new-starts.ensures ∙ c.new.ensures.items) in
     let count : length c.args.list.now ≡ length list = sym (length-map c.args.list.now action_view) in
-    let p4 = begun_filled list from c.in_ok-begun.begun (length c.args.list.now) begin inner c.hold.new.places c.hold-2.new.places c.survey_inside.new.places c.fill.new.places c.in_ok-begun.ensures.places c.in_ok-begun.ensures.room c.in_ok-next.ensures.found.places count known c.fill.ensures in
+    let p4 = begun_filled list from c.in_ok-begun.begun (length c.args.list.now) begin inner c.hold.new.places
+    c.hold-2.new.places c.survey_inside.new.places c.fill.new.places c.in_ok-begun.ensures.places
+    c.in_ok-begun.ensures.room c.in_ok-next.ensures.found.places count known c.fill.ensures in
     let h1 = c.in_ok-own.ensures in
     let h2 = c.in_ok-cases.ensures in
     let h3 = c.in_ok-unset.ensures in
@@ -245,10 +305,19 @@ survey_switched-returns t c =
     let h6 = c.in_ok-from.ensures in
     let at : from ≡ switch_from c.args.place list = omega (arith, h1, h2, h3, h4, h5, h6) in
     record {
-      next = switched_size nowhere nowhere (map action_view c.args.list.now) c.args.place c.in_ok-own.own c.in_ok-cases.cases c.in_ok-unset.unset c.in_ok-compared.compared c.in_ok-branched.branched c.in_ok-from.from c.in_ok-next.next c.in_ok-own.ensures c.in_ok-cases.ensures c.in_ok-unset.ensures c.in_ok-compared.ensures c.in_ok-branched.ensures c.in_ok-from.ensures c.in_ok-next.ensures.found.next;
-      marks = switched_marks nowhere nowhere (map action_view c.args.list.now) c.args.place c.in_ok-own.own c.in_ok-cases.cases c.in_ok-unset.unset c.in_ok-compared.compared c.in_ok-branched.branched c.in_ok-from.from c.args.marks.now c.survey_inside.new.marks c.in_ok-own.ensures c.in_ok-cases.ensures c.in_ok-unset.ensures c.in_ok-compared.ensures c.in_ok-branched.ensures c.in_ok-from.ensures c.in_ok-next.ensures.found.marks;
+      next = switched_size nowhere nowhere (map action_view c.args.list.now) c.args.place c.in_ok-own.own
+          c.in_ok-cases.cases c.in_ok-unset.unset c.in_ok-compared.compared c.in_ok-branched.branched
+          c.in_ok-from.from c.in_ok-next.next c.in_ok-own.ensures c.in_ok-cases.ensures c.in_ok-unset.ensures
+          c.in_ok-compared.ensures c.in_ok-branched.ensures c.in_ok-from.ensures c.in_ok-next.ensures.found.next;
+      marks = switched_marks nowhere nowhere (map action_view c.args.list.now) c.args.place c.in_ok-own.own
+          c.in_ok-cases.cases c.in_ok-unset.unset c.in_ok-compared.compared c.in_ok-branched.branched
+          c.in_ok-from.from c.args.marks.now c.survey_inside.new.marks c.in_ok-own.ensures c.in_ok-cases.ensures
+          c.in_ok-unset.ensures c.in_ok-compared.ensures c.in_ok-branched.ensures c.in_ok-from.ensures
+          c.in_ok-next.ensures.found.marks;
       labels = refl;
-      places = switched_places list c.args.place from c.in_ok-next.next c.in_ok-end.end c.args.places.now c.hold.new.places c.fill.new.places c.fill-2.new.places at c.in_ok-next.ensures.found.next c.in_ok-end.ensures.places c.in_ok-end.ensures.room p4 c.fill-2.ensures;
+      places = switched_places list c.args.place from c.in_ok-next.next c.in_ok-end.end c.args.places.now
+          c.hold.new.places c.fill.new.places c.fill-2.new.places at c.in_ok-next.ensures.found.next
+          c.in_ok-end.ensures.places c.in_ok-end.ensures.room p4 c.fill-2.ensures;
     }
 
 pub survey_switch-returns : goal.survey_switch-returns
@@ -259,9 +328,11 @@ survey_switch-returns t c =
     let e = c.in_ok-next.ensures in
     record {
       next = choice_size c.args.pos v a c.args.pc c.in_ok-place.place c.in_ok-next.next place e.next;
-      marks = e.marks ∙ ap (λ n. c.args.marks.now ++ switch_marks n a) place ∙ ap (λ l. c.args.marks.now ++ l) (sym (choice_marks c.args.pos v a c.args.pc));
+      marks = e.marks ∙ ap (λ n. c.args.marks.now ++ switch_marks n a) place
+          ∙ ap (λ l. c.args.marks.now ++ l) (sym (choice_marks c.args.pos v a c.args.pc));
       labels = e.labels ∙ ap (λ n. c.args.labels.now ++ places_of (stmt_labels (n + 1) a)) place;
-      places = e.places ∙ ap (λ n. c.args.places.now ++ switch_plan n a) place ∙ ap (λ l. c.args.places.now ++ l) (sym (choice_plan c.args.pos v a c.args.pc));
+      places = e.places ∙ ap (λ n. c.args.places.now ++ switch_plan n a) place
+          ∙ ap (λ l. c.args.places.now ++ l) (sym (choice_plan c.args.pos v a c.args.pc));
     }
 
 pub survey_list-loop-action-preserved : goal.survey_list-loop-action-preserved
@@ -277,11 +348,20 @@ survey_list-loop-action-preserved t c =
     let e = c.in_ok-place.ensures in
     let h : n ≡ pc + stmt_size v = e.next in
     record {
-      place = next_size v (actions_of rest) pc n h ∙ sym (ap (λ ys. pc + stmts_size (actions_of (map action_view ys))) d) ∙ c.loop-action.invariant.place;
-      marks = sym (next_marks v (actions_of rest) pc n c.loop-action.marks c.survey_stmt.new.marks e.marks h) ∙ sym (ap (λ ys. c.loop-action.marks ++ stmts_marks pc (actions_of (map action_view ys))) d) ∙ c.loop-action.invariant.marks;
-      labels = sym (next_labels v rest pc n c.loop-action.labels c.survey_stmt.new.labels e.labels h) ∙ sym (ap (λ ys. c.loop-action.labels ++ places_of (list_labels pc (map action_view ys))) d) ∙ c.loop-action.invariant.labels;
-      starts = sym (next_start v rest pc n c.loop-action.starts c.push.new.self c.in_ok-push.ensures.ok h) ∙ sym (ap (λ ys. c.loop-action.starts ++ list_starts pc (map action_view ys)) d) ∙ c.loop-action.invariant.starts;
-      places = sym (next_places v (actions_of rest) pc n c.loop-action.places c.survey_stmt.new.places e.places h) ∙ sym (ap (λ ys. c.loop-action.places ++ plans_of pc (actions_of (map action_view ys))) d) ∙ c.loop-action.invariant.places;
+      place = next_size v (actions_of rest) pc n h ∙ sym (ap (λ ys. pc
+          + stmts_size (actions_of (map action_view ys))) d) ∙ c.loop-action.invariant.place;
+      marks = sym (next_marks v (actions_of rest) pc n c.loop-action.marks c.survey_stmt.new.marks e.marks h)
+          ∙ sym (ap (λ ys. c.loop-action.marks ++ stmts_marks pc (actions_of (map action_view ys))) d)
+          ∙ c.loop-action.invariant.marks;
+      labels = sym (next_labels v rest pc n c.loop-action.labels c.survey_stmt.new.labels e.labels h)
+          ∙ sym (ap (λ ys. c.loop-action.labels ++ places_of (list_labels pc (map action_view ys))) d)
+          ∙ c.loop-action.invariant.labels;
+      starts = sym (next_start v rest pc n c.loop-action.starts c.push.new.self c.in_ok-push.ensures.ok h)
+          ∙ sym (ap (λ ys. c.loop-action.starts ++ list_starts pc (map action_view ys)) d)
+          ∙ c.loop-action.invariant.starts;
+      places = sym (next_places v (actions_of rest) pc n c.loop-action.places c.survey_stmt.new.places e.places h)
+          ∙ sym (ap (λ ys. c.loop-action.places ++ plans_of pc (actions_of (map action_view ys))) d)
+          ∙ c.loop-action.invariant.places;
     }
 
 pub survey_list-returns : goal.survey_list-returns
@@ -293,11 +373,16 @@ survey_list-returns t c =
     let last = c.loop-action.place in
     let h = c.loop-action.invariant in
     let done : drop i xs ≡ [] = drop_all i xs (omega arith) in
-    let N : List Node → Type 0 = λ ys. last + stmts_size (actions_of (map action_view ys)) ≡ pc + stmts_size (actions_of list) in
-    let M : List Node → Type 0 = λ ys. c.loop-action.marks ++ stmts_marks last (actions_of (map action_view ys)) ≡ c.args.marks.now ++ stmts_marks pc (actions_of list) in
-    let L : List Node → Type 0 = λ ys. c.loop-action.labels ++ places_of (list_labels last (map action_view ys)) ≡ c.args.labels.now ++ places_of (list_labels pc list) in
-    let S : List Node → Type 0 = λ ys. c.loop-action.starts ++ list_starts last (map action_view ys) ≡ c.args.starts.now ++ list_starts pc list in
-    let P : List Node → Type 0 = λ ys. c.loop-action.places ++ plans_of last (actions_of (map action_view ys)) ≡ c.args.places.now ++ plans_of pc (actions_of list) in
+    let N : List Node → Type 0 = λ ys. last + stmts_size (actions_of (map action_view ys))
+    ≡ pc + stmts_size (actions_of list) in
+    let M : List Node → Type 0 = λ ys. c.loop-action.marks ++ stmts_marks last (actions_of (map action_view ys))
+    ≡ c.args.marks.now ++ stmts_marks pc (actions_of list) in
+    let L : List Node → Type 0 = λ ys. c.loop-action.labels ++ places_of (list_labels last (map action_view ys))
+    ≡ c.args.labels.now ++ places_of (list_labels pc list) in
+    let S : List Node → Type 0 = λ ys. c.loop-action.starts ++ list_starts last (map action_view ys)
+    ≡ c.args.starts.now ++ list_starts pc list in
+    let P : List Node → Type 0 = λ ys. c.loop-action.places ++ plans_of last (actions_of (map action_view ys))
+    ≡ c.args.places.now ++ plans_of pc (actions_of list) in
     let next : last + 0 ≡ pc + stmts_size (actions_of list) = subst N done h.place in
     record {
       found = record {

@@ -51,7 +51,8 @@ decreases-survey_list l = 4 * goal.size-survey_list l + 1
 
 abbrev pub invariant-survey_list-loop-action : goal.invariant-survey_list-loop-action
 invariant-survey_list-loop-action l = record {
-  place : l.place + stmts_size (actions_of (map action_view (drop l.action-index l.list))) ≡ l.from + stmts_size (actions_of (map action_view l.list));
+  place : l.place + stmts_size (actions_of (map action_view (drop l.action-index l.list)))
+      ≡ l.from + stmts_size (actions_of (map action_view l.list));
   marks :
       l.marks ++ stmts_marks l.place (actions_of (map action_view (drop l.action-index l.list)))
       ≡ l.initial.marks ++ stmts_marks l.from (actions_of (map action_view l.list));

@@ -13,5 +13,7 @@ loop-reached-preserved c =
     let d = next_one xs i c.reached-item.result s c.reached-item.is in
     let nl = c.args.around.locals in
     let so_far = c.loop-reached.code in
-    let step = bind_laid nl (declared_view c.reached-item.result) (map declared_view (drop (i + 1) xs)) so_far c.emit_bind.new.code c.in_ok-emit_bind.ensures in
-    sym step ∙ ap (λ ys. so_far ++ declare_code nl (length so_far) (map declared_view ys)) (sym d) ∙ c.loop-reached.invariant
+    let step = bind_laid nl (declared_view c.reached-item.result) (map declared_view (drop (i + 1) xs)) so_far
+    c.emit_bind.new.code c.in_ok-emit_bind.ensures in
+    sym step ∙ ap (λ ys. so_far ++ declare_code nl (length so_far) (map declared_view ys)) (sym d)
+    ∙ c.loop-reached.invariant

@@ -13,5 +13,8 @@ loop-action-preserved c =
     let s : i < length xs = omega arith in
     let d = next_one xs i c.action-item.result s c.action-item.is in
     let so_far = c.loop-action.code in
-    let step = unset_laid c.args.pos (action_locals (action_view c.action-item.result)) (block_locals (map action_view (drop (i + 1) xs))) so_far c.emit_own_unset.new.code c.in_ok-emit_own_unset.ensures in
-    sym step ∙ ap (λ ys. so_far ++ unset_code c.args.pos (block_locals (map action_view ys))) (sym d) ∙ c.loop-action.invariant
+    let step = unset_laid c.args.pos (action_locals (action_view c.action-item.result))
+    (block_locals (map action_view (drop (i + 1) xs))) so_far c.emit_own_unset.new.code
+    c.in_ok-emit_own_unset.ensures in
+    sym step ∙ ap (λ ys. so_far ++ unset_code c.args.pos (block_locals (map action_view ys))) (sym d)
+    ∙ c.loop-action.invariant

@@ -5,4 +5,6 @@ use Rattle.pungi_layout.specs.code.StmtCode.{unset_code}
 use Rattle.pungi_emit.proofs.stmt.decl.emit_unsets.Given as goal
 
 abbrev pub invariant-loop-action : goal.invariant-loop-action
-invariant-loop-action l = l.code ++ unset_code l.pos (block_locals (map action_view (drop l.action-index l.list))) ≡ l.initial.code ++ unset_code l.pos (block_locals (map action_view l.list))
+invariant-loop-action l =
+    l.code ++ unset_code l.pos (block_locals (map action_view (drop l.action-index l.list)))
+    ≡ l.initial.code ++ unset_code l.pos (block_locals (map action_view l.list))

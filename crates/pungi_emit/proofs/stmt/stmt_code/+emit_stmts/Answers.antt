@@ -1,4 +1,5 @@
-use Rattle.std.proofs.Common.{◌≡◌, List, ◌+◌, ◌<◌, [], ◌∷◌, ◌++◌, length, map, drop, sym, ap, ◌∙◌, subst, arith, append-nil}
+use Rattle.std.proofs.Common.{◌≡◌, List, ◌+◌, ◌<◌, [], ◌∷◌, ◌++◌, length, map, drop, sym, ap, ◌∙◌, subst, arith}
+use Rattle.std.proofs.Common.{append-nil}
 use Rattle.std.proofs.lemmas.List.{length-map, drop_all}
 use denote.Param.Weighed.{most, at_most}
 use Rattle.pungi_resolved.specs.Actions.{Action, block, switch}
@@ -18,9 +19,15 @@ use Rattle.pungi_emit.proofs.stmt.Actions.{block_view, block_size}
 use Rattle.pungi_emit.proofs.planning.LabelsFound.{inside}
 use Rattle.pungi_emit.proofs.expr.ExprCode.{grown}
 use Rattle.pungi_layout.proofs.code.StmtLengths.{unset_long}
-use Rattle.pungi_emit.proofs.planning.PlanLists.{begins_as, begins_at, front_begins, front_long, front_known, back_known, one_place, one_begins, one_through, two_first, two_second, both_through, Left, left_now, at_last}
-use Rattle.pungi_emit.proofs.planning.Plans.{labels_long, starts_long, labels_known, labels_left, block_plan_is, switch_plan_is, skipped_plan_is, part_begins, part_through, loop_begins, loop_through, first_begins, second_begins, both_parts_through, next_left}
-use Rattle.pungi_emit.proofs.stmt.StmtCode.{test_place, stmt_place, else_place, until_place, for_body, skipped_place, switch_place, if_laid, else_laid, while_laid, until_laid, for_laid, skipped_laid, block_laid, switch_laid, next_laid, skipped_is}
+use Rattle.pungi_emit.proofs.planning.PlanLists.{begins_as, begins_at, front_begins, front_long, front_known}
+use Rattle.pungi_emit.proofs.planning.PlanLists.{back_known, one_place, one_begins, one_through, two_first, two_second}
+use Rattle.pungi_emit.proofs.planning.PlanLists.{both_through, Left, left_now, at_last}
+use Rattle.pungi_emit.proofs.planning.Plans.{labels_long, starts_long, labels_known, labels_left, block_plan_is}
+use Rattle.pungi_emit.proofs.planning.Plans.{switch_plan_is, skipped_plan_is, part_begins, part_through, loop_begins}
+use Rattle.pungi_emit.proofs.planning.Plans.{loop_through, first_begins, second_begins, both_parts_through, next_left}
+use Rattle.pungi_emit.proofs.stmt.StmtCode.{test_place, stmt_place, else_place, until_place, for_body, skipped_place}
+use Rattle.pungi_emit.proofs.stmt.StmtCode.{switch_place, if_laid, else_laid, while_laid, until_laid, for_laid}
+use Rattle.pungi_emit.proofs.stmt.StmtCode.{skipped_laid, block_laid, switch_laid, next_laid, skipped_is}
 use Rattle.pungi_emit.proofs.stmt.stmt_code.+emit_stmts.Goals as goal
 
 pub emit_if-emit_stmt-requires : goal.emit_if-emit_stmt-requires
@@ -28,19 +35,30 @@ emit_if-emit_stmt-requires t c =
     let v = value_view c.args.c.now in
     let a = action_view c.args.body.now in
     let at = length c.args.code.now + expr_size v + 1 in
-    let n = test_place c.args.around.locals (env_of c.args.scope.now) c.args.pos v at c.next_planned-other.result c.args.code.now c.emit_test.new.code c.in_ok-emit_test.ensures in
-    (omega arith, part_begins a at (length c.emit_test.new.code) (at + stmt_size a) c.next_planned-other.result c.args.plan.now.left.now c.next_planned-other.new.plan.left.now c.requires.plan c.next_planned-other.ensures n)
+    let n = test_place c.args.around.locals (env_of c.args.scope.now) c.args.pos v at c.next_planned-other.result
+    c.args.code.now c.emit_test.new.code c.in_ok-emit_test.ensures in (
+      omega arith,
+      part_begins a at (length c.emit_test.new.code) (at + stmt_size a) c.next_planned-other.result
+          c.args.plan.now.left.now c.next_planned-other.new.plan.left.now c.requires.plan c.next_planned-other.ensures
+          n,
+    )
 
 pub emit_if-returns : goal.emit_if-returns
 emit_if-returns t c =
     let v = value_view c.args.c.now in
     let a = action_view c.args.body.now in
     let at = length c.args.code.now + expr_size v + 1 in
-    let o = one_place (plan_of at a) c.args.plan.now.left.now c.next_planned-other.new.plan.left.now (at + stmt_size a) c.next_planned-other.result c.requires.plan c.next_planned-other.ensures in
-    let n = test_place c.args.around.locals (env_of c.args.scope.now) c.args.pos v at c.next_planned-other.result c.args.code.now c.emit_test.new.code c.in_ok-emit_test.ensures in
+    let o = one_place (plan_of at a) c.args.plan.now.left.now c.next_planned-other.new.plan.left.now
+    (at + stmt_size a) c.next_planned-other.result c.requires.plan c.next_planned-other.ensures in
+    let n = test_place c.args.around.locals (env_of c.args.scope.now) c.args.pos v at c.next_planned-other.result
+    c.args.code.now c.emit_test.new.code c.in_ok-emit_test.ensures in
     record {
-      code = if_laid c.args.around.locals (env_of c.args.scope.now) c.args.pos v a c.next_planned-other.result c.args.code.now c.emit_test.new.code c.emit_stmt.new.code c.in_ok-emit_test.ensures c.in_ok-emit_stmt.ensures.code o;
-      plan = part_through a at (length c.emit_test.new.code) (at + stmt_size a) c.next_planned-other.result c.args.plan.now.left.now c.next_planned-other.new.plan.left.now c.emit_stmt.new.plan.left.now c.requires.plan c.next_planned-other.ensures n c.in_ok-emit_stmt.ensures.plan;
+      code = if_laid c.args.around.locals (env_of c.args.scope.now) c.args.pos v a c.next_planned-other.result
+          c.args.code.now c.emit_test.new.code c.emit_stmt.new.code c.in_ok-emit_test.ensures
+          c.in_ok-emit_stmt.ensures.code o;
+      plan = part_through a at (length c.emit_test.new.code) (at + stmt_size a) c.next_planned-other.result
+          c.args.plan.now.left.now c.next_planned-other.new.plan.left.now c.emit_stmt.new.plan.left.now
+          c.requires.plan c.next_planned-other.ensures n c.in_ok-emit_stmt.ensures.plan;
     }
 
 pub emit_else-emit_stmt-requires : goal.emit_else-emit_stmt-requires
@@ -50,8 +68,14 @@ emit_else-emit_stmt-requires t c =
     let b = action_view c.args.b.now in
     let at = length c.args.code.now + expr_size v + 1 in
     let bt = at + stmt_size a + 1 in
-    let n = test_place c.args.around.locals (env_of c.args.scope.now) c.args.pos v at c.next_planned-other.result c.args.code.now c.emit_test.new.code c.in_ok-emit_test.ensures in
-    (omega arith, first_begins a b at bt (length c.emit_test.new.code) bt (bt + stmt_size b) c.next_planned-other.result c.next_planned-end.result c.args.plan.now.left.now c.next_planned-other.new.plan.left.now c.next_planned-end.new.plan.left.now c.requires.plan c.next_planned-other.ensures c.next_planned-end.ensures n)
+    let n = test_place c.args.around.locals (env_of c.args.scope.now) c.args.pos v at c.next_planned-other.result
+    c.args.code.now c.emit_test.new.code c.in_ok-emit_test.ensures in (
+      omega arith,
+      first_begins a b at bt (length c.emit_test.new.code) bt (bt + stmt_size b)
+          c.next_planned-other.result c.next_planned-end.result c.args.plan.now.left.now
+          c.next_planned-other.new.plan.left.now c.next_planned-end.new.plan.left.now c.requires.plan
+          c.next_planned-other.ensures c.next_planned-end.ensures n,
+    )
 
 pub emit_else-emit_stmt-requires-2 : goal.emit_else-emit_stmt-requires-2
 emit_else-emit_stmt-requires-2 t c =
@@ -60,9 +84,17 @@ emit_else-emit_stmt-requires-2 t c =
     let b = action_view c.args.b.now in
     let at = length c.args.code.now + expr_size v + 1 in
     let bt = at + stmt_size a + 1 in
-    let n = test_place c.args.around.locals (env_of c.args.scope.now) c.args.pos v at c.next_planned-other.result c.args.code.now c.emit_test.new.code c.in_ok-emit_test.ensures in
-    let m = else_place c.args.around.locals (env_of c.args.scope.now) c.args.pos v a c.next_planned-other.result c.next_planned-end.result c.args.code.now c.emit_test.new.code c.emit_stmt.new.code c.put.new.code c.in_ok-emit_test.ensures c.in_ok-emit_stmt.ensures.code c.in_ok-put.ensures in
-    (omega arith, second_begins a b at bt (length c.emit_test.new.code) (length c.put.new.code) bt (bt + stmt_size b) c.next_planned-other.result c.next_planned-end.result c.args.plan.now.left.now c.next_planned-other.new.plan.left.now c.next_planned-end.new.plan.left.now c.emit_stmt.new.plan.left.now c.requires.plan c.next_planned-other.ensures c.next_planned-end.ensures n c.in_ok-emit_stmt.ensures.plan m)
+    let n = test_place c.args.around.locals (env_of c.args.scope.now) c.args.pos v at c.next_planned-other.result
+    c.args.code.now c.emit_test.new.code c.in_ok-emit_test.ensures in
+    let m = else_place c.args.around.locals (env_of c.args.scope.now) c.args.pos v a c.next_planned-other.result
+    c.next_planned-end.result c.args.code.now c.emit_test.new.code c.emit_stmt.new.code c.put.new.code
+    c.in_ok-emit_test.ensures c.in_ok-emit_stmt.ensures.code c.in_ok-put.ensures in (
+      omega arith,
+      second_begins a b at bt (length c.emit_test.new.code) (length c.put.new.code) bt
+          (bt + stmt_size b) c.next_planned-other.result c.next_planned-end.result c.args.plan.now.left.now
+          c.next_planned-other.new.plan.left.now c.next_planned-end.new.plan.left.now c.emit_stmt.new.plan.left.now
+          c.requires.plan c.next_planned-other.ensures c.next_planned-end.ensures n c.in_ok-emit_stmt.ensures.plan m,
+    )
 
 pub emit_else-returns : goal.emit_else-returns
 emit_else-returns t c =
@@ -72,13 +104,26 @@ emit_else-returns t c =
     let at = length c.args.code.now + expr_size v + 1 in
     let bt = at + stmt_size a + 1 in
     let both = plan_of at a ++ plan_of bt b in
-    let o = two_first both c.args.plan.now.left.now c.next_planned-other.new.plan.left.now bt (bt + stmt_size b) c.next_planned-other.result c.requires.plan c.next_planned-other.ensures in
-    let q = two_second both c.args.plan.now.left.now c.next_planned-other.new.plan.left.now c.next_planned-end.new.plan.left.now bt (bt + stmt_size b) c.next_planned-other.result c.next_planned-end.result c.requires.plan c.next_planned-other.ensures c.next_planned-end.ensures in
-    let n = test_place c.args.around.locals (env_of c.args.scope.now) c.args.pos v at c.next_planned-other.result c.args.code.now c.emit_test.new.code c.in_ok-emit_test.ensures in
-    let m = else_place c.args.around.locals (env_of c.args.scope.now) c.args.pos v a c.next_planned-other.result c.next_planned-end.result c.args.code.now c.emit_test.new.code c.emit_stmt.new.code c.put.new.code c.in_ok-emit_test.ensures c.in_ok-emit_stmt.ensures.code c.in_ok-put.ensures in
+    let o = two_first both c.args.plan.now.left.now c.next_planned-other.new.plan.left.now bt (bt + stmt_size b)
+    c.next_planned-other.result c.requires.plan c.next_planned-other.ensures in
+    let q = two_second both c.args.plan.now.left.now c.next_planned-other.new.plan.left.now
+    c.next_planned-end.new.plan.left.now bt (bt + stmt_size b) c.next_planned-other.result
+    c.next_planned-end.result c.requires.plan c.next_planned-other.ensures c.next_planned-end.ensures in
+    let n = test_place c.args.around.locals (env_of c.args.scope.now) c.args.pos v at c.next_planned-other.result
+    c.args.code.now c.emit_test.new.code c.in_ok-emit_test.ensures in
+    let m = else_place c.args.around.locals (env_of c.args.scope.now) c.args.pos v a c.next_planned-other.result
+    c.next_planned-end.result c.args.code.now c.emit_test.new.code c.emit_stmt.new.code c.put.new.code
+    c.in_ok-emit_test.ensures c.in_ok-emit_stmt.ensures.code c.in_ok-put.ensures in
     record {
-      code = else_laid c.args.around.locals (env_of c.args.scope.now) c.args.pos v a b c.next_planned-other.result c.next_planned-end.result c.args.code.now c.emit_test.new.code c.emit_stmt.new.code c.put.new.code c.emit_stmt-2.new.code c.in_ok-emit_test.ensures c.in_ok-emit_stmt.ensures.code c.in_ok-put.ensures o c.in_ok-emit_stmt-2.ensures.code q;
-      plan = both_parts_through a b at bt (length c.emit_test.new.code) (length c.put.new.code) bt (bt + stmt_size b) c.next_planned-other.result c.next_planned-end.result c.args.plan.now.left.now c.next_planned-other.new.plan.left.now c.next_planned-end.new.plan.left.now c.emit_stmt.new.plan.left.now c.emit_stmt-2.new.plan.left.now c.requires.plan c.next_planned-other.ensures c.next_planned-end.ensures n c.in_ok-emit_stmt.ensures.plan m c.in_ok-emit_stmt-2.ensures.plan;
+      code = else_laid c.args.around.locals (env_of c.args.scope.now) c.args.pos v a b c.next_planned-other.result
+          c.next_planned-end.result c.args.code.now c.emit_test.new.code c.emit_stmt.new.code c.put.new.code
+          c.emit_stmt-2.new.code c.in_ok-emit_test.ensures c.in_ok-emit_stmt.ensures.code c.in_ok-put.ensures o
+          c.in_ok-emit_stmt-2.ensures.code q;
+      plan = both_parts_through a b at bt (length c.emit_test.new.code) (length c.put.new.code) bt
+          (bt + stmt_size b) c.next_planned-other.result c.next_planned-end.result c.args.plan.now.left.now
+          c.next_planned-other.new.plan.left.now c.next_planned-end.new.plan.left.now c.emit_stmt.new.plan.left.now
+          c.emit_stmt-2.new.plan.left.now c.requires.plan c.next_planned-other.ensures c.next_planned-end.ensures n
+          c.in_ok-emit_stmt.ensures.plan m c.in_ok-emit_stmt-2.ensures.plan;
     }
 
 pub emit_while-emit_stmt-requires : goal.emit_while-emit_stmt-requires
@@ -86,21 +131,35 @@ emit_while-emit_stmt-requires t c =
     let v = value_view c.args.c.now in
     let a = action_view c.args.body.now in
     let go = length c.args.code.now + (expr_size v + 1) in
-    let k = test_place c.args.around.locals (env_of c.args.scope.now) c.args.pos v (length c.args.code.now + expr_size v + 1) c.in_ok-end.end c.args.code.now c.emit_test.new.code c.in_ok-emit_test.ensures in
-    let n : length c.emit_test.new.code ≡ go = omega (arith, k) in
-    (omega arith, part_begins a go (length c.emit_test.new.code) (go + stmt_size a) c.next_planned-again.result c.args.plan.now.left.now c.next_planned-again.new.plan.left.now c.requires.plan c.next_planned-again.ensures n)
+    let k = test_place c.args.around.locals (env_of c.args.scope.now) c.args.pos v
+    (length c.args.code.now + expr_size v + 1) c.in_ok-end.end c.args.code.now c.emit_test.new.code
+    c.in_ok-emit_test.ensures in
+    let n : length c.emit_test.new.code ≡ go = omega (arith, k) in (
+      omega arith,
+      part_begins a go (length c.emit_test.new.code) (go + stmt_size a) c.next_planned-again.result
+          c.args.plan.now.left.now c.next_planned-again.new.plan.left.now c.requires.plan c.next_planned-again.ensures
+          n,
+    )
 
 pub emit_while-returns : goal.emit_while-returns
 emit_while-returns t c =
     let v = value_view c.args.c.now in
     let a = action_view c.args.body.now in
     let go = length c.args.code.now + (expr_size v + 1) in
-    let o = one_place (plan_of go a) c.args.plan.now.left.now c.next_planned-again.new.plan.left.now (go + stmt_size a) c.next_planned-again.result c.requires.plan c.next_planned-again.ensures in
-    let k = test_place c.args.around.locals (env_of c.args.scope.now) c.args.pos v (length c.args.code.now + expr_size v + 1) c.in_ok-end.end c.args.code.now c.emit_test.new.code c.in_ok-emit_test.ensures in
+    let o = one_place (plan_of go a) c.args.plan.now.left.now c.next_planned-again.new.plan.left.now
+    (go + stmt_size a) c.next_planned-again.result c.requires.plan c.next_planned-again.ensures in
+    let k = test_place c.args.around.locals (env_of c.args.scope.now) c.args.pos v
+    (length c.args.code.now + expr_size v + 1) c.in_ok-end.end c.args.code.now c.emit_test.new.code
+    c.in_ok-emit_test.ensures in
     let n : length c.emit_test.new.code ≡ go = omega (arith, k) in
     record {
-      code = while_laid c.args.around.locals (env_of c.args.scope.now) c.args.pos v a c.in_ok-head.head c.next_planned-again.result c.in_ok-end.end c.args.code.now c.emit_test.new.code c.emit_stmt.new.code c.put.new.code c.in_ok-head.ensures.place c.in_ok-end.ensures c.in_ok-emit_test.ensures c.in_ok-emit_stmt.ensures.code o c.in_ok-put.ensures;
-      plan = part_through a go (length c.emit_test.new.code) (go + stmt_size a) c.next_planned-again.result c.args.plan.now.left.now c.next_planned-again.new.plan.left.now c.emit_stmt.new.plan.left.now c.requires.plan c.next_planned-again.ensures n c.in_ok-emit_stmt.ensures.plan;
+      code = while_laid c.args.around.locals (env_of c.args.scope.now) c.args.pos v a c.in_ok-head.head
+          c.next_planned-again.result c.in_ok-end.end c.args.code.now c.emit_test.new.code c.emit_stmt.new.code
+          c.put.new.code c.in_ok-head.ensures.place c.in_ok-end.ensures c.in_ok-emit_test.ensures
+          c.in_ok-emit_stmt.ensures.code o c.in_ok-put.ensures;
+      plan = part_through a go (length c.emit_test.new.code) (go + stmt_size a) c.next_planned-again.result
+          c.args.plan.now.left.now c.next_planned-again.new.plan.left.now c.emit_stmt.new.plan.left.now
+          c.requires.plan c.next_planned-again.ensures n c.in_ok-emit_stmt.ensures.plan;
     }
 
 pub emit_until-emit_stmt-requires : goal.emit_until-emit_stmt-requires
@@ -108,20 +167,39 @@ emit_until-emit_stmt-requires t c =
     let v = value_view c.args.c.now in
     let a = action_view c.args.body.now in
     let go = length c.args.code.now + 1 + (expr_size v + 1) in
-    let n = until_place c.args.around.locals (env_of c.args.scope.now) c.args.pos v c.next_planned-go.result c.in_ok-end.end c.args.code.now c.put.new.code c.emit_test.new.code c.in_ok-put.ensures c.in_ok-emit_test.ensures in
-    (omega arith, loop_begins a go (length c.emit_test.new.code) go (go + stmt_size a) c.next_planned-go.result c.next_planned-again.result c.args.plan.now.left.now c.next_planned-go.new.plan.left.now c.next_planned-again.new.plan.left.now c.requires.plan c.next_planned-go.ensures c.next_planned-again.ensures n)
+    let n = until_place c.args.around.locals (env_of c.args.scope.now) c.args.pos v c.next_planned-go.result
+    c.in_ok-end.end c.args.code.now c.put.new.code c.emit_test.new.code c.in_ok-put.ensures
+    c.in_ok-emit_test.ensures in (
+      omega arith,
+      loop_begins a go (length c.emit_test.new.code) go (go + stmt_size a) c.next_planned-go.result
+          c.next_planned-again.result c.args.plan.now.left.now c.next_planned-go.new.plan.left.now
+          c.next_planned-again.new.plan.left.now c.requires.plan c.next_planned-go.ensures c.next_planned-again.ensures
+          n,
+    )
 
 pub emit_until-returns : goal.emit_until-returns
 emit_until-returns t c =
     let v = value_view c.args.c.now in
     let a = action_view c.args.body.now in
     let go = length c.args.code.now + 1 + (expr_size v + 1) in
-    let o = two_first (plan_of go a) c.args.plan.now.left.now c.next_planned-go.new.plan.left.now go (go + stmt_size a) c.next_planned-go.result c.requires.plan c.next_planned-go.ensures in
-    let q = two_second (plan_of go a) c.args.plan.now.left.now c.next_planned-go.new.plan.left.now c.next_planned-again.new.plan.left.now go (go + stmt_size a) c.next_planned-go.result c.next_planned-again.result c.requires.plan c.next_planned-go.ensures c.next_planned-again.ensures in
-    let n = until_place c.args.around.locals (env_of c.args.scope.now) c.args.pos v c.next_planned-go.result c.in_ok-end.end c.args.code.now c.put.new.code c.emit_test.new.code c.in_ok-put.ensures c.in_ok-emit_test.ensures in
+    let o = two_first (plan_of go a) c.args.plan.now.left.now c.next_planned-go.new.plan.left.now go
+    (go + stmt_size a) c.next_planned-go.result c.requires.plan c.next_planned-go.ensures in
+    let q = two_second (plan_of go a) c.args.plan.now.left.now c.next_planned-go.new.plan.left.now
+    c.next_planned-again.new.plan.left.now go (go + stmt_size a) c.next_planned-go.result
+    c.next_planned-again.result c.requires.plan c.next_planned-go.ensures c.next_planned-again.ensures in
+    let n = until_place c.args.around.locals (env_of c.args.scope.now) c.args.pos v c.next_planned-go.result
+    c.in_ok-end.end c.args.code.now c.put.new.code c.emit_test.new.code c.in_ok-put.ensures
+    c.in_ok-emit_test.ensures in
     record {
-      code = until_laid c.args.around.locals (env_of c.args.scope.now) c.args.pos v a c.in_ok-head.head c.next_planned-go.result c.next_planned-again.result c.in_ok-end.end c.args.code.now c.put.new.code c.emit_test.new.code c.emit_stmt.new.code c.put-2.new.code c.in_ok-end.ensures c.in_ok-put.ensures c.in_ok-head.ensures.place c.in_ok-emit_test.ensures o c.in_ok-emit_stmt.ensures.code q c.in_ok-put-2.ensures;
-      plan = loop_through a go (length c.emit_test.new.code) go (go + stmt_size a) c.next_planned-go.result c.next_planned-again.result c.args.plan.now.left.now c.next_planned-go.new.plan.left.now c.next_planned-again.new.plan.left.now c.emit_stmt.new.plan.left.now c.requires.plan c.next_planned-go.ensures c.next_planned-again.ensures n c.in_ok-emit_stmt.ensures.plan;
+      code = until_laid c.args.around.locals (env_of c.args.scope.now) c.args.pos v a c.in_ok-head.head
+          c.next_planned-go.result c.next_planned-again.result c.in_ok-end.end c.args.code.now c.put.new.code
+          c.emit_test.new.code c.emit_stmt.new.code c.put-2.new.code c.in_ok-end.ensures c.in_ok-put.ensures
+          c.in_ok-head.ensures.place c.in_ok-emit_test.ensures o c.in_ok-emit_stmt.ensures.code q
+          c.in_ok-put-2.ensures;
+      plan = loop_through a go (length c.emit_test.new.code) go (go + stmt_size a) c.next_planned-go.result
+          c.next_planned-again.result c.args.plan.now.left.now c.next_planned-go.new.plan.left.now
+          c.next_planned-again.new.plan.left.now c.emit_stmt.new.plan.left.now c.requires.plan
+          c.next_planned-go.ensures c.next_planned-again.ensures n c.in_ok-emit_stmt.ensures.plan;
     }
 
 pub emit_for-emit_stmt-requires : goal.emit_for-emit_stmt-requires
@@ -133,8 +211,16 @@ emit_for-emit_stmt-requires t c =
     let a = action_view c.args.body.now in
     let go = for_head (length c.args.code.now) rs u + test_size v in
     let last = go + stmt_size a in
-    let n = for_body c.args.around.locals (env_of c.args.scope.now) c.args.pos rs u v c.next_planned-end.result c.args.code.now c.emit_unset.new.code c.emit_declared.new.code c.emit_option.new.code c.emit_tested.new.code c.in_ok-emit_unset.ensures c.in_ok-emit_declared.ensures c.in_ok-emit_option.ensures c.in_ok-emit_tested.ensures in
-    (omega arith, loop_begins a go (length c.emit_tested.new.code) last (last + option_size w + 1) c.next_planned-again.result c.next_planned-end.result c.args.plan.now.left.now c.next_planned-again.new.plan.left.now c.next_planned-end.new.plan.left.now c.requires.plan c.next_planned-again.ensures c.next_planned-end.ensures n)
+    let n = for_body c.args.around.locals (env_of c.args.scope.now) c.args.pos rs u v c.next_planned-end.result
+    c.args.code.now c.emit_unset.new.code c.emit_declared.new.code c.emit_option.new.code c.emit_tested.new.code
+    c.in_ok-emit_unset.ensures c.in_ok-emit_declared.ensures c.in_ok-emit_option.ensures
+    c.in_ok-emit_tested.ensures in (
+      omega arith,
+      loop_begins a go (length c.emit_tested.new.code) last (last + option_size w + 1)
+          c.next_planned-again.result c.next_planned-end.result c.args.plan.now.left.now
+          c.next_planned-again.new.plan.left.now c.next_planned-end.new.plan.left.now c.requires.plan
+          c.next_planned-again.ensures c.next_planned-end.ensures n,
+    )
 
 pub emit_for-returns : goal.emit_for-returns
 emit_for-returns t c =
@@ -145,12 +231,26 @@ emit_for-returns t c =
     let a = action_view c.args.body.now in
     let go = for_head (length c.args.code.now) rs u + test_size v in
     let last = go + stmt_size a in
-    let o = two_first (plan_of go a) c.args.plan.now.left.now c.next_planned-again.new.plan.left.now last (last + option_size w + 1) c.next_planned-again.result c.requires.plan c.next_planned-again.ensures in
-    let q = two_second (plan_of go a) c.args.plan.now.left.now c.next_planned-again.new.plan.left.now c.next_planned-end.new.plan.left.now last (last + option_size w + 1) c.next_planned-again.result c.next_planned-end.result c.requires.plan c.next_planned-again.ensures c.next_planned-end.ensures in
-    let n = for_body c.args.around.locals (env_of c.args.scope.now) c.args.pos rs u v c.next_planned-end.result c.args.code.now c.emit_unset.new.code c.emit_declared.new.code c.emit_option.new.code c.emit_tested.new.code c.in_ok-emit_unset.ensures c.in_ok-emit_declared.ensures c.in_ok-emit_option.ensures c.in_ok-emit_tested.ensures in
+    let o = two_first (plan_of go a) c.args.plan.now.left.now c.next_planned-again.new.plan.left.now last
+    (last + option_size w + 1) c.next_planned-again.result c.requires.plan c.next_planned-again.ensures in
+    let q = two_second (plan_of go a) c.args.plan.now.left.now c.next_planned-again.new.plan.left.now
+    c.next_planned-end.new.plan.left.now last (last + option_size w + 1) c.next_planned-again.result
+    c.next_planned-end.result c.requires.plan c.next_planned-again.ensures c.next_planned-end.ensures in
+    let n = for_body c.args.around.locals (env_of c.args.scope.now) c.args.pos rs u v c.next_planned-end.result
+    c.args.code.now c.emit_unset.new.code c.emit_declared.new.code c.emit_option.new.code c.emit_tested.new.code
+    c.in_ok-emit_unset.ensures c.in_ok-emit_declared.ensures c.in_ok-emit_option.ensures
+    c.in_ok-emit_tested.ensures in
     record {
-      code = for_laid c.args.around.locals (env_of c.args.scope.now) c.args.pos rs u v w a c.in_ok-head.head c.next_planned-again.result c.next_planned-end.result c.args.code.now c.emit_unset.new.code c.emit_declared.new.code c.emit_option.new.code c.emit_tested.new.code c.emit_stmt.new.code c.emit_option-2.new.code c.put.new.code c.in_ok-emit_unset.ensures c.in_ok-emit_declared.ensures c.in_ok-emit_option.ensures c.in_ok-head.ensures.place c.in_ok-emit_tested.ensures c.in_ok-emit_stmt.ensures.code o c.in_ok-emit_option-2.ensures c.in_ok-put.ensures q;
-      plan = loop_through a go (length c.emit_tested.new.code) last (last + option_size w + 1) c.next_planned-again.result c.next_planned-end.result c.args.plan.now.left.now c.next_planned-again.new.plan.left.now c.next_planned-end.new.plan.left.now c.emit_stmt.new.plan.left.now c.requires.plan c.next_planned-again.ensures c.next_planned-end.ensures n c.in_ok-emit_stmt.ensures.plan;
+      code = for_laid c.args.around.locals (env_of c.args.scope.now) c.args.pos rs u v w a c.in_ok-head.head
+          c.next_planned-again.result c.next_planned-end.result c.args.code.now c.emit_unset.new.code
+          c.emit_declared.new.code c.emit_option.new.code c.emit_tested.new.code c.emit_stmt.new.code
+          c.emit_option-2.new.code c.put.new.code c.in_ok-emit_unset.ensures c.in_ok-emit_declared.ensures
+          c.in_ok-emit_option.ensures c.in_ok-head.ensures.place c.in_ok-emit_tested.ensures
+          c.in_ok-emit_stmt.ensures.code o c.in_ok-emit_option-2.ensures c.in_ok-put.ensures q;
+      plan = loop_through a go (length c.emit_tested.new.code) last (last + option_size w + 1)
+          c.next_planned-again.result c.next_planned-end.result c.args.plan.now.left.now
+          c.next_planned-again.new.plan.left.now c.next_planned-end.new.plan.left.now c.emit_stmt.new.plan.left.now
+          c.requires.plan c.next_planned-again.ensures c.next_planned-end.ensures n c.in_ok-emit_stmt.ensures.plan;
     }
 
 pub emit_list-emit_stmt-requires : goal.emit_list-emit_stmt-requires
@@ -166,9 +266,13 @@ emit_list-emit_stmt-requires t c =
     let first = c.args.plan.now.left.now in
     let all = plans_of (length c.args.code.now) (actions_of (map action_view xs)) in
     let P : List Node → Type 0 = λ ys. Left (plans_of (length c0) (actions_of (map action_view ys))) l0 all first in
-    let begun : Left (plan_of (length c0) v ++ plans_of (length c0 + stmt_size v) rest) l0 all first = subst P d c.loop-action.invariant.plan in
-    let inner = plan_of (length c0) v ++ plans_of (length c0 + stmt_size v) rest in
-    (omega (arith, at_most size-Action xs i c.action-item.result s, ap size-Action c.action-item.is), front_begins (plan_of (length c0) v) (plans_of (length c0 + stmt_size v) rest) l0 (left_now inner l0 all first begun))
+    let begun : Left (plan_of (length c0) v ++ plans_of (length c0 + stmt_size v) rest) l0 all first = subst P d
+    c.loop-action.invariant.plan in
+    let inner = plan_of (length c0) v ++ plans_of (length c0 + stmt_size v) rest in (
+      omega (arith, at_most size-Action xs i c.action-item.result s, ap size-Action c.action-item.is),
+      front_begins
+          (plan_of (length c0) v) (plans_of (length c0 + stmt_size v) rest) l0 (left_now inner l0 all first begun),
+    )
 
 pub emit_list-loop-action-preserved : goal.emit_list-loop-action-preserved
 emit_list-loop-action-preserved t c =
@@ -183,14 +287,17 @@ emit_list-loop-action-preserved t c =
     let first = c.args.plan.now.left.now in
     let all = plans_of (length c.args.code.now) (actions_of (map action_view xs)) in
     let P : List Node → Type 0 = λ ys. Left (plans_of (length c0) (actions_of (map action_view ys))) l0 all first in
-    let begun : Left (plan_of (length c0) v ++ plans_of (length c0 + stmt_size v) rest) l0 all first = subst P d c.loop-action.invariant.plan in
+    let begun : Left (plan_of (length c0) v ++ plans_of (length c0 + stmt_size v) rest) l0 all first = subst P d
+    c.loop-action.invariant.plan in
     let nl = c.args.around.locals in
     let env = env_of c.args.scope.now in
     let c1 = c.emit_stmt.new.code in
     let e = c.in_ok-emit_stmt.ensures.code in
     record {
-      code = sym (next_laid nl env v rest c0 c1 e) ∙ sym (ap (λ ys. c0 ++ stmts_code nl env (length c0) (actions_of (map action_view ys))) d) ∙ c.loop-action.invariant.code;
-      plan = next_left v rest (length c0) (length c1) l0 c.emit_stmt.new.plan.left.now all first begun c.in_ok-emit_stmt.ensures.plan (stmt_place nl env env v c0 c1 e);
+      code = sym (next_laid nl env v rest c0 c1 e) ∙ sym (ap (λ ys. c0
+          ++ stmts_code nl env (length c0) (actions_of (map action_view ys))) d) ∙ c.loop-action.invariant.code;
+      plan = next_left v rest (length c0) (length c1) l0 c.emit_stmt.new.plan.left.now all first begun
+          c.in_ok-emit_stmt.ensures.plan (stmt_place nl env env v c0 c1 e);
     }
 
 pub emit_list-returns : goal.emit_list-returns
@@ -205,7 +312,8 @@ emit_list-returns t c =
     let whole = actions_of (map action_view xs) in
     let lines = c.args.code.now ++ stmts_code nl env (length c.args.code.now) whole in
     let all = plans_of (length c.args.code.now) whole in
-    let C : List Node → Type 0 = λ ys. last ++ stmts_code nl env (length last) (actions_of (map action_view ys)) ≡ lines in
+    let C : List Node → Type 0 = λ ys. last ++ stmts_code nl env (length last) (actions_of (map action_view ys))
+    ≡ lines in
     let P : List Node → Type 0 = λ ys. Left (plans_of (length last) (actions_of (map action_view ys))) now all first in
     let done : drop i xs ≡ [] = drop_all i xs (omega arith) in
     record {
@@ -218,7 +326,9 @@ emit_inside-returns t c =
     let list = map action_view c.args.list.now in
     let pc = length c.args.code.now in
     record {
-      code = c.in_ok-emit_list.ensures.code ∙ ap (λ e. c.args.code.now ++ stmts_code c.args.around.locals e pc (actions_of list)) (inside (env_of c.args.scope.now) pc list c.args.own.now c.requires.own);
+      code = c.in_ok-emit_list.ensures.code ∙ ap (λ e. c.args.code.now
+          ++ stmts_code c.args.around.locals e pc (actions_of list)) (inside (env_of c.args.scope.now) pc list
+          c.args.own.now c.requires.own);
       plan = c.in_ok-emit_list.ensures.plan;
     }
 
@@ -250,8 +360,10 @@ emit_block-emit_inside-requires t c =
     let l1 = c.plan_labels.new.plan.left.now in
     let c1 = c.emit_unsets.new.code in
     let known = labels_known own list from inner l0 l1 begun c.in_ok-own.ensures.places c.in_ok-own.ensures.names in
-    let n : length c1 ≡ from = grown c0 c1 (unset_code c.args.pos (block_locals list)) (length (block_locals list)) c.in_ok-emit_unsets.ensures (unset_long (block_locals list) c.args.pos) in
-    let plan = begins_at (λ i. plans_of i (actions_of list)) from (length c1) l1 (labels_left own list from inner l0 l1 begun c.in_ok-own.ensures.places known) n in
+    let n : length c1 ≡ from = grown c0 c1 (unset_code c.args.pos (block_locals list)) (length (block_locals list))
+    c.in_ok-emit_unsets.ensures (unset_long (block_locals list) c.args.pos) in
+    let plan = begins_at (λ i. plans_of i (actions_of list)) from (length c1) l1
+    (labels_left own list from inner l0 l1 begun c.in_ok-own.ensures.places known) n in
     (omega arith, (plan, c.as_slice.ensures.value ∙ known ∙ ap (λ i. list_labels i list) (sym n)))
 
 pub emit_block-returns : goal.emit_block-returns
@@ -268,12 +380,15 @@ emit_block-returns t c =
     let l1 = c.plan_labels.new.plan.left.now in
     let c1 = c.emit_unsets.new.code in
     let known = labels_known own list from inner l0 l1 begun c.in_ok-own.ensures.places c.in_ok-own.ensures.names in
-    let n : length c1 ≡ from = grown c0 c1 (unset_code c.args.pos (block_locals list)) (length (block_locals list)) c.in_ok-emit_unsets.ensures (unset_long (block_locals list) c.args.pos) in
+    let n : length c1 ≡ from = grown c0 c1 (unset_code c.args.pos (block_locals list)) (length (block_locals list))
+    c.in_ok-emit_unsets.ensures (unset_long (block_locals list) c.args.pos) in
     let l2 = c.emit_inside.new.plan.left.now in
     let s = c.in_ok-own.ensures.places ∙ ap (λ ms. places_of ms ++ l1) known in
     let u = c.in_ok-emit_inside.ensures.plan ∙ ap (λ i. plans_of i (actions_of list) ++ l2) n in
     record {
-      code = block_laid c.args.around.locals (env_of c.args.scope.now) c.args.pos nowhere (map action_view c.args.list.now) c.args.code.now c.emit_unsets.new.code c.emit_inside.new.code c.in_ok-emit_unsets.ensures c.in_ok-emit_inside.ensures.code;
+      code = block_laid c.args.around.locals (env_of c.args.scope.now) c.args.pos nowhere
+          (map action_view c.args.list.now) c.args.code.now c.emit_unsets.new.code c.emit_inside.new.code
+          c.in_ok-emit_unsets.ensures c.in_ok-emit_inside.ensures.code;
       plan = both_through front inner l0 l1 l2 s u ∙ ap (λ x. x ++ l2) (sym same);
     }
 
@@ -294,8 +409,12 @@ emit_switched-emit_inside-requires t c =
     let v = value_view c.args.node.now in
     let list = map action_view c.args.list.now in
     let from = switch_from (length c.args.code.now + expr_size v) list in
-    let n = switch_place c.args.around.locals (env_of c.args.scope.now) c.args.pos v list c.in_ok-value.value c.in_ok-outcome.outcome c.args.starts.now _ c.args.code.now c.emit_alone.new.code c.emit_unsets.new.code c.emit_cases.new.code c.put.new.code c.in_ok-value.ensures.code c.in_ok-emit_unsets.ensures c.in_ok-emit_cases.ensures c.in_ok-put.ensures c.requires.starts in
-    let plan = begins_at (λ i. plans_of i (actions_of list)) from (length c.put.new.code) c.args.plan.now.left.now c.requires.plan n in
+    let n = switch_place c.args.around.locals (env_of c.args.scope.now) c.args.pos v list c.in_ok-value.value
+    c.in_ok-outcome.outcome c.args.starts.now _ c.args.code.now c.emit_alone.new.code c.emit_unsets.new.code
+    c.emit_cases.new.code c.put.new.code c.in_ok-value.ensures.code c.in_ok-emit_unsets.ensures
+    c.in_ok-emit_cases.ensures c.in_ok-put.ensures c.requires.starts in
+    let plan = begins_at (λ i. plans_of i (actions_of list)) from (length c.put.new.code) c.args.plan.now.left.now
+    c.requires.plan n in
     (omega arith, (plan, c.requires.own ∙ ap (λ i. list_labels i list) (sym n)))
 
 pub emit_switched-returns : goal.emit_switched-returns
@@ -304,10 +423,18 @@ emit_switched-returns t c =
     let list = map action_view c.args.list.now in
     let e4 = rw c.default_or-other.ensures at c.in_ok-put.ensures in
     let from = switch_from (length c.args.code.now + expr_size v) list in
-    let n = switch_place c.args.around.locals (env_of c.args.scope.now) c.args.pos v list c.in_ok-value.value c.in_ok-outcome.outcome c.args.starts.now _ c.args.code.now c.emit_alone.new.code c.emit_unsets.new.code c.emit_cases.new.code c.put.new.code c.in_ok-value.ensures.code c.in_ok-emit_unsets.ensures c.in_ok-emit_cases.ensures c.in_ok-put.ensures c.requires.starts in
+    let n = switch_place c.args.around.locals (env_of c.args.scope.now) c.args.pos v list c.in_ok-value.value
+    c.in_ok-outcome.outcome c.args.starts.now _ c.args.code.now c.emit_alone.new.code c.emit_unsets.new.code
+    c.emit_cases.new.code c.put.new.code c.in_ok-value.ensures.code c.in_ok-emit_unsets.ensures
+    c.in_ok-emit_cases.ensures c.in_ok-put.ensures c.requires.starts in
     record {
-      code = switch_laid c.args.around.locals (env_of c.args.scope.now) c.args.pos nowhere nowhere v list c.in_ok-value.value c.in_ok-outcome.outcome c.args.end c.args.starts.now c.args.code.now c.emit_alone.new.code c.emit_unsets.new.code c.emit_cases.new.code c.put.new.code c.emit_inside.new.code c.in_ok-value.ensures.var c.in_ok-outcome.ensures c.in_ok-value.ensures.code c.in_ok-emit_unsets.ensures c.in_ok-emit_cases.ensures e4 c.in_ok-emit_inside.ensures.code c.requires.starts c.requires.end;
-      plan = c.in_ok-emit_inside.ensures.plan ∙ ap (λ i. plans_of i (actions_of list) ++ c.emit_inside.new.plan.left.now) n;
+      code = switch_laid c.args.around.locals (env_of c.args.scope.now) c.args.pos nowhere nowhere v list
+          c.in_ok-value.value c.in_ok-outcome.outcome c.args.end c.args.starts.now c.args.code.now
+          c.emit_alone.new.code c.emit_unsets.new.code c.emit_cases.new.code c.put.new.code c.emit_inside.new.code
+          c.in_ok-value.ensures.var c.in_ok-outcome.ensures c.in_ok-value.ensures.code c.in_ok-emit_unsets.ensures
+          c.in_ok-emit_cases.ensures e4 c.in_ok-emit_inside.ensures.code c.requires.starts c.requires.end;
+      plan = c.in_ok-emit_inside.ensures.plan ∙ ap (λ i. plans_of i (actions_of list)
+          ++ c.emit_inside.new.plan.left.now) n;
     }
 
 pub emit_switch-planned_all-starts-requires : goal.emit_switch-planned_all-starts-requires
@@ -322,8 +449,10 @@ emit_switch-planned_all-starts-requires t c =
     let l0 = c.args.plan.now.left.now in
     let l1 = c.next_planned-end.new.plan.left.now in
     let same = switch_plan_is nowhere nowhere list place in
-    let whole : Begins (last ∷ (begin ++ (front ++ inner))) l0 = begins_as _ (last ∷ (begin ++ (front ++ inner))) l0 same c.requires.plan in
-    let b1 = one_begins (begin ++ (front ++ inner)) l0 l1 last c.next_planned-end.result whole c.next_planned-end.ensures in
+    let whole : Begins (last ∷ (begin ++ (front ++ inner))) l0 = begins_as _ (last ∷ (begin ++ (front ++ inner))) l0
+    same c.requires.plan in
+    let b1 = one_begins (begin ++ (front ++ inner)) l0 l1 last c.next_planned-end.result whole
+    c.next_planned-end.ensures in
     let long : length begin ≡ length c.args.list.now = starts_long list from ∙ length-map c.args.list.now action_view in
     let h = front_long begin (front ++ inner) l1 b1 in
     omega (arith, h, long)
@@ -340,8 +469,10 @@ emit_switch-plan_labels-requires t c =
     let l0 = c.args.plan.now.left.now in
     let l1 = c.next_planned-end.new.plan.left.now in
     let same = switch_plan_is nowhere nowhere list place in
-    let whole : Begins (last ∷ (begin ++ (front ++ inner))) l0 = begins_as _ (last ∷ (begin ++ (front ++ inner))) l0 same c.requires.plan in
-    let b1 = one_begins (begin ++ (front ++ inner)) l0 l1 last c.next_planned-end.result whole c.next_planned-end.ensures in
+    let whole : Begins (last ∷ (begin ++ (front ++ inner))) l0 = begins_as _ (last ∷ (begin ++ (front ++ inner))) l0
+    same c.requires.plan in
+    let b1 = one_begins (begin ++ (front ++ inner)) l0 l1 last c.next_planned-end.result whole
+    c.next_planned-end.ensures in
     let long : length begin ≡ length c.args.list.now = starts_long list from ∙ length-map c.args.list.now action_view in
     let starts = c.planned_all-starts.result.now in
     let l2 = c.planned_all-starts.new.plan.left.now in
@@ -364,8 +495,10 @@ emit_switch-emit_switched-requires t c =
     let l0 = c.args.plan.now.left.now in
     let l1 = c.next_planned-end.new.plan.left.now in
     let same = switch_plan_is nowhere nowhere list place in
-    let whole : Begins (last ∷ (begin ++ (front ++ inner))) l0 = begins_as _ (last ∷ (begin ++ (front ++ inner))) l0 same c.requires.plan in
-    let b1 = one_begins (begin ++ (front ++ inner)) l0 l1 last c.next_planned-end.result whole c.next_planned-end.ensures in
+    let whole : Begins (last ∷ (begin ++ (front ++ inner))) l0 = begins_as _ (last ∷ (begin ++ (front ++ inner))) l0
+    same c.requires.plan in
+    let b1 = one_begins (begin ++ (front ++ inner)) l0 l1 last c.next_planned-end.result whole
+    c.next_planned-end.ensures in
     let long : length begin ≡ length c.args.list.now = starts_long list from ∙ length-map c.args.list.now action_view in
     let starts = c.planned_all-starts.result.now in
     let l2 = c.planned_all-starts.new.plan.left.now in
@@ -374,10 +507,16 @@ emit_switch-emit_switched-requires t c =
     let b2 = back_known starts begin (front ++ inner) l1 l2 b1 c.planned_all-starts.ensures.left count in
     let own = c.in_ok-own.own.items in
     let l3 = c.plan_labels.new.plan.left.now in
-    let o = one_place (begin ++ (front ++ inner)) l0 l1 last c.next_planned-end.result whole c.next_planned-end.ensures in
+    let o = one_place (begin ++ (front ++ inner)) l0 l1 last c.next_planned-end.result whole
+    c.next_planned-end.ensures in
     let begun = front_known starts begin (front ++ inner) l1 l2 b1 c.planned_all-starts.ensures.left count in
-    let known = labels_known own list from inner l2 l3 b2 c.in_ok-own.ensures.places c.in_ok-own.ensures.names in
-    (omega arith, (labels_left own list from inner l2 l3 b2 c.in_ok-own.ensures.places known, (begun, (c.as_slice-labels.ensures.value ∙ known, o))))
+    let known = labels_known own list from inner l2 l3 b2 c.in_ok-own.ensures.places c.in_ok-own.ensures.names in (
+      omega arith,
+      (
+        labels_left own list from inner l2 l3 b2 c.in_ok-own.ensures.places known,
+        (begun, (c.as_slice-labels.ensures.value ∙ known, o)),
+      ),
+    )
 
 pub emit_switch-returns : goal.emit_switch-returns
 emit_switch-returns t c =
@@ -391,8 +530,10 @@ emit_switch-returns t c =
     let l0 = c.args.plan.now.left.now in
     let l1 = c.next_planned-end.new.plan.left.now in
     let same = switch_plan_is nowhere nowhere list place in
-    let whole : Begins (last ∷ (begin ++ (front ++ inner))) l0 = begins_as _ (last ∷ (begin ++ (front ++ inner))) l0 same c.requires.plan in
-    let b1 = one_begins (begin ++ (front ++ inner)) l0 l1 last c.next_planned-end.result whole c.next_planned-end.ensures in
+    let whole : Begins (last ∷ (begin ++ (front ++ inner))) l0 = begins_as _ (last ∷ (begin ++ (front ++ inner))) l0
+    same c.requires.plan in
+    let b1 = one_begins (begin ++ (front ++ inner)) l0 l1 last c.next_planned-end.result whole
+    c.next_planned-end.ensures in
     let long : length begin ≡ length c.args.list.now = starts_long list from ∙ length-map c.args.list.now action_view in
     let starts = c.planned_all-starts.result.now in
     let l2 = c.planned_all-starts.new.plan.left.now in
@@ -401,16 +542,19 @@ emit_switch-returns t c =
     let b2 = back_known starts begin (front ++ inner) l1 l2 b1 c.planned_all-starts.ensures.left count in
     let own = c.in_ok-own.own.items in
     let l3 = c.plan_labels.new.plan.left.now in
-    let o = one_place (begin ++ (front ++ inner)) l0 l1 last c.next_planned-end.result whole c.next_planned-end.ensures in
+    let o = one_place (begin ++ (front ++ inner)) l0 l1 last c.next_planned-end.result whole
+    c.next_planned-end.ensures in
     let begun = front_known starts begin (front ++ inner) l1 l2 b1 c.planned_all-starts.ensures.left count in
     let known = labels_known own list from inner l2 l3 b2 c.in_ok-own.ensures.places c.in_ok-own.ensures.names in
     let l4 = c.emit_switched.new.plan.left.now in
     let s = c.planned_all-starts.ensures.left ∙ ap (λ x. x ++ l2) begun in
     let u = c.in_ok-own.ensures.places ∙ ap (λ ms. places_of ms ++ l3) known in
-    let behind = both_through begin (front ++ inner) l1 l2 l4 s (both_through front inner l2 l3 l4 u c.in_ok-emit_switched.ensures.plan) in
+    let behind = both_through begin (front ++ inner) l1 l2 l4 s (both_through front inner l2 l3 l4 u
+    c.in_ok-emit_switched.ensures.plan) in
     record {
       code = c.in_ok-emit_switched.ensures.code;
-      plan = one_through (begin ++ (front ++ inner)) l0 l1 l4 last c.next_planned-end.result c.next_planned-end.ensures o behind ∙ ap (λ x. x ++ l4) (sym same);
+      plan = one_through (begin ++ (front ++ inner)) l0 l1 l4 last c.next_planned-end.result
+          c.next_planned-end.ensures o behind ∙ ap (λ x. x ++ l4) (sym same);
     }
 
 pub emit_skipped-emit_stmt-requires : goal.emit_skipped-emit_stmt-requires
@@ -418,32 +562,49 @@ emit_skipped-emit_stmt-requires t c =
     let v = value_view c.args.node.now in
     let a = action_view c.args.body.now in
     let at = length c.args.code.now + expr_size v + 1 in
-    let n = skipped_place c.args.around.locals (env_of c.args.scope.now) c.args.pos v c.next_planned-end.result c.args.code.now c.emit_alone.new.code c.put.new.code c.in_ok-_value.ensures.code c.in_ok-put.ensures in
-    (omega arith, part_begins a at (length c.put.new.code) (at + stmt_size a) c.next_planned-end.result c.args.plan.now.left.now c.next_planned-end.new.plan.left.now c.requires.plan c.next_planned-end.ensures n)
+    let n = skipped_place c.args.around.locals (env_of c.args.scope.now) c.args.pos v c.next_planned-end.result
+    c.args.code.now c.emit_alone.new.code c.put.new.code c.in_ok-_value.ensures.code c.in_ok-put.ensures in (
+      omega arith,
+      part_begins a at (length c.put.new.code) (at + stmt_size a) c.next_planned-end.result
+          c.args.plan.now.left.now c.next_planned-end.new.plan.left.now c.requires.plan c.next_planned-end.ensures n,
+    )
 
 pub emit_skipped-returns : goal.emit_skipped-returns
 emit_skipped-returns t c =
     let v = value_view c.args.node.now in
     let a = action_view c.args.body.now in
     let at = length c.args.code.now + expr_size v + 1 in
-    let o = one_place (plan_of at a) c.args.plan.now.left.now c.next_planned-end.new.plan.left.now (at + stmt_size a) c.next_planned-end.result c.requires.plan c.next_planned-end.ensures in
-    let n = skipped_place c.args.around.locals (env_of c.args.scope.now) c.args.pos v c.next_planned-end.result c.args.code.now c.emit_alone.new.code c.put.new.code c.in_ok-_value.ensures.code c.in_ok-put.ensures in
+    let o = one_place (plan_of at a) c.args.plan.now.left.now c.next_planned-end.new.plan.left.now
+    (at + stmt_size a) c.next_planned-end.result c.requires.plan c.next_planned-end.ensures in
+    let n = skipped_place c.args.around.locals (env_of c.args.scope.now) c.args.pos v c.next_planned-end.result
+    c.args.code.now c.emit_alone.new.code c.put.new.code c.in_ok-_value.ensures.code c.in_ok-put.ensures in
     record {
-      code = skipped_laid c.args.around.locals (env_of c.args.scope.now) c.args.pos v a c.next_planned-end.result c.args.code.now c.emit_alone.new.code c.put.new.code c.emit_stmt.new.code c.in_ok-_value.ensures.code c.in_ok-put.ensures c.in_ok-emit_stmt.ensures.code o;
-      plan = part_through a at (length c.put.new.code) (at + stmt_size a) c.next_planned-end.result c.args.plan.now.left.now c.next_planned-end.new.plan.left.now c.emit_stmt.new.plan.left.now c.requires.plan c.next_planned-end.ensures n c.in_ok-emit_stmt.ensures.plan;
+      code = skipped_laid c.args.around.locals (env_of c.args.scope.now) c.args.pos v a c.next_planned-end.result
+          c.args.code.now c.emit_alone.new.code c.put.new.code c.emit_stmt.new.code c.in_ok-_value.ensures.code
+          c.in_ok-put.ensures c.in_ok-emit_stmt.ensures.code o;
+      plan = part_through a at (length c.put.new.code) (at + stmt_size a) c.next_planned-end.result
+          c.args.plan.now.left.now c.next_planned-end.new.plan.left.now c.emit_stmt.new.plan.left.now c.requires.plan
+          c.next_planned-end.ensures n c.in_ok-emit_stmt.ensures.plan;
     }
 
 pub emit_choice-emit_skipped-requires : goal.emit_choice-emit_skipped-requires
 emit_choice-emit_skipped-requires t c =
-    let h = sym c.is_block.ensures ∙ c.if-is_block.false in
-    (omega arith, begins_as _ _ c.args.plan.now.left.now (skipped_plan_is c.args.pos (value_view c.args.node.now) (action_view c.args.body.now) (length c.args.code.now) h) c.requires.plan)
+    let h = sym c.is_block.ensures ∙ c.if-is_block.false in (
+      omega arith,
+      begins_as _ _ c.args.plan.now.left.now (skipped_plan_is c.args.pos (value_view c.args.node.now)
+          (action_view c.args.body.now) (length c.args.code.now) h) c.requires.plan,
+    )
 
 pub emit_choice-returns-in_ok-emit_skipped : goal.emit_choice-returns-in_ok-emit_skipped
 emit_choice-returns-in_ok-emit_skipped t c =
     let h = sym c.is_block.ensures ∙ c.if-is_block.false in
     record {
-      code = c.in_ok-emit_skipped.ensures.code ∙ ap (λ l. c.args.code.now ++ l) (sym (skipped_is c.args.around.locals (env_of c.args.scope.now) (length c.args.code.now) c.args.pos (value_view c.args.node.now) (action_view c.args.body.now) h));
-      plan = c.in_ok-emit_skipped.ensures.plan ∙ ap (λ x. x ++ c.emit_skipped.new.plan.left.now) (sym (skipped_plan_is c.args.pos (value_view c.args.node.now) (action_view c.args.body.now) (length c.args.code.now) h));
+      code = c.in_ok-emit_skipped.ensures.code ∙ ap (λ l. c.args.code.now ++ l)
+          (sym (skipped_is c.args.around.locals (env_of c.args.scope.now) (length c.args.code.now) c.args.pos
+          (value_view c.args.node.now) (action_view c.args.body.now) h));
+      plan = c.in_ok-emit_skipped.ensures.plan ∙ ap (λ x. x ++ c.emit_skipped.new.plan.left.now)
+          (sym (skipped_plan_is c.args.pos (value_view c.args.node.now) (action_view c.args.body.now)
+          (length c.args.code.now) h));
     }
 
 pub emit_body-emit_switch-requires : goal.emit_body-emit_switch-requires
@@ -453,9 +614,14 @@ emit_body-emit_switch-requires t c =
     let v = value_view c.args.node.now in
     let l0 = c.args.plan.now.left.now in
     let P : Action → Type 0 = λ a. Begins (plan_of pc (switch c.args.pos v a)) l0 in
-    let Q : List Node → Type 0 = λ ys. Begins (plan_of pc (switch c.args.pos v (block nowhere (actions_of (map action_view ys)) nowhere))) l0 in
-    let smaller = block_size body c.in-Block.list c.in-Block.field-1 c.in-Block.is in
-    (omega (arith, smaller, ap (λ ys. most size-Action ys) c.deref.ensures.value), subst Q (sym c.deref.ensures.value) (subst P (block_view body c.in-Block.list c.in-Block.field-1 c.in-Block.is) c.requires.plan))
+    let Q : List Node → Type 0 = λ ys. Begins (plan_of pc (switch c.args.pos v
+    (block nowhere (actions_of (map action_view ys)) nowhere))) l0 in
+    let smaller = block_size body c.in-Block.list c.in-Block.field-1 c.in-Block.is in (
+      omega (arith, smaller, ap (λ ys. most size-Action ys) c.deref.ensures.value),
+      subst Q
+          (sym c.deref.ensures.value) (subst P (block_view body c.in-Block.list c.in-Block.field-1 c.in-Block.is)
+          c.requires.plan),
+    )
 
 pub emit_body-returns-in_ok-emit_switch : goal.emit_body-returns-in_ok-emit_switch
 emit_body-returns-in_ok-emit_switch t c =
@@ -464,6 +630,8 @@ emit_body-returns-in_ok-emit_switch t c =
     let env = env_of c.args.scope.now in
     let v = value_view c.args.node.now in
     let items = c.in-Block.list.items in
-    let P : Action → Type 0 = λ a. EmitsStmt nl env (switch c.args.pos v a) c.args.code.now c.emit_switch.new.code c.args.plan.now.left.now c.emit_switch.new.plan.left.now in
-    let h : P (block body.pos (actions_of (map action_view items)) c.in-Block.field-1) = rw c.deref.ensures.value at c.in_ok-emit_switch.ensures in
+    let P : Action → Type 0 = λ a. EmitsStmt nl env (switch c.args.pos v a) c.args.code.now c.emit_switch.new.code
+    c.args.plan.now.left.now c.emit_switch.new.plan.left.now in
+    let h : P (block body.pos (actions_of (map action_view items)) c.in-Block.field-1) = rw c.deref.ensures.value at
+    c.in_ok-emit_switch.ensures in
     subst P (sym (block_view body c.in-Block.list c.in-Block.field-1 c.in-Block.is)) h

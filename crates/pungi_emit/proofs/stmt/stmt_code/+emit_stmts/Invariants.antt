@@ -52,8 +52,10 @@ decreases-emit_switch l = 4 * goal.size-emit_switch l + 4
 abbrev pub invariant-emit_list-loop-action : goal.invariant-emit_list-loop-action
 invariant-emit_list-loop-action l = record {
   code :
-      l.code ++ stmts_code l.around.locals (env_of l.scope) (length l.code) (actions_of (map action_view (drop l.action-index l.list)))
-      ≡ l.initial.code ++ stmts_code l.around.locals (env_of l.scope) (length l.initial.code) (actions_of (map action_view l.list));
+      l.code ++ stmts_code l.around.locals (env_of l.scope) (length l.code) (actions_of
+      (map action_view (drop l.action-index l.list)))
+      ≡ l.initial.code ++ stmts_code l.around.locals (env_of l.scope) (length l.initial.code)
+      (actions_of (map action_view l.list));
   plan :
       Left (plans_of (length l.code) (actions_of (map action_view (drop l.action-index l.list)))) l.plan.left.now
       (plans_of (length l.initial.code) (actions_of (map action_view l.list))) l.initial.plan.left.now;

@@ -18,5 +18,7 @@ loop-i-preserved c =
     let d = next_one xs i item s c.index-list-i.is in
     let e = at_drop_more (λ l. l) ns i 0 r in
     let left = map action_view (drop (i + 1) xs) in
-    let h = not_default (is_default (action_view item)) (get_or ns i 0) (default_at left (drop (i + 1) ns)) (sym c.is_default.ensures ∙ c.if-is_default.false) in
-    sym h ∙ sym (ap (λ ys. default_at (map action_view ys) (get_or ns i 0 ∷ drop (i + 1) ns)) d) ∙ sym (ap (λ ms. default_at (map action_view (drop i xs)) ms) e) ∙ c.loop-i.invariant
+    let h = not_default (is_default (action_view item)) (get_or ns i 0) (default_at left (drop (i + 1) ns))
+    (sym c.is_default.ensures ∙ c.if-is_default.false) in
+    sym h ∙ sym (ap (λ ys. default_at (map action_view ys) (get_or ns i 0 ∷ drop (i + 1) ns)) d)
+    ∙ sym (ap (λ ms. default_at (map action_view (drop i xs)) ms) e) ∙ c.loop-i.invariant

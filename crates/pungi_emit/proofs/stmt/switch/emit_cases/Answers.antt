@@ -24,7 +24,9 @@ loop-i-preserved c =
     let x = c.args.value in
     let y = c.args.outcome in
     let so_far = c.loop-i.code in
-    let step = more_cases p x y (placed_cases n (cases_of (action_view item))) (cases_at (map action_view (drop (i + 1) xs)) (drop (i + 1) ns)) so_far c.emit_own_cases.new.code c.in_ok-emit_own_cases.ensures in
+    let step = more_cases p x y (placed_cases n (cases_of (action_view item)))
+    (cases_at (map action_view (drop (i + 1) xs)) (drop (i + 1) ns)) so_far c.emit_own_cases.new.code
+    c.in_ok-emit_own_cases.ensures in
     sym step
     ∙ sym (ap (λ ys. so_far ++ case_code p x y (length so_far) (cases_at (map action_view ys) (n ∷ drop (i + 1) ns))) d)
     ∙ sym (ap (λ ms. so_far ++ case_code p x y (length so_far) (cases_at (map action_view (drop i xs)) ms)) e)

@@ -6,5 +6,7 @@ use Rattle.pungi_emit.proofs.stmt.switch.emit_cases.Given as goal
 
 abbrev pub invariant-loop-i : goal.invariant-loop-i
 invariant-loop-i l =
-    l.code ++ case_code l.pos l.value l.outcome (length l.code) (cases_at (map action_view (drop l.i l.list)) (drop l.i l.starts))
-    ≡ l.initial.code ++ case_code l.pos l.value l.outcome (length l.initial.code) (cases_at (map action_view l.list) l.starts)
+    l.code ++ case_code l.pos l.value l.outcome (length l.code) (cases_at (map action_view (drop l.i l.list))
+    (drop l.i l.starts))
+    ≡ l.initial.code ++ case_code l.pos l.value l.outcome (length l.initial.code)
+    (cases_at (map action_view l.list) l.starts)

@@ -11,5 +11,6 @@ pub returns-in-None : goal.returns-in-None
 returns-in-None c =
     let file = unit_view c.args.self.now.unit.now in
     let b = base_view c.args.base.now in
-    ap (λ (k : Core). known (core_alone k)) (c.written_core.ensures ∙ ap (λ (f : Bool). written_core f b) c.is_fielded.ensures)
+    ap (λ (k : Core). known (core_alone k)) (c.written_core.ensures
+    ∙ ap (λ (f : Bool). written_core f b) c.is_fielded.ensures)
     ∙ sym (ap known (written-itself file (length (typedefs file)) b (sym c.alias_of.ensures ∙ c.in-None.is)))

@@ -10,4 +10,5 @@ pub returns : goal.returns
 returns c =
     let n = c.args.self.now in
     let env = file_env (file_of n.names.now) n.refused.now.keys n.own.0 in
-    c.is_unknown.ensures ∙ ap (is_unknown_seen n.own.0 n.refused.now.keys) c.called.ensures ∙ unknown-seen env (callee_of env c.args.word.0)
+    c.is_unknown.ensures ∙ ap (is_unknown_seen n.own.0 n.refused.now.keys) c.called.ensures
+    ∙ unknown-seen env (callee_of env c.args.word.0)

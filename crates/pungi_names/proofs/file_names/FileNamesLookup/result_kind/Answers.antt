@@ -10,4 +10,5 @@ pub returns : goal.returns
 returns c =
     let n = c.args.self.now in
     let env = file_env (file_of n.names.now) n.refused.now.keys n.own.0 in
-    c.result_kind.ensures ∙ ap (result_seen n.own.0 n.refused.now.keys) c.called.ensures ∙ result-seen env (callee_of env c.args.word.0)
+    c.result_kind.ensures ∙ ap (result_seen n.own.0 n.refused.now.keys) c.called.ensures
+    ∙ result-seen env (callee_of env c.args.word.0)

@@ -11,5 +11,6 @@ pub returns : goal.returns
 returns c =
     let file = unit_view c.args.self.now.cores.unit.now in
     let s = c.args.spec.now in
-    c.starred_kind.ensures ∙ kind-seen file c.args.stars (followed_view c.core_of-followed.result) (core_of file (base_view s.base)) c.core_of-followed.ensures
+    c.starred_kind.ensures ∙ kind-seen file c.args.stars (followed_view c.core_of-followed.result)
+    (core_of file (base_view s.base)) c.core_of-followed.ensures
     ∙ ap (λ b. type_kind file b c.args.stars) (sym (spec_base-view s))

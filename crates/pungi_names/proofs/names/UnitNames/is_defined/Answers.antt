@@ -10,4 +10,5 @@ pub returns : goal.returns
 returns c =
     let n = c.args.self.now in
     c.contains_key.ensures
-    ∙ none-seen signature_view (function_signature (file_of n).items) (get nat_eq n.signatures c.args.word.0) (definition_in (definitions (file_of n).items) c.args.word.0) (n.signatures_found c.args.word.0)
+    ∙ none-seen signature_view (function_signature (file_of n).items) (get nat_eq n.signatures c.args.word.0)
+    (definition_in (definitions (file_of n).items) c.args.word.0) (n.signatures_found c.args.word.0)

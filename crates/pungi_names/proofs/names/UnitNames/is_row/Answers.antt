@@ -9,4 +9,5 @@ use Rattle.pungi_names.proofs.names.UnitNames.is_row.Goals as goal
 pub returns : goal.returns
 returns c =
     let n = c.args.self.now in
-    c.contains_key.ensures ∙ none-seen call_view row_seen (get nat_eq n.calls c.args.word.0) (row_in (file_of n).rows c.args.word.0) (n.calls_found c.args.word.0)
+    c.contains_key.ensures ∙ none-seen call_view row_seen (get nat_eq n.calls c.args.word.0)
+    (row_in (file_of n).rows c.args.word.0) (n.calls_found c.args.word.0)

@@ -9,9 +9,13 @@ use Rattle.pungi_parse.proofs.types.DeclrLoop.{declrs_begin, declrs_turn, declrs
 use Rattle.pungi_parse.proofs.types.FieldLoop.{fields_begin, fields_turn, fields_fail, fields_end, fields_deepest}
 use Rattle.pungi_parse.proofs.types.FunctionRest.{function_none, function_fails, function_ends}
 use Rattle.pungi_parse.proofs.ListLoop.{placed_shorter}
-use Rattle.pungi_parse.proofs.types.ParamLoop.{params_begin, params_turn, params_fail, params_dots, params_end, params_deepest}
-use Rattle.pungi_parse.proofs.expr.PostfixLoop.{postfix_begins, postfix_ends, postfix_deep, postfix_fails, postfix_turns}
-use Rattle.pungi_parse.proofs.expr.ReadAt.{expr_none, expr_flat, expr_some, spec_none, spec_some, params_none, params_some, read_at_comma, read_at_assign, read_at_conditional, read_at_climb, read_at_unary}
+use Rattle.pungi_parse.proofs.types.ParamLoop.{params_begin, params_turn, params_fail, params_dots, params_end}
+use Rattle.pungi_parse.proofs.types.ParamLoop.{params_deepest}
+use Rattle.pungi_parse.proofs.expr.PostfixLoop.{postfix_begins, postfix_ends, postfix_deep, postfix_fails}
+use Rattle.pungi_parse.proofs.expr.PostfixLoop.{postfix_turns}
+use Rattle.pungi_parse.proofs.expr.ReadAt.{expr_none, expr_flat, expr_some, spec_none, spec_some, params_none}
+use Rattle.pungi_parse.proofs.expr.ReadAt.{params_some, read_at_comma, read_at_assign, read_at_conditional}
+use Rattle.pungi_parse.proofs.expr.ReadAt.{read_at_climb, read_at_unary}
 use Rattle.pungi_parse.proofs.types.SizeLoop.{sizes_begin, sizes_turn, sizes_fail, sizes_end, sizes_deepest}
 use Rattle.pungi_parse.proofs.Tools.{IfOk-both}
 use Rattle.pungi_parse.specs.tokens.OneToken.{eat, eat_operator}
@@ -42,7 +46,8 @@ expr-returns-then-self-eq0-2 t c =
 pub expr-returns : goal.expr-returns
 expr-returns t c =
     record {
-      tree = rw (expr_some c.args.self.now.types.now c.args.self.now.nest c.args.self.now.most c.args.level _ (omega arith) (omega arith)) c.read_at.ensures.tree;
+      tree = rw (expr_some c.args.self.now.types.now c.args.self.now.nest c.args.self.now.most c.args.level _
+          (omega arith) (omega arith)) c.read_at.ensures.tree;
       deep = c.read_at.ensures.deep;
       bound = IfOk-weaker c.read_at.result _ _ (λ x h. omega (arith, h)) c.read_at.ensures.bound;
       shorter = c.read_at.ensures.shorter;
@@ -60,7 +65,8 @@ spec-returns-then-self-eq0 t c =
 pub spec-returns : goal.spec-returns
 spec-returns t c =
     record {
-      tree = rw (spec_some c.args.self.now.types.now c.args.self.now.nest c.args.self.now.most _ (omega arith)) c.spec_at.ensures.tree;
+      tree = rw (spec_some c.args.self.now.types.now c.args.self.now.nest c.args.self.now.most _ (omega arith))
+          c.spec_at.ensures.tree;
       deep = c.spec_at.ensures.deep;
       bound = c.spec_at.ensures.bound;
       shorter = c.spec_at.ensures.shorter;
@@ -78,7 +84,8 @@ params-returns-then-self-eq0 t c =
 pub params-returns : goal.params-returns
 params-returns t c =
     record {
-      tree = rw (params_some c.args.self.now.types.now c.args.self.now.nest c.args.self.now.most _ (omega arith)) c.params_at.ensures.tree;
+      tree = rw (params_some c.args.self.now.types.now c.args.self.now.nest c.args.self.now.most _ (omega arith))
+          c.params_at.ensures.tree;
       deep = c.params_at.ensures.deep;
       bound = c.params_at.ensures.bound;
       shorter = c.params_at.ensures.shorter;
@@ -130,12 +137,18 @@ read_at-returns-else-level-lt14 t c =
     }
 
 pub comma-loop-pos-init : goal.comma-loop-pos-init
-comma-loop-pos-init t c = record { commas = comma_begins _ _ _ _ _ _ _ c.in_ok-left.ensures.tree c.in_ok-left.ensures.deep c.in_ok-left.ensures.bound; shorter = c.in_ok-left.ensures.shorter }
+comma-loop-pos-init t c =
+    record {
+      commas = comma_begins _ _ _ _ _ _ _ c.in_ok-left.ensures.tree c.in_ok-left.ensures.deep
+          c.in_ok-left.ensures.bound;
+      shorter = c.in_ok-left.ensures.shorter;
+    }
 
 pub comma-returns-then-left_depth-self : goal.comma-returns-then-left_depth-self
 comma-returns-then-left_depth-self t c =
     record {
-      tree = comma_deep _ _ _ _ _ _ _ _ c.loop-pos.invariant.commas (sym c.in-Some.ensures.token) c.if-left_depth-self.true;
+      tree = comma_deep _ _ _ _ _ _ _ _ c.loop-pos.invariant.commas (sym c.in-Some.ensures.token)
+          c.if-left_depth-self.true;
       deep = tt;
       bound = tt;
       shorter = tt;
@@ -145,7 +158,9 @@ pub comma-returns-in_err-right : goal.comma-returns-in_err-right
 comma-returns-in_err-right t c =
     let p = err_from_is_err_and c.from_residual-in_err-right.result c.from_residual-in_err-right.ensures.1 in
     record {
-      tree = rw (p.1, p.2) (comma_fails _ _ _ _ c.in_err-right.field-0.0 _ _ _ (c.in-Some.pos, placed c.in-Some.after.now) c.loop-pos.invariant.commas (sym c.in-Some.ensures.token) (omega arith) c.in_err-right.ensures.tree);
+      tree = rw (p.1, p.2) (comma_fails _ _ _ _ c.in_err-right.field-0.0 _ _ _
+          (c.in-Some.pos, placed c.in-Some.after.now) c.loop-pos.invariant.commas (sym c.in-Some.ensures.token)
+          (omega arith) c.in_err-right.ensures.tree);
       deep = rw p.1 tt;
       bound = rw p.1 tt;
       shorter = rw p.1 tt;
@@ -154,7 +169,9 @@ comma-returns-in_err-right t c =
 pub comma-loop-pos-preserved : goal.comma-loop-pos-preserved
 comma-loop-pos-preserved t c = record {
   commas = rw (c.in_ok-left-2.ensures, c.max-left_depth.ensures)
-      (comma_turns _ _ _ _ _ _ _ _ _ _ (c.in-Some.pos, placed c.in-Some.after.now) c.loop-pos.invariant.commas (sym c.in-Some.ensures.token) (omega arith) c.in_ok-right.ensures.tree c.in_ok-right.ensures.deep (omega (arith, c.in_ok-right.ensures.bound)));
+      (comma_turns _ _ _ _ _ _ _ _ _ _ (c.in-Some.pos, placed c.in-Some.after.now) c.loop-pos.invariant.commas
+      (sym c.in-Some.ensures.token) (omega arith) c.in_ok-right.ensures.tree c.in_ok-right.ensures.deep
+      (omega (arith, c.in_ok-right.ensures.bound)));
   shorter = omega (arith, c.in_ok-right.ensures.shorter, c.in-Some.ensures.shorter);
 }
 
@@ -169,12 +186,18 @@ comma-returns t c =
     }
 
 pub climb-loop-operator-init : goal.climb-loop-operator-init
-climb-loop-operator-init t c = record { climbs = climb_begins _ _ _ _ _ _ _ _ c.in_ok-left.ensures.tree c.in_ok-left.ensures.deep c.in_ok-left.ensures.bound; shorter = c.in_ok-left.ensures.shorter }
+climb-loop-operator-init t c =
+    record {
+      climbs = climb_begins _ _ _ _ _ _ _ _ c.in_ok-left.ensures.tree c.in_ok-left.ensures.deep
+          c.in_ok-left.ensures.bound;
+      shorter = c.in_ok-left.ensures.shorter;
+    }
 
 pub climb-returns-then-left_depth-self : goal.climb-returns-then-left_depth-self
 climb-returns-then-left_depth-self t c =
     record {
-      tree = climb_deep _ _ _ _ _ _ _ _ _ c.loop-operator.invariant.climbs (sym c.in-Some.ensures.token) c.if-left_depth-self.true;
+      tree = climb_deep _ _ _ _ _ _ _ _ _ c.loop-operator.invariant.climbs (sym c.in-Some.ensures.token)
+          c.if-left_depth-self.true;
       deep = tt;
       bound = tt;
       shorter = tt;
@@ -184,7 +207,9 @@ pub climb-returns-in_err-right : goal.climb-returns-in_err-right
 climb-returns-in_err-right t c =
     let p = err_from_is_err_and c.from_residual-in_err-right.result c.from_residual-in_err-right.ensures.1 in
     record {
-      tree = rw (p.1, p.2) (climb_fails _ _ _ _ _ c.in_err-right.field-0.0 _ _ _ (c.in-Some.operator, c.in-Some.pos, placed c.in-Some.after.now) c.loop-operator.invariant.climbs (sym c.in-Some.ensures.token) (omega arith) (rw c.binary_level.ensures at c.in_err-right.ensures.tree));
+      tree = rw (p.1, p.2) (climb_fails _ _ _ _ _ c.in_err-right.field-0.0 _ _ _
+          (c.in-Some.operator, c.in-Some.pos, placed c.in-Some.after.now) c.loop-operator.invariant.climbs
+          (sym c.in-Some.ensures.token) (omega arith) (rw c.binary_level.ensures at c.in_err-right.ensures.tree));
       deep = rw p.1 tt;
       bound = rw p.1 tt;
       shorter = rw p.1 tt;
@@ -193,7 +218,10 @@ climb-returns-in_err-right t c =
 pub climb-loop-operator-preserved : goal.climb-loop-operator-preserved
 climb-loop-operator-preserved t c = record {
   climbs = rw (c.in_ok-left-2.ensures, c.max-left_depth.ensures)
-      (climb_turns _ _ _ _ _ _ _ _ _ _ _ (c.in-Some.operator, c.in-Some.pos, placed c.in-Some.after.now) c.loop-operator.invariant.climbs (sym c.in-Some.ensures.token) (omega arith) (rw c.binary_level.ensures at c.in_ok-right.ensures.tree) c.in_ok-right.ensures.deep (omega (arith, c.in_ok-right.ensures.bound)));
+      (climb_turns _ _ _ _ _ _ _ _ _ _ _ (c.in-Some.operator, c.in-Some.pos, placed c.in-Some.after.now)
+      c.loop-operator.invariant.climbs (sym c.in-Some.ensures.token) (omega arith)
+      (rw c.binary_level.ensures at c.in_ok-right.ensures.tree) c.in_ok-right.ensures.deep
+      (omega (arith, c.in_ok-right.ensures.bound)));
   shorter = omega (arith, c.in_ok-right.ensures.shorter, c.in-Some.ensures.shorter);
 }
 
@@ -209,7 +237,8 @@ climb-returns t c =
 
 pub postfix-each-init : goal.postfix-each-init
 postfix-each-init t c = record {
-  comes = postfix_begins _ _ _ _ _ _ _ _ (sym c.in-Some.ensures) c.in_ok-tree.ensures.tree c.in_ok-tree.ensures.deep c.in_ok-tree.ensures.bound;
+  comes = postfix_begins _ _ _ _ _ _ _ _ (sym c.in-Some.ensures) c.in_ok-tree.ensures.tree c.in_ok-tree.ensures.deep
+      c.in_ok-tree.ensures.bound;
   shorter = c.in_ok-tree.ensures.shorter;
 }
 
@@ -238,7 +267,8 @@ postfix-returns-in_err-longer t c =
     let goes : goes_on (placed c.each.rest.now) ≡ true = search rules in
     let p = err_from_is_err_and c.from_residual-in_err-longer.result c.from_residual-in_err-longer.ensures.1 in
     record {
-      tree = rw (p.1, p.2) (postfix_fails _ _ _ _ _ c.in_err-longer.field-0.0 _ _ _ c.each.invariant.comes goes (omega arith) c.in_err-longer.ensures.reads.tree);
+      tree = rw (p.1, p.2) (postfix_fails _ _ _ _ _ c.in_err-longer.field-0.0 _ _ _ c.each.invariant.comes goes
+          (omega arith) c.in_err-longer.ensures.reads.tree);
       deep = rw p.1 tt;
       bound = rw p.1 tt;
       shorter = rw p.1 tt;
@@ -248,7 +278,9 @@ pub postfix-each-preserved : goal.postfix-each-preserved
 postfix-each-preserved t c =
     let goes : goes_on (placed c.each.rest.now) ≡ true = search rules in
     record {
-      comes = postfix_turns _ _ _ _ _ _ _ _ _ _ _ c.each.invariant.comes goes (omega arith) c.in_ok-longer.ensures.reads.tree c.in_ok-longer.ensures.reads.deep c.in_ok-longer.ensures.deeper c.in_ok-longer.ensures.reads.bound;
+      comes = postfix_turns _ _ _ _ _ _ _ _ _ _ _ c.each.invariant.comes goes (omega arith)
+          c.in_ok-longer.ensures.reads.tree c.in_ok-longer.ensures.reads.deep c.in_ok-longer.ensures.deeper
+          c.in_ok-longer.ensures.reads.bound;
       shorter = omega (arith, c.in_ok-longer.ensures.reads.shorter, c.each.invariant.shorter);
     }
 
@@ -256,7 +288,8 @@ pub args-loop-inner-init : goal.args-loop-inner-init
 args-loop-inner-init t c =
     let none : eat puncts.RightParen (placed c.args.tokens.now) ≡ None = search rules in
     record {
-      reads = rw (c.in_ok-push.ensures, c.new-list.ensures.items) (args_begin _ _ _ _ _ none c.in_ok-first.ensures.tree);
+      reads = rw (c.in_ok-push.ensures, c.new-list.ensures.items) (args_begin _ _ _ _ _ none
+          c.in_ok-first.ensures.tree);
       deep = rw (c.in_ok-push.ensures, c.new-list.ensures.items) (omega (arith, c.in_ok-first.ensures.deep));
       bound = c.in_ok-first.ensures.bound;
       shorter = c.in_ok-first.ensures.shorter;
@@ -268,7 +301,12 @@ args-loop-inner-preserved t c = record {
       (args_turn _ _ _ _ _ _ _ _ c.loop-inner.invariant.reads (sym c.in-Some-eat.ensures.token) c.in_ok-arg.ensures.tree
       (placed_shorter _ _ (omega (arith, c.in_ok-arg.ensures.shorter, c.in-Some-eat.ensures.shorter))));
   deep = rw (c.in_ok-push-2.ensures, map_push expr_view c.loop-inner.list.items c.in_ok-arg.arg.value)
-      (omega (arith, args_depth (map expr_view c.loop-inner.list.items) (expr_view c.in_ok-arg.arg.value), c.loop-inner.invariant.deep, c.in_ok-arg.ensures.deep));
+      (omega (
+        arith,
+        args_depth (map expr_view c.loop-inner.list.items) (expr_view c.in_ok-arg.arg.value),
+        c.loop-inner.invariant.deep,
+        c.in_ok-arg.ensures.deep,
+      ));
   bound = omega (arith, c.in_ok-arg.ensures.bound, c.loop-inner.invariant.bound);
   shorter = omega (arith, c.in_ok-arg.ensures.shorter, c.in-Some-eat.ensures.shorter, c.loop-inner.invariant.shorter);
 }
@@ -277,7 +315,8 @@ pub args-returns-in_err-arg : goal.args-returns-in_err-arg
 args-returns-in_err-arg t c =
     let p = err_from_is_err_and c.from_residual-in_err-arg.result c.from_residual-in_err-arg.ensures.1 in
     record {
-      tree = rw (p.1, p.2) (args_fail _ _ _ c.in_err-arg.field-0.0 _ _ _ c.loop-inner.invariant.reads (sym c.in-Some-eat.ensures.token) c.in_err-arg.ensures.tree);
+      tree = rw (p.1, p.2) (args_fail _ _ _ c.in_err-arg.field-0.0 _ _ _ c.loop-inner.invariant.reads
+          (sym c.in-Some-eat.ensures.token) c.in_err-arg.ensures.tree);
       deep = rw p.1 tt;
       bound = rw p.1 tt;
       shorter = rw p.1 tt;
@@ -317,9 +356,15 @@ fields-each-preserved t c =
     let none : eat puncts.RightBrace (placed c.each.rest.now) ≡ None = search rules in
     record {
       reads = rw (c.in_ok-push.ensures.items, map_push field_view c.each.list.items c.in_ok-field.field)
-          (fields_turn _ _ _ _ _ _ _ c.each.invariant.reads none c.in_ok-field.ensures.tree (placed_shorter _ _ c.in_ok-field.ensures.shorter));
+          (fields_turn _ _ _ _ _ _ _ c.each.invariant.reads none c.in_ok-field.ensures.tree
+          (placed_shorter _ _ c.in_ok-field.ensures.shorter));
       deep = rw (c.in_ok-push.ensures.items, map_push field_view c.each.list.items c.in_ok-field.field)
-          (omega (arith, fields_deepest (map field_view c.each.list.items) (field_view c.in_ok-field.field), c.each.invariant.deep, c.in_ok-field.ensures.deep));
+          (omega (
+            arith,
+            fields_deepest (map field_view c.each.list.items) (field_view c.in_ok-field.field),
+            c.each.invariant.deep,
+            c.in_ok-field.ensures.deep,
+          ));
       bound = omega (arith, c.in_ok-field.ensures.bound, c.each.invariant.bound);
       shorter = omega (arith, c.in_ok-field.ensures.shorter, c.each.invariant.shorter);
     }
@@ -329,7 +374,8 @@ fields-returns-in_err-field t c =
     let none : eat puncts.RightBrace (placed c.each.rest.now) ≡ None = search rules in
     let p = err_from_is_err_and c.from_residual.result c.from_residual.ensures.1 in
     record {
-      tree = rw (p.1, p.2) (fields_fail _ _ _ c.in_err-field.field-0.0 _ _ c.each.invariant.reads none c.in_err-field.ensures.tree);
+      tree = rw (p.1, p.2) (fields_fail _ _ _ c.in_err-field.field-0.0 _ _ c.each.invariant.reads none
+          c.in_err-field.ensures.tree);
       deep = rw p.1 tt;
       bound = rw p.1 tt;
       shorter = rw p.1 tt;
@@ -358,7 +404,12 @@ declrs-loop-inner-preserved t c = record {
       (declrs_turn _ _ _ _ _ _ _ _ c.loop-inner.invariant.reads (sym c.in-Some.ensures.token) c.in_ok-declr.ensures.tree
       (placed_shorter _ _ (omega (arith, c.in_ok-declr.ensures.shorter, c.in-Some.ensures.shorter))));
   deep = rw (c.in_ok-push-2.ensures.items, map_push declr_view c.loop-inner.list.items c.in_ok-declr.declr)
-      (omega (arith, declrs_deepest (map declr_view c.loop-inner.list.items) (declr_view c.in_ok-declr.declr), c.loop-inner.invariant.deep, c.in_ok-declr.ensures.deep));
+      (omega (
+        arith,
+        declrs_deepest (map declr_view c.loop-inner.list.items) (declr_view c.in_ok-declr.declr),
+        c.loop-inner.invariant.deep,
+        c.in_ok-declr.ensures.deep,
+      ));
   bound = omega (arith, c.in_ok-declr.ensures.bound, c.loop-inner.invariant.bound);
   shorter = omega (arith, c.in_ok-declr.ensures.shorter, c.in-Some.ensures.shorter, c.loop-inner.invariant.shorter);
 }
@@ -367,7 +418,8 @@ pub declrs-returns-in_err-declr : goal.declrs-returns-in_err-declr
 declrs-returns-in_err-declr t c =
     let p = err_from_is_err_and c.from_residual-in_err-declr.result c.from_residual-in_err-declr.ensures.1 in
     record {
-      tree = rw (p.1, p.2) (declrs_fail _ _ _ c.in_err-declr.field-0.0 _ _ _ c.loop-inner.invariant.reads (sym c.in-Some.ensures.token) c.in_err-declr.ensures.tree);
+      tree = rw (p.1, p.2) (declrs_fail _ _ _ c.in_err-declr.field-0.0 _ _ _ c.loop-inner.invariant.reads
+          (sym c.in-Some.ensures.token) c.in_err-declr.ensures.tree);
       deep = rw p.1 tt;
       bound = rw p.1 tt;
       shorter = rw p.1 tt;
@@ -397,7 +449,8 @@ pub function_rest-returns-in_err-params : goal.function_rest-returns-in_err-para
 function_rest-returns-in_err-params t c =
     let p = err_from_is_err_and c.from_residual.result c.from_residual.ensures.1 in
     record {
-      tree = rw (p.1, p.2) (function_fails _ _ c.in_err-params.field-0.0 _ _ _ (sym c.in-Some.ensures.token) c.in_err-params.ensures.tree);
+      tree = rw (p.1, p.2) (function_fails _ _ c.in_err-params.field-0.0 _ _ _ (sym c.in-Some.ensures.token)
+          c.in_err-params.ensures.tree);
       deep = rw p.1 tt;
       bound = rw p.1 tt;
       shorter = rw p.1 tt;
@@ -406,7 +459,8 @@ function_rest-returns-in_err-params t c =
 pub function_rest-returns : goal.function_rest-returns
 function_rest-returns t c =
     record {
-      tree = rw c.function.ensures (function_ends _ _ _ _ _ _ _ (sym c.in-Some.ensures.token) c.in_ok-params.ensures.tree);
+      tree = rw c.function.ensures (function_ends _ _ _ _ _ _ _ (sym c.in-Some.ensures.token)
+          c.in_ok-params.ensures.tree);
       deep = rw c.function.ensures (omega (arith, c.in_ok-params.ensures.deep));
       bound = c.in_ok-params.ensures.bound;
       shorter = omega (arith, c.in_ok-params.ensures.shorter, c.in-Some.ensures.shorter);
@@ -426,7 +480,12 @@ sizes-loop-inner-preserved t c = record {
       (sizes_turn _ _ _ _ _ _ _ _ c.loop-inner.invariant.reads (sym c.in-Some.ensures.token) c.in_ok-size.ensures.tree
       (placed_shorter _ _ (omega (arith, c.in_ok-size.ensures.shorter, c.in-Some.ensures.shorter))));
   deep = rw (c.in_ok-push.ensures.items, map_push optional_view c.loop-inner.list.items c.in_ok-size.size)
-      (omega (arith, sizes_deepest (map optional_view c.loop-inner.list.items) (optional_view c.in_ok-size.size), c.loop-inner.invariant.deep, c.in_ok-size.ensures.deep));
+      (omega (
+        arith,
+        sizes_deepest (map optional_view c.loop-inner.list.items) (optional_view c.in_ok-size.size),
+        c.loop-inner.invariant.deep,
+        c.in_ok-size.ensures.deep,
+      ));
   bound = omega (arith, c.in_ok-size.ensures.bound, c.loop-inner.invariant.bound);
   shorter = omega (arith, c.in_ok-size.ensures.shorter, c.in-Some.ensures.shorter, c.loop-inner.invariant.shorter);
 }
@@ -435,7 +494,8 @@ pub sizes-returns-in_err-size : goal.sizes-returns-in_err-size
 sizes-returns-in_err-size t c =
     let p = err_from_is_err_and c.from_residual.result c.from_residual.ensures.1 in
     record {
-      tree = rw (p.1, p.2) (sizes_fail _ _ _ c.in_err-size.field-0.0 _ _ _ c.loop-inner.invariant.reads (sym c.in-Some.ensures.token) c.in_err-size.ensures.tree);
+      tree = rw (p.1, p.2) (sizes_fail _ _ _ c.in_err-size.field-0.0 _ _ _ c.loop-inner.invariant.reads
+          (sym c.in-Some.ensures.token) c.in_err-size.ensures.tree);
       deep = rw p.1 tt;
       bound = rw p.1 tt;
       shorter = rw p.1 tt;
@@ -464,10 +524,17 @@ some_params-each-preserved t c =
     let none : dots_front (placed c.each.rest.now) ≡ None = search rules in
     record {
       reads = rw (c.in_ok-push-2.ensures.items, map_push param_decl_view c.each.list.items c.in_ok-param.param)
-          (params_turn _ _ _ _ _ _ _ _ c.each.invariant.reads none (sym c.in-Some-eat.ensures.token) c.in_ok-param.ensures.tree
+          (params_turn _ _ _ _ _ _ _ _ c.each.invariant.reads none (sym c.in-Some-eat.ensures.token)
+          c.in_ok-param.ensures.tree
           (placed_shorter _ _ (omega (arith, c.in_ok-param.ensures.shorter, c.in-Some-eat.ensures.shorter))));
       deep = rw (c.in_ok-push-2.ensures.items, map_push param_decl_view c.each.list.items c.in_ok-param.param)
-          (omega (arith, params_deepest (map param_decl_view c.each.list.items) (param_decl_view c.in_ok-param.param), c.each.invariant.deep, c.in_ok-param.ensures.deep));
+          (omega (
+            arith,
+            params_deepest (map param_decl_view c.each.list.items) (param_decl_view
+                c.in_ok-param.param),
+            c.each.invariant.deep,
+            c.in_ok-param.ensures.deep,
+          ));
       bound = omega (arith, c.in_ok-param.ensures.bound, c.each.invariant.bound);
       shorter = omega (arith, c.in_ok-param.ensures.shorter, c.in-Some-eat.ensures.shorter, c.each.invariant.shorter);
     }
@@ -477,7 +544,8 @@ some_params-returns-in_err-param t c =
     let none : dots_front (placed c.each.rest.now) ≡ None = search rules in
     let p = err_from_is_err_and c.from_residual-in_err-param.result c.from_residual-in_err-param.ensures.1 in
     record {
-      tree = rw (p.1, p.2) (params_fail _ _ _ c.in_err-param.field-0.0 _ _ _ c.each.invariant.reads none (sym c.in-Some-eat.ensures.token) c.in_err-param.ensures.tree);
+      tree = rw (p.1, p.2) (params_fail _ _ _ c.in_err-param.field-0.0 _ _ _ c.each.invariant.reads none
+          (sym c.in-Some-eat.ensures.token) c.in_err-param.ensures.tree);
       deep = rw p.1 tt;
       bound = rw p.1 tt;
       shorter = rw p.1 tt;
@@ -486,10 +554,18 @@ some_params-returns-in_err-param t c =
 pub some_params-returns-in-Some : goal.some_params-returns-in-Some
 some_params-returns-in-Some t c =
     record {
-      tree = rw (params_dots _ _ _ _ _ _ c.each.invariant.reads (sym c.in-Some.ensures.token)) c.close_params.ensures.reads.tree;
-      deep = IfOk-both c.close_params.result _ _ _ (λ x d s. rw s (d ∙ c.each.invariant.deep)) c.close_params.ensures.reads.deep c.close_params.ensures.same;
-      bound = IfOk-weaker c.close_params.result _ _ (λ x h. omega (arith, h, c.each.invariant.bound)) c.close_params.ensures.reads.bound;
-      shorter = IfOk-weaker c.close_params.result _ _ (λ x h. omega (arith, h, c.in-Some.ensures.shorter, c.each.invariant.shorter)) c.close_params.ensures.reads.shorter;
+      tree = rw (params_dots _ _ _ _ _ _ c.each.invariant.reads (sym c.in-Some.ensures.token))
+          c.close_params.ensures.reads.tree;
+      deep = IfOk-both c.close_params.result _ _ _ (λ x d s. rw s (d ∙ c.each.invariant.deep))
+          c.close_params.ensures.reads.deep c.close_params.ensures.same;
+      bound = IfOk-weaker c.close_params.result _ _ (λ x h. omega (arith, h, c.each.invariant.bound))
+          c.close_params.ensures.reads.bound;
+      shorter = IfOk-weaker c.close_params.result _ _ (λ x h. omega (
+        arith,
+        h,
+        c.in-Some.ensures.shorter,
+        c.each.invariant.shorter,
+      )) c.close_params.ensures.reads.shorter;
     }
 
 pub some_params-returns-in_default-eat : goal.some_params-returns-in_default-eat
@@ -497,8 +573,12 @@ some_params-returns-in_default-eat t c =
     let none : dots_front (placed c.each.rest.now) ≡ None = search rules in
     let no_comma : eat puncts.Comma (placed c.each.rest.now) ≡ None = search rules in
     record {
-      tree = rw (params_end _ _ _ _ _ c.each.invariant.reads none no_comma) c.close_params-in_default-eat.ensures.reads.tree;
-      deep = IfOk-both c.close_params-in_default-eat.result _ _ _ (λ x d s. rw s (d ∙ c.each.invariant.deep)) c.close_params-in_default-eat.ensures.reads.deep c.close_params-in_default-eat.ensures.same;
-      bound = IfOk-weaker c.close_params-in_default-eat.result _ _ (λ x h. omega (arith, h, c.each.invariant.bound)) c.close_params-in_default-eat.ensures.reads.bound;
-      shorter = IfOk-weaker c.close_params-in_default-eat.result _ _ (λ x h. omega (arith, h, c.each.invariant.shorter)) c.close_params-in_default-eat.ensures.reads.shorter;
+      tree = rw (params_end _ _ _ _ _ c.each.invariant.reads none no_comma)
+          c.close_params-in_default-eat.ensures.reads.tree;
+      deep = IfOk-both c.close_params-in_default-eat.result _ _ _ (λ x d s. rw s (d ∙ c.each.invariant.deep))
+          c.close_params-in_default-eat.ensures.reads.deep c.close_params-in_default-eat.ensures.same;
+      bound = IfOk-weaker c.close_params-in_default-eat.result _ _ (λ x h. omega (arith, h, c.each.invariant.bound))
+          c.close_params-in_default-eat.ensures.reads.bound;
+      shorter = IfOk-weaker c.close_params-in_default-eat.result _ _ (λ x h. omega
+          (arith, h, c.each.invariant.shorter)) c.close_params-in_default-eat.ensures.reads.shorter;
     }

@@ -9,7 +9,8 @@ use Rattle.pungi_parse.proofs.expr.PostfixLoop.{PostfixTo}
 use Rattle.pungi_parse.proofs.types.SizeLoop.{SizesTo}
 use Rattle.pungi_parse.specs.Readers.{readers}
 use Rattle.pungi_tree.specs.ExprDepth.{exprs_depth, fields_depth, declrs_depth, sizes_depth, param_decls_depth}
-use Rattle.pungi_tree.specs.ExprView.{expr_view, exprs_of, fields_of, field_view, declrs_of, declr_view, sizes_of, optional_view, param_decls_of, param_decl_view}
+use Rattle.pungi_tree.specs.ExprView.{expr_view, exprs_of, fields_of, field_view, declrs_of, declr_view, sizes_of}
+use Rattle.pungi_tree.specs.ExprView.{optional_view, param_decls_of, param_decl_view}
 use Rattle.pungi_tree.specs.Placed.{placed}
 use Rattle.pungi_parse.proofs.parser.Parser.+parts.Given as goal
 
@@ -126,7 +127,8 @@ decreases-param_rest l = 64 * l.self.now.nest + 16
 
 abbrev pub invariant-comma-loop-pos : goal.invariant-comma-loop-pos
 invariant-comma-loop-pos l = record {
-  commas : CommasTo l.self.types.now (readers l.self.types.now l.self.nest l.self.most) (suc l.self.most) (placed l.fn.tokens) (expr_view l.left.value) l.left_depth (placed l.rest);
+  commas : CommasTo l.self.types.now (readers l.self.types.now l.self.nest l.self.most) (suc l.self.most)
+      (placed l.fn.tokens) (expr_view l.left.value) l.left_depth (placed l.rest);
   shorter : length l.rest < length l.fn.tokens;
 }
 
@@ -135,7 +137,8 @@ decreases-comma-loop-pos l = length l.rest
 
 abbrev pub invariant-climb-loop-operator : goal.invariant-climb-loop-operator
 invariant-climb-loop-operator l = record {
-  climbs : ClimbsTo l.self.types.now (readers l.self.types.now l.self.nest l.self.most) (suc l.self.most) l.level (placed l.fn.tokens) (expr_view l.left.value) l.left_depth (placed l.rest);
+  climbs : ClimbsTo l.self.types.now (readers l.self.types.now l.self.nest l.self.most) (suc l.self.most) l.level
+      (placed l.fn.tokens) (expr_view l.left.value) l.left_depth (placed l.rest);
   shorter : length l.rest < length l.fn.tokens;
 }
 
@@ -144,7 +147,8 @@ decreases-climb-loop-operator l = length l.rest
 
 abbrev pub invariant-postfix-each : goal.invariant-postfix-each
 invariant-postfix-each l = record {
-  comes : PostfixTo l.self.types.now (readers l.self.types.now l.self.nest l.self.most) (suc l.self.most) (placed l.fn.tokens) l.start (expr_view l.tree.value) l.depth (placed l.rest);
+  comes : PostfixTo l.self.types.now (readers l.self.types.now l.self.nest l.self.most) (suc l.self.most)
+      (placed l.fn.tokens) l.start (expr_view l.tree.value) l.depth (placed l.rest);
   shorter : length l.rest < length l.fn.tokens;
 }
 
@@ -153,7 +157,8 @@ decreases-postfix-each l = length l.rest
 
 abbrev pub invariant-args-loop-inner : goal.invariant-args-loop-inner
 invariant-args-loop-inner l = record {
-  reads : ArgsTo l.self.types.now (readers l.self.types.now l.self.nest l.self.most) (placed l.fn.tokens) (map expr_view l.list.items) (placed l.rest);
+  reads : ArgsTo l.self.types.now (readers l.self.types.now l.self.nest l.self.most) (placed l.fn.tokens)
+      (map expr_view l.list.items) (placed l.rest);
   deep : l.deepest ≡ exprs_depth (exprs_of (map expr_view l.list.items));
   bound : l.deepest ≤ l.self.most;
   shorter : length l.rest < length l.fn.tokens;
@@ -164,7 +169,8 @@ decreases-args-loop-inner l = length l.rest
 
 abbrev pub invariant-fields-each : goal.invariant-fields-each
 invariant-fields-each l = record {
-  reads : FieldsTo l.self.types.now (readers l.self.types.now l.self.nest l.self.most) (placed l.fn.tokens) (map field_view l.list.items) (placed l.rest);
+  reads : FieldsTo l.self.types.now (readers l.self.types.now l.self.nest l.self.most) (placed l.fn.tokens)
+      (map field_view l.list.items) (placed l.rest);
   deep : l.deepest ≡ fields_depth (fields_of (map field_view l.list.items));
   bound : l.deepest ≤ l.self.most;
   shorter : length l.rest ≤ length l.fn.tokens;
@@ -175,7 +181,8 @@ decreases-fields-each l = length l.rest
 
 abbrev pub invariant-declrs-loop-inner : goal.invariant-declrs-loop-inner
 invariant-declrs-loop-inner l = record {
-  reads : DeclrsTo l.self.types.now (readers l.self.types.now l.self.nest l.self.most) (placed l.fn.tokens) (map declr_view l.list.items) (placed l.rest);
+  reads : DeclrsTo l.self.types.now (readers l.self.types.now l.self.nest l.self.most) (placed l.fn.tokens)
+      (map declr_view l.list.items) (placed l.rest);
   deep : l.deepest ≡ declrs_depth (declrs_of (map declr_view l.list.items));
   bound : l.deepest ≤ l.self.most;
   shorter : length l.rest < length l.fn.tokens;
@@ -186,7 +193,8 @@ decreases-declrs-loop-inner l = length l.rest
 
 abbrev pub invariant-sizes-loop-inner : goal.invariant-sizes-loop-inner
 invariant-sizes-loop-inner l = record {
-  reads : SizesTo l.self.types.now (readers l.self.types.now l.self.nest l.self.most) (placed l.fn.tokens) (map optional_view l.list.items) (placed l.rest);
+  reads : SizesTo l.self.types.now (readers l.self.types.now l.self.nest l.self.most) (placed l.fn.tokens)
+      (map optional_view l.list.items) (placed l.rest);
   deep : l.deepest ≡ sizes_depth (sizes_of (map optional_view l.list.items));
   bound : l.deepest ≤ l.self.most;
   shorter : length l.rest ≤ length l.fn.tokens;
@@ -197,7 +205,8 @@ decreases-sizes-loop-inner l = length l.rest
 
 abbrev pub invariant-some_params-each : goal.invariant-some_params-each
 invariant-some_params-each l = record {
-  reads : ParamsTo l.self.types.now (readers l.self.types.now l.self.nest l.self.most) (placed l.fn.tokens) (map param_decl_view l.list.items) (placed l.rest);
+  reads : ParamsTo l.self.types.now (readers l.self.types.now l.self.nest l.self.most) (placed l.fn.tokens)
+      (map param_decl_view l.list.items) (placed l.rest);
   deep : l.deepest ≡ param_decls_depth (param_decls_of (map param_decl_view l.list.items));
   bound : l.deepest ≤ l.self.most;
   shorter : length l.rest < length l.fn.tokens;

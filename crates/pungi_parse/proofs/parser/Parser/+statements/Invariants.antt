@@ -21,7 +21,8 @@ decreases-go_on l = 8 * l.self.now.most + 3
 
 abbrev pub invariant-block-each : goal.invariant-block-each
 invariant-block-each l = record {
-  to : BlockTo l.self.types.now l.self.nest l.self.most (placed l.fn.tokens) l.pos (map stmt_view l.list.items) (placed l.rest);
+  to : BlockTo l.self.types.now l.self.nest l.self.most (placed l.fn.tokens) l.pos (map stmt_view l.list.items)
+      (placed l.rest);
   shorter : length l.rest ≤ length l.fn.tokens;
 }
 

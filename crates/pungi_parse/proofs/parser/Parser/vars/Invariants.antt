@@ -6,7 +6,8 @@ use Rattle.pungi_parse.proofs.parser.Parser.vars.Given as goal
 
 abbrev pub invariant-each : goal.invariant-each
 invariant-each l = record {
-  to : VarsTo l.self.types.now l.self.nest l.self.most (placed l.fn.tokens) (map var_decl_view l.list.items) (placed l.rest);
+  to : VarsTo l.self.types.now l.self.nest l.self.most (placed l.fn.tokens) (map var_decl_view l.list.items)
+      (placed l.rest);
   shorter : length l.rest < length l.fn.tokens;
 }
 

@@ -7,7 +7,8 @@ use Rattle.pungi_parse.proofs.tokens.words.base_words.Goals as goal
 
 pub loop-key-preserved : goal.loop-key-preserved
 loop-key-preserved c = (
-  rw c.in_ok-push-2.ensures.items (read_turn _ _ _ _ _ _ _ (keywords_turn is_base_word _ _ (sym c.in-Some.ensures.token)) c.loop-key.invariant.0),
+  rw c.in_ok-push-2.ensures.items (read_turn _ _ _ _ _ _ _ (keywords_turn is_base_word _ _
+      (sym c.in-Some.ensures.token)) c.loop-key.invariant.0),
   omega (arith, c.in-Some.ensures.shorter),
 )
 

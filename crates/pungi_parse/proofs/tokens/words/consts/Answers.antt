@@ -6,7 +6,11 @@ use Rattle.pungi_parse.proofs.tokens.WordLoops.{count_turn, count_end}
 use Rattle.pungi_parse.proofs.tokens.words.consts.Goals as goal
 
 pub loop-after-preserved : goal.loop-after-preserved
-loop-after-preserved c = (count_turn _ _ _ _ _ (sym c.in-Some.ensures.token) c.loop-after.invariant.0, omega (arith, c.in-Some.ensures.shorter))
+loop-after-preserved c = (
+  count_turn _ _ _ _ _ (sym c.in-Some.ensures.token) c.loop-after.invariant.0,
+  omega
+      (arith, c.in-Some.ensures.shorter),
+)
 
 pub returns-clause-count : goal.returns-clause-count
 returns-clause-count c =

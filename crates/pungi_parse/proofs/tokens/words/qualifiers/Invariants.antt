@@ -7,7 +7,9 @@ use Rattle.pungi_parse.proofs.tokens.words.qualifiers.Given as goal
 
 abbrev pub invariant-loop-key : goal.invariant-loop-key
 invariant-loop-key l =
-    ReadTo (keywords is_qualifier) (keywords is_qualifier (placed l.fn.tokens)).0 (keywords is_qualifier (placed l.fn.tokens)).1 l.keys.items (placed l.rest) × (length l.rest ≤ length l.fn.tokens)
+    ReadTo (keywords is_qualifier) (keywords is_qualifier (placed l.fn.tokens)).0
+    (keywords is_qualifier (placed l.fn.tokens)).1 l.keys.items (placed l.rest)
+    × (length l.rest ≤ length l.fn.tokens)
 
 abbrev pub decreases-loop-key : goal.decreases-loop-key
 decreases-loop-key l = length l.rest

@@ -7,7 +7,8 @@ use Rattle.pungi_parse.proofs.tokens.words.stars.Goals as goal
 
 pub loop-after-preserved : goal.loop-after-preserved
 loop-after-preserved c = (
-  rw (c.in_ok-push.ensures.items, c.in_ok-count.ensures.count, c.in_ok-count.ensures.rest) (read_turn _ _ _ _ _ _ _ (stars_turn _ _ (sym c.in-Some.ensures.token)) c.loop-after.invariant.0),
+  rw (c.in_ok-push.ensures.items, c.in_ok-count.ensures.count, c.in_ok-count.ensures.rest)
+      (read_turn _ _ _ _ _ _ _ (stars_turn _ _ (sym c.in-Some.ensures.token)) c.loop-after.invariant.0),
   omega (arith, c.in-Some.ensures.shorter, c.in_ok-count.ensures.shorter),
 )
 

@@ -6,7 +6,8 @@ use Rattle.pungi_parse.proofs.tokens.words.texts.Goals as goal
 
 pub loop-name-preserved : goal.loop-name-preserved
 loop-name-preserved c = (
-  rw c.in_ok-push.ensures.items (read_turn _ _ _ _ _ _ _ (texts_turn _ _ (sym c.in-Some.ensures.token)) c.loop-name.invariant.0),
+  rw c.in_ok-push.ensures.items (read_turn _ _ _ _ _ _ _ (texts_turn _ _ (sym c.in-Some.ensures.token))
+      c.loop-name.invariant.0),
   omega (arith, c.in-Some.ensures.shorter, c.in_ok-push.ensures.len),
 )
 

@@ -4,7 +4,13 @@ use Rattle.pungi_scope.proofs.ScopeLemmas.{found, absent}
 use Rattle.pungi_scope.proofs.scope.ScopeLookup.result_kind.Goals as goal
 
 pub returns-in-Some : goal.returns-in-Some
-returns-in-Some g c = found (λ o. result_kind (g.N.Lookup.env c.args.self.now.names.now) (local_called_or (g.N.Lookup.env c.args.self.now.names.now) c.args.word.0 o)) c.args.self.now.locals.now (g.N.Lookup.env c.args.self.now.names.now).locals c.args.word.0 c.in-Some.field-0 c.in-Some.ensures
+returns-in-Some g c =
+    found (λ o. result_kind (g.N.Lookup.env c.args.self.now.names.now) (local_called_or
+    (g.N.Lookup.env c.args.self.now.names.now) c.args.word.0 o)) c.args.self.now.locals.now
+    (g.N.Lookup.env c.args.self.now.names.now).locals c.args.word.0 c.in-Some.field-0 c.in-Some.ensures
 
 pub returns-in-None : goal.returns-in-None
-returns-in-None g c = c.result_kind.ensures ∙ absent (λ o. result_kind (g.N.Lookup.env c.args.self.now.names.now) (local_called_or (g.N.Lookup.env c.args.self.now.names.now) c.args.word.0 o)) c.args.self.now.locals.now (g.N.Lookup.env c.args.self.now.names.now).locals c.args.word.0 c.in-None.ensures
+returns-in-None g c =
+    c.result_kind.ensures ∙ absent (λ o. result_kind (g.N.Lookup.env c.args.self.now.names.now)
+    (local_called_or (g.N.Lookup.env c.args.self.now.names.now) c.args.word.0 o)) c.args.self.now.locals.now
+    (g.N.Lookup.env c.args.self.now.names.now).locals c.args.word.0 c.in-None.ensures

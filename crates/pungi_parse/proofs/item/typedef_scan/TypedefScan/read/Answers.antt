@@ -6,7 +6,8 @@ use Rattle.pungi_parse.specs.item.TypedefScan.{copies}
 use Rattle.pungi_parse.proofs.item.TypedefScan.{scan_semicolon, scan_typedef, scan_word}
 use Rattle.pungi_parse.proofs.item.typedef_scan.TypedefScan.read.Goals as goal
 
-pub returns-in_ok-add_copies-in-Punct-Semicolon-clause-words : goal.returns-in_ok-add_copies-in-Punct-Semicolon-clause-words
+pub returns-in_ok-add_copies-in-Punct-Semicolon-clause-words :
+    goal.returns-in_ok-add_copies-in-Punct-Semicolon-clause-words
 returns-in_ok-add_copies-in-Punct-Semicolon-clause-words c =
     let s = c.args.self.now in
     let same : c.args.kind ≡ kind.Punct puncts.Semicolon = search rules in
