@@ -27,7 +27,7 @@ fn is_table_core(core: &Core) -> bool
     ensures { result ≡ is_table_core (core_view core.now) }
 {
     match core {
-        Core::Listed(name) => is_table_type(name),
+        Core::Listed(name) => is_table_type(*name),
         Core::Words(_) => false,
         Core::Struct(_) => false,
         Core::Other => false,

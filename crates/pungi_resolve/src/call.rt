@@ -78,7 +78,7 @@ pub(crate) fn call<N: Lookup>(
 {
     match &f.node {
         ExprNode::Word(name) => {
-            if names.is_defined_call(name) {
+            if names.is_defined_call(*name) {
                 Typed::new(alloc, pos, ValueNode::Called(*name, args), kind)
             } else {
                 call_row(alloc, names, pos, *name, args, kind)

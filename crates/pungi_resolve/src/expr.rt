@@ -242,7 +242,7 @@ fn resolve_place<N: Lookup>(alloc: Global, names: &N, e: &Expr) -> Result<TypedP
     match &e.node {
         ExprNode::Word(name) => Ok(TypedPlace {
             place: word_place(names, e.pos, *name),
-            kind: names.word_kind(name),
+            kind: names.word_kind(*name),
         }),
         ExprNode::Arrow(a, name) => resolve_field(alloc, names, e.pos, a, *name),
         _ => unreachable!(),

@@ -117,7 +117,7 @@ pub(crate) fn address<N: Lookup>(
     let kind = unary_kind(Prefix::Address, names_type_object(names, a), false, None);
     match &a.node {
         ExprNode::Word(name) => {
-            let number = names.static_number(name);
+            let number = names.static_number(*name);
             Typed::new(alloc, pos, ValueNode::Static(number), kind)
         }
         _ => unreachable!(),

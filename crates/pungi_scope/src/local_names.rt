@@ -66,7 +66,7 @@ impl LocalNames {
     pub fn push(&mut self, local: Local) -> Result<(), Memory>
         ensures { OnOk result (self.new ≡ local ∷ self.old) }
     {
-        let hidden = self.get(local.name.0);
+        let hidden = self.get(local.name);
         self.declared.push(Declared { local, hidden })?;
         if self.latest.insert(local.name.0, local).is_err() {
             self.declared.pop();
@@ -80,7 +80,7 @@ impl LocalNames {
         ensures { self.new ≡ drop 1 self.old }
     {
         if let Some(declared) = self.declared.pop() {
-            restore(&mut self.latest, declared.local.name.0, declared.hidden);
+            restore(&mut self.latest, declared.local.name, declared.hidden);
         }
     }
 

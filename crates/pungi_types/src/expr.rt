@@ -146,7 +146,7 @@ pub fn check_expr<N: Lookup>(names: &N, first: &mut Option<Finding>, e: &Expr) -
         }
         ExprNode::Arrow(a, name) => {
             let kind = check_expr(names, first, a);
-            let field = names.field_kind(kind, name);
+            let field = names.field_kind(kind, *name);
             note_used(first, kind, a);
             note(first, field.is_none(), e.pos, 12);
             field
