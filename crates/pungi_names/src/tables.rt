@@ -8,8 +8,8 @@ ghost use Rattle.pungi_types.specs.TypesView.{core_view};
 
 use crate::cores::Cores;
 use pungi_base::words::{
-    OB_BASE, PY_GET_SET_DEF, PY_MEMBER_DEF, PY_METHOD_DEF, PY_MODULE_DEF, PY_OBJECT, PY_TYPE_OBJECT,
-    PY_VAR_OBJECT,
+    OB_BASE, PY_GET_SET_DEF, PY_MEMBER_DEF, PY_METHOD_DEF, PY_MODULE_DEF, PY_OBJECT,
+    PY_TYPE_OBJECT, PY_VAR_OBJECT,
 };
 use pungi_tree::{Base, Declr, Spec};
 use pungi_types::{Core, is_no_function, is_plain};
