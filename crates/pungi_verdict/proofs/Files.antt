@@ -108,6 +108,11 @@ code-here c i d is none =
     mapped-at (resolution_of c.file c.refused) (definitions c.file.items) i d is ∙ ap (λ (o : Option ResolvedFunction). Some o) (resolution-is c d none) in
     mapped-at code_for (map (resolution_of c.file c.refused) (definitions c.file.items)) i (Some (resolved c.file c.refused d)) first
 
+-- .. as a program reads it
+pub code-read : (codes : Codes) (i : ℕ) (listed : List (Option Code)) (o : Option Code) → listed ≡ codes.codes → i < length codes.codes → o ≡ get_or listed i o → code_at codes i ≡ o
+code-read codes i listed o same lt is =
+    let at : slice_get codes.codes i ≡ Some o = at-index codes.codes i o lt (is ∙ ap (λ (l : List (Option Code)). get_or l i o) same) in ap flatten at
+
 joined-is : (o : Option (Option Code)) (code : Code) → flatten o ≡ Some code → o ≡ Some (Some code)
 joined-is None code e = absurd (cc)
 joined-is (Some o) code e = ap (λ (x : Option Code). Some x) e

@@ -19,7 +19,7 @@ use Rattle.pungi_verdict.specs.Sound.{HasMeaning}
 use Rattle.pungi_verdict.proofs.Forms.{and-left, and-right, pointers}
 
 -- NULL for each parameter
-nulls : List Param → List Value
+abbrev nulls : List Param → List Value
 nulls [] = []
 nulls (k ∷ ks) = value.Null ∷ nulls ks
 
