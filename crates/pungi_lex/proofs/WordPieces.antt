@@ -23,8 +23,8 @@ is_word start.Mark = false
 is_word start.Nothing = false
 
 skip : (b : Bool) (x y : Start) → is_word x ≡ false → start.Word ≡ cond b x y → start.Word ≡ y
-skip true x y no e = absurd (true≢false (ap is_word e ∙ no))
-skip false x y no e = e
+skip true x y is e = absurd (true≢false (ap is_word e ∙ is))
+skip false x y is e = e
 
 nothing : start.Word ≡ start.Nothing → ⊥
 nothing e = true≢false (ap is_word e)
