@@ -2,14 +2,15 @@
 --   text_named texts name     the text of a name among pairs of names and texts
 --   pair_of t, pairs_of texts such pairs, as contracts read them
 --   left_at texts i from      what is left of the text at a place, and nothing past the last text
---   ShelfState                its texts, the calls that fail, how many calls and faults came, the names given, what is left to read, and what
---                             was read since a text was opened last
+--   ShelfState                its texts, the calls that fail, how many calls and faults came, the names given, what is
+--                             left to read, and what was read since a text was opened last
 --   open_fails s name         an open fails at its call, or where the name isn't there
 --   shelf_asked s name        the name counts as given
 --   shelf_failed s            after a call that failed
 --   shelf_opened s rest       after an open that leaves this to read
 --   shelf_read s piece rest   after a read that gave a piece and leaves this to read
-use Rattle.std.specs.Prelude.{ℕ, Bool, ◌||◌, List, [], ◌∷◌, ◌++◌, drop, map, slice_get, Option, None, Some, is_none, if◌then◌else◌, String, Vec, string_bytes}
+use Rattle.std.specs.Prelude.{ℕ, Bool, ◌||◌, List, [], ◌∷◌, ◌++◌, drop, map, slice_get, Option, None, Some, is_none}
+use Rattle.std.specs.Prelude.{if◌then◌else◌, String, Vec, string_bytes}
 use Rattle.std.specs.Option.{option_map_or}
 use Rattle.std.specs.declared.alloc.Global.{Global}
 use Rattle.std.specs.Str.{bytes_eq}

@@ -1,5 +1,6 @@
 -- A sink in memory, as its callers see it.
---   SinkState          its room, how many bytes a call takes at most, the calls that fail, how many calls and faults came, and the bytes
+--   SinkState          its room, how many bytes a call takes at most, the calls that fail, how many calls and faults
+--                      came, and the bytes
 --   write_fails s p    a write fails at its call, or where the piece has bytes and no room is left
 --   write_count s p    how many bytes a write takes that doesn't fail
 --   sink_failed s      after a write that failed

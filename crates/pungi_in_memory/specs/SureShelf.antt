@@ -1,5 +1,6 @@
 -- A shelf in memory that never fails, as its callers see it.
---   SureState               its texts, the names given, what is left to read, and what was read since a text was opened last
+--   SureState               its texts, the names given, what is left to read, and what was read since a text was opened
+--                           last
 --   sure_text texts name    each name has a text: its own, or the empty one
 use Rattle.std.specs.Prelude.{ℕ, List, [], Option, Some, unwrap_or}
 use Rattle.pungi_in_memory.specs.MemShelf.{text_named}

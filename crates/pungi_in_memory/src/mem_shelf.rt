@@ -1,8 +1,11 @@
-ghost use Rattle.std.specs.Prelude.{◌≡◌, ◌≤◌, ◌<◌, ◌+◌, ◌^◌, ℕ, [], ◌∷◌, ◌++◌, List, length, take, drop, min, IfOk, IfErr, OnErr, OnOk, MatchOption, MatchResult, Some, None, true, false, is_err, Err, slice_get};
+ghost use Rattle.std.specs.Prelude.{◌≡◌, ◌≤◌, ◌<◌, ◌+◌, ◌^◌, ℕ, [], ◌∷◌, ◌++◌, List, length, take, drop, min, IfOk};
+ghost use Rattle.std.specs.Prelude.{IfErr, OnErr, OnOk, MatchOption, MatchResult, Some, None, true, false, is_err, Err};
+ghost use Rattle.std.specs.Prelude.{slice_get};
 ghost use Rattle.std.specs.Io.KnownBytes.{ReadConsumes};
 ghost use Rattle.std.specs.Option.{option_map_or};
 ghost use Rattle.pungi_base.specs.Shelf.{Rose, Grew, Opens};
-ghost use Rattle.pungi_in_memory.specs.MemShelf.{ShelfState, text_named, pairs_of, left_at, open_fails, shelf_asked, shelf_failed, shelf_opened, shelf_read};
+ghost use Rattle.pungi_in_memory.specs.MemShelf.{ShelfState, text_named, pairs_of, left_at, open_fails, shelf_asked};
+ghost use Rattle.pungi_in_memory.specs.MemShelf.{shelf_failed, shelf_opened, shelf_read};
 ghost use Rattle.pungi_in_memory.specs.Calls.{is_failing};
 
 use pungi_base::{Failed, History, OpenFault, Shelf};
@@ -28,13 +31,24 @@ impl Model for MemShelf {
 
     ghost Value = { ShelfState };
 
-    ghost view = { λ s. record { texts = pairs_of s.texts.items; failing = s.failing.items; calls = s.calls; faults = s.faults; given = map (λ n. n.items) s.given.items; rest = left_at s.texts.items s.opened s.at; gave = s.gave.bytes } };
+    ghost view = { λ s. record {
+      texts = pairs_of s.texts.items;
+      failing = s.failing.items;
+      calls = s.calls;
+      faults
+          = s.faults;
+      given = map (λ n. n.items) s.given.items;
+      rest = left_at s.texts.items s.opened s.at;
+      gave
+          = s.gave.bytes;
+    } };
 }
 
 /// The place of the text of a name.
 pub(crate) fn place_of(texts: &[(String, Vec<u8>)], name: &str) -> Option<usize>
     ensures within { MatchOption result (text_named (pairs_of texts.now) name.now ≡ None) (λ i. i < length texts.now) }
-    ensures text { MatchOption result (text_named (pairs_of texts.now) name.now ≡ None) (λ i. text_named (pairs_of texts.now) name.now ≡ Some (left_at texts.now i 0)) }
+    ensures text { MatchOption result (text_named (pairs_of texts.now) name.now ≡ None)
+        (λ i. text_named (pairs_of texts.now) name.now ≡ Some (left_at texts.now i 0)) }
 {
     for (i, text) in texts.iter().enumerate() {
         if text.0.as_str() == name {
@@ -75,7 +89,15 @@ pub(crate) fn copy_front(rest: &[u8], buf: &mut [u8]) -> usize
 impl MemShelf {
     /// A shelf with these texts by their names, of which the calls with these numbers fail, counted from 1.
     pub fn new(alloc: Global, texts: Vec<(String, Vec<u8>)>, failing: Vec<u64>) -> MemShelf
-        ensures { result ≡ record { texts = pairs_of texts.items; failing = failing.items; calls = 0; faults = 0; given = []; rest = []; gave = [] } }
+        ensures { result ≡ record {
+          texts = pairs_of texts.items;
+          failing = failing.items;
+          calls = 0;
+          faults = 0;
+          given = [];
+          rest = [];
+          gave = [];
+        } }
     {
         let opened = texts.len();
         MemShelf {
@@ -103,7 +125,8 @@ impl Shelf for MemShelf {
     ghost faults = { λ s. s.faults };
 
     fn open(&mut self, alloc: Global, name: &str) -> Result<(), OpenFault>
-        ensures ok { OnOk result (Opens (Some (text_named self.old.texts)) name.now (Some self.new.rest) × (self.new.gave ≡ [])) }
+        ensures ok { OnOk result (Opens (Some (text_named self.old.texts)) name.now (Some self.new.rest)
+            × (self.new.gave ≡ [])) }
         ensures err { OnErr result ((Some self.new.rest ≡ Some self.old.rest) × (self.new.gave ≡ self.old.gave)) }
         ensures given { (result ≡ Err OpenFault.Memory → ⊥) → self.new.given ≡ self.old.given ++ name.now ∷ [] }
         ensures memory { result ≡ Err OpenFault.Memory → self.new.given ≡ self.old.given }
@@ -151,7 +174,8 @@ impl Shelf for MemShelf {
         ensures fails { is_err result ≡ is_failing self.old.failing self.old.calls }
         ensures err { OnErr result (self.new ≡ shelf_failed self.old) }
         ensures count { IfOk result (λ count. count ≡ min (length buf.old) (length self.old.rest)) }
-        ensures left { IfOk result (λ count. self.new ≡ shelf_read self.old (take count buf.new) (drop count self.old.rest)) }
+        ensures left { IfOk result (λ count. self.new ≡ shelf_read self.old (take count buf.new)
+            (drop count self.old.rest)) }
     {
         self.calls = self.calls.saturating_add(1);
         if self.failing.contains(&self.calls) {

@@ -23,7 +23,15 @@ impl Model for MemSink {
 
     ghost Value = { SinkState };
 
-    ghost view = { λ s. record { room = s.room; step = s.step; failing = s.failing.items; calls = s.calls; faults = s.faults; bytes = s.bytes.items } };
+    ghost view = { λ s. record {
+      room = s.room;
+      step = s.step;
+      failing = s.failing.items;
+      calls = s.calls;
+      faults
+          = s.faults;
+      bytes = s.bytes.items;
+    } };
 
     ghost invariant = { λ s. (0 < s.step) × (vec_len s.bytes ≤ s.room) × (s.room ≤ vec_capacity s.bytes) };
 }
@@ -38,7 +46,14 @@ impl MemSink {
         failing: Vec<u64>,
     ) -> Result<MemSink, Memory>
         requires { 0 < step }
-        ensures { IfOk result (λ sink. sink ≡ record { room = room; step = step; failing = failing.items; calls = 0; faults = 0; bytes = [] }) }
+        ensures { IfOk result (λ sink. sink ≡ record {
+          room = room;
+          step = step;
+          failing = failing.items;
+          calls = 0;
+          faults = 0;
+          bytes = [];
+        }) }
     {
         let bytes = Vec::with_capacity(alloc, room)?;
         Ok(MemSink {

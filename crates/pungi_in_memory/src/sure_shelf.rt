@@ -1,4 +1,5 @@
-ghost use Rattle.std.specs.Prelude.{◌≡◌, ◌≤◌, ◌<◌, ◌∷◌, ◌++◌, [], List, ℕ, length, min, take, drop, Some, None, Ok, Err, OnOk, OnErr, IfOk, unwrap_or, true, false};
+ghost use Rattle.std.specs.Prelude.{◌≡◌, ◌≤◌, ◌<◌, ◌∷◌, ◌++◌, [], List, ℕ, length, min, take, drop, Some, None, Ok};
+ghost use Rattle.std.specs.Prelude.{Err, OnOk, OnErr, IfOk, unwrap_or, true, false};
 ghost use Rattle.std.specs.Io.KnownBytes.{ReadConsumes};
 ghost use Rattle.pungi_base.specs.Shelf.{Rose, Grew, Opens};
 ghost use Rattle.pungi_in_memory.specs.SureShelf.{SureState, sure_text};
@@ -26,7 +27,13 @@ impl Model for SureShelf {
 
     ghost Value = { SureState };
 
-    ghost view = { λ s. record { texts = pairs_of s.texts.items; given = map (λ n. n.items) s.given.items; rest = left_at s.texts.items s.opened s.at; gave = s.gave.bytes } };
+    ghost view = { λ s. record {
+      texts = pairs_of s.texts.items;
+      given = map (λ n. n.items) s.given.items;
+      rest
+          = left_at s.texts.items s.opened s.at;
+      gave = s.gave.bytes;
+    } };
 }
 
 impl SureShelf {
@@ -57,7 +64,8 @@ impl Shelf for SureShelf {
     ghost faults = { λ _. 0 };
 
     fn open(&mut self, alloc: Global, name: &str) -> Result<(), OpenFault>
-        ensures ok { OnOk result (Opens (Some (sure_text self.old.texts)) name.now (Some self.new.rest) × (self.new.gave ≡ [])) }
+        ensures ok { OnOk result (Opens (Some (sure_text self.old.texts)) name.now (Some self.new.rest)
+            × (self.new.gave ≡ [])) }
         ensures err { OnErr result ((Some self.new.rest ≡ Some self.old.rest) × (self.new.gave ≡ self.old.gave)) }
         ensures given { (result ≡ Err OpenFault.Memory → ⊥) → self.new.given ≡ self.old.given ++ name.now ∷ [] }
         ensures memory { result ≡ Err OpenFault.Memory → self.new.given ≡ self.old.given }
@@ -65,7 +73,13 @@ impl Shelf for SureShelf {
         ensures steady { (result ≡ Err OpenFault.Failed → ⊥) → (let none : ℕ = 0 in none ≡ none) }
         ensures failed { result ≡ Err OpenFault.Failed → Rose 0 0 }
 
-        ensures opened { OnOk result (self.new ≡ record { texts = self.old.texts; given = self.old.given ++ name.now ∷ []; rest = self.new.rest; gave = [] }) }
+        ensures opened { OnOk result (self.new ≡ record {
+          texts = self.old.texts;
+          given = self.old.given ++ name.now
+              ∷ [];
+          rest = self.new.rest;
+          gave = [];
+        }) }
         ensures unchanged { result ≡ Err OpenFault.Memory → self.new ≡ self.old }
     {
         let given = Vec::from_slice(alloc, name.as_bytes())?;
@@ -90,7 +104,11 @@ impl Shelf for SureShelf {
         ensures failed { OnErr result (Rose 0 0) }
 
         ensures count { result ≡ Ok (min (length buf.old) (length self.old.rest)) }
-        ensures left { IfOk result (λ count. self.new ≡ record self.old { rest = drop count self.old.rest; gave = self.old.gave ++ take count buf.new }) }
+        ensures left { IfOk result (λ count. self.new ≡ record self.old {
+          rest = drop count self.old.rest;
+          gave
+              = self.old.gave ++ take count buf.new;
+        }) }
     {
         let count = copy_front(rest_of(&self.texts, self.opened, self.at), buf);
         self.gave.add(&buf[..count]);

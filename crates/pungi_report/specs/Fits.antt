@@ -1,6 +1,7 @@
 -- The numbers that a report prints, each of at most 64 bits.
 --   Fits n, FitsInt z           a number of 64 bits; an integer whose absolute value is one
---   FitsPlace, FitsValue, FitsChoice, FitsWitness, FitsFault, FitsWhy, FitsVerdict    so are the numbers that are printed of these
+--   FitsPlace, FitsValue, FitsChoice, FitsWitness, FitsFault, FitsWhy, FitsVerdict    so are the numbers that are
+--   printed of these
 --   FitsLine line               so are those of a line
 use Rattle.std.specs.Prelude.{ℕ, ◌<◌, ◌^◌, ℤ, unsigned_abs}
 use Rattle.std.specs.List.{All}
@@ -44,7 +45,9 @@ abbrev pub FitsWitness : Witness → Type 0
 FitsWitness w = Fits w.input.objects × All FitsValue w.input.args × All FitsChoice w.choices
 
 abbrev pub FitsFault : Fault → Type 0
-FitsFault fault = FitsPlace fault.pos × Fits fault.object × FitsInt fault.change × FitsInt fault.escaped × FitsWitness fault.witness × All FitsPlace fault.used
+FitsFault fault =
+    FitsPlace fault.pos × Fits fault.object × FitsInt fault.change × FitsInt fault.escaped
+    × FitsWitness fault.witness × All FitsPlace fault.used
 
 abbrev pub FitsWhy : Why → Type 0
 FitsWhy why.Traces = Unit {0}

@@ -22,8 +22,10 @@ IsSameWhy names others (why.Call at n) w = (m : Name) × (w ≡ why.Call at m) �
 abbrev pub IsSameVerdict : List (List ℕ) → List (List ℕ) → Verdict → Verdict → Type 0
 IsSameVerdict names others verdict.Clean w = w ≡ verdict.Clean
 IsSameVerdict names others (verdict.Faulty fault) w = w ≡ verdict.Faulty fault
-IsSameVerdict names others (verdict.Unknown reason) w = (other : Why) × (w ≡ verdict.Unknown other) × IsSameWhy names others reason other
+IsSameVerdict names others (verdict.Unknown reason) w =
+    (other : Why) × (w ≡ verdict.Unknown other) × IsSameWhy names others reason other
 IsSameVerdict names others (verdict.Refused at rule) w = w ≡ verdict.Refused at rule
 
 abbrev pub IsSameLine : List (List ℕ) → List (List ℕ) → Name × Verdict → Name × Verdict → Type 0
-IsSameLine names others line other = (name_text names line.0 ≡ name_text others other.0) × IsSameVerdict names others line.1 other.1
+IsSameLine names others line other =
+    (name_text names line.0 ≡ name_text others other.0) × IsSameVerdict names others line.1 other.1

@@ -38,7 +38,8 @@ abbrev pub object_text : Fault → List ℕ
 object_text fault = codes " " ++ place_text fault.pos ++ codes " object " ++ decimal fault.object
 
 abbrev pub counts_text : Fault → List ℕ
-counts_text fault = codes " change " ++ signed_decimal fault.change ++ codes " escaped " ++ signed_decimal fault.escaped ++ line_end
+counts_text fault =
+    codes " change " ++ signed_decimal fault.change ++ codes " escaped " ++ signed_decimal fault.escaped ++ line_end
 
 abbrev pub fault_text : Fault → List ℕ
 fault_text fault = object_text fault ++ counts_text fault ++ witness_text fault.witness fault.used
@@ -49,7 +50,8 @@ refusal_text at rule = codes " " ++ place_text at ++ codes " N" ++ decimal rule.
 abbrev pub verdict_text : List (List ℕ) → Name → Verdict → List ℕ
 verdict_text names n verdict.Clean = codes "clean " ++ name_text names n ++ line_end
 verdict_text names n (verdict.Faulty fault) = codes "faulty " ++ name_text names n ++ fault_text fault
-verdict_text names n (verdict.Unknown reason) = codes "unknown " ++ name_text names n ++ codes " " ++ why_text names reason ++ line_end
+verdict_text names n (verdict.Unknown reason) =
+    codes "unknown " ++ name_text names n ++ codes " " ++ why_text names reason ++ line_end
 verdict_text names n (verdict.Refused at rule) = codes "refused " ++ name_text names n ++ refusal_text at rule
 
 abbrev pub report_text : List (List ℕ) → List (Name × Verdict) → List ℕ

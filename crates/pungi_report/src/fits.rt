@@ -1,7 +1,8 @@
 // Whoever reads a number of a type finds one that the type has.
 ghost use Rattle.std.specs.List.{All};
 ghost use Rattle.pungi_base.specs.declared.verdict.Verdict.TheVariants.{Refused};
-ghost use Rattle.pungi_report.specs.Fits.{FitsPlace, FitsValue, FitsChoice, FitsWitness, FitsFault, FitsWhy, FitsVerdict, FitsLine};
+ghost use Rattle.pungi_report.specs.Fits.{FitsPlace, FitsValue, FitsChoice, FitsWitness, FitsFault, FitsWhy};
+ghost use Rattle.pungi_report.specs.Fits.{FitsVerdict, FitsLine};
 
 use pungi_base::{Choice, Fault, Name, Pos, Rule, Value, Verdict, Why, Witness};
 

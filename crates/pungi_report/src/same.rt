@@ -9,5 +9,7 @@ ghost use Rattle.pungi_report.specs.Text.{report_text, IsLine};
 /// The law of the report: its bytes determine what is said. Where two lists of lines print the same, each line of the
 /// one has the name and the verdict of the other's.
 pub fn report_is_read_back()
-    ensures { (names others : List (List ℕ)) → (lines more : List (Name × Verdict)) → All (IsLine names) lines → All (IsLine others) more → All FitsLine lines → All FitsLine more → report_text names lines ≡ report_text others more → AllZip (IsSameLine names others) lines more }
+    ensures { (names others : List (List ℕ)) → (lines more : List (Name × Verdict)) → All (IsLine names) lines
+        → All (IsLine others) more → All FitsLine lines → All FitsLine more
+        → report_text names lines ≡ report_text others more → AllZip (IsSameLine names others) lines more }
 {}

@@ -1,6 +1,7 @@
 ghost use Rattle.std.specs.Prelude.{◌≡◌, ◌<◌, ◌++◌, length, string_bytes, OnOk, IfOk};
 ghost use Rattle.std.specs.List.{All};
-ghost use Rattle.pungi_report.specs.Text.{name_text, why_text, object_text, counts_text, fault_text, refusal_text, verdict_text, report_text, IsNamedWhy, IsPrintable, IsLine};
+ghost use Rattle.pungi_report.specs.Text.{name_text, why_text, object_text, counts_text, fault_text, refusal_text};
+ghost use Rattle.pungi_report.specs.Text.{verdict_text, report_text, IsNamedWhy, IsPrintable, IsLine};
 ghost use Rattle.pungi_report.specs.Fits.{FitsLine};
 
 use crate::fits::lines_fit;
