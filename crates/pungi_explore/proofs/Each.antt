@@ -1,15 +1,12 @@
 -- What holds of each element of a list.
-use Rattle.std.proofs.Common.{◌≡◌, List, [], ◌∷◌, ◌++◌, map, Bool, true, false, refl, sym, subst, cond}
+use Rattle.std.proofs.Common.{◌≡◌, List, [], ◌∷◌, ◌++◌, map, Bool, true, false, refl, sym, subst, cond, ◌⊎◌, inl, inr}
 use Rattle.std.specs.List.{flat_map}
 use Rattle.std.proofs.lemmas.List.Concat.{flat_map-cons}
+use Rattle.pungi_explore.specs.Traces.{IsIn}
 
 abbrev pub Each : {X : Type 0} → (X → Type 0) → List X → Type 0
 Each P [] = Unit {0}
 Each P (x ∷ xs) = P x × Each P xs
-
-pub data IsIn {X : Type 0} (x : X) : List X → Type 0 where
-  is_first : (xs : List X) → IsIn x (x ∷ xs)
-  is_later : (y : X) (xs : List X) → IsIn x xs → IsIn x (y ∷ xs)
 
 module _ {X : Type 0} (P : X → Type 0) where
   pub each_joined : (xs ys : List X) → Each P xs → Each P ys → Each P (xs ++ ys)
@@ -23,6 +20,15 @@ module _ {X : Type 0} (P : X → Type 0) where
   pub each_right : (xs ys : List X) → Each P (xs ++ ys) → Each P ys
   each_right [] ys h = h
   each_right (x ∷ xs) ys h = each_right xs ys h.1
+
+  pub each_in : (x : X) (xs : List X) → Each P xs → IsIn x xs → P x
+  each_in x [] h i = absurd i
+  each_in x (y ∷ xs) h (inl e) = subst P (sym e) h.0
+  each_in x (y ∷ xs) h (inr i) = each_in x xs h.1 i
+
+  pub each_weaker : (Q : X → Type 0) → ((x : X) → P x → Q x) → (xs : List X) → Each P xs → Each Q xs
+  each_weaker Q w [] h = tt
+  each_weaker Q w (x ∷ xs) h = (w x h.0, each_weaker Q w xs h.1)
 
   pub each_mapped : {Y : Type 0} (f : Y → X) (ys : List Y) → Each P (map f ys) → Each (λ y. P (f y)) ys
   each_mapped f [] h = tt
@@ -41,8 +47,9 @@ module _ {X : Type 0} (P : X → Type 0) where
   each_of_if false x h = tt
 
   pub each_flat : {Y : Type 0} (f : Y → List X) (y : Y) (ys : List Y) → IsIn y ys → Each P (flat_map f ys) → Each P (f y)
-  each_flat f y _ (is_first ys) h = each_left (f y) (flat_map f ys) (subst (Each P) (flat_map-cons f y ys) h)
-  each_flat f y _ (is_later z ys i) h = each_flat f y ys i (each_right (f z) (flat_map f ys) (subst (Each P) (flat_map-cons f z ys) h))
+  each_flat f y [] i h = absurd i
+  each_flat f y (z ∷ ys) (inl e) h = subst (λ x. Each P (f x)) (sym e) (each_left (f z) (flat_map f ys) (subst (Each P) (flat_map-cons f z ys) h))
+  each_flat f y (z ∷ ys) (inr i) h = each_flat f y ys i (each_right (f z) (flat_map f ys) (subst (Each P) (flat_map-cons f z ys) h))
 
   pub each_of_flat : {Y : Type 0} (f : Y → List X) → ((y : Y) → Each P (f y)) → (ys : List Y) → Each P (flat_map f ys)
   each_of_flat f h [] = tt

@@ -56,10 +56,10 @@ module _ (codes : Codes) (f : ℕ) (code : Code) (has : HasForm codes f code) wh
 
     module _ (ds : List Decision) (s : State) (level : AreLevelFrom codes code.instrs First) (m : Meets codes.statics s.known.function code entry choices r.steps ds s) (path : Path code.instrs First ds s) where
       at_end : (z : Status) → s.known.status ≡ z → IsAt code entry choices r.steps (table_of codes.statics entry choices) m.m s.known.pc z → IsBalanced world value
-      at_end status.Going e h = absurd (unfinished_return world value r.pos r.used (sym (h 0) ∙ ends))
-      at_end (status.Stopped p) e h = absurd (stopped_return world value r.pos p r.used (sym (h 0) ∙ ends))
+      at_end status.Going e h = absurd (unfinished_return world value r.pos r.used (sym (h.ends 0) ∙ ends))
+      at_end (status.Stopped p) e h = absurd (stopped_return world value r.pos p r.used (sym (h.ends 0) ∙ ends))
       at_end (status.Returned p x) e h =
-          let same = same_return m.m.world world (returned_value (table_of codes.statics entry choices) x) value p r.pos m.m.used r.used (sym (h 0) ∙ ends) in
+          let same = same_return m.m.world world (returned_value (table_of codes.statics entry choices) x) value p r.pos m.m.used r.used (sym (h.ends 0) ∙ ends) in
           let reached = is_reached ds s path in
           let balanced = level ds s path code entry choices r.steps ds p x reached.0 e m in
           subst (λ w. IsBalanced w value) same.0 (subst (λ v. IsBalanced m.m.world v) same.1 balanced)
@@ -88,7 +88,7 @@ module _ (codes : Codes) (code : Code) (s : State) (w : Witness) (ds : List Deci
 
   returned_at : (z : Status) (p : Pos) (x : Option Term) → z ≡ status.Returned p x → IsAt code w.input w.choices N (table_of codes.statics w.input w.choices) M.m s.known.pc z
       → run_for code w.input w.choices (N + 0) ≡ run.Returned M.m.world (returned_value (table_of codes.statics w.input w.choices) x) p M.m.used
-  returned_at z p x e h = let at : IsAt code w.input w.choices N (table_of codes.statics w.input w.choices) M.m s.known.pc (status.Returned p x) = subst (IsAt code w.input w.choices N (table_of codes.statics w.input w.choices) M.m s.known.pc) e h in at 0
+  returned_at z p x e h = let at : IsAt code w.input w.choices N (table_of codes.statics w.input w.choices) M.m s.known.pc (status.Returned p x) = subst (IsAt code w.input w.choices N (table_of codes.statics w.input w.choices) M.m s.known.pc) e h in at.ends 0
 
   pub fault_run : IsFaultRun codes.statics code w
   fault_run =

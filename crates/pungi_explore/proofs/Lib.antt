@@ -1,8 +1,14 @@
 pub mod Each
-pub mod Traces
+pub mod Trees
+pub mod Different
 pub mod Listed
 pub mod Nexts
 pub mod SameFunction
 pub mod Begins
 pub mod Ends
+pub mod Few
+pub mod Many
+pub mod SameAnswers
+pub mod OneTrace
+pub mod TracesOfRuns
 pub mod Searched

@@ -1,7 +1,6 @@
 -- Each answer that a question still has is among those that stand for next states.
-use Rattle.std.proofs.Common.{◌≡◌, ℕ, zero, suc, ◌≤◌, ℤ, pos, List, [], ◌∷◌, length, drop, Bool, true, false, refl, arith, Option, None, Some, cond}
+use Rattle.std.proofs.Common.{◌≡◌, ℕ, zero, suc, ◌≤◌, ℤ, pos, List, [], ◌∷◌, length, drop, Bool, true, false, refl, arith, ◌⊎◌, inl, inr, Option, None, Some, cond}
 use Rattle.std.specs.Prelude.{nat_lt, slice_get, position}
-use Rattle.std.specs.List.{flat_map}
 use Rattle.std.specs.declared.cmp.Ordering.TheVariants.{Less, Equal, Greater}
 use Rattle.std.proofs.lemmas.Bool.Decides.{nat_tests}
 use Rattle.pungi_base.specs.declared.names.Name.{Name}
@@ -44,9 +43,9 @@ use Rattle.pungi_symbol.specs.declared.states.term.Term.TheVariants.{Unset, Null
 use Rattle.pungi_symbol.specs.states.Terms.{outcomes_of_mark, outcomes_of_answer}
 use Rattle.pungi_symbol.specs.states.Known.{mark_of, term_of, number, number_in, object_of, slot_note, is_global, is_field, at_place, ask_base, seek, find_token, find_field, find}
 use Rattle.pungi_symbol.specs.questions.NextQuestion.{asks_set, knows_mark, asks_known, needs_mark, asks_thing, asks_order, asks_same, asks_range, content_mark, asks_load, asks_store, asks_dropped, asks_all_set, asks_param, asks_params, asks_take, asks_takes, asks_answer, asks_special, asks_form, first_term, terms_of, asks_return, asks_instr, asks_line, ask_while, ask}
-use Rattle.pungi_symbol.specs.answers.SymbolicState.{is_decision, is_outcome, can_be, are_one, are_other, can, apply, decisions, after_if}
-use Rattle.pungi_explore.specs.Traces.{states_after}
-use Rattle.pungi_explore.proofs.Each.{Each, IsIn, is_first, is_later, each_mapped, each_flat, each_if}
+use Rattle.pungi_symbol.specs.answers.SymbolicState.{is_decision, is_outcome, can_be, are_one, are_other, can, apply, decisions, after_if, successors}
+use Rattle.pungi_explore.specs.Traces.{IsIn, states_after}
+use Rattle.pungi_explore.proofs.Each.{Each, each_mapped, each_flat, each_if}
 
 abbrev pub is_listed : Decision → Bool
 is_listed Quiet = true
@@ -352,23 +351,29 @@ can_listed s (Stops d') d h e = decision_listed d' d h e
 can_listed s Over d h e = untrue e
 
 in_decisions : (d : Decision) → is_listed d ≡ true → IsIn d decisions
-in_decisions Quiet e = is_first _
-in_decisions (Outcome zero) e = is_later _ _ (is_first _)
-in_decisions (Outcome (suc zero)) e = is_later _ _ (is_later _ _ (is_first _))
-in_decisions (Outcome (suc (suc zero))) e = is_later _ _ (is_later _ _ (is_later _ _ (is_first _)))
+in_decisions Quiet e = inl refl
+in_decisions (Outcome zero) e = inr (inl refl)
+in_decisions (Outcome (suc zero)) e = inr (inr (inl refl))
+in_decisions (Outcome (suc (suc zero))) e = inr (inr (inr (inl refl)))
 in_decisions (Outcome (suc (suc (suc k)))) e = absurd (grind (arith, nat_tests))
-in_decisions (Order Less) e = is_later _ _ (is_later _ _ (is_later _ _ (is_later _ _ (is_first _))))
-in_decisions (Order Equal) e = is_later _ _ (is_later _ _ (is_later _ _ (is_later _ _ (is_later _ _ (is_first _)))))
-in_decisions (Order Greater) e = is_later _ _ (is_later _ _ (is_later _ _ (is_later _ _ (is_later _ _ (is_later _ _ (is_first _))))))
-in_decisions (IsSame false) e = is_later _ _ (is_later _ _ (is_later _ _ (is_later _ _ (is_later _ _ (is_later _ _ (is_later _ _ (is_first _)))))))
-in_decisions (IsSame true) e = is_later _ _ (is_later _ _ (is_later _ _ (is_later _ _ (is_later _ _ (is_later _ _ (is_later _ _ (is_later _ _ (is_first _))))))))
+in_decisions (Order Less) e = inr (inr (inr (inr (inl refl))))
+in_decisions (Order Equal) e = inr (inr (inr (inr (inr (inl refl)))))
+in_decisions (Order Greater) e = inr (inr (inr (inr (inr (inr (inl refl))))))
+in_decisions (IsSame false) e = inr (inr (inr (inr (inr (inr (inr (inl refl)))))))
+in_decisions (IsSame true) e = inr (inr (inr (inr (inr (inr (inr (inr (inl refl))))))))
+
+-- what holds of all answers with the states after them holds of each answer which the question still has
+pub after_answer : (P : Decision × State → Type 0) (code : List Line) (s : State) → Each P (successors code s)
+    → (d : Decision) → can s (ask code s.known) d ≡ true → P (d, apply (slice_get code s.known.pc) (ask code s.known) d s)
+after_answer P code s all d c =
+    let one = after_if (slice_get code s.known.pc) (ask code s.known) s in
+    let listed = can_listed s (ask code s.known) d (ask_listed code s.known) c in
+    each_if P (can s (ask code s.known) d) (d, apply (slice_get code s.known.pc) (ask code s.known) d s)
+    (each_flat P one d decisions (in_decisions d listed) all) c
 
 -- what holds of all next states holds of that after each answer which the question still has
 pub after_each : (P : State → Type 0) (code : List Line) (s : State) → Each P (states_after code s)
     → (d : Decision) → can s (ask code s.known) d ≡ true → P (apply (slice_get code s.known.pc) (ask code s.known) d s)
 after_each P code s all d c =
-    let one = after_if (slice_get code s.known.pc) (ask code s.known) s in
-    let listed = can_listed s (ask code s.known) d (ask_listed code s.known) c in
-    let pairs : Each (λ p. P p.1) (flat_map one decisions) = each_mapped P (λ p. p.1) (flat_map one decisions) all in
-    each_if (λ p. P p.1) (can s (ask code s.known) d) (d, apply (slice_get code s.known.pc) (ask code s.known) d s)
-    (each_flat (λ p. P p.1) one d decisions (in_decisions d listed) pairs) c
+    let pairs : Each (λ p. P p.1) (successors code s) = each_mapped P (λ p. p.1) (successors code s) all in
+    after_answer (λ p. P p.1) code s pairs d c

@@ -9,14 +9,15 @@ use Rattle.pungi_symbol.specs.declared.states.known.Status.TheVariants as status
 use Rattle.pungi_symbol.specs.declared.states.state.State.{State}
 use Rattle.pungi_symbol.specs.answers.SymbolicState.{successors}
 use Rattle.pungi_symbol.specs.runs.Paths.{start_state, Path, path_here, path_on}
-use Rattle.pungi_symbol.specs.Promises.{lines_in, next_states, HasForm, Covers, AllLevel}
+use Rattle.pungi_symbol.specs.Promises.{lines_in, next_states, HasForm, Covers, HasRun, AllLevel}
 use Rattle.pungi_explore.specs.declared.explored.Explored.{Explored}
 use Rattle.pungi_explore.specs.declared.explored.Explored.TheVariants.{AllBalanced, Fault, TooMany}
-use Rattle.pungi_explore.specs.Traces.{HasEnded, states_after, HaveTraces, no_state, has_ended, goes_on, HaveAtLeast, none_left, one_ended, one_goes_on}
+use Rattle.pungi_explore.specs.Traces.{HasEnded, states_after}
 use Rattle.pungi_explore.specs.Explored.{most_traces, HasFew, HasMany, AreBalanced, IsFaultRun, IsExplored, FindsFault}
 use Rattle.pungi_explore.specs.Visits.{ShowsFault}
 use Rattle.pungi_explore.proofs.Each.{Each, each_joined, each_left, each_right}
-use Rattle.pungi_explore.proofs.Traces.{joined, parted, at_least_joined, at_least_parted, all_left_out, no_more}
+use Rattle.pungi_explore.proofs.TracesOfRuns.{has_few, has_many, few_not_many}
+use Rattle.pungi_explore.proofs.Trees.{HaveTraces, no_state, has_ended, goes_on, HaveAtLeast, none_left, one_ended, one_goes_on, joined, parted, at_least_joined, at_least_parted, all_left_out}
 use Rattle.pungi_explore.proofs.Nexts.{each_next}
 use Rattle.pungi_explore.proofs.Begins.{AreLevelFrom, ended_level, going_level}
 use Rattle.pungi_explore.proofs.Ends.{of_function, is_reached, all_balanced, fault_run}
@@ -28,7 +29,7 @@ pub record Searched (codes : Codes) (f : ℕ) (code : Code) (pending : List Stat
   pub on_path : Each (IsOnPath codes f code) pending
   pub level : Each (AreLevelFrom codes code.instrs) pending → AreLevelFrom codes code.instrs (start_state codes.statics f code)
   pub exactly : (m : ℕ) → HaveTraces code.instrs pending m → HaveTraces code.instrs (start_state codes.statics f code ∷ []) (ended + m)
-  pub at_least : (m : ℕ) → HaveAtLeast code.instrs pending m → HaveAtLeast code.instrs (start_state codes.statics f code ∷ []) (ended + m)
+  pub at_least : (m : ℕ) → HaveAtLeast code.instrs (HasRun codes) pending m → HaveAtLeast code.instrs (HasRun codes) (start_state codes.statics f code ∷ []) (ended + m)
 
 module _ (codes : Codes) (f : ℕ) (code : Code) (has : HasForm codes f code) where
   abbrev First : State
@@ -39,7 +40,7 @@ module _ (codes : Codes) (f : ℕ) (code : Code) (has : HasForm codes f code) wh
     on_path = (([], path_here), tt);
     level = λ all. all.0;
     exactly = λ m h. subst (HaveTraces code.instrs (First ∷ [])) (omega arith) h;
-    at_least = λ m h. subst (HaveAtLeast code.instrs (First ∷ [])) (omega arith) h;
+    at_least = λ m h. subst (HaveAtLeast code.instrs (HasRun codes) (First ∷ [])) (omega arith) h;
   }
 
   module _ (rest : List State) (s : State) (ended : ℕ) (so_far : Searched codes f code (rest ++ s ∷ []) ended) where
@@ -47,12 +48,12 @@ module _ (codes : Codes) (f : ℕ) (code : Code) (has : HasForm codes f code) wh
     popped = (each_right (IsOnPath codes f code) rest (s ∷ []) so_far.on_path).0
 
     -- a state that has ended is one trace more
-    pub ended_searched : HasEnded s → AllLevel codes s → Searched codes f code rest (ended + 1)
-    ended_searched over level = record {
+    pub ended_searched : HasEnded s → AllLevel codes s → HasRun codes s → Searched codes f code rest (ended + 1)
+    ended_searched over level run = record {
       on_path = each_left (IsOnPath codes f code) rest (s ∷ []) so_far.on_path;
       level = λ all. so_far.level (each_joined (AreLevelFrom codes code.instrs) rest (s ∷ []) all (ended_level codes code.instrs s over level, tt));
       exactly = λ m h. subst (HaveTraces code.instrs (First ∷ [])) (omega arith) (so_far.exactly (m + suc 0) (joined code.instrs rest (s ∷ []) m (suc 0) h (has_ended s [] 0 over no_state)));
-      at_least = λ m h. subst (HaveAtLeast code.instrs (First ∷ [])) (omega arith) (so_far.at_least (m + suc 0) (at_least_joined code.instrs rest (s ∷ []) m (suc 0) h (one_ended s [] 0 over none_left)));
+      at_least = λ m h. subst (HaveAtLeast code.instrs (HasRun codes) (First ∷ [])) (omega arith) (so_far.at_least (m + suc 0) (at_least_joined code.instrs (HasRun codes) rest (s ∷ []) m (suc 0) h (one_ended s [] 0 over run none_left)));
     }
 
     -- the next states stand for one that goes on
@@ -73,12 +74,12 @@ module _ (codes : Codes) (f : ℕ) (code : Code) (has : HasForm codes f code) wh
             subst (HaveTraces code.instrs (First ∷ [])) (omega (arith, sum))
             (so_far.exactly (r.left + (r.right + 0)) (joined code.instrs rest (s ∷ []) r.left (r.right + 0) r.of_left (goes_on s [] r.right 0 going r.of_right no_state)))
 
-        at_least_on : (m : ℕ) → HaveAtLeast code.instrs (rest ++ states_after code.instrs s) m → HaveAtLeast code.instrs (First ∷ []) (ended + m)
+        at_least_on : (m : ℕ) → HaveAtLeast code.instrs (HasRun codes) (rest ++ states_after code.instrs s) m → HaveAtLeast code.instrs (HasRun codes) (First ∷ []) (ended + m)
         at_least_on m h =
-            let r = at_least_parted code.instrs rest (states_after code.instrs s) m h in
+            let r = at_least_parted code.instrs (HasRun codes) rest (states_after code.instrs s) m h in
             let sum = r.sum in
-            subst (HaveAtLeast code.instrs (First ∷ [])) (omega (arith, sum))
-            (so_far.at_least (r.left + (r.right + 0)) (at_least_joined code.instrs rest (s ∷ []) r.left (r.right + 0) r.of_left (one_goes_on s [] r.right 0 going r.of_right none_left)))
+            subst (HaveAtLeast code.instrs (HasRun codes) (First ∷ [])) (omega (arith, sum))
+            (so_far.at_least (r.left + (r.right + 0)) (at_least_joined code.instrs (HasRun codes) rest (s ∷ []) r.left (r.right + 0) r.of_left (one_goes_on s [] r.right 0 going r.of_right none_left)))
 
     -- the states after it, by the code that its function has
     lines_are : next_states codes s ≡ successors code.instrs s
@@ -92,20 +93,18 @@ module _ (codes : Codes) (f : ℕ) (code : Code) (has : HasForm codes f code) wh
     fault_searched w shows = fault_run codes code s w popped.0 shows (is_reached codes f code has popped.0 s popped.1)
 
     -- one more than the highest number
-    pub too_many : HasEnded s → ended ≡ most_traces → HasMany codes f code
-    too_many over full =
-        subst (HaveAtLeast code.instrs (First ∷ [])) (omega (arith, full))
-        (so_far.at_least (0 + suc 0) (at_least_joined code.instrs rest (s ∷ []) 0 (suc 0) (all_left_out code.instrs rest) (one_ended s [] 0 over none_left)))
+    pub too_many : HasEnded s → HasRun codes s → ended ≡ most_traces → HasMany codes f code
+    too_many over run full =
+        let all : HaveAtLeast code.instrs (HasRun codes) (First ∷ []) (most_traces + 1) = subst (HaveAtLeast code.instrs (HasRun codes) (First ∷ [])) (omega (arith, full))
+        (so_far.at_least (0 + suc 0) (at_least_joined code.instrs (HasRun codes) rest (s ∷ []) 0 (suc 0) (all_left_out code.instrs (HasRun codes) rest) (one_ended s [] 0 over run none_left))) in
+        has_many codes f code has all
 
   -- where no state is pending
   pub all_searched : (ended : ℕ) → Covers codes f → ended ≤ most_traces → Searched codes f code [] ended → AreBalanced codes.statics code × HasFew codes f code
-  all_searched ended covers few so_far = (all_balanced codes f code has covers (so_far.level tt), (ended + 0, (so_far.exactly 0 no_state, omega (arith, few))))
+  all_searched ended covers few so_far = (all_balanced codes f code has covers (so_far.level tt), has_few codes f code has covers (ended + 0) (omega (arith, few)) (so_far.exactly 0 no_state))
 
 -- where a fault is there and the traces are few, it is found
 pub finds_fault : (codes : Codes) (f : ℕ) (e : Explored) → IsExplored codes f e → FindsFault codes f e
 finds_fault codes f AllBalanced h code has few u = absurd (u.differs ((h code has).0 u.entry u.choices u.world u.value u.returns))
 finds_fault codes f (Fault w) h code has few u = (w, refl)
-finds_fault codes f TooMany h code has few u =
-    let more = no_more code.instrs (start_state codes.statics f code ∷ []) few.0 (most_traces + 1) few.1.0 (h code has) in
-    let most = few.1.1 in
-    absurd (omega (arith, more, most))
+finds_fault codes f TooMany h code has few u = absurd (few_not_many codes f code few (h code has))

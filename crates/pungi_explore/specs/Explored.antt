@@ -1,7 +1,8 @@
 -- What exploring the states of a function shows of its runs (Li and Tan, ECOOP 2014, for when a return is balanced).
 --   most_traces                   how many traces of a function are explored
---   first_states codes f code     the state at the start of a function
---   HasFew, HasMany               it has at most that many traces; it has more
+--   HasFew, HasMany               a code has at most that many traces, all its runs end within some number of instructions
+--                                 or need a choice that isn't there; it has more traces
+--   ExcludeEachOther codes f      no code has both
 --   Returns                       a run returns: after so many instructions, in this world, with this value
 --   AreBalanced statics code      each run that returns is balanced
 --   IsFaultRun statics code w     this run returns unbalanced
@@ -9,7 +10,7 @@
 --   IsFew, IsMany codes f         the code of a function has at most as many traces as are explored; it has more
 --   IsExplored codes f e          what was found is so
 --   FindsFault codes f e          it is a fault where there is one and the traces are few
-use Rattle.std.specs.Prelude.{◌≡◌, ℕ, ◌+◌, ◌<◌, ◌≤◌, true, List, [], ◌∷◌, length, Option}
+use Rattle.std.specs.Prelude.{◌≡◌, ℕ, ◌+◌, ◌<◌, ◌≤◌, true, List, length, Option}
 use Rattle.pungi_base.specs.declared.choice.Choice.{Choice}
 use Rattle.pungi_base.specs.declared.entry.Entry.{Entry}
 use Rattle.pungi_base.specs.declared.pos.Pos.{Pos}
@@ -20,25 +21,32 @@ use Rattle.pungi_world.specs.Escapes.{IsLevel, IsBalanced}
 use Rattle.pungi_meaning.specs.Run as run
 use Rattle.pungi_code.specs.declared.code.Code.{Code}
 use Rattle.pungi_code.specs.declared.code.Codes.{Codes}
+use Rattle.pungi_code.specs.Alike.{IsOver}
 use Rattle.pungi_code.specs.Entries.{code_fits}
-use Rattle.pungi_symbol.specs.declared.states.state.State.{State}
-use Rattle.pungi_symbol.specs.runs.Paths.{start_state, run_for}
+use Rattle.pungi_symbol.specs.runs.Paths.{run_for}
 use Rattle.pungi_symbol.specs.Promises.{HasForm}
 use Rattle.pungi_explore.specs.declared.explored.Explored.{Explored}
 use Rattle.pungi_explore.specs.declared.explored.Explored.TheVariants.{AllBalanced, Fault, TooMany}
-use Rattle.pungi_explore.specs.Traces.{HaveTraces, HaveAtLeast}
+use Rattle.pungi_explore.specs.Traces.{Trace, IsIn, AreDifferent, IsTrace}
 
 abbrev pub most_traces : ℕ
 most_traces = 16384
 
-abbrev pub first_states : Codes → ℕ → Code → List State
-first_states codes f code = start_state codes.statics f code ∷ []
+pub record HasFew (codes : Codes) (f : ℕ) (code : Code) : Type 0 where
+  pub traces : List Trace
+  pub few : length traces ≤ most_traces
+  pub all : (ds : Trace) → IsTrace codes.statics f code ds → IsIn ds traces
+  pub steps : ℕ
+  pub ends : (entry : Entry) (choices : List Choice) → code_fits codes.statics code entry ≡ true → IsOver (run_for code entry choices steps)
 
-abbrev pub HasFew : Codes → ℕ → Code → Type 0
-HasFew codes f code = (n : ℕ) × (HaveTraces code.instrs (first_states codes f code) n × (n ≤ most_traces))
+pub record HasMany (codes : Codes) (f : ℕ) (code : Code) : Type 0 where
+  pub traces : List Trace
+  pub many : length traces ≡ most_traces + 1
+  pub different : AreDifferent traces
+  pub each : (ds : Trace) → IsIn ds traces → IsTrace codes.statics f code ds
 
-abbrev pub HasMany : Codes → ℕ → Code → Type 0
-HasMany codes f code = HaveAtLeast code.instrs (first_states codes f code) (most_traces + 1)
+abbrev pub ExcludeEachOther : Codes → ℕ → Type 0
+ExcludeEachOther codes f = (code : Code) → HasFew codes f code → HasMany codes f code → ⊥
 
 pub record Returns (statics : ℕ) (code : Code) (entry : Entry) (choices : List Choice) (world : World) (value : Option Value) : Type 0 where
   pub fits : code_fits statics code entry ≡ true

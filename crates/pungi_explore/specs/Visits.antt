@@ -8,7 +8,7 @@ use Rattle.pungi_base.specs.declared.witness.Witness.{Witness}
 use Rattle.pungi_code.specs.declared.code.Codes.{Codes}
 use Rattle.pungi_symbol.specs.declared.states.known.Status.TheVariants as status
 use Rattle.pungi_symbol.specs.declared.states.state.State.{State}
-use Rattle.pungi_symbol.specs.Promises.{next_states, AllLevel, HasReturned, OwnUneven, IsRunOf, IsOwn, HasEachChoice}
+use Rattle.pungi_symbol.specs.Promises.{next_states, AllLevel, HasReturned, OwnUneven, IsRunOf, HasRun, IsOwn, HasEachChoice}
 use Rattle.pungi_explore.specs.declared.visited.Visited.{Visited}
 use Rattle.pungi_explore.specs.declared.visited.Visited.TheVariants.{Goes, Ends, Unbalanced}
 use Rattle.pungi_explore.specs.Traces.{HasEnded}
@@ -25,10 +25,10 @@ pub record ShowsFault (codes : Codes) (s : State) (w : Witness) : Type 0 where
 
 abbrev pub IsEnd : Codes → State → Visited → Type 0
 IsEnd codes s Goes = ⊥
-IsEnd codes s Ends = AllLevel codes s
+IsEnd codes s Ends = AllLevel codes s × HasRun codes s
 IsEnd codes s (Unbalanced w) = ShowsFault codes s w
 
 abbrev pub Visits : Codes → State → List State → List State → Visited → Type 0
 Visits codes s old new Goes = (s.known.status ≡ status.Going) × (new ≡ old ++ map (λ p. p.1) (next_states codes s))
-Visits codes s old new Ends = HasEnded s × (AllLevel codes s × (new ≡ old))
+Visits codes s old new Ends = HasEnded s × (IsEnd codes s Ends × (new ≡ old))
 Visits codes s old new (Unbalanced w) = ShowsFault codes s w

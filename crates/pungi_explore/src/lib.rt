@@ -2,9 +2,11 @@
 #![tactic(auto)]
 
 mod explored;
+mod limit;
 mod search;
 mod visit;
 mod visited;
 
 pub use explored::Explored;
+pub use limit::few_or_many;
 pub use search::explore;

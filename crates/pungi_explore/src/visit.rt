@@ -1,12 +1,12 @@
 // One state, with what it adds to the pending states.
 ghost use Rattle.std.specs.Prelude.{◌≡◌, ◌++◌, map, IfOk, OnOk};
-ghost use Rattle.pungi_symbol.specs.Promises.{next_states};
+ghost use Rattle.pungi_symbol.specs.Promises.{next_states, HasRun};
 ghost use Rattle.pungi_explore.specs.Visits.{IsRunAt, IsEnd, Visits};
 
 use crate::visited::Visited;
 use pungi_base::{Memory, Seq, Witness};
 use pungi_code::Codes;
-use pungi_symbol::{Decision, Sym, SymEnd, end, is_balanced, solve, step_from};
+use pungi_symbol::{Decision, Sym, SymEnd, end, has_run, is_balanced, solve, step_from};
 use std::alloc::Global;
 
 /// Adds these states.
@@ -35,10 +35,21 @@ fn run_at(alloc: Global, codes: &Codes, state: &Sym) -> Result<Witness, Memory>
     Ok(solved.unwrap())
 }
 
+/// A state has a run.
+fn run_there(codes: &Codes, state: &Sym) -> Result<(), Memory>
+    ensures { OnOk result (HasRun codes.now state.now) }
+{
+    if has_run(state) {
+        return Ok(());
+    }
+    Err(Memory)
+}
+
 /// What is seen at a state that has ended.
 fn at_end(alloc: Global, codes: &Codes, state: &Sym) -> Result<Visited, Memory>
     ensures { IfOk result (IsEnd codes.now state.now) }
 {
+    run_there(codes, state)?;
     if is_balanced(state) {
         return Ok(Visited::Ends);
     }
@@ -64,6 +75,9 @@ pub fn visit(
             let seen = at_end(alloc, codes, &state)?;
             Ok(seen)
         }
-        SymEnd::Stopped(_) => Ok(Visited::Ends),
+        SymEnd::Stopped(_) => {
+            run_there(codes, &state)?;
+            Ok(Visited::Ends)
+        }
     }
 }

@@ -47,7 +47,7 @@ use Rattle.pungi_symbol.specs.answers.SymbolicState.{balance_at}
 use Rattle.pungi_symbol.specs.runs.ObjectForm.{is_pointer_param}
 use Rattle.pungi_symbol.specs.runs.RunInState.{IsOf}
 use Rattle.pungi_symbol.specs.runs.Paths.{own_values, argument_count, start_state, table_of, Path, path_here, path_on, run_for, Meets, GoesBack, AreApart, canon, choice_of, wanted, IsLevelState, returned_value}
-use Rattle.pungi_symbol.specs.Promises.{next_states, Covers, IsReached, IsRunOf, IsOwn, HasEachChoice, AllLevel, OwnUneven, LevelBy, OffBy, HasReturned}
+use Rattle.pungi_symbol.specs.Promises.{next_states, Covers, IsReached, IsRunOf, HasRun, IsOwn, HasEachChoice, AllLevel, OwnUneven, LevelBy, OffBy, HasReturned}
 use Rattle.pungi_symbol.proofs.runs.Canon.{own_table, own_apart}
 use Rattle.pungi_symbol.proofs.steps.StepForward.{AreObjectLines, two_true}
 use Rattle.pungi_symbol.proofs.steps.Questions.{IsGiven, IsAsked}
@@ -252,6 +252,7 @@ module _ (codes : Codes) (s : State) (ds : List Decision) (code : Code) (reached
             asked = (path_fits code.instrs codes.statics lines_form Start (start_sound codes.statics f code) refl T ds s reached.1 fits).1;
             m = r.1.m;
             lies = r.1.lies;
+            enough = λ h. r.1.in_time;
             is_at = r.1.is_at;
           },
         )
@@ -280,6 +281,33 @@ module _ (codes : Codes) (s : State) (w : Witness) (h : HasParts codes s w) wher
 
   pub solved_apart : (code : Code) (ds : List Decision) → IsReached codes s ds code → AreApart s (table_of codes.statics w.input w.choices)
   solved_apart code ds r = apart codes s ds code r w.input w.choices h.0 h.1 (args_of code ds r) (choices_of code ds r)
+
+-- a state with few tokens has a run: its own
+abbrev own_run : Codes → State → Witness
+own_run codes s = record {
+  input = record {
+    objects = count s.known;
+    args = take (option_map_or argument_count (code_at codes s.known.function) 0) (drop codes.statics (canon s));
+  };
+  choices = map choice_of (drop (option_map_or argument_count (code_at codes s.known.function) 0) (drop codes.statics (canon s)));
+}
+
+pub has_run : (codes : Codes) (s : State) → count s.known < 2 ^ 31 → HasRun codes s
+has_run codes s few = (own_run codes s, solved_run codes s (own_run codes s) (refl, few, refl, refl))
+
+true_lt : (a b : ℕ) → nat_lt a b ≡ true → a < b
+true_lt a b h = grind (arith, nat_tests)
+
+false_le : (a b : ℕ) → nat_lt a b ≡ false → b ≤ a
+false_le a b h = grind (arith, nat_tests)
+
+-- the test of a state that is the same
+module _ (s t : State) (few : Bool) (same : s ≡ t) (is : few ≡ nat_lt (count s.known) (2 ^ 31)) where
+  pub tested_run : few ≡ true → (codes : Codes) → HasRun codes t
+  tested_run h codes = subst (HasRun codes) same (has_run codes s (true_lt (count s.known) (2 ^ 31) (sym is ∙ h)))
+
+  pub tested_many : few ≡ false → 2 ^ 31 ≤ count t.known
+  tested_many h = subst (λ u. 2 ^ 31 ≤ count u.known) same (false_le (count s.known) (2 ^ 31) (sym is ∙ h))
 
 -- ---- returns
 

@@ -6,6 +6,7 @@
 --   Covers                 each run of a function is on a path from its first state, with the trace of the path
 --   IsReached              a state is on a path from the first state of its function
 --   IsRunOf                a witness is a run to a state, with the trace of each path to it
+--   HasRun                 a state has a run
 --   IsOwn                  its tokens have the values by which all tokens differ that weren't merged
 --   HasEachChoice          it has a choice for each token that came with a choice, and no more
 --   LevelBy, OffBy         the balances of a state that returned are all level; the one of a token isn't
@@ -56,6 +57,9 @@ IsReached codes s ds code = HasForm codes s.known.function code × Path code.ins
 abbrev pub IsRunOf : Codes → State → Witness → Type 0
 IsRunOf codes s w = (code : Code) (ds : List Decision) → IsReached codes s ds code
     → (code_fits codes.statics code w.input ≡ true) × ((n : ℕ) × Meets codes.statics s.known.function code w.input w.choices n ds s)
+
+abbrev pub HasRun : Codes → State → Type 0
+HasRun codes s = (w : Witness) × IsRunOf codes s w
 
 abbrev pub IsOwn : Codes → State → Witness → Type 0
 IsOwn codes s w = (code : Code) (ds : List Decision) → IsReached codes s ds code → table_of codes.statics w.input w.choices ≡ canon s

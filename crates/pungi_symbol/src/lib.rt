@@ -10,4 +10,4 @@ mod steps;
 pub use answers::decision::Decision;
 pub use states::sym::Sym;
 pub use states::sym_end::SymEnd;
-pub use steps::{end, is_balanced, solve, start, step, step_from};
+pub use steps::{end, has_run, is_balanced, solve, start, step, step_from};

@@ -1,16 +1,17 @@
 // The calls on symbolic states.
-ghost use Rattle.std.specs.Prelude.{◌≡◌, ◌∷◌, IfOk, IfSome, is_some, true, false, All, List};
+ghost use Rattle.std.specs.Prelude.{◌≡◌, ◌≤◌, ◌^◌, ◌∷◌, IfOk, IfSome, is_some, true, false, All, List};
 ghost use Rattle.pungi_code.specs.declared.code.Code.{Code};
 ghost use Rattle.pungi_symbol.specs.declared.answers.decision.Decision.{Decision as DecisionOf};
 ghost use Rattle.pungi_code.specs.declared.code.Codes.{Codes as CodesOf};
 ghost use Rattle.pungi_code.specs.Run.{code_at};
+ghost use Rattle.pungi_symbol.specs.states.Known.{count};
 ghost use Rattle.pungi_symbol.specs.runs.Paths.{end_of, start_states, start_state, table_of, Path, GoesBack, AreApart};
-ghost use Rattle.pungi_symbol.specs.Promises.{next_states, lines_of, Covers, IsReached, IsRunOf, IsOwn, HasEachChoice, AllLevel, OwnUneven, HasReturned};
+ghost use Rattle.pungi_symbol.specs.Promises.{next_states, lines_of, Covers, IsReached, IsRunOf, HasRun, IsOwn, HasEachChoice, AllLevel, OwnUneven, HasReturned};
 
 use crate::answers::successors::{next_from, next_of};
 use crate::runs::begin::first_of;
 use crate::runs::return_balance::off_return;
-use crate::runs::witness::run_of;
+use crate::runs::witness::{has_few_tokens, run_of};
 use crate::states::known::Status;
 use crate::{Decision, Sym, SymEnd};
 use pungi_base::{Memory, Witness};
@@ -71,6 +72,15 @@ pub fn solve(alloc: Global, codes: &Codes, state: &Sym) -> Result<Option<Witness
 {
     let witness = run_of(alloc, codes, state)?;
     Ok(Some(witness))
+}
+
+/// Whether a state that `start` and calls of `step` gave has a run. One that has fewer than 2^31 tokens, as many objects as
+/// an entry may have, has one.
+pub fn has_run(state: &Sym) -> bool
+    ensures run { result ≡ true → (codes : CodesOf) → HasRun codes state.now }
+    ensures many { result ≡ false → 2 ^ 31 ≤ count state.now.known }
+{
+    has_few_tokens(state.state())
 }
 
 /// Whether each run that ends in a state returns balanced; so it is true where the state hasn't returned. Where it is false

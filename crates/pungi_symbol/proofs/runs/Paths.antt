@@ -1,9 +1,8 @@
 -- Whole runs and paths: forward and back.
-use Rattle.std.proofs.Common.{◌≡◌, ℕ, zero, suc, ◌+◌, ◌<◌, List, [], ◌∷◌, Bool, true, false, refl, sym, ap, ◌∙◌, subst, arith, inl, inr, Option, None, Some, cond}
+use Rattle.std.proofs.Common.{◌≡◌, ℕ, zero, suc, ◌+◌, ◌<◌, ◌≤◌, List, [], ◌∷◌, length, Bool, true, false, refl, sym, ap, ◌∙◌, subst, arith, inl, inr, Option, None, Some, cond}
 use Rattle.std.specs.Prelude.{slice_get}
 use Rattle.pungi_base.specs.declared.choice.Choice.{Choice}
 use Rattle.pungi_base.specs.declared.pos.Pos.{Pos}
-use Rattle.pungi_base.specs.declared.value.Value.{Value}
 use Rattle.pungi_code.specs.declared.code.Line.{Line}
 use Rattle.pungi_code.specs.declared.registers.After.TheVariants as after
 use Rattle.pungi_code.specs.Registers.{Regs}
@@ -12,6 +11,7 @@ use Rattle.pungi_symbol.specs.declared.states.known.Status.TheVariants as status
 use Rattle.pungi_symbol.specs.declared.questions.question.Question.{Question}
 use Rattle.pungi_symbol.specs.declared.questions.question.Question.TheVariants.{Does, Touches, Overwrites, Null as AsksNull, Base, Answers, Same, Returns, Stops, Over}
 use Rattle.pungi_symbol.specs.declared.states.state.State.{State}
+use Rattle.pungi_symbol.specs.declared.states.term.Term.{Term}
 use Rattle.pungi_symbol.specs.states.Terms.{Table}
 use Rattle.pungi_symbol.specs.runs.Fits.{FitsState, IsSound}
 use Rattle.pungi_symbol.specs.runs.ObjectForm.{is_there}
@@ -28,8 +28,8 @@ use Rattle.pungi_symbol.specs.questions.NextQuestion.{ask, asks_line, ask_while}
 use Rattle.pungi_symbol.specs.answers.KnownAfter.{go, instr_of}
 use Rattle.pungi_symbol.specs.answers.SymbolicState.{can, apply, apply_same, are_one, merge_classes, class_of}
 use Rattle.pungi_symbol.specs.runs.ObjectForm.{is_known_here, atoms_of}
-use Rattle.pungi_symbol.specs.runs.Paths.{table_of, argument_count, known_at, start_state, Asked, asked_here, asked_on, Path, path_here, path_on, run_for, IsAt, Meets, returned_value}
-use Rattle.pungi_symbol.specs.runs.OneInstruction.{leads_at}
+use Rattle.pungi_symbol.specs.runs.Paths.{table_of, argument_count, known_at, start_state, Asked, asked_here, asked_on, Path, path_here, path_on, run_for, led_of, EndsFrom, IsAt, Meets, returned_value}
+use Rattle.pungi_symbol.specs.runs.OneInstruction.{Led, leads_at, led_on, machine_at}
 use Rattle.pungi_symbol.proofs.steps.OneInstruction.{exec_step}
 use Rattle.pungi_symbol.proofs.steps.RunInState.{stays, goes_on, leaves, halts, effort, Linked}
 use Rattle.pungi_symbol.proofs.steps.StepForward.{AreObjectLines, going_ask, moves, two_true}
@@ -125,65 +125,98 @@ module _ (code : Code) (statics f : ℕ) (form : AreObjectLines statics code.ins
   abbrev pub At : ℕ → Regs → ℕ → Status → Type 0
   At n m pc z = IsAt code entry choices n T m pc z
 
-  -- one more instruction
   abbrev pub Going : ℕ → Regs → ℕ → Type 0
-  Going n m pc = (fuel : ℕ) → run_for code entry choices (n + fuel) ≡ (exec choices code.instrs fuel pc m).end
+  Going n m pc = At n m pc status.Going
+
+  abbrev Machine : ℕ → Led
+  Machine n = machine_at choices code.instrs n (start code entry)
 
   more : (n fuel : ℕ) → run_for code entry choices ((n + 1) + fuel) ≡ run_for code entry choices (n + suc fuel)
   more n fuel = ap (run_for code entry choices) (omega arith)
 
-  on : (n : ℕ) (m : Regs) (pc fuel : ℕ) → Going n m pc → run_for code entry choices ((n + 1) + fuel) ≡ (Reaches (exec choices code.instrs fuel) (leads_at choices code.instrs pc m).0 (leads_at choices code.instrs pc m).1).end
-  on n m pc fuel g = more n fuel ∙ g (suc fuel) ∙ exec_step choices code.instrs fuel pc m
+  -- one more instruction
+  one_later : (n : ℕ) (led : Led) → Machine n ≡ led → Machine (n + 1) ≡ led_on choices code.instrs led.0 led.1
+  one_later n led e =
+      let same : n + 1 ≡ suc n = omega arith in
+      ap Machine same ∙ ap (λ r. led_on choices code.instrs r.0 r.1) e
 
-  pub goes_at : (n : ℕ) (m m' : Regs) (pc pc' : ℕ) → Going n m pc → leads_at choices code.instrs pc m ≡ (after.Goes pc', m') → Going (n + 1) m' pc'
-  goes_at n m m' pc pc' g e fuel = on n m pc fuel g ∙ ap (λ r. (Reaches (exec choices code.instrs fuel) r.0 r.1).end) e
+  ends_later : (n : ℕ) (m : Regs) (pc : ℕ) (led : Led) → Going n m pc → leads_at choices code.instrs pc m ≡ led → EndsFrom code entry choices (n + 1) led
+  ends_later n m pc led g e fuel = more n fuel ∙ g.ends (suc fuel) ∙ exec_step choices code.instrs fuel pc m ∙ ap (λ r. (Reaches (exec choices code.instrs fuel) r.0 r.1).end) e
 
-  wants_at : (n : ℕ) (m m' : Regs) (pc : ℕ) → Going n m pc → leads_at choices code.instrs pc m ≡ (after.Wants, m') → (fuel : ℕ) → run_for code entry choices ((n + 1) + fuel) ≡ run.NeedsChoice
-  wants_at n m m' pc g e fuel = on n m pc fuel g ∙ ap (λ r. (Reaches (exec choices code.instrs fuel) r.0 r.1).end) e
-
-  pub leaves_at : (n : ℕ) (m m' : Regs) (pc : ℕ) (p : Pos) (v : Option Value) → Going n m pc → leads_at choices code.instrs pc m ≡ (after.Leaves p v, m') → (fuel : ℕ) → run_for code entry choices ((n + 1) + fuel) ≡ run.Returned m'.world v p m'.used
-  leaves_at n m m' pc p v g e fuel = on n m pc fuel g ∙ ap (λ r. (Reaches (exec choices code.instrs fuel) r.0 r.1).end) e
-
-  pub halts_at : (n : ℕ) (m m' : Regs) (pc : ℕ) (p : Pos) → Going n m pc → leads_at choices code.instrs pc m ≡ (after.Stops p, m') → (fuel : ℕ) → run_for code entry choices ((n + 1) + fuel) ≡ run.Stopped p
-  halts_at n m m' pc p g e fuel = on n m pc fuel g ∙ ap (λ r. (Reaches (exec choices code.instrs fuel) r.0 r.1).end) e
+  pub at_later : (n : ℕ) (m m' : Regs) (pc pc' : ℕ) (z : Status) → Going n m pc → leads_at choices code.instrs pc m ≡ led_of T m' pc' z → At (n + 1) m' pc' z
+  at_later n m m' pc pc' z g e = record {
+    machine = one_later n (after.Goes pc, m) g.machine ∙ e;
+    ends = ends_later n m pc (led_of T m' pc' z) g e;
+  }
 
   pub at_status : (n : ℕ) (m : Regs) (pc : ℕ) (z z' : Status) → z ≡ z' → At n m pc z' → At n m pc z
   at_status n m pc z z' e h = subst (At n m pc) (sym e) h
 
   -- the questions of an instruction are asked until it is done
   settle : (e n : ℕ) (ds : List Decision) (s : State) (m : Regs) → effort s.known < e → Path code.instrs (start_state statics f code) ds s → Asked code.instrs T (known_at statics f code) ds s.known → Lies code.instrs T B m s
-      → s.known.status ≡ status.Going → Going n m s.known.pc → Arrived code statics f entry choices (n + 1)
-  settle zero n ds s m less p a l going g = absurd (omega (arith, less))
-  settle (suc e) n ds s m less p a l going g =
+      → s.known.status ≡ status.Going → n ≤ length ds → Going n m s.known.pc → Arrived code statics f entry choices (n + 1)
+  settle zero n ds s m less p a l going enough g = absurd (omega (arith, less))
+  settle (suc e) n ds s m less p a l going enough g =
       let r = path_sound code.instrs statics form (start_state statics f code) sound refl ds s p in
       let q = ask code.instrs s.known in
       let d = answer T s.known q in
       let s' = apply (slice_get code.instrs s.known.pc) q d s in
+      let longer : n + 1 ≤ length (d ∷ ds) = omega (arith, enough) in
       elim (moves choices code.instrs T B m s going r.0 l linked (subst (λ z. AreObjectLines z code.instrs) (sym r.1) form)) [
-        | inl w ↦ wants_one (wants_at n m w.0 s.known.pc g w.1)
+        | inl w ↦ wants_one (ends_later n m s.known.pc (after.Wants, w.0) g w.1)
         | inr mv ↦
             let p' : Path code.instrs (start_state statics f code) (d ∷ ds) s' = path_on ds s d p mv.0 in
             let a' : Asked code.instrs T (known_at statics f code) (d ∷ ds) s'.known = asked_on ds s.known a going in
             elim (mv.1) [
-              | stays pc going' less' l' ↦ settle e n (d ∷ ds) s' m (omega (arith, less, less')) p' a' l' going' (subst (Going n m) (sym pc) g)
-              | goes_on m' many e' going' l' ↦ meets_one (d ∷ ds) s' (record { path = p'; asked = a'; m = m'; lies = l'; is_at = at_status (n + 1) m' s'.known.pc s'.known.status status.Going going' (goes_at n m m' s.known.pc s'.known.pc g e') })
-              | leaves p0 x e0 e' l' ↦ meets_one (d ∷ ds) s' (record { path = p'; asked = a'; m = m; lies = l'; is_at = at_status (n + 1) m s'.known.pc s'.known.status (status.Returned p0 x) e0 (leaves_at n m m s.known.pc p0 (returned_value T x) g e') })
-              | halts p0 m' e0 e' l' ↦ meets_one (d ∷ ds) s' (record { path = p'; asked = a'; m = m; lies = l'; is_at = at_status (n + 1) m s'.known.pc s'.known.status (status.Stopped p0) e0 (halts_at n m m' s.known.pc p0 g e') })
+              | stays pc going' less' l' ↦ settle e n (d ∷ ds) s' m (omega (arith, less, less')) p' a' l' going' (omega (arith, longer)) (subst (Going n m) (sym pc) g)
+              | goes_on m' many e' going' l' ↦ meets_one (d ∷ ds) s' (record { path = p'; asked = a'; m = m'; lies = l'; enough = λ h. longer; is_at = at_status (n + 1) m' s'.known.pc s'.known.status status.Going going' (at_later n m m' s.known.pc s'.known.pc status.Going g e') })
+              | leaves p0 x e0 e' l' ↦ meets_one (d ∷ ds) s' (record { path = p'; asked = a'; m = m; lies = l'; enough = λ h. longer; is_at = at_status (n + 1) m s'.known.pc s'.known.status (status.Returned p0 x) e0 (at_later n m m s.known.pc s'.known.pc (status.Returned p0 x) g e') })
+              | halts p0 e0 e' l' ↦ meets_one (d ∷ ds) s' (record { path = p'; asked = a'; m = m; lies = l'; enough = λ h. longer; is_at = at_status (n + 1) m s'.known.pc s'.known.status (status.Stopped p0) e0 (at_later n m m s.known.pc s'.known.pc (status.Stopped p0) g e') })
             ]
       ]
 
+  -- a run that is over stays where it is
+  not_going : (s : State) (z : Status) → s.known.status ≡ z → (z ≡ status.Going → ⊥) → s.known.status ≡ status.Going → ⊥
+  not_going s z e ended h = ended (sym e ∙ h)
+
+  returned_ended : (p0 : Pos) (x : Option Term) → status.Returned p0 x ≡ status.Going → ⊥
+  returned_ended p0 x e = cc
+
+  stopped_ended : (p0 : Pos) → status.Stopped p0 ≡ status.Going → ⊥
+  stopped_ended p0 e = cc
+
+  stays_at : (n : ℕ) (m : Regs) (pc : ℕ) (p0 : Pos) (x : Option Term) → At n m pc (status.Returned p0 x) → At (n + 1) m pc (status.Returned p0 x)
+  stays_at n m pc p0 x h = record { machine = one_later n (after.Leaves p0 (returned_value T x), m) h.machine; ends = λ fuel. more n fuel ∙ h.ends (suc fuel) }
+
+  stays_stopped : (n : ℕ) (m : Regs) (pc : ℕ) (p0 : Pos) → At n m pc (status.Stopped p0) → At (n + 1) m pc (status.Stopped p0)
+  stays_stopped n m pc p0 h = record { machine = one_later n (after.Stops p0, m) h.machine; ends = λ fuel. more n fuel ∙ h.ends (suc fuel) }
+
   one_more : (n : ℕ) (ds : List Decision) (s : State) (z : Status) → s.known.status ≡ z → Meets statics f code entry choices n ds s → Arrived code statics f entry choices (n + 1)
-  one_more n ds s status.Going e r = settle (effort s.known + 1) n ds s r.m (omega arith) r.path r.asked r.lies e (subst (At n r.m s.known.pc) e r.is_at)
+  one_more n ds s status.Going e r = settle (effort s.known + 1) n ds s r.m (omega arith) r.path r.asked r.lies e (r.enough e) (subst (At n r.m s.known.pc) e r.is_at)
   one_more n ds s (status.Returned p0 x) e r =
       let h : At n r.m s.known.pc (status.Returned p0 x) = subst (At n r.m s.known.pc) e r.is_at in
-      meets_one ds s (record { path = r.path; asked = r.asked; m = r.m; lies = r.lies; is_at = at_status (n + 1) r.m s.known.pc s.known.status (status.Returned p0 x) e (λ fuel. more n fuel ∙ h (suc fuel)) })
+      meets_one ds s (record {
+        path = r.path;
+        asked = r.asked;
+        m = r.m;
+        lies = r.lies;
+        enough = λ g. absurd (not_going s (status.Returned p0 x) e (returned_ended p0 x) g);
+        is_at = at_status (n + 1) r.m s.known.pc s.known.status (status.Returned p0 x) e (stays_at n r.m s.known.pc p0 x h);
+      })
   one_more n ds s (status.Stopped p0) e r =
       let h : At n r.m s.known.pc (status.Stopped p0) = subst (At n r.m s.known.pc) e r.is_at in
-      meets_one ds s (record { path = r.path; asked = r.asked; m = r.m; lies = r.lies; is_at = at_status (n + 1) r.m s.known.pc s.known.status (status.Stopped p0) e (λ fuel. more n fuel ∙ h (suc fuel)) })
+      meets_one ds s (record {
+        path = r.path;
+        asked = r.asked;
+        m = r.m;
+        lies = r.lies;
+        enough = λ g. absurd (not_going s (status.Stopped p0) e (stopped_ended p0) g);
+        is_at = at_status (n + 1) r.m s.known.pc s.known.status (status.Stopped p0) e (stays_stopped n r.m s.known.pc p0 h);
+      })
 
   -- each run is on a path with its trace
   pub arrives_at : (n : ℕ) → Arrived code statics f entry choices n
-  arrives_at zero = meets_one [] (start_state statics f code) (record { path = path_here; asked = asked_here; m = start code entry; lies = started; is_at = λ fuel. ap (run_for code entry choices) (omega arith) })
+  arrives_at zero = meets_one [] (start_state statics f code) (record { path = path_here; asked = asked_here; m = start code entry; lies = started; enough = λ h. omega arith; is_at = record { machine = refl; ends = λ fuel. ap (run_for code entry choices) (omega arith) } })
   arrives_at (suc n) = elim (arrives_at n) [
     | wants_one h ↦ wants_one (λ fuel. ap (run_for code entry choices) (omega arith) ∙ h (suc fuel))
     | meets_one ds s r ↦ subst (Arrived code statics f entry choices) (omega arith) (one_more n ds s s.known.status refl r)

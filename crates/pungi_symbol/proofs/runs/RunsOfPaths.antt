@@ -1,5 +1,5 @@
 -- Back: values of the tokens that fit a state at the end of a path give a run to it.
-use Rattle.std.proofs.Common.{◌≡◌, ℕ, ◌+◌, ◌<◌, ◌≤◌, List, [], ◌∷◌, length, refl, sym, ap, ◌∙◌, subst, arith, inl, inr, Option, Some}
+use Rattle.std.proofs.Common.{◌≡◌, ℕ, suc, ◌+◌, ◌<◌, ◌≤◌, List, [], ◌∷◌, length, refl, sym, ap, ◌∙◌, subst, arith, inl, inr, Option, Some}
 use Rattle.std.specs.Prelude.{slice_get}
 use Rattle.pungi_base.specs.declared.choice.Choice.{Choice}
 use Rattle.pungi_code.specs.declared.code.Line.{Line}
@@ -15,15 +15,15 @@ use Rattle.pungi_symbol.specs.runs.RunInState.{Lies}
 use Rattle.pungi_base.specs.declared.entry.Entry.{Entry}
 use Rattle.pungi_world.specs.Choices.{value_of}
 use Rattle.pungi_code.specs.declared.code.Code.{Code}
-use Rattle.pungi_code.specs.Run.{exec, start}
+use Rattle.pungi_code.specs.Run.{start}
 use Rattle.pungi_symbol.specs.states.Known.{count}
 use Rattle.pungi_symbol.specs.questions.NextQuestion.{ask}
 use Rattle.pungi_symbol.specs.answers.KnownAfter.{instr_of}
 use Rattle.pungi_symbol.specs.answers.SymbolicState.{apply}
-use Rattle.pungi_symbol.specs.runs.Paths.{table_of, argument_count, start_state, Path, path_here, path_on, run_for, IsAt, returned_value, choice_of}
+use Rattle.pungi_symbol.specs.runs.Paths.{table_of, argument_count, start_state, Path, path_here, path_on, run_for, IsAt, choice_of}
 use Rattle.pungi_symbol.specs.runs.RunInState.{IsOf}
 use Rattle.pungi_symbol.proofs.steps.ChoicesForAnswers.{comes, not_lacking}
-use Rattle.pungi_symbol.proofs.runs.Paths.{can_going, asked_at, step_back, path_sound, goes_at, leaves_at, halts_at, at_status}
+use Rattle.pungi_symbol.proofs.runs.Paths.{can_going, asked_at, step_back, path_sound, at_later, at_status}
 use Rattle.std.proofs.Common.{length-append}
 use Rattle.std.proofs.Math.ListN.{length-set}
 use Rattle.std.proofs.lemmas.List.{length-replicate}
@@ -66,24 +66,29 @@ module _ (code : Code) (statics f : ℕ) (form : AreObjectLines statics code.ins
     abbrev B' : ℕ
     B' = statics + argument_count code
 
-    pub record Stands (n : ℕ) (s : State) : Type 0 where
+    pub record Stands (n long : ℕ) (s : State) : Type 0 where
       pub m : Regs
       pub lies : Lies code.instrs T' B' m s
       pub is_at : IsAt code entry choices n T' m s.known.pc s.known.status
       pub many : top ≤ length m.world.accounts
+      pub in_time : n ≤ long
 
     many_at_start : top ≤ length (start code entry).world.accounts
     many_at_start = let e = length-replicate entry.objects fresh_account in omega (arith, e, enough)
 
-    after_move : (n : ℕ) (s s' : State) (m : Regs) → ((fuel : ℕ) → run_for code entry choices (n + fuel) ≡ (exec choices code.instrs fuel s.known.pc m).end) → top ≤ length m.world.accounts
-        → Moved choices code.instrs T' B' s.known.pc (effort s.known) m s' → (k : ℕ) × Stands k s'
-    after_move n s s' m g many (stays pc going less l) = (n, record { m = m; lies = l; is_at = at_status code statics f form entry choices sound linked started n m s'.known.pc s'.known.status status.Going going (subst (λ z. (fuel : ℕ) → run_for code entry choices (n + fuel) ≡ (exec choices code.instrs fuel z m).end) (sym pc) g); many = many })
-    after_move n s s' m g many (goes_on m' more e going l) = (n + 1, record { m = m'; lies = l; is_at = at_status code statics f form entry choices sound linked started (n + 1) m' s'.known.pc s'.known.status status.Going going (goes_at code statics f form entry choices sound linked started n m m' s.known.pc s'.known.pc g e); many = omega (arith, more, many) })
-    after_move n s s' m g many (leaves p0 x e0 e l) = (n + 1, record { m = m; lies = l; is_at = at_status code statics f form entry choices sound linked started (n + 1) m s'.known.pc s'.known.status (status.Returned p0 x) e0 (leaves_at code statics f form entry choices sound linked started n m m s.known.pc p0 (returned_value T' x) g e); many = many })
-    after_move n s s' m g many (halts p0 m' e0 e l) = (n + 1, record { m = m; lies = l; is_at = at_status code statics f form entry choices sound linked started (n + 1) m s'.known.pc s'.known.status (status.Stopped p0) e0 (halts_at code statics f form entry choices sound linked started n m m' s.known.pc p0 g e); many = many })
+    after_move : (n long : ℕ) (s s' : State) (m : Regs) → IsAt code entry choices n T' m s.known.pc status.Going → top ≤ length m.world.accounts → n ≤ long
+        → Moved choices code.instrs T' B' s.known.pc (effort s.known) m s' → (k : ℕ) × Stands k (suc long) s'
+    after_move n long s s' m g many le (stays pc going less l) =
+        (n, record { m = m; lies = l; is_at = at_status code statics f form entry choices sound linked started n m s'.known.pc s'.known.status status.Going going (subst (λ z. IsAt code entry choices n T' m z status.Going) (sym pc) g); many = many; in_time = omega (arith, le) })
+    after_move n long s s' m g many le (goes_on m' more e going l) =
+        (n + 1, record { m = m'; lies = l; is_at = at_status code statics f form entry choices sound linked started (n + 1) m' s'.known.pc s'.known.status status.Going going (at_later code statics f form entry choices sound linked started n m m' s.known.pc s'.known.pc status.Going g e); many = omega (arith, more, many); in_time = omega (arith, le) })
+    after_move n long s s' m g many le (leaves p0 x e0 e l) =
+        (n + 1, record { m = m; lies = l; is_at = at_status code statics f form entry choices sound linked started (n + 1) m s'.known.pc s'.known.status (status.Returned p0 x) e0 (at_later code statics f form entry choices sound linked started n m m s.known.pc s'.known.pc (status.Returned p0 x) g e); many = many; in_time = omega (arith, le) })
+    after_move n long s s' m g many le (halts p0 e0 e l) =
+        (n + 1, record { m = m; lies = l; is_at = at_status code statics f form entry choices sound linked started (n + 1) m s'.known.pc s'.known.status (status.Stopped p0) e0 (at_later code statics f form entry choices sound linked started n m m s.known.pc s'.known.pc (status.Stopped p0) g e); many = many; in_time = omega (arith, le) })
 
-    pub stands : (ds : List Decision) (s : State) → Path code.instrs (start_state statics f code) ds s → FitsState T' s → count s.known ≤ top → (n : ℕ) × Stands n s
-    stands ds s path_here fits le = (0, record { m = start code entry; lies = started; is_at = λ fuel. ap (run_for code entry choices) (omega arith); many = many_at_start })
+    pub stands : (ds : List Decision) (s : State) → Path code.instrs (start_state statics f code) ds s → FitsState T' s → count s.known ≤ top → (n : ℕ) × Stands n (length ds) s
+    stands ds s path_here fits le = (0, record { m = start code entry; lies = started; is_at = record { machine = refl; ends = λ fuel. ap (run_for code entry choices) (omega arith) }; many = many_at_start; in_time = omega arith })
     stands _ _ (path_on ds s d p c) fits le =
         let line = slice_get code.instrs s.known.pc in
         let q = ask code.instrs s.known in
@@ -93,7 +98,7 @@ module _ (code : Code) (statics f : ℕ) (form : AreObjectLines statics code.ins
         let many = count_by line q d s in
         let before = stands ds s p b.0 (omega (arith, many, le)) in
         let st = before.1 in
-        let g : (fuel : ℕ) → run_for code entry choices (before.0 + fuel) ≡ (exec choices code.instrs fuel s.known.pc st.m).end = subst (IsAt code entry choices before.0 T' st.m s.known.pc) going st.is_at in
+        let g : IsAt code entry choices before.0 T' st.m s.known.pc status.Going = subst (IsAt code entry choices before.0 T' st.m s.known.pc) going st.is_at in
         elim (moves choices code.instrs T' B' st.m s going r.0 st.lies linked (subst (λ z. AreObjectLines z code.instrs) (sym r.1) form)) [
           | inl x ↦ absurd (not_lacking st.m.world choices (length st.m.used) q x.2 (λ one.
               let used = st.lies.used in
@@ -103,5 +108,5 @@ module _ (code : Code) (statics f : ℕ) (form : AreObjectLines statics code.ins
               let last : count s.known < top = omega (arith, used, room) in
               let of : IsOf (length st.m.world.accounts) (value_of there.0) = subst (IsOf (length st.m.world.accounts)) here (supplies.small (length st.m.world.accounts) st.many (count s.known) last) in
               (there.0, there.1, came_in T' s r.0 line q d there.0 st.m.world (asked_at code.instrs statics form s r.0 r.1 d c) c fits here of there.2)))
-          | inr mv ↦ after_move before.0 s (apply line q d s) st.m g st.many (subst (λ z. Moved choices code.instrs T' B' s.known.pc (effort s.known) st.m (apply line q z s)) b.1 mv.1)
+          | inr mv ↦ after_move before.0 (length ds) s (apply line q d s) st.m g st.many st.in_time (subst (λ z. Moved choices code.instrs T' B' s.known.pc (effort s.known) st.m (apply line q z s)) b.1 mv.1)
         ]

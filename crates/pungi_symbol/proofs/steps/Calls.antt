@@ -292,7 +292,7 @@ module _ (choices : List Choice) (code : List Line) (table : Table) (base : ℕ)
       null_counts by g e = ap (λ v. Counts param.Object by v (g v)) e
 
       null_led : (sp : Special) → shape.row.form ≡ form.Special sp → special_effect sp m.world Vs ≡ Err halt.Stopped → Result choices code table base m s going w l p I (Stops Quiet)
-      null_led sp e f = stops_result choices code table base m s going w l p I Quiet m is (call_led (form.Special sp) e ∙ ap CallGo f)
+      null_led sp e f = stops_result choices code table base m s going w l p I Quiet is (call_led (form.Special sp) e ∙ ap CallGo f)
 
       -- a row that needs an object
       need_result : (sp : Special) (by : ℤ) (g : Value → Option Value) → shape.row.form ≡ form.Special sp → special_effect sp m.world Vs ≡ Counts param.Object by (first_of Vs) (g (first_of Vs))
@@ -461,7 +461,7 @@ module _ (choices : List Choice) (code : List Line) (table : Table) (base : ℕ)
       plain_result : Linked table base choices → is_small shape.row.answer ≡ true → shape.row.form ≡ form.Plain
           → Result choices code table base m s going w l p I (asks_params s.known shape.row.params Ts (asks_takes s.known shape.row.takes Ts (asks_answer shape.row.answer)))
       plain_result linked small e = elim (needs_is s.known table (marks choices code table base m s going w l p) shape.row.params Ts (asks_takes s.known shape.row.takes Ts (asks_answer shape.row.answer)) set below) [
-        | need_stops q f ↦ subst (Result choices code table base m s going w l p I) (sym q) (stops_result choices code table base m s going w l p I Quiet m is (call_led form.Plain e ∙ ap (λ b. CallGo (Plainly b shape.row.answer)) f))
+        | need_stops q f ↦ subst (Result choices code table base m s going w l p I) (sym q) (stops_result choices code table base m s going w l p I Quiet is (call_led form.Plain e ∙ ap (λ b. CallGo (Plainly b shape.row.answer)) f))
         | need_asks t q o ↦ subst (Result choices code table base m s going w l p I) (sym q) (null_result choices code table base m s going w l p I t (open_below s.known.marks t o) o)
         | need_passes q f ↦ subst (Result choices code table base m s going w l p I) (sym q) (elim (takes_is s.known shape.row.takes Ts (asks_answer shape.row.answer) set) [
           | take_asks t r o ↦ subst (Result choices code table base m s going w l p I) (sym r) (null_result choices code table base m s going w l p I t (open_below s.known.marks t o) o)
@@ -475,6 +475,6 @@ module _ (choices : List Choice) (code : List Line) (table : Table) (base : ℕ)
 
     pub call_result : Linked table base choices → has_small shape.row.form shape.row ≡ true → list_all (is_there s.statics) as' ≡ true → IsLine choices code table base m s going w l p I → Result choices code table base m s going w l p I (asks_all_set Ts (asks_form s.known shape.row.form shape Ts))
     call_result linked small h is = elim (set_is table s.known s.statics m.vars (atom_is choices code table base m s going w l p) as' h) [
-      | not_set f g ↦ subst (Result choices code table base m s going w l p I) (sym (f (asks_form s.known shape.row.form shape Ts))) (stops_result choices code table base m s going w l p I Quiet m is (ap (λ o. on_values o p m CallOn) g))
+      | not_set f g ↦ subst (Result choices code table base m s going w l p I) (sym (f (asks_form s.known shape.row.form shape Ts))) (stops_result choices code table base m s going w l p I Quiet is (ap (λ o. on_values o p m CallOn) g))
       | are_set f g set ↦ subst (Result choices code table base m s going w l p I) (sym (f (asks_form s.known shape.row.form shape Ts))) (form_result is g set (all_below s.known s.statics (below_is choices code table base m s going w l p) as' h) shape.row.form linked refl small)
     ]

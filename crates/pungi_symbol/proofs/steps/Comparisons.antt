@@ -234,10 +234,10 @@ module _ (choices : List Choice) (code : List Line) (table : Table) (base : ℕ)
   compare_pointers : (x : Var) (c : Cmp) (a b : Atom) → IsLine choices code table base m s going w l p (Compare x c a b) → is_there s.statics a ≡ true → is_there s.statics b ≡ true
       → Result choices code table base m s going w l p (Compare x c a b) (asks_known s.known (term_of s.known a) (asks_known s.known (term_of s.known b) (Comparing a b)))
   compare_pointers x c a b is h g = elim (knowing_is s.known (term_of s.known a) (asks_known s.known (term_of s.known b) (Comparing a b))) [
-    | unset e q ↦ subst (Result choices code table base m s going w l p (Compare x c a b)) (sym q) (stops_result choices code table base m s going w l p (Compare x c a b) Quiet m is (unset_led choices code table base m s going w l p a _ h e))
+    | unset e q ↦ subst (Result choices code table base m s going w l p (Compare x c a b)) (sym q) (stops_result choices code table base m s going w l p (Compare x c a b) Quiet is (unset_led choices code table base m s going w l p a _ h e))
     | asks t e o q ↦ subst (Result choices code table base m s going w l p (Compare x c a b)) (sym q) (null_result choices code table base m s going w l p (Compare x c a b) t (open_below s.known.marks t o) o)
     | passes ka q ↦ subst (Result choices code table base m s going w l p (Compare x c a b)) (sym q) (elim (knowing_is s.known (term_of s.known b) (Comparing a b)) [
-      | unset e r ↦ subst (Result choices code table base m s going w l p (Compare x c a b)) (sym r) (stops_result choices code table base m s going w l p (Compare x c a b) Quiet m is (set_led choices code table base m s going w l p a _ h (known_set s.known (term_of s.known a) ka) ∙ unset_led choices code table base m s going w l p b _ g e))
+      | unset e r ↦ subst (Result choices code table base m s going w l p (Compare x c a b)) (sym r) (stops_result choices code table base m s going w l p (Compare x c a b) Quiet is (set_led choices code table base m s going w l p a _ h (known_set s.known (term_of s.known a) ka) ∙ unset_led choices code table base m s going w l p b _ g e))
       | asks t e o r ↦ subst (Result choices code table base m s going w l p (Compare x c a b)) (sym r) (null_result choices code table base m s going w l p (Compare x c a b) t (open_below s.known.marks t o) o)
       | passes kb r ↦ subst (Result choices code table base m s going w l p (Compare x c a b)) (sym r) (compare_known x c a b is h g ka kb (objected s.known (term_of s.known a)) (objected s.known (term_of s.known b)))
     ])

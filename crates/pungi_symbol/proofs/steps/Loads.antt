@@ -131,7 +131,7 @@ module _ (choices : List Choice) (code : List Line) (table : Table) (base : ℕ)
   at_result x place z i is e f g =
       let h = (slot_note s.known.slots i).held in
       elim (setting_is h (Does Quiet)) [
-        | unset_s u q ↦ subst (Result choices code table base m s going w l p (Load x place)) (sym q) (stops_result choices code table base m s going w l p (Load x place) Quiet m is (load_at x place z i f g ∙ ap (λ y. LoadGo x (after_load (content_of table y) 0 m.world)) u))
+        | unset_s u q ↦ subst (Result choices code table base m s going w l p (Load x place)) (sym q) (stops_result choices code table base m s going w l p (Load x place) Quiet is (load_at x place z i f g ∙ ap (λ y. LoadGo x (after_load (content_of table y) 0 m.world)) u))
         | set_s ne q ↦ subst (Result choices code table base m s going w l p (Load x place)) (sym q) (
             let us = m.used ++ replicate 0 p in
             let same : length us ≡ length m.used = let a = length-append m.used (replicate 0 p) in omega (arith, a) in
@@ -201,7 +201,7 @@ module _ (choices : List Choice) (code : List Line) (table : Table) (base : ℕ)
   Wm place = content_mark (place_kind place)
 
   load_by : (x : Var) (place : Place) → Linked table base choices → is_pointer (place_kind place) ≡ true → IsLine choices code table base m s going w l p (Load x place) → Sought choices code table base m s going w l p place → Result choices code table base m s going w l p (Load x place) (asks_load s.known (Wm place) (find s.known place))
-  load_by x place linked kind is (seeks_stop e f) = subst (Result choices code table base m s going w l p (Load x place)) (sym (ap (asks_load s.known (Wm place)) e)) (stops_result choices code table base m s going w l p (Load x place) Quiet m is (ap (λ o. on_slot o p m (LoadOn x)) f))
+  load_by x place linked kind is (seeks_stop e f) = subst (Result choices code table base m s going w l p (Load x place)) (sym (ap (asks_load s.known (Wm place)) e)) (stops_result choices code table base m s going w l p (Load x place) Quiet is (ap (λ o. on_slot o p m (LoadOn x)) f))
   load_by x place linked kind is (seeks_null t e o) = subst (Result choices code table base m s going w l p (Load x place)) (sym (ap (asks_load s.known (Wm place)) e)) (null_result choices code table base m s going w l p (Load x place) t (open_below s.known.marks t o) o)
   load_by x place linked kind is (seeks_base t u j z e mt mu f hit other before) = subst (Result choices code table base m s going w l p (Load x place)) (sym (ap (asks_load s.known (Wm place)) e)) (base_result choices code table base m s going w l p (Load x place) place t u j z is refl mt mu f hit other before)
   load_by x place linked kind is (seeks_at i z e f g) = subst (Result choices code table base m s going w l p (Load x place)) (sym (ap (asks_load s.known (Wm place)) e)) (at_result x place z i is e f g)

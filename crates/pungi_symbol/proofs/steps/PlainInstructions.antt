@@ -50,7 +50,7 @@ module _ (choices : List Choice) (code : List Line) (table : Table) (base : ℕ)
 
   pub set_result : (x : Var) (a : Atom) → IsLine choices code table base m s going w l p (Set x a) → is_there s.statics a ≡ true → Result choices code table base m s going w l p (Set x a) (asks_set (term_of s.known a) (Does Quiet))
   set_result x a is h = elim (setting_is (term_of s.known a) (Does Quiet)) [
-    | unset_s e q ↦ subst (Result choices code table base m s going w l p (Set x a)) (sym q) (stops_result choices code table base m s going w l p (Set x a) Quiet m is (unset_led a _ h e))
+    | unset_s e q ↦ subst (Result choices code table base m s going w l p (Set x a)) (sym q) (stops_result choices code table base m s going w l p (Set x a) Quiet is (unset_led a _ h e))
     | set_s ne q ↦ subst (Result choices code table base m s going w l p (Set x a)) (sym q) (inr (
       refl,
       goes_on _ (as_many m) (led_is choices code table base m s going w l p (Set x a) is ∙ set_led a _ h ne) going
@@ -75,7 +75,7 @@ module _ (choices : List Choice) (code : List Line) (table : Table) (base : ℕ)
     goes_on _ (as_many m) (led_is choices code table base m s going w l p (Arith x kind o a b) is ∙ arith_led x kind o a b h g ne nf ∙ ap (λ z. on_number z p m (λ n. goes (s.known.pc + 1) (put x (content.Holds (value.Int n)) m))) e) going
         (put_lies choices code table base m s going w l p x (Number (number_there (arithmetic o kind (number s.known (term_of s.known a)) (number s.known (term_of s.known b))))) (content.Holds (value.Int n)) (s.known.pc + 1) (ap (λ z. content.Holds (value.Int (number_there z))) e)),
   )
-  arith_by x kind o a b None below is h g ne nf e = stops_result choices code table base m s going w l p (Arith x kind o a b) (Outcome (cond below 0 2)) m is (arith_led x kind o a b h g ne nf ∙ ap (λ z. on_number z p m (λ n. goes (s.known.pc + 1) (put x (content.Holds (value.Int n)) m))) e)
+  arith_by x kind o a b None below is h g ne nf e = stops_result choices code table base m s going w l p (Arith x kind o a b) (Outcome (cond below 0 2)) is (arith_led x kind o a b h g ne nf ∙ ap (λ z. on_number z p m (λ n. goes (s.known.pc + 1) (put x (content.Holds (value.Int n)) m))) e)
 
   abbrev Ranged : ValueKind → Op → Atom → Atom → Question
   Ranged kind o a b = asks_range (arithmetic o kind (number s.known (term_of s.known a)) (number s.known (term_of s.known b))) (is_below o (number s.known (term_of s.known a)) (number s.known (term_of s.known b)))
@@ -83,9 +83,9 @@ module _ (choices : List Choice) (code : List Line) (table : Table) (base : ℕ)
   pub arith_result : (x : Var) (kind : ValueKind) (o : Op) (a b : Atom) → IsLine choices code table base m s going w l p (Arith x kind o a b) → is_there s.statics a ≡ true → is_there s.statics b ≡ true
       → Result choices code table base m s going w l p (Arith x kind o a b) (asks_set (term_of s.known a) (asks_set (term_of s.known b) (Ranged kind o a b)))
   arith_result x kind o a b is h g = elim (setting_is (term_of s.known a) (asks_set (term_of s.known b) (Ranged kind o a b))) [
-    | unset_s e q ↦ subst (Result choices code table base m s going w l p (Arith x kind o a b)) (sym q) (stops_result choices code table base m s going w l p (Arith x kind o a b) Quiet m is (unset_led a _ h e))
+    | unset_s e q ↦ subst (Result choices code table base m s going w l p (Arith x kind o a b)) (sym q) (stops_result choices code table base m s going w l p (Arith x kind o a b) Quiet is (unset_led a _ h e))
     | set_s ne q ↦ subst (Result choices code table base m s going w l p (Arith x kind o a b)) (sym q) (elim (setting_is (term_of s.known b) (Ranged kind o a b)) [
-      | unset_s e r ↦ subst (Result choices code table base m s going w l p (Arith x kind o a b)) (sym r) (stops_result choices code table base m s going w l p (Arith x kind o a b) Quiet m is (set_led a _ h ne ∙ unset_led b _ g e))
+      | unset_s e r ↦ subst (Result choices code table base m s going w l p (Arith x kind o a b)) (sym r) (stops_result choices code table base m s going w l p (Arith x kind o a b) Quiet is (set_led a _ h ne ∙ unset_led b _ g e))
       | set_s nf r ↦ subst (Result choices code table base m s going w l p (Arith x kind o a b)) (sym r) (arith_by x kind o a b (arithmetic o kind (number s.known (term_of s.known a)) (number s.known (term_of s.known b))) _ is h g ne nf refl)
     ])
   ]
@@ -100,11 +100,11 @@ module _ (choices : List Choice) (code : List Line) (table : Table) (base : ℕ)
     goes_on _ (as_many m) (led_is choices code table base m s going w l p (Fit x kind a) is ∙ set_led a _ h ne ∙ ap (FitGo x kind) (value_number a h) ∙ ap (λ z. cond z (goes (s.known.pc + 1) (put x (content.Holds (value.Int (number s.known (term_of s.known a)))) m)) (after.Stops p, m)) e) going
         (put_lies choices code table base m s going w l p x (Number (number s.known (term_of s.known a))) (content.Holds (value.Int (number s.known (term_of s.known a)))) (s.known.pc + 1) refl),
   )
-  fit_by x kind a false is h ne e = stops_result choices code table base m s going w l p (Fit x kind a) (Outcome (cond (int_lt (number s.known (term_of s.known a)) (pos 0)) 0 2)) m is (set_led a _ h ne ∙ ap (FitGo x kind) (value_number a h) ∙ ap (λ z. cond z (goes (s.known.pc + 1) (put x (content.Holds (value.Int (number s.known (term_of s.known a)))) m)) (after.Stops p, m)) e)
+  fit_by x kind a false is h ne e = stops_result choices code table base m s going w l p (Fit x kind a) (Outcome (cond (int_lt (number s.known (term_of s.known a)) (pos 0)) 0 2)) is (set_led a _ h ne ∙ ap (FitGo x kind) (value_number a h) ∙ ap (λ z. cond z (goes (s.known.pc + 1) (put x (content.Holds (value.Int (number s.known (term_of s.known a)))) m)) (after.Stops p, m)) e)
 
   pub fit_result : (x : Var) (kind : ValueKind) (a : Atom) → IsLine choices code table base m s going w l p (Fit x kind a) → is_there s.statics a ≡ true → Result choices code table base m s going w l p (Fit x kind a) (asks_set (term_of s.known a) (asks_fit kind (number s.known (term_of s.known a))))
   fit_result x kind a is h = elim (setting_is (term_of s.known a) (asks_fit kind (number s.known (term_of s.known a)))) [
-    | unset_s e q ↦ subst (Result choices code table base m s going w l p (Fit x kind a)) (sym q) (stops_result choices code table base m s going w l p (Fit x kind a) Quiet m is (unset_led a _ h e))
+    | unset_s e q ↦ subst (Result choices code table base m s going w l p (Fit x kind a)) (sym q) (stops_result choices code table base m s going w l p (Fit x kind a) Quiet is (unset_led a _ h e))
     | set_s ne q ↦ subst (Result choices code table base m s going w l p (Fit x kind a)) (sym q) (fit_by x kind a (fits kind (number s.known (term_of s.known a))) is h ne refl)
   ]
 
@@ -115,7 +115,7 @@ module _ (choices : List Choice) (code : List Line) (table : Table) (base : ℕ)
   jump_result to is = inr (refl, goes_on _ (as_many m) (led_is choices code table base m s going w l p (Jump to) is) going (jump_lies choices code table base m s going w l p to.0))
 
   pub fall_result : IsLine choices code table base m s going w l p Fall → Result choices code table base m s going w l p Fall (Stops Quiet)
-  fall_result is = stops_result choices code table base m s going w l p Fall Quiet m is refl
+  fall_result is = stops_result choices code table base m s going w l p Fall Quiet is refl
 
   -- ---- branches
 
@@ -132,7 +132,7 @@ module _ (choices : List Choice) (code : List Line) (table : Table) (base : ℕ)
 
   branch_by : (a : Atom) (this other : Label) (x : Term) → term_of s.known a ≡ x → IsLine choices code table base m s going w l p (Branch a this other) → is_there s.statics a ≡ true
       → Result choices code table base m s going w l p (Branch a this other) (asks_order (number_in x) (Some (pos 0)) (asks_known s.known x (Does Quiet)))
-  branch_by a this other Unset e is h = stops_result choices code table base m s going w l p (Branch a this other) Quiet m is (unset_led a _ h e)
+  branch_by a this other Unset e is h = stops_result choices code table base m s going w l p (Branch a this other) Quiet is (unset_led a _ h e)
   branch_by a this other Null e is h = branch_goes a this other Quiet is h (λ z. let bad : Null ≡ Unset = sym e ∙ z in cc) (ap (λ y. is_true (term_value table y)) e ∙ sym (ap (λ y. is_true (known_value s.known y)) e))
   branch_by a this other Text e is h = branch_goes a this other Quiet is h (λ z. let bad : Text ≡ Unset = sym e ∙ z in cc) (ap (λ y. is_true (term_value table y)) e ∙ sym (ap (λ y. is_true (known_value s.known y)) e))
   branch_by a this other (Number n) e is h = branch_goes a this other (Order (int_cmp n (pos 0))) is h (λ z. let bad : Number n ≡ Unset = sym e ∙ z in cc) (ap (λ y. is_true (term_value table y)) e ∙ sym (ap (λ y. is_true (known_value s.known y)) e))
@@ -154,7 +154,7 @@ module _ (choices : List Choice) (code : List Line) (table : Table) (base : ℕ)
   pub return_result : (o : Option Atom) → IsLine choices code table base m s going w l p (Return o) → list_all (is_there s.statics) (atom_in o) ≡ true → Result choices code table base m s going w l p (Return o) (asks_return s.known o)
   return_result None is h = returns_result choices code table base m s going w l p (Return None) None is refl
   return_result (Some a) is h = elim (knowing_is s.known (term_of s.known a) (Returns (Some (term_of s.known a)))) [
-    | unset e q ↦ subst (Result choices code table base m s going w l p (Return (Some a))) (sym q) (stops_result choices code table base m s going w l p (Return (Some a)) Quiet m is (unset_led a _ (one_there a h) e))
+    | unset e q ↦ subst (Result choices code table base m s going w l p (Return (Some a))) (sym q) (stops_result choices code table base m s going w l p (Return (Some a)) Quiet is (unset_led a _ (one_there a h) e))
     | asks u z o q ↦ subst (Result choices code table base m s going w l p (Return (Some a))) (sym q) (null_result choices code table base m s going w l p (Return (Some a)) u (open_below s.known.marks u o) o)
     | passes k q ↦ subst (Result choices code table base m s going w l p (Return (Some a))) (sym q) (
         let ne = known_set s.known (term_of s.known a) k in

@@ -96,7 +96,7 @@ pub data Moved (choices : List Choice) (code : List Line) (table : Table) (base 
   stays : s'.known.pc ≡ pc → s'.known.status ≡ status.Going → effort s'.known < before → Lies code table base m s' → Moved choices code table base pc before m s'
   goes_on : (m' : Regs) → length m.world.accounts ≤ length m'.world.accounts → leads_at choices code pc m ≡ (after.Goes s'.known.pc, m') → s'.known.status ≡ status.Going → Lies code table base m' s' → Moved choices code table base pc before m s'
   leaves : (p : Pos) (x : Option Term) → s'.known.status ≡ status.Returned p x → leads_at choices code pc m ≡ (after.Leaves p (returned_value table x), m) → Lies code table base m s' → Moved choices code table base pc before m s'
-  halts : (p : Pos) (m' : Regs) → s'.known.status ≡ status.Stopped p → leads_at choices code pc m ≡ (after.Stops p, m') → Lies code table base m s' → Moved choices code table base pc before m s'
+  halts : (p : Pos) → s'.known.status ≡ status.Stopped p → leads_at choices code pc m ≡ (after.Stops p, m) → Lies code table base m s' → Moved choices code table base pc before m s'
 
 pub as_many : (m : Regs) → length m.world.accounts ≤ length m.world.accounts
 as_many m = omega arith
@@ -180,10 +180,10 @@ module _ (choices : List Choice) (code : List Line) (table : Table) (base : ℕ)
       )
 
   -- the run stops
-  pub stops_result : (i : Instr) (d : Decision) (m' : Regs) → IsLine i → leads choices i p s.known.pc m ≡ (after.Stops p, m') → Result i (Stops d)
-  stops_result i d m' is e = inr (
+  pub stops_result : (i : Instr) (d : Decision) → IsLine i → leads choices i p s.known.pc m ≡ (after.Stops p, m) → Result i (Stops d)
+  stops_result i d is e = inr (
     same_decision d,
-    halts p m' refl (led_is i is ∙ e) (record {
+    halts p refl (led_is i is ∙ e) (record {
       fits = l.fits;
       vars = l.vars;
       slots = l.slots;

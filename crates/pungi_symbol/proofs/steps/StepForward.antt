@@ -73,7 +73,7 @@ module _ (choices : List Choice) (code : List Line) (table : Table) (base : ℕ)
   line_by : (o : Option Line) → Linked table base choices → slice_get code s.known.pc ≡ o → ((line : Line) → o ≡ Some line → is_object_instr s.statics line.instr ≡ true) → Stepped o (asks_line s.known o)
   line_by None linked e form = inr (
     refl,
-    halts _ m refl (ap (λ o. leads_line choices o s.known.pc m) e) (record {
+    halts _ refl (ap (λ o. leads_line choices o s.known.pc m) e) (record {
       fits = l.fits;
       vars = l.vars;
       slots = l.slots;

@@ -266,7 +266,7 @@ module _ (choices : List Choice) (code : List Line) (table : Table) (base : ℕ)
 
   store_by : (place : Place) (a : Atom) → Linked table base choices → is_pointer (place_kind place) ≡ true → is_there s.statics a ≡ true → IsKnown s.known (term_of s.known a) → IsLine choices code table base m s going w l p (Store place a) → Sought choices code table base m s going w l p place
       → Result choices code table base m s going w l p (Store place a) (asks_store s.known (Wm place) (find s.known place))
-  store_by place a linked kind h ka is (seeks_stop e f) = subst (Result choices code table base m s going w l p (Store place a)) (sym (ap (asks_store s.known (Wm place)) e)) (stops_result choices code table base m s going w l p (Store place a) Quiet m is (store_led place a h (known_set s.known (term_of s.known a) ka) ∙ ap (λ o. on_slot o p m (StoreOn (Va a))) f))
+  store_by place a linked kind h ka is (seeks_stop e f) = subst (Result choices code table base m s going w l p (Store place a)) (sym (ap (asks_store s.known (Wm place)) e)) (stops_result choices code table base m s going w l p (Store place a) Quiet is (store_led place a h (known_set s.known (term_of s.known a) ka) ∙ ap (λ o. on_slot o p m (StoreOn (Va a))) f))
   store_by place a linked kind h ka is (seeks_null t e o) = subst (Result choices code table base m s going w l p (Store place a)) (sym (ap (asks_store s.known (Wm place)) e)) (null_result choices code table base m s going w l p (Store place a) t (open_below s.known.marks t o) o)
   store_by place a linked kind h ka is (seeks_base t u j z e mt mu f hit other before) = subst (Result choices code table base m s going w l p (Store place a)) (sym (ap (asks_store s.known (Wm place)) e)) (base_result choices code table base m s going w l p (Store place a) place t u j z is refl mt mu f hit other before)
   store_by place a linked kind h ka is (seeks_at i z e f g) = subst (Result choices code table base m s going w l p (Store place a)) (sym (ap (asks_store s.known (Wm place)) e)) (at_result place a z i h ka is e f g)
@@ -275,7 +275,7 @@ module _ (choices : List Choice) (code : List Line) (table : Table) (base : ℕ)
   pub store_result : (place : Place) (a : Atom) → Linked table base choices → is_pointer (place_kind place) ≡ true → is_there s.statics a ≡ true → list_all (is_there s.statics) (atoms_in place) ≡ true → IsLine choices code table base m s going w l p (Store place a)
       → Result choices code table base m s going w l p (Store place a) (asks_known s.known (term_of s.known a) (asks_store s.known (Wm place) (find s.known place)))
   store_result place a linked kind h hs is = elim (knowing_is s.known (term_of s.known a) (asks_store s.known (Wm place) (find s.known place))) [
-    | unset e q ↦ subst (Result choices code table base m s going w l p (Store place a)) (sym q) (stops_result choices code table base m s going w l p (Store place a) Quiet m is (unset_led choices code table base m s going w l p a _ h e))
+    | unset e q ↦ subst (Result choices code table base m s going w l p (Store place a)) (sym q) (stops_result choices code table base m s going w l p (Store place a) Quiet is (unset_led choices code table base m s going w l p a _ h e))
     | asks t e o q ↦ subst (Result choices code table base m s going w l p (Store place a)) (sym q) (null_result choices code table base m s going w l p (Store place a) t (open_below s.known.marks t o) o)
     | passes ka q ↦ subst (Result choices code table base m s going w l p (Store place a)) (sym q) (store_by place a linked kind h ka is (sought choices code table base m s going w l p place hs (walked_is choices code table base m s going w l p (Store place a) place is refl)))
   ]

@@ -1,10 +1,12 @@
--- One instruction of a code as a function: where it leads, and what is held then.
+-- The instructions of a code as functions: where they lead, and what is held then.
 --   on_value, on_slot, on_values, on_number   an operand is read, where there is one
 --   on_effect                    what the world returns
 --   Led, goes                    where a step leads, with what is held then; it goes on
 --   leads choices i p pc m       where an instruction leads
 --   leads_line, leads_at         where the next instruction leads
-use Rattle.std.specs.Prelude.{ℕ, ◌+◌, ℤ, List, ◌++◌, replicate, slice_get, Option, Some, None, Result, Ok, Err, if◌then◌else◌}
+--   led_on choices code a m      where one more instruction leads; a run that is over stays where it is
+--   machine_at choices code n m  where so many instructions lead from the start of a code, where m is held at first
+use Rattle.std.specs.Prelude.{ℕ, zero, suc, ◌+◌, ℤ, List, ◌++◌, replicate, slice_get, Option, Some, None, Result, Ok, Err, if◌then◌else◌}
 use Rattle.pungi_base.specs.declared.choice.Choice.{Choice}
 use Rattle.pungi_base.specs.declared.pos.Pos.{Pos}
 use Rattle.pungi_base.specs.declared.value.Value.{Value}
@@ -85,3 +87,15 @@ leads_line choices (Some line) pc m = leads choices line.instr line.pos pc m
 
 abbrev pub leads_at : List Choice → List Line → ℕ → Regs → Led
 leads_at choices code pc m = leads_line choices (slice_get code pc) pc m
+
+-- ---- many instructions
+
+abbrev pub led_on : List Choice → List Line → After → Regs → Led
+led_on choices code (after.Goes pc) m = leads_at choices code pc m
+led_on choices code (after.Leaves p v) m = (after.Leaves p v, m)
+led_on choices code (after.Stops p) m = (after.Stops p, m)
+led_on choices code after.Wants m = (after.Wants, m)
+
+abbrev pub machine_at : List Choice → List Line → ℕ → Regs → Led
+machine_at choices code zero m = goes 0 m
+machine_at choices code (suc n) m = led_on choices code (machine_at choices code n m).0 (machine_at choices code n m).1

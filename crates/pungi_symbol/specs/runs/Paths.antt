@@ -7,6 +7,8 @@
 --   Asked                         the trace of a run, the newest answer first
 --   Path                          a path of states, by its answers, the newest first
 --   run_for                       how a run of so many instructions ends
+--   led_of                        where a run of a state is, and what is held there
+--   EndsFrom                      a run of that many instructions or more ends as the run from there on
 --   IsAt                          a run is, after so many instructions, where a state says
 --   Meets                         a run is, after so many instructions, in a state at the end of a path with its trace
 --   IsCovered                     so is each run, as long as it needs no choice that isn't there
@@ -17,7 +19,7 @@
 --   end_of                        how a state ends
 --   returned_object, is_class     the token that is returned, where it is an object; whether a token stands for it
 --   wanted, IsLevelState          what is owed to the object of a token where a function returns; each balance is that
-use Rattle.std.specs.Prelude.{◌≡◌, ℕ, ◌+◌, ◌-◌, ◌<◌, ◌==◌, ℤ, pos, ◌⊎◌, Bool, true, false, List, [], ◌∷◌, ◌++◌, length, map, take, replicate, slice_get, Option, Some, None, if◌then◌else◌}
+use Rattle.std.specs.Prelude.{◌≡◌, ℕ, ◌+◌, ◌-◌, ◌<◌, ◌≤◌, ◌==◌, ℤ, pos, ◌⊎◌, Bool, true, false, List, [], ◌∷◌, ◌++◌, length, map, take, replicate, slice_get, Option, Some, None, if◌then◌else◌}
 use Rattle.std.specs.List.{range_with_len}
 use Rattle.pungi_base.specs.declared.choice.Choice.{Choice}
 use Rattle.pungi_base.specs.declared.choice.Choice.TheVariants as choice
@@ -31,6 +33,8 @@ use Rattle.pungi_meaning.specs.Run as run
 use Rattle.pungi_code.specs.declared.code.Code.{Code}
 use Rattle.pungi_code.specs.declared.code.Line.{Line}
 use Rattle.pungi_code.specs.Entries.{code_fits}
+use Rattle.pungi_code.specs.declared.registers.After.TheVariants as after
+use Rattle.pungi_code.specs.Machine.{Reaches}
 use Rattle.pungi_code.specs.Registers.{Regs}
 use Rattle.pungi_code.specs.Run.{exec, start}
 use Rattle.pungi_symbol.specs.declared.answers.decision.Decision.{Decision}
@@ -52,6 +56,7 @@ use Rattle.pungi_symbol.specs.questions.NextQuestion.{ask, content_mark}
 use Rattle.pungi_symbol.specs.answers.KnownAfter.{go}
 use Rattle.pungi_symbol.specs.answers.SymbolicState.{class_of, balance_at, can, apply}
 use Rattle.pungi_symbol.specs.runs.Fits.{FitsState}
+use Rattle.pungi_symbol.specs.runs.OneInstruction.{Led, machine_at}
 use Rattle.pungi_symbol.specs.runs.RunInState.{answer, Lies}
 
 abbrev pub value_in : Content → Option Value
@@ -111,16 +116,25 @@ pub data Path (code : List Line) (first : State) : List Decision → State → T
 abbrev pub run_for : Code → Entry → List Choice → ℕ → run.End
 run_for code entry choices n = (exec choices code.instrs n 0 (start code entry)).end
 
-abbrev pub IsAt : Code → Entry → List Choice → ℕ → Table → Regs → ℕ → Status → Type 0
-IsAt code entry choices n table m pc status.Going = (fuel : ℕ) → run_for code entry choices (n + fuel) ≡ (exec choices code.instrs fuel pc m).end
-IsAt code entry choices n table m pc (status.Returned p x) = (fuel : ℕ) → run_for code entry choices (n + fuel) ≡ run.Returned m.world (returned_value table x) p m.used
-IsAt code entry choices n table m pc (status.Stopped p) = (fuel : ℕ) → run_for code entry choices (n + fuel) ≡ run.Stopped p
+abbrev pub led_of : Table → Regs → ℕ → Status → Led
+led_of table m pc status.Going = (after.Goes pc, m)
+led_of table m pc (status.Returned p x) = (after.Leaves p (returned_value table x), m)
+led_of table m pc (status.Stopped p) = (after.Stops p, m)
 
+abbrev pub EndsFrom : Code → Entry → List Choice → ℕ → Led → Type 0
+EndsFrom code entry choices n led = (fuel : ℕ) → run_for code entry choices (n + fuel) ≡ (Reaches (exec choices code.instrs fuel) led.0 led.1).end
+
+pub record IsAt (code : Code) (entry : Entry) (choices : List Choice) (n : ℕ) (table : Table) (m : Regs) (pc : ℕ) (z : Status) : Type 0 where
+  pub machine : machine_at choices code.instrs n (start code entry) ≡ led_of table m pc z
+  pub ends : EndsFrom code entry choices n (led_of table m pc z)
+
+-- each instruction asks at least once
 pub record Meets (statics f : ℕ) (code : Code) (entry : Entry) (choices : List Choice) (n : ℕ) (ds : List Decision) (s : State) : Type 0 where
   pub path : Path code.instrs (start_state statics f code) ds s
   pub asked : Asked code.instrs (table_of statics entry choices) (known_at statics f code) ds s.known
   pub m : Regs
   pub lies : Lies code.instrs (table_of statics entry choices) (statics + argument_count code) m s
+  pub enough : s.known.status ≡ status.Going → n ≤ length ds
   pub is_at : IsAt code entry choices n (table_of statics entry choices) m s.known.pc s.known.status
 
 abbrev pub IsCovered : ℕ → ℕ → Code → Type 0

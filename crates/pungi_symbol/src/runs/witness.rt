@@ -1,5 +1,5 @@
 // A run for a state: the values of its tokens where all that may differ differs.
-ghost use Rattle.std.specs.Prelude.{◌≡◌, ◌<◌, ◌^◌, drop, map, take, IfOk};
+ghost use Rattle.std.specs.Prelude.{◌≡◌, ◌<◌, ◌^◌, nat_lt, drop, map, take, IfOk};
 ghost use Rattle.std.specs.Option.{option_map_or};
 ghost use Rattle.pungi_code.specs.Run.{code_at};
 ghost use Rattle.pungi_symbol.specs.states.Known.{count};
@@ -58,6 +58,13 @@ fn choices_for(alloc: Global, values: &[Value]) -> Result<Vec<Choice>, Memory>
 {
     let choices: Vec<Choice> = values.iter().map(|v| choice_for(*v)).collect(alloc)?;
     Ok(choices)
+}
+
+/// Whether an entry may have as many objects as there are tokens.
+pub fn has_few_tokens(state: &State) -> bool
+    ensures { result ≡ nat_lt (count state.now.known) (2 ^ 31) }
+{
+    state.known.marks.len() < 0x8000_0000
 }
 
 /// There are as many objects as tokens.

@@ -25,7 +25,7 @@ returns-then-ended-eq-MOST_TRACES c code has =
     let s = c.in-Some.state in
     let so_far = subst (λ ss. Searched c.args.codes.now c.args.f code ss c.states.ended) c.in-Some.ensures.items (c.states.invariant.searched code has) in
     let seen : Visits c.args.codes.now s old c.visit.new.pending Ends = subst (Visits c.args.codes.now s old c.visit.new.pending) c.in-Ends.is c.in_ok-visit.ensures in
-    too_many c.args.codes.now c.args.f code has old s c.states.ended so_far seen.0 c.if-ended-eq-MOST_TRACES.true
+    too_many c.args.codes.now c.args.f code has old s c.states.ended so_far seen.0 seen.1.0.1 c.if-ended-eq-MOST_TRACES.true
 
 pub returns-in-Unbalanced : goal.returns-in-Unbalanced
 returns-in-Unbalanced c code has =
@@ -62,6 +62,6 @@ states-preserved c =
             few = omega (arith, few, more, other);
             searched = λ code has.
                 let so_far = subst (λ ss. Searched codes f code ss c.states.ended) c.in-Some.ensures.items (c.states.invariant.searched code has) in
-                subst (Searched codes f code new) (sym more) (subst (λ ss. Searched codes f code ss (c.states.ended + 1)) (sym seen.1.1) (ended_searched codes f code has old s c.states.ended so_far seen.0 seen.1.0));
+                subst (Searched codes f code new) (sym more) (subst (λ ss. Searched codes f code ss (c.states.ended + 1)) (sym seen.1.1) (ended_searched codes f code has old s c.states.ended so_far seen.0 seen.1.0.0 seen.1.0.1));
           }
     ]
