@@ -1,5 +1,5 @@
 -- Each answer that a question still has is among those that stand for next states.
-use Rattle.std.proofs.Common.{◌≡◌, ℕ, zero, suc, ◌≤◌, ℤ, pos, List, [], ◌∷◌, length, drop, Bool, true, false, refl, arith, ◌⊎◌, inl, inr, Option, None, Some, cond}
+use Rattle.std.proofs.Common.{◌≡◌, ℕ, zero, suc, ◌≤◌, ℤ, pos, List, [], ◌∷◌, length, drop, Bool, true, false, refl, arith, inl, inr, Option, None, Some, cond}
 use Rattle.std.specs.Prelude.{nat_lt, slice_get, position}
 use Rattle.std.specs.declared.cmp.Ordering.TheVariants.{Less, Equal, Greater}
 use Rattle.std.proofs.lemmas.Bool.Decides.{nat_tests}

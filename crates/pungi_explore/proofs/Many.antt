@@ -1,5 +1,5 @@
 -- Leaves of the trees below states, as different traces to ends.
-use Rattle.std.proofs.Common.{◌≡◌, ℕ, zero, suc, ◌+◌, ◌<◌, ◌≤◌, List, [], ◌∷◌, ◌++◌, length, map, Bool, true, false, refl, sym, ap, ◌∙◌, subst, arith, ◌⊎◌, inl, inr, cond}
+use Rattle.std.proofs.Common.{◌≡◌, ℕ, suc, ◌+◌, ◌≤◌, List, [], ◌∷◌, ◌++◌, length, map, Bool, true, false, refl, sym, ap, ◌∙◌, subst, arith, ◌⊎◌, inl, inr, cond}
 use Rattle.std.specs.Prelude.{slice_get}
 use Rattle.std.specs.List.{flat_map}
 use Rattle.std.specs.declared.cmp.Ordering.TheVariants.{Less, Equal, Greater}
@@ -17,8 +17,8 @@ use Rattle.pungi_symbol.specs.answers.SymbolicState.{can, apply, successors, aft
 use Rattle.pungi_symbol.specs.runs.Paths.{Path, path_here}
 use Rattle.pungi_explore.specs.Traces.{IsIn, AreDifferent, HasEnded, states_after}
 use Rattle.pungi_explore.proofs.Begins.{Told, began}
-use Rattle.pungi_explore.proofs.Different.{in_left, in_right, in_parts, different_joined, different_mapped, IsOfMap, of_map}
-use Rattle.pungi_explore.proofs.Each.{Each, each_in}
+use Rattle.pungi_explore.proofs.Different.{in_parts, different_joined, different_mapped, of_map}
+use Rattle.pungi_explore.proofs.Each.{each_in}
 use Rattle.pungi_explore.proofs.Few.{same_head, same_tail}
 use Rattle.pungi_explore.proofs.Nexts.{each_answer}
 use Rattle.pungi_explore.proofs.Trees.{HaveAtLeast, none_left, left_out, one_ended, one_goes_on}

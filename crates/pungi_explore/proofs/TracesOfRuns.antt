@@ -20,10 +20,9 @@ use Rattle.pungi_explore.specs.Traces.{Trace, trace_in, IsIn, IsDone, IsTrace, H
 use Rattle.pungi_explore.proofs.SameAnswers.{same_path}
 use Rattle.pungi_explore.proofs.Begins.{Told}
 use Rattle.pungi_explore.proofs.Different.{in_map, of_map, different_mapped, as_many}
-use Rattle.pungi_explore.proofs.Each.{Each}
 use Rattle.pungi_explore.proofs.Ends.{of_function, is_reached}
 use Rattle.pungi_explore.proofs.Few.{AreIn, few_from, IsShort, depth}
-use Rattle.pungi_explore.proofs.Many.{Leads, many_from}
+use Rattle.pungi_explore.proofs.Many.{many_from}
 use Rattle.pungi_explore.proofs.OneTrace.{one_trace}
 use Rattle.pungi_explore.proofs.Trees.{HaveTraces, HaveAtLeast}
 
