@@ -32,10 +32,12 @@ no_refused_call x w = ands-false (is_some_definition (definition_in (definitions
 -- a set that holds no called word says the same as the empty one
 pub none_agree : (x : World) (t ws : List ℕ) → list_any (refused_call x t) ws ≡ false → Agree x [] t ws
 none_agree x t [] h = tt
-none_agree x t (w ∷ ws) h = elim (refused_call x t w) as (λ b. (refused_call x t w ≡ b) → (b || list_any (refused_call x t) ws) ≡ false → Agree x [] t (w ∷ ws)) [
-  | true ↦ λ e k. absurd (cc)
-  | false ↦ λ e k. (no_refused_call x w ∙ sym e, none_agree x t ws k)
-] refl h
+none_agree x t (w ∷ ws) h =
+    elim (refused_call x t w) as (λ b. (refused_call x t w ≡ b) → (b || list_any (refused_call x t) ws) ≡ false
+    → Agree x [] t (w ∷ ws)) [
+      | true ↦ λ e k. absurd (cc)
+      | false ↦ λ e k. (no_refused_call x w ∙ sym e, none_agree x t ws k)
+    ] refl h
 
 abbrev pub is_found : Findings → Bool
 is_found nothing_found = false
@@ -44,7 +46,8 @@ is_found (f and g) = is_found f || is_found g
 
 is_some-earlier : (first : Option Finding) (f : Finding) → is_some (earlier first f) ≡ true
 is_some-earlier None f = refl
-is_some-earlier (Some a) f = elim (is_before f a) as (λ b. is_some (if b then Some f else Some a) ≡ true) [ true ↦ refl | false ↦ refl ]
+is_some-earlier (Some a) f =
+    elim (is_before f a) as (λ b. is_some (if b then Some f else Some a) ≡ true) [ true ↦ refl | false ↦ refl ]
 
 pub kept : (fs : Findings) (first : Option Finding) → is_some first ≡ true → is_some (least_from first fs) ≡ true
 kept nothing_found first h = h
@@ -54,10 +57,12 @@ kept (f and g) first h = kept g (least_from first f) (kept f first h)
 pub told : (fs : Findings) (first : Option Finding) → is_found fs ≡ true → is_some (least_from first fs) ≡ true
 told nothing_found first h = absurd (cc)
 told (one_found f) first h = is_some-earlier first f
-told (f and g) first h = elim (is_found f) as (λ b. (is_found f ≡ b) → (b || is_found g) ≡ true → is_some (least_from first (f and g)) ≡ true) [
-  | true ↦ λ e k. kept g (least_from first f) (told f first e)
-  | false ↦ λ e k. told g (least_from first f) k
-] refl h
+told (f and g) first h =
+    elim (is_found f) as (λ b. (is_found f ≡ b) → (b || is_found g) ≡ true
+    → is_some (least_from first (f and g)) ≡ true) [
+      | true ↦ λ e k. kept g (least_from first f) (told f first e)
+      | false ↦ λ e k. told g (least_from first f) k
+    ] refl h
 
 -- where the test holds of one of these words, a rule holds in the part
 pub record Finds (p : ℕ → Bool) (ws : List ℕ) (fs : Findings) : Type 0 where
@@ -84,7 +89,12 @@ pub either : (p : ℕ → Bool) (xs ys : List ℕ) (f : Findings) → Finds p xs
 either p [] ys f h k = k
 either p (x ∷ xs) ys f h k = elim (p x) as (λ b. (p x ≡ b) → Finds p (x ∷ xs ++ ys) f) [
   | true ↦ λ e. record { found = λ m. h.found (or-left (p x) (list_any p xs) e) }
-  | false ↦ λ e. record { found = λ m. (either p xs ys f (record { found = λ n. h.found (or-right (p x) (list_any p xs) n) }) k).found (rw e at m) }
+  | false ↦ λ e. record {
+    found = λ m. (either p xs ys f (record {
+      found = λ n. h.found
+          (or-right (p x) (list_any p xs) n);
+    }) k).found (rw e at m);
+  }
 ] refl
 
 -- the same, where each part finds its own

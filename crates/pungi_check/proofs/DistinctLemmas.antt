@@ -1,5 +1,6 @@
 -- Where no fault is found, functions have distinct names, and there are 4,096 at most.
-use Rattle.std.proofs.Common.{◌≡◌, ℕ, zero, suc, Bool, true, false, List, [], ◌∷◌, ◌++◌, Option, Some, None, refl, sym, ap, subst, ◌∙◌, arith}
+use Rattle.std.proofs.Common.{◌≡◌, ℕ, zero, suc, Bool, true, false, List, [], ◌∷◌, ◌++◌, Option, Some, None, refl, sym}
+use Rattle.std.proofs.Common.{ap, subst, ◌∙◌, arith}
 use Rattle.std.specs.Prelude.{◌==◌, ◌≤◌, ◌&&◌, ◌||◌, not, length, slice_get, if◌then◌else◌}
 use Rattle.std.specs.List.{list_any}
 use Rattle.std.proofs.lemmas.Bool.Decides.{nat_tests}
@@ -7,16 +8,19 @@ use Rattle.pungi_base.specs.declared.pos.Pos.{Pos}
 use Rattle.pungi_types.specs.Limits.{most_functions}
 use Rattle.pungi_types.specs.Files.{SourceFile, Definition, definitions, typedefs}
 use Rattle.pungi_types.specs.Tags.{tags}
-use Rattle.pungi_types.specs.Findings.{Findings, nothing_found, one_found, ◌and◌, when, is_before, earlier, least_from, least}
+use Rattle.pungi_types.specs.Findings.{Findings, nothing_found, one_found, ◌and◌, when, is_before, earlier, least_from}
+use Rattle.pungi_types.specs.Findings.{least}
 use Rattle.pungi_types.specs.Names.{is_among, with_word}
-use Rattle.pungi_check.specs.Duplicates.{is_taken, uses, use_faults, variable_faults, definition_faults, typedef_faults, tag_faults, count_faults, faults}
+use Rattle.pungi_check.specs.Duplicates.{is_taken, uses, use_faults, variable_faults, definition_faults, typedef_faults}
+use Rattle.pungi_check.specs.Duplicates.{tag_faults, count_faults, faults}
 use Rattle.pungi_types.specs.declared.finding.Finding.{Finding}
 use Rattle.pungi_check.specs.Distinct.{are_new}
 use Rattle.pungi_check.specs.Graph.{with_marked}
 use Rattle.pungi_check.specs.CallGraph.{refused_names}
 
 earlier-some : (a f : Finding) → earlier (Some a) f ≡ None → ⊥
-earlier-some a f h = elim (is_before f a) as (λ b. (if b then Some f else Some a) ≡ None → ⊥) [ true ↦ λ e. cc | false ↦ λ e. cc ] h
+earlier-some a f h =
+    elim (is_before f a) as (λ b. (if b then Some f else Some a) ≡ None → ⊥) [ true ↦ λ e. cc | false ↦ λ e. cc ] h
 
 -- what was found stays found
 stays : (o : Option Finding) (fs : Findings) → least_from o fs ≡ None → o ≡ None
@@ -57,8 +61,11 @@ definitions-new file seen (d ∷ ds) h =
 pub file-new : (file : SourceFile) → least (faults file) ≡ None → are_new [] (definitions file.items) ≡ true
 file-new file h =
     let others = use_faults [] (uses file.items file.items) and (variable_faults file (uses file.items file.items)
-    and (typedef_faults [] (typedefs file.items) and (tag_faults [] (tags file.items) and count_faults (slice_get (definitions file.items) most_functions)))) in
-    definitions-new file [] (definitions file.items) (left-none (definition_faults file [] (definitions file.items)) others h)
+    and (typedef_faults [] (typedefs file.items)
+    and (tag_faults [] (tags file.items) and count_faults (slice_get (definitions file.items) most_functions))))
+    in
+    definitions-new file [] (definitions file.items) (left-none (definition_faults file [] (definitions file.items))
+    others h)
 
 behind-the-end : {X : Type 0} (xs : List X) (i : ℕ) → slice_get xs i ≡ None → length xs ≤ i
 behind-the-end [] i h = omega (arith)
@@ -82,7 +89,8 @@ file-few file h =
     (right-none (variable_faults file (uses file.items file.items)) by-words
     (right-none (use_faults [] (uses file.items file.items)) by-variables
     (right-none (definition_faults file [] (definitions file.items)) by-uses h)))) in
-    behind-the-end (definitions file.items) most_functions (count-none (slice_get (definitions file.items) most_functions) none)
+    behind-the-end (definitions file.items) most_functions (count-none (slice_get (definitions file.items)
+    most_functions) none)
 
 pub and-left : (a b : Bool) → (not a && b) ≡ true → a ≡ false
 and-left true b h = absurd (cc)
@@ -115,7 +123,8 @@ or-left false b h = absurd (cc)
 pub kept : (ws : List ℕ) (w : ℕ) → is_among (with_word ws w) w ≡ true
 kept ws w = elim (is_among ws w) as (λ b. (is_among ws w ≡ b) → is_among (if b then ws else ws ++ w ∷ []) w ≡ true) [
   | true ↦ λ e. e
-  | false ↦ λ e. any-append (λ x. w == x) ws (w ∷ []) ∙ ap (λ b. (is_among ws w || (b || false))) (same_word w) ∙ or-right (is_among ws w)
+  | false ↦ λ e. any-append (λ x. w == x) ws (w ∷ []) ∙ ap (λ b. (is_among ws w || (b || false))) (same_word w)
+      ∙ or-right (is_among ws w)
 ] refl
 
 -- and so are those that were there
@@ -134,14 +143,18 @@ is-false true h = absurd (h refl)
 is-false false h = refl
 
 -- a later function has none of the names that were seen
-pub later-new : (ws : List ℕ) (ds : List Definition) (j : ℕ) (e : Definition) → are_new ws ds ≡ true → slice_get ds j ≡ Some e → is_among ws e.name.0 ≡ false
+pub later-new : (ws : List ℕ) (ds : List Definition) (j : ℕ) (e : Definition) → are_new ws ds ≡ true
+    → slice_get ds j ≡ Some e → is_among ws e.name.0 ≡ false
 later-new ws [] j e n s = absurd (cc)
 later-new ws (d ∷ ds) zero e n s =
     let same : d ≡ e = cc in
-    subst (λ (x : Definition). is_among ws x.name.0 ≡ false) same (and-left (is_among ws d.name.0) (are_new (with_word ws d.name.0) ds) n)
+    subst (λ (x : Definition). is_among ws x.name.0 ≡ false) same (and-left (is_among ws d.name.0)
+    (are_new (with_word ws d.name.0) ds) n)
 later-new ws (d ∷ ds) (suc j) e n s =
-    let later = later-new (with_word ws d.name.0) ds j e (and-right (is_among ws d.name.0) (are_new (with_word ws d.name.0) ds) n) s in
-    is-false (is_among ws e.name.0) (λ h. not-both (is_among (with_word ws d.name.0) e.name.0) (keeps ws d.name.0 e.name.0 h) later)
+    let later = later-new (with_word ws d.name.0) ds j e (and-right (is_among ws d.name.0)
+    (are_new (with_word ws d.name.0) ds) n) s in
+    is-false (is_among ws e.name.0) (λ h. not-both (is_among (with_word ws d.name.0) e.name.0)
+    (keeps ws d.name.0 e.name.0 h) later)
 
 with_new : (ws : List ℕ) (w : ℕ) → is_among ws w ≡ false → with_word ws w ≡ ws ++ w ∷ []
 with_new ws w h = ap (λ b. if b then ws else ws ++ w ∷ []) h
@@ -184,15 +197,20 @@ within-added ws seen v i = record {
 }
 
 -- the names of marked functions are gathered one after another
-pub gather : (ws seen : List ℕ) (ds : List Definition) (marks : List Bool) → Within ws seen → are_new seen ds ≡ true → with_marked ws ds marks ≡ ws ++ refused_names ds marks
+pub gather : (ws seen : List ℕ) (ds : List Definition) (marks : List Bool) → Within ws seen → are_new seen ds ≡ true
+    → with_marked ws ds marks ≡ ws ++ refused_names ds marks
 gather ws seen [] marks i n = sym (append-none ws)
 gather ws seen (d ∷ ds) [] i n = sym (append-none ws)
 gather ws seen (d ∷ ds) (false ∷ marks) i n =
-    gather ws (with_word seen d.name.0) ds marks (within-later ws seen d.name.0 i) (and-right (is_among seen d.name.0) (are_new (with_word seen d.name.0) ds) n)
+    gather ws (with_word seen d.name.0) ds marks (within-later ws seen d.name.0 i)
+    (and-right (is_among seen d.name.0) (are_new (with_word seen d.name.0) ds) n)
 gather ws seen (d ∷ ds) (true ∷ marks) i n =
-    ap (λ vs. with_marked vs ds marks) (with_new ws d.name.0 (within-new ws seen d.name.0 i (and-left (is_among seen d.name.0) (are_new (with_word seen d.name.0) ds) n)))
-    ∙ gather (ws ++ d.name.0 ∷ []) (with_word seen d.name.0) ds marks (within-added ws seen d.name.0 i) (and-right (is_among seen d.name.0) (are_new (with_word seen d.name.0) ds) n)
+    ap (λ vs. with_marked vs ds marks) (with_new ws d.name.0 (within-new ws seen d.name.0 i
+    (and-left (is_among seen d.name.0) (are_new (with_word seen d.name.0) ds) n)))
+    ∙ gather (ws ++ d.name.0 ∷ []) (with_word seen d.name.0) ds marks (within-added ws seen d.name.0 i)
+    (and-right (is_among seen d.name.0) (are_new (with_word seen d.name.0) ds) n)
     ∙ append-list ws (d.name.0 ∷ []) (refused_names ds marks)
 
-pub refused-gathered : (ds : List Definition) (marks : List Bool) → are_new [] ds ≡ true → with_marked [] ds marks ≡ refused_names ds marks
+pub refused-gathered : (ds : List Definition) (marks : List Bool) → are_new [] ds ≡ true
+    → with_marked [] ds marks ≡ refused_names ds marks
 refused-gathered ds marks n = gather [] [] ds marks (record { within = λ w h. h }) n

@@ -2,67 +2,91 @@
 use Rattle.std.proofs.Common.{◌≡◌, ℕ, Bool, true, false, List, Option, Some, None, refl}
 use Rattle.std.specs.Prelude.{◌&&◌, ◌||◌, not, if◌then◌else◌}
 use Rattle.pungi_base.specs.declared.pos.Pos.{Pos}
-use Rattle.pungi_tree.specs.Syntax.{Expr, word, int, float, char, text, null, paren, unary, post, binary, assign, conditional, comma, cast, size_of_type, call, new, index, dot, arrow, Exprs, no_exprs, expr_and}
+use Rattle.pungi_tree.specs.Syntax.{Expr, word, int, float, char, text, null, paren, unary, post, binary, assign}
+use Rattle.pungi_tree.specs.Syntax.{conditional, comma, cast, size_of_type, call, new, index, dot, arrow, Exprs}
+use Rattle.pungi_tree.specs.Syntax.{no_exprs, expr_and}
 use Rattle.pungi_types.specs.Files.{Definition, definitions, definition_in}
 use Rattle.pungi_types.specs.Names.{local_in, is_some_definition}
 use Rattle.pungi_types.specs.Operators.{prefix_of}
 use Rattle.pungi_types.specs.declared.local.Local.{Local}
 use Rattle.pungi_types.specs.declared.lookup.Want.{Want}
 use Rattle.pungi_types.specs.Findings.{Findings, nothing_found, when}
-use Rattle.pungi_types.specs.Exprs.{is_address, names_type_object, names_module, is_module_address, local_called_or, defined_or, callee_of, callee, wants, wants_module, other_wants, takes_arguments, are_met, is_unknown_call, is_value_called, is_word, node_findings, expr_findings, args_findings}
+use Rattle.pungi_types.specs.Exprs.{is_address, names_type_object, names_module, is_module_address, local_called_or}
+use Rattle.pungi_types.specs.Exprs.{defined_or, callee_of, callee, wants, wants_module, other_wants, takes_arguments}
+use Rattle.pungi_types.specs.Exprs.{are_met, is_unknown_call, is_value_called, is_word, node_findings, expr_findings}
+use Rattle.pungi_types.specs.Exprs.{args_findings}
 use Rattle.pungi_check.specs.Calls.{called_word, expr_calls, exprs_calls}
 use Rattle.pungi_check.proofs.Places.{World, env_at, other_in, refused_call}
 use Rattle.pungi_check.proofs.Agreement.{is_found, Finds, none, first, second, either, both, or-left}
 use Rattle.pungi_check.proofs.SameKinds.{IsNamed, definition_in-named}
 
-noted : (u v w : Bool) (p : Pos) → (u || v) ≡ true → (is_found (when u p 9) || (is_found (when (v || w) p 10) || false)) ≡ true
+noted : (u v w : Bool) (p : Pos) → (u || v) ≡ true
+    → (is_found (when u p 9) || (is_found (when (v || w) p 10) || false)) ≡ true
 noted true v w p h = refl
 noted false true w p h = refl
 noted false false w p h = absurd (cc)
 
-defined_refused : (x : World) (t : List ℕ) (ls : List Local) (w : ℕ) (o : Option Definition) → IsNamed w o → (is_some_definition o && other_in x t w) ≡ true → is_unknown_call (env_at x t ls) (defined_or (env_at x t ls) w o) ≡ true
+defined_refused : (x : World) (t : List ℕ) (ls : List Local) (w : ℕ) (o : Option Definition) → IsNamed w o
+    → (is_some_definition o && other_in x t w) ≡ true
+    → is_unknown_call (env_at x t ls) (defined_or (env_at x t ls) w o) ≡ true
 defined_refused x t ls w None n h = absurd (cc)
 defined_refused x t ls w (Some d) n h = rw n h
 
-unknown_or_value : (x : World) (t : List ℕ) (ls : List Local) (w : ℕ) (o : Option Local) → refused_call x t w ≡ true → (is_unknown_call (env_at x t ls) (local_called_or (env_at x t ls) w o) || is_value_called (local_called_or (env_at x t ls) w o)) ≡ true
+unknown_or_value : (x : World) (t : List ℕ) (ls : List Local) (w : ℕ) (o : Option Local) → refused_call x t w ≡ true
+    → (is_unknown_call (env_at x t ls) (local_called_or (env_at x t ls) w o)
+    || is_value_called (local_called_or (env_at x t ls) w o)) ≡ true
 unknown_or_value x t ls w (Some l) h = refl
-unknown_or_value x t ls w None h = or-left _ _ (defined_refused x t ls w (definition_in (definitions x.file.items) w) (definition_in-named (definitions x.file.items) w) h)
+unknown_or_value x t ls w None h =
+    or-left _ _ (defined_refused x t ls w (definition_in (definitions x.file.items) w)
+    (definition_in-named (definitions x.file.items) w) h)
 
 or_false : (a : Bool) → (a || false) ≡ true → a ≡ true
 or_false true h = refl
 or_false false h = h
 
-called-finds : (x : World) (t : List ℕ) (ls : List Local) (p : Pos) (f : Expr) (es : Exprs) → Finds (refused_call x t) (called_word f) (node_findings (env_at x t ls) (call p f es))
+called-finds : (x : World) (t : List ℕ) (ls : List Local) (p : Pos) (f : Expr) (es : Exprs)
+    → Finds (refused_call x t) (called_word f) (node_findings (env_at x t ls) (call p f es))
 called-finds x t ls p (word q n) es =
     let env = env_at x t ls in
     let c = callee_of env n.0 in
     record {
-      found = λ k. noted (is_unknown_call env c) (is_value_called c) (takes_arguments c && not (are_met env (wants env c) es)) p
+      found = λ k. noted (is_unknown_call env c) (is_value_called c) (takes_arguments c
+          && not (are_met env (wants env c) es)) p
           (unknown_or_value x t ls n.0 (local_in ls n.0) (or_false (refused_call x t n.0) k));
     }
 called-finds x t ls p _ es = none (refused_call x t) _
 
-unless_type_object : (x : World) (t : List ℕ) (ls : List Local) (b : Bool) (e : Expr) (fs : Findings) → Finds (refused_call x t) (expr_calls e) fs → Finds (refused_call x t) (expr_calls e) (if b && names_type_object (env_at x t ls) e then nothing_found else fs)
+unless_type_object : (x : World) (t : List ℕ) (ls : List Local) (b : Bool) (e : Expr) (fs : Findings)
+    → Finds (refused_call x t) (expr_calls e) fs
+    → Finds (refused_call x t) (expr_calls e) (if b
+    && names_type_object (env_at x t ls) e then nothing_found else fs)
 unless_type_object x t ls false e fs h = h
 unless_type_object x t ls true (word p n) fs h = none (refused_call x t) _
 unless_type_object x t ls true _ fs h = h
 
-unless_names : (x : World) (t : List ℕ) (ls : List Local) (b : Bool) (e : Expr) (fs : Findings) → Finds (refused_call x t) (expr_calls e) fs → Finds (refused_call x t) (expr_calls e) (if b && names_module (env_at x t ls) e then nothing_found else fs)
+unless_names : (x : World) (t : List ℕ) (ls : List Local) (b : Bool) (e : Expr) (fs : Findings)
+    → Finds (refused_call x t) (expr_calls e) fs
+    → Finds (refused_call x t) (expr_calls e) (if b && names_module (env_at x t ls) e then nothing_found else fs)
 unless_names x t ls false e fs h = h
 unless_names x t ls true (word p n) fs h = none (refused_call x t) _
 unless_names x t ls true _ fs h = h
 
-unless_module : (x : World) (t : List ℕ) (ls : List Local) (b : Bool) (e : Expr) (fs : Findings) → Finds (refused_call x t) (expr_calls e) fs → Finds (refused_call x t) (expr_calls e) (if b && is_module_address (env_at x t ls) e then nothing_found else fs)
+unless_module : (x : World) (t : List ℕ) (ls : List Local) (b : Bool) (e : Expr) (fs : Findings)
+    → Finds (refused_call x t) (expr_calls e) fs
+    → Finds (refused_call x t) (expr_calls e) (if b
+    && is_module_address (env_at x t ls) e then nothing_found else fs)
 unless_module x t ls false e fs h = h
 unless_module x t ls true (unary p k e) fs h = unless_names x t ls (is_address (prefix_of k)) e fs h
 unless_module x t ls true _ fs h = h
 
-unless_word : (x : World) (t : List ℕ) (f : Expr) (fs : Findings) → Finds (refused_call x t) (expr_calls f) fs → Finds (refused_call x t) (expr_calls f) (if is_word f then nothing_found else fs)
+unless_word : (x : World) (t : List ℕ) (f : Expr) (fs : Findings) → Finds (refused_call x t) (expr_calls f) fs
+    → Finds (refused_call x t) (expr_calls f) (if is_word f then nothing_found else fs)
 unless_word x t (word p n) fs h = none (refused_call x t) _
 unless_word x t _ fs h = h
 
 mutual
-  pub expr-finds : (x : World) (t : List ℕ) (ls : List Local) (e : Expr) → Finds (refused_call x t) (expr_calls e) (expr_findings (env_at x t ls) e)
+  pub expr-finds : (x : World) (t : List ℕ) (ls : List Local) (e : Expr)
+      → Finds (refused_call x t) (expr_calls e) (expr_findings (env_at x t ls) e)
   expr-finds x t ls (word p n) = none (refused_call x t) _
   expr-finds x t ls (int p v l u) = none (refused_call x t) _
   expr-finds x t ls (float p) = none (refused_call x t) _
@@ -70,25 +94,34 @@ mutual
   expr-finds x t ls (text p ns) = none (refused_call x t) _
   expr-finds x t ls (null p) = none (refused_call x t) _
   expr-finds x t ls (paren p e) = expr-finds x t ls e
-  expr-finds x t ls (unary p k e) = first (refused_call x t) _ _ _ (unless_type_object x t ls (is_address (prefix_of k)) e _ (expr-finds x t ls e))
+  expr-finds x t ls (unary p k e) = first (refused_call x t) _ _ _ (unless_type_object x t ls
+      (is_address (prefix_of k)) e _ (expr-finds x t ls e))
   expr-finds x t ls (post p m e) = first (refused_call x t) _ _ _ (expr-finds x t ls e)
-  expr-finds x t ls (binary p m a b) = both (refused_call x t) _ _ _ _ (expr-finds x t ls a) (first (refused_call x t) _ _ _ (expr-finds x t ls b))
-  expr-finds x t ls (assign p m a b) = both (refused_call x t) _ _ _ _ (expr-finds x t ls a) (first (refused_call x t) _ _ _ (expr-finds x t ls b))
+  expr-finds x t ls (binary p m a b) = both (refused_call x t) _ _ _ _ (expr-finds x t ls a)
+      (first (refused_call x t) _ _ _ (expr-finds x t ls b))
+  expr-finds x t ls (assign p m a b) = both (refused_call x t) _ _ _ _ (expr-finds x t ls a)
+      (first (refused_call x t) _ _ _ (expr-finds x t ls b))
   expr-finds x t ls (conditional p c a b) =
-      both (refused_call x t) _ _ _ _ (expr-finds x t ls c) (both (refused_call x t) _ _ _ _ (expr-finds x t ls a) (first (refused_call x t) _ _ _ (expr-finds x t ls b)))
-  expr-finds x t ls (comma p a b) = both (refused_call x t) _ _ _ _ (expr-finds x t ls a) (first (refused_call x t) _ _ _ (expr-finds x t ls b))
+      both (refused_call x t) _ _ _ _ (expr-finds x t ls c) (both (refused_call x t) _ _ _ _ (expr-finds x t ls a)
+      (first (refused_call x t) _ _ _ (expr-finds x t ls b)))
+  expr-finds x t ls (comma p a b) = both (refused_call x t) _ _ _ _ (expr-finds x t ls a)
+      (first (refused_call x t) _ _ _ (expr-finds x t ls b))
   expr-finds x t ls (cast p ty e) = first (refused_call x t) _ _ _ (expr-finds x t ls e)
   expr-finds x t ls (size_of_type p ty) = none (refused_call x t) _
   expr-finds x t ls (call p f es) =
       let q = refused_call x t in
       either q _ _ _ (second q _ _ _ (second q _ _ _ (called-finds x t ls p f es)))
-      (either q _ _ _ (second q _ _ _ (first q _ _ _ (unless_word x t f _ (expr-finds x t ls f)))) (first q _ _ _ (args-finds x t ls (wants (env_at x t ls) (callee (env_at x t ls) f)) es)))
+      (either q _ _ _ (second q _ _ _ (first q _ _ _ (unless_word x t f _ (expr-finds x t ls f))))
+      (first q _ _ _ (args-finds x t ls (wants (env_at x t ls) (callee (env_at x t ls) f)) es)))
   expr-finds x t ls (new p ty e) = first (refused_call x t) _ _ _ (expr-finds x t ls e)
-  expr-finds x t ls (index p a b) = both (refused_call x t) _ _ _ _ (expr-finds x t ls a) (first (refused_call x t) _ _ _ (expr-finds x t ls b))
+  expr-finds x t ls (index p a b) = both (refused_call x t) _ _ _ _ (expr-finds x t ls a)
+      (first (refused_call x t) _ _ _ (expr-finds x t ls b))
   expr-finds x t ls (dot p e n) = first (refused_call x t) _ _ _ (expr-finds x t ls e)
   expr-finds x t ls (arrow p e n) = first (refused_call x t) _ _ _ (expr-finds x t ls e)
 
-  pub args-finds : (x : World) (t : List ℕ) (ls : List Local) (ws : List Want) (es : Exprs) → Finds (refused_call x t) (exprs_calls es) (args_findings (env_at x t ls) ws es)
+  pub args-finds : (x : World) (t : List ℕ) (ls : List Local) (ws : List Want) (es : Exprs)
+      → Finds (refused_call x t) (exprs_calls es) (args_findings (env_at x t ls) ws es)
   args-finds x t ls ws no_exprs = none (refused_call x t) _
   args-finds x t ls ws (expr_and e es) =
-      both (refused_call x t) _ _ _ _ (unless_module x t ls (wants_module ws) e _ (first (refused_call x t) _ _ _ (expr-finds x t ls e))) (args-finds x t ls (other_wants ws) es)
+      both (refused_call x t) _ _ _ _ (unless_module x t ls (wants_module ws) e _
+      (first (refused_call x t) _ _ _ (expr-finds x t ls e))) (args-finds x t ls (other_wants ws) es)

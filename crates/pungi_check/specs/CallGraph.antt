@@ -6,7 +6,8 @@
 --   IsReached fs marks      the marks are those of the functions that reach one
 --   IsCallGraph file fs    the functions are those of the file
 --   refused_names ds marks  the names of the marked definitions
-use Rattle.std.specs.Prelude.{◌≡◌, ℕ, Bool, true, false, IsTrue, List, [], ◌∷◌, length, get_or, slice_get, Option, Some, None, is_some}
+use Rattle.std.specs.Prelude.{◌≡◌, ℕ, Bool, true, false, IsTrue, List, [], ◌∷◌, length, get_or, slice_get, Option, Some}
+use Rattle.std.specs.Prelude.{None, is_some}
 use Rattle.pungi_types.specs.Files.{SourceFile, Definition, definitions}
 use Rattle.pungi_types.specs.Names.{is_among}
 use Rattle.pungi_types.specs.Functions.{refusal}
@@ -39,8 +40,10 @@ pub record IsReached (fs : List CallNode) (marks : List Bool) : Type 0 where
 -- a function is refused alone as the rules say of the empty set, and calls another by its name
 pub record IsCallGraph (file : SourceFile) (fs : List CallNode) : Type 0 where
   pub count : length fs ≡ length (definitions file.items)
-  pub alone : (i : ℕ) (d : Definition) → slice_get (definitions file.items) i ≡ Some d → is_alone fs i ≡ is_some (refusal file [] d)
-  pub calls : (i j : ℕ) (d e : Definition) → slice_get (definitions file.items) i ≡ Some d → slice_get (definitions file.items) j ≡ Some e
+  pub alone : (i : ℕ) (d : Definition) → slice_get (definitions file.items) i ≡ Some d
+      → is_alone fs i ≡ is_some (refusal file [] d)
+  pub calls : (i j : ℕ) (d e : Definition) → slice_get (definitions file.items) i ≡ Some d
+      → slice_get (definitions file.items) j ≡ Some e
       → is_call fs i j ≡ is_among (called_words d) e.name.0
 
 abbrev pub refused_names : List Definition → List Bool → List ℕ

@@ -1,5 +1,6 @@
--- The words that a function calls (C11 6.5.2.2): those at the function part of a call, once for each call, in text order. Calls inside types are
--- none of them: where a type has one, as in the size of an array, what it declares is refused for its kind.
+-- The words that a function calls (C11 6.5.2.2): those at the function part of a call, once for each call, in text
+-- order. Calls inside types are none of them: where a type has one, as in the size of an array, what it declares is
+-- refused for its kind.
 --   called_word f           the word of a function part, where it is one
 --   expr_calls, exprs_calls     of an expression, and of arguments
 --   option_calls, init_calls    of an expression or a first value, where it is there
@@ -8,7 +9,12 @@
 --   body_calls              of a function's body
 --   called_words d          of a function
 use Rattle.std.specs.Prelude.{ℕ, List, [], ◌∷◌, ◌++◌, Option, Some, None}
-use Rattle.pungi_tree.specs.Syntax.{Expr, word, int, float, char, text, null, paren, unary, post, binary, assign, conditional, comma, cast, size_of_type, call, new, index, dot, arrow, Exprs, no_exprs, expr_and, Init, value, table, VarDecl, var_decl, Decl, decl, ForStart, start_decl, start_expr, Stmt, block, declare, do_expr, if_only, if_else, while, do_while, for, switch, case, default, label, goto, break, continue, return, Stmts, no_stmts, stmt_and}
+use Rattle.pungi_tree.specs.Syntax.{Expr, word, int, float, char, text, null, paren, unary, post, binary, assign}
+use Rattle.pungi_tree.specs.Syntax.{conditional, comma, cast, size_of_type, call, new, index, dot, arrow, Exprs}
+use Rattle.pungi_tree.specs.Syntax.{no_exprs, expr_and, Init, value, table, VarDecl, var_decl, Decl, decl, ForStart}
+use Rattle.pungi_tree.specs.Syntax.{start_decl, start_expr, Stmt, block, declare, do_expr, if_only, if_else, while}
+use Rattle.pungi_tree.specs.Syntax.{do_while, for, switch, case, default, label, goto, break, continue, return, Stmts}
+use Rattle.pungi_tree.specs.Syntax.{no_stmts, stmt_and}
 use Rattle.pungi_types.specs.Files.{Definition}
 
 abbrev pub called_word : Expr → List ℕ

@@ -7,7 +7,8 @@
 --   typedef_faults      a type word defined twice, or one that is known before a text is read
 --   is_same_of, has_tag, tag_seen, one_tag_fault, tag_faults    a struct's or union's tag defined twice
 --   count_faults, faults file    the first function that is too many, and all of these
-use Rattle.std.specs.Prelude.{ℕ, ◌==◌, Bool, true, false, ◌&&◌, ◌||◌, not, List, [], ◌∷◌, ◌++◌, Option, Some, None, is_some, slice_get, if◌then◌else◌}
+use Rattle.std.specs.Prelude.{ℕ, ◌==◌, Bool, true, false, ◌&&◌, ◌||◌, not, List, [], ◌∷◌, ◌++◌, Option, Some, None}
+use Rattle.std.specs.Prelude.{is_some, slice_get, if◌then◌else◌}
 use Rattle.pungi_base.specs.declared.key.Key.{Key}
 use Rattle.pungi_base.specs.declared.names.Name.{Name}
 use Rattle.pungi_base.specs.declared.pos.Pos.{Pos}
@@ -40,13 +41,19 @@ is_same_use _ _ = false
 abbrev pub vars_uses : List Item → Spec → List VarDecl → List NameUse
 vars_uses file s [] = []
 vars_uses file s (var_decl d v ∷ vs) =
-    record { name = declr_name d; pos = declr_pos d; as_what = (if is_table file (record { spec = s; declr = d }) then as_table else as_variable) } ∷ vars_uses file s vs
+    record {
+      name = declr_name d;
+      pos = declr_pos d;
+      as_what = (if is_table file (record { spec = s; declr = d })
+          then as_table else as_variable);
+    } ∷ vars_uses file s vs
 
 -- the file-level names in text order
 abbrev pub uses : List Item → List Item → List NameUse
 uses file [] = []
 uses file (prototype (head qs s stars n p ps) ∷ is) = record { name = n; pos = p; as_what = as_function } ∷ uses file is
-uses file (function_def (head qs s stars n p ps) b ∷ is) = record { name = n; pos = p; as_what = as_function } ∷ uses file is
+uses file (function_def (head qs s stars n p ps) b ∷ is) =
+    record { name = n; pos = p; as_what = as_function } ∷ uses file is
 uses file (variables (decl qs s vs) ∷ is) = vars_uses file s vs ++ uses file is
 uses file (_ ∷ is) = uses file is
 
@@ -69,18 +76,21 @@ is_taken rows w = is_some (row_in rows w) || is_built_in_static w
 -- a variable with the name of a row or a built-in static
 abbrev pub variable_faults : SourceFile → List NameUse → Findings
 variable_faults file [] = nothing_found
-variable_faults file (u ∷ us) = when (is_variable_use u.as_what && is_taken file.rows u.name.0) u.pos 1 and variable_faults file us
+variable_faults file (u ∷ us) =
+    when (is_variable_use u.as_what && is_taken file.rows u.name.0) u.pos 1 and variable_faults file us
 
 -- a function defined twice, or with the name of a row or a built-in static
 abbrev pub definition_faults : SourceFile → List ℕ → List Definition → Findings
 definition_faults file seen [] = nothing_found
 definition_faults file seen (d ∷ ds) =
-    when (is_among seen d.name.0 || is_taken file.rows d.name.0) d.pos 1 and definition_faults file (with_word seen d.name.0) ds
+    when (is_among seen d.name.0 || is_taken file.rows d.name.0) d.pos 1
+    and definition_faults file (with_word seen d.name.0) ds
 
 -- a type word defined twice, or one that is listed
 abbrev pub typedef_faults : List ℕ → List Typedef → Findings
 typedef_faults seen [] = nothing_found
-typedef_faults seen (t ∷ ts) = when (is_among seen t.name.0 || is_listed_type t.name.0) t.pos 1 and typedef_faults (with_word seen t.name.0) ts
+typedef_faults seen (t ∷ ts) =
+    when (is_among seen t.name.0 || is_listed_type t.name.0) t.pos 1 and typedef_faults (with_word seen t.name.0) ts
 
 abbrev pub is_same_of : Bool → Bool → Bool
 is_same_of true b = b
@@ -110,5 +120,7 @@ count_faults (Some d) = when true d.pos 2
 
 abbrev pub faults : SourceFile → Findings
 faults file =
-    definition_faults file [] (definitions file.items) and (use_faults [] (uses file.items file.items) and (variable_faults file (uses file.items file.items)
-    and (typedef_faults [] (typedefs file.items) and (tag_faults [] (tags file.items) and count_faults (slice_get (definitions file.items) most_functions)))))
+    definition_faults file [] (definitions file.items)
+    and (use_faults [] (uses file.items file.items) and (variable_faults file (uses file.items file.items)
+    and (typedef_faults [] (typedefs file.items)
+    and (tag_faults [] (tags file.items) and count_faults (slice_get (definitions file.items) most_functions)))))

@@ -1,6 +1,7 @@
 -- Why a file is refused.
 --   finding_at p n      the finding of this place and number
---   IsFaultOf file fault    the first fault in the text, and at one place the lower number: 1 a duplicate name, 2 the 4,097th function
+--   IsFaultOf file fault    the first fault in the text, and at one place the lower number: 1 a duplicate name, 2 the
+--                           4,097th function
 use Rattle.std.specs.Prelude.{◌≡◌, ℕ, Option, Some}
 use Rattle.pungi_base.specs.declared.pos.Pos.{Pos}
 use Rattle.pungi_types.specs.Files.{SourceFile}

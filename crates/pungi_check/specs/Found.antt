@@ -1,8 +1,9 @@
 -- What is found of a file and its functions.
 --   is_sound_function o     each word and operator of a function has a meaning, if there is one
 --   IsFound file names refused refusals resolved statics
---                       the file has no fault; the names of its functions, which of them are refused, the finding of each, what each does in which no rule
---                       holds, where each word and operator has a meaning, and how many static objects there are
+--                       the file has no fault; the names of its functions, which of them are refused, the finding of
+--                       each, what each does in which no rule holds, where each word and operator has a meaning, and
+--                       how many static objects there are
 --   checked_view c      the file that a checked unit of the program is, with its refused functions
 --   IsChecked c         what a checked unit holds is what is found of its file
 use Rattle.std.specs.Prelude.{◌≡◌, ℕ, ◌+◌, ◌≤◌, List, length, map, Option, None, IsTrue, Bool, true, Some}
@@ -28,7 +29,8 @@ abbrev pub is_sound_function : Option ResolvedFunction → Bool
 is_sound_function None = true
 is_sound_function (Some f) = is_sound_action f.body
 
-pub record IsFound (file : SourceFile) (names : List Name) (refused : List ℕ) (refusals : List (Option Finding)) (resolved : List (Option ResolvedFunction)) (statics : ℕ) : Type 0 where
+pub record IsFound (file : SourceFile) (names : List Name) (refused : List ℕ) (refusals : List (Option Finding))
+    (resolved : List (Option ResolvedFunction)) (statics : ℕ) : Type 0 where
   pub none : least (faults file) ≡ None
   pub few : length (definitions file.items) ≤ most_functions
   pub own : AreOwn (definitions file.items) (definitions file.items)
@@ -45,4 +47,6 @@ abbrev pub checked_view : Checked → CheckedFile
 checked_view c = record { file = source_file c.texts.now (unit_view c.unit.now) c.rows.now; refused = c.refused.keys }
 
 abbrev pub IsChecked : Checked → Type 0
-IsChecked c = IsFound (checked_view c).file c.names c.refused.keys c.refusals.items (map resolution_view c.resolved.items) c.statics
+IsChecked c =
+    IsFound (checked_view c).file c.names c.refused.keys c.refusals.items (map resolution_view c.resolved.items)
+    c.statics

@@ -6,7 +6,8 @@
 --   node_of file find d that of a definition
 --   graph_of file       that of each function of a file
 --   with_marked ws ds marks    these words, with the names of the marked definitions
-use Rattle.std.specs.Prelude.{ℕ, ◌+◌, ◌==◌, Bool, true, false, List, [], ◌∷◌, ◌++◌, map, Option, Some, None, if◌then◌else◌}
+use Rattle.std.specs.Prelude.{ℕ, ◌+◌, ◌==◌, Bool, true, false, List, [], ◌∷◌, ◌++◌, map, Option, Some, None}
+use Rattle.std.specs.Prelude.{if◌then◌else◌}
 use Rattle.pungi_types.specs.Files.{SourceFile, Definition, definitions}
 use Rattle.pungi_types.specs.Names.{with_word}
 use Rattle.pungi_types.specs.Functions.{refusal}

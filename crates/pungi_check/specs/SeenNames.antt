@@ -36,7 +36,8 @@ with_use s w as_table = record s { tables = with_word s.tables w }
 -- a name for two of function, variable and table
 abbrev pub use_faults_by : SeenWords → List NameUse → Findings
 use_faults_by s [] = nothing_found
-use_faults_by s (u ∷ us) = when (used_in s u.name.0 u.as_what) u.pos 1 and use_faults_by (with_use s u.name.0 u.as_what) us
+use_faults_by s (u ∷ us) =
+    when (used_in s u.name.0 u.as_what) u.pos 1 and use_faults_by (with_use s u.name.0 u.as_what) us
 
 pub record SeenTags : Type 0 where
   pub structs : List ℕ
@@ -64,4 +65,5 @@ some_tag_fault s b (Some n) = when (is_among (tags_of s b) n.0.0) n.1 1
 -- a struct's or union's tag defined twice
 abbrev pub tag_faults_by : SeenTags → List Tag → Findings
 tag_faults_by s [] = nothing_found
-tag_faults_by s (t ∷ ts) = some_tag_fault s (is_struct t.of) t.tag and tag_faults_by (with_some_tag s (is_struct t.of) t.tag) ts
+tag_faults_by s (t ∷ ts) =
+    some_tag_fault s (is_struct t.of) t.tag and tag_faults_by (with_some_tag s (is_struct t.of) t.tag) ts

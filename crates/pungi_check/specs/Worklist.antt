@@ -7,7 +7,8 @@
 --   is_marked marks i       function i is marked
 --   unmarked marks          how many are not
 --   Visited old new w w' is    these were marked, and those that were not marked before wait
-use Rattle.std.specs.Prelude.{◌≡◌, ℕ, ◌+◌, ◌<◌, ◌==◌, nat_lt, Bool, true, false, ◌&&◌, ◌||◌, not, List, [], ◌∷◌, length, get_or, slice_get, Option, Some, None, Vec}
+use Rattle.std.specs.Prelude.{◌≡◌, ℕ, ◌+◌, ◌<◌, ◌==◌, nat_lt, Bool, true, false, ◌&&◌, ◌||◌, not, List, [], ◌∷◌, length}
+use Rattle.std.specs.Prelude.{get_or, slice_get, Option, Some, None, Vec}
 use Rattle.std.specs.declared.alloc.Global.{Global}
 use Rattle.pungi_types.specs.Names.{is_among}
 use Rattle.pungi_check.specs.CallGraph.{is_call}
@@ -26,7 +27,8 @@ pub record AreCallers (fs : List CallNode) (cs : List (Vec ℕ Global)) : Type 0
 
 pub record Added (old new : List (Vec ℕ Global)) (i : ℕ) (js : List ℕ) : Type 0 where
   pub count : length new ≡ length old
-  pub adds : (j m : ℕ) → j < length old → is_among (callers_at new j) m ≡ (is_among (callers_at old j) m || (m == i && is_among js j))
+  pub adds : (j m : ℕ) → j < length old → is_among (callers_at new j) m
+      ≡ (is_among (callers_at old j) m || (m == i && is_among js j))
 
 abbrev pub is_marked : List Bool → ℕ → Bool
 is_marked marks i = get_or marks i false

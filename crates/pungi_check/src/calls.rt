@@ -1,6 +1,7 @@
 //! The words that a function calls.
 ghost use Rattle.std.specs.Prelude.{◌≡◌, ◌++◌, OnOk, IfOk, map};
-ghost use Rattle.pungi_check.specs.Calls.{called_word, expr_calls, exprs_calls, option_calls, init_calls, vars_calls, start_calls, stmt_calls, stmts_calls, body_calls};
+ghost use Rattle.pungi_check.specs.Calls.{called_word, expr_calls, exprs_calls, option_calls, init_calls, vars_calls};
+ghost use Rattle.pungi_check.specs.Calls.{start_calls, stmt_calls, stmts_calls, body_calls};
 ghost use Rattle.pungi_tree.specs.ExprView.{expr_view, exprs_of, optional_view};
 ghost use Rattle.pungi_tree.specs.StmtView.{init_option_view, var_decl_view, for_start_view, stmt_view, stmts_of};
 

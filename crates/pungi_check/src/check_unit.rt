@@ -125,8 +125,10 @@ fn find(alloc: Global, names: &UnitNames<'_>, list: &[&FunctionDef]) -> Result<F
     requires listed { map function_view list.now ≡ definitions (file_of names.now).items }
     requires none { least (faults (file_of names.now)) ≡ None }
     ensures set { IfOk result (λ f. IsRefusedSet (file_of names.now) f.refused.keys) }
-    ensures refusals { IfOk result (λ f. f.refusals.items ≡ map (refusal (file_of names.now) f.refused.keys) (definitions (file_of names.now).items)) }
-    ensures resolved { IfOk result (λ f. map resolution_view f.resolved.items ≡ map (resolution_of (file_of names.now) f.refused.keys) (definitions (file_of names.now).items)) }
+    ensures refusals { IfOk result (λ f. f.refusals.items
+        ≡ map (refusal (file_of names.now) f.refused.keys) (definitions (file_of names.now).items)) }
+    ensures resolved { IfOk result (λ f. map resolution_view f.resolved.items
+        ≡ map (resolution_of (file_of names.now) f.refused.keys) (definitions (file_of names.now).items)) }
     ensures sound { IfOk result (λ f. list_all is_sound_function (map resolution_view f.resolved.items) ≡ true) }
 {
     let graph = graph(alloc, names, list)?;
@@ -150,7 +152,8 @@ fn look<'u>(
     requires unit { unit_view unit.now ≡ (file_of names.now).items }
     requires listed { map function_view list.now.items ≡ definitions (file_of names.now).items }
     requires rows { IsTrue (are_rows (file_of names.now).rows) }
-    ensures found { IfOk result (λ p. IsFound (file_of names.now) p.names p.found.refused.keys p.found.refusals.items (map resolution_view p.found.resolved.items) p.statics) }
+    ensures found { IfOk result (λ p. IsFound (file_of names.now) p.names p.found.refused.keys
+        p.found.refusals.items (map resolution_view p.found.resolved.items) p.statics) }
     ensures fault { IfErr result (λ e. IsFaultOf (file_of names.now) e) }
 {
     refuse_fault(alloc, names, unit, list)?;
@@ -181,7 +184,8 @@ fn look_at(
     list: &Vec<&FunctionDef>,
 ) -> Result<Parts, UnitFault>
     requires { map function_view list.now.items ≡ definitions (unit_view unit.now) }
-    ensures found { IfOk result (λ p. IsFound (source_file texts.now (unit_view unit.now) rows.now) p.names p.found.refused.keys p.found.refusals.items (map resolution_view p.found.resolved.items) p.statics) }
+    ensures found { IfOk result (λ p. IsFound (source_file texts.now (unit_view unit.now) rows.now) p.names
+        p.found.refused.keys p.found.refusals.items (map resolution_view p.found.resolved.items) p.statics) }
     ensures fault { IfErr result (λ e. IsFaultOf (source_file texts.now (unit_view unit.now) rows.now) e) }
 {
     rows.rows_are_well_formed();
@@ -189,8 +193,8 @@ fn look_at(
     look(alloc, &names, unit, list)
 }
 
-/// A unit that is accepted, with what is found of each of its functions. One with a fault is refused: the first in its text
-/// is reported. `Memory` where memory ran out.
+/// A unit that is accepted, with what is found of each of its functions. One with a fault is refused: the first in its
+/// text is reported. `Memory` where memory ran out.
 pub fn check<'u>(
     alloc: Global,
     texts: &'u Names,

@@ -3,7 +3,8 @@ ghost use Rattle.std.specs.Prelude.{◌≡◌, [], OnOk, map, slice_get};
 ghost use Rattle.pungi_declared.specs.DeclaredView.{function_view};
 ghost use Rattle.pungi_check.specs.UsesView.{use_view, name_use_view};
 ghost use Rattle.pungi_names.specs.NamesView.{file_of};
-ghost use Rattle.pungi_check.specs.Duplicates.{is_taken, is_variable_use, definition_faults, variable_faults, count_faults};
+ghost use Rattle.pungi_check.specs.Duplicates.{is_taken, is_variable_use, definition_faults, variable_faults};
+ghost use Rattle.pungi_check.specs.Duplicates.{count_faults};
 ghost use Rattle.pungi_types.specs.Findings.{least_from};
 ghost use Rattle.pungi_types.specs.Limits.{most_functions};
 
@@ -32,7 +33,8 @@ pub(crate) fn note_definitions(
     first: &mut Option<Finding>,
     functions: &Vec<&FunctionDef>,
 ) -> Result<(), Memory>
-    ensures { OnOk result (first.new ≡ least_from first.old (definition_faults (file_of names.now) [] (map function_view functions.now.items))) }
+    ensures { OnOk result (first.new ≡ least_from first.old (definition_faults (file_of names.now) []
+        (map function_view functions.now.items))) }
 {
     let mut seen = IndexSet::new(alloc);
     for f in functions {
@@ -63,7 +65,8 @@ pub(crate) fn note_variables(
     first: &mut Option<Finding>,
     list: &Vec<NameUse>,
 )
-    ensures { first.new ≡ least_from first.old (variable_faults (file_of names.now) (map name_use_view list.now.items)) }
+    ensures { first.new ≡ least_from first.old (variable_faults (file_of names.now)
+        (map name_use_view list.now.items)) }
 {
     for u in list {
         let holds = is_variable_use(u.as_what) && is_taken(names, u.name);
@@ -74,7 +77,8 @@ pub(crate) fn note_variables(
 /// Notes the first function that is too many.
 #[tactic(auto, using(crate::proofs::SeenLemmas::by_number))]
 pub(crate) fn note_count(first: &mut Option<Finding>, functions: &Vec<&FunctionDef>)
-    ensures { first.new ≡ least_from first.old (count_faults (slice_get (map function_view functions.now.items) most_functions)) }
+    ensures { first.new ≡ least_from first.old (count_faults (slice_get (map function_view functions.now.items)
+        most_functions)) }
 {
     if let Some(f) = functions.get(MOST_FUNCTIONS) {
         note(first, true, f.pos, 2);

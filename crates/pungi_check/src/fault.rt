@@ -12,8 +12,8 @@ pub enum UnitFault {
     /// Memory ran out.
     #[error("out of memory")]
     Memory,
-    /// A function, tag or type word is defined twice; a file-level name is used for two of function, variable and table; or
-    /// what is defined has the name of a row or static (C11 6.7, 6.9).
+    /// A function, tag or type word is defined twice; a file-level name is used for two of function, variable and
+    /// table; or what is defined has the name of a row or static (C11 6.7, 6.9).
     #[error("{0}: duplicate name")]
     DuplicateName(Pos),
     /// The 4,097th function definition.

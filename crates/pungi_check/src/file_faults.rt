@@ -27,7 +27,8 @@ fn note_names(
     first: &mut Option<Finding>,
     unit: &Unit,
 ) -> Result<(), Memory>
-    ensures { OnOk result (first.new ≡ least_from first.old (use_faults [] (uses (file_of names.now).items (unit_view unit.now))
+    ensures { OnOk result (first.new ≡ least_from first.old (use_faults []
+        (uses (file_of names.now).items (unit_view unit.now))
         and variable_faults (file_of names.now) (uses (file_of names.now).items (unit_view unit.now)))) }
 {
     let list = uses(alloc, names, unit)?;
@@ -38,7 +39,8 @@ fn note_names(
 
 #[tactic(auto, using(crate::proofs::SeenLemmas::by_names))]
 fn note_types(alloc: Global, first: &mut Option<Finding>, unit: &Unit) -> Result<(), Memory>
-    ensures { OnOk result (first.new ≡ least_from first.old (typedef_faults [] (typedefs (unit_view unit.now)) and tag_faults [] (tags (unit_view unit.now)))) }
+    ensures { OnOk result (first.new ≡ least_from first.old (typedef_faults [] (typedefs (unit_view unit.now))
+        and tag_faults [] (tags (unit_view unit.now)))) }
 {
     let words = typedefs(alloc, unit)?;
     note_typedefs(alloc, first, &words)?;

@@ -40,7 +40,8 @@ fn called(
     numbers: &IndexMap<u32, usize>,
     f: &FunctionDef,
 ) -> Result<Vec<usize>, Memory>
-    ensures { IfOk result (λ js. js.items ≡ callees_of (λ (w : ℕ). get nat_eq numbers.now w) (called_words (definition_view f.now))) }
+    ensures { IfOk result (λ js. js.items ≡ callees_of (λ (w : ℕ). get nat_eq numbers.now w)
+        (called_words (definition_view f.now))) }
 {
     let words = called_words(alloc, &f.body)?;
     callees(alloc, numbers, words.as_slice())
@@ -53,7 +54,8 @@ fn node(
     numbers: &IndexMap<u32, usize>,
     f: &FunctionDef,
 ) -> Result<CallNode, Memory>
-    ensures { IfOk result (λ n. node_view n ≡ node_of (file_of names.now) (λ (w : ℕ). get nat_eq numbers.now w) (definition_view f.now)) }
+    ensures { IfOk result (λ n. node_view n ≡ node_of (file_of names.now) (λ (w : ℕ). get nat_eq numbers.now w)
+        (definition_view f.now)) }
 {
     let none = IndexSet::new(alloc);
     let alone = finding(alloc, names, &none, f)?;
@@ -68,7 +70,8 @@ fn nodes(
     numbers: &IndexMap<u32, usize>,
     list: &[&FunctionDef],
 ) -> Result<Vec<CallNode>, Memory>
-    ensures { IfOk result (λ ns. map node_view ns.items ≡ map (node_of (file_of names.now) (λ (w : ℕ). get nat_eq numbers.now w)) (map function_view list.now)) }
+    ensures { IfOk result (λ ns. map node_view ns.items
+        ≡ map (node_of (file_of names.now) (λ (w : ℕ). get nat_eq numbers.now w)) (map function_view list.now)) }
 {
     let mut nodes = Vec::new(alloc);
     for f in list {
@@ -83,7 +86,8 @@ pub(crate) fn graph(
     names: &UnitNames<'_>,
     list: &[&FunctionDef],
 ) -> Result<Vec<CallNode>, Memory>
-    ensures { IfOk result (λ ns. map node_view ns.items ≡ map (node_of (file_of names.now) (number_in 0 (map function_view list.now))) (map function_view list.now)) }
+    ensures { IfOk result (λ ns. map node_view ns.items
+        ≡ map (node_of (file_of names.now) (number_in 0 (map function_view list.now))) (map function_view list.now)) }
 {
     let numbers = numbers(alloc, list)?;
     nodes(alloc, names, &numbers, list)

@@ -1,5 +1,5 @@
-//! A file and its functions are checked: names that it may not use twice, the finding of each function, the least set of
-//! refused functions, and what each function does in which no rule holds.
+//! A file and its functions are checked: names that it may not use twice, the finding of each function, the least set
+//! of refused functions, and what each function does in which no rule holds.
 #![tactic(auto)]
 
 mod call_node;

@@ -41,7 +41,8 @@ fn settled(
     f: &FunctionDef,
     node: &CallNode,
 ) -> Result<Option<Finding>, Memory>
-    requires { node_view node.now ≡ node_of (file_of names.now) (number_in 0 (definitions (file_of names.now).items)) (definition_view f.now) }
+    requires { node_view node.now ≡ node_of (file_of names.now) (number_in 0
+        (definitions (file_of names.now).items)) (definition_view f.now) }
     ensures { IfOk result (λ found. found ≡ refusal (file_of names.now) refused.now.keys (definition_view f.now)) }
 {
     if node.callees.is_empty() {
@@ -59,8 +60,10 @@ pub(crate) fn refusals(
     list: &[&FunctionDef],
     graph: &[CallNode],
 ) -> Result<Vec<Option<Finding>>, Memory>
-    requires { map node_view graph.now ≡ map (node_of (file_of names.now) (number_in 0 (definitions (file_of names.now).items))) (map function_view list.now) }
-    ensures { IfOk result (λ all. all.items ≡ map (refusal (file_of names.now) refused.now.keys) (map function_view list.now)) }
+    requires { map node_view graph.now ≡ map (node_of (file_of names.now) (number_in 0
+        (definitions (file_of names.now).items))) (map function_view list.now) }
+    ensures { IfOk result (λ all. all.items ≡ map (refusal (file_of names.now) refused.now.keys)
+        (map function_view list.now)) }
 {
     let mut all = Vec::new(alloc);
     for (i, f) in list.iter().enumerate() {

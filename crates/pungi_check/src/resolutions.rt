@@ -27,10 +27,12 @@ fn resolution(
     f: &FunctionDef,
     finding: Option<Finding>,
 ) -> Result<Option<Function>, Memory>
-    requires own { definition_in (definitions (file_of names.now).items) (definition_view f.now).name.0 ≡ Some (definition_view f.now) }
+    requires own { definition_in (definitions (file_of names.now).items) (definition_view f.now).name.0
+        ≡ Some (definition_view f.now) }
     requires others { Holds (file_of names.now) refused.now.keys }
     requires found { finding ≡ refusal (file_of names.now) refused.now.keys (definition_view f.now) }
-    ensures function { IfOk result (λ r. resolution_view r ≡ resolution_of (file_of names.now) refused.now.keys (definition_view f.now)) }
+    ensures function { IfOk result (λ r. resolution_view r
+        ≡ resolution_of (file_of names.now) refused.now.keys (definition_view f.now)) }
     ensures sound { IfOk result (λ r. is_sound_function (resolution_view r) ≡ true) }
 {
     if finding.is_some() {
@@ -56,7 +58,8 @@ pub(crate) fn resolutions(
     requires own { AreOwn (definitions (file_of names.now).items) (map function_view list.now) }
     requires others { Holds (file_of names.now) refused.now.keys }
     requires found { refusals.now ≡ map (refusal (file_of names.now) refused.now.keys) (map function_view list.now) }
-    ensures functions { IfOk result (λ all. map resolution_view all.items ≡ map (resolution_of (file_of names.now) refused.now.keys) (map function_view list.now)) }
+    ensures functions { IfOk result (λ all. map resolution_view all.items
+        ≡ map (resolution_of (file_of names.now) refused.now.keys) (map function_view list.now)) }
     ensures sound { IfOk result (λ all. list_all is_sound_function (map resolution_view all.items) ≡ true) }
 {
     let mut all = Vec::new(alloc);

@@ -56,7 +56,8 @@ fn note_tag(
     tag: Option<(Name, Pos)>,
 ) -> Result<(), Memory>
     ensures kept { OnOk result (kept_tags seen.new ≡ with_some_tag (kept_tags seen.old) (is_struct of) tag) }
-    ensures found { OnOk result (first.new ≡ least_from first.old (some_tag_fault (kept_tags seen.old) (is_struct of) tag)) }
+    ensures found { OnOk result (first.new ≡ least_from first.old (some_tag_fault (kept_tags seen.old)
+        (is_struct of) tag)) }
 {
     match tag {
         None => Ok(()),
@@ -72,7 +73,8 @@ fn note_all(
     first: &mut Option<Finding>,
     list: &Vec<Tag<'_>>,
 ) -> Result<(), Memory>
-    ensures { OnOk result (first.new ≡ least_from first.old (tag_faults_by (kept_tags seen.old) (map tag_view list.now.items))) }
+    ensures { OnOk result (first.new ≡ least_from first.old (tag_faults_by (kept_tags seen.old)
+        (map tag_view list.now.items))) }
 {
     for t in list {
         note_tag(seen, first, t.of, t.tag)?;

@@ -42,8 +42,10 @@ fn see(seen: &mut KeptUses, word: Name, as_what: Use) -> Result<(), Memory>
 }
 
 fn note_use(seen: &mut KeptUses, first: &mut Option<Finding>, name: &NameUse) -> Result<(), Memory>
-    ensures kept { OnOk result (words_of seen.new ≡ with_use (words_of seen.old) name.now.name.0 (use_view name.now.as_what)) }
-    ensures found { OnOk result (first.new ≡ least_from first.old (when (used_in (words_of seen.old) name.now.name.0 (use_view name.now.as_what)) name.now.pos 1)) }
+    ensures kept { OnOk result (words_of seen.new ≡ with_use (words_of seen.old) name.now.name.0
+        (use_view name.now.as_what)) }
+    ensures found { OnOk result (first.new ≡ least_from first.old (when (used_in (words_of seen.old) name.now.name.0
+        (use_view name.now.as_what)) name.now.pos 1)) }
 {
     note(
         first,
@@ -59,7 +61,8 @@ fn note_all(
     first: &mut Option<Finding>,
     names: &Vec<NameUse>,
 ) -> Result<(), Memory>
-    ensures { OnOk result (first.new ≡ least_from first.old (use_faults_by (words_of seen.old) (map name_use_view names.now.items))) }
+    ensures { OnOk result (first.new ≡ least_from first.old (use_faults_by (words_of seen.old)
+        (map name_use_view names.now.items))) }
 {
     for name in names {
         note_use(seen, first, name)?;
@@ -73,7 +76,8 @@ pub(crate) fn note_uses(
     first: &mut Option<Finding>,
     names: &Vec<NameUse>,
 ) -> Result<(), Memory>
-    ensures { OnOk result (first.new ≡ least_from first.old (use_faults_by no_words (map name_use_view names.now.items))) }
+    ensures { OnOk result (first.new ≡ least_from first.old (use_faults_by no_words
+        (map name_use_view names.now.items))) }
 {
     let mut seen = KeptUses {
         functions: IndexSet::new(alloc),

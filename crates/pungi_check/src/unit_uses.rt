@@ -24,7 +24,8 @@ fn put(out: &mut Vec<NameUse>, name: Name, pos: Pos, as_what: Use) -> Result<(),
 }
 
 fn variable_use(names: &UnitNames<'_>, spec: &Spec, declr: &Declr) -> Use
-    ensures { use_view result ≡ (if is_table (file_of names.now).items (record { spec = spec_view spec.now; declr = declr_view declr.now }) then as_table else as_variable) }
+    ensures { use_view result ≡ (if is_table (file_of names.now).items (record
+        { spec = spec_view spec.now; declr = declr_view declr.now }) then as_table else as_variable) }
 {
     if names.is_table(spec, declr) {
         Use::Table
@@ -40,7 +41,8 @@ fn put_vars(
     vars: &Vec<VarDecl>,
 ) -> Result<(), Memory>
     ensures { OnOk result (map name_use_view out.new.items
-        ≡ map name_use_view out.old.items ++ vars_uses (file_of names.now).items (spec_view spec.now) (map var_decl_view vars.now.items)) }
+        ≡ map name_use_view out.old.items ++ vars_uses (file_of names.now).items (spec_view spec.now)
+        (map var_decl_view vars.now.items)) }
 {
     for var in vars {
         let as_what = variable_use(names, spec, &var.declr);

@@ -14,7 +14,8 @@ use std::alloc::Global;
 
 /// Marks a function, which then waits, unless it is marked. A number that no function has is passed over.
 fn mark(marks: &mut Vec<bool>, waiting: &mut Vec<usize>, function: usize) -> Result<(), Memory>
-    ensures { OnOk result (Visited marks.old.items marks.new.items waiting.old.items waiting.new.items (function ∷ [])) }
+    ensures { OnOk result (Visited marks.old.items marks.new.items waiting.old.items waiting.new.items
+        (function ∷ [])) }
 {
     if function < marks.len() && !marks[function] {
         marks[function] = true;
@@ -28,7 +29,8 @@ fn mark_all(
     waiting: &mut Vec<usize>,
     functions: &Vec<usize>,
 ) -> Result<(), Memory>
-    ensures { OnOk result (Visited marks.old.items marks.new.items waiting.old.items waiting.new.items functions.now.items) }
+    ensures { OnOk result (Visited marks.old.items marks.new.items waiting.old.items waiting.new.items
+        functions.now.items) }
 {
     for function in functions {
         mark(marks, waiting, *function)?;
@@ -44,7 +46,8 @@ fn no_marks(alloc: Global, count: usize) -> Result<Vec<bool>, Memory>
 
 /// Adds the number of a function that has a finding.
 fn note(numbers: &mut Vec<usize>, number: usize, alone: Option<Finding>) -> Result<(), Memory>
-    ensures { OnOk result (numbers.new.items ≡ (if is_some alone then numbers.old.items ++ number ∷ [] else numbers.old.items)) }
+    ensures { OnOk result (numbers.new.items ≡ (if is_some alone then numbers.old.items ++ number
+        ∷ [] else numbers.old.items)) }
 {
     if alone.is_some() {
         numbers.push(number)?;
@@ -63,11 +66,13 @@ fn refused_alone(alloc: Global, functions: &[CallNode]) -> Result<Vec<usize>, Me
     Ok(alone)
 }
 
-/// The least set of refused functions of a file with this call graph, as marks by number: each in which a rule holds, where a call of
-/// another refused function is one of what a rule refuses. Each function waits once, and each call is visited twice.
+/// The least set of refused functions of a file with this call graph, as marks by number: each in which a rule holds,
+/// where a call of another refused function is one of what a rule refuses. Each function waits once, and each call is
+/// visited twice.
 pub(crate) fn least_set(alloc: Global, functions: &[CallNode]) -> Result<Vec<bool>, Memory>
     ensures reached { IfOk result (λ marks. IsReached functions.now marks.items) }
-    ensures least { IfOk result (λ marks. (file : SourceFile) → IsCallGraph file functions.now → IsRefusedSet file (refused_names (definitions file.items) marks.items)) }
+    ensures least { IfOk result (λ marks. (file : SourceFile) → IsCallGraph file functions.now
+        → IsRefusedSet file (refused_names (definitions file.items) marks.items)) }
 {
     let callers = callers_of(alloc, functions)?;
     let mut marks = no_marks(alloc, functions.len())?;

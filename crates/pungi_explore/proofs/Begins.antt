@@ -1,5 +1,5 @@
--- How a path begins: it ends where it began, or goes by an answer to a next state and on from there. So what holds of the states
--- that the paths from all next states lead to holds of those that the paths from a state lead to.
+-- How a path begins: it ends where it began, or goes by an answer to a next state and on from there. So what holds of
+-- the states that the paths from all next states lead to holds of those that the paths from a state lead to.
 use Rattle.std.proofs.Common.{◌≡◌, List, [], ◌∷◌, ◌++◌, true, false, refl, sym, ◌∙◌}
 use Rattle.std.specs.Prelude.{slice_get, Option}
 use Rattle.pungi_base.specs.declared.pos.Pos.{Pos}
@@ -25,10 +25,13 @@ Told = List Decision
 
 pub data Begins (code : List Line) (s : State) : Told → State → Type 0 where
   stays : Begins code s [] s
-  answers : (d : Decision) (ds : Told) (last : State) → can s (ask code s.known) d ≡ true → Path code (apply (slice_get code s.known.pc) (ask code s.known) d s) ds last → Begins code s (ds ++ d ∷ []) last
+  answers : (d : Decision) (ds : Told) (last : State) → can s (ask code s.known) d ≡ true
+      → Path code (apply (slice_get code s.known.pc) (ask code s.known) d s) ds last
+      → Begins code s (ds ++ d ∷ []) last
 
 module _ (code : List Line) (s : State) where
-  one_more : (ds : Told) (t : State) (d : Decision) → Begins code s ds t → can t (ask code t.known) d ≡ true → Begins code s (d ∷ ds) (apply (slice_get code t.known.pc) (ask code t.known) d t)
+  one_more : (ds : Told) (t : State) (d : Decision) → Begins code s ds t → can t (ask code t.known) d ≡ true
+      → Begins code s (d ∷ ds) (apply (slice_get code t.known.pc) (ask code t.known) d t)
   one_more _ _ d stays c = answers d [] _ c path_here
   one_more _ _ d (answers e es t c' p) c = answers e (d ∷ es) _ c' (path_on es t d p c)
 
@@ -37,12 +40,14 @@ module _ (code : List Line) (s : State) where
   begins _ _ (path_on ds t d p c) = one_more ds t d (begins ds t p) c
 
   -- and back
-  pub began : (d : Decision) (ds : Told) (last : State) → can s (ask code s.known) d ≡ true → Path code (apply (slice_get code s.known.pc) (ask code s.known) d s) ds last → Path code s (ds ++ d ∷ []) last
+  pub began : (d : Decision) (ds : Told) (last : State) → can s (ask code s.known) d ≡ true
+      → Path code (apply (slice_get code s.known.pc) (ask code s.known) d s) ds last → Path code s (ds ++ d ∷ []) last
   began d _ _ c path_here = path_on [] s d path_here c
   began d _ _ c (path_on ds t e p c') = path_on (ds ++ d ∷ []) t e (began d ds t c p) c'
 
 -- a state that has ended asks nothing more
-pub asked_going : (s : State) (q : Question) (d : Decision) (z : Status) → can s (ask_while z q) d ≡ true → (z ≡ status.Going → ⊥) → ⊥
+pub asked_going : (s : State) (q : Question) (d : Decision) (z : Status) → can s (ask_while z q) d ≡ true
+    → (z ≡ status.Going → ⊥) → ⊥
 asked_going s q d status.Going c ended = ended refl
 asked_going s q d (status.Returned p x) c ended = let bad : false ≡ true = c in cc
 asked_going s q d (status.Stopped p) c ended = let bad : false ≡ true = c in cc
@@ -50,7 +55,8 @@ asked_going s q d (status.Stopped p) c ended = let bad : false ≡ true = c in c
 module _ (code : List Line) (s : State) where
   ended_begins : HasEnded s → (ds : Told) (last : State) → Begins code s ds last → ds ≡ []
   ended_begins ended _ _ stays = refl
-  ended_begins ended _ _ (answers d ds last c p) = absurd (asked_going s (asks_line s.known (slice_get code s.known.pc)) d s.known.status c ended)
+  ended_begins ended _ _ (answers d ds last c p) = absurd (asked_going s
+      (asks_line s.known (slice_get code s.known.pc)) d s.known.status c ended)
 
   -- where a state has ended, no answer leads on
   pub ended_here : HasEnded s → (ds : Told) (last : State) → Path code s ds last → ds ≡ []
@@ -62,21 +68,25 @@ AreLevelFrom codes code s = (ds : List Decision) (last : State) → Path code s 
 module _ (codes : Codes) (code : List Line) (s : State) where
   ended_last : HasEnded s → AllLevel codes s → (ds : Told) (last : State) → Begins code s ds last → AllLevel codes last
   ended_last ended level _ _ stays = level
-  ended_last ended level _ _ (answers d ds last c p) = absurd (asked_going s (asks_line s.known (slice_get code s.known.pc)) d s.known.status c ended)
+  ended_last ended level _ _ (answers d ds last c p) = absurd (asked_going s
+      (asks_line s.known (slice_get code s.known.pc)) d s.known.status c ended)
 
   -- where a state has ended, no path leads on
   pub ended_level : HasEnded s → AllLevel codes s → AreLevelFrom codes code s
   ended_level ended level ds last p = ended_last ended level ds last (begins code s ds last p)
 
-  going_not_returned : s.known.status ≡ status.Going → (p : Pos) (x : Option Term) → s.known.status ≡ status.Returned p x → ⊥
+  going_not_returned : s.known.status ≡ status.Going → (p : Pos) (x : Option Term)
+      → s.known.status ≡ status.Returned p x → ⊥
   going_not_returned e p x h = let bad : status.Going ≡ status.Returned p x = sym e ∙ h in cc
 
   going_itself : s.known.status ≡ status.Going → AllLevel codes s
   going_itself e code' entry choices n ds p x has h r = absurd (going_not_returned e p x h)
 
-  going_last : s.known.status ≡ status.Going → Each (AreLevelFrom codes code) (states_after code s) → (ds : Told) (last : State) → Begins code s ds last → AllLevel codes last
+  going_last : s.known.status ≡ status.Going → Each (AreLevelFrom codes code) (states_after code s)
+      → (ds : Told) (last : State) → Begins code s ds last → AllLevel codes last
   going_last e all _ _ stays = going_itself e
   going_last e all _ _ (answers d ds last c p) = after_each (AreLevelFrom codes code) code s all d c ds last p
 
-  pub going_level : s.known.status ≡ status.Going → Each (AreLevelFrom codes code) (states_after code s) → AreLevelFrom codes code s
+  pub going_level : s.known.status ≡ status.Going → Each (AreLevelFrom codes code) (states_after code s)
+      → AreLevelFrom codes code s
   going_level e all ds last p = going_last e all ds last (begins code s ds last p)

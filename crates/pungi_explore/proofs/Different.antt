@@ -1,5 +1,6 @@
 -- Lists without equal elements.
-use Rattle.std.proofs.Common.{◌≡◌, suc, ◌+◌, ◌≤◌, List, [], ◌∷◌, ◌++◌, length, map, refl, sym, ap, ◌∙◌, subst, arith, ◌⊎◌, inl, inr}
+use Rattle.std.proofs.Common.{◌≡◌, suc, ◌+◌, ◌≤◌, List, [], ◌∷◌, ◌++◌, length, map, refl, sym, ap, ◌∙◌, subst, arith}
+use Rattle.std.proofs.Common.{◌⊎◌, inl, inr}
 use Rattle.pungi_explore.specs.Traces.{IsIn, AreDifferent}
 
 module _ {X : Type 0} where
@@ -25,7 +26,8 @@ module _ {X : Type 0} where
   not_both x xs ys a b (inl i) = a i
   not_both x xs ys a b (inr i) = b i
 
-  pub different_joined : (xs ys : List X) → AreDifferent xs → AreDifferent ys → ((x : X) → IsIn x xs → IsIn x ys → ⊥) → AreDifferent (xs ++ ys)
+  pub different_joined : (xs ys : List X) → AreDifferent xs → AreDifferent ys
+      → ((x : X) → IsIn x xs → IsIn x ys → ⊥) → AreDifferent (xs ++ ys)
   different_joined [] ys a b apart = b
   different_joined (x ∷ xs) ys a b apart = (
     λ i. not_both x xs ys a.0 (apart x (inl refl)) (in_parts x xs ys i),
@@ -55,7 +57,8 @@ module _ {X : Type 0} where
   as_many [] ys different all = omega arith
   as_many (x ∷ xs) ys different all =
       let i = all x (inl refl) in
-      let fewer = as_many xs (without x ys i) different.1 (λ z j. still_in x z ys i (all z (inr j)) (λ e. different.0 (subst (λ y. IsIn y xs) e j))) in
+      let fewer = as_many xs (without x ys i) different.1 (λ z j. still_in x z ys i (all z (inr j))
+      (λ e. different.0 (subst (λ y. IsIn y xs) e j))) in
       let long = without_long x ys i in
       omega (arith, fewer, long)
 
@@ -75,9 +78,11 @@ module _ {X Y : Type 0} (f : X → Y) where
   of_map y (x ∷ xs) (inl e) = record { from = x; there = inl refl; is = e }
   of_map y (x ∷ xs) (inr i) = let r = of_map y xs i in record { from = r.from; there = inr r.there; is = r.is }
 
-  pub different_mapped : (xs : List X) → ((x z : X) → IsIn x xs → IsIn z xs → f x ≡ f z → x ≡ z) → AreDifferent xs → AreDifferent (map f xs)
+  pub different_mapped : (xs : List X) → ((x z : X) → IsIn x xs → IsIn z xs → f x ≡ f z → x ≡ z) → AreDifferent xs
+      → AreDifferent (map f xs)
   different_mapped [] one a = tt
   different_mapped (x ∷ xs) one a = (
-    λ i. let r = of_map (f x) xs i in a.0 (subst (λ z. IsIn z xs) (sym (one x r.from (inl refl) (inr r.there) r.is)) r.there),
+    λ i. let r = of_map (f x) xs i in a.0 (subst (λ z. IsIn z xs) (sym (one x r.from (inl refl) (inr r.there) r.is))
+        r.there),
     different_mapped xs (λ y z i j. one y z (inr i) (inr j)) a.1,
   )

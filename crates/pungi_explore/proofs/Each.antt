@@ -46,11 +46,15 @@ module _ {X : Type 0} (P : X → Type 0) where
   each_of_if true x h = (h refl, tt)
   each_of_if false x h = tt
 
-  pub each_flat : {Y : Type 0} (f : Y → List X) (y : Y) (ys : List Y) → IsIn y ys → Each P (flat_map f ys) → Each P (f y)
+  pub each_flat : {Y : Type 0} (f : Y → List X) (y : Y) (ys : List Y) → IsIn y ys → Each P (flat_map f ys)
+      → Each P (f y)
   each_flat f y [] i h = absurd i
-  each_flat f y (z ∷ ys) (inl e) h = subst (λ x. Each P (f x)) (sym e) (each_left (f z) (flat_map f ys) (subst (Each P) (flat_map-cons f z ys) h))
-  each_flat f y (z ∷ ys) (inr i) h = each_flat f y ys i (each_right (f z) (flat_map f ys) (subst (Each P) (flat_map-cons f z ys) h))
+  each_flat f y (z ∷ ys) (inl e) h = subst (λ x. Each P (f x)) (sym e) (each_left (f z) (flat_map f ys)
+      (subst (Each P) (flat_map-cons f z ys) h))
+  each_flat f y (z ∷ ys) (inr i) h = each_flat f y ys i (each_right (f z) (flat_map f ys)
+      (subst (Each P) (flat_map-cons f z ys) h))
 
   pub each_of_flat : {Y : Type 0} (f : Y → List X) → ((y : Y) → Each P (f y)) → (ys : List Y) → Each P (flat_map f ys)
   each_of_flat f h [] = tt
-  each_of_flat f h (y ∷ ys) = subst (Each P) (sym (flat_map-cons f y ys)) (each_joined (f y) (flat_map f ys) (h y) (each_of_flat f h ys))
+  each_of_flat f h (y ∷ ys) = subst (Each P) (sym (flat_map-cons f y ys))
+      (each_joined (f y) (flat_map f ys) (h y) (each_of_flat f h ys))

@@ -25,7 +25,8 @@ use Rattle.pungi_explore.proofs.Begins.{AreLevelFrom}
 -- ---- a run that returns
 
 -- a run returns once
-same_return : (w v : World) (a b : Option Value) (p q : Pos) (xs ys : List Pos) → run.Returned w a p xs ≡ run.Returned v b q ys → (w ≡ v) × (a ≡ b)
+same_return : (w v : World) (a b : Option Value) (p q : Pos) (xs ys : List Pos)
+    → run.Returned w a p xs ≡ run.Returned v b q ys → (w ≡ v) × (a ≡ b)
 same_return w v a b p q xs ys e = (cc, cc)
 
 stopped_return : (w : World) (a : Option Value) (p q : Pos) (xs : List Pos) → run.Stopped q ≡ run.Returned w a p xs → ⊥
@@ -45,50 +46,67 @@ module _ (codes : Codes) (f : ℕ) (code : Code) (has : HasForm codes f code) wh
   of_function ds s p = path_function code.instrs First ds s p
 
   pub is_reached : (ds : List Decision) (s : State) → Path code.instrs First ds s → IsReached codes s ds code
-  is_reached ds s p = subst (λ g. HasForm codes g code × Path code.instrs (start_state codes.statics g code) ds s) (sym (of_function ds s p)) (has, p)
+  is_reached ds s p = subst (λ g. HasForm codes g code × Path code.instrs (start_state codes.statics g code) ds s)
+      (sym (of_function ds s p)) (has, p)
 
-  module _ (entry : Entry) (choices : List Choice) (world : World) (value : Option Value) (r : Returns codes.statics code entry choices world value) where
+  module _ (entry : Entry) (choices : List Choice) (world : World) (value : Option Value)
+      (r : Returns codes.statics code entry choices world value) where
     none_added : (n : ℕ) → n + 0 ≡ n
     none_added n = omega arith
 
     ends : run_for code entry choices (r.steps + 0) ≡ run.Returned world value r.pos r.used
     ends = ap (run_for code entry choices) (none_added r.steps) ∙ r.is
 
-    module _ (ds : List Decision) (s : State) (level : AreLevelFrom codes code.instrs First) (m : Meets codes.statics s.known.function code entry choices r.steps ds s) (path : Path code.instrs First ds s) where
-      at_end : (z : Status) → s.known.status ≡ z → IsAt code entry choices r.steps (table_of codes.statics entry choices) m.m s.known.pc z → IsBalanced world value
+    module _ (ds : List Decision) (s : State) (level : AreLevelFrom codes code.instrs First)
+        (m : Meets codes.statics s.known.function code entry choices r.steps ds s)
+        (path : Path code.instrs First ds s) where
+      at_end : (z : Status) → s.known.status ≡ z
+          → IsAt code entry choices r.steps (table_of codes.statics entry choices) m.m s.known.pc z
+          → IsBalanced world value
       at_end status.Going e h = absurd (unfinished_return world value r.pos r.used (sym (h.ends 0) ∙ ends))
       at_end (status.Stopped p) e h = absurd (stopped_return world value r.pos p r.used (sym (h.ends 0) ∙ ends))
       at_end (status.Returned p x) e h =
-          let same = same_return m.m.world world (returned_value (table_of codes.statics entry choices) x) value p r.pos m.m.used r.used (sym (h.ends 0) ∙ ends) in
+          let same = same_return m.m.world world (returned_value (table_of codes.statics entry choices) x) value p
+          r.pos m.m.used r.used (sym (h.ends 0) ∙ ends) in
           let reached = is_reached ds s path in
           let balanced = level ds s path code entry choices r.steps ds p x reached.0 e m in
           subst (λ w. IsBalanced w value) same.0 (subst (λ v. IsBalanced m.m.world v) same.1 balanced)
 
-    covered : AreLevelFrom codes code.instrs First → (run_for code entry choices r.steps ≡ run.NeedsChoice) ⊎ ((ds : List Decision) × ((s : State) × Meets codes.statics f code entry choices r.steps ds s)) → IsBalanced world value
+    covered : AreLevelFrom codes code.instrs First
+        → (run_for code entry choices r.steps ≡ run.NeedsChoice)
+        ⊎ ((ds : List Decision) × ((s : State) × Meets codes.statics f code entry choices r.steps ds s))
+        → IsBalanced world value
     covered level (inl e) = absurd (wanting_return world value r.pos r.used (sym e ∙ r.is))
     covered level (inr c) =
         let ds = c.0 in
         let s = c.1.0 in
         let path = c.1.1.path in
-        let m = subst (λ g. Meets codes.statics g code entry choices r.steps ds s) (sym (of_function ds s path)) c.1.1 in
+        let m = subst (λ g. Meets codes.statics g code entry choices r.steps ds s) (sym (of_function ds s path))
+        c.1.1 in
         at_end ds s level m path s.known.status refl m.is_at
 
   -- where all that paths lead to is level, each run is balanced
   pub all_balanced : Covers codes f → AreLevelFrom codes code.instrs First → AreBalanced codes.statics code
-  all_balanced covers level entry choices world value r = covered entry choices world value r level (covers code has entry choices r.steps r.fits)
+  all_balanced covers level entry choices world value r = covered entry choices world value r level
+      (covers code has entry choices r.steps r.fits)
 
 -- ---- the run of a fault
 
-module _ (codes : Codes) (code : Code) (s : State) (w : Witness) (ds : List Decision) (shows : ShowsFault codes s w) (reached : IsReached codes s ds code) where
+module _ (codes : Codes) (code : Code) (s : State) (w : Witness) (ds : List Decision) (shows : ShowsFault codes s w)
+    (reached : IsReached codes s ds code) where
   abbrev N : ℕ
   N = (shows.run_at.run code ds reached).1.0
 
   abbrev M : Meets codes.statics s.known.function code w.input w.choices N ds s
   M = (shows.run_at.run code ds reached).1.1
 
-  returned_at : (z : Status) (p : Pos) (x : Option Term) → z ≡ status.Returned p x → IsAt code w.input w.choices N (table_of codes.statics w.input w.choices) M.m s.known.pc z
-      → run_for code w.input w.choices (N + 0) ≡ run.Returned M.m.world (returned_value (table_of codes.statics w.input w.choices) x) p M.m.used
-  returned_at z p x e h = let at : IsAt code w.input w.choices N (table_of codes.statics w.input w.choices) M.m s.known.pc (status.Returned p x) = subst (IsAt code w.input w.choices N (table_of codes.statics w.input w.choices) M.m s.known.pc) e h in at.ends 0
+  returned_at : (z : Status) (p : Pos) (x : Option Term) → z ≡ status.Returned p x
+      → IsAt code w.input w.choices N (table_of codes.statics w.input w.choices) M.m s.known.pc z
+      → run_for code w.input w.choices (N + 0) ≡ run.Returned M.m.world (returned_value
+      (table_of codes.statics w.input w.choices) x) p M.m.used
+  returned_at z p x e h = let at : IsAt code w.input w.choices N (table_of codes.statics w.input w.choices) M.m
+      s.known.pc (status.Returned p x) = subst (IsAt code w.input w.choices N
+      (table_of codes.statics w.input w.choices) M.m s.known.pc) e h in at.ends 0
 
   pub fault_run : IsFaultRun codes.statics code w
   fault_run =

@@ -1,6 +1,7 @@
 -- Where the trees below states end, the traces from these states to the ends are in a list that has one for each leaf,
 -- and no path goes on further than the trees are deep.
-use Rattle.std.proofs.Common.{◌≡◌, ℕ, suc, ◌+◌, ◌<◌, ◌≤◌, List, [], ◌∷◌, ◌++◌, length, map, refl, sym, ap, subst, arith, inl}
+use Rattle.std.proofs.Common.{◌≡◌, ℕ, suc, ◌+◌, ◌<◌, ◌≤◌, List, [], ◌∷◌, ◌++◌, length, map, refl, sym, ap, subst, arith}
+use Rattle.std.proofs.Common.{inl}
 use Rattle.std.specs.Prelude.{slice_get}
 use Rattle.std.proofs.Common.{length-append}
 use Rattle.std.proofs.Math.ListN.{length-map}
@@ -36,11 +37,14 @@ module _ (code : List Line) where
   ended_in : (s : State) → HasEnded s → AreIn ([] ∷ []) s
   ended_in s over ds last p ended = inl (ended_here code s over ds last p)
 
-  going_by : (s : State) (ts : List Told) → s.known.status ≡ status.Going → Each (AreInAfter ts) (successors code s) → (ds : Told) (last : State) → Begins code s ds last → HasEnded last → IsIn ds ts
+  going_by : (s : State) (ts : List Told) → s.known.status ≡ status.Going → Each (AreInAfter ts) (successors code s)
+      → (ds : Told) (last : State) → Begins code s ds last → HasEnded last → IsIn ds ts
   going_by s ts going all _ _ stays ended = absurd (ended going)
-  going_by s ts going all _ _ (answers d es last c p) ended = after_answer (AreInAfter ts) code s all d c es last p ended
+  going_by s ts going all _ _ (answers d es last c p) ended = after_answer (AreInAfter ts) code s all d c es last p
+      ended
 
-  going_in : (s : State) (ts : List Told) → s.known.status ≡ status.Going → Each (AreInAfter ts) (successors code s) → AreIn ts s
+  going_in : (s : State) (ts : List Told) → s.known.status ≡ status.Going → Each (AreInAfter ts) (successors code s)
+      → AreIn ts s
   going_in s ts going all ds last p ended = going_by s ts going all ds last (begins code s ds last p) ended
 
   -- ---- leaves
@@ -58,12 +62,14 @@ module _ (code : List Line) where
       let here : HasEnded p.1 = subst HasEnded (sym same) over in
       inl (ap (λ es. es ++ p.0 ∷ []) (ended_here code p.1 here ds last path))
 
-  one_branch : (p : Decision × State) (s : State) (ts us : List Told) → p.1 ≡ s → AreIn ts s → AreInAfter (map (λ ds. ds ++ p.0 ∷ []) ts ++ us) p
+  one_branch : (p : Decision × State) (s : State) (ts us : List Told) → p.1 ≡ s → AreIn ts s
+      → AreInAfter (map (λ ds. ds ++ p.0 ∷ []) ts ++ us) p
   one_branch p s ts us same all ds last path ended =
       let there : IsIn ds ts = all ds last (subst (λ t. Path code t ds last) same path) ended in
       in_left (ds ++ p.0 ∷ []) (map (λ es. es ++ p.0 ∷ []) ts) us (in_map (λ es. es ++ p.0 ∷ []) ds ts there)
 
-  pub leaves : (ps : List (Decision × State)) (ss : List State) (n : ℕ) → map (λ p. p.1) ps ≡ ss → HaveTraces code ss n → Leaves ps n
+  pub leaves : (ps : List (Decision × State)) (ss : List State) (n : ℕ) → map (λ p. p.1) ps ≡ ss
+      → HaveTraces code ss n → Leaves ps n
   leaves [] _ _ e no_state = record { traces = []; long = omega arith; all = tt }
   leaves [] _ _ e (has_ended s ss n over t) = absurd (let long = ap length e in omega (arith, long))
   leaves [] _ _ e (goes_on s ss m n going a t) = absurd (let long = ap length e in omega (arith, long))
@@ -74,7 +80,12 @@ module _ (code : List Line) where
       record {
         traces = (p.0 ∷ []) ∷ r.traces;
         long = omega (arith, long);
-        all = (one_leaf p s r.traces (same_head p.1 s (map (λ q. q.1) ps) ss e) over, each_weaker (AreInAfter r.traces) (AreInAfter ((p.0 ∷ []) ∷ r.traces)) (more_left ((p.0 ∷ []) ∷ []) r.traces) ps r.all);
+        all = (
+          one_leaf p s r.traces (same_head p.1 s (map (λ q. q.1) ps) ss e) over,
+          each_weaker
+              (AreInAfter r.traces) (AreInAfter ((p.0 ∷ []) ∷ r.traces)) (more_left ((p.0 ∷ []) ∷ []) r.traces) ps
+              r.all,
+        );
       }
   leaves (p ∷ ps) _ _ e (goes_on s ss m n going a t) =
       let r = leaves ps ss n (same_tail p.1 s (map (λ q. q.1) ps) ss e) t in
@@ -87,7 +98,12 @@ module _ (code : List Line) where
       record {
         traces = left ++ r.traces;
         long = omega (arith, one, other, mapped, sum);
-        all = (one_branch p s u.traces r.traces (same_head p.1 s (map (λ q. q.1) ps) ss e) (going_in s u.traces going u.all), each_weaker (AreInAfter r.traces) (AreInAfter (left ++ r.traces)) (more_left left r.traces) ps r.all);
+        all = (
+          one_branch p s u.traces r.traces (same_head p.1 s (map (λ q. q.1) ps) ss e)
+              (going_in s u.traces going u.all),
+          each_weaker (AreInAfter r.traces) (AreInAfter (left ++ r.traces))
+              (more_left left r.traces) ps r.all,
+        );
       }
 
   pub record FewFrom (s : State) (n : ℕ) : Type 0 where
@@ -106,13 +122,17 @@ module _ (code : List Line) where
 
   -- a path that may go on is not so long
   abbrev pub IsShort : ℕ → State → Type 0
-  IsShort depth s = (ds : Told) (last : State) → Path code s ds last → last.known.status ≡ status.Going → length ds < depth
+  IsShort depth s = (ds : Told) (last : State) → Path code s ds last → last.known.status ≡ status.Going
+      → length ds < depth
 
-  ended_short : (s : State) (depth : ℕ) → HasEnded s → (ds : Told) (last : State) → Begins code s ds last → last.known.status ≡ status.Going → length ds < depth
+  ended_short : (s : State) (depth : ℕ) → HasEnded s → (ds : Told) (last : State) → Begins code s ds last
+      → last.known.status ≡ status.Going → length ds < depth
   ended_short s depth over _ _ stays going = absurd (over going)
-  ended_short s depth over _ _ (answers d es last c p) going = absurd (asked_going s (asks_line s.known (slice_get code s.known.pc)) d s.known.status c over)
+  ended_short s depth over _ _ (answers d es last c p) going = absurd (asked_going s
+      (asks_line s.known (slice_get code s.known.pc)) d s.known.status c over)
 
-  going_short : (s : State) (depth : ℕ) → Each (IsShort depth) (states_after code s) → (ds : Told) (last : State) → Begins code s ds last → last.known.status ≡ status.Going → length ds < suc depth
+  going_short : (s : State) (depth : ℕ) → Each (IsShort depth) (states_after code s) → (ds : Told) (last : State)
+      → Begins code s ds last → last.known.status ≡ status.Going → length ds < suc depth
   going_short s depth all _ _ stays going = omega arith
   going_short s depth all _ _ (answers d es last c p) going =
       let one = after_each (IsShort depth) code s all d c es last p going in
@@ -130,5 +150,11 @@ module _ (code : List Line) where
   depth _ _ (goes_on s ss m n going a t) =
       let u = depth (states_after code s) m a in
       let r = depth ss n t in
-      let here : IsShort (suc u.0) s = λ ds last p g. going_short s u.0 u.1 ds last (begins code s ds last p) g in
-      (suc u.0 + r.0, (deeper (suc u.0) (suc u.0 + r.0) s (omega arith) here, each_weaker (IsShort r.0) (IsShort (suc u.0 + r.0)) (λ t. deeper r.0 (suc u.0 + r.0) t (omega arith)) ss r.1))
+      let here : IsShort (suc u.0) s = λ ds last p g. going_short s u.0 u.1 ds last (begins code s ds last p) g in (
+        suc u.0 + r.0,
+        (
+          deeper (suc u.0) (suc u.0 + r.0) s (omega arith) here,
+          each_weaker (IsShort r.0)
+              (IsShort (suc u.0 + r.0)) (λ t. deeper r.0 (suc u.0 + r.0) t (omega arith)) ss r.1,
+        ),
+      )

@@ -1,5 +1,6 @@
 -- Each answer that a question still has is among those that stand for next states.
-use Rattle.std.proofs.Common.{◌≡◌, ℕ, zero, suc, ◌≤◌, ℤ, pos, List, [], ◌∷◌, length, drop, Bool, true, false, refl, arith, inl, inr, Option, None, Some, cond}
+use Rattle.std.proofs.Common.{◌≡◌, ℕ, zero, suc, ◌≤◌, ℤ, pos, List, [], ◌∷◌, length, drop, Bool, true, false, refl}
+use Rattle.std.proofs.Common.{arith, inl, inr, Option, None, Some, cond}
 use Rattle.std.specs.Prelude.{nat_lt, slice_get, position}
 use Rattle.std.specs.declared.cmp.Ordering.TheVariants.{Less, Equal, Greater}
 use Rattle.std.proofs.lemmas.Bool.Decides.{nat_tests}
@@ -19,7 +20,8 @@ use Rattle.pungi_meaning.specs.Values.{fits, arithmetic}
 use Rattle.pungi_code.specs.declared.atom.Atom.{Atom}
 use Rattle.pungi_code.specs.declared.code.Line.{Line}
 use Rattle.pungi_code.specs.declared.instr.Instr.{Instr}
-use Rattle.pungi_code.specs.declared.instr.Instr.TheVariants.{Set, Arith, Fit, Compare, Load, Store, Api, Call, Unset as Forget, Jump, Branch, Return, Fall}
+use Rattle.pungi_code.specs.declared.instr.Instr.TheVariants.{Set, Arith, Fit, Compare, Load, Store, Api, Call}
+use Rattle.pungi_code.specs.declared.instr.Instr.TheVariants.{Unset as Forget, Jump, Branch, Return, Fall}
 use Rattle.pungi_code.specs.declared.place.Place.{Place}
 use Rattle.pungi_code.specs.declared.place.Place.TheVariants as places
 use Rattle.pungi_code.specs.WellFormed.{place_kind}
@@ -31,9 +33,12 @@ use Rattle.pungi_symbol.specs.declared.states.known.Known.{Known}
 use Rattle.pungi_symbol.specs.declared.states.known.Status.{Status}
 use Rattle.pungi_symbol.specs.declared.states.known.Status.TheVariants as status
 use Rattle.pungi_symbol.specs.declared.states.mark.Mark.{Mark}
-use Rattle.pungi_symbol.specs.declared.states.mark.Mark.TheVariants.{Pointer, TextPointer, IsNull, IsObject, IsText, IsNumber}
+use Rattle.pungi_symbol.specs.declared.states.mark.Mark.TheVariants.{Pointer, TextPointer, IsNull, IsObject, IsText}
+use Rattle.pungi_symbol.specs.declared.states.mark.Mark.TheVariants.{IsNumber}
 use Rattle.pungi_symbol.specs.declared.questions.question.Question.{Question}
-use Rattle.pungi_symbol.specs.declared.questions.question.Question.TheVariants.{Does, Touches, Overwrites, Null as AsksNull, Base, Answers, Same, Returns, Stops, Over}
+use Rattle.pungi_symbol.specs.declared.questions.question.Question.TheVariants.{Does, Touches, Overwrites}
+use Rattle.pungi_symbol.specs.declared.questions.question.Question.TheVariants.{Null as AsksNull, Base, Answers, Same}
+use Rattle.pungi_symbol.specs.declared.questions.question.Question.TheVariants.{Returns, Stops, Over}
 use Rattle.pungi_symbol.specs.declared.states.spot.Progress.{Progress}
 use Rattle.pungi_symbol.specs.declared.states.spot.Progress.TheVariants.{Looking, Found}
 use Rattle.pungi_symbol.specs.declared.states.spot.Touched.{Touched}
@@ -41,9 +46,16 @@ use Rattle.pungi_symbol.specs.declared.states.state.State.{State}
 use Rattle.pungi_symbol.specs.declared.states.term.Term.{Term}
 use Rattle.pungi_symbol.specs.declared.states.term.Term.TheVariants.{Unset, Null, Text, Number, Token}
 use Rattle.pungi_symbol.specs.states.Terms.{outcomes_of_mark, outcomes_of_answer}
-use Rattle.pungi_symbol.specs.states.Known.{mark_of, term_of, number, number_in, object_of, slot_note, is_global, is_field, at_place, ask_base, seek, find_token, find_field, find}
-use Rattle.pungi_symbol.specs.questions.NextQuestion.{asks_set, knows_mark, asks_known, needs_mark, asks_thing, asks_order, asks_same, asks_range, content_mark, asks_load, asks_store, asks_dropped, asks_all_set, asks_param, asks_params, asks_take, asks_takes, asks_answer, asks_special, asks_form, first_term, terms_of, asks_return, asks_instr, asks_line, ask_while, ask}
-use Rattle.pungi_symbol.specs.answers.SymbolicState.{is_decision, is_outcome, can_be, are_one, are_other, can, apply, decisions, after_if, successors}
+use Rattle.pungi_symbol.specs.states.Known.{mark_of, term_of, number, number_in, object_of, slot_note, is_global}
+use Rattle.pungi_symbol.specs.states.Known.{is_field, at_place, ask_base, seek, find_token, find_field, find}
+use Rattle.pungi_symbol.specs.questions.NextQuestion.{asks_set, knows_mark, asks_known, needs_mark, asks_thing}
+use Rattle.pungi_symbol.specs.questions.NextQuestion.{asks_order, asks_same, asks_range, content_mark, asks_load}
+use Rattle.pungi_symbol.specs.questions.NextQuestion.{asks_store, asks_dropped, asks_all_set, asks_param, asks_params}
+use Rattle.pungi_symbol.specs.questions.NextQuestion.{asks_take, asks_takes, asks_answer, asks_special, asks_form}
+use Rattle.pungi_symbol.specs.questions.NextQuestion.{first_term, terms_of, asks_return, asks_instr, asks_line}
+use Rattle.pungi_symbol.specs.questions.NextQuestion.{ask_while, ask}
+use Rattle.pungi_symbol.specs.answers.SymbolicState.{is_decision, is_outcome, can_be, are_one, are_other, can, apply}
+use Rattle.pungi_symbol.specs.answers.SymbolicState.{decisions, after_if, successors}
 use Rattle.pungi_explore.specs.Traces.{IsIn, states_after}
 use Rattle.pungi_explore.proofs.Each.{Each, each_mapped, each_flat, each_if}
 
@@ -165,17 +177,20 @@ module _ (k : Known) where
   needing_for_listed param.Size x q h = h
   needing_for_listed param.ModuleDef x q h = h
 
-  needing_all_listed : (ps : List Param) (xs : List Term) (q : Question) → AsksListed q → AsksListed (asks_params k ps xs q)
+  needing_all_listed : (ps : List Param) (xs : List Term) (q : Question) → AsksListed q
+      → AsksListed (asks_params k ps xs q)
   needing_all_listed [] xs q h = h
   needing_all_listed (p ∷ ps) [] q h = h
-  needing_all_listed (p ∷ ps) (x ∷ xs) q h = needing_for_listed p x (asks_params k ps xs q) (needing_all_listed ps xs q h)
+  needing_all_listed (p ∷ ps) (x ∷ xs) q h = needing_for_listed p x (asks_params k ps xs q)
+      (needing_all_listed ps xs q h)
 
   knowing_for_listed : (t : Take) (x : Term) (q : Question) → AsksListed q → AsksListed (asks_take k t x q)
   knowing_for_listed take.Never x q h = h
   knowing_for_listed take.Always x q h = knowing_listed x q h
   knowing_for_listed take.OnSuccess x q h = knowing_listed x q h
 
-  asks_takes_listed : (ts : List Take) (xs : List Term) (q : Question) → AsksListed q → AsksListed (asks_takes k ts xs q)
+  asks_takes_listed : (ts : List Take) (xs : List Term) (q : Question) → AsksListed q
+      → AsksListed (asks_takes k ts xs q)
   asks_takes_listed [] xs q h = h
   asks_takes_listed (t ∷ ts) [] q h = h
   asks_takes_listed (t ∷ ts) (x ∷ xs) q h = knowing_for_listed t x (asks_takes k ts xs q) (asks_takes_listed ts xs q h)
@@ -198,7 +213,8 @@ module _ (k : Known) where
   special_listed special.BuildValue x = refl
 
   form_listed : (f : Form) (shape : Shape) (xs : List Term) → AsksListed (asks_form k f shape xs)
-  form_listed form.Plain shape xs = needing_all_listed shape.row.params xs _ (asks_takes_listed shape.row.takes xs (asks_answer shape.row.answer) (answering_listed shape.row.answer))
+  form_listed form.Plain shape xs = needing_all_listed shape.row.params xs _
+      (asks_takes_listed shape.row.takes xs (asks_answer shape.row.answer) (answering_listed shape.row.answer))
   form_listed (form.Special sp) shape xs = special_listed sp (first_term xs)
 
   -- ---- slots
@@ -211,9 +227,11 @@ module _ (k : Known) where
   ask_base_listed t c slots None = tt
   ask_base_listed t c slots (Some j) = tt
 
-  seek_listed : (p : Progress) (t : ℕ) (tag field : Name) (slots : List Touched) → FindsListed (seek p t tag field slots)
+  seek_listed : (p : Progress) (t : ℕ) (tag field : Name) (slots : List Touched)
+      → FindsListed (seek p t tag field slots)
   seek_listed (Found i) t tag field slots = tt
-  seek_listed (Looking c) t tag field slots = ask_base_listed t c slots (position (λ s. is_field tag field s.spot) (drop c slots))
+  seek_listed (Looking c) t tag field slots = ask_base_listed t c slots (position (λ s. is_field tag field s.spot)
+      (drop c slots))
 
   find_token_listed : (t : ℕ) (m : Mark) (tag field : Name) → FindsListed (find_token k t m tag field)
   find_token_listed t Pointer tag field = tt
@@ -252,17 +270,22 @@ module _ (k : Known) where
 
   instr_listed : (i : Instr) → AsksListed (asks_instr k i)
   instr_listed (Set x a) = setting_listed (term_of k a) (Does Quiet) refl
-  instr_listed (Arith x kind o a b) = setting_listed (term_of k a) _ (setting_listed (term_of k b) _ (ranged_listed (arithmetic o kind (number k (term_of k a)) (number k (term_of k b))) _))
+  instr_listed (Arith x kind o a b) = setting_listed (term_of k a) _ (setting_listed (term_of k b) _
+      (ranged_listed (arithmetic o kind (number k (term_of k a)) (number k (term_of k b))) _))
   instr_listed (Fit x kind a) = setting_listed (term_of k a) _ (fitting_listed (fits kind (number k (term_of k a))) _)
   instr_listed (Compare x c a b) = ordering_listed (number_in (term_of k a)) (number_in (term_of k b)) _
-      (knowing_listed (term_of k a) _ (knowing_listed (term_of k b) _ (comparing_listed (object_of k (term_of k a)) (object_of k (term_of k b)))))
+      (knowing_listed (term_of k a) _ (knowing_listed (term_of k b) _ (comparing_listed (object_of k (term_of k a))
+      (object_of k (term_of k b)))))
   instr_listed (Load x place) = loading_listed (content_mark (place_kind place)) (find k place) (find_listed place)
-  instr_listed (Store place a) = knowing_listed (term_of k a) _ (storing_listed (content_mark (place_kind place)) (find k place) (find_listed place))
-  instr_listed (Api x shape as' outs) = all_set_listed (terms_of k as') _ (form_listed shape.row.form shape (terms_of k as'))
+  instr_listed (Store place a) = knowing_listed (term_of k a) _ (storing_listed (content_mark (place_kind place))
+      (find k place) (find_listed place))
+  instr_listed (Api x shape as' outs) = all_set_listed (terms_of k as') _
+      (form_listed shape.row.form shape (terms_of k as'))
   instr_listed (Call x f as') = refl
   instr_listed (Forget x) = refl
   instr_listed (Jump to) = refl
-  instr_listed (Branch a this other) = ordering_listed (number_in (term_of k a)) (Some (pos 0)) _ (knowing_listed (term_of k a) (Does Quiet) refl)
+  instr_listed (Branch a this other) = ordering_listed (number_in (term_of k a)) (Some (pos 0)) _
+      (knowing_listed (term_of k a) (Does Quiet) refl)
   instr_listed (Return o) = return_listed o
   instr_listed Fall = refl
 
@@ -342,7 +365,8 @@ can_listed : (s : State) (q : Question) (d : Decision) → AsksListed q → can 
 can_listed s (Does d') d h e = decision_listed d' d h e
 can_listed s (Touches m) d h e = decision_listed Quiet d refl e
 can_listed s (Overwrites m) d h e = outcome_listed (length (outcomes_of_mark m)) d (few_of_mark m) e
-can_listed s (AsksNull t) d h e = outcome_listed (length (outcomes_of_mark (mark_of s.known t))) d (few_of_mark (mark_of s.known t)) e
+can_listed s (AsksNull t) d h e =
+    outcome_listed (length (outcomes_of_mark (mark_of s.known t))) d (few_of_mark (mark_of s.known t)) e
 can_listed s (Base t u i) d h e = same_listed (are_one s.classes t u) (are_other s.statics s.classes s.others t u) d e
 can_listed s (Answers a) d h e = outcome_listed (length (outcomes_of_answer a)) d (few_of_answer a) e
 can_listed s (Same t u) d h e = same_listed (are_one s.classes t u) (are_other s.statics s.classes s.others t u) d e
@@ -364,7 +388,8 @@ in_decisions (IsSame true) e = inr (inr (inr (inr (inr (inr (inr (inr (inl refl)
 
 -- what holds of all answers with the states after them holds of each answer which the question still has
 pub after_answer : (P : Decision × State → Type 0) (code : List Line) (s : State) → Each P (successors code s)
-    → (d : Decision) → can s (ask code s.known) d ≡ true → P (d, apply (slice_get code s.known.pc) (ask code s.known) d s)
+    → (d : Decision) → can s (ask code s.known) d ≡ true
+    → P (d, apply (slice_get code s.known.pc) (ask code s.known) d s)
 after_answer P code s all d c =
     let one = after_if (slice_get code s.known.pc) (ask code s.known) s in
     let listed = can_listed s (ask code s.known) d (ask_listed code s.known) c in

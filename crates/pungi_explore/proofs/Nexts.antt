@@ -10,11 +10,17 @@ use Rattle.pungi_explore.specs.Traces.{states_after}
 use Rattle.pungi_explore.proofs.Each.{Each, each_of_if, each_of_flat, each_of_map}
 
 pub each_answer : (P : Decision × State → Type 0) (code : List Line) (s : State)
-    → ((d : Decision) → can s (ask code s.known) d ≡ true → P (d, apply (slice_get code s.known.pc) (ask code s.known) d s)) → Each P (successors code s)
+    → ((d : Decision) → can s (ask code s.known) d ≡ true
+    → P (d, apply (slice_get code s.known.pc) (ask code s.known) d s)) → Each P (successors code s)
 each_answer P code s h =
     let one = after_if (slice_get code s.known.pc) (ask code s.known) s in
-    each_of_flat P one (λ d. each_of_if P (can s (ask code s.known) d) (d, apply (slice_get code s.known.pc) (ask code s.known) d s) (h d)) decisions
+    each_of_flat P one (λ d. each_of_if P (can s (ask code s.known) d) (
+      d,
+      apply (slice_get code s.known.pc)
+          (ask code s.known) d s,
+    ) (h d)) decisions
 
 pub each_next : (P : State → Type 0) (code : List Line) (s : State)
-    → ((d : Decision) → can s (ask code s.known) d ≡ true → P (apply (slice_get code s.known.pc) (ask code s.known) d s)) → Each P (states_after code s)
+    → ((d : Decision) → can s (ask code s.known) d ≡ true
+    → P (apply (slice_get code s.known.pc) (ask code s.known) d s)) → Each P (states_after code s)
 each_next P code s h = each_of_map P (λ p. p.1) (successors code s) (each_answer (λ p. P p.1) code s h)

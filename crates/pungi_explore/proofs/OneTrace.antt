@@ -39,7 +39,8 @@ module _ (code : List Line) (table : Table) (first : Known) where
     pub known : k ≡ known_after count
     pub going : (j : ℕ) → j < count → (known_after j).status ≡ status.Going
 
-  going_more : (n j : ℕ) → ((i : ℕ) → i < n → (known_after i).status ≡ status.Going) → (known_after n).status ≡ status.Going → j < suc n → (known_after j).status ≡ status.Going
+  going_more : (n j : ℕ) → ((i : ℕ) → i < n → (known_after i).status ≡ status.Going)
+      → (known_after n).status ≡ status.Going → j < suc n → (known_after j).status ≡ status.Going
   going_more n j before now lt = by (same_or_less j n lt)
     where
       by : (j ≡ n) ⊎ (j < n) → (known_after j).status ≡ status.Going
@@ -53,19 +54,22 @@ module _ (code : List Line) (table : Table) (first : Known) where
       let now : (known_after r.count).status ≡ status.Going = ap (λ (z : Known). z.status) (sym r.known) ∙ going in
       record {
         count = suc r.count;
-        trace = ap (λ z. answer table z (ask code z) ∷ ds) r.known ∙ ap (λ es. answer table (known_after r.count) (ask code (known_after r.count)) ∷ es) r.trace;
+        trace = ap (λ z. answer table z (ask code z) ∷ ds) r.known
+            ∙ ap (λ es. answer table (known_after r.count) (ask code (known_after r.count)) ∷ es) r.trace;
         known = ap answered r.known;
         going = λ j lt. going_more r.count j r.going now lt;
       }
 
-  not_later : (ds es : Told) (k l : Known) (a : IsAfter ds k) (b : IsAfter es l) → (k.status ≡ status.Going → ⊥) → a.count < b.count → ⊥
+  not_later : (ds es : Told) (k l : Known) (a : IsAfter ds k) (b : IsAfter es l) → (k.status ≡ status.Going → ⊥)
+      → a.count < b.count → ⊥
   not_later ds es k l a b over lt = over (ap (λ (z : Known). z.status) a.known ∙ b.going a.count lt)
 
   same_count : (m n : ℕ) → (m < n → ⊥) → (n < m → ⊥) → m ≡ n
   same_count m n a b = omega (arith, a, b)
 
   -- where both have ended
-  pub one_trace : (ds es : Told) (k l : Known) → Asked code table first ds k → Asked code table first es l → (k.status ≡ status.Going → ⊥) → (l.status ≡ status.Going → ⊥) → ds ≡ es
+  pub one_trace : (ds es : Told) (k l : Known) → Asked code table first ds k → Asked code table first es l
+      → (k.status ≡ status.Going → ⊥) → (l.status ≡ status.Going → ⊥) → ds ≡ es
   one_trace ds es k l a b over ended =
       let x = counted ds k a in
       let y = counted es l b in

@@ -1,5 +1,6 @@
 -- Quiet adds nothing to a trace: paths to ends that have the same answers are the same.
-use Rattle.std.proofs.Common.{◌≡◌, ℕ, zero, suc, ◌+◌, ◌≤◌, List, [], ◌∷◌, ◌++◌, length, true, false, refl, sym, ap, ◌∙◌, subst, arith, ◌⊎◌, inl, inr}
+use Rattle.std.proofs.Common.{◌≡◌, ℕ, zero, suc, ◌+◌, ◌≤◌, List, [], ◌∷◌, ◌++◌, length, true, false, refl, sym, ap, ◌∙◌}
+use Rattle.std.proofs.Common.{subst, arith, ◌⊎◌, inl, inr}
 use Rattle.std.specs.Prelude.{slice_get}
 use Rattle.std.proofs.Common.{length-append}
 use Rattle.std.proofs.lemmas.List.{append_cancel_right}
@@ -7,7 +8,9 @@ use Rattle.pungi_code.specs.declared.code.Line.{Line}
 use Rattle.pungi_symbol.specs.declared.answers.decision.Decision.{Decision}
 use Rattle.pungi_symbol.specs.declared.answers.decision.Decision.TheVariants.{Quiet, Outcome, Order, Same as IsSame}
 use Rattle.pungi_symbol.specs.declared.questions.question.Question.{Question}
-use Rattle.pungi_symbol.specs.declared.questions.question.Question.TheVariants.{Does, Touches, Overwrites, Null as AsksNull, Base, Answers, Same, Returns, Stops, Over}
+use Rattle.pungi_symbol.specs.declared.questions.question.Question.TheVariants.{Does, Touches, Overwrites}
+use Rattle.pungi_symbol.specs.declared.questions.question.Question.TheVariants.{Null as AsksNull, Base, Answers, Same}
+use Rattle.pungi_symbol.specs.declared.questions.question.Question.TheVariants.{Returns, Stops, Over}
 use Rattle.pungi_symbol.specs.declared.states.state.State.{State}
 use Rattle.pungi_symbol.specs.questions.NextQuestion.{ask, asks_line}
 use Rattle.pungi_symbol.specs.answers.SymbolicState.{is_decision, can, apply}
@@ -62,26 +65,39 @@ quiet_or_told (Order o) = inr refl
 quiet_or_told (IsSame b) = inr refl
 
 module _ (code : List Line) where
-  same_first : (s : State) (ds es : Told) (d e : Decision) → can s (ask code s.known) d ≡ true → can s (ask code s.known) e ≡ true → trace_in ds ++ trace_in (d ∷ []) ≡ trace_in es ++ trace_in (e ∷ [])
+  same_first : (s : State) (ds es : Told) (d e : Decision) → can s (ask code s.known) d ≡ true
+      → can s (ask code s.known) e ≡ true → trace_in ds ++ trace_in (d ∷ []) ≡ trace_in es ++ trace_in (e ∷ [])
       → (d ≡ Quiet) ⊎ (trace_in (d ∷ []) ≡ d ∷ []) → (e ≡ Quiet) ⊎ (trace_in (e ∷ []) ≡ e ∷ []) → d ≡ e
-  same_first s ds es d e c c' same (inl q) o = q ∙ sym (quiet_only s (ask code s.known) e (subst (λ x. can s (ask code s.known) x ≡ true) q c) c')
-  same_first s ds es d e c c' same (inr a) (inl q) = quiet_only s (ask code s.known) d (subst (λ x. can s (ask code s.known) x ≡ true) q c') c ∙ sym q
-  same_first s ds es d e c c' same (inr a) (inr b) = same_last (trace_in ds) (trace_in es) d e (ap (λ l. trace_in ds ++ l) (sym a) ∙ same ∙ ap (λ l. trace_in es ++ l) b)
+  same_first s ds es d e c c' same (inl q) o = q ∙ sym (quiet_only s (ask code s.known) e
+      (subst (λ x. can s (ask code s.known) x ≡ true) q c) c')
+  same_first s ds es d e c c' same (inr a) (inl q) = quiet_only s (ask code s.known) d
+      (subst (λ x. can s (ask code s.known) x ≡ true) q c') c ∙ sym q
+  same_first s ds es d e c c' same (inr a) (inr b) = same_last (trace_in ds) (trace_in es) d e
+      (ap (λ l. trace_in ds ++ l) (sym a) ∙ same ∙ ap (λ l. trace_in es ++ l) b)
 
-  same_from : (n : ℕ) (s : State) (ds es : Told) (l m : State) → length ds ≤ n → Begins code s ds l → Begins code s es m → HasEnded l → HasEnded m → trace_in ds ≡ trace_in es → ds ≡ es
+  same_from : (n : ℕ) (s : State) (ds es : Told) (l m : State) → length ds ≤ n → Begins code s ds l
+      → Begins code s es m → HasEnded l → HasEnded m → trace_in ds ≡ trace_in es → ds ≡ es
   same_from n s _ _ _ _ le stays stays over ended same = refl
-  same_from n s _ _ _ _ le stays (answers e es m c' p') over ended same = absurd (asked_going s (asks_line s.known (slice_get code s.known.pc)) e s.known.status c' over)
-  same_from n s _ _ _ _ le (answers d ds l c p) stays over ended same = absurd (asked_going s (asks_line s.known (slice_get code s.known.pc)) d s.known.status c ended)
-  same_from zero s _ _ _ _ le (answers d ds l c p) (answers e es m c' p') over ended same = absurd (let long = length-append ds (d ∷ []) in omega (arith, le, long))
+  same_from n s _ _ _ _ le stays (answers e es m c' p') over ended same = absurd
+      (asked_going s (asks_line s.known (slice_get code s.known.pc)) e s.known.status c' over)
+  same_from n s _ _ _ _ le (answers d ds l c p) stays over ended same = absurd
+      (asked_going s (asks_line s.known (slice_get code s.known.pc)) d s.known.status c ended)
+  same_from zero s _ _ _ _ le (answers d ds l c p) (answers e es m c' p') over ended same = absurd
+      (let long = length-append ds (d ∷ []) in omega (arith, le, long))
   same_from (suc n) s _ _ _ _ le (answers d ds l c p) (answers e es m c' p') over ended same =
       let both = sym (first_added ds d) ∙ same ∙ first_added es e in
       let one = same_first s ds es d e c c' both (quiet_or_told d) (quiet_or_told e) in
-      let rest = append_cancel_right (trace_in ds) (trace_in es) (trace_in (d ∷ [])) (both ∙ ap (λ x. trace_in es ++ trace_in (x ∷ [])) (sym one)) in
+      let rest = append_cancel_right (trace_in ds) (trace_in es) (trace_in (d ∷ []))
+      (both ∙ ap (λ x. trace_in es ++ trace_in (x ∷ [])) (sym one)) in
       let next = apply (slice_get code s.known.pc) (ask code s.known) d s in
-      let path : Path code next es m = subst (λ x. Path code (apply (slice_get code s.known.pc) (ask code s.known) x s) es m) (sym one) p' in
+      let path : Path code next es m = subst (λ x. Path code (apply (slice_get code s.known.pc) (ask code s.known) x
+      s) es m) (sym one) p' in
       let long = length-append ds (d ∷ []) in
-      let last = same_from n next ds es l m (omega (arith, le, long)) (begins code next ds l p) (begins code next es m path) over ended rest in
+      let last = same_from n next ds es l m (omega (arith, le, long)) (begins code next ds l p)
+      (begins code next es m path) over ended rest in
       ap (λ x. x ++ d ∷ []) last ∙ ap (λ x. es ++ x ∷ []) one
 
-  pub same_path : (s : State) (ds es : Told) (l m : State) → Path code s ds l → Path code s es m → HasEnded l → HasEnded m → trace_in ds ≡ trace_in es → ds ≡ es
-  same_path s ds es l m p p' over ended same = same_from (length ds) s ds es l m (omega arith) (begins code s ds l p) (begins code s es m p') over ended same
+  pub same_path : (s : State) (ds es : Told) (l m : State) → Path code s ds l → Path code s es m → HasEnded l
+      → HasEnded m → trace_in ds ≡ trace_in es → ds ≡ es
+  same_path s ds es l m p p' over ended same = same_from (length ds) s ds es l m (omega arith)
+      (begins code s ds l p) (begins code s es m p') over ended same

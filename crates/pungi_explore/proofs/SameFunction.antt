@@ -4,16 +4,20 @@ use Rattle.std.specs.Prelude.{slice_get}
 use Rattle.pungi_code.specs.declared.atom.Var.{Var}
 use Rattle.pungi_code.specs.declared.code.Line.{Line}
 use Rattle.pungi_code.specs.declared.instr.Instr.{Instr}
-use Rattle.pungi_code.specs.declared.instr.Instr.TheVariants.{Set, Arith, Fit, Compare, Load, Store, Api, Call, Unset as Forget, Jump, Branch, Return, Fall}
+use Rattle.pungi_code.specs.declared.instr.Instr.TheVariants.{Set, Arith, Fit, Compare, Load, Store, Api, Call}
+use Rattle.pungi_code.specs.declared.instr.Instr.TheVariants.{Unset as Forget, Jump, Branch, Return, Fall}
 use Rattle.pungi_symbol.specs.declared.answers.decision.Decision.{Decision}
 use Rattle.pungi_symbol.specs.declared.states.known.Known.{Known}
 use Rattle.pungi_symbol.specs.declared.states.mark.Mark.{Mark}
 use Rattle.pungi_symbol.specs.declared.questions.question.Question.{Question}
-use Rattle.pungi_symbol.specs.declared.questions.question.Question.TheVariants.{Does, Touches, Overwrites, Null as AsksNull, Base, Answers, Same, Returns, Stops, Over}
+use Rattle.pungi_symbol.specs.declared.questions.question.Question.TheVariants.{Does, Touches, Overwrites}
+use Rattle.pungi_symbol.specs.declared.questions.question.Question.TheVariants.{Null as AsksNull, Base, Answers, Same}
+use Rattle.pungi_symbol.specs.declared.questions.question.Question.TheVariants.{Returns, Stops, Over}
 use Rattle.pungi_symbol.specs.declared.states.state.State.{State}
 use Rattle.pungi_symbol.specs.declared.states.term.Term.{Term}
 use Rattle.pungi_symbol.specs.questions.NextQuestion.{ask}
-use Rattle.pungi_symbol.specs.answers.KnownAfter.{put_answer, arrive, call_var, does, instr_of, load_first, go_on, store_first, perform_line, go}
+use Rattle.pungi_symbol.specs.answers.KnownAfter.{put_answer, arrive, call_var, does, instr_of, load_first, go_on}
+use Rattle.pungi_symbol.specs.answers.KnownAfter.{store_first, perform_line, go}
 use Rattle.pungi_symbol.specs.runs.Paths.{Path, path_here, path_on}
 
 answered_function : (k : Known) (x : Option Var) (o : Option Term) → (go_on (put_answer x o k)).function ≡ k.function
@@ -82,6 +86,8 @@ go_function o k (Returns x) d = refl
 go_function o k (Stops d') d = refl
 go_function o k Over d = refl
 
-pub path_function : (code : List Line) (first : State) (ds : List Decision) (s : State) → Path code first ds s → s.known.function ≡ first.known.function
+pub path_function : (code : List Line) (first : State) (ds : List Decision) (s : State) → Path code first ds s
+    → s.known.function ≡ first.known.function
 path_function code first _ _ path_here = refl
-path_function code first _ _ (path_on ds s d p c) = go_function (slice_get code s.known.pc) s.known (ask code s.known) d ∙ path_function code first ds s p
+path_function code first _ _ (path_on ds s d p c) =
+    go_function (slice_get code s.known.pc) s.known (ask code s.known) d ∙ path_function code first ds s p

@@ -1,6 +1,7 @@
 -- Traces of runs, and paths of states to their ends: each is the other, so the code has as many traces as there are
 -- leaves below its first state.
-use Rattle.std.proofs.Common.{◌≡◌, ℕ, ◌+◌, ◌<◌, ◌≤◌, List, [], ◌∷◌, length, map, true, refl, sym, ap, ◌∙◌, subst, arith, ◌⊎◌, inl, inr}
+use Rattle.std.proofs.Common.{◌≡◌, ℕ, ◌+◌, ◌<◌, ◌≤◌, List, [], ◌∷◌, length, map, true, refl, sym, ap, ◌∙◌, subst, arith}
+use Rattle.std.proofs.Common.{◌⊎◌, inl, inr}
 use Rattle.std.proofs.Math.ListN.{length-map}
 use Rattle.pungi_base.specs.declared.choice.Choice.{Choice}
 use Rattle.pungi_base.specs.declared.entry.Entry.{Entry}
@@ -31,33 +32,43 @@ module _ (code : Code) (statics f : ℕ) (entry : Entry) (choices : List Choice)
   none_added = omega arith
 
   -- a run is where its state says that it has ended
-  done_at : (m : Regs) (pc : ℕ) (z : Status) → (z ≡ status.Going → ⊥) → IsAt code entry choices n (table_of statics entry choices) m pc z → IsDone (run_for code entry choices (n + 0))
+  done_at : (m : Regs) (pc : ℕ) (z : Status) → (z ≡ status.Going → ⊥)
+      → IsAt code entry choices n (table_of statics entry choices) m pc z
+      → IsDone (run_for code entry choices (n + 0))
   done_at m pc status.Going over at = absurd (over refl)
   done_at m pc (status.Returned p x) over at = subst IsDone (sym (at.ends 0)) tt
   done_at m pc (status.Stopped p) over at = subst IsDone (sym (at.ends 0)) tt
 
   -- the state of a run that has ended has ended
-  ended_at : (ds : Told) (s : State) → Meets statics f code entry choices n ds s → IsDone (run_for code entry choices n) → HasEnded s
+  ended_at : (ds : Told) (s : State) → Meets statics f code entry choices n ds s
+      → IsDone (run_for code entry choices n) → HasEnded s
   ended_at ds s m done going =
       let at = subst (IsAt code entry choices n (table_of statics entry choices) m.m s.known.pc) going m.is_at in
       subst IsDone (ap (run_for code entry choices) none_added ∙ at.ends 0) done
 
   -- a run to which no path leads on is over
-  over_at : (ds : Told) (m : Regs) (pc : ℕ) (z : Status) → (z ≡ status.Going → n ≤ length ds) → (z ≡ status.Going → length ds < n) → IsAt code entry choices n (table_of statics entry choices) m pc z → IsOver (run_for code entry choices n)
-  over_at ds m pc status.Going enough short at = absurd (let a = enough refl in let b = short refl in omega (arith, a, b))
-  over_at ds m pc (status.Returned p x) enough short at = subst IsOver (sym (ap (run_for code entry choices) none_added ∙ at.ends 0)) tt
-  over_at ds m pc (status.Stopped p) enough short at = subst IsOver (sym (ap (run_for code entry choices) none_added ∙ at.ends 0)) tt
+  over_at : (ds : Told) (m : Regs) (pc : ℕ) (z : Status) → (z ≡ status.Going → n ≤ length ds)
+      → (z ≡ status.Going → length ds < n) → IsAt code entry choices n (table_of statics entry choices) m pc z
+      → IsOver (run_for code entry choices n)
+  over_at ds m pc status.Going enough short at = absurd (let a = enough refl in let b = short refl in omega
+      (arith, a, b))
+  over_at ds m pc (status.Returned p x) enough short at = subst IsOver (sym
+      (ap (run_for code entry choices) none_added ∙ at.ends 0)) tt
+  over_at ds m pc (status.Stopped p) enough short at = subst IsOver (sym
+      (ap (run_for code entry choices) none_added ∙ at.ends 0)) tt
 
 module _ (codes : Codes) (f : ℕ) (code : Code) (has : HasForm codes f code) where
   abbrev First : State
   First = start_state codes.statics f code
 
   -- a path to an end that has a run is the trace of a run
-  trace_of : (ds : Told) (s : State) → Path code.instrs First ds s → HasEnded s → HasRun codes s → (t : Trace) → t ≡ trace_in ds → IsTrace codes.statics f code t
+  trace_of : (ds : Told) (s : State) → Path code.instrs First ds s → HasEnded s → HasRun codes s → (t : Trace)
+      → t ≡ trace_in ds → IsTrace codes.statics f code t
   trace_of ds s path over there t same =
       let w = there.0 in
       let is = there.1 code ds (is_reached codes f code has ds s path) in
-      let m = subst (λ g. Meets codes.statics g code w.input w.choices is.1.0 ds s) (of_function codes f code has ds s path) is.1.1 in
+      let m = subst (λ g. Meets codes.statics g code w.input w.choices is.1.0 ds s)
+      (of_function codes f code has ds s path) is.1.1 in
       record {
         entry = w.input;
         choices = w.choices;
@@ -75,29 +86,39 @@ module _ (codes : Codes) (f : ℕ) (code : Code) (has : HasForm codes f code) wh
 
   module _ (covers : Covers codes f) where
     -- the trace of a run is a path to an end
-    in_list : (ts : List Told) → AreIn code.instrs ts First → (ds : Trace) → IsTrace codes.statics f code ds → IsIn ds (map trace_in ts)
+    in_list : (ts : List Told) → AreIn code.instrs ts First → (ds : Trace) → IsTrace codes.statics f code ds
+        → IsIn ds (map trace_in ts)
     in_list ts all ds t = by (covers code has t.entry t.choices t.has.steps t.fits)
       where
-        by : (run_for code t.entry t.choices t.has.steps ≡ run.NeedsChoice) ⊎ ((es : Told) × ((s : State) × Meets codes.statics f code t.entry t.choices t.has.steps es s)) → IsIn ds (map trace_in ts)
+        by : (run_for code t.entry t.choices t.has.steps ≡ run.NeedsChoice)
+            ⊎ ((es : Told) × ((s : State) × Meets codes.statics f code t.entry t.choices t.has.steps es s))
+            → IsIn ds (map trace_in ts)
         by (inl e) = absurd (subst IsDone e t.has.done)
         by (inr c) =
             let es = c.0 in
             let s = c.1.0 in
             let m = c.1.1 in
             let over = ended_at code codes.statics f t.entry t.choices t.has.steps es s m t.has.done in
-            let same = one_trace code.instrs (table_of codes.statics t.entry t.choices) (known_at codes.statics f code) t.has.decisions es t.has.last s.known t.has.asked m.asked t.has.over over in
-            subst (λ l. IsIn l (map trace_in ts)) (sym (t.has.is ∙ ap trace_in same)) (in_map trace_in es ts (all es s m.path over))
+            let same = one_trace code.instrs (table_of codes.statics t.entry t.choices)
+            (known_at codes.statics f code) t.has.decisions es t.has.last s.known t.has.asked m.asked t.has.over
+            over in
+            subst (λ l. IsIn l (map trace_in ts)) (sym (t.has.is ∙ ap trace_in same))
+            (in_map trace_in es ts (all es s m.path over))
 
-    all_end : (n : ℕ) → IsShort code.instrs n First → (entry : Entry) (choices : List Choice) → code_fits codes.statics code entry ≡ true → IsOver (run_for code entry choices n)
+    all_end : (n : ℕ) → IsShort code.instrs n First → (entry : Entry) (choices : List Choice)
+        → code_fits codes.statics code entry ≡ true → IsOver (run_for code entry choices n)
     all_end n short entry choices fits = by (covers code has entry choices n fits)
       where
-        by : (run_for code entry choices n ≡ run.NeedsChoice) ⊎ ((es : Told) × ((s : State) × Meets codes.statics f code entry choices n es s)) → IsOver (run_for code entry choices n)
+        by : (run_for code entry choices n ≡ run.NeedsChoice)
+            ⊎ ((es : Told) × ((s : State) × Meets codes.statics f code entry choices n es s))
+            → IsOver (run_for code entry choices n)
         by (inl e) = subst IsOver (sym e) tt
         by (inr c) =
             let es = c.0 in
             let s = c.1.0 in
             let m = c.1.1 in
-            over_at code codes.statics f entry choices n es m.m s.known.pc s.known.status m.enough (λ g. short es s m.path g) m.is_at
+            over_at code codes.statics f entry choices n es m.m s.known.pc s.known.status m.enough
+            (λ g. short es s m.path g) m.is_at
 
     pub has_few : (n : ℕ) → n ≤ most_traces → HaveTraces code.instrs (First ∷ []) n → HasFew codes f code
     has_few n le h =
@@ -105,7 +126,13 @@ module _ (codes : Codes) (f : ℕ) (code : Code) (has : HasForm codes f code) wh
         let d = depth code.instrs (First ∷ []) n h in
         let few = r.few in
         let long = length-map r.traces trace_in in
-        record { traces = map trace_in r.traces; few = omega (arith, few, le, long); all = in_list r.traces r.all; steps = d.0; ends = all_end d.0 d.1.0 }
+        record {
+          traces = map trace_in r.traces;
+          few = omega (arith, few, le, long);
+          all = in_list r.traces r.all;
+          steps = d.0;
+          ends = all_end d.0 d.1.0;
+        }
 
   pub has_many : HaveAtLeast code.instrs (HasRun codes) (First ∷ []) (most_traces + 1) → HasMany codes f code
   has_many h =
@@ -113,8 +140,10 @@ module _ (codes : Codes) (f : ℕ) (code : Code) (has : HasForm codes f code) wh
       record {
         traces = map trace_in r.traces;
         many = length-map r.traces trace_in ∙ r.long;
-        different = different_mapped trace_in r.traces (λ x z i j same. let k = r.each x i in let l = r.each z j in same_path code.instrs First x z k.last l.last k.path l.path k.ended l.ended same) r.different;
-        each = λ t i. let o = of_map trace_in t r.traces i in let l = r.each o.from o.there in trace_of o.from l.last l.path l.ended l.holds t o.is;
+        different = different_mapped trace_in r.traces (λ x z i j same. let k = r.each x i in let l = r.each z j in
+            same_path code.instrs First x z k.last l.last k.path l.path k.ended l.ended same) r.different;
+        each = λ t i. let o = of_map trace_in t r.traces i in let l = r.each o.from o.there in trace_of o.from
+            l.last l.path l.ended l.holds t o.is;
       }
 
 pub few_not_many : (codes : Codes) (f : ℕ) → ExcludeEachOther codes f

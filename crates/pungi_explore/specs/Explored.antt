@@ -1,7 +1,7 @@
 -- What exploring the states of a function shows of its runs (Li and Tan, ECOOP 2014, for when a return is balanced).
 --   most_traces                   how many traces of a function are explored
---   HasFew, HasMany               a code has at most that many traces, all its runs end within some number of instructions
---                                 or need a choice that isn't there; it has more traces
+--   HasFew, HasMany               a code has at most that many traces, all its runs end within some number of
+--                                 instructions or need a choice that isn't there; it has more traces
 --   ExcludeEachOther codes f      no code has both
 --   Returns                       a run returns: after so many instructions, in this world, with this value
 --   AreBalanced statics code      each run that returns is balanced
@@ -37,7 +37,8 @@ pub record HasFew (codes : Codes) (f : ℕ) (code : Code) : Type 0 where
   pub few : length traces ≤ most_traces
   pub all : (ds : Trace) → IsTrace codes.statics f code ds → IsIn ds traces
   pub steps : ℕ
-  pub ends : (entry : Entry) (choices : List Choice) → code_fits codes.statics code entry ≡ true → IsOver (run_for code entry choices steps)
+  pub ends : (entry : Entry) (choices : List Choice) → code_fits codes.statics code entry ≡ true
+      → IsOver (run_for code entry choices steps)
 
 pub record HasMany (codes : Codes) (f : ℕ) (code : Code) : Type 0 where
   pub traces : List Trace
@@ -48,7 +49,8 @@ pub record HasMany (codes : Codes) (f : ℕ) (code : Code) : Type 0 where
 abbrev pub ExcludeEachOther : Codes → ℕ → Type 0
 ExcludeEachOther codes f = (code : Code) → HasFew codes f code → HasMany codes f code → ⊥
 
-pub record Returns (statics : ℕ) (code : Code) (entry : Entry) (choices : List Choice) (world : World) (value : Option Value) : Type 0 where
+pub record Returns (statics : ℕ) (code : Code) (entry : Entry) (choices : List Choice) (world : World)
+    (value : Option Value) : Type 0 where
   pub fits : code_fits statics code entry ≡ true
   pub steps : ℕ
   pub pos : Pos
@@ -56,7 +58,9 @@ pub record Returns (statics : ℕ) (code : Code) (entry : Entry) (choices : List
   pub is : run_for code entry choices steps ≡ run.Returned world value pos used
 
 abbrev pub AreBalanced : ℕ → Code → Type 0
-AreBalanced statics code = (entry : Entry) (choices : List Choice) (world : World) (value : Option Value) → Returns statics code entry choices world value → IsBalanced world value
+AreBalanced statics code =
+    (entry : Entry) (choices : List Choice) (world : World) (value : Option Value)
+    → Returns statics code entry choices world value → IsBalanced world value
 
 -- its choices are those that it uses
 pub record IsFaultRun (statics : ℕ) (code : Code) (w : Witness) : Type 0 where
@@ -83,9 +87,12 @@ abbrev pub IsMany : Codes → ℕ → Type 0
 IsMany codes f = (code : Code) → HasForm codes f code → HasMany codes f code
 
 abbrev pub IsExplored : Codes → ℕ → Explored → Type 0
-IsExplored codes f AllBalanced = (code : Code) → HasForm codes f code → AreBalanced codes.statics code × HasFew codes f code
+IsExplored codes f AllBalanced =
+    (code : Code) → HasForm codes f code → AreBalanced codes.statics code × HasFew codes f code
 IsExplored codes f (Fault w) = (code : Code) → HasForm codes f code → IsFaultRun codes.statics code w
 IsExplored codes f TooMany = IsMany codes f
 
 abbrev pub FindsFault : Codes → ℕ → Explored → Type 0
-FindsFault codes f e = (code : Code) → HasForm codes f code → HasFew codes f code → IsUnbalanced codes.statics code → (w : Witness) × (e ≡ Fault w)
+FindsFault codes f e =
+    (code : Code) → HasForm codes f code → HasFew codes f code → IsUnbalanced codes.statics code
+    → (w : Witness) × (e ≡ Fault w)

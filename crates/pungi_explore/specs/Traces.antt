@@ -6,7 +6,8 @@
 --   IsIn x xs                an element of a list
 --   AreDifferent xs          no two elements of a list are equal
 --   IsDone e                 a run has returned or stopped; one that needs a choice that isn't there hasn't
---   IsTraceOf statics f code entry choices ds    the trace of the run of a code from an entry, with these choices, to its
+--   IsTraceOf statics f code entry choices ds    the trace of the run of a code from an entry, with these choices, to
+--                                                its
 --                            end
 --   IsTrace statics f code ds    the trace of some run of a code to its end
 --   HasEnded s               a symbolic state has returned or stopped

@@ -8,7 +8,8 @@ use Rattle.pungi_base.specs.declared.witness.Witness.{Witness}
 use Rattle.pungi_code.specs.declared.code.Codes.{Codes}
 use Rattle.pungi_symbol.specs.declared.states.known.Status.TheVariants as status
 use Rattle.pungi_symbol.specs.declared.states.state.State.{State}
-use Rattle.pungi_symbol.specs.Promises.{next_states, AllLevel, HasReturned, OwnUneven, IsRunOf, HasRun, IsOwn, HasEachChoice}
+use Rattle.pungi_symbol.specs.Promises.{next_states, AllLevel, HasReturned, OwnUneven, IsRunOf, HasRun, IsOwn}
+use Rattle.pungi_symbol.specs.Promises.{HasEachChoice}
 use Rattle.pungi_explore.specs.declared.visited.Visited.{Visited}
 use Rattle.pungi_explore.specs.declared.visited.Visited.TheVariants.{Goes, Ends, Unbalanced}
 use Rattle.pungi_explore.specs.Traces.{HasEnded}

@@ -18,7 +18,8 @@ const MOST_TRACES: usize = 16_384;
 
 /// The state at the start of a function.
 fn first(alloc: Global, codes: &Codes, f: usize) -> Result<Seq<Sym>, Memory>
-    ensures first { IfOk result (λ pending. pending ≡ map (λ p. p.1) (start_states codes.now.statics f (code_at codes.now f))) }
+    ensures first { IfOk result (λ pending. pending ≡ map (λ p. p.1) (start_states codes.now.statics f
+        (code_at codes.now f))) }
     ensures covers { IfOk result (λ _. Covers codes.now f) }
 {
     let mut pending = Seq::new(Vec::new(alloc));
@@ -26,7 +27,8 @@ fn first(alloc: Global, codes: &Codes, f: usize) -> Result<Seq<Sym>, Memory>
     Ok(pending)
 }
 
-/// What all states show. The states whose paths are still to be walked are pending, and the last of them is walked first.
+/// What all states show. The states whose paths are still to be walked are pending, and the last of them is walked
+/// first.
 fn search(alloc: Global, codes: &Codes, f: usize) -> Result<Explored, Memory>
     ensures { IfOk result (IsExplored codes.now f) }
 {
@@ -51,9 +53,9 @@ fn search(alloc: Global, codes: &Codes, f: usize) -> Result<Explored, Memory>
 }
 
 /// What the runs of a function show whose code has the object form: that each run that returns is balanced, or one that
-/// isn't (Li and Tan, ECOOP 2014, for when a return is balanced). A run that isn't balanced is found wherever there is one,
-/// if the function has at most 16,384 traces. `TooMany` comes only where it has more. Of a function whose
-/// code hasn't the form, no result says anything.
+/// isn't (Li and Tan, ECOOP 2014, for when a return is balanced). A run that isn't balanced is found wherever there is
+/// one, if the function has at most 16,384 traces. `TooMany` comes only where it has more. Of a function whose code
+/// hasn't the form, no result says anything.
 ///
 /// `Memory` is want of memory. A walk of 2^64 - 1 states is reported as it, too, and so are a count that leaves its
 /// integers and a state that has ended with 2^31 tokens or more, since no entry has so many objects.

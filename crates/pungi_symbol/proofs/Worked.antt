@@ -19,7 +19,8 @@ use Rattle.pungi_code.specs.declared.place.Place.TheVariants as places
 use Rattle.pungi_symbol.specs.declared.answers.decision.Decision.{Decision}
 use Rattle.pungi_symbol.specs.declared.answers.decision.Decision.TheVariants.{Outcome, Same as IsSame}
 use Rattle.pungi_symbol.specs.declared.states.mark.Mark.TheVariants as marks
-use Rattle.pungi_symbol.specs.declared.questions.question.Question.TheVariants.{Null as AsksNull, Overwrites, Answers, Same, Returns}
+use Rattle.pungi_symbol.specs.declared.questions.question.Question.TheVariants.{Null as AsksNull, Overwrites, Answers}
+use Rattle.pungi_symbol.specs.declared.questions.question.Question.TheVariants.{Same, Returns}
 use Rattle.pungi_symbol.specs.declared.states.state.State.{State}
 use Rattle.pungi_symbol.specs.declared.states.term.Term.TheVariants.{Token}
 use Rattle.pungi_symbol.specs.questions.NextQuestion.{ask}
@@ -36,7 +37,8 @@ abbrev Var' : ℕ → Atom
 Var' x = atom.Var (At x)
 
 abbrev One : Instr → List Param → Code
-One i vars = record { instrs = (record { pos = Here; instr = i }) ∷ []; vars = vars; params = 2; locals = 2; heads = [] }
+One i vars =
+    record { instrs = (record { pos = Here; instr = i }) ∷ []; vars = vars; params = 2; locals = 2; heads = [] }
 
 abbrev Two : List Param
 Two = param.ObjectOrNull ∷ param.ObjectOrNull ∷ param.Int ∷ []
@@ -98,7 +100,13 @@ statics_differ = refl
 -- an item is taken over also where the call fails
 abbrev Sets : Code
 Sets = One (Api (Some (At 2)) (record {
-  row = record { form = form.Plain; params = param.Object ∷ param.Object ∷ []; takes = take.Never ∷ take.Always ∷ []; answer = answer.Status };
+  row = record {
+    form = form.Plain;
+    params = param.Object ∷ param.Object ∷ [];
+    takes = take.Never ∷ take.Always
+        ∷ [];
+    answer = answer.Status;
+  };
   units_in = None;
   units_out = None;
   least = 0;

@@ -32,7 +32,8 @@ use Rattle.pungi_symbol.specs.declared.states.term.Term.{Term}
 use Rattle.pungi_symbol.specs.states.Known.{count}
 use Rattle.pungi_symbol.specs.answers.SymbolicState.{balance_at, successors}
 use Rattle.pungi_symbol.specs.runs.ObjectForm.{has_object_form}
-use Rattle.pungi_symbol.specs.runs.Paths.{argument_count, start_state, Path, Meets, IsCovered, canon, table_of, returned_value, wanted, IsLevelState}
+use Rattle.pungi_symbol.specs.runs.Paths.{argument_count, start_state, Path, Meets, IsCovered, canon, table_of}
+use Rattle.pungi_symbol.specs.runs.Paths.{returned_value, wanted, IsLevelState}
 
 abbrev pub lines_in : Option Code → List Line
 lines_in None = []
@@ -52,20 +53,26 @@ abbrev pub Covers : Codes → ℕ → Type 0
 Covers codes f = (code : Code) → HasForm codes f code → IsCovered codes.statics f code
 
 abbrev pub IsReached : Codes → State → List Decision → Code → Type 0
-IsReached codes s ds code = HasForm codes s.known.function code × Path code.instrs (start_state codes.statics s.known.function code) ds s
+IsReached codes s ds code =
+    HasForm codes s.known.function code × Path code.instrs (start_state codes.statics s.known.function code) ds s
 
 abbrev pub IsRunOf : Codes → State → Witness → Type 0
 IsRunOf codes s w = (code : Code) (ds : List Decision) → IsReached codes s ds code
-    → (code_fits codes.statics code w.input ≡ true) × ((n : ℕ) × Meets codes.statics s.known.function code w.input w.choices n ds s)
+    → (code_fits codes.statics code w.input ≡ true)
+    × ((n : ℕ) × Meets codes.statics s.known.function code w.input w.choices n ds s)
 
 abbrev pub HasRun : Codes → State → Type 0
 HasRun codes s = (w : Witness) × IsRunOf codes s w
 
 abbrev pub IsOwn : Codes → State → Witness → Type 0
-IsOwn codes s w = (code : Code) (ds : List Decision) → IsReached codes s ds code → table_of codes.statics w.input w.choices ≡ canon s
+IsOwn codes s w =
+    (code : Code) (ds : List Decision) → IsReached codes s ds code
+    → table_of codes.statics w.input w.choices ≡ canon s
 
 abbrev pub HasEachChoice : Codes → State → Witness → Type 0
-HasEachChoice codes s w = (code : Code) (ds : List Decision) → IsReached codes s ds code → codes.statics + argument_count code + length w.choices ≡ count s.known
+HasEachChoice codes s w =
+    (code : Code) (ds : List Decision) → IsReached codes s ds code
+    → codes.statics + argument_count code + length w.choices ≡ count s.known
 
 abbrev pub LevelBy : State → Status → Type 0
 LevelBy s status.Going = Unit {0}
@@ -81,15 +88,24 @@ abbrev pub HasReturned : State → Type 0
 HasReturned s = (p : Pos) × ((x : Option Term) × (s.known.status ≡ status.Returned p x))
 
 abbrev pub AllLevel : Codes → State → Type 0
-AllLevel codes s = (code : Code) (entry : Entry) (choices : List Choice) (n : ℕ) (ds : List Decision) (p : Pos) (x : Option Term) → HasForm codes s.known.function code → s.known.status ≡ status.Returned p x
-    → (r : Meets codes.statics s.known.function code entry choices n ds s) → IsBalanced r.m.world (returned_value (table_of codes.statics entry choices) x)
+AllLevel codes s =
+    (code : Code) (entry : Entry) (choices : List Choice) (n : ℕ) (ds : List Decision) (p : Pos) (x : Option Term)
+    → HasForm codes s.known.function code → s.known.status ≡ status.Returned p x
+    → (r : Meets codes.statics s.known.function code entry choices n ds s)
+    → IsBalanced r.m.world (returned_value (table_of codes.statics entry choices) x)
 
 -- an object of a run whose change differs from what escaped
-pub record IsUneven (codes : Codes) (s : State) (code : Code) (entry : Entry) (choices : List Choice) (n : ℕ) (ds : List Decision) (x : Option Term) (r : Meets codes.statics s.known.function code entry choices n ds s) : Type 0 where
+pub record IsUneven (codes : Codes) (s : State) (code : Code) (entry : Entry) (choices : List Choice) (n : ℕ)
+    (ds : List Decision) (x : Option Term) (r : Meets codes.statics s.known.function code entry choices n ds s) :
+    Type 0 where
   pub object : ℕ
   pub there : object < length r.m.world.accounts
   pub differs : IsLevel r.m.world (returned_value (table_of codes.statics entry choices) x) object → ⊥
 
 abbrev pub OwnUneven : Codes → State → Type 0
-OwnUneven codes s = (code : Code) (entry : Entry) (choices : List Choice) (n : ℕ) (ds : List Decision) (p : Pos) (x : Option Term) → HasForm codes s.known.function code → s.known.status ≡ status.Returned p x
-    → table_of codes.statics entry choices ≡ canon s → (r : Meets codes.statics s.known.function code entry choices n ds s) → IsUneven codes s code entry choices n ds x r
+OwnUneven codes s =
+    (code : Code) (entry : Entry) (choices : List Choice) (n : ℕ) (ds : List Decision) (p : Pos) (x : Option Term)
+    → HasForm codes s.known.function code → s.known.status ≡ status.Returned p x
+    → table_of codes.statics entry choices ≡ canon s
+    → (r : Meets codes.statics s.known.function code entry choices n ds s)
+    → IsUneven codes s code entry choices n ds x r

@@ -6,7 +6,8 @@ ghost use Rattle.pungi_code.specs.declared.code.Codes.{Codes as CodesOf};
 ghost use Rattle.pungi_code.specs.Run.{code_at};
 ghost use Rattle.pungi_symbol.specs.states.Known.{count};
 ghost use Rattle.pungi_symbol.specs.runs.Paths.{end_of, start_states, start_state, table_of, Path, GoesBack, AreApart};
-ghost use Rattle.pungi_symbol.specs.Promises.{next_states, lines_of, Covers, IsReached, IsRunOf, HasRun, IsOwn, HasEachChoice, AllLevel, OwnUneven, HasReturned};
+ghost use Rattle.pungi_symbol.specs.Promises.{next_states, lines_of, Covers, IsReached, IsRunOf, HasRun, IsOwn};
+ghost use Rattle.pungi_symbol.specs.Promises.{HasEachChoice, AllLevel, OwnUneven, HasReturned};
 
 use crate::answers::successors::{next_from, next_of};
 use crate::runs::begin::first_of;
@@ -18,9 +19,9 @@ use pungi_base::{Memory, Witness};
 use pungi_code::Codes;
 use std::alloc::Global;
 
-/// The state at the start of a function, where it has code. If the code is of the object form, each run of it wants a choice
-/// that isn't there, or it is, after each instruction, in a state at the end of a path that begins here, and has the path's
-/// answers as its trace.
+/// The state at the start of a function, where it has code. If the code is of the object form, each run of it wants a
+/// choice that isn't there, or it is, after each instruction, in a state at the end of a path that begins here, and has
+/// the path's answers as its trace.
 pub fn start(alloc: Global, codes: &Codes, f: usize) -> Result<Vec<(Decision, Sym)>, Memory>
     ensures first { IfOk result (λ first. first.items ≡ start_states codes.now.statics f (code_at codes.now f)) }
     ensures forward { IfOk result (λ _. Covers codes.now f) }
@@ -33,8 +34,11 @@ pub fn start(alloc: Global, codes: &Codes, f: usize) -> Result<Vec<(Decision, Sy
 /// there, and no other.
 pub fn step(alloc: Global, codes: &Codes, state: &Sym) -> Result<Vec<(Decision, Sym)>, Memory>
     ensures next { IfOk result (λ next. next.items ≡ next_states codes.now state.now) }
-    ensures path { IfOk result (λ next. (code : Code) (ds : List DecisionOf) → IsReached codes.now state.now ds code → All (λ p. Path code.instrs (start_state codes.now.statics state.now.known.function code) (p.0 ∷ ds) p.1) next.items) }
-    ensures back { IfOk result (λ next. (code : Code) (ds : List DecisionOf) → IsReached codes.now state.now ds code → All (GoesBack code.instrs state.now) next.items) }
+    ensures path { IfOk result (λ next. (code : Code) (ds : List DecisionOf) → IsReached codes.now state.now ds code
+        → All (λ p. Path code.instrs (start_state codes.now.statics state.now.known.function code) (p.0 ∷ ds) p.1)
+        next.items) }
+    ensures back { IfOk result (λ next. (code : Code) (ds : List DecisionOf) → IsReached codes.now state.now ds code
+        → All (GoesBack code.instrs state.now) next.items) }
 {
     let next = next_of(alloc, codes, state)?;
     Ok(next)
@@ -43,8 +47,11 @@ pub fn step(alloc: Global, codes: &Codes, state: &Sym) -> Result<Vec<(Decision, 
 /// As `step`, and the state is used up: where there is one answer the state itself is changed, and nothing is copied.
 pub fn step_from(alloc: Global, codes: &Codes, state: Sym) -> Result<Vec<(Decision, Sym)>, Memory>
     ensures next { IfOk result (λ next. next.items ≡ next_states codes.now state) }
-    ensures path { IfOk result (λ next. (code : Code) (ds : List DecisionOf) → IsReached codes.now state ds code → All (λ p. Path code.instrs (start_state codes.now.statics state.known.function code) (p.0 ∷ ds) p.1) next.items) }
-    ensures back { IfOk result (λ next. (code : Code) (ds : List DecisionOf) → IsReached codes.now state ds code → All (GoesBack code.instrs state) next.items) }
+    ensures path { IfOk result (λ next. (code : Code) (ds : List DecisionOf) → IsReached codes.now state ds code
+        → All (λ p. Path code.instrs (start_state codes.now.statics state.known.function code) (p.0 ∷ ds) p.1)
+        next.items) }
+    ensures back { IfOk result (λ next. (code : Code) (ds : List DecisionOf) → IsReached codes.now state ds code
+        → All (GoesBack code.instrs state) next.items) }
 {
     let next = next_from(alloc, codes, state)?;
     Ok(next)
@@ -61,21 +68,22 @@ pub fn end(state: &Sym) -> SymEnd
     }
 }
 
-/// A run that ends in a state that `start` and calls of `step` gave. It has the answers of each path to the state as its
-/// trace and uses each of its choices, and tokens that were not merged are different objects.
+/// A run that ends in a state that `start` and calls of `step` gave. It has the answers of each path to the state as
+/// its trace and uses each of its choices, and tokens that were not merged are different objects.
 pub fn solve(alloc: Global, codes: &Codes, state: &Sym) -> Result<Option<Witness>, Memory>
     ensures some { IfOk result (λ w. is_some w ≡ true) }
     ensures run { IfOk result (λ o. IfSome o (λ w. IsRunOf codes.now state.now w)) }
     ensures own { IfOk result (λ o. IfSome o (λ w. IsOwn codes.now state.now w)) }
     ensures each { IfOk result (λ o. IfSome o (λ w. HasEachChoice codes.now state.now w)) }
-    ensures apart { IfOk result (λ o. IfSome o (λ w. (code : Code) (ds : List DecisionOf) → IsReached codes.now state.now ds code → AreApart state.now (table_of codes.now.statics w.input w.choices))) }
+    ensures apart { IfOk result (λ o. IfSome o (λ w. (code : Code) (ds : List DecisionOf)
+        → IsReached codes.now state.now ds code → AreApart state.now (table_of codes.now.statics w.input w.choices))) }
 {
     let witness = run_of(alloc, codes, state)?;
     Ok(Some(witness))
 }
 
-/// Whether a state that `start` and calls of `step` gave has a run. One that has fewer than 2^31 tokens, as many objects as
-/// an entry may have, has one.
+/// Whether a state that `start` and calls of `step` gave has a run. One that has fewer than 2^31 tokens, as many
+/// objects as an entry may have, has one.
 pub fn has_run(state: &Sym) -> bool
     ensures run { result ≡ true → (codes : CodesOf) → HasRun codes state.now }
     ensures many { result ≡ false → 2 ^ 31 ≤ count state.now.known }
@@ -83,8 +91,8 @@ pub fn has_run(state: &Sym) -> bool
     has_few_tokens(state.state())
 }
 
-/// Whether each run that ends in a state returns balanced; so it is true where the state hasn't returned. Where it is false
-/// the state's own run returns and isn't balanced.
+/// Whether each run that ends in a state returns balanced; so it is true where the state hasn't returned. Where it is
+/// false the state's own run returns and isn't balanced.
 pub fn is_balanced(state: &Sym) -> bool
     ensures balanced { result ≡ true → (codes : CodesOf) → AllLevel codes state.now }
     ensures returned { result ≡ false → HasReturned state.now }

@@ -3,8 +3,8 @@ ghost use Rattle.std.specs.Prelude.{◌≡◌, OnOk};
 ghost use Rattle.pungi_types.specs.Names.{is_among, with_word, is_built_in_static};
 
 use indexmap::IndexSet;
-use pungi_base::{Memory, Name};
 use pungi_base::words::{FIRST_STATIC, STATICS_END};
+use pungi_base::{Memory, Name};
 
 /// Whether a word is among these.
 pub fn is_kept(words: &IndexSet<u32>, word: Name) -> bool

@@ -20,13 +20,20 @@ module _ (P : Decision × State → Type 0) where
   after_one true x h = one_all P x (h refl)
   after_one false x h = none_all P
 
-  after_all : (f : Decision → List (Decision × State)) → ((d : Decision) → All P (f d)) → (ds : List Decision) → All P (flat_map f ds)
+  after_all : (f : Decision → List (Decision × State)) → ((d : Decision) → All P (f d)) → (ds : List Decision)
+      → All P (flat_map f ds)
   after_all f h [] = none_all P
-  after_all f h (d ∷ ds) = subst (All P) (sym (flat_map-cons f d ds)) (All-append P (f d) (flat_map f ds) (h d) (after_all f h ds))
+  after_all f h (d ∷ ds) = subst (All P) (sym (flat_map-cons f d ds)) (All-append P (f d) (flat_map f ds) (h d)
+      (after_all f h ds))
 
-  pub all_next : (code : List Line) (s : State) → ((d : Decision) → can s (ask code s.known) d ≡ true → P (d, apply (slice_get code s.known.pc) (ask code s.known) d s)) → All P (successors code s)
-  all_next code s h = after_all (after_if (slice_get code s.known.pc) (ask code s.known) s) (λ d. after_one (can s (ask code s.known) d) (d, apply (slice_get code s.known.pc) (ask code s.known) d s) (h d)) decisions
+  pub all_next : (code : List Line) (s : State)
+      → ((d : Decision) → can s (ask code s.known) d ≡ true
+      → P (d, apply (slice_get code s.known.pc) (ask code s.known) d s)) → All P (successors code s)
+  all_next code s h = after_all (after_if (slice_get code s.known.pc) (ask code s.known) s)
+      (λ d. after_one (can s (ask code s.known) d) (d, apply (slice_get code s.known.pc) (ask code s.known) d s)
+      (h d)) decisions
 
 -- a path goes on to each next state
-pub paths_next : (code : List Line) (first s : State) (ds : List Decision) → Path code first ds s → All (λ p. Path code first (p.0 ∷ ds) p.1) (successors code s)
+pub paths_next : (code : List Line) (first s : State) (ds : List Decision) → Path code first ds s
+    → All (λ p. Path code first (p.0 ∷ ds) p.1) (successors code s)
 paths_next code first s ds path = all_next (λ p. Path code first (p.0 ∷ ds) p.1) code s (λ d h. path_on ds s d path h)

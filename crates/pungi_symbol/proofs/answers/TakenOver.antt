@@ -1,5 +1,6 @@
 -- The balances after a call took over some of its arguments, one after another.
-use Rattle.std.proofs.Common.{◌≡◌, ℕ, ◌+◌, ◌<◌, ℤ, negsuc, List, [], ◌∷◌, length, get_or, Bool, true, false, refl, sym, ap, ◌∙◌, arith, min, cond}
+use Rattle.std.proofs.Common.{◌≡◌, ℕ, ◌+◌, ◌<◌, ℤ, negsuc, List, [], ◌∷◌, length, get_or, Bool, true, false, refl, sym}
+use Rattle.std.proofs.Common.{ap, ◌∙◌, arith, min, cond}
 use Rattle.std.specs.Prelude.{drop}
 use Rattle.pungi_api.specs.declared.take.Take.{Take}
 use Rattle.pungi_world.specs.Calls.{is_taken}
@@ -14,7 +15,11 @@ use Rattle.pungi_symbol.proofs.questions.Arguments.{drop_here, none_left}
 
 -- the state after the arguments from a place on were taken over too
 abbrev pub Lowered : Bool → List Take → List Atom → ℕ → State → State
-Lowered success ts as' i s = record s { balances = lower s.classes s.known (taken_terms success (drop i ts) (terms_of s.known (drop i as'))) s.balances }
+Lowered success ts as' i s =
+    record s {
+      balances = lower s.classes s.known (taken_terms success (drop i ts) (terms_of s.known (drop i as')))
+          s.balances;
+    }
 
 abbrev pub Less : Bool → Term → State → State
 Less b x s = record s { balances = cond b (add_term s.classes s.known x (negsuc 0) s.balances) s.balances }
@@ -26,19 +31,25 @@ module _ (success : Bool) (ts : List Take) (as' : List Atom) where
   one_less cs k false x xs balances = refl
 
   pub lowered_step : (s : State) (i : ℕ) (t : Take) (d : Atom) → i < length ts → i < length as'
-      → Lowered success ts as' (i + 1) (Less (is_taken success (get_or ts i t)) (term_of s.known (get_or as' i d)) s) ≡ Lowered success ts as' i s
+      → Lowered success ts as' (i + 1) (Less (is_taken success (get_or ts i t)) (term_of s.known (get_or as' i d))
+      s) ≡ Lowered success ts as' i s
   lowered_step s i t d h g =
       ap (λ b. record s { balances = b }) (
-      one_less s.classes s.known (is_taken success (get_or ts i t)) (term_of s.known (get_or as' i d)) (taken_terms success (drop (i + 1) ts) (terms_of s.known (drop (i + 1) as'))) s.balances
+      one_less s.classes s.known (is_taken success (get_or ts i t)) (term_of s.known (get_or as' i d))
+      (taken_terms success (drop (i + 1) ts) (terms_of s.known (drop (i + 1) as'))) s.balances
       ∙ sym (
-      ap (λ l. lower s.classes s.known (taken_terms success l (terms_of s.known (drop i as'))) s.balances) (drop_here ts i t h)
-      ∙ ap (λ l. lower s.classes s.known (taken_terms success (get_or ts i t ∷ drop (i + 1) ts) (terms_of s.known l)) s.balances) (drop_here as' i d g))
+      ap (λ l. lower s.classes s.known (taken_terms success l (terms_of s.known (drop i as'))) s.balances)
+      (drop_here ts i t h)
+      ∙ ap (λ l. lower s.classes s.known (taken_terms success (get_or ts i t ∷ drop (i + 1) ts)
+      (terms_of s.known l)) s.balances) (drop_here as' i d g))
       )
 
-  none_taken : (k : Known) (ts : List Take) (bs : List Atom) → min (length ts) (length bs) ≡ 0 → taken_terms success ts (terms_of k bs) ≡ []
+  none_taken : (k : Known) (ts : List Take) (bs : List Atom) → min (length ts) (length bs) ≡ 0
+      → taken_terms success ts (terms_of k bs) ≡ []
   none_taken k [] bs e = refl
   none_taken k (t ∷ ts) [] e = refl
   none_taken k (t ∷ ts) (b ∷ bs) e = absurd (omega (arith, e))
 
   pub lowered_end : (s : State) (n : ℕ) → n ≡ min (length ts) (length as') → Lowered success ts as' n s ≡ s
-  lowered_end s n e = ap (λ xs. record s { balances = lower s.classes s.known xs s.balances }) (none_taken s.known (drop n ts) (drop n as') (none_left ts as' n e))
+  lowered_end s n e = ap (λ xs. record s { balances = lower s.classes s.known xs s.balances })
+      (none_taken s.known (drop n ts) (drop n as') (none_left ts as' n e))

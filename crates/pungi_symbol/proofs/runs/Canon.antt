@@ -1,5 +1,6 @@
 -- The values of the tokens of a state where all that may differ differs, and the run that has them.
-use Rattle.std.proofs.Common.{◌≡◌, ℕ, zero, suc, ◌+◌, ◌<◌, ◌≤◌, List, [], ◌∷◌, ◌++◌, length, get_or, refl, sym, ap, ◌∙◌, arith, map, min}
+use Rattle.std.proofs.Common.{◌≡◌, ℕ, zero, suc, ◌+◌, ◌<◌, ◌≤◌, List, [], ◌∷◌, ◌++◌, length, get_or, refl, sym, ap, ◌∙◌}
+use Rattle.std.proofs.Common.{arith, map, min}
 use Rattle.std.specs.Prelude.{drop, take}
 use Rattle.std.specs.List.{range_with_len}
 use Rattle.std.proofs.lemmas.List.{append_assoc, append-nil}
@@ -9,7 +10,8 @@ use Rattle.pungi_base.specs.declared.value.Value.{Value}
 use Rattle.pungi_base.specs.declared.value.Value.TheVariants as value
 use Rattle.pungi_world.specs.Choices.{value_of}
 use Rattle.pungi_symbol.specs.declared.states.mark.Mark.{Mark}
-use Rattle.pungi_symbol.specs.declared.states.mark.Mark.TheVariants.{Pointer, TextPointer, IsNull, IsObject, IsText, IsNumber}
+use Rattle.pungi_symbol.specs.declared.states.mark.Mark.TheVariants.{Pointer, TextPointer, IsNull, IsObject, IsText}
+use Rattle.pungi_symbol.specs.declared.states.mark.Mark.TheVariants.{IsNumber}
 use Rattle.pungi_symbol.specs.declared.states.state.State.{State}
 use Rattle.pungi_symbol.specs.states.Terms.{Table, at}
 use Rattle.pungi_symbol.specs.answers.SymbolicState.{class_of}
@@ -21,18 +23,23 @@ use Rattle.pungi_symbol.proofs.questions.Arguments.{drop_here, none_left}
 
 module _ (ms : List Mark) (cs : List ℕ) where
   pub own_step : (so_far : Table) (i : ℕ) (m : Mark) (c : ℕ) → i < length ms → i < length cs
-      → (so_far ++ own_value (get_or ms i m) (get_or cs i c) ∷ []) ++ own_values (drop (i + 1) ms) (drop (i + 1) cs) ≡ so_far ++ own_values (drop i ms) (drop i cs)
+      → (so_far ++ own_value (get_or ms i m) (get_or cs i c) ∷ []) ++ own_values (drop (i + 1) ms) (drop (i + 1) cs)
+      ≡ so_far ++ own_values (drop i ms) (drop i cs)
   own_step so_far i m c h g =
-      append_assoc so_far (own_value (get_or ms i m) (get_or cs i c) ∷ []) (own_values (drop (i + 1) ms) (drop (i + 1) cs))
-      ∙ sym (ap (λ l. so_far ++ own_values l (drop i cs)) (drop_here ms i m h) ∙ ap (λ l. so_far ++ own_values (get_or ms i m ∷ drop (i + 1) ms) l) (drop_here cs i c g))
+      append_assoc so_far (own_value (get_or ms i m) (get_or cs i c)
+      ∷ []) (own_values (drop (i + 1) ms) (drop (i + 1) cs))
+      ∙ sym (ap (λ l. so_far ++ own_values l (drop i cs)) (drop_here ms i m h)
+      ∙ ap (λ l. so_far ++ own_values (get_or ms i m ∷ drop (i + 1) ms) l) (drop_here cs i c g))
 
   none_own : (ms : List Mark) (cs : List ℕ) → min (length ms) (length cs) ≡ 0 → own_values ms cs ≡ []
   none_own [] cs e = refl
   none_own (m ∷ ms) [] e = refl
   none_own (m ∷ ms) (c ∷ cs) e = absurd (omega (arith, e))
 
-  pub own_end : (so_far : Table) (n : ℕ) → n ≡ min (length ms) (length cs) → so_far ++ own_values (drop n ms) (drop n cs) ≡ so_far
-  own_end so_far n e = ap (λ l. so_far ++ l) (none_own (drop n ms) (drop n cs) (none_left ms cs n e)) ∙ append-nil so_far
+  pub own_end : (so_far : Table) (n : ℕ) → n ≡ min (length ms) (length cs)
+      → so_far ++ own_values (drop n ms) (drop n cs) ≡ so_far
+  own_end so_far n e = ap (λ l. so_far ++ l) (none_own (drop n ms) (drop n cs) (none_left ms cs n e))
+      ∙ append-nil so_far
 
 -- ---- the run of these values
 
@@ -44,7 +51,8 @@ choice_back value.Text = refl
 
 choices_back : (vs : Table) → map value_of (map choice_of vs) ≡ vs
 choices_back [] = refl
-choices_back (v ∷ vs) = ap (λ x. x ∷ map value_of (map choice_of vs)) (choice_back v) ∙ ap (λ l. v ∷ l) (choices_back vs)
+choices_back (v ∷ vs) =
+    ap (λ x. x ∷ map value_of (map choice_of vs)) (choice_back v) ∙ ap (λ l. v ∷ l) (choices_back vs)
 
 parts : {X : Type 0} (n : ℕ) (xs : List X) → take n xs ++ drop n xs ≡ xs
 parts zero xs = refl
@@ -53,14 +61,18 @@ parts (suc n) (x ∷ xs) = ap (λ l. x ∷ l) (parts n xs)
 
 -- the static objects come first, by their numbers
 statics_first : (ms : List Mark) (cs : List ℕ) (a n : ℕ) → n ≤ length ms → n ≤ length cs
-    → ((t : ℕ) → t < n → get_or ms t IsNull ≡ IsObject) → ((t : ℕ) → t < n → get_or cs t 0 ≡ a + t) → take n (own_values ms cs) ≡ map value.Object (range_with_len a n)
+    → ((t : ℕ) → t < n → get_or ms t IsNull ≡ IsObject) → ((t : ℕ) → t < n → get_or cs t 0 ≡ a + t)
+    → take n (own_values ms cs) ≡ map value.Object (range_with_len a n)
 statics_first ms cs a zero h g objects own = refl
 statics_first [] cs a (suc n) h g objects own = absurd (omega (arith, h))
 statics_first (m ∷ ms) [] a (suc n) h g objects own = absurd (omega (arith, g))
 statics_first (m ∷ ms) (c ∷ cs) a (suc n) h g objects own =
     let first : c ≡ a = let e : c ≡ a + 0 = own zero (omega arith) in omega (arith, e) in
-    let here : own_value m c ≡ value.Object a = ap (λ k. own_value k c) (objects zero (omega arith)) ∙ ap value.Object first in
-    let rest = statics_first ms cs (a + 1) n (omega (arith, h)) (omega (arith, g)) (λ t l. objects (suc t) (omega (arith, l))) (λ t l. let e : get_or cs t 0 ≡ a + suc t = own (suc t) (omega (arith, l)) in omega (arith, e)) in
+    let here : own_value m c ≡ value.Object a = ap (λ k. own_value k c) (objects zero (omega arith))
+    ∙ ap value.Object first in
+    let rest = statics_first ms cs (a + 1) n (omega (arith, h)) (omega (arith, g))
+    (λ t l. objects (suc t) (omega (arith, l))) (λ t l. let e : get_or cs t 0
+    ≡ a + suc t = own (suc t) (omega (arith, l)) in omega (arith, e)) in
     ap (λ v. v ∷ take n (own_values ms cs)) here ∙ ap (λ l. value.Object a ∷ l) rest
 
 module _ (s : State) (sound : IsSound s) where
@@ -71,7 +83,8 @@ module _ (s : State) (sound : IsSound s) where
       (λ t l. let e : class_of s.classes t ≡ t = sound.notes.class_static t l in omega (arith, e))
 
   -- the run that is made of these values has them
-  pub own_table : (entry : Entry) (choices : List Choice) (n : ℕ) → entry.args ≡ take n (drop s.statics (canon s)) → choices ≡ map choice_of (drop n (drop s.statics (canon s)))
+  pub own_table : (entry : Entry) (choices : List Choice) (n : ℕ) → entry.args ≡ take n (drop s.statics (canon s))
+      → choices ≡ map choice_of (drop n (drop s.statics (canon s)))
       → table_of s.statics entry choices ≡ canon s
   own_table entry choices n args chosen =
       let came = drop s.statics (canon s) in

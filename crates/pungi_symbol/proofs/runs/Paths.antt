@@ -1,5 +1,6 @@
 -- Whole runs and paths: forward and back.
-use Rattle.std.proofs.Common.{◌≡◌, ℕ, zero, suc, ◌+◌, ◌<◌, ◌≤◌, List, [], ◌∷◌, length, Bool, true, false, refl, sym, ap, ◌∙◌, subst, arith, inl, inr, Option, None, Some, cond}
+use Rattle.std.proofs.Common.{◌≡◌, ℕ, zero, suc, ◌+◌, ◌<◌, ◌≤◌, List, [], ◌∷◌, length, Bool, true, false, refl, sym, ap}
+use Rattle.std.proofs.Common.{◌∙◌, subst, arith, inl, inr, Option, None, Some, cond}
 use Rattle.std.specs.Prelude.{slice_get}
 use Rattle.pungi_base.specs.declared.choice.Choice.{Choice}
 use Rattle.pungi_base.specs.declared.pos.Pos.{Pos}
@@ -9,7 +10,9 @@ use Rattle.pungi_code.specs.Registers.{Regs}
 use Rattle.pungi_symbol.specs.declared.answers.decision.Decision.{Decision}
 use Rattle.pungi_symbol.specs.declared.states.known.Status.TheVariants as status
 use Rattle.pungi_symbol.specs.declared.questions.question.Question.{Question}
-use Rattle.pungi_symbol.specs.declared.questions.question.Question.TheVariants.{Does, Touches, Overwrites, Null as AsksNull, Base, Answers, Same, Returns, Stops, Over}
+use Rattle.pungi_symbol.specs.declared.questions.question.Question.TheVariants.{Does, Touches, Overwrites}
+use Rattle.pungi_symbol.specs.declared.questions.question.Question.TheVariants.{Null as AsksNull, Base, Answers, Same}
+use Rattle.pungi_symbol.specs.declared.questions.question.Question.TheVariants.{Returns, Stops, Over}
 use Rattle.pungi_symbol.specs.declared.states.state.State.{State}
 use Rattle.pungi_symbol.specs.declared.states.term.Term.{Term}
 use Rattle.pungi_symbol.specs.states.Terms.{Table}
@@ -28,7 +31,9 @@ use Rattle.pungi_symbol.specs.questions.NextQuestion.{ask, asks_line, ask_while}
 use Rattle.pungi_symbol.specs.answers.KnownAfter.{go, instr_of}
 use Rattle.pungi_symbol.specs.answers.SymbolicState.{can, apply, apply_same, are_one, merge_classes, class_of}
 use Rattle.pungi_symbol.specs.runs.ObjectForm.{is_known_here, atoms_of}
-use Rattle.pungi_symbol.specs.runs.Paths.{table_of, argument_count, known_at, start_state, Asked, asked_here, asked_on, Path, path_here, path_on, run_for, led_of, EndsFrom, IsAt, Meets, returned_value}
+use Rattle.pungi_symbol.specs.runs.Paths.{table_of, argument_count, known_at, start_state, Asked, asked_here, asked_on}
+use Rattle.pungi_symbol.specs.runs.Paths.{Path, path_here, path_on, run_for, led_of, EndsFrom, IsAt, Meets}
+use Rattle.pungi_symbol.specs.runs.Paths.{returned_value}
 use Rattle.pungi_symbol.specs.runs.OneInstruction.{Led, leads_at, led_on, machine_at}
 use Rattle.pungi_symbol.proofs.steps.OneInstruction.{exec_step}
 use Rattle.pungi_symbol.proofs.steps.RunInState.{stays, goes_on, leaves, halts, effort, Linked}
@@ -42,16 +47,20 @@ going_by s q d status.Going c = refl
 going_by s q d (status.Returned p x) c = absurd (let bad : false ≡ true = c in cc)
 going_by s q d (status.Stopped p) c = absurd (let bad : false ≡ true = c in cc)
 
-pub can_going : (code : List Line) (s : State) (d : Decision) → can s (ask code s.known) d ≡ true → s.known.status ≡ status.Going
+pub can_going : (code : List Line) (s : State) (d : Decision) → can s (ask code s.known) d ≡ true
+    → s.known.status ≡ status.Going
 can_going code s d c = going_by s (asks_line s.known (slice_get code s.known.pc)) d s.known.status c
 
-merged_statics : (b : Bool) (c d : ℕ) (s : State) → (cond b (merge_classes d c s) (merge_classes c d s)).statics ≡ s.statics
+merged_statics : (b : Bool) (c d : ℕ) (s : State)
+    → (cond b (merge_classes d c s) (merge_classes c d s)).statics ≡ s.statics
 merged_statics true c d s = refl
 merged_statics false c d s = refl
 
 same_statics : (one b : Bool) (t u : ℕ) (s : State) → (apply_same one b t u s).statics ≡ s.statics
 same_statics true true t u s = refl
-same_statics false true t u s = merged_statics (nat_lt (class_of s.classes u) (class_of s.classes t)) (class_of s.classes t) (class_of s.classes u) s
+same_statics false true t u s =
+    merged_statics (nat_lt (class_of s.classes u) (class_of s.classes t)) (class_of s.classes t)
+    (class_of s.classes u) s
 same_statics true false t u s = refl
 same_statics false false t u s = refl
 
@@ -68,25 +77,35 @@ apply_statics o (Stops d') d s = refl
 apply_statics o Over d s = refl
 
 module _ (code : List Line) (n : ℕ) (form : AreObjectLines n code) where
-  line_form : (pc : ℕ) (line : Line) → slice_get code pc ≡ Some line → list_all (is_there n) (atoms_of line.instr) ≡ true
-  line_form pc line e = (two_true (is_known_here line.instr) (list_all (is_there n) (atoms_of line.instr)) (form pc line e)).1
+  line_form : (pc : ℕ) (line : Line) → slice_get code pc ≡ Some line
+      → list_all (is_there n) (atoms_of line.instr) ≡ true
+  line_form pc line e = (two_true (is_known_here line.instr) (list_all (is_there n) (atoms_of line.instr))
+      (form pc line e)).1
 
-  instr_form : (o : Option Line) → ((line : Line) → o ≡ Some line → list_all (is_there n) (atoms_of line.instr) ≡ true) → list_all (is_there n) (atoms_of (instr_of o)) ≡ true
+  instr_form : (o : Option Line) → ((line : Line) → o ≡ Some line
+      → list_all (is_there n) (atoms_of line.instr) ≡ true) → list_all (is_there n) (atoms_of (instr_of o)) ≡ true
   instr_form None h = refl
   instr_form (Some line) h = h line refl
 
   module _ (s : State) (w : IsSound s) (same : s.statics ≡ n) where
     there : list_all (is_there s.statics) (atoms_of (instr_of (slice_get code s.known.pc))) ≡ true
-    there = subst (λ z. list_all (is_there z) (atoms_of (instr_of (slice_get code s.known.pc))) ≡ true) (sym same) (instr_form (slice_get code s.known.pc) (λ line e. line_form s.known.pc line e))
+    there = subst (λ z. list_all (is_there z) (atoms_of (instr_of (slice_get code s.known.pc))) ≡ true) (sym same)
+        (instr_form (slice_get code s.known.pc) (λ line e. line_form s.known.pc line e))
 
-    pub asked_at : (d : Decision) → can s (ask code s.known) d ≡ true → IsAsked (instr_of (slice_get code s.known.pc)) s.known (ask code s.known)
-    asked_at d c = subst (IsAsked (instr_of (slice_get code s.known.pc)) s.known) (sym (going_ask code s.known (can_going code s d c)))
-        (asked_line s w (slice_get code s.known.pc) (λ line e. subst (λ z. list_all (is_there z) (atoms_of line.instr) ≡ true) (sym same) (line_form s.known.pc line e)))
+    pub asked_at : (d : Decision) → can s (ask code s.known) d ≡ true
+        → IsAsked (instr_of (slice_get code s.known.pc)) s.known (ask code s.known)
+    asked_at d c = subst (IsAsked (instr_of (slice_get code s.known.pc)) s.known)
+        (sym (going_ask code s.known (can_going code s d c)))
+        (asked_line s w (slice_get code s.known.pc) (λ line e. subst (λ z. list_all (is_there z)
+        (atoms_of line.instr) ≡ true) (sym same) (line_form s.known.pc line e)))
 
-    pub step_sound : (d : Decision) → can s (ask code s.known) d ≡ true → IsSound (apply (slice_get code s.known.pc) (ask code s.known) d s)
+    pub step_sound : (d : Decision) → can s (ask code s.known) d ≡ true
+        → IsSound (apply (slice_get code s.known.pc) (ask code s.known) d s)
     step_sound d c = apply_sound s w (slice_get code s.known.pc) (ask code s.known) d there (asked_at d c) c
 
-    pub step_back : (table : Table) (d : Decision) → can s (ask code s.known) d ≡ true → FitsState table (apply (slice_get code s.known.pc) (ask code s.known) d s) → FitsState table s × (answer table s.known (ask code s.known) ≡ d)
+    pub step_back : (table : Table) (d : Decision) → can s (ask code s.known) d ≡ true
+        → FitsState table (apply (slice_get code s.known.pc) (ask code s.known) d s)
+        → FitsState table s × (answer table s.known (ask code s.known) ≡ d)
     step_back table d c f = apply_back table s w (slice_get code s.known.pc) (ask code s.known) d (asked_at d c) c f
 
   -- ---- paths
@@ -99,23 +118,32 @@ module _ (code : List Line) (n : ℕ) (form : AreObjectLines n code) where
         (step_sound s r.0 r.1 d c, apply_statics (slice_get code s.known.pc) (ask code s.known) d s ∙ r.1)
 
     -- values of the tokens that fit the last state fit the first, and the path is the trace by them
-    pub path_fits : (table : Table) (ds : List Decision) (s : State) → Path code first ds s → FitsState table s → FitsState table first × Asked code table first.known ds s.known
+    pub path_fits : (table : Table) (ds : List Decision) (s : State) → Path code first ds s → FitsState table s
+        → FitsState table first × Asked code table first.known ds s.known
     path_fits table ds s path_here f = (f, asked_here)
     path_fits table _ _ (path_on ds s d p c) f =
         let r = path_sound ds s p in
         let b = step_back s r.0 r.1 table d c f in
-        let before = path_fits table ds s p b.0 in
-        (before.0, subst (λ z. Asked code table first.known (z ∷ ds) (go (slice_get code s.known.pc) s.known (ask code s.known) z)) b.1 (asked_on ds s.known before.1 (can_going code s d c)))
+        let before = path_fits table ds s p b.0 in (
+          before.0,
+          subst (λ z. Asked code table first.known (z
+              ∷ ds) (go (slice_get code s.known.pc) s.known (ask code s.known) z)) b.1
+              (asked_on ds s.known before.1 (can_going code s d c)),
+        )
 
 -- ---- runs
 
 pub data Arrived (code : Code) (statics f : ℕ) (entry : Entry) (choices : List Choice) (n : ℕ) : Type 0 where
-  wants_one : ((fuel : ℕ) → run_for code entry choices (n + fuel) ≡ run.NeedsChoice) → Arrived code statics f entry choices n
-  meets_one : (ds : List Decision) (s : State) → Meets statics f code entry choices n ds s → Arrived code statics f entry choices n
+  wants_one : ((fuel : ℕ) → run_for code entry choices (n + fuel) ≡ run.NeedsChoice)
+      → Arrived code statics f entry choices n
+  meets_one : (ds : List Decision) (s : State) → Meets statics f code entry choices n ds s
+      → Arrived code statics f entry choices n
 
-module _ (code : Code) (statics f : ℕ) (form : AreObjectLines statics code.instrs) (entry : Entry) (choices : List Choice) (sound : IsSound (start_state statics f code))
+module _ (code : Code) (statics f : ℕ) (form : AreObjectLines statics code.instrs) (entry : Entry)
+    (choices : List Choice) (sound : IsSound (start_state statics f code))
     (linked : Linked (table_of statics entry choices) (statics + argument_count code) choices)
-    (started : Lies code.instrs (table_of statics entry choices) (statics + argument_count code) (start code entry) (start_state statics f code)) where
+    (started : Lies code.instrs (table_of statics entry choices) (statics + argument_count code) (start code entry)
+    (start_state statics f code)) where
   abbrev pub T : Table
   T = table_of statics entry choices
 
@@ -140,10 +168,13 @@ module _ (code : Code) (statics f : ℕ) (form : AreObjectLines statics code.ins
       let same : n + 1 ≡ suc n = omega arith in
       ap Machine same ∙ ap (λ r. led_on choices code.instrs r.0 r.1) e
 
-  ends_later : (n : ℕ) (m : Regs) (pc : ℕ) (led : Led) → Going n m pc → leads_at choices code.instrs pc m ≡ led → EndsFrom code entry choices (n + 1) led
-  ends_later n m pc led g e fuel = more n fuel ∙ g.ends (suc fuel) ∙ exec_step choices code.instrs fuel pc m ∙ ap (λ r. (Reaches (exec choices code.instrs fuel) r.0 r.1).end) e
+  ends_later : (n : ℕ) (m : Regs) (pc : ℕ) (led : Led) → Going n m pc → leads_at choices code.instrs pc m ≡ led
+      → EndsFrom code entry choices (n + 1) led
+  ends_later n m pc led g e fuel = more n fuel ∙ g.ends (suc fuel) ∙ exec_step choices code.instrs fuel pc m
+      ∙ ap (λ r. (Reaches (exec choices code.instrs fuel) r.0 r.1).end) e
 
-  pub at_later : (n : ℕ) (m m' : Regs) (pc pc' : ℕ) (z : Status) → Going n m pc → leads_at choices code.instrs pc m ≡ led_of T m' pc' z → At (n + 1) m' pc' z
+  pub at_later : (n : ℕ) (m m' : Regs) (pc pc' : ℕ) (z : Status) → Going n m pc
+      → leads_at choices code.instrs pc m ≡ led_of T m' pc' z → At (n + 1) m' pc' z
   at_later n m m' pc pc' z g e = record {
     machine = one_later n (after.Goes pc, m) g.machine ∙ e;
     ends = ends_later n m pc (led_of T m' pc' z) g e;
@@ -153,8 +184,11 @@ module _ (code : Code) (statics f : ℕ) (form : AreObjectLines statics code.ins
   at_status n m pc z z' e h = subst (At n m pc) (sym e) h
 
   -- the questions of an instruction are asked until it is done
-  settle : (e n : ℕ) (ds : List Decision) (s : State) (m : Regs) → effort s.known < e → Path code.instrs (start_state statics f code) ds s → Asked code.instrs T (known_at statics f code) ds s.known → Lies code.instrs T B m s
-      → s.known.status ≡ status.Going → n ≤ length ds → Going n m s.known.pc → Arrived code statics f entry choices (n + 1)
+  settle : (e n : ℕ) (ds : List Decision) (s : State) (m : Regs) → effort s.known < e
+      → Path code.instrs (start_state statics f code) ds s → Asked code.instrs T (known_at statics f code) ds s.known
+      → Lies code.instrs T B m s
+      → s.known.status ≡ status.Going → n ≤ length ds → Going n m s.known.pc
+      → Arrived code statics f entry choices (n + 1)
   settle zero n ds s m less p a l going enough g = absurd (omega (arith, less))
   settle (suc e) n ds s m less p a l going enough g =
       let r = path_sound code.instrs statics form (start_state statics f code) sound refl ds s p in
@@ -162,16 +196,44 @@ module _ (code : Code) (statics f : ℕ) (form : AreObjectLines statics code.ins
       let d = answer T s.known q in
       let s' = apply (slice_get code.instrs s.known.pc) q d s in
       let longer : n + 1 ≤ length (d ∷ ds) = omega (arith, enough) in
-      elim (moves choices code.instrs T B m s going r.0 l linked (subst (λ z. AreObjectLines z code.instrs) (sym r.1) form)) [
+      elim (moves choices code.instrs T B m s going r.0 l linked (subst (λ z. AreObjectLines z code.instrs)
+      (sym r.1) form)) [
         | inl w ↦ wants_one (ends_later n m s.known.pc (after.Wants, w.0) g w.1)
         | inr mv ↦
             let p' : Path code.instrs (start_state statics f code) (d ∷ ds) s' = path_on ds s d p mv.0 in
             let a' : Asked code.instrs T (known_at statics f code) (d ∷ ds) s'.known = asked_on ds s.known a going in
             elim (mv.1) [
-              | stays pc going' less' l' ↦ settle e n (d ∷ ds) s' m (omega (arith, less, less')) p' a' l' going' (omega (arith, longer)) (subst (Going n m) (sym pc) g)
-              | goes_on m' many e' going' l' ↦ meets_one (d ∷ ds) s' (record { path = p'; asked = a'; m = m'; lies = l'; enough = λ h. longer; is_at = at_status (n + 1) m' s'.known.pc s'.known.status status.Going going' (at_later n m m' s.known.pc s'.known.pc status.Going g e') })
-              | leaves p0 x e0 e' l' ↦ meets_one (d ∷ ds) s' (record { path = p'; asked = a'; m = m; lies = l'; enough = λ h. longer; is_at = at_status (n + 1) m s'.known.pc s'.known.status (status.Returned p0 x) e0 (at_later n m m s.known.pc s'.known.pc (status.Returned p0 x) g e') })
-              | halts p0 e0 e' l' ↦ meets_one (d ∷ ds) s' (record { path = p'; asked = a'; m = m; lies = l'; enough = λ h. longer; is_at = at_status (n + 1) m s'.known.pc s'.known.status (status.Stopped p0) e0 (at_later n m m s.known.pc s'.known.pc (status.Stopped p0) g e') })
+              | stays pc going' less' l' ↦ settle e n (d ∷ ds) s' m (omega (arith, less, less')) p' a' l' going'
+                  (omega (arith, longer)) (subst (Going n m) (sym pc) g)
+              | goes_on m' many e' going' l' ↦ meets_one (d ∷ ds) s' (record {
+                path = p';
+                asked = a';
+                m = m';
+                lies
+                    = l';
+                enough = λ h. longer;
+                is_at = at_status (n + 1) m' s'.known.pc s'.known.status status.Going
+                    going' (at_later n m m' s.known.pc s'.known.pc status.Going g e');
+              })
+              | leaves p0 x e0 e' l' ↦ meets_one (d ∷ ds) s' (record {
+                path = p';
+                asked = a';
+                m = m;
+                lies = l';
+                enough = λ h. longer;
+                is_at = at_status (n + 1) m s'.known.pc s'.known.status (status.Returned p0 x)
+                    e0 (at_later n m m s.known.pc s'.known.pc (status.Returned p0 x) g e');
+              })
+              | halts p0 e0 e' l' ↦ meets_one (d ∷ ds) s' (record {
+                path = p';
+                asked = a';
+                m = m;
+                lies = l';
+                enough
+                    = λ h. longer;
+                is_at = at_status (n + 1) m s'.known.pc s'.known.status (status.Stopped p0) e0
+                    (at_later n m m s.known.pc s'.known.pc (status.Stopped p0) g e');
+              })
             ]
       ]
 
@@ -185,14 +247,26 @@ module _ (code : Code) (statics f : ℕ) (form : AreObjectLines statics code.ins
   stopped_ended : (p0 : Pos) → status.Stopped p0 ≡ status.Going → ⊥
   stopped_ended p0 e = cc
 
-  stays_at : (n : ℕ) (m : Regs) (pc : ℕ) (p0 : Pos) (x : Option Term) → At n m pc (status.Returned p0 x) → At (n + 1) m pc (status.Returned p0 x)
-  stays_at n m pc p0 x h = record { machine = one_later n (after.Leaves p0 (returned_value T x), m) h.machine; ends = λ fuel. more n fuel ∙ h.ends (suc fuel) }
+  stays_at : (n : ℕ) (m : Regs) (pc : ℕ) (p0 : Pos) (x : Option Term) → At n m pc (status.Returned p0 x)
+      → At (n + 1) m pc (status.Returned p0 x)
+  stays_at n m pc p0 x h = record {
+    machine = one_later n (after.Leaves p0 (returned_value T x), m) h.machine;
+    ends
+        = λ fuel. more n fuel ∙ h.ends (suc fuel);
+  }
 
-  stays_stopped : (n : ℕ) (m : Regs) (pc : ℕ) (p0 : Pos) → At n m pc (status.Stopped p0) → At (n + 1) m pc (status.Stopped p0)
-  stays_stopped n m pc p0 h = record { machine = one_later n (after.Stops p0, m) h.machine; ends = λ fuel. more n fuel ∙ h.ends (suc fuel) }
+  stays_stopped : (n : ℕ) (m : Regs) (pc : ℕ) (p0 : Pos) → At n m pc (status.Stopped p0)
+      → At (n + 1) m pc (status.Stopped p0)
+  stays_stopped n m pc p0 h = record {
+    machine = one_later n (after.Stops p0, m) h.machine;
+    ends = λ fuel. more n
+        fuel ∙ h.ends (suc fuel);
+  }
 
-  one_more : (n : ℕ) (ds : List Decision) (s : State) (z : Status) → s.known.status ≡ z → Meets statics f code entry choices n ds s → Arrived code statics f entry choices (n + 1)
-  one_more n ds s status.Going e r = settle (effort s.known + 1) n ds s r.m (omega arith) r.path r.asked r.lies e (r.enough e) (subst (At n r.m s.known.pc) e r.is_at)
+  one_more : (n : ℕ) (ds : List Decision) (s : State) (z : Status) → s.known.status ≡ z
+      → Meets statics f code entry choices n ds s → Arrived code statics f entry choices (n + 1)
+  one_more n ds s status.Going e r = settle (effort s.known + 1) n ds s r.m (omega arith) r.path r.asked r.lies e
+      (r.enough e) (subst (At n r.m s.known.pc) e r.is_at)
   one_more n ds s (status.Returned p0 x) e r =
       let h : At n r.m s.known.pc (status.Returned p0 x) = subst (At n r.m s.known.pc) e r.is_at in
       meets_one ds s (record {
@@ -201,7 +275,8 @@ module _ (code : Code) (statics f : ℕ) (form : AreObjectLines statics code.ins
         m = r.m;
         lies = r.lies;
         enough = λ g. absurd (not_going s (status.Returned p0 x) e (returned_ended p0 x) g);
-        is_at = at_status (n + 1) r.m s.known.pc s.known.status (status.Returned p0 x) e (stays_at n r.m s.known.pc p0 x h);
+        is_at = at_status (n + 1) r.m s.known.pc s.known.status (status.Returned p0 x) e
+            (stays_at n r.m s.known.pc p0 x h);
       })
   one_more n ds s (status.Stopped p0) e r =
       let h : At n r.m s.known.pc (status.Stopped p0) = subst (At n r.m s.known.pc) e r.is_at in
@@ -211,13 +286,24 @@ module _ (code : Code) (statics f : ℕ) (form : AreObjectLines statics code.ins
         m = r.m;
         lies = r.lies;
         enough = λ g. absurd (not_going s (status.Stopped p0) e (stopped_ended p0) g);
-        is_at = at_status (n + 1) r.m s.known.pc s.known.status (status.Stopped p0) e (stays_stopped n r.m s.known.pc p0 h);
+        is_at = at_status (n + 1) r.m s.known.pc s.known.status (status.Stopped p0) e
+            (stays_stopped n r.m s.known.pc p0 h);
       })
 
   -- each run is on a path with its trace
   pub arrives_at : (n : ℕ) → Arrived code statics f entry choices n
-  arrives_at zero = meets_one [] (start_state statics f code) (record { path = path_here; asked = asked_here; m = start code entry; lies = started; enough = λ h. omega arith; is_at = record { machine = refl; ends = λ fuel. ap (run_for code entry choices) (omega arith) } })
+  arrives_at zero = meets_one [] (start_state statics f code) (record {
+    path = path_here;
+    asked = asked_here;
+    m
+        = start code entry;
+    lies = started;
+    enough = λ h. omega arith;
+    is_at = record
+        { machine = refl; ends = λ fuel. ap (run_for code entry choices) (omega arith) };
+  })
   arrives_at (suc n) = elim (arrives_at n) [
     | wants_one h ↦ wants_one (λ fuel. ap (run_for code entry choices) (omega arith) ∙ h (suc fuel))
-    | meets_one ds s r ↦ subst (Arrived code statics f entry choices) (omega arith) (one_more n ds s s.known.status refl r)
+    | meets_one ds s r ↦ subst (Arrived code statics f entry choices) (omega arith)
+        (one_more n ds s s.known.status refl r)
   ]

@@ -4,7 +4,8 @@ use Rattle.std.specs.List.{range_with_len}
 use Rattle.std.proofs.lemmas.List.FromFn.{map-range_with_len_more}
 use Rattle.pungi_symbol.specs.declared.states.term.Term.TheVariants.{Token}
 
-pub tokens_more : (a t : ℕ) → a ≤ t → map Token (range_with_len a (t - a)) ++ Token t ∷ [] ≡ map Token (range_with_len a (t + 1 - a))
+pub tokens_more : (a t : ℕ) → a ≤ t → map Token (range_with_len a (t - a)) ++ Token t ∷ []
+    ≡ map Token (range_with_len a (t + 1 - a))
 tokens_more a t le =
     let more : t + 1 - a ≡ (t - a) + 1 = omega (arith, le) in
     let last : a + (t - a) ≡ t = omega (arith, le) in
@@ -17,4 +18,5 @@ map_self a (suc n) = ap (λ xs. a ∷ xs) (map_self (a + 1) n)
 pub range_more : (n : ℕ) → range_with_len 0 n ++ n ∷ [] ≡ range_with_len 0 (n + 1)
 range_more n =
     let last : 0 + n ≡ n = omega arith in
-    sym (sym (map_self 0 (n + 1)) ∙ map-range_with_len_more (λ k. k) 0 n n last ∙ ap (λ xs. xs ++ n ∷ []) (map_self 0 n))
+    sym (sym (map_self 0 (n + 1)) ∙ map-range_with_len_more (λ k. k) 0 n n last
+    ∙ ap (λ xs. xs ++ n ∷ []) (map_self 0 n))

@@ -1,10 +1,12 @@
 -- Balances at a return: all level, and each run in the state is balanced; else the state's own run isn't.
-use Rattle.std.proofs.Common.{◌≡◌, ◌≢◌, ℕ, zero, suc, ◌<◌, ◌≤◌, ℤ, pos, List, [], ◌∷◌, length, get_or, Bool, true, false, refl, sym, ap, ◌∙◌, subst, arith, ◌⊎◌, inl, inr, Option, None, Some}
+use Rattle.std.proofs.Common.{◌≡◌, ◌≢◌, ℕ, zero, suc, ◌<◌, ◌≤◌, ℤ, pos, List, [], ◌∷◌, length, get_or, Bool, true}
+use Rattle.std.proofs.Common.{false, refl, sym, ap, ◌∙◌, subst, arith, ◌⊎◌, inl, inr, Option, None, Some}
 use Rattle.pungi_base.specs.declared.value.Value.TheVariants as value
 use Rattle.pungi_code.specs.declared.code.Line.{Line}
 use Rattle.pungi_code.specs.Registers.{Regs}
 use Rattle.pungi_symbol.specs.declared.states.mark.Mark.{Mark}
-use Rattle.pungi_symbol.specs.declared.states.mark.Mark.TheVariants.{Pointer, TextPointer, IsNull, IsObject, IsText, IsNumber}
+use Rattle.pungi_symbol.specs.declared.states.mark.Mark.TheVariants.{Pointer, TextPointer, IsNull, IsObject, IsText}
+use Rattle.pungi_symbol.specs.declared.states.mark.Mark.TheVariants.{IsNumber}
 use Rattle.pungi_symbol.specs.declared.states.state.State.{State}
 use Rattle.pungi_symbol.specs.declared.states.term.Term.{Term}
 use Rattle.pungi_symbol.specs.declared.states.term.Term.TheVariants.{Unset, Null, Text, Number, Token}
@@ -21,7 +23,8 @@ use Rattle.pungi_symbol.specs.states.Known.{count, mark_of, object_of, object_ma
 use Rattle.pungi_symbol.specs.answers.SymbolicState.{class_of, balance_at}
 use Rattle.pungi_symbol.specs.runs.Fits.{is_the, named}
 use Rattle.pungi_symbol.specs.runs.RunInState.{IsOf}
-use Rattle.pungi_symbol.specs.runs.Paths.{value_in, returned_value, own_value, own_values, canon, returned_object, is_class, wanted, IsLevelState}
+use Rattle.pungi_symbol.specs.runs.Paths.{value_in, returned_value, own_value, own_values, canon, returned_object}
+use Rattle.pungi_symbol.specs.runs.Paths.{is_class, wanted, IsLevelState}
 use Rattle.pungi_symbol.proofs.states.NamedObjects.{part}
 use Rattle.pungi_symbol.proofs.states.Contents.{IsKnown, is_open, term_value, holds_term, known_set}
 use Rattle.pungi_symbol.proofs.states.Claims.{not_the}
@@ -35,7 +38,8 @@ off : (b : Bool) (x : ℤ) → (b ≡ true → x ≡ pos 0) → part b x ≡ pos
 off true x h = h refl
 off false x h = refl
 
-named_none : (o : ℕ) (table : Table) (bs : List ℤ) → ((t : ℕ) → t < length bs → is_the o (at table t) ≡ true → balance_at bs t ≡ pos 0) → named o table bs ≡ pos 0
+named_none : (o : ℕ) (table : Table) (bs : List ℤ)
+    → ((t : ℕ) → t < length bs → is_the o (at table t) ≡ true → balance_at bs t ≡ pos 0) → named o table bs ≡ pos 0
 named_none o table [] h = refl
 named_none o [] (b ∷ bs) h = refl
 named_none o (v ∷ table) (b ∷ bs) h =
@@ -45,21 +49,27 @@ named_none o (v ∷ table) (b ∷ bs) h =
 
 -- the balances of tokens that name the object are 0, but for one
 named_alone : (o : ℕ) (table : Table) (bs : List ℤ) (c : ℕ) → c < length bs → is_the o (at table c) ≡ true
-    → ((t : ℕ) → t < length bs → t ≢ c → is_the o (at table t) ≡ true → balance_at bs t ≡ pos 0) → named o table bs ≡ balance_at bs c
+    → ((t : ℕ) → t < length bs → t ≢ c → is_the o (at table t) ≡ true → balance_at bs t ≡ pos 0)
+    → named o table bs ≡ balance_at bs c
 named_alone o table [] c lt is h = absurd (omega (arith, lt))
 named_alone o [] (b ∷ bs) zero lt is h = absurd (let bad : false ≡ true = is in cc)
 named_alone o [] (b ∷ bs) (suc c) lt is h = absurd (let bad : false ≡ true = is in cc)
 named_alone o (v ∷ table) (b ∷ bs) zero lt is h =
     let here : part (is_the o v) b ≡ b = ap (λ x. part x b) is in
-    let rest = named_none o table bs (λ t l e. h (suc t) (omega (arith, l)) (λ z. let bad : suc t ≡ 0 = z in absurd (omega (arith, bad))) e) in
+    let rest = named_none o table bs (λ t l e. h (suc t) (omega (arith, l))
+    (λ z. let bad : suc t ≡ 0 = z in absurd (omega (arith, bad))) e) in
     omega (arith, ints, here, rest)
 named_alone o (v ∷ table) (b ∷ bs) (suc c) lt is h =
-    let here = off (is_the o v) b (λ e. h 0 (omega arith) (λ z. let bad : 0 ≡ suc c = z in absurd (omega (arith, bad))) e) in
-    let rest = named_alone o table bs c (omega (arith, lt)) is (λ t l ne e. h (suc t) (omega (arith, l)) (λ z. ne (omega (arith, z))) e) in
+    let here = off (is_the o v) b (λ e. h 0 (omega arith) (λ z. let bad : 0
+    ≡ suc c = z in absurd (omega (arith, bad))) e) in
+    let rest = named_alone o table bs c (omega (arith, lt)) is (λ t l ne e. h (suc t) (omega (arith, l))
+    (λ z. ne (omega (arith, z))) e) in
     omega (arith, ints, here, rest)
 
 -- a balance of 1 at one token, and 0 at all others
-named_one : (o : ℕ) (table : Table) (bs : List ℤ) (c : ℕ) (b : Bool) → is_the o (at table c) ≡ b → c < length bs → balance_at bs c ≡ pos 1 → ((t : ℕ) → t < length bs → t ≢ c → balance_at bs t ≡ pos 0) → named o table bs ≡ part b (pos 1)
+named_one : (o : ℕ) (table : Table) (bs : List ℤ) (c : ℕ) (b : Bool) → is_the o (at table c) ≡ b → c < length bs
+    → balance_at bs c ≡ pos 1 → ((t : ℕ) → t < length bs → t ≢ c → balance_at bs t ≡ pos 0)
+    → named o table bs ≡ part b (pos 1)
 named_one o table bs c true e lt one zeros = named_alone o table bs c lt e (λ t l ne is. zeros t l ne) ∙ one
 named_one o table bs c false e lt one zeros = named_none o table bs (λ t l is. elim (cases_eq t c) [
   | inl z ↦ absurd (let bad : true ≡ false = sym is ∙ ap (λ k. is_the o (at table k)) z ∙ e in cc)
@@ -75,30 +85,40 @@ part_if false = refl
 abbrev Returned : Table → Option Term → ℕ → Bool
 Returned table x o = is_returned (returned_value table x) o
 
-module _ (code : List Line) (table : Table) (base : ℕ) (m : Regs) (s : State) (w : IsSound s) (l : Lies code table base m s) where
+module _ (code : List Line) (table : Table) (base : ℕ) (m : Regs) (s : State) (w : IsSound s)
+    (l : Lies code table base m s) where
   value_is : (y : Term) (o : ℕ) → IsKnown s.known y → Returned table (Some y) o ≡ is_the o (term_value table y)
   value_is y o k = ap (λ c. is_returned (value_in c) o) (holds_term table y (known_set s.known y k))
 
-  token_not : (t o : ℕ) (r : Mark) → mark_of s.known t ≡ r → is_open r ≡ false → (r ≡ IsObject → ⊥) → t < count s.known → is_the o (at table t) ≡ false
-  token_not t o r e c ne lt = not_the o r (at table t) (subst (λ z. is_mark z (at table t) ≡ true) e (l.fits.marks t lt)) c ne
+  token_not : (t o : ℕ) (r : Mark) → mark_of s.known t ≡ r → is_open r ≡ false → (r ≡ IsObject → ⊥)
+      → t < count s.known → is_the o (at table t) ≡ false
+  token_not t o r e c ne lt = not_the o r (at table t) (subst (λ z. is_mark z (at table t) ≡ true) e
+      (l.fits.marks t lt)) c ne
 
-  not_returned : (y : Term) (o : ℕ) → IsKnown s.known y → IsBelow (count s.known) y → object_of s.known y ≡ None → is_the o (term_value table y) ≡ false
+  not_returned : (y : Term) (o : ℕ) → IsKnown s.known y → IsBelow (count s.known) y → object_of s.known y ≡ None
+      → is_the o (term_value table y) ≡ false
   not_returned Unset o k b e = absurd k
   not_returned Null o k b e = refl
   not_returned Text o k b e = refl
   not_returned (Number n) o k b e = refl
-  not_returned (Token t) o k b e = token_not t o (mark_of s.known t) refl k (λ z. let bad : Some t ≡ None = sym (ap (λ r. object_mark r t) z) ∙ e in cc) b
+  not_returned (Token t) o k b e = token_not t o (mark_of s.known t) refl k
+      (λ z. let bad : Some t ≡ None = sym (ap (λ r. object_mark r t) z) ∙ e in cc) b
 
-  returned_some : (x : Option Term) (u : ℕ) → IsGiven s.known x → returned_object s.known x ≡ Some u → (mark_of s.known u ≡ IsObject) × ((o : ℕ) → Returned table x o ≡ is_the o (at table u))
+  returned_some : (x : Option Term) (u : ℕ) → IsGiven s.known x → returned_object s.known x ≡ Some u
+      → (mark_of s.known u ≡ IsObject) × ((o : ℕ) → Returned table x o ≡ is_the o (at table u))
   returned_some None u g e = absurd (cc)
   returned_some (Some y) u g e = elim (objected s.known y) [
     | an_object t is mt ot ↦
-        let same : t ≡ u = let z : Some t ≡ Some u = sym ot ∙ e in cc in
-        (ap (mark_of s.known) (sym same) ∙ mt, λ o. value_is y o g.0 ∙ ap (λ z. is_the o (term_value table z)) is ∙ ap (λ z. is_the o (at table z)) same)
+        let same : t ≡ u = let z : Some t ≡ Some u = sym ot ∙ e in cc in (
+          ap (mark_of s.known) (sym same) ∙ mt,
+          λ o. value_is y o g.0 ∙ ap (λ z. is_the o (term_value table z)) is
+              ∙ ap (λ z. is_the o (at table z)) same,
+        )
     | no_object ot h ↦ absurd (let bad : None ≡ Some u = sym ot ∙ e in cc)
   ]
 
-  returned_none : (x : Option Term) → IsGiven s.known x → returned_object s.known x ≡ None → (o : ℕ) → Returned table x o ≡ false
+  returned_none : (x : Option Term) → IsGiven s.known x → returned_object s.known x ≡ None → (o : ℕ)
+      → Returned table x o ≡ false
   returned_none None g e o = refl
   returned_none (Some y) g e o = value_is y o g.0 ∙ not_returned y o g.0 g.1 e
 
@@ -108,9 +128,12 @@ module _ (code : List Line) (table : Table) (base : ℕ) (m : Regs) (s : State) 
   down : (t : ℕ) → t < length s.balances → t < count s.known
   down t h = let e = w.notes.balances_long in omega (arith, e, h)
 
-  level_by : (x : Option Term) (r : Option ℕ) → returned_object s.known x ≡ r → IsGiven s.known x → ((t : ℕ) → t < count s.known → balance_at s.balances t ≡ part (is_class s.classes r t) (pos 1)) → (o : ℕ) → named o table s.balances ≡ part (Returned table x o) (pos 1)
+  level_by : (x : Option Term) (r : Option ℕ) → returned_object s.known x ≡ r → IsGiven s.known x
+      → ((t : ℕ) → t < count s.known → balance_at s.balances t ≡ part (is_class s.classes r t) (pos 1)) → (o : ℕ)
+      → named o table s.balances ≡ part (Returned table x o) (pos 1)
   level_by x None e g level o =
-      named_none o table s.balances (λ t lt is. level t (down t lt)) ∙ sym (ap (λ b. part b (pos 1)) (returned_none x g e o))
+      named_none o table s.balances (λ t lt is. level t (down t lt))
+      ∙ sym (ap (λ b. part b (pos 1)) (returned_none x g e o))
   level_by x (Some u) e g level o =
       let r = returned_some x u g e in
       let lu = object_is_below s.known.marks u r.0 in
@@ -120,7 +143,11 @@ module _ (code : List Line) (table : Table) (base : ℕ) (m : Regs) (s : State) 
       let ld : d < length s.balances = omega (arith, od, lu, bl) in
       named_one o table s.balances d (is_the o (at table d)) refl ld
       (level d (down d ld) ∙ ap (λ b. part b (pos 1)) (eq-eqb d d refl))
-      (λ t lt ne. level t (down t lt) ∙ elim (eqb_tells d t) [ inl z ↦ absurd (ne (sym z.1)) | inr z ↦ ap (λ b. part b (pos 1)) z.0 ])
+      (λ t lt ne. level t (down t lt) ∙ elim (eqb_tells d t) [
+        | inl z ↦ absurd (ne (sym z.1))
+        | inr z ↦ ap
+            (λ b. part b (pos 1)) z.0
+      ])
       ∙ ap (λ v. part (is_the o v) (pos 1)) (l.fits.classes u lu) ∙ sym (ap (λ b. part b (pos 1)) (r.1 o))
 
   wanted_part : (b : Bool) → (if b then pos 1 else pos 0) ≡ part b (pos 1)
@@ -128,16 +155,19 @@ module _ (code : List Line) (table : Table) (base : ℕ) (m : Regs) (s : State) 
   wanted_part false = refl
 
   -- level balances: each run in the state is balanced
-  pub level_balanced : (x : Option Term) → IsGiven s.known x → IsLevelState s x → IsBalanced m.world (returned_value table x)
+  pub level_balanced : (x : Option Term) → IsGiven s.known x → IsLevelState s x
+      → IsBalanced m.world (returned_value table x)
   level_balanced x g level o lt =
-      let a = level_by x (returned_object s.known x) refl g (λ t h. level t h ∙ wanted_part (is_class s.classes (returned_object s.known x) t)) o in
+      let a = level_by x (returned_object s.known x) refl g (λ t h. level t h
+      ∙ wanted_part (is_class s.classes (returned_object s.known x) t)) o in
       let b = part_if (Returned table x o) in
       let c = l.claims o in
       omega (arith, ints, a, b, c)
 
 -- ---- the state's own values
 
-at_own_of : (ms : List Mark) (cs : List ℕ) (t : ℕ) → t < length ms → length cs ≡ length ms → at (own_values ms cs) t ≡ own_value (get_or ms t IsNull) (get_or cs t 0)
+at_own_of : (ms : List Mark) (cs : List ℕ) (t : ℕ) → t < length ms → length cs ≡ length ms
+    → at (own_values ms cs) t ≡ own_value (get_or ms t IsNull) (get_or cs t 0)
 at_own_of [] cs t h e = absurd (omega (arith, h))
 at_own_of (m ∷ ms) [] t h e = absurd (let bad : 0 ≡ suc (length ms) = e in omega (arith, bad))
 at_own_of (m ∷ ms) (c ∷ cs) zero h e = refl
@@ -184,13 +214,15 @@ module _ (s : State) (w : IsSound s) where
     others = λ k d h e.
         let o = w.notes.others_objects k d h in
         let p = get_or s.others k d in
-        objects_apart (class_of s.classes p.a) (class_of s.classes p.b) (w.notes.others_part k d h) (sym (at_object p.a o.0) ∙ e ∙ at_object p.b o.1);
+        objects_apart (class_of s.classes p.a) (class_of s.classes p.b) (w.notes.others_part k d h)
+        (sym (at_object p.a o.0) ∙ e ∙ at_object p.b o.1);
   }
 
   pub canon_below : (n : ℕ) → count s.known ≤ n → (t : ℕ) → t < count s.known → IsOf n (at (canon s) t)
   canon_below n le t h =
       let o = w.notes.class_older t h in
-      subst (IsOf n) (sym (at_canon t h)) (own_below n (mark_of s.known t) (class_of s.classes t) (omega (arith, o, h, le)))
+      subst (IsOf n) (sym (at_canon t h)) (own_below n (mark_of s.known t) (class_of s.classes t)
+      (omega (arith, o, h, le)))
 
   -- a balance that isn't level
   module _ (code : List Line) (base : ℕ) (m : Regs) (l : Lies code (canon s) base m s) where
@@ -206,7 +238,11 @@ module _ (s : State) (w : IsSound s) where
         by (IsNumber n) e = absurd (ne (w.notes.no_object t h (λ z. let bad : IsNumber n ≡ IsObject = sym e ∙ z in cc)))
 
     stands_alone : (t : ℕ) → t < count s.known → (balance_at s.balances t ≡ pos 0 → ⊥) → class_of s.classes t ≡ t
-    stands_alone t h ne = elim (cases_eq (class_of s.classes t) t) [ inl e ↦ e | inr other ↦ absurd (ne (w.notes.merged t h other)) ]
+    stands_alone t h ne = elim (cases_eq (class_of s.classes t) t) [
+      | inl e ↦ e
+      | inr other ↦ absurd
+          (ne (w.notes.merged t h other))
+    ]
 
     the_class : (o t : ℕ) → t < count s.known → is_the o (at (canon s) t) ≡ true → class_of s.classes t ≡ o
     the_class o t h e = by (mark_of s.known t) (sym (ap (is_the o) (at_canon t h)) ∙ e)
@@ -223,35 +259,47 @@ module _ (s : State) (w : IsSound s) where
     one_or true x ne = inr refl
     one_or false x ne = inl ne
 
-    wanted_object : (x : Option Term) (t : ℕ) (r : Option ℕ) → returned_object s.known x ≡ r → IsGiven s.known x → is_class s.classes r t ≡ true → (mark_of s.known t ≡ IsObject) × (class_of s.classes t ≡ t)
+    wanted_object : (x : Option Term) (t : ℕ) (r : Option ℕ) → returned_object s.known x ≡ r → IsGiven s.known x
+        → is_class s.classes r t ≡ true → (mark_of s.known t ≡ IsObject) × (class_of s.classes t ≡ t)
     wanted_object x t None e g z = absurd (let bad : false ≡ true = z in cc)
     wanted_object x t (Some u) e g z =
         let r = returned_some code (canon s) base m s w l x u g e in
         let lu = object_is_below s.known.marks u r.0 in
-        let same : class_of s.classes u ≡ t = eqb-true (class_of s.classes u) t z in
-        (ap (mark_of s.known) (sym same) ∙ w.notes.class_mark u lu ∙ r.0, ap (class_of s.classes) (sym same) ∙ w.notes.class_stands u lu ∙ same)
+        let same : class_of s.classes u ≡ t = eqb-true (class_of s.classes u) t z in (
+          ap (mark_of s.known) (sym same) ∙ w.notes.class_mark u lu ∙ r.0,
+          ap (class_of s.classes) (sym same)
+              ∙ w.notes.class_stands u lu ∙ same,
+        )
 
-    names_wanted : (x : Option Term) (t : ℕ) (r : Option ℕ) → returned_object s.known x ≡ r → IsGiven s.known x → is_returned (returned_value (canon s) x) t ≡ is_class s.classes r t
+    names_wanted : (x : Option Term) (t : ℕ) (r : Option ℕ) → returned_object s.known x ≡ r → IsGiven s.known x
+        → is_returned (returned_value (canon s) x) t ≡ is_class s.classes r t
     names_wanted x t None e g = returned_none code (canon s) base m s w l x g e t
     names_wanted x t (Some u) e g =
         let r = returned_some code (canon s) base m s w l x u g e in
         r.1 t ∙ ap (is_the t) (at_object u r.0)
 
-    pub uneven : (x : Option Term) (t : ℕ) → IsGiven s.known x → t < count s.known → (balance_at s.balances t ≡ wanted s x t → ⊥) → (t < length m.world.accounts) × (IsLevel m.world (returned_value (canon s) x) t → ⊥)
+    pub uneven : (x : Option Term) (t : ℕ) → IsGiven s.known x → t < count s.known
+        → (balance_at s.balances t ≡ wanted s x t → ⊥)
+        → (t < length m.world.accounts) × (IsLevel m.world (returned_value (canon s) x) t → ⊥)
     uneven x t g lt ne =
         let c = returned_object s.known x in
-        let own : (mark_of s.known t ≡ IsObject) × (class_of s.classes t ≡ t) = elim (one_or (is_class s.classes c t) (balance_at s.balances t) ne) [
+        let own : (mark_of s.known t ≡ IsObject)
+        × (class_of s.classes t ≡ t) = elim (one_or (is_class s.classes c t) (balance_at s.balances t) ne) [
           | inl z ↦ (is_object_mark t lt z, stands_alone t lt z)
           | inr z ↦ wanted_object x t c refl g z
         ] in
         let at_t : at (canon s) t ≡ value.Object t = at_object t own.0 ∙ ap value.Object own.1 in
         let bl = w.notes.balances_long in
         let alone = named_alone t (canon s) s.balances t (omega (arith, lt, bl)) (ap (is_the t) at_t ∙ eq-eqb t t refl)
-        (λ y h other e. w.notes.merged y (omega (arith, h, bl)) (λ z. other (sym z ∙ the_class t y (omega (arith, h, bl)) e))) in
+        (λ y h other e. w.notes.merged y (omega (arith, h, bl)) (λ z. other (sym z
+        ∙ the_class t y (omega (arith, h, bl)) e))) in
         let was = l.claims t in
         let said = ap (λ b. pos (if b then 1 else 0)) (names_wanted x t c refl g) in
-        let turn = turn_if (is_class s.classes c t) in
-        (subst (IsOf (length m.world.accounts)) at_t (l.below t lt), λ level. ne (omega (arith, ints, alone, was, said, turn, level)))
+        let turn = turn_if (is_class s.classes c t) in (
+          subst (IsOf (length m.world.accounts)) at_t (l.below t lt),
+          λ level. ne
+              (omega (arith, ints, alone, was, said, turn, level)),
+        )
       where
         turn_if : (b : Bool) → (if b then pos 1 else pos 0) ≡ pos (if b then 1 else 0)
         turn_if true = refl

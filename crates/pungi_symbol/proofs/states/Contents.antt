@@ -12,7 +12,8 @@ use Rattle.pungi_code.specs.Registers.{content_of as atom_content}
 use Rattle.pungi_symbol.specs.declared.answers.decision.Decision.TheVariants.{Quiet}
 use Rattle.pungi_symbol.specs.declared.states.known.Known.{Known}
 use Rattle.pungi_symbol.specs.declared.states.mark.Mark.{Mark}
-use Rattle.pungi_symbol.specs.declared.states.mark.Mark.TheVariants.{Pointer, TextPointer, IsNull, IsObject, IsText, IsNumber}
+use Rattle.pungi_symbol.specs.declared.states.mark.Mark.TheVariants.{Pointer, TextPointer, IsNull, IsObject, IsText}
+use Rattle.pungi_symbol.specs.declared.states.mark.Mark.TheVariants.{IsNumber}
 use Rattle.pungi_symbol.specs.declared.questions.question.Question.{Question}
 use Rattle.pungi_symbol.specs.declared.questions.question.Question.TheVariants.{Null as AsksNull, Stops}
 use Rattle.pungi_symbol.specs.declared.states.term.Term.{Term}
@@ -80,9 +81,12 @@ need_mark : (k : Known) (t : ℕ) (q : Question) (m : Mark) → mark_of k t ≡ 
 need_mark k t q Pointer e = asks_n t refl (ap is_open e) (ap (λ m. needs_mark m t q) e)
 need_mark k t q TextPointer e = asks_n t refl (ap is_open e) (ap (λ m. needs_mark m t q) e)
 need_mark k t q IsNull e = null_n (ap value_of_mark e) (ap is_open e) (ap (λ m. needs_mark m t q) e)
-need_mark k t q IsObject e = passes_n (ap is_open e) (λ h. let bad : IsObject ≡ IsNull = sym e ∙ h in cc) (ap (λ m. needs_mark m t q) e)
-need_mark k t q IsText e = passes_n (ap is_open e) (λ h. let bad : IsText ≡ IsNull = sym e ∙ h in cc) (ap (λ m. needs_mark m t q) e)
-need_mark k t q (IsNumber n) e = passes_n (ap is_open e) (λ h. let bad : IsNumber n ≡ IsNull = sym e ∙ h in cc) (ap (λ m. needs_mark m t q) e)
+need_mark k t q IsObject e =
+    passes_n (ap is_open e) (λ h. let bad : IsObject ≡ IsNull = sym e ∙ h in cc) (ap (λ m. needs_mark m t q) e)
+need_mark k t q IsText e =
+    passes_n (ap is_open e) (λ h. let bad : IsText ≡ IsNull = sym e ∙ h in cc) (ap (λ m. needs_mark m t q) e)
+need_mark k t q (IsNumber n) e =
+    passes_n (ap is_open e) (λ h. let bad : IsNumber n ≡ IsNull = sym e ∙ h in cc) (ap (λ m. needs_mark m t q) e)
 
 pub needing_is : (k : Known) (x : Term) (q : Question) → Needing k x q
 needing_is k Unset q = unset_n refl refl
@@ -168,7 +172,8 @@ module _ (table : Table) (k : Known) (marks : (t : ℕ) → t < count k → is_m
   known_agrees (Token t) b h = mark_agrees (mark_of k t) (at table t) (marks t b) h
 
   -- what isn't known may be NULL or a text or an object, and is 0 as a number
-  open_number : (m : Mark) (v : Value) → is_mark m v ≡ true → is_open m ≡ true → number_of v ≡ number_of (value_of_mark m)
+  open_number : (m : Mark) (v : Value) → is_mark m v ≡ true → is_open m ≡ true
+      → number_of v ≡ number_of (value_of_mark m)
   open_number Pointer value.Null h o = refl
   open_number Pointer (value.Object k) h o = refl
   open_number Pointer (value.Int n) h o = absurd (let bad : false ≡ true = h in cc)
@@ -182,9 +187,11 @@ module _ (table : Table) (k : Known) (marks : (t : ℕ) → t < count k → is_m
   open_number IsText v h o = absurd (let bad : false ≡ true = o in cc)
   open_number (IsNumber n) v h o = absurd (let bad : false ≡ true = o in cc)
 
-  number_by : (t : ℕ) (b : Bool) → t < count k → is_open (mark_of k t) ≡ b → number_of (at table t) ≡ number_of (value_of_mark (mark_of k t))
+  number_by : (t : ℕ) (b : Bool) → t < count k → is_open (mark_of k t) ≡ b
+      → number_of (at table t) ≡ number_of (value_of_mark (mark_of k t))
   number_by t true lt e = open_number (mark_of k t) (at table t) (marks t lt) e
-  number_by t false lt e = agrees_number (at table t) (value_of_mark (mark_of k t)) (mark_agrees (mark_of k t) (at table t) (marks t lt) e)
+  number_by t false lt e = agrees_number (at table t) (value_of_mark (mark_of k t))
+      (mark_agrees (mark_of k t) (at table t) (marks t lt) e)
 
   pub term_number : (x : Term) → IsBelow (count k) x → number_of (term_value table x) ≡ number_of (known_value k x)
   term_number Unset b = refl
@@ -193,13 +200,15 @@ module _ (table : Table) (k : Known) (marks : (t : ℕ) → t < count k → is_m
   term_number (Number n) b = refl
   term_number (Token t) b = number_by t (is_open (mark_of k t)) b refl
 
-  null_mark : (m : Mark) (v : Value) → is_mark m v ≡ true → value_of_mark m ≡ value.Null → is_open m ≡ false → v ≡ value.Null
+  null_mark : (m : Mark) (v : Value) → is_mark m v ≡ true → value_of_mark m ≡ value.Null → is_open m ≡ false
+      → v ≡ value.Null
   null_mark m v h e o = elim (mark_agrees m v h o) [
     | one f ↦ f ∙ e
     | objects a b f g ↦ absurd (let bad : value.Object b ≡ value.Null = sym g ∙ e in cc)
   ]
 
-  pub null_value : (x : Term) → IsBelow (count k) x → IsKnown k x → known_value k x ≡ value.Null → term_value table x ≡ value.Null
+  pub null_value : (x : Term) → IsBelow (count k) x → IsKnown k x → known_value k x ≡ value.Null
+      → term_value table x ≡ value.Null
   null_value Unset b h e = refl
   null_value Null b h e = refl
   null_value Text b h e = absurd (cc)
@@ -211,10 +220,13 @@ module _ (table : Table) (k : Known) (marks : (t : ℕ) → t < count k → is_m
 pub static_below : (n m : ℕ) → nat_lt n m ≡ true → n < m
 static_below n m h = grind (arith, nat_tests)
 
-module _ (table : Table) (k : Known) (statics : ℕ) (vars : List Content) (is_static : (t : ℕ) → t < statics → at table t ≡ value.Object t) (shows : vars ≡ map (content_of table) k.vars) where
-  pub atom_term : (a : Atom) → is_there statics a ≡ true → atom_content a vars ≡ content_of table (term_of k a)
-  atom_term (atom.Var x) h = ap (λ vs. get_or vs x.0 content.Unset) shows ∙ get_or-map (content_of table) k.vars x.0 Unset
-  atom_term (atom.Int n) h = refl
-  atom_term atom.Null h = refl
-  atom_term atom.Text h = refl
-  atom_term (atom.Static n) h = sym (ap content.Holds (is_static n (static_below n statics h)))
+module _ (table : Table) (k : Known) (statics : ℕ) (vars : List Content)
+    (is_static : (t : ℕ) → t < statics → at table t ≡ value.Object t) (shows : vars ≡ map (content_of table) k.vars)
+  where
+    pub atom_term : (a : Atom) → is_there statics a ≡ true → atom_content a vars ≡ content_of table (term_of k a)
+    atom_term (atom.Var x) h = ap (λ vs. get_or vs x.0 content.Unset) shows
+        ∙ get_or-map (content_of table) k.vars x.0 Unset
+    atom_term (atom.Int n) h = refl
+    atom_term atom.Null h = refl
+    atom_term atom.Text h = refl
+    atom_term (atom.Static n) h = sym (ap content.Holds (is_static n (static_below n statics h)))

@@ -1,5 +1,6 @@
 -- The balances of the tokens that name an object, after a change.
-use Rattle.std.proofs.Common.{◌≡◌, ◌≢◌, ℕ, zero, suc, ◌<◌, ℤ, pos, ◌+ℤ◌, ◌-ℤ◌, List, [], ◌∷◌, ◌++◌, length, Bool, true, false, sym, ap, ◌∙◌, arith}
+use Rattle.std.proofs.Common.{◌≡◌, ◌≢◌, ℕ, zero, suc, ◌<◌, ℤ, pos, ◌+ℤ◌, ◌-ℤ◌, List, [], ◌∷◌, ◌++◌, length, Bool, true}
+use Rattle.std.proofs.Common.{false, sym, ap, ◌∙◌, arith}
 use Rattle.std.specs.Prelude.{slice_set, if◌then◌else◌}
 use Rattle.std.proofs.Math.ListN.{length-set}
 use Rattle.std.proofs.lemmas.Int.{ints}
@@ -16,7 +17,8 @@ part_add : (b : Bool) (x d rest : ℤ) → part b (x +ℤ d) +ℤ rest ≡ (part
 part_add true x d rest = omega (arith, ints)
 part_add false x d rest = omega (arith, ints)
 
-pub named_set : (o : ℕ) (table : Table) (bs : List ℤ) (t : ℕ) (d : ℤ) → t < length bs → named o table (slice_set bs t (balance_at bs t +ℤ d)) ≡ named o table bs +ℤ part (is_the o (at table t)) d
+pub named_set : (o : ℕ) (table : Table) (bs : List ℤ) (t : ℕ) (d : ℤ) → t < length bs
+    → named o table (slice_set bs t (balance_at bs t +ℤ d)) ≡ named o table bs +ℤ part (is_the o (at table t)) d
 named_set o table [] t d h = absurd (omega arith)
 named_set o [] (b ∷ bs) zero d h = omega (arith, ints)
 named_set o [] (b ∷ bs) (suc t) d h = omega (arith, ints)
@@ -25,7 +27,8 @@ named_set o (v ∷ table) (b ∷ bs) (suc t) d h =
     let e = named_set o table bs t d (omega arith) in
     omega (arith, ints, e)
 
-pub named_end : (o : ℕ) (table : Table) (bs : List ℤ) (d : ℤ) → named o table (bs ++ d ∷ []) ≡ named o table bs +ℤ part (is_the o (at table (length bs))) d
+pub named_end : (o : ℕ) (table : Table) (bs : List ℤ) (d : ℤ)
+    → named o table (bs ++ d ∷ []) ≡ named o table bs +ℤ part (is_the o (at table (length bs))) d
 named_end o [] [] d = omega (arith, ints)
 named_end o (v ∷ table) [] d = omega (arith, ints)
 named_end o [] (b ∷ bs) d = omega (arith, ints)
@@ -40,16 +43,21 @@ part_off false d n = omega (arith, ints)
 add_off : (d : ℤ) → d +ℤ (pos 0 -ℤ d) ≡ pos 0
 add_off d = omega (arith, ints)
 
-pub named_gather : (o : ℕ) (table : Table) (bs : List ℤ) (c d : ℕ) → c < length bs → d < length bs → d ≢ c → at table c ≡ at table d → named o table (gather_at c d bs) ≡ named o table bs
+pub named_gather : (o : ℕ) (table : Table) (bs : List ℤ) (c d : ℕ) → c < length bs → d < length bs → d ≢ c
+    → at table c ≡ at table d → named o table (gather_at c d bs) ≡ named o table bs
 named_gather o table bs c d hc hd ne e =
     let one = slice_set bs c (balance_at bs c +ℤ balance_at bs d) in
     let long : d < length one = simp length-set hd in
-    let same : balance_at one d ≡ balance_at bs d = get_or-set_other bs c d (balance_at bs c +ℤ balance_at bs d) (pos 0) ne in
-    let off : balance_at one d +ℤ (pos 0 -ℤ balance_at bs d) ≡ pos 0 = ap (λ x. x +ℤ (pos 0 -ℤ balance_at bs d)) same ∙ add_off (balance_at bs d) in
+    let same : balance_at one d ≡ balance_at bs d = get_or-set_other bs c d (balance_at bs c +ℤ balance_at bs d)
+    (pos 0) ne in
+    let off : balance_at one d +ℤ (pos 0 -ℤ balance_at bs d)
+    ≡ pos 0 = ap (λ x. x +ℤ (pos 0 -ℤ balance_at bs d)) same ∙ add_off (balance_at bs d) in
     let first = named_set o table bs c (balance_at bs d) hc in
     let second = named_set o table one d (pos 0 -ℤ balance_at bs d) long in
-    let there : named o table (slice_set one d (balance_at one d +ℤ (pos 0 -ℤ balance_at bs d))) ≡ named o table (gather_at c d bs) = ap (λ x. named o table (slice_set one d x)) off in
+    let there : named o table (slice_set one d (balance_at one d +ℤ (pos 0 -ℤ balance_at bs d)))
+    ≡ named o table (gather_at c d bs) = ap (λ x. named o table (slice_set one d x)) off in
     sym there ∙ second
     ∙ ap (λ x. x +ℤ part (is_the o (at table d)) (pos 0 -ℤ balance_at bs d)) first
-    ∙ ap (λ v. (named o table bs +ℤ part (is_the o v) (balance_at bs d)) +ℤ part (is_the o (at table d)) (pos 0 -ℤ balance_at bs d)) e
+    ∙ ap (λ v. (named o table bs +ℤ part (is_the o v) (balance_at bs d)) +ℤ part (is_the o (at table d))
+    (pos 0 -ℤ balance_at bs d)) e
     ∙ part_off (is_the o (at table d)) (balance_at bs d) (named o table bs)

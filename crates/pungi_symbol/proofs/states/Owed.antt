@@ -1,5 +1,7 @@
 -- What an object is owed after a change of the world.
-use Rattle.std.proofs.Common.{◌≡◌, ◌≢◌, ℕ, zero, suc, ◌+◌, ◌<◌, ◌≤◌, ℤ, pos, negsuc, ◌+ℤ◌, ◌-ℤ◌, List, [], ◌∷◌, ◌++◌, length, get_or, Bool, true, false, refl, sym, ap, ◌∙◌, subst, arith, inl, inr, cond, eq-eqb, length-append}
+use Rattle.std.proofs.Common.{◌≡◌, ◌≢◌, ℕ, zero, suc, ◌+◌, ◌<◌, ◌≤◌, ℤ, pos, negsuc, ◌+ℤ◌, ◌-ℤ◌, List, [], ◌∷◌, ◌++◌}
+use Rattle.std.proofs.Common.{length, get_or, Bool, true, false, refl, sym, ap, ◌∙◌, subst, arith, inl, inr, cond}
+use Rattle.std.proofs.Common.{eq-eqb, length-append}
 use Rattle.std.specs.Prelude.{slice_set, ◌==◌}
 use Rattle.std.proofs.lemmas.Int.{ints}
 use Rattle.std.proofs.lemmas.Bool.{cases_eq}
@@ -49,28 +51,35 @@ no_more z p e = omega (arith, ints, e)
 abbrev OwedBy : World → Account → ℕ → ℤ
 OwedBy w a o = (a.change -ℤ a.handed -ℤ pos (held_now w o)) +ℤ pos (held_at_entry w o)
 
-pub owed_counted : (w : World) (k : ℕ) (by : ℤ) (o : ℕ) → k < length w.accounts → owed (count w k by) o ≡ owed w o +ℤ part (k == o) by
+pub owed_counted : (w : World) (k : ℕ) (by : ℤ) (o : ℕ) → k < length w.accounts
+    → owed (count w k by) o ≡ owed w o +ℤ part (k == o) by
 owed_counted w k by o lt =
     let a : Account = record (account_of w k) { change = (account_of w k).change +ℤ by } in
     elim (cases_eq o k) [
       | inl e ↦
-          let here : account_of (count w k by) o ≡ a = ap (λ z. get_or (slice_set w.accounts k a) z fresh_account) e ∙ get_or-set_same w.accounts k a fresh_account lt in
+          let here : account_of (count w k by) o ≡ a = ap (λ z. get_or (slice_set w.accounts k a) z fresh_account) e
+          ∙ get_or-set_same w.accounts k a fresh_account lt in
           ap (λ z. OwedBy w z o) here
-          ∙ up_change (account_of w k).change (account_of w k).handed (pos (held_now w o)) (pos (held_at_entry w o)) by (part (k == o) by) (part_same k o by e)
+          ∙ up_change (account_of w k).change (account_of w k).handed (pos (held_now w o)) (pos (held_at_entry w o))
+          by (part (k == o) by) (part_same k o by e)
           ∙ ap (λ z. OwedBy w (account_of w z) o +ℤ part (k == o) by) (sym e)
       | inr ne ↦
-          let here : account_of (count w k by) o ≡ account_of w o = get_or-set_other w.accounts k o a fresh_account ne in
+          let here : account_of (count w k by) o ≡ account_of w o = get_or-set_other w.accounts k o a fresh_account
+          ne in
           ap (λ z. OwedBy w z o) here ∙ no_more (owed w o) (part (k == o) by) (part_other k o by ne)
     ]
 
-pub owed_handed : (w : World) (k o : ℕ) → k < length w.accounts → owed (handed w k) o ≡ owed w o +ℤ part (k == o) (negsuc 0)
+pub owed_handed : (w : World) (k o : ℕ) → k < length w.accounts
+    → owed (handed w k) o ≡ owed w o +ℤ part (k == o) (negsuc 0)
 owed_handed w k o lt =
     let a : Account = record (account_of w k) { handed = (account_of w k).handed +ℤ pos 1 } in
     elim (cases_eq o k) [
       | inl e ↦
-          let here : account_of (handed w k) o ≡ a = ap (λ z. get_or (slice_set w.accounts k a) z fresh_account) e ∙ get_or-set_same w.accounts k a fresh_account lt in
+          let here : account_of (handed w k) o ≡ a = ap (λ z. get_or (slice_set w.accounts k a) z fresh_account) e
+          ∙ get_or-set_same w.accounts k a fresh_account lt in
           ap (λ z. OwedBy w z o) here
-          ∙ up_handed (account_of w k).change (account_of w k).handed (pos (held_now w o)) (pos (held_at_entry w o)) (part (k == o) (negsuc 0)) (part_same k o (negsuc 0) e)
+          ∙ up_handed (account_of w k).change (account_of w k).handed (pos (held_now w o)) (pos (held_at_entry w o))
+          (part (k == o) (negsuc 0)) (part_same k o (negsuc 0) e)
           ∙ ap (λ z. OwedBy w (account_of w z) o +ℤ part (k == o) (negsuc 0)) (sym e)
       | inr ne ↦
           let here : account_of (handed w k) o ≡ account_of w o = get_or-set_other w.accounts k o a fresh_account ne in
@@ -110,7 +119,8 @@ object_more w k = added_more w (k == length w.accounts)
 
 pub object_there : (w : World) (k : ℕ) → k ≤ length w.accounts → k < length (with_object w k).accounts
 object_there w k le = elim (eqb_tells k (length w.accounts)) [
-  | inl h ↦ subst (λ b. k < length (cond b (Added w) w).accounts) (sym h.0) (let e = length-append w.accounts (fresh_account ∷ []) in let z = h.1 in omega (arith, e, z))
+  | inl h ↦ subst (λ b. k < length (cond b (Added w) w).accounts) (sym h.0)
+      (let e = length-append w.accounts (fresh_account ∷ []) in let z = h.1 in omega (arith, e, z))
   | inr h ↦ subst (λ b. k < length (cond b (Added w) w).accounts) (sym h.0) (let z = h.1 in omega (arith, z, le))
 ]
 
@@ -125,7 +135,8 @@ object_unmade w k h = added_unmade w (k == length w.accounts) h
 pub replaced_unmade : (w : World) (k : ℕ) (a : Account) → a.made ≡ false → AreUnmade w → AreUnmade (Replaced w k a)
 replaced_unmade w k a is h o = each w.accounts k o h
   where
-    each : (l : List Account) (k o : ℕ) → ((z : ℕ) → (get_or l z fresh_account).made ≡ false) → (get_or (slice_set l k a) o fresh_account).made ≡ false
+    each : (l : List Account) (k o : ℕ) → ((z : ℕ) → (get_or l z fresh_account).made ≡ false)
+        → (get_or (slice_set l k a) o fresh_account).made ≡ false
     each [] k o all = all o
     each (b ∷ l) zero zero all = is
     each (b ∷ l) zero (suc o) all = all (suc o)
@@ -148,8 +159,10 @@ owed_slot w s x o =
     let new : SlotState = record { slot = s; at_entry = x; held = x } in
     let p = λ (t : SlotState). holds_object t.held o in
     let q = λ (t : SlotState). holds_object t.at_entry o in
-    let now : held_now (with_slot w s x) o ≡ held_now w o + cond (holds_object x o) 1 0 = sum_by-append (Ones p) w.slots (new ∷ []) ∙ (omega arith) in
-    let before : held_at_entry (with_slot w s x) o ≡ held_at_entry w o + cond (holds_object x o) 1 0 = sum_by-append (Ones q) w.slots (new ∷ []) ∙ (omega arith) in
+    let now : held_now (with_slot w s x) o ≡ held_now w o
+    + cond (holds_object x o) 1 0 = sum_by-append (Ones p) w.slots (new ∷ []) ∙ (omega arith) in
+    let before : held_at_entry (with_slot w s x) o ≡ held_at_entry w o
+    + cond (holds_object x o) 1 0 = sum_by-append (Ones q) w.slots (new ∷ []) ∙ (omega arith) in
     let c = (account_of w o).change in
     let h = (account_of w o).handed in
     let one = cond (holds_object x o) 1 0 in
@@ -165,12 +178,14 @@ part_down : (b : Bool) → part b (negsuc 0) ≡ pos 0 -ℤ pos (cond b 1 0)
 part_down true = refl
 part_down false = refl
 
-moved : (c h y : ℤ) (new old one next : ℕ) (up down : ℤ) → new + one ≡ old + next → pos one ≡ up → down ≡ pos 0 -ℤ pos next
+moved : (c h y : ℤ) (new old one next : ℕ) (up down : ℤ) → new + one ≡ old + next → pos one ≡ up
+    → down ≡ pos 0 -ℤ pos next
     → ((c -ℤ h -ℤ pos new) +ℤ y) ≡ ((((c -ℤ h -ℤ pos old) +ℤ y) +ℤ up) +ℤ down)
 moved c h y new old one next up down e f g = omega (arith, ints, e, f, g)
 
 pub owed_stored : (w : World) (i : ℕ) (x : Value) (o : ℕ) → i < length w.slots
-    → owed (put_at w i x) o ≡ (owed w o +ℤ part (holds_object (slot_at w i).held o) (pos 1)) +ℤ part (is_this_object x o) (negsuc 0)
+    → owed (put_at w i x) o ≡ (owed w o +ℤ part (holds_object (slot_at w i).held o) (pos 1)) +ℤ part
+    (is_this_object x o) (negsuc 0)
 owed_stored w i x o lt =
     let new : SlotState = record (slot_at w i) { held = content.Holds x } in
     let p = λ (t : SlotState). holds_object t.held o in
@@ -181,5 +196,7 @@ owed_stored w i x o lt =
     let c = (account_of w o).change in
     let h = (account_of w o).handed in
     ap (λ z. (c -ℤ h -ℤ pos (held_now (put_at w i x) o)) +ℤ pos z) same
-    ∙ moved c h (pos (held_at_entry w o)) (held_now (put_at w i x) o) (held_now w o) (cond (holds_object (slot_at w i).held o) 1 0) (cond (is_this_object x o) 1 0)
-    (part (holds_object (slot_at w i).held o) (pos 1)) (part (is_this_object x o) (negsuc 0)) now (part_one (holds_object (slot_at w i).held o)) (part_down (is_this_object x o))
+    ∙ moved c h (pos (held_at_entry w o)) (held_now (put_at w i x) o) (held_now w o)
+    (cond (holds_object (slot_at w i).held o) 1 0) (cond (is_this_object x o) 1 0)
+    (part (holds_object (slot_at w i).held o) (pos 1)) (part (is_this_object x o) (negsuc 0)) now
+    (part_one (holds_object (slot_at w i).held o)) (part_down (is_this_object x o))

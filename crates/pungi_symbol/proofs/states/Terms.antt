@@ -1,5 +1,6 @@
 -- Terms stay sound where variables and slots change, and where more is known.
-use Rattle.std.proofs.Common.{◌≡◌, ◌≢◌, ℕ, zero, suc, ◌+◌, ◌<◌, ◌≤◌, List, [], ◌∷◌, ◌++◌, length, get_or, true, false, sym, ap, ◌∙◌, subst, arith, length-append}
+use Rattle.std.proofs.Common.{◌≡◌, ◌≢◌, ℕ, zero, suc, ◌+◌, ◌<◌, ◌≤◌, List, [], ◌∷◌, ◌++◌, length, get_or, true, false}
+use Rattle.std.proofs.Common.{sym, ap, ◌∙◌, subst, arith, length-append}
 use Rattle.std.specs.Prelude.{slice_set}
 use Rattle.std.proofs.Math.ListN.{length-set, get_or-append}
 use Rattle.std.proofs.lemmas.List.{get_or-set_other}
@@ -26,14 +27,16 @@ below_more n m (Number k) le h = tt
 below_more n m (Token t) le h = omega (arith, h, le)
 
 -- what is true of each element stays so where one is replaced
-pub set_each : {X : Type 0} (P : X → Type 0) (xs : List X) (i : ℕ) (x d : X) → ((z : ℕ) → P (get_or xs z d)) → P x → (z : ℕ) → P (get_or (slice_set xs i x) z d)
+pub set_each : {X : Type 0} (P : X → Type 0) (xs : List X) (i : ℕ) (x d : X) → ((z : ℕ) → P (get_or xs z d)) → P x
+    → (z : ℕ) → P (get_or (slice_set xs i x) z d)
 set_each P [] i x d all h z = all z
 set_each P (v ∷ xs) zero x d all h zero = h
 set_each P (v ∷ xs) zero x d all h (suc z) = all (suc z)
 set_each P (v ∷ xs) (suc i) x d all h zero = all zero
 set_each P (v ∷ xs) (suc i) x d all h (suc z) = set_each P xs i x d (λ y. all (suc y)) h z
 
-pub end_each : {X : Type 0} (P : X → Type 0) (xs : List X) (x d : X) → P d → ((z : ℕ) → P (get_or xs z d)) → P x → (z : ℕ) → P (get_or (xs ++ x ∷ []) z d)
+pub end_each : {X : Type 0} (P : X → Type 0) (xs : List X) (x d : X) → P d → ((z : ℕ) → P (get_or xs z d)) → P x
+    → (z : ℕ) → P (get_or (xs ++ x ∷ []) z d)
 end_each P [] x d o all h zero = h
 end_each P [] x d o all h (suc z) = o
 end_each P (v ∷ xs) x d o all h zero = all zero
@@ -56,10 +59,12 @@ pub spot_more : (ms : List Mark) (m : Mark) (s : Spot) → IsObjectSpot ms s →
 spot_more ms m (Global n) h = tt
 spot_more ms m (Field t tag field) h = get_or-append ms (m ∷ []) IsNull t (object_below ms t h) ∙ h
 
-spot_set : (ms : List Mark) (t : ℕ) (m : Mark) (s : Spot) → is_open (get_or ms t IsNull) ≡ true → IsObjectSpot ms s → IsObjectSpot (slice_set ms t m) s
+spot_set : (ms : List Mark) (t : ℕ) (m : Mark) (s : Spot) → is_open (get_or ms t IsNull) ≡ true → IsObjectSpot ms s
+    → IsObjectSpot (slice_set ms t m) s
 spot_set ms t m (Global n) o h = tt
 spot_set ms t m (Field u tag field) o h =
-    let ne : u ≢ t = λ e. let bad : true ≡ false = sym o ∙ ap (λ z. is_open (get_or ms z IsNull)) (sym e) ∙ ap is_open h in cc in
+    let ne : u ≢ t = λ e. let bad : true ≡ false = sym o ∙ ap (λ z. is_open (get_or ms z IsNull)) (sym e)
+    ∙ ap is_open h in cc in
     get_or-set_other ms t u m IsNull ne ∙ h
 
 module _ (ms : List Mark) (vars : List Term) (slots : List Touched) (w : AreTermsSound ms vars slots) where
@@ -71,7 +76,8 @@ module _ (ms : List Mark) (vars : List Term) (slots : List Touched) (w : AreTerm
     spots = w.spots;
   }
 
-  pub stored_terms : (i : ℕ) (c : Term) → IsBelow (length ms) c → AreTermsSound ms vars (slice_set slots i (record (slot_note slots i) { held = c }))
+  pub stored_terms : (i : ℕ) (c : Term) → IsBelow (length ms) c
+      → AreTermsSound ms vars (slice_set slots i (record (slot_note slots i) { held = c }))
   stored_terms i c h =
       let new : Touched = record (slot_note slots i) { held = c } in
       record {
@@ -81,7 +87,8 @@ module _ (ms : List Mark) (vars : List Term) (slots : List Touched) (w : AreTerm
         spots = set_each (λ s. IsObjectSpot ms s.spot) slots i new no_slot w.spots (w.spots i);
       }
 
-  pub touched_terms : (new : Touched) → IsBelow (length ms) new.held → IsBelow (length ms) new.at_entry → IsObjectSpot ms new.spot → AreTermsSound ms vars (slots ++ new ∷ [])
+  pub touched_terms : (new : Touched) → IsBelow (length ms) new.held → IsBelow (length ms) new.at_entry
+      → IsObjectSpot ms new.spot → AreTermsSound ms vars (slots ++ new ∷ [])
   touched_terms new h e s = record {
     vars_below = w.vars_below;
     held = end_each (λ s. IsBelow (length ms) s.held) slots new no_slot tt w.held h;
@@ -100,7 +107,8 @@ module _ (ms : List Mark) (vars : List Term) (slots : List Touched) (w : AreTerm
         spots = λ i. spot_more ms m (slot_note slots i).spot (w.spots i);
       }
 
-  pub null_terms : (t : ℕ) (m : Mark) → is_open (get_or ms t IsNull) ≡ true → AreTermsSound (slice_set ms t m) vars slots
+  pub null_terms : (t : ℕ) (m : Mark) → is_open (get_or ms t IsNull) ≡ true
+      → AreTermsSound (slice_set ms t m) vars slots
   null_terms t m o =
       let len : length (slice_set ms t m) ≡ length ms = length-set ms t m in
       record {
@@ -111,8 +119,10 @@ module _ (ms : List Mark) (vars : List Term) (slots : List Touched) (w : AreTerm
       }
 
   -- the terms of atoms
-  pub atom_below : (k : Known) (statics : ℕ) (a : Atom) → k.vars ≡ vars → statics ≤ length ms → is_there statics a ≡ true → IsBelow (length ms) (term_of k a)
-  atom_below k statics (atom.Var x) e le h = subst (λ vs. IsBelow (length ms) (get_or vs x.0 Unset)) (sym e) (w.vars_below x.0)
+  pub atom_below : (k : Known) (statics : ℕ) (a : Atom) → k.vars ≡ vars → statics ≤ length ms
+      → is_there statics a ≡ true → IsBelow (length ms) (term_of k a)
+  atom_below k statics (atom.Var x) e le h = subst (λ vs. IsBelow (length ms) (get_or vs x.0 Unset)) (sym e)
+      (w.vars_below x.0)
   atom_below k statics (atom.Int n) e le h = tt
   atom_below k statics atom.Null e le h = tt
   atom_below k statics atom.Text e le h = tt

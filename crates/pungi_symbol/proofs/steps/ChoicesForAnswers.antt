@@ -1,14 +1,18 @@
 -- Choices by which a run gives an answer: they are accepted.
-use Rattle.std.proofs.Common.{◌≡◌, ℕ, zero, suc, ◌<◌, ◌≤◌, ℤ, pos, negsuc, List, [], ◌∷◌, length, Bool, true, false, refl, ap, ◌∙◌, arith, Some, cond}
+use Rattle.std.proofs.Common.{◌≡◌, ℕ, zero, suc, ◌<◌, ◌≤◌, ℤ, pos, negsuc, List, [], ◌∷◌, length, Bool, true, false}
+use Rattle.std.proofs.Common.{refl, ap, ◌∙◌, arith, Some, cond}
 use Rattle.std.specs.Prelude.{slice_get}
 use Rattle.pungi_base.specs.declared.choice.Choice.{Choice}
 use Rattle.pungi_base.specs.declared.value.Value.{Value}
 use Rattle.pungi_base.specs.declared.value.Value.TheVariants as value
 use Rattle.pungi_world.specs.declared.content.Content.TheVariants as content
 use Rattle.pungi_symbol.specs.declared.states.mark.Mark.{Mark}
-use Rattle.pungi_symbol.specs.declared.states.mark.Mark.TheVariants.{Pointer, TextPointer, IsNull, IsObject, IsText, IsNumber}
+use Rattle.pungi_symbol.specs.declared.states.mark.Mark.TheVariants.{Pointer, TextPointer, IsNull, IsObject, IsText}
+use Rattle.pungi_symbol.specs.declared.states.mark.Mark.TheVariants.{IsNumber}
 use Rattle.pungi_symbol.specs.declared.questions.question.Question.{Question}
-use Rattle.pungi_symbol.specs.declared.questions.question.Question.TheVariants.{Does, Touches, Overwrites, Null as AsksNull, Base, Answers, Same, Returns, Stops, Over}
+use Rattle.pungi_symbol.specs.declared.questions.question.Question.TheVariants.{Does, Touches, Overwrites}
+use Rattle.pungi_symbol.specs.declared.questions.question.Question.TheVariants.{Null as AsksNull, Base, Answers, Same}
+use Rattle.pungi_symbol.specs.declared.questions.question.Question.TheVariants.{Returns, Stops, Over}
 use Rattle.pungi_symbol.specs.states.Terms.{is_mark}
 use Rattle.std.specs.Prelude.{◌||◌, ◌&&◌, not, nat_le, Result as Res, Ok, Err}
 use Rattle.std.proofs.lemmas.Bool.Decides.{nat_tests, Decides-int_eq}
@@ -34,9 +38,13 @@ IsOutcome ms v = (k : ℕ) × (k < length ms) × (is_mark (mark_at ms k) v ≡ t
 
 -- a choice by which a question is answered so
 abbrev pub Suits : World → Question → Choice → Type 0
-Suits w (Touches r) c = (is_mark r (value_of c) ≡ true) × IsOf (length w.accounts) (value_of c) × (c ≡ choice_of (value_of c))
-Suits w (Overwrites r) c = (is_mark r (value_of c) ≡ true) × IsOf (length w.accounts) (value_of c) × (c ≡ choice_of (value_of c))
-Suits w (Answers a) c = IsOutcome (outcomes_of_answer a) (value_of c) × IsOf (length w.accounts) (value_of c) × (c ≡ choice_of (value_of c))
+Suits w (Touches r) c =
+    (is_mark r (value_of c) ≡ true) × IsOf (length w.accounts) (value_of c) × (c ≡ choice_of (value_of c))
+Suits w (Overwrites r) c =
+    (is_mark r (value_of c) ≡ true) × IsOf (length w.accounts) (value_of c) × (c ≡ choice_of (value_of c))
+Suits w (Answers a) c =
+    IsOutcome (outcomes_of_answer a) (value_of c) × IsOf (length w.accounts) (value_of c)
+    × (c ≡ choice_of (value_of c))
 Suits w q c = Unit {0}
 
 -- the next choice isn't one that suits the question
@@ -53,7 +61,8 @@ comes (Overwrites r) = 1
 comes (Answers a) = 1
 comes q = 0
 
-pub not_lacking : (w : World) (choices : List Choice) (n : ℕ) (q : Question) → Lacks w choices n q → (comes q ≡ 1 → (c : Choice) × (slice_get choices n ≡ Some c) × Suits w q c) → ⊥
+pub not_lacking : (w : World) (choices : List Choice) (n : ℕ) (q : Question) → Lacks w choices n q
+    → (comes q ≡ 1 → (c : Choice) × (slice_get choices n ≡ Some c) × Suits w q c) → ⊥
 not_lacking w choices n (Touches r) h f = let c = f refl in h c.0 c.1 c.2
 not_lacking w choices n (Overwrites r) h f = let c = f refl in h c.0 c.1 c.2
 not_lacking w choices n (Answers a) h f = let c = f refl in h c.0 c.1 c.2
@@ -75,7 +84,8 @@ or_true false = refl
 old_true : (w : World) (k : ℕ) → AreUnmade w → k < length w.accounts → is_old w (choice.Object k) ≡ true
 old_true w k u h = ap (λ b. b && not (is_made w k)) (le_true k (length w.accounts) h) ∙ ap not (u k)
 
-pointer_true : (w : World) (v : Value) → AreUnmade w → is_mark Pointer v ≡ true → IsOf (length w.accounts) v → (is_null (choice_of v) || is_old w (choice_of v)) ≡ true
+pointer_true : (w : World) (v : Value) → AreUnmade w → is_mark Pointer v ≡ true → IsOf (length w.accounts) v
+    → (is_null (choice_of v) || is_old w (choice_of v)) ≡ true
 pointer_true w value.Null u m h = refl
 pointer_true w (value.Object k) u m h = old_true w k u h
 pointer_true w (value.Int n) u m h = absurd (let bad : false ≡ true = m in cc)
@@ -87,7 +97,8 @@ text_true (value.Object k) m = absurd (let bad : false ≡ true = m in cc)
 text_true (value.Int n) m = absurd (let bad : false ≡ true = m in cc)
 text_true value.Text m = refl
 
-content_true : (w : World) (kind : Param) (v : Value) → is_pointer kind ≡ true → AreUnmade w → is_mark (content_mark kind) v ≡ true → IsOf (length w.accounts) v → is_content w kind (choice_of v) ≡ true
+content_true : (w : World) (kind : Param) (v : Value) → is_pointer kind ≡ true → AreUnmade w
+    → is_mark (content_mark kind) v ≡ true → IsOf (length w.accounts) v → is_content w kind (choice_of v) ≡ true
 content_true w param.Object v p u m h = pointer_true w v u m h
 content_true w param.ObjectOrNull v p u m h = pointer_true w v u m h
 content_true w param.Text v p u m h = text_true v m
@@ -101,11 +112,14 @@ no_error : {X : Type 0} (r : Res X Halt) (x : X) (h : Halt) → r ≡ Ok x → r
 no_error r x h e f = cc
 
 -- such a choice isn't missing
-pub not_missing : (w : World) (kind : Param) (c : Choice) (rest : List Choice) → is_pointer kind ≡ true → AreUnmade w → (is_mark (content_mark kind) (value_of c) ≡ true) × IsOf (length w.accounts) (value_of c) × (c ≡ choice_of (value_of c))
+pub not_missing : (w : World) (kind : Param) (c : Choice) (rest : List Choice) → is_pointer kind ≡ true
+    → AreUnmade w → (is_mark (content_mark kind) (value_of c) ≡ true) × IsOf (length w.accounts) (value_of c)
+    × (c ≡ choice_of (value_of c))
     → find_content w kind (c ∷ rest) ≡ Err halt.NeedsChoice → ⊥
 not_missing w kind c rest p u h e =
     let ok : is_content w kind c ≡ true = ap (is_content w kind) h.2 ∙ content_true w kind (value_of c) p u h.0 h.1 in
-    no_error (find_content w kind (c ∷ rest)) (content.Holds (value_of c), 1) halt.NeedsChoice (ap (λ b. cond b (Ok (content.Holds (value_of c), 1)) (Err halt.NeedsChoice)) ok) e
+    no_error (find_content w kind (c ∷ rest)) (content.Holds (value_of c), 1) halt.NeedsChoice
+    (ap (λ b. cond b (Ok (content.Holds (value_of c), 1)) (Err halt.NeedsChoice)) ok) e
 
 -- ---- answers
 
@@ -115,7 +129,8 @@ no_way e = absurd (cc)
 past : {X : Type 0} (k n : ℕ) → k < n → n ≤ k → X
 past k n h g = absurd (omega (arith, h, g))
 
-two_pointers : (n : ℕ) (v : Value) → IsOutcome (IsNull ∷ IsObject ∷ []) v → IsOf n v → (is_null (choice_of v) || is_object_choice n (choice_of v)) ≡ true
+two_pointers : (n : ℕ) (v : Value) → IsOutcome (IsNull ∷ IsObject ∷ []) v → IsOf n v
+    → (is_null (choice_of v) || is_object_choice n (choice_of v)) ≡ true
 two_pointers n value.Null o h = refl
 two_pointers n (value.Object k) o h = le_true k n h
 two_pointers n (value.Int i) (zero, lt, o) h = no_way o
@@ -150,18 +165,21 @@ is_value i (value.Object k) h = no_way h
 is_value i (value.Int n) h = ap value.Int ((Decides-int_eq n i).0 h)
 is_value i value.Text h = no_way h
 
-status_number : (n : ℕ) (v : Value) → IsOutcome (IsNumber (pos 0) ∷ IsNumber (negsuc 0) ∷ []) v → is_accepted n answer.Status (choice_of v) ≡ true
+status_number : (n : ℕ) (v : Value) → IsOutcome (IsNumber (pos 0) ∷ IsNumber (negsuc 0) ∷ []) v
+    → is_accepted n answer.Status (choice_of v) ≡ true
 status_number n v (zero, lt, o) = ap (λ z. is_accepted n answer.Status (choice_of z)) (is_value (pos 0) v o)
 status_number n v (suc zero, lt, o) = ap (λ z. is_accepted n answer.Status (choice_of z)) (is_value (negsuc 0) v o)
 status_number n v (suc (suc k), lt, o) = past (suc (suc k)) 2 lt (omega arith)
 
-truth_number : (n : ℕ) (v : Value) → IsOutcome (IsNumber (pos 1) ∷ IsNumber (pos 0) ∷ IsNumber (negsuc 0) ∷ []) v → is_accepted n answer.Truth (choice_of v) ≡ true
+truth_number : (n : ℕ) (v : Value) → IsOutcome (IsNumber (pos 1) ∷ IsNumber (pos 0) ∷ IsNumber (negsuc 0) ∷ []) v
+    → is_accepted n answer.Truth (choice_of v) ≡ true
 truth_number n v (zero, lt, o) = ap (λ z. is_accepted n answer.Truth (choice_of z)) (is_value (pos 1) v o)
 truth_number n v (suc zero, lt, o) = ap (λ z. is_accepted n answer.Truth (choice_of z)) (is_value (pos 0) v o)
 truth_number n v (suc (suc zero), lt, o) = ap (λ z. is_accepted n answer.Truth (choice_of z)) (is_value (negsuc 0) v o)
 truth_number n v (suc (suc (suc k)), lt, o) = past (suc (suc (suc k))) 3 lt (omega arith)
 
-accepted_true : (n : ℕ) (a : Answer) (v : Value) → is_small a ≡ true → IsOutcome (outcomes_of_answer a) v → IsOf n v → is_accepted n a (choice_of v) ≡ true
+accepted_true : (n : ℕ) (a : Answer) (v : Value) → is_small a ≡ true → IsOutcome (outcomes_of_answer a) v → IsOf n v
+    → is_accepted n a (choice_of v) ≡ true
 accepted_true n answer.New v s o h = two_pointers n v o h
 accepted_true n answer.Borrowed v s o h = two_pointers n v o h
 accepted_true n answer.BorrowedSure v s o h = sure_pointer n v o h
@@ -174,8 +192,12 @@ accepted_true n answer.Long v s o h = no_way s
 accepted_true n answer.Void v s o h = past o.0 0 o.1 (omega arith)
 accepted_true n answer.Null v s o h = past o.0 0 o.1 (omega arith)
 
-pub not_refused : (w : World) (a : Answer) (c : Choice) (rest : List Choice) → is_small a ≡ true → IsOutcome (outcomes_of_answer a) (value_of c) × IsOf (length w.accounts) (value_of c) × (c ≡ choice_of (value_of c))
+pub not_refused : (w : World) (a : Answer) (c : Choice) (rest : List Choice) → is_small a ≡ true
+    → IsOutcome (outcomes_of_answer a) (value_of c) × IsOf (length w.accounts) (value_of c)
+    × (c ≡ choice_of (value_of c))
     → choose (length w.accounts) a (c ∷ rest) ≡ Err halt.NeedsChoice → ⊥
 not_refused w a c rest s h e =
-    let ok : is_accepted (length w.accounts) a c ≡ true = ap (is_accepted (length w.accounts) a) h.2 ∙ accepted_true (length w.accounts) a (value_of c) s h.0 h.1 in
-    no_error (choose (length w.accounts) a (c ∷ rest)) (value_of c) halt.NeedsChoice (ap (λ b. cond b (Ok (value_of c)) (Err halt.NeedsChoice)) ok) e
+    let ok : is_accepted (length w.accounts) a c ≡ true = ap (is_accepted (length w.accounts) a) h.2
+    ∙ accepted_true (length w.accounts) a (value_of c) s h.0 h.1 in
+    no_error (choose (length w.accounts) a (c ∷ rest)) (value_of c) halt.NeedsChoice
+    (ap (λ b. cond b (Ok (value_of c)) (Err halt.NeedsChoice)) ok) e

@@ -1,5 +1,6 @@
 -- Comparisons: a run and a state do the same.
-use Rattle.std.proofs.Common.{◌≡◌, ℕ, ◌+◌, ℤ, List, Bool, true, false, refl, sym, ap, ◌∙◌, subst, inr, Option, None, Some, cond}
+use Rattle.std.proofs.Common.{◌≡◌, ℕ, ◌+◌, ℤ, List, Bool, true, false, refl, sym, ap, ◌∙◌, subst, inr, Option, None}
+use Rattle.std.proofs.Common.{Some, cond}
 use Rattle.std.specs.Prelude.{◌==◌}
 use Rattle.pungi_base.specs.declared.choice.Choice.{Choice}
 use Rattle.pungi_base.specs.declared.pos.Pos.{Pos}
@@ -15,7 +16,8 @@ use Rattle.pungi_symbol.specs.declared.answers.decision.Decision.TheVariants.{Qu
 use Rattle.pungi_symbol.specs.declared.states.known.Known.{Known}
 use Rattle.pungi_symbol.specs.declared.states.known.Status.TheVariants as status
 use Rattle.pungi_symbol.specs.declared.states.mark.Mark.{Mark}
-use Rattle.pungi_symbol.specs.declared.states.mark.Mark.TheVariants.{Pointer, TextPointer, IsNull, IsObject, IsText, IsNumber}
+use Rattle.pungi_symbol.specs.declared.states.mark.Mark.TheVariants.{Pointer, TextPointer, IsNull, IsObject, IsText}
+use Rattle.pungi_symbol.specs.declared.states.mark.Mark.TheVariants.{IsNumber}
 use Rattle.pungi_symbol.specs.declared.questions.question.Question.{Question}
 use Rattle.pungi_symbol.specs.declared.questions.question.Question.TheVariants.{Does, Same}
 use Rattle.pungi_symbol.specs.declared.states.state.State.{State}
@@ -38,10 +40,13 @@ use Rattle.pungi_symbol.specs.answers.KnownAfter.{truth_term, compares, compares
 use Rattle.pungi_symbol.specs.answers.SymbolicState.{are_one, apply_same}
 use Rattle.pungi_symbol.specs.runs.Fits.{Fits}
 use Rattle.pungi_symbol.specs.runs.OneInstruction.{Led, goes, leads}
-use Rattle.pungi_symbol.proofs.states.Contents.{unset, asks, passes, knowing_is, term_value, known_set, known_agrees, Agrees, one, objects, agrees_number, IsKnown}
+use Rattle.pungi_symbol.proofs.states.Contents.{unset, asks, passes, knowing_is, term_value, known_set, known_agrees}
+use Rattle.pungi_symbol.proofs.states.Contents.{Agrees, one, objects, agrees_number, IsKnown}
 use Rattle.pungi_symbol.proofs.states.Terms.{open_below, object_is_below}
-use Rattle.pungi_symbol.proofs.answers.SameObject.{Way, kept, merged, parted, way_is, same_can, way_fits, way_named, object_value}
-use Rattle.pungi_symbol.proofs.steps.RunInState.{goes_on, as_many, Result, IsLine, same_decision, below_is, led_is, null_result, stops_result, put_lies, marks}
+use Rattle.pungi_symbol.proofs.answers.SameObject.{Way, kept, merged, parted, way_is, same_can, way_fits, way_named}
+use Rattle.pungi_symbol.proofs.answers.SameObject.{object_value}
+use Rattle.pungi_symbol.proofs.steps.RunInState.{goes_on, as_many, Result, IsLine, same_decision, below_is, led_is}
+use Rattle.pungi_symbol.proofs.steps.RunInState.{null_result, stops_result, put_lies, marks}
 use Rattle.pungi_symbol.proofs.steps.PlainInstructions.{unset_led, set_led}
 
 -- ---- comparisons of values
@@ -62,9 +67,12 @@ holds_is cmps.LessEqual v x = refl
 holds_is cmps.Greater v x = refl
 holds_is cmps.GreaterEqual v x = refl
 
-holds_same : (c : Cmp) (v x v' x' : Value) → is_equal v x ≡ is_equal v' x' → number_of v ≡ number_of v' → number_of x ≡ number_of x' → holds c v x ≡ holds c v' x'
+holds_same : (c : Cmp) (v x v' x' : Value) → is_equal v x ≡ is_equal v' x' → number_of v ≡ number_of v'
+    → number_of x ≡ number_of x' → holds c v x ≡ holds c v' x'
 holds_same c v x v' x' e a b =
-    holds_is c v x ∙ ap (λ z. holds_by c z (number_of v) (number_of x)) e ∙ ap (λ z. holds_by c (is_equal v' x') z (number_of x)) a ∙ ap (holds_by c (is_equal v' x') (number_of v')) b ∙ sym (holds_is c v' x')
+    holds_is c v x ∙ ap (λ z. holds_by c z (number_of v) (number_of x)) e
+    ∙ ap (λ z. holds_by c (is_equal v' x') z (number_of x)) a ∙ ap (holds_by c (is_equal v' x') (number_of v')) b
+    ∙ sym (holds_is c v' x')
 
 equal_left : (a b : ℕ) (x : Value) → is_object x ≡ false → is_equal (value.Object a) x ≡ is_equal (value.Object b) x
 equal_left a b value.Null e = refl
@@ -82,29 +90,37 @@ off : (b : Bool) → (b ≡ true → ⊥) → b ≡ false
 off true h = absurd (h refl)
 off false h = refl
 
-equal_agrees : (v x v' x' : Value) → Agrees v v' → Agrees x x' → (is_object v' ≡ true → is_object x' ≡ true → ⊥) → is_equal v x ≡ is_equal v' x'
+equal_agrees : (v x v' x' : Value) → Agrees v v' → Agrees x x' → (is_object v' ≡ true → is_object x' ≡ true → ⊥)
+    → is_equal v x ≡ is_equal v' x'
 equal_agrees v x v' x' (one e) (one f) not_both = ap (λ z. is_equal z x) e ∙ ap (is_equal v') f
 equal_agrees v x v' x' (objects a b e f) (one g) not_both =
     let none : is_object x' ≡ false = off (is_object x') (not_both (ap is_object f)) in
-    ap (λ z. is_equal z x) e ∙ ap (is_equal (value.Object a)) g ∙ equal_left a b x' none ∙ sym (ap (λ z. is_equal z x') f)
+    ap (λ z. is_equal z x) e ∙ ap (is_equal (value.Object a)) g ∙ equal_left a b x' none
+    ∙ sym (ap (λ z. is_equal z x') f)
 equal_agrees v x v' x' (one e) (objects a b g h) not_both =
     let none : is_object v' ≡ false = off (is_object v') (λ z. not_both z (ap is_object h)) in
     ap (λ z. is_equal z x) e ∙ ap (is_equal v') g ∙ equal_right a b v' none ∙ sym (ap (is_equal v') h)
-equal_agrees v x v' x' (objects a b e f) (objects c d g h) not_both = absurd (not_both (ap is_object f) (ap is_object h))
+equal_agrees v x v' x' (objects a b e f) (objects c d g h) not_both =
+    absurd (not_both (ap is_object f) (ap is_object h))
 
-holds_agrees : (c : Cmp) (v x v' x' : Value) → Agrees v v' → Agrees x x' → (is_object v' ≡ true → is_object x' ≡ true → ⊥) → holds c v x ≡ holds c v' x'
-holds_agrees c v x v' x' f g not_both = holds_same c v x v' x' (equal_agrees v x v' x' f g not_both) (agrees_number v v' f) (agrees_number x x' g)
+holds_agrees : (c : Cmp) (v x v' x' : Value) → Agrees v v' → Agrees x x'
+    → (is_object v' ≡ true → is_object x' ≡ true → ⊥) → holds c v x ≡ holds c v' x'
+holds_agrees c v x v' x' f g not_both =
+    holds_same c v x v' x' (equal_agrees v x v' x' f g not_both) (agrees_number v v' f) (agrees_number x x' g)
 
-same_objects : (a b : ℕ) (r : Bool) → (a == b) ≡ r → is_equal (value.Object 0) (value.Object (cond r 0 1)) ≡ is_equal (value.Object a) (value.Object b)
+same_objects : (a b : ℕ) (r : Bool) → (a == b) ≡ r
+    → is_equal (value.Object 0) (value.Object (cond r 0 1)) ≡ is_equal (value.Object a) (value.Object b)
 same_objects a b true e = sym e
 same_objects a b false e = sym e
 
-same_holds : (c : Cmp) (v x : Value) → is_mark IsObject v ≡ true → is_mark IsObject x ≡ true → compares_same c (is_equal v x) ≡ holds c v x
+same_holds : (c : Cmp) (v x : Value) → is_mark IsObject v ≡ true → is_mark IsObject x ≡ true
+    → compares_same c (is_equal v x) ≡ holds c v x
 same_holds c v x h g =
     let a = object_value v h in
     let b = object_value x g in
     let e : is_equal v x ≡ (a.0 == b.0) = ap (λ z. is_equal z x) a.1 ∙ ap (is_equal (value.Object a.0)) b.1 in
-    ap (compares_same c) e ∙ holds_same c (value.Object 0) (value.Object (cond (a.0 == b.0) 0 1)) (value.Object a.0) (value.Object b.0) (same_objects a.0 b.0 (a.0 == b.0) refl) refl refl
+    ap (compares_same c) e ∙ holds_same c (value.Object 0) (value.Object (cond (a.0 == b.0) 0 1)) (value.Object a.0)
+    (value.Object b.0) (same_objects a.0 b.0 (a.0 == b.0) refl) refl refl
     ∙ sym (ap (λ z. holds c z x) a.1 ∙ ap (holds c (value.Object a.0)) b.1)
 
 pub truth_content : (table : Table) (b : Bool) → content_of table (truth_term b) ≡ content.Holds (truth b)
@@ -157,10 +173,13 @@ way_statics s t u b s' (kept same e z) = ap (λ r. r.statics) z
 way_statics s t u b s' (merged c d which older no_static no_pair e z) = ap (λ r. r.statics) z
 way_statics s t u b s' (parted ne e z) = ap (λ r. r.statics) z
 
-module _ (choices : List Choice) (code : List Line) (table : Table) (base : ℕ) (m : Regs) (s : State) (going : s.known.status ≡ status.Going) (w : IsSound s) (l : Lies code table base m s) (p : Pos) where
+module _ (choices : List Choice) (code : List Line) (table : Table) (base : ℕ) (m : Regs) (s : State)
+    (going : s.known.status ≡ status.Going) (w : IsSound s) (l : Lies code table base m s) (p : Pos) where
   -- a run lies in the state after tokens were compared, where it lies in the one with the same known
-  pub same_lies : (t u : ℕ) (m' : Regs) (k' : Known) → mark_of s.known t ≡ IsObject → mark_of s.known u ≡ IsObject → k'.marks ≡ s.known.marks → Lies code table base m' (record s { known = k' })
-      → Lies code table base m' (record (apply_same (are_one s.classes t u) (is_equal (at table t) (at table u)) t u s) { known = k' })
+  pub same_lies : (t u : ℕ) (m' : Regs) (k' : Known) → mark_of s.known t ≡ IsObject → mark_of s.known u ≡ IsObject
+      → k'.marks ≡ s.known.marks → Lies code table base m' (record s { known = k' })
+      → Lies code table base m' (record (apply_same (are_one s.classes t u) (is_equal (at table t) (at table u)) t u
+      s) { known = k' })
   same_lies t u m' k' mt mu e h =
       let lt = object_is_below s.known.marks t mt in
       let lu = object_is_below s.known.marks u mu in
@@ -169,7 +188,8 @@ module _ (choices : List Choice) (code : List Line) (table : Table) (base : ℕ)
       let way = way_is s t u b (same_can s t u table w mt mu lt lu l.fits) in
       let fits = way_fits s t u table w mt mu lt lu b s' l.fits refl way in
       record {
-        fits = subst (λ n. Fits table n k'.marks s'.classes s'.others) (sym (way_statics s t u b s' way)) (subst (λ z. Fits table s.statics z s'.classes s'.others) (sym e) fits);
+        fits = subst (λ n. Fits table n k'.marks s'.classes s'.others) (sym (way_statics s t u b s' way))
+            (subst (λ z. Fits table s.statics z s'.classes s'.others) (sym e) fits);
         vars = h.vars;
         slots = h.slots;
         used = h.used;
@@ -182,79 +202,142 @@ module _ (choices : List Choice) (code : List Line) (table : Table) (base : ℕ)
   abbrev CompareLed : Var → Cmp → Value → Value → Led
   CompareLed x c v y = goes (s.known.pc + 1) (put x (content.Holds (truth (holds c v y))) m)
 
-  compare_led : (x : Var) (c : Cmp) (a b : Atom) → is_there s.statics a ≡ true → is_there s.statics b ≡ true → (term_of s.known a ≡ Unset → ⊥) → (term_of s.known b ≡ Unset → ⊥)
-      → leads choices (Compare x c a b) p s.known.pc m ≡ CompareLed x c (term_value table (term_of s.known a)) (term_value table (term_of s.known b))
-  compare_led x c a b h g ne nf = set_led choices code table base m s going w l p a _ h ne ∙ set_led choices code table base m s going w l p b _ g nf
+  compare_led : (x : Var) (c : Cmp) (a b : Atom) → is_there s.statics a ≡ true → is_there s.statics b ≡ true
+      → (term_of s.known a ≡ Unset → ⊥) → (term_of s.known b ≡ Unset → ⊥)
+      → leads choices (Compare x c a b) p s.known.pc m ≡ CompareLed x c (term_value table (term_of s.known a))
+      (term_value table (term_of s.known b))
+  compare_led x c a b h g ne nf = set_led choices code table base m s going w l p a _ h ne
+      ∙ set_led choices code table base m s going w l p b _ g nf
 
-  compare_goes : (x : Var) (c : Cmp) (a b : Atom) (d : Decision) → IsLine choices code table base m s going w l p (Compare x c a b) → is_there s.statics a ≡ true → is_there s.statics b ≡ true → (term_of s.known a ≡ Unset → ⊥) → (term_of s.known b ≡ Unset → ⊥)
-      → holds c (term_value table (term_of s.known a)) (term_value table (term_of s.known b)) ≡ compares s.known c (term_of s.known a) (term_of s.known b) → Result choices code table base m s going w l p (Compare x c a b) (Does d)
+  compare_goes : (x : Var) (c : Cmp) (a b : Atom) (d : Decision)
+      → IsLine choices code table base m s going w l p (Compare x c a b) → is_there s.statics a ≡ true
+      → is_there s.statics b ≡ true → (term_of s.known a ≡ Unset → ⊥) → (term_of s.known b ≡ Unset → ⊥)
+      → holds c (term_value table (term_of s.known a)) (term_value table (term_of s.known b))
+      ≡ compares s.known c (term_of s.known a) (term_of s.known b)
+      → Result choices code table base m s going w l p (Compare x c a b) (Does d)
   compare_goes x c a b d is h g ne nf e = inr (
     same_decision d,
-    goes_on _ (as_many m) (led_is choices code table base m s going w l p (Compare x c a b) is ∙ compare_led x c a b h g ne nf) going
-        (put_lies choices code table base m s going w l p x (truth_term (compares s.known c (term_of s.known a) (term_of s.known b))) (content.Holds (truth (holds c (term_value table (term_of s.known a)) (term_value table (term_of s.known b))))) (s.known.pc + 1)
-        (truth_content table (compares s.known c (term_of s.known a) (term_of s.known b)) ∙ ap (λ z. content.Holds (truth z)) (sym e))),
+    goes_on _ (as_many m) (led_is choices code table base m s going w l p (Compare x c a b) is
+        ∙ compare_led x c a b h g ne nf) going
+        (put_lies choices code table base m s going w l p x (truth_term (compares s.known c (term_of s.known a)
+        (term_of s.known b))) (content.Holds (truth (holds c (term_value table (term_of s.known a))
+        (term_value table (term_of s.known b))))) (s.known.pc + 1)
+        (truth_content table (compares s.known c (term_of s.known a) (term_of s.known b))
+        ∙ ap (λ z. content.Holds (truth z)) (sym e))),
   )
 
-  compare_tokens : (x : Var) (c : Cmp) (a b : Atom) (t u : ℕ) → IsLine choices code table base m s going w l p (Compare x c a b) → is_there s.statics a ≡ true → is_there s.statics b ≡ true → term_of s.known a ≡ Token t → term_of s.known b ≡ Token u
-      → mark_of s.known t ≡ IsObject → mark_of s.known u ≡ IsObject → Result choices code table base m s going w l p (Compare x c a b) (Same t u)
+  compare_tokens : (x : Var) (c : Cmp) (a b : Atom) (t u : ℕ)
+      → IsLine choices code table base m s going w l p (Compare x c a b) → is_there s.statics a ≡ true
+      → is_there s.statics b ≡ true → term_of s.known a ≡ Token t → term_of s.known b ≡ Token u
+      → mark_of s.known t ≡ IsObject → mark_of s.known u ≡ IsObject
+      → Result choices code table base m s going w l p (Compare x c a b) (Same t u)
   compare_tokens x c a b t u is h g ea eb mt mu =
       let lt = object_is_below s.known.marks t mt in
       let lu = object_is_below s.known.marks u mu in
-      let ot : is_mark IsObject (at table t) ≡ true = subst (λ z. is_mark z (at table t) ≡ true) mt (marks choices code table base m s going w l p t lt) in
-      let ou : is_mark IsObject (at table u) ≡ true = subst (λ z. is_mark z (at table u) ≡ true) mu (marks choices code table base m s going w l p u lu) in
+      let ot : is_mark IsObject (at table t) ≡ true = subst (λ z. is_mark z (at table t) ≡ true) mt
+      (marks choices code table base m s going w l p t lt) in
+      let ou : is_mark IsObject (at table u) ≡ true = subst (λ z. is_mark z (at table u) ≡ true) mu
+      (marks choices code table base m s going w l p u lu) in
       let ne : term_of s.known a ≡ Unset → ⊥ = λ z. let bad : Token t ≡ Unset = sym ea ∙ z in cc in
       let nf : term_of s.known b ≡ Unset → ⊥ = λ z. let bad : Token u ≡ Unset = sym eb ∙ z in cc in
       let r = holds c (at table t) (at table u) in
       inr (
         same_can s t u table w mt mu lt lu l.fits,
         goes_on (put x (content.Holds (truth r)) m) (as_many m)
-            (led_is choices code table base m s going w l p (Compare x c a b) is ∙ compare_led x c a b h g ne nf ∙ ap (λ z. CompareLed x c (term_value table z) (term_value table (term_of s.known b))) ea ∙ ap (λ z. CompareLed x c (at table t) (term_value table z)) eb) going
+            (led_is choices code table base m s going w l p (Compare x c a b) is ∙ compare_led x c a b h g ne nf
+            ∙ ap (λ z. CompareLed x c (term_value table z) (term_value table (term_of s.known b))) ea
+            ∙ ap (λ z. CompareLed x c (at table t) (term_value table z)) eb) going
             (same_lies t u (put x (content.Holds (truth r)) m) _ mt mu refl
-            (put_lies choices code table base m s going w l p x (truth_term (compares_same c (is_equal (at table t) (at table u)))) (content.Holds (truth r)) (s.known.pc + 1)
-            (truth_content table (compares_same c (is_equal (at table t) (at table u))) ∙ ap (λ z. content.Holds (truth z)) (same_holds c (at table t) (at table u) ot ou)))),
+            (put_lies choices code table base m s going w l p x (truth_term (compares_same c
+            (is_equal (at table t) (at table u)))) (content.Holds (truth r)) (s.known.pc + 1)
+            (truth_content table (compares_same c (is_equal (at table t) (at table u)))
+            ∙ ap (λ z. content.Holds (truth z)) (same_holds c (at table t) (at table u) ot ou)))),
       )
 
   abbrev Comparing : Atom → Atom → Question
   Comparing a b = asks_same (object_of s.known (term_of s.known a)) (object_of s.known (term_of s.known b))
 
-  agrees : (a : Atom) → is_there s.statics a ≡ true → IsKnown s.known (term_of s.known a) → Agrees (term_value table (term_of s.known a)) (known_value s.known (term_of s.known a))
-  agrees a h k = known_agrees table s.known (marks choices code table base m s going w l p) (term_of s.known a) (below_is choices code table base m s going w l p a h) k
+  agrees : (a : Atom) → is_there s.statics a ≡ true → IsKnown s.known (term_of s.known a)
+      → Agrees (term_value table (term_of s.known a)) (known_value s.known (term_of s.known a))
+  agrees a h k = known_agrees table s.known (marks choices code table base m s going w l p) (term_of s.known a)
+      (below_is choices code table base m s going w l p a h) k
 
-  compare_known : (x : Var) (c : Cmp) (a b : Atom) → IsLine choices code table base m s going w l p (Compare x c a b) → is_there s.statics a ≡ true → is_there s.statics b ≡ true → IsKnown s.known (term_of s.known a) → IsKnown s.known (term_of s.known b)
-      → Objected s.known (term_of s.known a) → Objected s.known (term_of s.known b) → Result choices code table base m s going w l p (Compare x c a b) (Comparing a b)
+  compare_known : (x : Var) (c : Cmp) (a b : Atom)
+      → IsLine choices code table base m s going w l p (Compare x c a b) → is_there s.statics a ≡ true
+      → is_there s.statics b ≡ true → IsKnown s.known (term_of s.known a) → IsKnown s.known (term_of s.known b)
+      → Objected s.known (term_of s.known a) → Objected s.known (term_of s.known b)
+      → Result choices code table base m s going w l p (Compare x c a b) (Comparing a b)
   compare_known x c a b is h g ka kb (an_object t ea mt ot) (an_object u eb mu ou) =
-      subst (Result choices code table base m s going w l p (Compare x c a b)) (sym (ap (λ z. asks_same z (object_of s.known (term_of s.known b))) ot ∙ ap (asks_same (Some t)) ou)) (compare_tokens x c a b t u is h g ea eb mt mu)
+      subst (Result choices code table base m s going w l p (Compare x c a b))
+      (sym (ap (λ z. asks_same z (object_of s.known (term_of s.known b))) ot ∙ ap (asks_same (Some t)) ou))
+      (compare_tokens x c a b t u is h g ea eb mt mu)
   compare_known x c a b is h g ka kb (no_object oa na) rb =
-      subst (Result choices code table base m s going w l p (Compare x c a b)) (sym (ap (λ z. asks_same z (object_of s.known (term_of s.known b))) oa)) (compare_goes x c a b Quiet is h g (known_set s.known (term_of s.known a) ka) (known_set s.known (term_of s.known b) kb)
+      subst (Result choices code table base m s going w l p (Compare x c a b))
+      (sym (ap (λ z. asks_same z (object_of s.known (term_of s.known b))) oa))
+      (compare_goes x c a b Quiet is h g (known_set s.known (term_of s.known a) ka)
+      (known_set s.known (term_of s.known b) kb)
       (holds_agrees c _ _ _ _ (agrees a h ka) (agrees b g kb) (λ e f. let bad : true ≡ false = sym e ∙ na ka in cc)))
   compare_known x c a b is h g ka kb (an_object t ea mt ot) (no_object ob nb) =
-      subst (Result choices code table base m s going w l p (Compare x c a b)) (sym (ap (λ z. asks_same z (object_of s.known (term_of s.known b))) ot ∙ ap (asks_same (Some t)) ob)) (compare_goes x c a b Quiet is h g (known_set s.known (term_of s.known a) ka) (known_set s.known (term_of s.known b) kb)
+      subst (Result choices code table base m s going w l p (Compare x c a b))
+      (sym (ap (λ z. asks_same z (object_of s.known (term_of s.known b))) ot ∙ ap (asks_same (Some t)) ob))
+      (compare_goes x c a b Quiet is h g (known_set s.known (term_of s.known a) ka)
+      (known_set s.known (term_of s.known b) kb)
       (holds_agrees c _ _ _ _ (agrees a h ka) (agrees b g kb) (λ e f. let bad : true ≡ false = sym f ∙ nb kb in cc)))
 
-  compare_pointers : (x : Var) (c : Cmp) (a b : Atom) → IsLine choices code table base m s going w l p (Compare x c a b) → is_there s.statics a ≡ true → is_there s.statics b ≡ true
-      → Result choices code table base m s going w l p (Compare x c a b) (asks_known s.known (term_of s.known a) (asks_known s.known (term_of s.known b) (Comparing a b)))
-  compare_pointers x c a b is h g = elim (knowing_is s.known (term_of s.known a) (asks_known s.known (term_of s.known b) (Comparing a b))) [
-    | unset e q ↦ subst (Result choices code table base m s going w l p (Compare x c a b)) (sym q) (stops_result choices code table base m s going w l p (Compare x c a b) Quiet is (unset_led choices code table base m s going w l p a _ h e))
-    | asks t e o q ↦ subst (Result choices code table base m s going w l p (Compare x c a b)) (sym q) (null_result choices code table base m s going w l p (Compare x c a b) t (open_below s.known.marks t o) o)
-    | passes ka q ↦ subst (Result choices code table base m s going w l p (Compare x c a b)) (sym q) (elim (knowing_is s.known (term_of s.known b) (Comparing a b)) [
-      | unset e r ↦ subst (Result choices code table base m s going w l p (Compare x c a b)) (sym r) (stops_result choices code table base m s going w l p (Compare x c a b) Quiet is (set_led choices code table base m s going w l p a _ h (known_set s.known (term_of s.known a) ka) ∙ unset_led choices code table base m s going w l p b _ g e))
-      | asks t e o r ↦ subst (Result choices code table base m s going w l p (Compare x c a b)) (sym r) (null_result choices code table base m s going w l p (Compare x c a b) t (open_below s.known.marks t o) o)
-      | passes kb r ↦ subst (Result choices code table base m s going w l p (Compare x c a b)) (sym r) (compare_known x c a b is h g ka kb (objected s.known (term_of s.known a)) (objected s.known (term_of s.known b)))
-    ])
-  ]
+  compare_pointers : (x : Var) (c : Cmp) (a b : Atom)
+      → IsLine choices code table base m s going w l p (Compare x c a b) → is_there s.statics a ≡ true
+      → is_there s.statics b ≡ true
+      → Result choices code table base m s going w l p (Compare x c a b) (asks_known s.known (term_of s.known a)
+      (asks_known s.known (term_of s.known b) (Comparing a b)))
+  compare_pointers x c a b is h g = elim (knowing_is s.known (term_of s.known a)
+      (asks_known s.known (term_of s.known b) (Comparing a b))) [
+        | unset e q ↦ subst (Result choices code table base m s going w l p (Compare x c a b)) (sym q)
+            (stops_result choices code table base m s going w l p (Compare x c a b) Quiet is
+            (unset_led choices code table base m s going w l p a _ h e))
+        | asks t e o q ↦ subst (Result choices code table base m s going w l p (Compare x c a b)) (sym q)
+            (null_result choices code table base m s going w l p (Compare x c a b) t (open_below s.known.marks t o) o)
+        | passes ka q ↦ subst (Result choices code table base m s going w l p (Compare x c a b)) (sym q)
+            (elim (knowing_is s.known (term_of s.known b) (Comparing a b)) [
+              | unset e r ↦ subst (Result choices code table base m s going w l p (Compare x c a b)) (sym r)
+                  (stops_result choices code table base m s going w l p (Compare x c a b) Quiet is
+                  (set_led choices code table base m s going w l p a _ h (known_set s.known (term_of s.known a) ka)
+                  ∙ unset_led choices code table base m s going w l p b _ g e))
+              | asks t e o r ↦ subst (Result choices code table base m s going w l p (Compare x c a b)) (sym r)
+                  (null_result choices code table base m s going w l p (Compare x c a b) t (open_below s.known.marks t o) o)
+              | passes kb r ↦ subst (Result choices code table base m s going w l p (Compare x c a b)) (sym r)
+                  (compare_known x c a b is h g ka kb (objected s.known (term_of s.known a))
+                  (objected s.known (term_of s.known b)))
+            ])
+      ]
 
-  compare_by : (x : Var) (c : Cmp) (a b : Atom) → IsLine choices code table base m s going w l p (Compare x c a b) → is_there s.statics a ≡ true → is_there s.statics b ≡ true → Numbered (term_of s.known a) → Numbered (term_of s.known b)
-      → Result choices code table base m s going w l p (Compare x c a b) (asks_compare s.known (term_of s.known a) (term_of s.known b))
-  compare_by x c a b is h g (no_number ea) rb = subst (Result choices code table base m s going w l p (Compare x c a b)) (sym (ordering_left (number_in (term_of s.known a)) (number_in (term_of s.known b)) _ ea)) (compare_pointers x c a b is h g)
-  compare_by x c a b is h g (a_number i ea) (no_number eb) = subst (Result choices code table base m s going w l p (Compare x c a b)) (sym (ordering_right (number_in (term_of s.known a)) (number_in (term_of s.known b)) _ eb)) (compare_pointers x c a b is h g)
+  compare_by : (x : Var) (c : Cmp) (a b : Atom) → IsLine choices code table base m s going w l p (Compare x c a b)
+      → is_there s.statics a ≡ true → is_there s.statics b ≡ true → Numbered (term_of s.known a)
+      → Numbered (term_of s.known b)
+      → Result choices code table base m s going w l p (Compare x c a b) (asks_compare s.known (term_of s.known a)
+      (term_of s.known b))
+  compare_by x c a b is h g (no_number ea) rb = subst (Result choices code table base m s going w l p
+      (Compare x c a b)) (sym (ordering_left (number_in (term_of s.known a)) (number_in (term_of s.known b)) _ ea))
+      (compare_pointers x c a b is h g)
+  compare_by x c a b is h g (a_number i ea) (no_number eb) = subst (Result choices code table base m s going w l p
+      (Compare x c a b)) (sym (ordering_right (number_in (term_of s.known a)) (number_in (term_of s.known b)) _ eb))
+      (compare_pointers x c a b is h g)
   compare_by x c a b is h g (a_number i ea) (a_number j eb) =
-      subst (Result choices code table base m s going w l p (Compare x c a b)) (sym (ap (λ z. asks_order (number_in z) (number_in (term_of s.known b)) (Pointers a b)) ea ∙ ap (λ z. asks_order (Some i) (number_in z) (Pointers a b)) eb))
-      (compare_goes x c a b (Order (int_cmp i j)) is h g (λ z. let bad : Number i ≡ Unset = sym ea ∙ z in cc) (λ z. let bad : Number j ≡ Unset = sym eb ∙ z in cc)
-      (ap (λ z. holds c (term_value table z) (term_value table (term_of s.known b))) ea ∙ ap (λ z. holds c (value.Int i) (term_value table z)) eb
-      ∙ sym (ap (λ z. holds c (known_value s.known z) (known_value s.known (term_of s.known b))) ea ∙ ap (λ z. holds c (value.Int i) (known_value s.known z)) eb)))
+      subst (Result choices code table base m s going w l p (Compare x c a b))
+      (sym (ap (λ z. asks_order (number_in z) (number_in (term_of s.known b)) (Pointers a b)) ea
+      ∙ ap (λ z. asks_order (Some i) (number_in z) (Pointers a b)) eb))
+      (compare_goes x c a b (Order (int_cmp i j)) is h g (λ z. let bad : Number i ≡ Unset = sym ea ∙ z in cc)
+      (λ z. let bad : Number j ≡ Unset = sym eb ∙ z in cc)
+      (ap (λ z. holds c (term_value table z) (term_value table (term_of s.known b))) ea
+      ∙ ap (λ z. holds c (value.Int i) (term_value table z)) eb
+      ∙ sym (ap (λ z. holds c (known_value s.known z) (known_value s.known (term_of s.known b))) ea
+      ∙ ap (λ z. holds c (value.Int i) (known_value s.known z)) eb)))
     where
       Pointers : Atom → Atom → Question
       Pointers a b = asks_known s.known (term_of s.known a) (asks_known s.known (term_of s.known b) (Comparing a b))
 
-  pub compare_result : (x : Var) (c : Cmp) (a b : Atom) → IsLine choices code table base m s going w l p (Compare x c a b) → is_there s.statics a ≡ true → is_there s.statics b ≡ true → Result choices code table base m s going w l p (Compare x c a b) (asks_compare s.known (term_of s.known a) (term_of s.known b))
-  compare_result x c a b is h g = compare_by x c a b is h g (numbered (term_of s.known a)) (numbered (term_of s.known b))
+  pub compare_result : (x : Var) (c : Cmp) (a b : Atom)
+      → IsLine choices code table base m s going w l p (Compare x c a b) → is_there s.statics a ≡ true
+      → is_there s.statics b ≡ true → Result choices code table base m s going w l p (Compare x c a b)
+      (asks_compare s.known (term_of s.known a) (term_of s.known b))
+  compare_result x c a b is h g = compare_by x c a b is h g (numbered (term_of s.known a))
+      (numbered (term_of s.known b))

@@ -1,5 +1,6 @@
 -- What a question says of the state that asks it.
-use Rattle.std.proofs.Common.{◌≡◌, ℕ, ◌+◌, ℤ, pos, List, [], ◌∷◌, drop, get_or, Bool, true, false, refl, sym, ap, ◌∙◌, subst, Option, None, Some, cond}
+use Rattle.std.proofs.Common.{◌≡◌, ℕ, ◌+◌, ℤ, pos, List, [], ◌∷◌, drop, get_or, Bool, true, false, refl, sym, ap, ◌∙◌}
+use Rattle.std.proofs.Common.{subst, Option, None, Some, cond}
 use Rattle.pungi_code.specs.declared.atom.Atom.{Atom}
 use Rattle.pungi_code.specs.declared.atom.Var.{Var}
 use Rattle.pungi_code.specs.declared.code.Line.{Line}
@@ -8,9 +9,12 @@ use Rattle.pungi_symbol.specs.declared.answers.decision.Decision.{Decision}
 use Rattle.pungi_symbol.specs.declared.answers.decision.Decision.TheVariants.{Quiet}
 use Rattle.pungi_symbol.specs.declared.states.known.Known.{Known}
 use Rattle.pungi_symbol.specs.declared.states.mark.Mark.{Mark}
-use Rattle.pungi_symbol.specs.declared.states.mark.Mark.TheVariants.{Pointer, TextPointer, IsNull, IsObject, IsText, IsNumber}
+use Rattle.pungi_symbol.specs.declared.states.mark.Mark.TheVariants.{Pointer, TextPointer, IsNull, IsObject, IsText}
+use Rattle.pungi_symbol.specs.declared.states.mark.Mark.TheVariants.{IsNumber}
 use Rattle.pungi_symbol.specs.declared.questions.question.Question.{Question}
-use Rattle.pungi_symbol.specs.declared.questions.question.Question.TheVariants.{Does, Touches, Overwrites, Null as AsksNull, Base, Answers, Same, Returns, Stops, Over}
+use Rattle.pungi_symbol.specs.declared.questions.question.Question.TheVariants.{Does, Touches, Overwrites}
+use Rattle.pungi_symbol.specs.declared.questions.question.Question.TheVariants.{Null as AsksNull, Base, Answers, Same}
+use Rattle.pungi_symbol.specs.declared.questions.question.Question.TheVariants.{Returns, Stops, Over}
 use Rattle.pungi_symbol.specs.declared.states.state.State.{State}
 use Rattle.pungi_symbol.specs.declared.states.term.Term.{Term}
 use Rattle.pungi_symbol.specs.declared.states.term.Term.TheVariants.{Unset, Null, Text, Number, Token}
@@ -33,19 +37,27 @@ use Rattle.pungi_api.specs.declared.special.Special.TheVariants as special
 use Rattle.pungi_api.specs.declared.take.Take.{Take}
 use Rattle.pungi_api.specs.declared.take.Take.TheVariants as take
 use Rattle.pungi_meaning.specs.Values.{fits, arithmetic}
-use Rattle.pungi_code.specs.declared.instr.Instr.TheVariants.{Set, Arith, Fit, Compare, Load, Store, Api, Call, Unset as Forget, Jump, Branch, Return, Fall}
+use Rattle.pungi_code.specs.declared.instr.Instr.TheVariants.{Set, Arith, Fit, Compare, Load, Store, Api, Call}
+use Rattle.pungi_code.specs.declared.instr.Instr.TheVariants.{Unset as Forget, Jump, Branch, Return, Fall}
 use Rattle.pungi_code.specs.declared.place.Place.{Place}
 use Rattle.pungi_code.specs.declared.place.Place.TheVariants as places
 use Rattle.pungi_code.specs.WellFormed.{place_kind}
 use Rattle.pungi_symbol.specs.declared.questions.found_slot.Finding.TheVariants.{Waits, At, Nowhere}
 use Rattle.pungi_symbol.specs.declared.states.spot.Progress.{Progress}
 use Rattle.pungi_symbol.specs.declared.states.spot.Progress.TheVariants.{Looking, Found}
-use Rattle.pungi_symbol.specs.states.Known.{count, mark_of, term_of, number, number_in, object_of, find, find_field, find_token, seek, ask_base, at_place, is_field, is_global, base_of, no_slot, slot_note, spot_of, token_in}
-use Rattle.pungi_symbol.specs.questions.NextQuestion.{asks_set, asks_known, asks_thing, asks_order, asks_same, asks_range, content_mark, asks_load, asks_store, asks_dropped, asks_all_set, asks_param, asks_params, asks_take, asks_takes, asks_answer, asks_special, asks_form, first_term, terms_of, asks_return, asks_instr, asks_line}
+use Rattle.pungi_symbol.specs.states.Known.{count, mark_of, term_of, number, number_in, object_of, find, find_field}
+use Rattle.pungi_symbol.specs.states.Known.{find_token, seek, ask_base, at_place, is_field, is_global, base_of, no_slot}
+use Rattle.pungi_symbol.specs.states.Known.{slot_note, spot_of, token_in}
+use Rattle.pungi_symbol.specs.questions.NextQuestion.{asks_set, asks_known, asks_thing, asks_order, asks_same}
+use Rattle.pungi_symbol.specs.questions.NextQuestion.{asks_range, content_mark, asks_load, asks_store, asks_dropped}
+use Rattle.pungi_symbol.specs.questions.NextQuestion.{asks_all_set, asks_param, asks_params, asks_take, asks_takes}
+use Rattle.pungi_symbol.specs.questions.NextQuestion.{asks_answer, asks_special, asks_form, first_term, terms_of}
+use Rattle.pungi_symbol.specs.questions.NextQuestion.{asks_return, asks_instr, asks_line}
 use Rattle.pungi_symbol.specs.answers.KnownAfter.{instr_of}
 use Rattle.pungi_symbol.specs.runs.ObjectForm.{atoms_of, atom_in}
 use Rattle.pungi_symbol.specs.runs.Fits.{IsObjectSpot}
-use Rattle.pungi_symbol.proofs.states.Contents.{unset, asks, passes, knowing_is, unset_n, null_n, asks_n, passes_n, needing_is, IsKnown, is_open}
+use Rattle.pungi_symbol.proofs.states.Contents.{unset, asks, passes, knowing_is, unset_n, null_n, asks_n, passes_n}
+use Rattle.pungi_symbol.proofs.states.Contents.{needing_is, IsKnown, is_open}
 use Rattle.pungi_symbol.proofs.steps.Comparisons.{Objected, an_object, no_object, objected}
 use Rattle.pungi_symbol.proofs.steps.SlotSearch.{spot_object}
 use Rattle.pungi_symbol.proofs.steps.Stores.{drop_asks, drop_known, drop_unset, dropping_is, contents_open}
@@ -102,8 +114,10 @@ module _ (i : Instr) (k : Known) where
   ordering_asked (Some m) (Some n) q h = tt
 
   comparing_by : (a b : Term) → Objected k a → Objected k b → IsAsked i k (asks_same (object_of k a) (object_of k b))
-  comparing_by a b (an_object t e m o) (an_object u f n r) = subst (IsAsked i k) (sym (ap (λ z. asks_same z (object_of k b)) o ∙ ap (asks_same (Some t)) r)) (m, n)
-  comparing_by a b (an_object t e m o) (no_object r g) = subst (IsAsked i k) (sym (ap (λ z. asks_same z (object_of k b)) o ∙ ap (asks_same (Some t)) r)) tt
+  comparing_by a b (an_object t e m o) (an_object u f n r) = subst (IsAsked i k)
+      (sym (ap (λ z. asks_same z (object_of k b)) o ∙ ap (asks_same (Some t)) r)) (m, n)
+  comparing_by a b (an_object t e m o) (no_object r g) = subst (IsAsked i k)
+      (sym (ap (λ z. asks_same z (object_of k b)) o ∙ ap (asks_same (Some t)) r)) tt
   comparing_by a b (no_object o g) r = subst (IsAsked i k) (sym (ap (λ z. asks_same z (object_of k b)) o)) tt
 
   ranged_asked : (o : Option ℤ) (b : Bool) → IsAsked i k (asks_range o b)
@@ -135,7 +149,8 @@ module _ (i : Instr) (k : Known) where
   needing_for_asked param.Size x q h = h
   needing_for_asked param.ModuleDef x q h = h
 
-  needing_all_asked : (ps : List Param) (xs : List Term) (q : Question) → IsAsked i k q → IsAsked i k (asks_params k ps xs q)
+  needing_all_asked : (ps : List Param) (xs : List Term) (q : Question) → IsAsked i k q
+      → IsAsked i k (asks_params k ps xs q)
   needing_all_asked [] xs q h = h
   needing_all_asked (p ∷ ps) [] q h = h
   needing_all_asked (p ∷ ps) (x ∷ xs) q h = needing_for_asked p x (asks_params k ps xs q) (needing_all_asked ps xs q h)
@@ -145,7 +160,8 @@ module _ (i : Instr) (k : Known) where
   knowing_for_asked take.Always x q h = knowing_asked x q (λ _. h)
   knowing_for_asked take.OnSuccess x q h = knowing_asked x q (λ _. h)
 
-  asks_takes_asked : (ts : List Take) (xs : List Term) (q : Question) → IsAsked i k q → IsAsked i k (asks_takes k ts xs q)
+  asks_takes_asked : (ts : List Take) (xs : List Term) (q : Question) → IsAsked i k q
+      → IsAsked i k (asks_takes k ts xs q)
   asks_takes_asked [] xs q h = h
   asks_takes_asked (t ∷ ts) [] q h = h
   asks_takes_asked (t ∷ ts) (x ∷ xs) q h = knowing_for_asked t x (asks_takes k ts xs q) (asks_takes_asked ts xs q h)
@@ -181,7 +197,8 @@ module _ (i : Instr) (k : Known) where
   special_asked special.BuildValue x = tt
 
   form_asked : (f : Form) (shape : Shape) (xs : List Term) → IsAsked i k (asks_form k f shape xs)
-  form_asked form.Plain shape xs = needing_all_asked shape.row.params xs _ (asks_takes_asked shape.row.takes xs (asks_answer shape.row.answer) (answering_asked shape.row.answer))
+  form_asked form.Plain shape xs = needing_all_asked shape.row.params xs _
+      (asks_takes_asked shape.row.takes xs (asks_answer shape.row.answer) (answering_asked shape.row.answer))
   form_asked (form.Special sp) shape xs = special_asked sp (first_term xs)
 
 -- ---- slots
@@ -189,12 +206,14 @@ module _ (i : Instr) (k : Known) where
 pub data Seeks (k : Known) (place : Place) : Type 0 where
   s_stop : find k place ≡ Waits (Stops Quiet) → Seeks k place
   s_null : (t : ℕ) → find k place ≡ Waits (AsksNull t) → is_open (mark_of k t) ≡ true → Seeks k place
-  s_base : (t u j : ℕ) → find k place ≡ Waits (Base t u j) → mark_of k t ≡ IsObject → mark_of k u ≡ IsObject → Seeks k place
+  s_base : (t u j : ℕ) → find k place ≡ Waits (Base t u j) → mark_of k t ≡ IsObject → mark_of k u ≡ IsObject
+      → Seeks k place
   s_at : (j : ℕ) → find k place ≡ At j → Seeks k place
   s_new : find k place ≡ Nowhere → IsObjectSpot k.marks (spot_of k place) → Seeks k place
 
 module _ (k : Known) (spots : (j : ℕ) → IsObjectSpot k.marks (slot_note k.slots j).spot) where
-  global_seeks : (n : Name) (kind : Param) (r : Option ℕ) → position (λ y. is_global n y.spot) k.slots ≡ r → Seeks k (places.Global n kind)
+  global_seeks : (n : Name) (kind : Param) (r : Option ℕ) → position (λ y. is_global n y.spot) k.slots ≡ r
+      → Seeks k (places.Global n kind)
   global_seeks n kind None e = s_new (ap at_place e) tt
   global_seeks n kind (Some j) e = s_at j (ap at_place e)
 
@@ -202,18 +221,26 @@ module _ (k : Known) (spots : (j : ℕ) → IsObjectSpot k.marks (slot_note k.sl
     abbrev F : Place
     F = places.Field base' tag field kind
 
-    looks : (t c : ℕ) (r : Option ℕ) → term_of k base' ≡ Token t → mark_of k t ≡ IsObject → find k F ≡ ask_base t c k.slots (position (λ y. is_field tag field y.spot) (drop c k.slots)) → position (λ y. is_field tag field y.spot) (drop c k.slots) ≡ r → Seeks k F
-    looks t c None e m f g = s_new (f ∙ ap (ask_base t c k.slots) g) (subst (λ y. get_or k.marks (token_in y) IsNull ≡ IsObject) (sym e) m)
+    looks : (t c : ℕ) (r : Option ℕ) → term_of k base' ≡ Token t → mark_of k t ≡ IsObject
+        → find k F ≡ ask_base t c k.slots (position (λ y. is_field tag field y.spot) (drop c k.slots))
+        → position (λ y. is_field tag field y.spot) (drop c k.slots) ≡ r → Seeks k F
+    looks t c None e m f g = s_new (f ∙ ap (ask_base t c k.slots) g) (subst
+        (λ y. get_or k.marks (token_in y) IsNull ≡ IsObject) (sym e) m)
     looks t c (Some j) e m f g =
         let there = position-Some (λ y. is_field tag field y.spot) (drop c k.slots) j no_slot g in
-        let is : is_field tag field (slot_note k.slots (c + j)).spot ≡ true = ap (λ y. is_field tag field y.spot) (sym (get_or-drop c k.slots j no_slot)) ∙ there.1 in
-        s_base t (base_of (slot_note k.slots (c + j)).spot) (c + j) (f ∙ ap (ask_base t c k.slots) g) m (spot_object k.marks tag field (slot_note k.slots (c + j)).spot is (spots (c + j)))
+        let is : is_field tag field (slot_note k.slots (c + j)).spot
+        ≡ true = ap (λ y. is_field tag field y.spot) (sym (get_or-drop c k.slots j no_slot)) ∙ there.1 in
+        s_base t (base_of (slot_note k.slots (c + j)).spot) (c + j) (f ∙ ap (ask_base t c k.slots) g) m
+        (spot_object k.marks tag field (slot_note k.slots (c + j)).spot is (spots (c + j)))
 
-    object_seeks : (t : ℕ) (q : Progress) → term_of k base' ≡ Token t → mark_of k t ≡ IsObject → k.progress ≡ q → find k F ≡ seek k.progress t tag field k.slots → Seeks k F
+    object_seeks : (t : ℕ) (q : Progress) → term_of k base' ≡ Token t → mark_of k t ≡ IsObject → k.progress ≡ q
+        → find k F ≡ seek k.progress t tag field k.slots → Seeks k F
     object_seeks t (Found j) e m pr f = s_at j (f ∙ ap (λ z. seek z t tag field k.slots) pr)
-    object_seeks t (Looking c) e m pr f = looks t c (position (λ y. is_field tag field y.spot) (drop c k.slots)) e m (f ∙ ap (λ z. seek z t tag field k.slots) pr) refl
+    object_seeks t (Looking c) e m pr f = looks t c (position (λ y. is_field tag field y.spot) (drop c k.slots)) e m
+        (f ∙ ap (λ z. seek z t tag field k.slots) pr) refl
 
-    token_seeks : (t : ℕ) (r : Mark) → term_of k base' ≡ Token t → mark_of k t ≡ r → find k F ≡ find_token k t r tag field → Seeks k F
+    token_seeks : (t : ℕ) (r : Mark) → term_of k base' ≡ Token t → mark_of k t ≡ r
+        → find k F ≡ find_token k t r tag field → Seeks k F
     token_seeks t Pointer e m f = s_null t f (ap is_open m)
     token_seeks t TextPointer e m f = s_null t f (ap is_open m)
     token_seeks t IsNull e m f = s_stop f
@@ -230,9 +257,11 @@ module _ (k : Known) (spots : (j : ℕ) → IsObjectSpot k.marks (slot_note k.sl
 
   pub seeks : (place : Place) → Seeks k place
   seeks (places.Global n kind) = global_seeks n kind (position (λ y. is_global n y.spot) k.slots) refl
-  seeks (places.Field base' tag field kind) = field_seeks base' tag field kind (term_of k base') refl (ap (λ y. find_field k y tag field) refl)
+  seeks (places.Field base' tag field kind) = field_seeks base' tag field kind (term_of k base') refl
+      (ap (λ y. find_field k y tag field) refl)
 
-  loading_asked : (x : Var) (place : Place) → IsAsked (Load x place) k (asks_load k (content_mark (place_kind place)) (find k place))
+  loading_asked : (x : Var) (place : Place)
+      → IsAsked (Load x place) k (asks_load k (content_mark (place_kind place)) (find k place))
   loading_asked x place =
       let i = Load x place in
       let r = content_mark (place_kind place) in
@@ -240,11 +269,13 @@ module _ (k : Known) (spots : (j : ℕ) → IsObjectSpot k.marks (slot_note k.sl
         | s_stop e ↦ subst (λ f. IsAsked i k (asks_load k r f)) (sym e) tt
         | s_null t e o ↦ subst (λ f. IsAsked i k (asks_load k r f)) (sym e) o
         | s_base t u j e m n ↦ subst (λ f. IsAsked i k (asks_load k r f)) (sym e) (m, n)
-        | s_at j e ↦ subst (λ f. IsAsked i k (asks_load k r f)) (sym e) (setting_asked i k (slot_note k.slots j).held (Does Quiet) tt)
+        | s_at j e ↦ subst (λ f. IsAsked i k (asks_load k r f)) (sym e) (setting_asked i k
+            (slot_note k.slots j).held (Does Quiet) tt)
         | s_new e h ↦ subst (λ f. IsAsked i k (asks_load k r f)) (sym e) (h, contents_open (place_kind place))
       ]
 
-  storing_asked : (place : Place) (a : Atom) → IsAsked (Store place a) k (asks_store k (content_mark (place_kind place)) (find k place))
+  storing_asked : (place : Place) (a : Atom)
+      → IsAsked (Store place a) k (asks_store k (content_mark (place_kind place)) (find k place))
   storing_asked place a =
       let i = Store place a in
       let r = content_mark (place_kind place) in
@@ -259,31 +290,44 @@ module _ (k : Known) (spots : (j : ℕ) → IsObjectSpot k.marks (slot_note k.sl
 -- ---- instructions
 
 module _ (s : State) (w : IsSound s) where
-  return_asked : (o : Option Atom) → list_all (is_there s.statics) (atom_in o) ≡ true → IsAsked (Return o) s.known (asks_return s.known o)
+  return_asked : (o : Option Atom) → list_all (is_there s.statics) (atom_in o) ≡ true
+      → IsAsked (Return o) s.known (asks_return s.known o)
   return_asked None h = tt
   return_asked (Some a) h =
       knowing_asked (Return (Some a)) s.known (term_of s.known a) (Returns (Some (term_of s.known a))) (λ kn. (
         kn,
-        atom_below s.known.marks s.known.vars s.known.slots w.terms s.known s.statics a refl w.notes.statics (all_there s.statics a [] h).0,
+        atom_below s.known.marks s.known.vars s.known.slots w.terms s.known s.statics a refl w.notes.statics
+            (all_there s.statics a [] h).0,
       ))
 
   pub asked : (i : Instr) → list_all (is_there s.statics) (atoms_of i) ≡ true → IsAsked i s.known (asks_instr s.known i)
   asked (Set x a) h = setting_asked (Set x a) s.known (term_of s.known a) (Does Quiet) tt
-  asked (Arith x kind o a b) h = setting_asked (Arith x kind o a b) s.known (term_of s.known a) _ (setting_asked (Arith x kind o a b) s.known (term_of s.known b) _
-      (ranged_asked (Arith x kind o a b) s.known (arithmetic o kind (number s.known (term_of s.known a)) (number s.known (term_of s.known b))) _))
-  asked (Fit x kind a) h = setting_asked (Fit x kind a) s.known (term_of s.known a) _ (fitting_by (Fit x kind a) s.known (fits kind (number s.known (term_of s.known a))) _ _)
-  asked (Compare x c a b) h = ordering_asked (Compare x c a b) s.known (number_in (term_of s.known a)) (number_in (term_of s.known b)) _
-      (knowing_asked (Compare x c a b) s.known (term_of s.known a) _ (λ _. knowing_asked (Compare x c a b) s.known (term_of s.known b) _ (λ _. comparing_by (Compare x c a b) s.known (term_of s.known a) (term_of s.known b) (objected s.known (term_of s.known a)) (objected s.known (term_of s.known b)))))
+  asked (Arith x kind o a b) h = setting_asked (Arith x kind o a b) s.known (term_of s.known a) _
+      (setting_asked (Arith x kind o a b) s.known (term_of s.known b) _
+      (ranged_asked (Arith x kind o a b) s.known (arithmetic o kind (number s.known (term_of s.known a))
+      (number s.known (term_of s.known b))) _))
+  asked (Fit x kind a) h = setting_asked (Fit x kind a) s.known (term_of s.known a) _
+      (fitting_by (Fit x kind a) s.known (fits kind (number s.known (term_of s.known a))) _ _)
+  asked (Compare x c a b) h = ordering_asked (Compare x c a b) s.known (number_in (term_of s.known a))
+      (number_in (term_of s.known b)) _
+      (knowing_asked (Compare x c a b) s.known (term_of s.known a) _ (λ _. knowing_asked (Compare x c a b) s.known
+      (term_of s.known b) _ (λ _. comparing_by (Compare x c a b) s.known (term_of s.known a) (term_of s.known b)
+      (objected s.known (term_of s.known a)) (objected s.known (term_of s.known b)))))
   asked (Load x place) h = loading_asked s.known w.terms.spots x place
-  asked (Store place a) h = knowing_asked (Store place a) s.known (term_of s.known a) _ (λ _. storing_asked s.known w.terms.spots place a)
-  asked (Api x shape as' outs) h = all_set_asked (Api x shape as' outs) s.known (terms_of s.known as') _ (form_asked (Api x shape as' outs) s.known shape.row.form shape (terms_of s.known as'))
+  asked (Store place a) h = knowing_asked (Store place a) s.known (term_of s.known a) _
+      (λ _. storing_asked s.known w.terms.spots place a)
+  asked (Api x shape as' outs) h = all_set_asked (Api x shape as' outs) s.known (terms_of s.known as') _
+      (form_asked (Api x shape as' outs) s.known shape.row.form shape (terms_of s.known as'))
   asked (Call x f as') h = tt
   asked (Forget x) h = tt
   asked (Jump to) h = tt
-  asked (Branch a this other) h = ordering_asked (Branch a this other) s.known (number_in (term_of s.known a)) (Some (pos 0)) _ (knowing_asked (Branch a this other) s.known (term_of s.known a) (Does Quiet) (λ _. tt))
+  asked (Branch a this other) h = ordering_asked (Branch a this other) s.known (number_in (term_of s.known a))
+      (Some (pos 0)) _ (knowing_asked (Branch a this other) s.known (term_of s.known a) (Does Quiet) (λ _. tt))
   asked (Return o) h = return_asked o h
   asked Fall h = tt
 
-  pub asked_line : (o : Option Line) → ((line : Line) → o ≡ Some line → list_all (is_there s.statics) (atoms_of line.instr) ≡ true) → IsAsked (instr_of o) s.known (asks_line s.known o)
+  pub asked_line : (o : Option Line) → ((line : Line) → o ≡ Some line
+      → list_all (is_there s.statics) (atoms_of line.instr) ≡ true)
+      → IsAsked (instr_of o) s.known (asks_line s.known o)
   asked_line None h = tt
   asked_line (Some line) h = asked line.instr (h line refl)

@@ -1,5 +1,6 @@
 -- What a call of a row needs, takes over and returns.
-use Rattle.std.proofs.Common.{◌≡◌, ℕ, ◌<◌, ◌≤◌, ℤ, pos, negsuc, ◌+ℤ◌, List, [], ◌∷◌, length, map, Bool, true, false, refl, sym, ap, ◌∙◌, subst, arith, ◌⊎◌, inl, inr, Option, None, Some, cond}
+use Rattle.std.proofs.Common.{◌≡◌, ℕ, ◌<◌, ◌≤◌, ℤ, pos, negsuc, ◌+ℤ◌, List, [], ◌∷◌, length, map, Bool, true, false}
+use Rattle.std.proofs.Common.{refl, sym, ap, ◌∙◌, subst, arith, ◌⊎◌, inl, inr, Option, None, Some, cond}
 use Rattle.pungi_base.specs.declared.choice.Choice.{Choice}
 use Rattle.pungi_base.specs.declared.value.Value.{Value}
 use Rattle.pungi_base.specs.declared.value.Value.TheVariants as value
@@ -10,7 +11,8 @@ use Rattle.pungi_code.specs.Registers.{content_of as atom_content}
 use Rattle.pungi_symbol.specs.declared.answers.decision.Decision.TheVariants.{Quiet, Outcome}
 use Rattle.pungi_symbol.specs.declared.states.known.Known.{Known}
 use Rattle.pungi_symbol.specs.declared.states.mark.Mark.{Mark}
-use Rattle.pungi_symbol.specs.declared.states.mark.Mark.TheVariants.{Pointer, TextPointer, IsNull, IsObject, IsText, IsNumber}
+use Rattle.pungi_symbol.specs.declared.states.mark.Mark.TheVariants.{Pointer, TextPointer, IsNull, IsObject, IsText}
+use Rattle.pungi_symbol.specs.declared.states.mark.Mark.TheVariants.{IsNumber}
 use Rattle.pungi_symbol.specs.declared.questions.question.Question.{Question}
 use Rattle.pungi_symbol.specs.declared.questions.question.Question.TheVariants.{Null as AsksNull, Answers, Stops}
 use Rattle.pungi_symbol.specs.declared.states.term.Term.{Term}
@@ -32,17 +34,21 @@ use Rattle.pungi_api.specs.declared.take.Take.TheVariants as take
 use Rattle.pungi_world.specs.declared.halt.Halt.TheVariants as halt
 use Rattle.pungi_world.specs.declared.world.World.{World}
 use Rattle.pungi_world.specs.Calls.{lacks, stops, is_success, is_taken, take_over, is_zero, is_object}
-use Rattle.pungi_world.specs.Choices.{value_of, is_null, is_text, is_number, is_between, is_object_choice, is_accepted, choose, answer_of}
+use Rattle.pungi_world.specs.Choices.{value_of, is_null, is_text, is_number, is_between, is_object_choice, is_accepted}
+use Rattle.pungi_world.specs.Choices.{choose, answer_of}
 use Rattle.pungi_world.specs.Counts.{hand_over}
 use Rattle.pungi_world.specs.Effects.{◌>>=◌}
 use Rattle.pungi_code.specs.Registers.{all_values, both_values}
 use Rattle.pungi_symbol.specs.states.Terms.{outcomes_of_answer, place_of, mark_at}
 use Rattle.pungi_symbol.specs.states.Known.{count, mark_of, term_of}
-use Rattle.pungi_symbol.specs.questions.NextQuestion.{asks_all_set, asks_thing, asks_param, asks_params, asks_known, asks_take, asks_takes, asks_answer}
+use Rattle.pungi_symbol.specs.questions.NextQuestion.{asks_all_set, asks_thing, asks_param, asks_params, asks_known}
+use Rattle.pungi_symbol.specs.questions.NextQuestion.{asks_take, asks_takes, asks_answer}
 use Rattle.pungi_symbol.specs.answers.SymbolicState.{taken_terms, is_outcome}
 use Rattle.pungi_symbol.specs.runs.ObjectForm.{is_small}
 use Rattle.pungi_symbol.specs.runs.RunInState.{owed, IsOf}
-use Rattle.pungi_symbol.proofs.states.Contents.{unset, asks, passes, knowing_is, unset_n, null_n, asks_n, passes_n, needing_is, IsKnown, IsThing, is_open, term_value, null_value, Agrees, one, objects}
+use Rattle.pungi_symbol.proofs.states.Contents.{unset, asks, passes, knowing_is, unset_n, null_n, asks_n, passes_n}
+use Rattle.pungi_symbol.proofs.states.Contents.{needing_is, IsKnown, IsThing, is_open, term_value, null_value, Agrees}
+use Rattle.pungi_symbol.proofs.states.Contents.{one, objects}
 use Rattle.pungi_symbol.proofs.states.Claims.{AreKnown, owing}
 use Rattle.pungi_symbol.proofs.steps.Worlds.{IsNear, Keeps, keeps_self, keeps_then, handed_keeps, handed_owed}
 
@@ -59,7 +65,8 @@ AllBelow n (x ∷ xs) = IsBelow n x × AllBelow n xs
 -- a term of a call that isn't set stops; else all have values
 pub data Set (table : Table) (vs : Option (List Value)) (xs : List Term) : Type 0 where
   not_set : ((q : Question) → asks_all_set xs q ≡ Stops Quiet) → vs ≡ None → Set table vs xs
-  are_set : ((q : Question) → asks_all_set xs q ≡ q) → vs ≡ Some (map (term_value table) xs) → AllSet xs → Set table vs xs
+  are_set : ((q : Question) → asks_all_set xs q ≡ q) → vs ≡ Some (map (term_value table) xs) → AllSet xs
+      → Set table vs xs
 
 both_unset : (c : Content) (o : Option (List Value)) → c ≡ content.Unset → both_values c o ≡ None
 both_unset c o e = ap (λ z. both_values z o) e
@@ -68,38 +75,49 @@ both_none : (c : Content) (o : Option (List Value)) → o ≡ None → both_valu
 both_none content.Unset o e = refl
 both_none (content.Holds v) o e = ap (both_values (content.Holds v)) e
 
-set_cons : (table : Table) (x : Term) (xs : List Term) (c : Content) (o : Option (List Value)) → c ≡ content_of table x → Set table o xs → Set table (both_values c o) (x ∷ xs)
+set_cons : (table : Table) (x : Term) (xs : List Term) (c : Content) (o : Option (List Value))
+    → c ≡ content_of table x → Set table o xs → Set table (both_values c o) (x ∷ xs)
 set_cons table Unset xs c o e r = not_set (λ q. refl) (both_unset c o e)
 set_cons table Null xs c o e (not_set f g) = not_set f (both_none c o g)
-set_cons table Null xs c o e (are_set f g h) = are_set f (ap (λ z. both_values z o) e ∙ ap (both_values (content.Holds value.Null)) g) ((λ z. cc), h)
+set_cons table Null xs c o e (are_set f g h) =
+    are_set f (ap (λ z. both_values z o) e ∙ ap (both_values (content.Holds value.Null)) g) ((λ z. cc), h)
 set_cons table Text xs c o e (not_set f g) = not_set f (both_none c o g)
-set_cons table Text xs c o e (are_set f g h) = are_set f (ap (λ z. both_values z o) e ∙ ap (both_values (content.Holds value.Text)) g) ((λ z. cc), h)
+set_cons table Text xs c o e (are_set f g h) =
+    are_set f (ap (λ z. both_values z o) e ∙ ap (both_values (content.Holds value.Text)) g) ((λ z. cc), h)
 set_cons table (Number n) xs c o e (not_set f g) = not_set f (both_none c o g)
-set_cons table (Number n) xs c o e (are_set f g h) = are_set f (ap (λ z. both_values z o) e ∙ ap (both_values (content.Holds (value.Int n))) g) ((λ z. cc), h)
+set_cons table (Number n) xs c o e (are_set f g h) =
+    are_set f (ap (λ z. both_values z o) e ∙ ap (both_values (content.Holds (value.Int n))) g) ((λ z. cc), h)
 set_cons table (Token t) xs c o e (not_set f g) = not_set f (both_none c o g)
-set_cons table (Token t) xs c o e (are_set f g h) = are_set f (ap (λ z. both_values z o) e ∙ ap (both_values (content.Holds (at table t))) g) ((λ z. cc), h)
+set_cons table (Token t) xs c o e (are_set f g h) =
+    are_set f (ap (λ z. both_values z o) e ∙ ap (both_values (content.Holds (at table t))) g) ((λ z. cc), h)
 
-pub all_there : (n : ℕ) (a : Atom) (as' : List Atom) → list_all (is_there n) (a ∷ as') ≡ true → (is_there n a ≡ true) × (list_all (is_there n) as' ≡ true)
+pub all_there : (n : ℕ) (a : Atom) (as' : List Atom) → list_all (is_there n) (a ∷ as') ≡ true
+    → (is_there n a ≡ true) × (list_all (is_there n) as' ≡ true)
 all_there n a as' e = by (is_there n a) (list_all (is_there n) as') e
   where
     by : (b c : Bool) → (b && c) ≡ true → (b ≡ true) × (c ≡ true)
     by true c z = (refl, z)
     by false c z = absurd (let bad : false ≡ true = z in cc)
 
-pub set_is : (table : Table) (k : Known) (n : ℕ) (vars : List Content) → ((a : Atom) → is_there n a ≡ true → atom_content a vars ≡ content_of table (term_of k a))
+pub set_is : (table : Table) (k : Known) (n : ℕ) (vars : List Content)
+    → ((a : Atom) → is_there n a ≡ true → atom_content a vars ≡ content_of table (term_of k a))
     → (as' : List Atom) → list_all (is_there n) as' ≡ true → Set table (all_values as' vars) (map (term_of k) as')
 set_is table k n vars f [] h = are_set (λ q. refl) refl tt
 set_is table k n vars f (a ∷ as') h =
     let two = all_there n a as' h in
-    set_cons table (term_of k a) (map (term_of k) as') (atom_content a vars) (all_values as' vars) (f a two.0) (set_is table k n vars f as' two.1)
+    set_cons table (term_of k a) (map (term_of k) as') (atom_content a vars) (all_values as' vars) (f a two.0)
+    (set_is table k n vars f as' two.1)
 
-pub all_below : (k : Known) (n : ℕ) → ((a : Atom) → is_there n a ≡ true → IsBelow (count k) (term_of k a)) → (as' : List Atom) → list_all (is_there n) as' ≡ true → AllBelow (count k) (map (term_of k) as')
+pub all_below : (k : Known) (n : ℕ) → ((a : Atom) → is_there n a ≡ true → IsBelow (count k) (term_of k a))
+    → (as' : List Atom) → list_all (is_there n) as' ≡ true → AllBelow (count k) (map (term_of k) as')
 all_below k n f [] h = tt
 all_below k n f (a ∷ as') h = let two = all_there n a as' h in (f a two.0, all_below k n f as' two.1)
 
 -- ---- what a row needs
 
-pub not_null : (k : Known) (table : Table) (x : Term) → ((t : ℕ) → t < count k → is_mark (mark_of k t) (at table t) ≡ true) → IsBelow (count k) x → IsKnown k x → IsThing k x → term_value table x ≡ value.Null → ⊥
+pub not_null : (k : Known) (table : Table) (x : Term)
+    → ((t : ℕ) → t < count k → is_mark (mark_of k t) (at table t) ≡ true) → IsBelow (count k) x → IsKnown k x
+    → IsThing k x → term_value table x ≡ value.Null → ⊥
 not_null k table Unset marks b kn th e = th
 not_null k table Null marks b kn th e = th
 not_null k table Text marks b kn th e = cc
@@ -107,7 +125,8 @@ not_null k table (Number n) marks b kn th e = cc
 not_null k table (Token t) marks b kn th e = by (mark_of k t) refl
   where
     by : (r : Mark) → mark_of k t ≡ r → ⊥
-    by r f = off r (subst (λ z. is_mark z value.Null ≡ true) f (subst (λ v. is_mark (mark_of k t) v ≡ true) e (marks t b))) (subst (λ z. is_open z ≡ false) f kn) (λ z. th (f ∙ z))
+    by r f = off r (subst (λ z. is_mark z value.Null ≡ true) f (subst (λ v. is_mark (mark_of k t) v ≡ true) e
+        (marks t b))) (subst (λ z. is_open z ≡ false) f kn) (λ z. th (f ∙ z))
       where
         off : (r : Mark) → is_mark r value.Null ≡ true → is_open r ≡ false → (r ≡ IsNull → ⊥) → ⊥
         off Pointer h o n = absurd (let bad : true ≡ false = o in cc)
@@ -139,17 +158,22 @@ module _ (k : Known) (table : Table) (marks : (t : ℕ) → t < count k → is_m
   Stop p ps x xs = lacks p (term_value table x) || stops ps (map (term_value table) xs)
 
   -- a parameter that needs a pointer that isn't NULL
-  need_one : (p : Param) (ps : List Param) (x : Term) (xs : List Term) (q : Question) → ((r : Question) → asks_param k p x r ≡ asks_thing k x r) → (lacks p value.Null ≡ true) → ((v : Value) → (v ≡ value.Null → ⊥) → lacks p v ≡ false)
+  need_one : (p : Param) (ps : List Param) (x : Term) (xs : List Term) (q : Question)
+      → ((r : Question) → asks_param k p x r ≡ asks_thing k x r) → (lacks p value.Null ≡ true)
+      → ((v : Value) → (v ≡ value.Null → ⊥) → lacks p v ≡ false)
       → (x ≡ Unset → ⊥) → IsBelow (count k) x → Needs k table ps xs q → Needs k table (p ∷ ps) (x ∷ xs) q
   need_one p ps x xs q f g h set b rest =
       let inner = asks_params k ps xs q in
       elim (needing_is k x inner) [
         | unset_n u e ↦ absurd (set u)
-        | null_n u kn e ↦ need_stops (f inner ∙ e) (ap (λ v. lacks p v || stops ps (map (term_value table) xs)) (null_value table k marks x b kn u) ∙ ap (λ z. z || stops ps (map (term_value table) xs)) g)
+        | null_n u kn e ↦ need_stops (f inner ∙ e) (ap (λ v. lacks p v || stops ps (map (term_value table) xs))
+            (null_value table k marks x b kn u) ∙ ap (λ z. z || stops ps (map (term_value table) xs)) g)
         | asks_n t u o e ↦ need_asks t (f inner ∙ e) o
         | passes_n kn th e ↦
-            let no_lack : lacks p (term_value table x) ≡ false = h (term_value table x) (not_null k table x marks b kn th) in
-            let same : Stop p ps x xs ≡ stops ps (map (term_value table) xs) = ap (λ z. z || stops ps (map (term_value table) xs)) no_lack in
+            let no_lack : lacks p (term_value table x) ≡ false = h (term_value table x)
+            (not_null k table x marks b kn th) in
+            let same : Stop p ps x xs ≡ stops ps (map (term_value table) xs) = ap (λ z. z
+            || stops ps (map (term_value table) xs)) no_lack in
             elim rest [
               | need_stops e' s' ↦ need_stops (f inner ∙ e ∙ e') (same ∙ s')
               | need_asks t e' o ↦ need_asks t (f inner ∙ e ∙ e') o
@@ -157,29 +181,41 @@ module _ (k : Known) (table : Table) (marks : (t : ℕ) → t < count k → is_m
             ]
       ]
 
-  need_none : (p : Param) (ps : List Param) (x : Term) (xs : List Term) (q : Question) → ((r : Question) → asks_param k p x r ≡ r) → ((v : Value) → lacks p v ≡ false) → Needs k table ps xs q → Needs k table (p ∷ ps) (x ∷ xs) q
+  need_none : (p : Param) (ps : List Param) (x : Term) (xs : List Term) (q : Question)
+      → ((r : Question) → asks_param k p x r ≡ r) → ((v : Value) → lacks p v ≡ false) → Needs k table ps xs q
+      → Needs k table (p ∷ ps) (x ∷ xs) q
   need_none p ps x xs q f g rest =
-      let same : Stop p ps x xs ≡ stops ps (map (term_value table) xs) = ap (λ z. z || stops ps (map (term_value table) xs)) (g (term_value table x)) in
+      let same : Stop p ps x xs ≡ stops ps (map (term_value table) xs) = ap (λ z. z
+      || stops ps (map (term_value table) xs)) (g (term_value table x)) in
       elim rest [
         | need_stops e' s' ↦ need_stops (f (asks_params k ps xs q) ∙ e') (same ∙ s')
         | need_asks t e' o ↦ need_asks t (f (asks_params k ps xs q) ∙ e') o
         | need_passes e' s' ↦ need_passes (f (asks_params k ps xs q) ∙ e') (same ∙ s')
       ]
 
-  pub needs_is : (ps : List Param) (xs : List Term) (q : Question) → AllSet xs → AllBelow (count k) xs → Needs k table ps xs q
+  pub needs_is : (ps : List Param) (xs : List Term) (q : Question) → AllSet xs → AllBelow (count k) xs
+      → Needs k table ps xs q
   needs_is [] xs q s b = need_passes refl refl
   needs_is (p ∷ ps) [] q s b = need_passes refl (by p)
     where
       by : (p : Param) → stops (p ∷ ps) [] ≡ false
       by p = refl
-  needs_is (param.Object ∷ ps) (x ∷ xs) q s b = need_one param.Object ps x xs q (λ r. refl) refl object_lacks s.0 b.0 (needs_is ps xs q s.1 b.1)
-  needs_is (param.Text ∷ ps) (x ∷ xs) q s b = need_one param.Text ps x xs q (λ r. refl) refl text_lacks s.0 b.0 (needs_is ps xs q s.1 b.1)
-  needs_is (param.ObjectOrNull ∷ ps) (x ∷ xs) q s b = need_none param.ObjectOrNull ps x xs q (λ r. refl) (λ v. refl) (needs_is ps xs q s.1 b.1)
-  needs_is (param.TextOrNull ∷ ps) (x ∷ xs) q s b = need_none param.TextOrNull ps x xs q (λ r. refl) (λ v. refl) (needs_is ps xs q s.1 b.1)
-  needs_is (param.Int ∷ ps) (x ∷ xs) q s b = need_none param.Int ps x xs q (λ r. refl) (λ v. refl) (needs_is ps xs q s.1 b.1)
-  needs_is (param.Long ∷ ps) (x ∷ xs) q s b = need_none param.Long ps x xs q (λ r. refl) (λ v. refl) (needs_is ps xs q s.1 b.1)
-  needs_is (param.Size ∷ ps) (x ∷ xs) q s b = need_none param.Size ps x xs q (λ r. refl) (λ v. refl) (needs_is ps xs q s.1 b.1)
-  needs_is (param.ModuleDef ∷ ps) (x ∷ xs) q s b = need_none param.ModuleDef ps x xs q (λ r. refl) (λ v. refl) (needs_is ps xs q s.1 b.1)
+  needs_is (param.Object ∷ ps) (x ∷ xs) q s b = need_one param.Object ps x xs q (λ r. refl) refl object_lacks s.0
+      b.0 (needs_is ps xs q s.1 b.1)
+  needs_is (param.Text ∷ ps) (x ∷ xs) q s b = need_one param.Text ps x xs q (λ r. refl) refl text_lacks s.0 b.0
+      (needs_is ps xs q s.1 b.1)
+  needs_is (param.ObjectOrNull ∷ ps) (x ∷ xs) q s b = need_none param.ObjectOrNull ps x xs q (λ r. refl) (λ v. refl)
+      (needs_is ps xs q s.1 b.1)
+  needs_is (param.TextOrNull ∷ ps) (x ∷ xs) q s b = need_none param.TextOrNull ps x xs q (λ r. refl) (λ v. refl)
+      (needs_is ps xs q s.1 b.1)
+  needs_is (param.Int ∷ ps) (x ∷ xs) q s b = need_none param.Int ps x xs q (λ r. refl) (λ v. refl)
+      (needs_is ps xs q s.1 b.1)
+  needs_is (param.Long ∷ ps) (x ∷ xs) q s b = need_none param.Long ps x xs q (λ r. refl) (λ v. refl)
+      (needs_is ps xs q s.1 b.1)
+  needs_is (param.Size ∷ ps) (x ∷ xs) q s b = need_none param.Size ps x xs q (λ r. refl) (λ v. refl)
+      (needs_is ps xs q s.1 b.1)
+  needs_is (param.ModuleDef ∷ ps) (x ∷ xs) q s b = need_none param.ModuleDef ps x xs q (λ r. refl) (λ v. refl)
+      (needs_is ps xs q s.1 b.1)
 
 -- ---- what a row takes over
 
@@ -192,7 +228,9 @@ pub data Takes (k : Known) (ts : List Take) (xs : List Term) (q : Question) : Ty
   take_asks : (t : ℕ) → asks_takes k ts xs q ≡ AsksNull t → is_open (mark_of k t) ≡ true → Takes k ts xs q
   take_passes : asks_takes k ts xs q ≡ q → KnownTaken k ts xs → Takes k ts xs q
 
-take_one : (k : Known) (t : Take) (ts : List Take) (x : Term) (xs : List Term) (q : Question) → ((r : Question) → asks_take k t x r ≡ asks_known k x r) → (x ≡ Unset → ⊥) → Takes k ts xs q → Takes k (t ∷ ts) (x ∷ xs) q
+take_one : (k : Known) (t : Take) (ts : List Take) (x : Term) (xs : List Term) (q : Question)
+    → ((r : Question) → asks_take k t x r ≡ asks_known k x r) → (x ≡ Unset → ⊥) → Takes k ts xs q
+    → Takes k (t ∷ ts) (x ∷ xs) q
 take_one k t ts x xs q f set rest = elim (knowing_is k x (asks_takes k ts xs q)) [
   | unset u e ↦ absurd (set u)
   | asks y u o e ↦ take_asks y (f (asks_takes k ts xs q) ∙ e) o
@@ -210,22 +248,27 @@ takes_is k (take.Never ∷ ts) (x ∷ xs) q s = elim (takes_is k ts xs q s.1) [
   | take_passes e' kt ↦ take_passes e' ((λ n. absurd (n refl)), kt)
 ]
 takes_is k (take.Always ∷ ts) (x ∷ xs) q s = take_one k take.Always ts x xs q (λ r. refl) s.0 (takes_is k ts xs q s.1)
-takes_is k (take.OnSuccess ∷ ts) (x ∷ xs) q s = take_one k take.OnSuccess ts x xs q (λ r. refl) s.0 (takes_is k ts xs q s.1)
+takes_is k (take.OnSuccess ∷ ts) (x ∷ xs) q s =
+    take_one k take.OnSuccess ts x xs q (λ r. refl) s.0 (takes_is k ts xs q s.1)
 
 taken_kind : (success : Bool) (t : Take) → is_taken success t ≡ true → t ≡ take.Never → ⊥
 taken_kind success take.Never e f = absurd (let bad : false ≡ true = e in cc)
 taken_kind success take.Always e f = cc
 taken_kind success take.OnSuccess e f = cc
 
-taken_by : (k : Known) (success : Bool) (t : Take) (ts : List Take) (x : Term) (xs : List Term) (b : Bool) → is_taken success t ≡ b → ((t ≡ take.Never → ⊥) → IsKnown k x) → IsBelow (count k) x → AreKnown k (taken_terms success ts xs)
+taken_by : (k : Known) (success : Bool) (t : Take) (ts : List Take) (x : Term) (xs : List Term) (b : Bool)
+    → is_taken success t ≡ b → ((t ≡ take.Never → ⊥) → IsKnown k x) → IsBelow (count k) x
+    → AreKnown k (taken_terms success ts xs)
     → AreKnown k (cond b (x ∷ taken_terms success ts xs) (taken_terms success ts xs))
 taken_by k success t ts x xs true e kn b rest = (kn (taken_kind success t e), b, rest)
 taken_by k success t ts x xs false e kn b rest = rest
 
-pub taken_known : (k : Known) (success : Bool) (ts : List Take) (xs : List Term) → KnownTaken k ts xs → AllBelow (count k) xs → AreKnown k (taken_terms success ts xs)
+pub taken_known : (k : Known) (success : Bool) (ts : List Take) (xs : List Term) → KnownTaken k ts xs
+    → AllBelow (count k) xs → AreKnown k (taken_terms success ts xs)
 taken_known k success [] xs kt b = tt
 taken_known k success (t ∷ ts) [] kt b = tt
-taken_known k success (t ∷ ts) (x ∷ xs) kt b = taken_by k success t ts x xs (is_taken success t) refl kt.0 b.0 (taken_known k success ts xs kt.1 b.1)
+taken_known k success (t ∷ ts) (x ∷ xs) kt b =
+    taken_by k success t ts x xs (is_taken success t) refl kt.0 b.0 (taken_known k success ts xs kt.1 b.1)
 
 -- each value of an argument is there
 abbrev pub AreOf : ℕ → Table → List Term → Type 0
@@ -236,11 +279,18 @@ are_same : (n m : ℕ) (table : Table) (xs : List Term) → m ≡ n → AreOf n 
 are_same n m table xs e h = subst (λ z. AreOf z table xs) (sym e) h
 
 abbrev pub TakenOver : Table → Bool → List Take → List Term → World → Type 0
-TakenOver table success ts xs w = Keeps w (take_over w success ts (map (term_value table) xs)) × ((o : ℕ) → owed (take_over w success ts (map (term_value table) xs)) o ≡ owed w o +ℤ owing o table (taken_terms success ts xs))
+TakenOver table success ts xs w =
+    Keeps w (take_over w success ts (map (term_value table) xs))
+    × ((o : ℕ) → owed (take_over w success ts (map (term_value table) xs)) o
+    ≡ owed w o +ℤ owing o table (taken_terms success ts xs))
 
-over_by : (table : Table) (w : World) (success : Bool) (ts : List Take) (x : Term) (xs : List Term) (b : Bool) → IsOf (length w.accounts) (term_value table x) → ((w1 : World) → length w1.accounts ≡ length w.accounts → TakenOver table success ts xs w1)
+over_by : (table : Table) (w : World) (success : Bool) (ts : List Take) (x : Term) (xs : List Term) (b : Bool)
+    → IsOf (length w.accounts) (term_value table x)
+    → ((w1 : World) → length w1.accounts ≡ length w.accounts → TakenOver table success ts xs w1)
     → Keeps w (take_over (cond b (hand_over w (term_value table x)) w) success ts (map (term_value table) xs))
-    × ((o : ℕ) → owed (take_over (cond b (hand_over w (term_value table x)) w) success ts (map (term_value table) xs)) o ≡ owed w o +ℤ owing o table (cond b (x ∷ taken_terms success ts xs) (taken_terms success ts xs)))
+    × ((o : ℕ) → owed (take_over (cond b (hand_over w (term_value table x)) w) success ts
+    (map (term_value table) xs)) o ≡ owed w o +ℤ owing o table (cond b (x ∷ taken_terms success ts xs)
+    (taken_terms success ts xs)))
 over_by table w success ts x xs true of rest =
     let w1 = hand_over w (term_value table x) in
     let kept = handed_keeps w (term_value table x) in
@@ -253,18 +303,21 @@ over_by table w success ts x xs true of rest =
     )
 over_by table w success ts x xs false of rest = rest w refl
 
-pub taken_over_is : (table : Table) (w : World) (success : Bool) (ts : List Take) (xs : List Term) → AreOf (length w.accounts) table xs → TakenOver table success ts xs w
+pub taken_over_is : (table : Table) (w : World) (success : Bool) (ts : List Take) (xs : List Term)
+    → AreOf (length w.accounts) table xs → TakenOver table success ts xs w
 taken_over_is table w success [] xs of = (keeps_self w, λ o. omega (arith, ints))
 taken_over_is table w success (t ∷ ts) [] of = (keeps_self w, λ o. omega (arith, ints))
 taken_over_is table w success (t ∷ ts) (x ∷ xs) of =
-    over_by table w success ts x xs (is_taken success t) of.0 (λ w1 e. taken_over_is table w1 success ts xs (are_same (length w.accounts) (length w1.accounts) table xs e of.1))
+    over_by table w success ts x xs (is_taken success t) of.0 (λ w1 e. taken_over_is table w1 success ts xs
+    (are_same (length w.accounts) (length w1.accounts) table xs e of.1))
 
 -- ---- what a call returns
 
 pub data Answering (a : Answer) : Type 0 where
   a_void : a ≡ answer.Void → Answering a
   a_null : a ≡ answer.Null → Answering a
-  a_choice : asks_answer a ≡ Answers a → ((n : ℕ) (cs : List Choice) → answer_of n a cs ≡ (choose n a cs >>= λ x. Ok (Some x, 1))) → Answering a
+  a_choice : asks_answer a ≡ Answers a → ((n : ℕ) (cs : List Choice)
+      → answer_of n a cs ≡ (choose n a cs >>= λ x. Ok (Some x, 1))) → Answering a
 
 pub answering_is : (a : Answer) → Answering a
 answering_is answer.Void = a_void refl
@@ -280,10 +333,12 @@ answering_is answer.Long = a_choice refl (λ n cs. refl)
 answering_is answer.Text = a_choice refl (λ n cs. refl)
 
 pub data Chosen (n : ℕ) (a : Answer) (cs : List Choice) : Type 0 where
-  chose : (c : Choice) (rest : List Choice) → cs ≡ c ∷ rest → is_accepted n a c ≡ true → choose n a cs ≡ Ok (value_of c) → Chosen n a cs
+  chose : (c : Choice) (rest : List Choice) → cs ≡ c ∷ rest → is_accepted n a c ≡ true
+      → choose n a cs ≡ Ok (value_of c) → Chosen n a cs
   chose_none : choose n a cs ≡ Err halt.NeedsChoice → Chosen n a cs
 
-chosen_by : (n : ℕ) (a : Answer) (c : Choice) (rest : List Choice) (b : Bool) → is_accepted n a c ≡ b → Chosen n a (c ∷ rest)
+chosen_by : (n : ℕ) (a : Answer) (c : Choice) (rest : List Choice) (b : Bool) → is_accepted n a c ≡ b
+    → Chosen n a (c ∷ rest)
 chosen_by n a c rest true e = chose c rest refl e (ap (λ b. cond b (Ok (value_of c)) (Err halt.NeedsChoice)) e)
 chosen_by n a c rest false e = chose_none (ap (λ b. cond b (Ok (value_of c)) (Err halt.NeedsChoice)) e)
 
@@ -304,9 +359,27 @@ le_says k n e = grind (arith, nat_tests)
 no_way : {X : Type 0} → false ≡ true → X
 no_way e = absurd (cc)
 
-pointer_told : (a : Answer) (n : ℕ) (c : Choice) → outcomes_of_answer a ≡ IsNull ∷ IsObject ∷ [] → (is_null c || is_object_choice n c) ≡ true → Told a n (value_of c)
-pointer_told a n choice.Null e h = record { can = ap (λ z. is_outcome (length z) (Outcome (place_of z value.Null))) e; marked = ap (λ z. is_mark (mark_at z (place_of z value.Null)) value.Null) e; shut = ap (λ z. is_open (mark_at z (place_of z value.Null))) e; near = λ w f. tt }
-pointer_told a n (choice.Object k) e h = record { can = ap (λ z. is_outcome (length z) (Outcome (place_of z (value.Object k)))) e; marked = ap (λ z. is_mark (mark_at z (place_of z (value.Object k))) (value.Object k)) e; shut = ap (λ z. is_open (mark_at z (place_of z (value.Object k)))) e; near = λ w f. let le = le_says k n h in omega (arith, f, le) }
+pointer_told : (a : Answer) (n : ℕ) (c : Choice) → outcomes_of_answer a ≡ IsNull ∷ IsObject ∷ []
+    → (is_null c || is_object_choice n c) ≡ true → Told a n (value_of c)
+pointer_told a n choice.Null e h =
+    record {
+      can = ap (λ z. is_outcome (length z) (Outcome (place_of z value.Null))) e;
+      marked = ap
+          (λ z. is_mark (mark_at z (place_of z value.Null)) value.Null) e;
+      shut = ap
+          (λ z. is_open (mark_at z (place_of z value.Null))) e;
+      near = λ w f. tt;
+    }
+pointer_told a n (choice.Object k) e h =
+    record {
+      can = ap (λ z. is_outcome (length z) (Outcome (place_of z (value.Object k)))) e;
+      marked = ap
+          (λ z. is_mark (mark_at z (place_of z (value.Object k))) (value.Object k)) e;
+      shut = ap
+          (λ z. is_open (mark_at z (place_of z (value.Object k)))) e;
+      near = λ w f. let le = le_says k n h in omega
+          (arith, f, le);
+    }
 pointer_told a n (choice.Int i) e h = no_way h
 pointer_told a n choice.Text e h = no_way h
 pointer_told a n (choice.Given i) e h = no_way h
@@ -314,7 +387,8 @@ pointer_told a n (choice.Failed i) e h = no_way h
 
 sure_told : (n : ℕ) (c : Choice) → is_object_choice n c ≡ true → Told answer.BorrowedSure n (value_of c)
 sure_told n choice.Null h = no_way h
-sure_told n (choice.Object k) h = record { can = refl; marked = refl; shut = refl; near = λ w f. let le = le_says k n h in omega (arith, f, le) }
+sure_told n (choice.Object k) h =
+    record { can = refl; marked = refl; shut = refl; near = λ w f. let le = le_says k n h in omega (arith, f, le) }
 sure_told n (choice.Int i) h = no_way h
 sure_told n choice.Text h = no_way h
 sure_told n (choice.Given i) h = no_way h
@@ -338,8 +412,10 @@ status_told : (n : ℕ) (c : Choice) → is_number (negsuc 0) (pos 0) c ≡ true
 status_told n choice.Null h = no_way h
 status_told n (choice.Object k) h = no_way h
 status_told n (choice.Int i) h = elim (status_cases i h) [
-  | inl e ↦ subst (λ z. Told answer.Status n (value.Int z)) (sym e) (record { can = refl; marked = refl; shut = refl; near = λ w f. tt })
-  | inr e ↦ subst (λ z. Told answer.Status n (value.Int z)) (sym e) (record { can = refl; marked = refl; shut = refl; near = λ w f. tt })
+  | inl e ↦ subst (λ z. Told answer.Status n (value.Int z)) (sym e) (record
+      { can = refl; marked = refl; shut = refl; near = λ w f. tt })
+  | inr e ↦ subst (λ z. Told answer.Status n (value.Int z)) (sym e) (record
+      { can = refl; marked = refl; shut = refl; near = λ w f. tt })
 ]
 status_told n choice.Text h = no_way h
 status_told n (choice.Given i) h = no_way h
@@ -349,10 +425,13 @@ truth_told : (n : ℕ) (c : Choice) → is_number (negsuc 0) (pos 1) c ≡ true 
 truth_told n choice.Null h = no_way h
 truth_told n (choice.Object k) h = no_way h
 truth_told n (choice.Int i) h = elim (truth_cases i h) [
-  | inl e ↦ subst (λ z. Told answer.Truth n (value.Int z)) (sym e) (record { can = refl; marked = refl; shut = refl; near = λ w f. tt })
+  | inl e ↦ subst (λ z. Told answer.Truth n (value.Int z)) (sym e) (record
+      { can = refl; marked = refl; shut = refl; near = λ w f. tt })
   | inr r ↦ elim r [
-    | inl e ↦ subst (λ z. Told answer.Truth n (value.Int z)) (sym e) (record { can = refl; marked = refl; shut = refl; near = λ w f. tt })
-    | inr e ↦ subst (λ z. Told answer.Truth n (value.Int z)) (sym e) (record { can = refl; marked = refl; shut = refl; near = λ w f. tt })
+    | inl e ↦ subst (λ z. Told answer.Truth n (value.Int z)) (sym e) (record
+        { can = refl; marked = refl; shut = refl; near = λ w f. tt })
+    | inr e ↦ subst (λ z. Told answer.Truth n (value.Int z)) (sym e) (record
+        { can = refl; marked = refl; shut = refl; near = λ w f. tt })
   ]
 ]
 truth_told n choice.Text h = no_way h

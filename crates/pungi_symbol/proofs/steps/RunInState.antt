@@ -1,5 +1,6 @@
 -- A run lies in a state after a step: the parts that each step shares.
-use Rattle.std.proofs.Common.{◌≡◌, ℕ, zero, suc, ◌+◌, ◌-◌, ◌<◌, ◌≤◌, List, [], ◌∷◌, length, map, get_or, Bool, true, false, refl, sym, ap, ◌∙◌, arith, ◌⊎◌, inr, Option, None, Some}
+use Rattle.std.proofs.Common.{◌≡◌, ℕ, zero, suc, ◌+◌, ◌-◌, ◌<◌, ◌≤◌, List, [], ◌∷◌, length, map, get_or, Bool, true}
+use Rattle.std.proofs.Common.{false, refl, sym, ap, ◌∙◌, arith, ◌⊎◌, inr, Option, None, Some}
 use Rattle.std.specs.Prelude.{slice_set, slice_get}
 use Rattle.std.proofs.Math.ListN.{length-set}
 use Rattle.std.proofs.lemmas.List.{map-set}
@@ -23,7 +24,8 @@ use Rattle.pungi_symbol.specs.declared.answers.decision.Decision.TheVariants.{Qu
 use Rattle.pungi_symbol.specs.declared.states.known.Known.{Known}
 use Rattle.pungi_symbol.specs.declared.states.known.Status.TheVariants as status
 use Rattle.pungi_symbol.specs.declared.states.mark.Mark.{Mark}
-use Rattle.pungi_symbol.specs.declared.states.mark.Mark.TheVariants.{Pointer, TextPointer, IsNull, IsObject, IsText, IsNumber}
+use Rattle.pungi_symbol.specs.declared.states.mark.Mark.TheVariants.{Pointer, TextPointer, IsNull, IsObject, IsText}
+use Rattle.pungi_symbol.specs.declared.states.mark.Mark.TheVariants.{IsNumber}
 use Rattle.pungi_symbol.specs.declared.questions.question.Question.{Question}
 use Rattle.pungi_symbol.specs.declared.questions.question.Question.TheVariants.{Null as AsksNull, Returns, Stops}
 use Rattle.pungi_symbol.specs.declared.states.spot.Progress.{Progress}
@@ -74,7 +76,8 @@ opened : (b : Bool) → b ≡ true → one_if b ≡ 1
 opened true e = refl
 opened false e = absurd (let bad : false ≡ true = e in cc)
 
-opens_set : (ms : List Mark) (t : ℕ) (r : Mark) → is_open (get_or ms t IsNull) ≡ true → is_open r ≡ false → opens (slice_set ms t r) + 1 ≡ opens ms
+opens_set : (ms : List Mark) (t : ℕ) (r : Mark) → is_open (get_or ms t IsNull) ≡ true → is_open r ≡ false
+    → opens (slice_set ms t r) + 1 ≡ opens ms
 opens_set [] t r o c = absurd (let bad : false ≡ true = o in cc)
 opens_set (x ∷ ms) zero r o c = let a = opened (is_open x) o in let b = closed (is_open r) c in omega (arith, a, b)
 opens_set (x ∷ ms) (suc t) r o c = let e = opens_set ms t r o c in omega (arith, e)
@@ -92,11 +95,18 @@ outcome_closed IsText k = refl
 outcome_closed (IsNumber n) k = refl
 
 -- where a step of a run leads, and in which state it lies then
-pub data Moved (choices : List Choice) (code : List Line) (table : Table) (base : ℕ) (pc before : ℕ) (m : Regs) (s' : State) : Type 0 where
-  stays : s'.known.pc ≡ pc → s'.known.status ≡ status.Going → effort s'.known < before → Lies code table base m s' → Moved choices code table base pc before m s'
-  goes_on : (m' : Regs) → length m.world.accounts ≤ length m'.world.accounts → leads_at choices code pc m ≡ (after.Goes s'.known.pc, m') → s'.known.status ≡ status.Going → Lies code table base m' s' → Moved choices code table base pc before m s'
-  leaves : (p : Pos) (x : Option Term) → s'.known.status ≡ status.Returned p x → leads_at choices code pc m ≡ (after.Leaves p (returned_value table x), m) → Lies code table base m s' → Moved choices code table base pc before m s'
-  halts : (p : Pos) → s'.known.status ≡ status.Stopped p → leads_at choices code pc m ≡ (after.Stops p, m) → Lies code table base m s' → Moved choices code table base pc before m s'
+pub data Moved (choices : List Choice) (code : List Line) (table : Table) (base : ℕ) (pc before : ℕ) (m : Regs)
+    (s' : State) : Type 0 where
+  stays : s'.known.pc ≡ pc → s'.known.status ≡ status.Going → effort s'.known < before → Lies code table base m s'
+      → Moved choices code table base pc before m s'
+  goes_on : (m' : Regs) → length m.world.accounts ≤ length m'.world.accounts
+      → leads_at choices code pc m ≡ (after.Goes s'.known.pc, m') → s'.known.status ≡ status.Going
+      → Lies code table base m' s' → Moved choices code table base pc before m s'
+  leaves : (p : Pos) (x : Option Term) → s'.known.status ≡ status.Returned p x
+      → leads_at choices code pc m ≡ (after.Leaves p (returned_value table x), m) → Lies code table base m s'
+      → Moved choices code table base pc before m s'
+  halts : (p : Pos) → s'.known.status ≡ status.Stopped p → leads_at choices code pc m ≡ (after.Stops p, m)
+      → Lies code table base m s' → Moved choices code table base pc before m s'
 
 pub as_many : (m : Regs) → length m.world.accounts ≤ length m.world.accounts
 as_many m = omega arith
@@ -119,7 +129,8 @@ same_decision (IsSame false) = refl
 
 -- the answer to whether a token is NULL
 pub null_outcome : (m : Mark) (v : Value) → is_open m ≡ true → is_mark m v ≡ true
-    → (is_outcome (length (outcomes_of_mark m)) (Outcome (place_of (outcomes_of_mark m) v)) ≡ true) × (is_mark (mark_at (outcomes_of_mark m) (place_of (outcomes_of_mark m) v)) v ≡ true)
+    → (is_outcome (length (outcomes_of_mark m)) (Outcome (place_of (outcomes_of_mark m) v)) ≡ true)
+    × (is_mark (mark_at (outcomes_of_mark m) (place_of (outcomes_of_mark m) v)) v ≡ true)
 null_outcome Pointer value.Null o h = (refl, refl)
 null_outcome Pointer (value.Object k) o h = (refl, refl)
 null_outcome Pointer (value.Int n) o h = absurd (let bad : false ≡ true = h in cc)
@@ -133,7 +144,8 @@ null_outcome IsObject v o h = absurd (let bad : false ≡ true = o in cc)
 null_outcome IsText v o h = absurd (let bad : false ≡ true = o in cc)
 null_outcome (IsNumber n) v o h = absurd (let bad : false ≡ true = o in cc)
 
-module _ (choices : List Choice) (code : List Line) (table : Table) (base : ℕ) (m : Regs) (s : State) (going : s.known.status ≡ status.Going) (w : IsSound s) (l : Lies code table base m s) (p : Pos) where
+module _ (choices : List Choice) (code : List Line) (table : Table) (base : ℕ) (m : Regs) (s : State)
+    (going : s.known.status ≡ status.Going) (w : IsSound s) (l : Lies code table base m s) (p : Pos) where
   abbrev pub Ln : Instr → Line
   Ln i = record { pos = p; instr = i }
 
@@ -142,10 +154,13 @@ module _ (choices : List Choice) (code : List Line) (table : Table) (base : ℕ)
 
   -- a choice is wanted, and the next one doesn't suit the question
   abbrev pub Wants : Question → Type 0
-  Wants q = (m' : Regs) × (leads_at choices code s.known.pc m ≡ (after.Wants, m')) × Lacks m.world choices (length m.used) q
+  Wants q = (m' : Regs) × (leads_at choices code s.known.pc m ≡ (after.Wants, m'))
+      × Lacks m.world choices (length m.used) q
 
   abbrev pub Result : Instr → Question → Type 0
-  Result i q = Wants q ⊎ ((can s q (answer table s.known q) ≡ true) × Moved choices code table base s.known.pc (effort s.known) m (apply (Some (Ln i)) q (answer table s.known q) s))
+  Result i q = Wants q ⊎ ((can s q (answer table s.known q) ≡ true)
+      × Moved choices code table base s.known.pc (effort s.known) m (apply (Some (Ln i)) q (answer table s.known q)
+      s))
 
   pub marks : (t : ℕ) → t < count s.known → is_mark (mark_of s.known t) (at table t) ≡ true
   marks t lt = l.fits.marks t lt
@@ -163,24 +178,27 @@ module _ (choices : List Choice) (code : List Line) (table : Table) (base : ℕ)
   pub null_result : (i : Instr) (t : ℕ) → t < count s.known → is_open (mark_of s.known t) ≡ true → Result i (AsksNull t)
   null_result i t lt opened' =
       let o = null_outcome (mark_of s.known t) (at table t) opened' (marks t lt) in
-      let new = mark_at (outcomes_of_mark (mark_of s.known t)) (place_of (outcomes_of_mark (mark_of s.known t)) (at table t)) in
+      let new = mark_at (outcomes_of_mark (mark_of s.known t)) (place_of (outcomes_of_mark (mark_of s.known t))
+      (at table t)) in
       let len : length (slice_set s.known.marks t new) ≡ length s.known.marks = length-set s.known.marks t new in
       inr (
         o.0,
-        stays refl going (let e = opens_set s.known.marks t new opened' (outcome_closed (mark_of s.known t) (place_of (outcomes_of_mark (mark_of s.known t)) (at table t))) in omega (arith, e)) (record {
-          fits = mark_fits table s.statics s.known.marks s.classes s.others t new o.1 l.fits;
-          vars = l.vars;
-          slots = l.slots;
-          used = l.used ∙ sym len;
-          claims = l.claims;
-          below = λ u h. l.below u (omega (arith, len, h));
-          unmade = l.unmade;
-          walked = l.walked;
-        }),
+        stays refl going (let e = opens_set s.known.marks t new opened' (outcome_closed (mark_of s.known t)
+            (place_of (outcomes_of_mark (mark_of s.known t)) (at table t))) in omega (arith, e)) (record {
+              fits = mark_fits table s.statics s.known.marks s.classes s.others t new o.1 l.fits;
+              vars = l.vars;
+              slots = l.slots;
+              used = l.used ∙ sym len;
+              claims = l.claims;
+              below = λ u h. l.below u (omega (arith, len, h));
+              unmade = l.unmade;
+              walked = l.walked;
+            }),
       )
 
   -- the run stops
-  pub stops_result : (i : Instr) (d : Decision) → IsLine i → leads choices i p s.known.pc m ≡ (after.Stops p, m) → Result i (Stops d)
+  pub stops_result : (i : Instr) (d : Decision) → IsLine i → leads choices i p s.known.pc m ≡ (after.Stops p, m)
+      → Result i (Stops d)
   stops_result i d is e = inr (
     same_decision d,
     halts p refl (led_is i is ∙ e) (record {
@@ -196,7 +214,8 @@ module _ (choices : List Choice) (code : List Line) (table : Table) (base : ℕ)
   )
 
   -- the function returns
-  pub returns_result : (i : Instr) (x : Option Term) → IsLine i → leads choices i p s.known.pc m ≡ (after.Leaves p (returned_value table x), m) → Result i (Returns x)
+  pub returns_result : (i : Instr) (x : Option Term) → IsLine i
+      → leads choices i p s.known.pc m ≡ (after.Leaves p (returned_value table x), m) → Result i (Returns x)
   returns_result i x is e = inr (
     refl,
     leaves p x refl (led_is i is ∙ e) (record {
@@ -213,10 +232,18 @@ module _ (choices : List Choice) (code : List Line) (table : Table) (base : ℕ)
 
   -- the next instruction comes, and a variable holds something else
   pub put_lies : (x : Var) (c : Term) (v : Content) (pc : ℕ) → content_of table c ≡ v
-      → Lies code table base (put x v m) (record s { known = record s.known { pc = pc; vars = slice_set s.known.vars x.0 c; progress = Looking 0 } })
+      → Lies code table base (put x v m) (record s {
+        known = record s.known {
+          pc = pc;
+          vars = slice_set s.known.vars
+              x.0 c;
+          progress = Looking 0;
+        };
+      })
   put_lies x c v pc e = record {
     fits = l.fits;
-    vars = ap (λ vs. slice_set vs x.0 v) l.vars ∙ ap (slice_set (map (content_of table) s.known.vars) x.0) (sym e) ∙ sym (map-set (content_of table) s.known.vars x.0 c);
+    vars = ap (λ vs. slice_set vs x.0 v) l.vars ∙ ap (slice_set (map (content_of table) s.known.vars) x.0) (sym e)
+        ∙ sym (map-set (content_of table) s.known.vars x.0 c);
     slots = l.slots;
     used = l.used;
     claims = l.claims;
@@ -225,7 +252,10 @@ module _ (choices : List Choice) (code : List Line) (table : Table) (base : ℕ)
     walked = walked_anew m.world.slots _;
   }
 
-  pub jump_lies : (pc : ℕ) → Lies code table base m (record s { known = record s.known { pc = pc; progress = Looking 0 } })
+  pub jump_lies : (pc : ℕ) → Lies code table base m (record s {
+    known = record s.known
+        { pc = pc; progress = Looking 0 };
+  })
   jump_lies pc = record {
     fits = l.fits;
     vars = l.vars;

@@ -1,5 +1,6 @@
 -- A sound state stays sound after an answer.
-use Rattle.std.proofs.Common.{◌≡◌, ℕ, ◌+◌, ◌<◌, ℤ, pos, negsuc, List, [], ◌∷◌, ◌++◌, length, Bool, true, false, refl, sym, subst, arith, Option, None, Some}
+use Rattle.std.proofs.Common.{◌≡◌, ℕ, ◌+◌, ◌<◌, ℤ, pos, negsuc, List, [], ◌∷◌, ◌++◌, length, Bool, true, false, refl}
+use Rattle.std.proofs.Common.{sym, subst, arith, Option, None, Some}
 use Rattle.std.specs.Prelude.{slice_set}
 use Rattle.pungi_code.specs.declared.atom.Atom.{Atom}
 use Rattle.pungi_code.specs.declared.atom.Var.{Var}
@@ -9,9 +10,12 @@ use Rattle.pungi_symbol.specs.declared.answers.decision.Decision.{Decision}
 use Rattle.pungi_symbol.specs.declared.answers.decision.Decision.TheVariants.{Quiet, Outcome, Order, Same as IsSame}
 use Rattle.pungi_symbol.specs.declared.states.known.Known.{Known}
 use Rattle.pungi_symbol.specs.declared.states.mark.Mark.{Mark}
-use Rattle.pungi_symbol.specs.declared.states.mark.Mark.TheVariants.{Pointer, TextPointer, IsNull, IsObject, IsText, IsNumber}
+use Rattle.pungi_symbol.specs.declared.states.mark.Mark.TheVariants.{Pointer, TextPointer, IsNull, IsObject, IsText}
+use Rattle.pungi_symbol.specs.declared.states.mark.Mark.TheVariants.{IsNumber}
 use Rattle.pungi_symbol.specs.declared.questions.question.Question.{Question}
-use Rattle.pungi_symbol.specs.declared.questions.question.Question.TheVariants.{Does, Touches, Overwrites, Null as AsksNull, Base, Answers, Same, Returns, Stops, Over}
+use Rattle.pungi_symbol.specs.declared.questions.question.Question.TheVariants.{Does, Touches, Overwrites}
+use Rattle.pungi_symbol.specs.declared.questions.question.Question.TheVariants.{Null as AsksNull, Base, Answers, Same}
+use Rattle.pungi_symbol.specs.declared.questions.question.Question.TheVariants.{Returns, Stops, Over}
 use Rattle.pungi_symbol.specs.declared.states.state.State.{State}
 use Rattle.pungi_symbol.specs.declared.states.term.Term.{Term}
 use Rattle.pungi_symbol.specs.declared.states.term.Term.TheVariants.{Unset, Number, Token}
@@ -28,15 +32,22 @@ use Rattle.pungi_api.specs.declared.shape.Shape.{Shape}
 use Rattle.pungi_api.specs.declared.special.Special.{Special}
 use Rattle.pungi_api.specs.declared.special.Special.TheVariants as special
 use Rattle.pungi_world.specs.Calls.{is_success}
-use Rattle.pungi_code.specs.declared.instr.Instr.TheVariants.{Set, Arith, Fit, Compare, Load, Store, Api, Call, Unset as Forget, Jump, Branch, Return, Fall}
+use Rattle.pungi_code.specs.declared.instr.Instr.TheVariants.{Set, Arith, Fit, Compare, Load, Store, Api, Call}
+use Rattle.pungi_code.specs.declared.instr.Instr.TheVariants.{Unset as Forget, Jump, Branch, Return, Fall}
 use Rattle.pungi_symbol.specs.states.Known.{count, mark_of, term_of, object_of, find, found_at, held_in, spot_of}
 use Rattle.pungi_symbol.specs.states.Terms.{outcomes_of_mark, outcomes_of_answer, mark_at}
 use Rattle.pungi_symbol.specs.questions.NextQuestion.{first_term, terms_of}
-use Rattle.pungi_symbol.specs.answers.KnownAfter.{go_on, put as put_known, arrive, put_answer, answer_of_form, answer_of_row, answer_of_special, term_with, does, load_first, store_first, touched_slot, comparison_var, comparison_term, instr_of, call_var, says_same, number_of_outcome}
-use Rattle.pungi_symbol.specs.answers.SymbolicState.{can, can_same, are_one, apply, apply_same, weigh, form_weigh, special_weigh, lower, taken_terms, terms_taken_by, add_term, owed_for, owed_for_answer, stored_term, join, take_answer}
+use Rattle.pungi_symbol.specs.answers.KnownAfter.{go_on, put as put_known, arrive, put_answer, answer_of_form}
+use Rattle.pungi_symbol.specs.answers.KnownAfter.{answer_of_row, answer_of_special, term_with, does, load_first}
+use Rattle.pungi_symbol.specs.answers.KnownAfter.{store_first, touched_slot, comparison_var, comparison_term, instr_of}
+use Rattle.pungi_symbol.specs.answers.KnownAfter.{call_var, says_same, number_of_outcome}
+use Rattle.pungi_symbol.specs.answers.SymbolicState.{can, can_same, are_one, apply, apply_same, weigh, form_weigh}
+use Rattle.pungi_symbol.specs.answers.SymbolicState.{special_weigh, lower, taken_terms, terms_taken_by, add_term}
+use Rattle.pungi_symbol.specs.answers.SymbolicState.{owed_for, owed_for_answer, stored_term, join, take_answer}
 use Rattle.pungi_symbol.specs.runs.ObjectForm.{atoms_of, atoms_in}
 use Rattle.pungi_symbol.specs.runs.Fits.{AreNotesSound, AreTermsSound}
-use Rattle.pungi_symbol.proofs.states.Terms.{below_more, put_terms, stored_terms, touched_terms, more_terms, null_terms, spot_more, atom_below, object_is_below, open_below}
+use Rattle.pungi_symbol.proofs.states.Terms.{below_more, put_terms, stored_terms, touched_terms, more_terms, null_terms}
+use Rattle.pungi_symbol.proofs.states.Terms.{spot_more, atom_below, object_is_below, open_below}
 use Rattle.pungi_symbol.proofs.answers.SoundNotes.{IsObjectIn, added_sound, null_sound, arrived_sound}
 use Rattle.pungi_symbol.proofs.answers.SameObject.{way_is, way_sound}
 use Rattle.pungi_symbol.proofs.steps.Comparisons.{an_object, no_object, objected, way_statics}
@@ -53,7 +64,9 @@ abbrev pub OptionBelow : ℕ → Option Term → Type 0
 OptionBelow n None = Unit {0}
 OptionBelow n (Some x) = IsBelow n x
 
-first_below : (n : ℕ) (k : Known) (as' : List Atom) → ((a : Atom) → is_there n a ≡ true → IsBelow (count k) (term_of k a)) → list_all (is_there n) as' ≡ true → IsBelow (count k) (first_term (terms_of k as'))
+first_below : (n : ℕ) (k : Known) (as' : List Atom)
+    → ((a : Atom) → is_there n a ≡ true → IsBelow (count k) (term_of k a)) → list_all (is_there n) as' ≡ true
+    → IsBelow (count k) (first_term (terms_of k as'))
 first_below n k [] f h = tt
 first_below n k (a ∷ as') f h = f a (all_there n a as' h).0
 
@@ -136,7 +149,9 @@ compared_below n b (Return o) = tt
 compared_below n b Fall = tt
 
 -- a variable gets an answer
-answered_terms : (k : Known) (x : Option Var) (o : Option Term) → AreTermsSound k.marks k.vars k.slots → OptionBelow (count k) o → AreTermsSound (go_on (put_answer x o k)).marks (go_on (put_answer x o k)).vars (go_on (put_answer x o k)).slots
+answered_terms : (k : Known) (x : Option Var) (o : Option Term) → AreTermsSound k.marks k.vars k.slots
+    → OptionBelow (count k) o → AreTermsSound (go_on (put_answer x o k)).marks (go_on (put_answer x o k)).vars
+    (go_on (put_answer x o k)).slots
 answered_terms k None o t h = t
 answered_terms k (Some x) None t h = t
 answered_terms k (Some x) (Some c) t h = put_terms k.marks k.vars k.slots t x.0 c h
@@ -154,7 +169,8 @@ module _ (s : State) (w : IsSound s) where
   SoundBalances bs = AreNotesSound s.statics s.known.marks s.classes bs s.others
 
   added : (x : Term) (d : ℤ) (bs : List ℤ) → SoundBalances bs → SoundBalances (add_term s.classes s.known x d bs)
-  added x d bs h = added_sound s.statics s.known.marks s.classes bs s.others h (object_of s.known x) d (object_in s.known x)
+  added x d bs h = added_sound s.statics s.known.marks s.classes bs s.others h (object_of s.known x) d
+      (object_in s.known x)
 
   lowers : (xs : List Term) (bs : List ℤ) → SoundBalances bs → SoundBalances (lower s.classes s.known xs bs)
   lowers [] bs h = h
@@ -177,34 +193,43 @@ module _ (s : State) (w : IsSound s) where
   special_weighs special.DictNext x = w.notes
   special_weighs special.BuildValue x = w.notes
 
-  form_weighs : (f : Form) (shape : Shape) (xs : List Term) → SoundBalances (form_weigh s.classes s.known f shape xs s.balances)
+  form_weighs : (f : Form) (shape : Shape) (xs : List Term)
+      → SoundBalances (form_weigh s.classes s.known f shape xs s.balances)
   form_weighs form.Plain shape xs = lowers (taken_terms false shape.row.takes xs) s.balances w.notes
   form_weighs (form.Special sp) shape xs = special_weighs sp (first_term xs)
 
   atom_is_below : (a : Atom) → is_there s.statics a ≡ true → IsBelow (count s.known) (term_of s.known a)
   atom_is_below a h = atom_below s.known.marks s.known.vars s.known.slots T s.known s.statics a refl w.notes.statics h
 
-  put_sound : (x : Var) (c : Term) → IsBelow (count s.known) c → IsSound (record s { known = go_on (put_known x.0 c s.known) })
+  put_sound : (x : Var) (c : Term) → IsBelow (count s.known) c
+      → IsSound (record s { known = go_on (put_known x.0 c s.known) })
   put_sound x c h = record { terms = put_terms s.known.marks s.known.vars s.known.slots T x.0 c h; notes = w.notes }
 
   one_there : (a : Atom) → list_all (is_there s.statics) (a ∷ []) ≡ true → is_there s.statics a ≡ true
   one_there a h = (all_there s.statics a [] h).0
 
-  does_sound : (i : Instr) → list_all (is_there s.statics) (atoms_of i) ≡ true → IsSound (record s { balances = weigh s.classes s.known i s.balances; known = does s.known i })
+  does_sound : (i : Instr) → list_all (is_there s.statics) (atoms_of i) ≡ true
+      → IsSound (record s { balances = weigh s.classes s.known i s.balances; known = does s.known i })
   does_sound (Set x a) h = put_sound x (term_of s.known a) (atom_is_below a (one_there a h))
   does_sound (Arith x kind o a b) h = put_sound x (Number _) tt
   does_sound (Fit x kind a) h = put_sound x (Number _) tt
   does_sound (Compare x c a b) h = put_sound x (Number _) tt
-  does_sound (Load x place) h = put_sound x (held_in s.known (find s.known place)) (T.held (found_at (find s.known place)))
+  does_sound (Load x place) h = put_sound x (held_in s.known (find s.known place))
+      (T.held (found_at (find s.known place)))
   does_sound (Store place a) h = record {
-    terms = stored_terms s.known.marks s.known.vars s.known.slots T (found_at (find s.known place)) (term_of s.known a) (atom_is_below a (all_there s.statics a (atoms_in place) h).0);
-    notes = added (term_of s.known a) (negsuc 0) _ (added (held_in s.known (find s.known place)) (pos 1) s.balances w.notes);
+    terms = stored_terms s.known.marks s.known.vars s.known.slots T (found_at (find s.known place))
+        (term_of s.known a) (atom_is_below a (all_there s.statics a (atoms_in place) h).0);
+    notes = added (term_of s.known a) (negsuc 0) _ (added (held_in s.known (find s.known place)) (pos 1) s.balances
+        w.notes);
   }
   does_sound (Api x shape as' outs) h =
       let o = answer_of_form shape.row.form shape.row.answer (first_term (terms_of s.known as')) in
       record {
-        terms = answered_terms s.known x o T (form_below (count s.known) shape.row.form shape.row.answer (first_term (terms_of s.known as')) (first_below s.statics s.known as' atom_is_below h));
-        notes = subst (λ ms. AreNotesSound s.statics ms s.classes (form_weigh s.classes s.known shape.row.form shape (terms_of s.known as') s.balances) s.others) (sym (answered_marks s.known x o)) (form_weighs shape.row.form shape (terms_of s.known as'));
+        terms = answered_terms s.known x o T (form_below (count s.known) shape.row.form shape.row.answer
+            (first_term (terms_of s.known as')) (first_below s.statics s.known as' atom_is_below h));
+        notes = subst (λ ms. AreNotesSound s.statics ms s.classes (form_weigh s.classes s.known shape.row.form shape
+            (terms_of s.known as') s.balances) s.others) (sym (answered_marks s.known x o))
+            (form_weighs shape.row.form shape (terms_of s.known as'));
       }
   does_sound (Call x f as') h = w
   does_sound (Forget x) h = put_sound x Unset tt
@@ -213,7 +238,8 @@ module _ (s : State) (w : IsSound s) where
   does_sound (Return o) h = w
   does_sound Fall h = w
 
-  does_line : (o : Option Line) → list_all (is_there s.statics) (atoms_of (instr_of o)) ≡ true → (d d' : Decision) → IsSound (apply o (Does d') d s)
+  does_line : (o : Option Line) → list_all (is_there s.statics) (atoms_of (instr_of o)) ≡ true → (d d' : Decision)
+      → IsSound (apply o (Does d') d s)
   does_line None h d d' = w
   does_line (Some line) h d d' = does_sound line.instr h
 
@@ -224,20 +250,26 @@ module _ (s : State) (w : IsSound s) where
   last_below r = let e = length-append s.known.marks (r ∷ []) in omega (arith, e)
 
   arrived_below : (r : Mark) (x : Term) → IsBelow (count s.known) x → IsBelow (length (s.known.marks ++ r ∷ [])) x
-  arrived_below r x h = below_more (count s.known) (length (s.known.marks ++ r ∷ [])) x (let e = last_below r in omega (arith, e)) h
+  arrived_below r x h = below_more (count s.known) (length (s.known.marks ++ r ∷ [])) x
+      (let e = last_below r in omega (arith, e)) h
 
-  new_notes : (r : Mark) (d : ℤ) (bs : List ℤ) → SoundBalances bs → ((r ≡ IsObject → ⊥) → d ≡ pos 0) → AreNotesSound s.statics (s.known.marks ++ r ∷ []) (s.classes ++ count s.known ∷ []) (bs ++ d ∷ []) s.others
+  new_notes : (r : Mark) (d : ℤ) (bs : List ℤ) → SoundBalances bs → ((r ≡ IsObject → ⊥) → d ≡ pos 0)
+      → AreNotesSound s.statics (s.known.marks ++ r ∷ []) (s.classes ++ count s.known ∷ []) (bs ++ d ∷ []) s.others
   new_notes r d bs h z = arrived_sound s.statics s.known.marks s.classes bs s.others h r d z
 
-  arrive_sound : (r : Mark) (d : ℤ) (bs : List ℤ) → SoundBalances bs → ((r ≡ IsObject → ⊥) → d ≡ pos 0) → IsSound (record (join d bs s) { known = arrive r s.known })
+  arrive_sound : (r : Mark) (d : ℤ) (bs : List ℤ) → SoundBalances bs → ((r ≡ IsObject → ⊥) → d ≡ pos 0)
+      → IsSound (record (join d bs s) { known = arrive r s.known })
   arrive_sound r d bs h z = record { terms = arrived_terms r; notes = new_notes r d bs h z }
 
-  load_sound : (i : Instr) (r : Mark) → SpotOk i s.known → IsSound (record (join (pos 0) s.balances s) { known = load_first i r s.known })
+  load_sound : (i : Instr) (r : Mark) → SpotOk i s.known
+      → IsSound (record (join (pos 0) s.balances s) { known = load_first i r s.known })
   load_sound (Load x place) r ok =
       let ms = s.known.marks ++ r ∷ [] in
       let vars = slice_set s.known.vars x.0 (Token (count s.known)) in
       record {
-        terms = touched_terms ms vars s.known.slots (put_terms ms s.known.vars s.known.slots (arrived_terms r) x.0 (Token (count s.known)) (last_below r)) (touched_slot s.known (spot_of s.known place) (Token (count s.known)))
+        terms = touched_terms ms vars s.known.slots (put_terms ms s.known.vars s.known.slots (arrived_terms r) x.0
+            (Token (count s.known)) (last_below r)) (touched_slot s.known (spot_of s.known place)
+            (Token (count s.known)))
             (last_below r) (last_below r) (spot_more s.known.marks r (spot_of s.known place) ok);
         notes = new_notes r (pos 0) s.balances w.notes (λ _. refl);
       }
@@ -258,14 +290,19 @@ module _ (s : State) (w : IsSound s) where
   Stored i = lower s.classes s.known (stored_term i s.known) s.balances
 
   stored_sound : (i : Instr) (r : Mark) → IsSound (record (join (owed_for r) (Stored i) s) { known = arrive r s.known })
-  stored_sound i r = arrive_sound r (owed_for r) (Stored i) (lowers (stored_term i s.known) s.balances w.notes) (zero_one r)
+  stored_sound i r = arrive_sound r (owed_for r) (Stored i) (lowers (stored_term i s.known) s.balances w.notes)
+      (zero_one r)
 
-  store_sound : (i : Instr) (r : Mark) → SpotOk i s.known → list_all (is_there s.statics) (atoms_of i) ≡ true → IsSound (record (join (owed_for r) (Stored i) s) { known = store_first i r s.known })
+  store_sound : (i : Instr) (r : Mark) → SpotOk i s.known → list_all (is_there s.statics) (atoms_of i) ≡ true
+      → IsSound (record (join (owed_for r) (Stored i) s) { known = store_first i r s.known })
   store_sound (Store place a) r ok h =
       record {
-        terms = touched_terms (s.known.marks ++ r ∷ []) s.known.vars s.known.slots (arrived_terms r) (touched_slot s.known (spot_of s.known place) (term_of s.known a))
-            (arrived_below r (term_of s.known a) (atom_is_below a (all_there s.statics a (atoms_in place) h).0)) (last_below r) (spot_more s.known.marks r (spot_of s.known place) ok);
-        notes = new_notes r (owed_for r) (Stored (Store place a)) (lowers (term_of s.known a ∷ []) s.balances w.notes) (zero_one r);
+        terms = touched_terms (s.known.marks ++ r ∷ []) s.known.vars s.known.slots (arrived_terms r)
+            (touched_slot s.known (spot_of s.known place) (term_of s.known a))
+            (arrived_below r (term_of s.known a) (atom_is_below a (all_there s.statics a (atoms_in place) h).0))
+            (last_below r) (spot_more s.known.marks r (spot_of s.known place) ok);
+        notes = new_notes r (owed_for r) (Stored (Store place a)) (lowers (term_of s.known a ∷ []) s.balances
+            w.notes) (zero_one r);
       }
   store_sound (Set x a) r ok h = stored_sound (Set x a) r
   store_sound (Arith x kind o a b) r ok h = stored_sound (Arith x kind o a b) r
@@ -287,41 +324,61 @@ module _ (s : State) (w : IsSound s) where
   decided t u (Order o) c = absurd (let bad : false ≡ true = c in cc)
   decided t u (IsSame b) c = refl
 
-  pub same_sound : (t u : ℕ) (d : Decision) (k' : Known) → mark_of s.known t ≡ IsObject → mark_of s.known u ≡ IsObject → can_same s t u d ≡ true → k'.marks ≡ s.known.marks → AreTermsSound k'.marks k'.vars k'.slots
+  pub same_sound : (t u : ℕ) (d : Decision) (k' : Known) → mark_of s.known t ≡ IsObject
+      → mark_of s.known u ≡ IsObject → can_same s t u d ≡ true → k'.marks ≡ s.known.marks
+      → AreTermsSound k'.marks k'.vars k'.slots
       → IsSound (record (apply_same (are_one s.classes t u) (says_same d) t u s) { known = k' })
   same_sound t u d k' mt mu c e terms =
       let b = says_same d in
       let way = way_is s t u b (subst (λ z. can_same s t u z ≡ true) (decided t u d c) c) in
       let s' = apply_same (are_one s.classes t u) b t u s in
-      let notes = way_sound s t u b s' w mt mu (object_is_below s.known.marks t mt) (object_is_below s.known.marks u mu) way in
+      let notes = way_sound s t u b s' w mt mu (object_is_below s.known.marks t mt)
+      (object_is_below s.known.marks u mu) way in
       record {
         terms = terms;
-        notes = subst (λ n. AreNotesSound n k'.marks s'.classes s'.balances s'.others) (sym (way_statics s t u b s' way)) (subst (λ ms. AreNotesSound s.statics ms s'.classes s'.balances s'.others) (sym e) notes);
+        notes = subst (λ n. AreNotesSound n k'.marks s'.classes s'.balances s'.others)
+            (sym (way_statics s t u b s' way)) (subst (λ ms. AreNotesSound s.statics ms s'.classes s'.balances
+            s'.others) (sym e) notes);
       }
 
-  answers_sound : (i : Instr) (a : Answer) (r : Mark) → IsSound (record (take_answer i a r s) { known = go_on (put_answer (call_var i) (Some (term_with r (count s.known))) (arrive r s.known)) })
+  answers_sound : (i : Instr) (a : Answer) (r : Mark)
+      → IsSound (record (take_answer i a r s) {
+        known = go_on (put_answer (call_var i)
+            (Some (term_with r (count s.known))) (arrive r s.known));
+      })
   answers_sound i a r =
       let o = Some (term_with r (count s.known)) in
       let bs = lower s.classes s.known (terms_taken_by (is_success a (Some (value_of_mark r))) i s.known) s.balances in
       record {
-        terms = answered_terms (arrive r s.known) (call_var i) o (arrived_terms r) (let e = length-append s.known.marks (r ∷ []) in subst (λ n. IsBelow n (term_with r (count s.known))) (sym e) (term_with_below r (count s.known)));
-        notes = subst (λ ms. AreNotesSound s.statics ms (s.classes ++ count s.known ∷ []) (bs ++ owed_for_answer a r ∷ []) s.others) (sym (answered_marks (arrive r s.known) (call_var i) o))
-            (new_notes r (owed_for_answer a r) bs (lowers (terms_taken_by (is_success a (Some (value_of_mark r))) i s.known) s.balances w.notes) (zero_new a r));
+        terms = answered_terms (arrive r s.known) (call_var i) o (arrived_terms r)
+            (let e = length-append s.known.marks (r ∷ []) in subst (λ n. IsBelow n (term_with r (count s.known)))
+            (sym e) (term_with_below r (count s.known)));
+        notes = subst (λ ms. AreNotesSound s.statics ms (s.classes ++ count s.known ∷ [])
+            (bs ++ owed_for_answer a r ∷ []) s.others) (sym (answered_marks (arrive r s.known) (call_var i) o))
+            (new_notes r (owed_for_answer a r) bs (lowers (terms_taken_by (is_success a (Some (value_of_mark r))) i
+            s.known) s.balances w.notes) (zero_new a r));
       }
 
-  pub apply_sound : (o : Option Line) (q : Question) (d : Decision) → list_all (is_there s.statics) (atoms_of (instr_of o)) ≡ true → IsAsked (instr_of o) s.known q → can s q d ≡ true → IsSound (apply o q d s)
+  pub apply_sound : (o : Option Line) (q : Question) (d : Decision)
+      → list_all (is_there s.statics) (atoms_of (instr_of o)) ≡ true → IsAsked (instr_of o) s.known q
+      → can s q d ≡ true → IsSound (apply o q d s)
   apply_sound o (Does d') d h a c = does_line o h d d'
   apply_sound o (Touches r) d h a c = load_sound (instr_of o) r a.0
-  apply_sound o (Overwrites r) d h a c = store_sound (instr_of o) (mark_at (outcomes_of_mark r) (number_of_outcome d)) a.0 h
+  apply_sound o (Overwrites r) d h a c = store_sound (instr_of o) (mark_at (outcomes_of_mark r)
+      (number_of_outcome d)) a.0 h
   apply_sound o (AsksNull t) d h a c =
       let r = mark_at (outcomes_of_mark (mark_of s.known t)) (number_of_outcome d) in
       record {
         terms = null_terms s.known.marks s.known.vars s.known.slots T t r a;
-        notes = null_sound s.statics s.known.marks s.classes s.balances s.others w.notes t r (open_below s.known.marks t a) a;
+        notes = null_sound s.statics s.known.marks s.classes s.balances s.others w.notes t r
+            (open_below s.known.marks t a) a;
       }
   apply_sound o (Base t u j) d h a c = same_sound t u d _ a.0 a.1 c refl T
-  apply_sound o (Answers x) d h a c = answers_sound (instr_of o) x (mark_at (outcomes_of_answer x) (number_of_outcome d))
-  apply_sound o (Same t u) d h a c = same_sound t u d _ a.0 a.1 c refl (put_terms s.known.marks s.known.vars s.known.slots T (comparison_var (instr_of o)) (comparison_term (says_same d) (instr_of o)) (compared_below (count s.known) (says_same d) (instr_of o)))
+  apply_sound o (Answers x) d h a c = answers_sound (instr_of o) x (mark_at (outcomes_of_answer x)
+      (number_of_outcome d))
+  apply_sound o (Same t u) d h a c = same_sound t u d _ a.0 a.1 c refl (put_terms s.known.marks s.known.vars
+      s.known.slots T (comparison_var (instr_of o)) (comparison_term (says_same d) (instr_of o))
+      (compared_below (count s.known) (says_same d) (instr_of o)))
   apply_sound o (Returns x) d h a c = record { terms = T; notes = w.notes }
   apply_sound o (Stops d') d h a c = record { terms = T; notes = w.notes }
   apply_sound o Over d h a c = w

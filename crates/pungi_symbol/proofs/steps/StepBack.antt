@@ -1,5 +1,6 @@
 -- One step back: values of the tokens that fit the state after an answer fit the state before, and give that answer.
-use Rattle.std.proofs.Common.{◌≡◌, ℕ, zero, suc, ◌<◌, ℤ, pos, negsuc, List, [], ◌∷◌, ◌++◌, length, true, false, refl, sym, ap, ◌∙◌, subst, arith, Option, None, Some, cond}
+use Rattle.std.proofs.Common.{◌≡◌, ℕ, zero, suc, ◌<◌, ℤ, pos, negsuc, List, [], ◌∷◌, ◌++◌, length, true, false, refl}
+use Rattle.std.proofs.Common.{sym, ap, ◌∙◌, subst, arith, Option, None, Some, cond}
 use Rattle.pungi_base.specs.declared.choice.Choice.{Choice}
 use Rattle.pungi_base.specs.declared.value.Value.{Value}
 use Rattle.pungi_base.specs.declared.value.Value.TheVariants as value
@@ -9,9 +10,12 @@ use Rattle.pungi_symbol.specs.declared.answers.decision.Decision.{Decision}
 use Rattle.pungi_symbol.specs.declared.answers.decision.Decision.TheVariants.{Quiet, Outcome, Order, Same as IsSame}
 use Rattle.pungi_symbol.specs.declared.states.known.Known.{Known}
 use Rattle.pungi_symbol.specs.declared.states.mark.Mark.{Mark}
-use Rattle.pungi_symbol.specs.declared.states.mark.Mark.TheVariants.{Pointer, TextPointer, IsNull, IsObject, IsText, IsNumber}
+use Rattle.pungi_symbol.specs.declared.states.mark.Mark.TheVariants.{Pointer, TextPointer, IsNull, IsObject, IsText}
+use Rattle.pungi_symbol.specs.declared.states.mark.Mark.TheVariants.{IsNumber}
 use Rattle.pungi_symbol.specs.declared.questions.question.Question.{Question}
-use Rattle.pungi_symbol.specs.declared.questions.question.Question.TheVariants.{Does, Touches, Overwrites, Null as AsksNull, Base, Answers, Same, Returns, Stops, Over}
+use Rattle.pungi_symbol.specs.declared.questions.question.Question.TheVariants.{Does, Touches, Overwrites}
+use Rattle.pungi_symbol.specs.declared.questions.question.Question.TheVariants.{Null as AsksNull, Base, Answers, Same}
+use Rattle.pungi_symbol.specs.declared.questions.question.Question.TheVariants.{Returns, Stops, Over}
 use Rattle.pungi_symbol.specs.declared.states.state.State.{State}
 use Rattle.pungi_symbol.specs.states.Terms.{Table, at, is_mark}
 use Rattle.pungi_symbol.specs.runs.Fits.{FitsState, IsSound}
@@ -23,12 +27,15 @@ use Rattle.std.proofs.lemmas.Bool.Decides.{nat_tests, Decides-int_eq}
 use Rattle.std.specs.Prelude.{nat_lt}
 use Rattle.pungi_api.specs.declared.answer.Answer.{Answer}
 use Rattle.pungi_api.specs.declared.answer.Answer.TheVariants as answers
-use Rattle.pungi_code.specs.declared.instr.Instr.TheVariants.{Set, Arith, Fit, Compare, Load, Store, Api, Call, Unset as Forget, Jump, Branch, Return, Fall}
+use Rattle.pungi_code.specs.declared.instr.Instr.TheVariants.{Set, Arith, Fit, Compare, Load, Store, Api, Call}
+use Rattle.pungi_code.specs.declared.instr.Instr.TheVariants.{Unset as Forget, Jump, Branch, Return, Fall}
 use Rattle.pungi_symbol.specs.states.Terms.{outcomes_of_mark, outcomes_of_answer, mark_at, place_of}
 use Rattle.pungi_symbol.specs.states.Known.{count, mark_of}
 use Rattle.pungi_symbol.specs.questions.NextQuestion.{first_term, terms_of}
-use Rattle.pungi_symbol.specs.answers.KnownAfter.{arrive, answer_of_form, term_with, does, load_first, store_first, perform_line, instr_of, call_var, says_same, number_of_outcome}
-use Rattle.pungi_symbol.specs.answers.SymbolicState.{can, can_same, are_one, apply, apply_same, is_decision, is_order, is_outcome}
+use Rattle.pungi_symbol.specs.answers.KnownAfter.{arrive, answer_of_form, term_with, does, load_first, store_first}
+use Rattle.pungi_symbol.specs.answers.KnownAfter.{perform_line, instr_of, call_var, says_same, number_of_outcome}
+use Rattle.pungi_symbol.specs.answers.SymbolicState.{can, can_same, are_one, apply, apply_same, is_decision, is_order}
+use Rattle.pungi_symbol.specs.answers.SymbolicState.{is_outcome}
 use Rattle.pungi_symbol.specs.runs.Fits.{Fits}
 use Rattle.pungi_meaning.specs.Values.{is_equal}
 use Rattle.pungi_world.specs.declared.world.World.{World}
@@ -87,7 +94,8 @@ decision_says (IsSame false) (Order o) e = no_way e
 lt_says : (k n : ℕ) → nat_lt k n ≡ true → k < n
 lt_says k n e = grind (arith, nat_tests)
 
-pub outcome_says : (n : ℕ) (d : Decision) → is_outcome n d ≡ true → (d ≡ Outcome (number_of_outcome d)) × (number_of_outcome d < n)
+pub outcome_says : (n : ℕ) (d : Decision) → is_outcome n d ≡ true
+    → (d ≡ Outcome (number_of_outcome d)) × (number_of_outcome d < n)
 outcome_says n Quiet e = no_way e
 outcome_says n (Outcome k) e = (refl, lt_says k n e)
 outcome_says n (Order o) e = no_way e
@@ -102,11 +110,13 @@ abbrev AreApart : List Mark → Type 0
 AreApart [] = Unit {0}
 AreApart (m ∷ ms) = Excludes m ms × AreApart ms
 
-place_back : (ms : List Mark) (k : ℕ) (v : Value) → AreApart ms → k < length ms → is_mark (mark_at ms k) v ≡ true → place_of ms v ≡ k
+place_back : (ms : List Mark) (k : ℕ) (v : Value) → AreApart ms → k < length ms → is_mark (mark_at ms k) v ≡ true
+    → place_of ms v ≡ k
 place_back [] k v a lt h = absurd (omega (arith, lt))
 place_back (m ∷ ms) zero v a lt h = ap (λ b. cond b 0 (suc (place_of ms v))) h
 place_back (m ∷ ms) (suc k) v a lt h =
-    ap (λ b. cond b 0 (suc (place_of ms v))) (a.0 k v (omega (arith, lt)) h) ∙ ap suc (place_back ms k v a.1 (omega (arith, lt)) h)
+    ap (λ b. cond b 0 (suc (place_of ms v))) (a.0 k v (omega (arith, lt)) h)
+    ∙ ap suc (place_back ms k v a.1 (omega (arith, lt)) h)
 
 none_after : (m : Mark) → Excludes m []
 none_after m j v lt h = absurd (omega (arith, lt))
@@ -127,7 +137,8 @@ null_text (value.Object k) h = no_way h
 null_text (value.Int n) h = no_way h
 null_text value.Text h = refl
 
-number_other : (i j : ℤ) → is_mark (IsNumber i) (value.Int j) ≡ false → (v : Value) → is_mark (IsNumber j) v ≡ true → is_mark (IsNumber i) v ≡ false
+number_other : (i j : ℤ) → is_mark (IsNumber i) (value.Int j) ≡ false → (v : Value) → is_mark (IsNumber j) v ≡ true
+    → is_mark (IsNumber i) v ≡ false
 number_other i j ne value.Null h = no_way h
 number_other i j ne (value.Object k) h = no_way h
 number_other i j ne (value.Int n) h = ap (λ z. is_mark (IsNumber i) (value.Int z)) ((Decides-int_eq n j).0 h) ∙ ne
@@ -150,8 +161,17 @@ answer_apart : (a : Answer) → AreApart (outcomes_of_answer a)
 answer_apart answers.New = (apart_by IsNull IsObject null_object, (none_after IsObject, tt))
 answer_apart answers.Borrowed = (apart_by IsNull IsObject null_object, (none_after IsObject, tt))
 answer_apart answers.BorrowedSure = (none_after IsObject, tt)
-answer_apart answers.Status = (apart_by (IsNumber (pos 0)) (IsNumber (negsuc 0)) (number_other (pos 0) (negsuc 0) refl), (none_after (IsNumber (negsuc 0)), tt))
-answer_apart answers.Truth = (truth_first, (apart_by (IsNumber (pos 0)) (IsNumber (negsuc 0)) (number_other (pos 0) (negsuc 0) refl), (none_after (IsNumber (negsuc 0)), tt)))
+answer_apart answers.Status = (
+  apart_by (IsNumber (pos 0)) (IsNumber (negsuc 0)) (number_other (pos 0) (negsuc 0) refl),
+  (none_after (IsNumber (negsuc 0)), tt),
+)
+answer_apart answers.Truth = (
+  truth_first,
+  (
+    apart_by (IsNumber (pos 0)) (IsNumber (negsuc 0)) (number_other (pos 0) (negsuc 0) refl),
+    (none_after (IsNumber (negsuc 0)), tt),
+  ),
+)
 answer_apart answers.Text = (apart_by IsNull IsText null_text, (none_after IsText, tt))
 answer_apart answers.Size = tt
 answer_apart answers.Int = tt
@@ -160,7 +180,8 @@ answer_apart answers.Void = tt
 answer_apart answers.Null = tt
 
 -- an answer says more than the mark before it
-pub weaker : (r : Mark) (k : ℕ) (v : Value) → is_open r ≡ true → k < length (outcomes_of_mark r) → is_mark (mark_at (outcomes_of_mark r) k) v ≡ true → is_mark r v ≡ true
+pub weaker : (r : Mark) (k : ℕ) (v : Value) → is_open r ≡ true → k < length (outcomes_of_mark r)
+    → is_mark (mark_at (outcomes_of_mark r) k) v ≡ true → is_mark r v ≡ true
 weaker Pointer zero value.Null o lt h = refl
 weaker Pointer zero (value.Object k) o lt h = refl
 weaker Pointer zero (value.Int n) o lt h = h
@@ -193,7 +214,8 @@ does_marks k (Fit x kind a) = refl
 does_marks k (Compare x c a b) = refl
 does_marks k (Load x place) = refl
 does_marks k (Store place a) = refl
-does_marks k (Api x shape as' outs) = answered_marks k x (answer_of_form shape.row.form shape.row.answer (first_term (terms_of k as')))
+does_marks k (Api x shape as' outs) =
+    answered_marks k x (answer_of_form shape.row.form shape.row.answer (first_term (terms_of k as')))
 does_marks k (Call x f as') = refl
 does_marks k (Forget x) = refl
 does_marks k (Jump to) = refl
@@ -242,11 +264,15 @@ module _ (table : Table) (s : State) (w : IsSound s) where
   abbrev FitsMore : List Mark → Type 0
   FitsMore ms = Fits table s.statics ms (s.classes ++ count s.known ∷ []) s.others
 
-  more_back : (r : Mark) → FitsMore (s.known.marks ++ r ∷ []) → FitsState table s × (is_mark r (at table (count s.known)) ≡ true)
+  more_back : (r : Mark) → FitsMore (s.known.marks ++ r ∷ [])
+      → FitsState table s × (is_mark r (at table (count s.known)) ≡ true)
   more_back r f = arrives_back table s.statics s.known.marks s.classes s.others r w.notes.classes_long f
 
-  same_back : (t u : ℕ) (d : Decision) → mark_of s.known t ≡ IsObject → mark_of s.known u ≡ IsObject → can_same s t u d ≡ true
-      → Fits table (apply_same (are_one s.classes t u) (says_same d) t u s).statics s.known.marks (apply_same (are_one s.classes t u) (says_same d) t u s).classes (apply_same (are_one s.classes t u) (says_same d) t u s).others
+  same_back : (t u : ℕ) (d : Decision) → mark_of s.known t ≡ IsObject → mark_of s.known u ≡ IsObject
+      → can_same s t u d ≡ true
+      → Fits table (apply_same (are_one s.classes t u) (says_same d) t u s).statics s.known.marks
+      (apply_same (are_one s.classes t u) (says_same d) t u s).classes (apply_same (are_one s.classes t u)
+      (says_same d) t u s).others
       → FitsState table s × (IsSame (is_equal (at table t) (at table u)) ≡ d)
   same_back t u d mt mu c f =
       let b = says_same d in
@@ -254,13 +280,17 @@ module _ (table : Table) (s : State) (w : IsSound s) where
       let way = way_is s t u b (subst (λ z. can_same s t u z ≡ true) is c) in
       let s' = apply_same (are_one s.classes t u) b t u s in
       let g = subst (λ n. Fits table n s.known.marks s'.classes s'.others) (way_statics s t u b s' way) f in
-      let r = way_back s t u table w mt mu (object_is_below s.known.marks t mt) (object_is_below s.known.marks u mu) b s' way g in
+      let r = way_back s t u table w mt mu (object_is_below s.known.marks t mt) (object_is_below s.known.marks u mu)
+      b s' way g in
       (r.0, ap IsSame r.1 ∙ sym is)
 
-  outcome_back : (ms : List Mark) (d : Decision) (v : Value) → AreApart ms → is_outcome (length ms) d ≡ true → is_mark (mark_at ms (number_of_outcome d)) v ≡ true → Outcome (place_of ms v) ≡ d
-  outcome_back ms d v a c h = let o = outcome_says (length ms) d c in ap Outcome (place_back ms (number_of_outcome d) v a o.1 h) ∙ sym o.0
+  outcome_back : (ms : List Mark) (d : Decision) (v : Value) → AreApart ms → is_outcome (length ms) d ≡ true
+      → is_mark (mark_at ms (number_of_outcome d)) v ≡ true → Outcome (place_of ms v) ≡ d
+  outcome_back ms d v a c h = let o = outcome_says (length ms) d c in ap Outcome
+      (place_back ms (number_of_outcome d) v a o.1 h) ∙ sym o.0
 
-  pub apply_back : (o : Option Line) (q : Question) (d : Decision) → IsAsked (instr_of o) s.known q → can s q d ≡ true → FitsState table (apply o q d s) → FitsState table s × (answer table s.known q ≡ d)
+  pub apply_back : (o : Option Line) (q : Question) (d : Decision) → IsAsked (instr_of o) s.known q
+      → can s q d ≡ true → FitsState table (apply o q d s) → FitsState table s × (answer table s.known q ≡ d)
   apply_back o (Does d') d a c f = (subst FitsMarks (line_marks s.known o) f, decision_says d' d c)
   apply_back o (Touches r) d a c f =
       let g = more_back r (subst FitsMore (load_marks (instr_of o) r s.known) f) in
@@ -272,12 +302,15 @@ module _ (table : Table) (s : State) (w : IsSound s) where
   apply_back o (AsksNull t) d a c f =
       let old = mark_of s.known t in
       let said = outcome_says (length (outcomes_of_mark old)) d c in
-      let g = mark_back table s.statics s.known.marks s.classes s.others t (mark_at (outcomes_of_mark old) (number_of_outcome d)) old (open_below s.known.marks t a) refl (λ h. weaker old (number_of_outcome d) (at table t) a said.1 h) f in
+      let g = mark_back table s.statics s.known.marks s.classes s.others t (mark_at (outcomes_of_mark old)
+      (number_of_outcome d)) old (open_below s.known.marks t a) refl (λ h. weaker old (number_of_outcome d)
+      (at table t) a said.1 h) f in
       (g.0, outcome_back (outcomes_of_mark old) d (at table t) (mark_apart old) c g.1)
   apply_back o (Base t u j) d a c f = same_back t u d a.0 a.1 c f
   apply_back o (Answers x) d a c f =
       let r = mark_at (outcomes_of_answer x) (number_of_outcome d) in
-      let g = more_back r (subst FitsMore (answered_marks (arrive r s.known) (call_var (instr_of o)) (Some (term_with r (count s.known)))) f) in
+      let g = more_back r (subst FitsMore (answered_marks (arrive r s.known) (call_var (instr_of o))
+      (Some (term_with r (count s.known)))) f) in
       (g.0, outcome_back (outcomes_of_answer x) d (at table (count s.known)) (answer_apart x) c g.1)
   apply_back o (Same t u) d a c f = same_back t u d a.0 a.1 c f
   apply_back o (Returns x) d a c f = (f, decision_says Quiet d c)
@@ -285,8 +318,10 @@ module _ (table : Table) (s : State) (w : IsSound s) where
   apply_back o Over d a c f = no_way c
 
   -- the token that came in is as the answer says, and its choice suits the question
-  pub came_in : (o : Option Line) (q : Question) (d : Decision) (c : Choice) (accounts : World) → IsAsked (instr_of o) s.known q → can s q d ≡ true → FitsState table (apply o q d s)
-      → at table (count s.known) ≡ value_of c → IsOf (length accounts.accounts) (value_of c) → c ≡ choice_of (value_of c) → Suits accounts q c
+  pub came_in : (o : Option Line) (q : Question) (d : Decision) (c : Choice) (accounts : World)
+      → IsAsked (instr_of o) s.known q → can s q d ≡ true → FitsState table (apply o q d s)
+      → at table (count s.known) ≡ value_of c → IsOf (length accounts.accounts) (value_of c)
+      → c ≡ choice_of (value_of c) → Suits accounts q c
   came_in o (Does d') d c n a ok f e b y = tt
   came_in o (Touches r) d c n a ok f e b y =
       let g = more_back r (subst FitsMore (load_marks (instr_of o) r s.known) f) in
@@ -301,7 +336,8 @@ module _ (table : Table) (s : State) (w : IsSound s) where
   came_in o (Answers x) d c n a ok f e b y =
       let r = mark_at (outcomes_of_answer x) (number_of_outcome d) in
       let said = outcome_says (length (outcomes_of_answer x)) d ok in
-      let g = more_back r (subst FitsMore (answered_marks (arrive r s.known) (call_var (instr_of o)) (Some (term_with r (count s.known)))) f) in
+      let g = more_back r (subst FitsMore (answered_marks (arrive r s.known) (call_var (instr_of o))
+      (Some (term_with r (count s.known)))) f) in
       ((number_of_outcome d, said.1, ap (is_mark r) (sym e) ∙ g.1), b, y)
   came_in o (Same t u) d c n a ok f e b y = tt
   came_in o (Returns x) d c n a ok f e b y = tt

@@ -1,5 +1,6 @@
 -- What the world returns at the first touch of a slot and at calls, and what an object is owed then.
-use Rattle.std.proofs.Common.{◌≡◌, ℕ, zero, suc, ◌≤◌, ℤ, negsuc, ◌+ℤ◌, List, [], ◌∷◌, length, drop, Bool, true, false, refl, sym, ap, ◌∙◌, subst, arith, ◌⊎◌, inl, inr, cond, Some, None}
+use Rattle.std.proofs.Common.{◌≡◌, ℕ, zero, suc, ◌≤◌, ℤ, negsuc, ◌+ℤ◌, List, [], ◌∷◌, length, drop, Bool, true, false}
+use Rattle.std.proofs.Common.{refl, sym, ap, ◌∙◌, subst, arith, ◌⊎◌, inl, inr, cond, Some, None}
 use Rattle.std.specs.Prelude.{slice_get, ◌||◌, ◌&&◌, not, nat_le, Ok, Err}
 use Rattle.std.proofs.lemmas.Int.{ints}
 use Rattle.std.proofs.Math.ListN.{length-set}
@@ -21,14 +22,16 @@ use Rattle.pungi_world.specs.declared.world.World.{World}
 use Rattle.pungi_world.specs.Choices.{value_of, is_null, is_text}
 use Rattle.pungi_world.specs.Counts.{count_value, hand_over, with_value}
 use Rattle.pungi_world.specs.Escapes.{is_this_object}
-use Rattle.pungi_world.specs.Slots.{is_made, is_fresh, is_old, is_content, find_content, with_content, with_slot, touch_at, touch, place_of}
+use Rattle.pungi_world.specs.Slots.{is_made, is_fresh, is_old, is_content, find_content, with_content, with_slot}
+use Rattle.pungi_world.specs.Slots.{touch_at, touch, place_of}
 use Rattle.pungi_symbol.specs.declared.states.mark.Mark.TheVariants.{Pointer, TextPointer}
 use Rattle.pungi_symbol.specs.states.Terms.{is_mark}
 use Rattle.pungi_symbol.specs.questions.NextQuestion.{content_mark}
 use Rattle.pungi_symbol.specs.runs.ObjectForm.{is_pointer}
 use Rattle.pungi_symbol.specs.runs.RunInState.{owed, IsOf}
 use Rattle.pungi_symbol.proofs.states.NamedObjects.{part}
-use Rattle.pungi_symbol.proofs.states.Owed.{AreUnmade, owed_counted, owed_handed, owed_object, object_slots, object_more, object_there, object_unmade, replaced_unmade}
+use Rattle.pungi_symbol.proofs.states.Owed.{AreUnmade, owed_counted, owed_handed, owed_object, object_slots}
+use Rattle.pungi_symbol.proofs.states.Owed.{object_more, object_there, object_unmade, replaced_unmade}
 
 -- ---- the object of a value
 
@@ -76,13 +79,15 @@ of_more n m (value.Int i) le h = tt
 of_more n m value.Text le h = tt
 
 -- a count changes; an object is taken over
-pub counted_owed : (w : World) (v : Value) (by : ℤ) (o : ℕ) → IsOf (length w.accounts) v → owed (count_value w v by) o ≡ owed w o +ℤ part (is_this_object v o) by
+pub counted_owed : (w : World) (v : Value) (by : ℤ) (o : ℕ) → IsOf (length w.accounts) v
+    → owed (count_value w v by) o ≡ owed w o +ℤ part (is_this_object v o) by
 counted_owed w value.Null by o h = omega (arith, ints)
 counted_owed w (value.Object k) by o h = owed_counted w k by o h
 counted_owed w (value.Int n) by o h = omega (arith, ints)
 counted_owed w value.Text by o h = omega (arith, ints)
 
-pub handed_owed : (w : World) (v : Value) (o : ℕ) → IsOf (length w.accounts) v → owed (hand_over w v) o ≡ owed w o +ℤ part (is_this_object v o) (negsuc 0)
+pub handed_owed : (w : World) (v : Value) (o : ℕ) → IsOf (length w.accounts) v
+    → owed (hand_over w v) o ≡ owed w o +ℤ part (is_this_object v o) (negsuc 0)
 handed_owed w value.Null o h = omega (arith, ints)
 handed_owed w (value.Object k) o h = owed_handed w k o h
 handed_owed w (value.Int n) o h = omega (arith, ints)
@@ -98,29 +103,34 @@ pub keeps_self : (w : World) → Keeps w w
 keeps_self w = record { accounts = refl; slots = refl; unmade = λ h. h }
 
 pub keeps_then : (a b c : World) → Keeps a b → Keeps b c → Keeps a c
-keeps_then a b c f g = record { accounts = g.accounts ∙ f.accounts; slots = g.slots ∙ f.slots; unmade = λ h. g.unmade (f.unmade h) }
+keeps_then a b c f g =
+    record { accounts = g.accounts ∙ f.accounts; slots = g.slots ∙ f.slots; unmade = λ h. g.unmade (f.unmade h) }
 
 pub counted_keeps : (w : World) (v : Value) (by : ℤ) → Keeps w (count_value w v by)
 counted_keeps w value.Null by = keeps_self w
-counted_keeps w (value.Object k) by = record { accounts = length-set w.accounts k _; slots = refl; unmade = λ h. replaced_unmade w k _ (h k) h }
+counted_keeps w (value.Object k) by =
+    record { accounts = length-set w.accounts k _; slots = refl; unmade = λ h. replaced_unmade w k _ (h k) h }
 counted_keeps w (value.Int n) by = keeps_self w
 counted_keeps w value.Text by = keeps_self w
 
 pub handed_keeps : (w : World) (v : Value) → Keeps w (hand_over w v)
 handed_keeps w value.Null = keeps_self w
-handed_keeps w (value.Object k) = record { accounts = length-set w.accounts k _; slots = refl; unmade = λ h. replaced_unmade w k _ (h k) h }
+handed_keeps w (value.Object k) =
+    record { accounts = length-set w.accounts k _; slots = refl; unmade = λ h. replaced_unmade w k _ (h k) h }
 handed_keeps w (value.Int n) = keeps_self w
 handed_keeps w value.Text = keeps_self w
 
 -- ---- choices
 
-pub drop_head : (choices rest : List Choice) (n : ℕ) (c : Choice) → drop n choices ≡ c ∷ rest → slice_get choices n ≡ Some c
+pub drop_head : (choices rest : List Choice) (n : ℕ) (c : Choice) → drop n choices ≡ c ∷ rest
+    → slice_get choices n ≡ Some c
 drop_head [] rest zero c e = absurd (cc)
 drop_head [] rest (suc n) c e = absurd (cc)
 drop_head (d ∷ choices) rest zero c e = ap Some (cc)
 drop_head (d ∷ choices) rest (suc n) c e = drop_head choices rest n c e
 
-pub head_drop : (choices : List Choice) (n : ℕ) (c : Choice) → slice_get choices n ≡ Some c → (rest : List Choice) × (drop n choices ≡ c ∷ rest)
+pub head_drop : (choices : List Choice) (n : ℕ) (c : Choice) → slice_get choices n ≡ Some c
+    → (rest : List Choice) × (drop n choices ≡ c ∷ rest)
 head_drop [] zero c e = absurd (cc)
 head_drop [] (suc n) c e = absurd (cc)
 head_drop (d ∷ choices) zero c e = (choices, ap (λ z. z ∷ choices) (cc))
@@ -128,12 +138,16 @@ head_drop (d ∷ choices) (suc n) c e = head_drop choices n c e
 
 -- what a slot held at entry
 pub data Found (w : World) (kind : Param) (cs : List Choice) : Type 0 where
-  there : (c : Choice) (rest : List Choice) → cs ≡ c ∷ rest → is_content w kind c ≡ true → find_content w kind cs ≡ Ok (content.Holds (value_of c), 1) → Found w kind cs
+  there : (c : Choice) (rest : List Choice) → cs ≡ c ∷ rest → is_content w kind c ≡ true
+      → find_content w kind cs ≡ Ok (content.Holds (value_of c), 1) → Found w kind cs
   missing : find_content w kind cs ≡ Err halt.NeedsChoice → Found w kind cs
 
-found_by : (w : World) (kind : Param) (c : Choice) (rest : List Choice) (b : Bool) → is_content w kind c ≡ b → Found w kind (c ∷ rest)
-found_by w kind c rest true e = there c rest refl e (ap (λ b. cond b (Ok (content.Holds (value_of c), 1)) (Err halt.NeedsChoice)) e)
-found_by w kind c rest false e = missing (ap (λ b. cond b (Ok (content.Holds (value_of c), 1)) (Err halt.NeedsChoice)) e)
+found_by : (w : World) (kind : Param) (c : Choice) (rest : List Choice) (b : Bool) → is_content w kind c ≡ b
+    → Found w kind (c ∷ rest)
+found_by w kind c rest true e =
+    there c rest refl e (ap (λ b. cond b (Ok (content.Holds (value_of c), 1)) (Err halt.NeedsChoice)) e)
+found_by w kind c rest false e =
+    missing (ap (λ b. cond b (Ok (content.Holds (value_of c), 1)) (Err halt.NeedsChoice)) e)
 
 pub found_is : (w : World) (kind : Param) (cs : List Choice) → Found w kind cs
 found_is w kind [] = missing refl
@@ -149,21 +163,31 @@ Tc w r = record { place = length w.slots; used = r.1 }
 abbrev Tw : World → Slot → Content × ℕ → World
 Tw w s r = with_slot (with_content w r.0) s r.0
 
-pub touch_missing : (w : World) (s : Slot) (kind : Param) (cs : List Choice) → AreUnmade w → place_of w.slots s ≡ None → find_content w kind cs ≡ Err halt.NeedsChoice → touch w s kind cs ≡ Err halt.NeedsChoice
+pub touch_missing : (w : World) (s : Slot) (kind : Param) (cs : List Choice) → AreUnmade w
+    → place_of w.slots s ≡ None → find_content w kind cs ≡ Err halt.NeedsChoice
+    → touch w s kind cs ≡ Err halt.NeedsChoice
 touch_missing w s kind cs u e f =
     ap (touch_at w s kind cs) e
-    ∙ ap (λ b. (cond b (Ok (content.Unset, 0)) (find_content w kind cs)) >>= (λ r. Ok (Tc w r, Tw w s r))) (not_fresh w s u)
+    ∙ ap (λ b. (cond b (Ok (content.Unset, 0)) (find_content w kind cs)) >>= (λ r. Ok (Tc w r, Tw w s r)))
+    (not_fresh w s u)
     ∙ ap (λ z. z >>= (λ r. Ok (Tc w r, Tw w s r))) f
 
-pub touch_there : (w : World) (s : Slot) (kind : Param) (cs : List Choice) (v : Value) → AreUnmade w → place_of w.slots s ≡ None → find_content w kind cs ≡ Ok (content.Holds v, 1)
-    → touch w s kind cs ≡ Ok (record { place = length w.slots; used = 1 }, with_slot (with_value w v) s (content.Holds v))
+pub touch_there : (w : World) (s : Slot) (kind : Param) (cs : List Choice) (v : Value) → AreUnmade w
+    → place_of w.slots s ≡ None → find_content w kind cs ≡ Ok (content.Holds v, 1)
+    → touch w s kind cs ≡ Ok (
+      record { place = length w.slots; used = 1 },
+      with_slot (with_value w v) s
+          (content.Holds v),
+    )
 touch_there w s kind cs v u e f =
     ap (touch_at w s kind cs) e
-    ∙ ap (λ b. (cond b (Ok (content.Unset, 0)) (find_content w kind cs)) >>= (λ r. Ok (Tc w r, Tw w s r))) (not_fresh w s u)
+    ∙ ap (λ b. (cond b (Ok (content.Unset, 0)) (find_content w kind cs)) >>= (λ r. Ok (Tc w r, Tw w s r)))
+    (not_fresh w s u)
     ∙ ap (λ z. z >>= (λ r. Ok (Tc w r, Tw w s r))) f
 
 -- a content is as its mark says, and its object is there or the next one
-old_near : (w : World) (c : Choice) (b : Bool) → is_old w c ≡ true → (is_mark Pointer (value_of c) ≡ true) × IsNear w (value_of c)
+old_near : (w : World) (c : Choice) (b : Bool) → is_old w c ≡ true
+    → (is_mark Pointer (value_of c) ≡ true) × IsNear w (value_of c)
 old_near w choice.Null b e = absurd (let bad : false ≡ true = e in cc)
 old_near w (choice.Object k) b e = (refl, near k (length w.accounts) (not (is_made w k)) e)
   where
@@ -201,19 +225,22 @@ text_near w (choice.Failed n) e = absurd (let bad : false ≡ true = e in cc)
 abbrev Good : World → Param → Choice → Type 0
 Good w kind c = (is_mark (content_mark kind) (value_of c) ≡ true) × IsNear w (value_of c)
 
-pointer_good : (w : World) (c : Choice) → (is_null c || is_old w c) ≡ true → (is_mark Pointer (value_of c) ≡ true) × IsNear w (value_of c)
+pointer_good : (w : World) (c : Choice) → (is_null c || is_old w c) ≡ true
+    → (is_mark Pointer (value_of c) ≡ true) × IsNear w (value_of c)
 pointer_good w c e = elim (or_of (is_null c) (is_old w c) e) [
   | inl h ↦ (ap (is_mark Pointer) (null_near w c h), subst (IsNear w) (sym (null_near w c h)) tt)
   | inr h ↦ old_near w c true h
 ]
 
-text_good : (w : World) (c : Choice) → (is_null c || is_text c) ≡ true → (is_mark TextPointer (value_of c) ≡ true) × IsNear w (value_of c)
+text_good : (w : World) (c : Choice) → (is_null c || is_text c) ≡ true
+    → (is_mark TextPointer (value_of c) ≡ true) × IsNear w (value_of c)
 text_good w c e = elim (or_of (is_null c) (is_text c) e) [
   | inl h ↦ (ap (is_mark TextPointer) (null_near w c h), subst (IsNear w) (sym (null_near w c h)) tt)
   | inr h ↦ (ap (is_mark TextPointer) (text_near w c h), subst (IsNear w) (sym (text_near w c h)) tt)
 ]
 
-pub content_good : (w : World) (kind : Param) (c : Choice) → is_pointer kind ≡ true → is_content w kind c ≡ true → Good w kind c
+pub content_good : (w : World) (kind : Param) (c : Choice) → is_pointer kind ≡ true → is_content w kind c ≡ true
+    → Good w kind c
 content_good w param.Object c p e = pointer_good w c e
 content_good w param.ObjectOrNull c p e = pointer_good w c e
 content_good w param.Text c p e = text_good w c e

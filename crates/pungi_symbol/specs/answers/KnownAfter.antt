@@ -31,22 +31,27 @@ use Rattle.pungi_meaning.specs.Values.{is_true, truth, holds, arithmetic, number
 use Rattle.pungi_code.specs.declared.atom.Var.{Var}
 use Rattle.pungi_code.specs.declared.code.Line.{Line}
 use Rattle.pungi_code.specs.declared.instr.Instr.{Instr}
-use Rattle.pungi_code.specs.declared.instr.Instr.TheVariants.{Set, Arith, Fit, Compare, Load, Store, Api, Call, Unset as Forget, Jump, Branch, Return, Fall}
+use Rattle.pungi_code.specs.declared.instr.Instr.TheVariants.{Set, Arith, Fit, Compare, Load, Store, Api, Call}
+use Rattle.pungi_code.specs.declared.instr.Instr.TheVariants.{Unset as Forget, Jump, Branch, Return, Fall}
 use Rattle.pungi_symbol.specs.declared.answers.decision.Decision.{Decision}
 use Rattle.pungi_symbol.specs.declared.answers.decision.Decision.TheVariants.{Quiet, Outcome, Order, Same as IsSame}
 use Rattle.pungi_symbol.specs.declared.states.known.Known.{Known}
 use Rattle.pungi_symbol.specs.declared.states.known.Status.TheVariants as status
 use Rattle.pungi_symbol.specs.declared.states.mark.Mark.{Mark}
-use Rattle.pungi_symbol.specs.declared.states.mark.Mark.TheVariants.{Pointer, TextPointer, IsNull, IsObject, IsText, IsNumber}
+use Rattle.pungi_symbol.specs.declared.states.mark.Mark.TheVariants.{Pointer, TextPointer, IsNull, IsObject, IsText}
+use Rattle.pungi_symbol.specs.declared.states.mark.Mark.TheVariants.{IsNumber}
 use Rattle.pungi_symbol.specs.declared.questions.question.Question.{Question}
-use Rattle.pungi_symbol.specs.declared.questions.question.Question.TheVariants.{Does, Touches, Overwrites, Null as AsksNull, Base, Answers, Same, Returns, Stops, Over}
+use Rattle.pungi_symbol.specs.declared.questions.question.Question.TheVariants.{Does, Touches, Overwrites}
+use Rattle.pungi_symbol.specs.declared.questions.question.Question.TheVariants.{Null as AsksNull, Base, Answers, Same}
+use Rattle.pungi_symbol.specs.declared.questions.question.Question.TheVariants.{Returns, Stops, Over}
 use Rattle.pungi_symbol.specs.declared.states.spot.Progress.TheVariants.{Looking, Found}
 use Rattle.pungi_symbol.specs.declared.states.spot.Spot.{Spot}
 use Rattle.pungi_symbol.specs.declared.states.spot.Touched.{Touched}
 use Rattle.pungi_symbol.specs.declared.states.term.Term.{Term}
 use Rattle.pungi_symbol.specs.declared.states.term.Term.TheVariants.{Unset, Null, Text, Number, Token}
 use Rattle.pungi_symbol.specs.states.Terms.{outcomes_of_mark, outcomes_of_answer, mark_at}
-use Rattle.pungi_symbol.specs.states.Known.{count, mark_of, term_of, known_value, number, slot_note, find, found_at, held_in, spot_of}
+use Rattle.pungi_symbol.specs.states.Known.{count, mark_of, term_of, known_value, number, slot_note, find, found_at}
+use Rattle.pungi_symbol.specs.states.Known.{held_in, spot_of}
 use Rattle.pungi_symbol.specs.questions.NextQuestion.{first_term, terms_of}
 
 abbrev pub go_on : Known → Known
@@ -141,7 +146,8 @@ touch s held k = record k { slots = k.slots ++ touched_slot k s held ∷ [] }
 
 -- a slot is touched for the first time: it is loaded, or written
 abbrev pub load_first : Instr → Mark → Known → Known
-load_first (Load x place) m k = go_on (put x.0 (Token (count k)) (arrive m (touch (spot_of k place) (Token (count k)) k)))
+load_first (Load x place) m k =
+    go_on (put x.0 (Token (count k)) (arrive m (touch (spot_of k place) (Token (count k)) k)))
 load_first i m k = arrive m k
 
 abbrev pub store_first : Instr → Mark → Known → Known
@@ -152,12 +158,14 @@ store_first i m k = arrive m k
 
 abbrev pub does : Known → Instr → Known
 does k (Set x a) = go_on (put x.0 (term_of k a) k)
-does k (Arith x kind o a b) = go_on (put x.0 (Number (number_there (arithmetic o kind (number k (term_of k a)) (number k (term_of k b))))) k)
+does k (Arith x kind o a b) =
+    go_on (put x.0 (Number (number_there (arithmetic o kind (number k (term_of k a)) (number k (term_of k b))))) k)
 does k (Fit x kind a) = go_on (put x.0 (Number (number k (term_of k a))) k)
 does k (Compare x c a b) = go_on (put x.0 (truth_term (compares k c (term_of k a) (term_of k b))) k)
 does k (Load x place) = go_on (put x.0 (held_in k (find k place)) k)
 does k (Store place a) = go_on (store_at (found_at (find k place)) (term_of k a) k)
-does k (Api x shape as' outs) = go_on (put_answer x (answer_of_form shape.row.form shape.row.answer (first_term (terms_of k as'))) k)
+does k (Api x shape as' outs) =
+    go_on (put_answer x (answer_of_form shape.row.form shape.row.answer (first_term (terms_of k as'))) k)
 does k (Call x f as') = k
 does k (Forget x) = go_on (put x.0 Unset k)
 does k (Jump l) = go_to l.0 k
@@ -181,10 +189,12 @@ abbrev pub go : Option Line → Known → Question → Decision → Known
 go line k (Does d') d = perform_line line (λ i. does k i) k
 go line k (Touches m) d = load_first (instr_of line) m k
 go line k (Overwrites m) d = store_first (instr_of line) (mark_at (outcomes_of_mark m) (number_of_outcome d)) k
-go line k (AsksNull t) d = record k { marks = slice_set k.marks t (mark_at (outcomes_of_mark (mark_of k t)) (number_of_outcome d)) }
+go line k (AsksNull t) d =
+    record k { marks = slice_set k.marks t (mark_at (outcomes_of_mark (mark_of k t)) (number_of_outcome d)) }
 go line k (Base t u i) d = record k { progress = if says_same d then Found i else Looking (i + 1) }
 go line k (Answers a) d =
-    go_on (put_answer (call_var (instr_of line)) (Some (term_with (mark_at (outcomes_of_answer a) (number_of_outcome d)) (count k))) (arrive (mark_at (outcomes_of_answer a) (number_of_outcome d)) k))
+    go_on (put_answer (call_var (instr_of line)) (Some (term_with (mark_at (outcomes_of_answer a)
+    (number_of_outcome d)) (count k))) (arrive (mark_at (outcomes_of_answer a) (number_of_outcome d)) k))
 go line k (Same t u) d = go_on (put (comparison_var (instr_of line)) (comparison_term (says_same d) (instr_of line)) k)
 go line k (Returns x) d = record k { status = status.Returned (place_of_line line) x }
 go line k (Stops d') d = record k { status = status.Stopped (place_of_line line) }

@@ -15,7 +15,8 @@
 --   decisions               all answers, in the order in which the states after them stand
 --   after_if, successors    the states after the answers that the next question still has
 --   after_left              the state after an answer that is left over, if there is one
-use Rattle.std.specs.Prelude.{ℕ, ◌==◌, nat_lt, ℤ, pos, negsuc, ◌+ℤ◌, Bool, true, false, not, ◌&&◌, ◌||◌, List, [], ◌∷◌, ◌++◌, length, get_or, slice_get, slice_set, map, Option, Some, None, if◌then◌else◌}
+use Rattle.std.specs.Prelude.{ℕ, ◌==◌, nat_lt, ℤ, pos, negsuc, ◌+ℤ◌, Bool, true, false, not, ◌&&◌, ◌||◌, List, [], ◌∷◌}
+use Rattle.std.specs.Prelude.{◌++◌, length, get_or, slice_get, slice_set, map, Option, Some, None, if◌then◌else◌}
 use Rattle.std.specs.List.{list_any, flat_map}
 use Rattle.std.specs.declared.cmp.Ordering.{Ordering}
 use Rattle.std.specs.declared.cmp.Ordering.TheVariants.{Less, Equal, Greater}
@@ -35,9 +36,12 @@ use Rattle.pungi_symbol.specs.declared.answers.decision.Decision.{Decision}
 use Rattle.pungi_symbol.specs.declared.answers.decision.Decision.TheVariants.{Quiet, Outcome, Order, Same as IsSame}
 use Rattle.pungi_symbol.specs.declared.states.known.Known.{Known}
 use Rattle.pungi_symbol.specs.declared.states.mark.Mark.{Mark}
-use Rattle.pungi_symbol.specs.declared.states.mark.Mark.TheVariants.{Pointer, TextPointer, IsNull, IsObject, IsText, IsNumber}
+use Rattle.pungi_symbol.specs.declared.states.mark.Mark.TheVariants.{Pointer, TextPointer, IsNull, IsObject, IsText}
+use Rattle.pungi_symbol.specs.declared.states.mark.Mark.TheVariants.{IsNumber}
 use Rattle.pungi_symbol.specs.declared.questions.question.Question.{Question}
-use Rattle.pungi_symbol.specs.declared.questions.question.Question.TheVariants.{Does, Touches, Overwrites, Null as AsksNull, Base, Answers, Same, Returns, Stops, Over}
+use Rattle.pungi_symbol.specs.declared.questions.question.Question.TheVariants.{Does, Touches, Overwrites}
+use Rattle.pungi_symbol.specs.declared.questions.question.Question.TheVariants.{Null as AsksNull, Base, Answers, Same}
+use Rattle.pungi_symbol.specs.declared.questions.question.Question.TheVariants.{Returns, Stops, Over}
 use Rattle.pungi_symbol.specs.declared.states.state.Pair.{Pair}
 use Rattle.pungi_symbol.specs.declared.states.state.State.{State}
 use Rattle.pungi_symbol.specs.declared.states.term.Term.{Term}
@@ -56,7 +60,9 @@ balance_at balances t = get_or balances t (pos 0)
 
 -- whether a pair says that the tokens of these classes differ
 abbrev pub is_part : List ℕ → ℕ → ℕ → Pair → Bool
-is_part classes c d p = ((class_of classes p.a == c) && (class_of classes p.b == d)) || ((class_of classes p.a == d) && (class_of classes p.b == c))
+is_part classes c d p =
+    ((class_of classes p.a == c) && (class_of classes p.b == d))
+    || ((class_of classes p.a == d) && (class_of classes p.b == c))
 
 abbrev pub are_one : List ℕ → ℕ → ℕ → Bool
 are_one classes t u = class_of classes t == class_of classes u
@@ -64,7 +70,8 @@ are_one classes t u = class_of classes t == class_of classes u
 -- two static objects differ
 abbrev pub are_other : ℕ → List ℕ → List Pair → ℕ → ℕ → Bool
 are_other statics classes others t u =
-    (nat_lt (class_of classes t) statics && nat_lt (class_of classes u) statics) || list_any (is_part classes (class_of classes t) (class_of classes u)) others
+    (nat_lt (class_of classes t) statics && nat_lt (class_of classes u) statics)
+    || list_any (is_part classes (class_of classes t) (class_of classes u)) others
 
 abbrev pub is_order : Ordering → Ordering → Bool
 is_order Less Less = true
@@ -112,7 +119,8 @@ can s Over d = false
 
 abbrev pub add_to : List ℕ → Option ℕ → ℤ → List ℤ → List ℤ
 add_to classes None d balances = balances
-add_to classes (Some t) d balances = slice_set balances (class_of classes t) (balance_at balances (class_of classes t) +ℤ d)
+add_to classes (Some t) d balances =
+    slice_set balances (class_of classes t) (balance_at balances (class_of classes t) +ℤ d)
 
 abbrev pub add_term : List ℕ → Known → Term → ℤ → List ℤ → List ℤ
 add_term classes k x d balances = add_to classes (object_of k x) d balances
@@ -125,7 +133,8 @@ lower classes k (x ∷ xs) balances = lower classes k xs (add_term classes k x (
 abbrev pub taken_terms : Bool → List Take → List Term → List Term
 taken_terms success [] xs = []
 taken_terms success (t ∷ ts) [] = []
-taken_terms success (t ∷ ts) (x ∷ xs) = if is_taken success t then x ∷ taken_terms success ts xs else taken_terms success ts xs
+taken_terms success (t ∷ ts) (x ∷ xs) =
+    if is_taken success t then x ∷ taken_terms success ts xs else taken_terms success ts xs
 
 abbrev pub terms_taken_by : Bool → Instr → Known → List Term
 terms_taken_by success (Api x shape as' outs) k = taken_terms success shape.row.takes (terms_of k as')
@@ -145,7 +154,8 @@ form_weigh classes k form.Plain shape xs balances = lower classes k (taken_terms
 form_weigh classes k (form.Special s) shape xs balances = special_weigh classes k s (first_term xs) balances
 
 abbrev pub weigh : List ℕ → Known → Instr → List ℤ → List ℤ
-weigh classes k (Store place a) balances = add_term classes k (term_of k a) (negsuc 0) (add_term classes k (held_in k (find k place)) (pos 1) balances)
+weigh classes k (Store place a) balances =
+    add_term classes k (term_of k a) (negsuc 0) (add_term classes k (held_in k (find k place)) (pos 1) balances)
 weigh classes k (Api x shape as' outs) balances = form_weigh classes k shape.row.form shape (terms_of k as') balances
 weigh classes k i balances = balances
 
@@ -189,12 +199,16 @@ abbrev pub join : ℤ → List ℤ → State → State
 join d balances s = record s { classes = s.classes ++ count s.known ∷ []; balances = balances ++ d ∷ [] }
 
 abbrev pub take_answer : Instr → Answer → Mark → State → State
-take_answer i a m s = join (owed_for_answer a m) (lower s.classes s.known (terms_taken_by (is_success a (Some (value_of_mark m))) i s.known) s.balances) s
+take_answer i a m s =
+    join (owed_for_answer a m) (lower s.classes s.known (terms_taken_by (is_success a (Some (value_of_mark m))) i
+    s.known) s.balances) s
 
 abbrev pub follow : Option Line → Question → Decision → State → State
 follow line (Does d') d s = record s { balances = weigh s.classes s.known (instr_of line) s.balances }
 follow line (Touches m) d s = join (pos 0) s.balances s
-follow line (Overwrites m) d s = join (owed_for (mark_at (outcomes_of_mark m) (number_of_outcome d))) (lower s.classes s.known (stored_term (instr_of line) s.known) s.balances) s
+follow line (Overwrites m) d s =
+    join (owed_for (mark_at (outcomes_of_mark m) (number_of_outcome d))) (lower s.classes s.known
+    (stored_term (instr_of line) s.known) s.balances) s
 follow line (AsksNull t) d s = s
 follow line (Base t u i) d s = apply_same (are_one s.classes t u) (says_same d) t u s
 follow line (Answers a) d s = take_answer (instr_of line) a (mark_at (outcomes_of_answer a) (number_of_outcome d)) s
@@ -207,7 +221,9 @@ abbrev pub apply : Option Line → Question → Decision → State → State
 apply line q d s = record (follow line q d s) { known = go line s.known q d }
 
 abbrev pub decisions : List Decision
-decisions = Quiet ∷ Outcome 0 ∷ Outcome 1 ∷ Outcome 2 ∷ Order Less ∷ Order Equal ∷ Order Greater ∷ IsSame false ∷ IsSame true ∷ []
+decisions =
+    Quiet ∷ Outcome 0 ∷ Outcome 1 ∷ Outcome 2 ∷ Order Less ∷ Order Equal ∷ Order Greater ∷ IsSame false
+    ∷ IsSame true ∷ []
 
 abbrev pub after_if : Option Line → Question → State → Decision → List (Decision × State)
 after_if line q s d = if can s q d then (d, apply line q d s) ∷ [] else []

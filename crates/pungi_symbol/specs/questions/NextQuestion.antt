@@ -17,7 +17,8 @@
 --   asks_return                    it is a return
 --   asks_instr k i, asks_line      what an instruction asks; what the next one asks, if there is one
 --   ask_while, ask code k          what is asked next, where the run isn't over
-use Rattle.std.specs.Prelude.{ℕ, ℤ, pos, Bool, ◌&&◌, not, int_lt, List, [], ◌∷◌, map, slice_get, Option, Some, None, if◌then◌else◌}
+use Rattle.std.specs.Prelude.{ℕ, ℤ, pos, Bool, ◌&&◌, not, int_lt, List, [], ◌∷◌, map, slice_get, Option, Some, None}
+use Rattle.std.specs.Prelude.{if◌then◌else◌}
 use Rattle.std.specs.Ordering.{int_cmp}
 use Rattle.pungi_api.specs.declared.answer.Answer.{Answer}
 use Rattle.pungi_api.specs.declared.answer.Answer.TheVariants as answer
@@ -36,7 +37,8 @@ use Rattle.pungi_meaning.specs.Values.{fits, arithmetic, result_of, is_undefined
 use Rattle.pungi_code.specs.declared.atom.Atom.{Atom}
 use Rattle.pungi_code.specs.declared.code.Line.{Line}
 use Rattle.pungi_code.specs.declared.instr.Instr.{Instr}
-use Rattle.pungi_code.specs.declared.instr.Instr.TheVariants.{Set, Arith, Fit, Compare, Load, Store, Api, Call, Unset as Forget, Jump, Branch, Return, Fall}
+use Rattle.pungi_code.specs.declared.instr.Instr.TheVariants.{Set, Arith, Fit, Compare, Load, Store, Api, Call}
+use Rattle.pungi_code.specs.declared.instr.Instr.TheVariants.{Unset as Forget, Jump, Branch, Return, Fall}
 use Rattle.pungi_code.specs.WellFormed.{place_kind}
 use Rattle.pungi_symbol.specs.declared.answers.decision.Decision.TheVariants.{Quiet, Outcome, Order}
 use Rattle.pungi_symbol.specs.declared.questions.found_slot.Finding.{Finding}
@@ -45,9 +47,12 @@ use Rattle.pungi_symbol.specs.declared.states.known.Known.{Known}
 use Rattle.pungi_symbol.specs.declared.states.known.Status.{Status}
 use Rattle.pungi_symbol.specs.declared.states.known.Status.TheVariants as status
 use Rattle.pungi_symbol.specs.declared.states.mark.Mark.{Mark}
-use Rattle.pungi_symbol.specs.declared.states.mark.Mark.TheVariants.{Pointer, TextPointer, IsNull, IsObject, IsText, IsNumber}
+use Rattle.pungi_symbol.specs.declared.states.mark.Mark.TheVariants.{Pointer, TextPointer, IsNull, IsObject, IsText}
+use Rattle.pungi_symbol.specs.declared.states.mark.Mark.TheVariants.{IsNumber}
 use Rattle.pungi_symbol.specs.declared.questions.question.Question.{Question}
-use Rattle.pungi_symbol.specs.declared.questions.question.Question.TheVariants.{Does, Touches, Overwrites, Null as AsksNull, Answers, Same, Returns, Stops, Over}
+use Rattle.pungi_symbol.specs.declared.questions.question.Question.TheVariants.{Does, Touches, Overwrites}
+use Rattle.pungi_symbol.specs.declared.questions.question.Question.TheVariants.{Null as AsksNull, Answers, Same}
+use Rattle.pungi_symbol.specs.declared.questions.question.Question.TheVariants.{Returns, Stops, Over}
 use Rattle.pungi_symbol.specs.declared.states.term.Term.{Term}
 use Rattle.pungi_symbol.specs.declared.states.term.Term.TheVariants.{Unset, Null, Text, Number, Token}
 use Rattle.pungi_symbol.specs.states.Known.{mark_of, term_of, number, object_of, number_in, slot_note, find}
@@ -102,7 +107,9 @@ asks_same (Some t) None = Does Quiet
 asks_same (Some t) (Some u) = Same t u
 
 abbrev pub asks_compare : Known → Term → Term → Question
-asks_compare k a b = asks_order (number_in a) (number_in b) (asks_known k a (asks_known k b (asks_same (object_of k a) (object_of k b))))
+asks_compare k a b =
+    asks_order (number_in a) (number_in b) (asks_known k a (asks_known k b
+    (asks_same (object_of k a) (object_of k b))))
 
 -- below the range, within it, above it
 abbrev pub asks_range : Option ℤ → Bool → Question
@@ -195,7 +202,8 @@ asks_special k special.XNewRef x = asks_known k x (Does Quiet)
 asks_special k s x = Stops Quiet
 
 abbrev pub asks_form : Known → Form → Shape → List Term → Question
-asks_form k form.Plain shape xs = asks_params k shape.row.params xs (asks_takes k shape.row.takes xs (asks_answer shape.row.answer))
+asks_form k form.Plain shape xs =
+    asks_params k shape.row.params xs (asks_takes k shape.row.takes xs (asks_answer shape.row.answer))
 asks_form k (form.Special s) shape xs = asks_special k s (first_term xs)
 
 abbrev pub terms_of : Known → List Atom → List Term
@@ -210,16 +218,19 @@ asks_return k (Some a) = asks_known k (term_of k a) (Returns (Some (term_of k a)
 abbrev pub asks_instr : Known → Instr → Question
 asks_instr k (Set x a) = asks_set (term_of k a) (Does Quiet)
 asks_instr k (Arith x kind o a b) =
-    asks_set (term_of k a) (asks_set (term_of k b) (asks_range (arithmetic o kind (number k (term_of k a)) (number k (term_of k b))) (is_below o (number k (term_of k a)) (number k (term_of k b)))))
+    asks_set (term_of k a) (asks_set (term_of k b) (asks_range (arithmetic o kind (number k (term_of k a))
+    (number k (term_of k b))) (is_below o (number k (term_of k a)) (number k (term_of k b)))))
 asks_instr k (Fit x kind a) = asks_set (term_of k a) (asks_fit kind (number k (term_of k a)))
 asks_instr k (Compare x c a b) = asks_compare k (term_of k a) (term_of k b)
 asks_instr k (Load x place) = asks_load k (content_mark (place_kind place)) (find k place)
-asks_instr k (Store place a) = asks_known k (term_of k a) (asks_store k (content_mark (place_kind place)) (find k place))
+asks_instr k (Store place a) =
+    asks_known k (term_of k a) (asks_store k (content_mark (place_kind place)) (find k place))
 asks_instr k (Api x shape as' outs) = asks_all_set (terms_of k as') (asks_form k shape.row.form shape (terms_of k as'))
 asks_instr k (Call x f as') = Stops Quiet
 asks_instr k (Forget x) = Does Quiet
 asks_instr k (Jump to) = Does Quiet
-asks_instr k (Branch a this other) = asks_order (number_in (term_of k a)) (Some (pos 0)) (asks_known k (term_of k a) (Does Quiet))
+asks_instr k (Branch a this other) =
+    asks_order (number_in (term_of k a)) (Some (pos 0)) (asks_known k (term_of k a) (Does Quiet))
 asks_instr k (Return a) = asks_return k a
 asks_instr k Fall = Stops Quiet
 

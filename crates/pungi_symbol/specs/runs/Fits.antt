@@ -7,7 +7,8 @@
 --   AreTermsSound           each term has a token that is there
 --   AreNotesSound           what is noted of tokens isn't against itself
 --   IsSound                 a state notes nothing against itself
-use Rattle.std.specs.Prelude.{◌≡◌, ℕ, ◌≤◌, ◌<◌, ℤ, pos, ◌+ℤ◌, Bool, true, List, [], ◌∷◌, length, get_or, if◌then◌else◌, All}
+use Rattle.std.specs.Prelude.{◌≡◌, ℕ, ◌≤◌, ◌<◌, ℤ, pos, ◌+ℤ◌, Bool, true, List, [], ◌∷◌, length, get_or, if◌then◌else◌}
+use Rattle.std.specs.Prelude.{All}
 use Rattle.pungi_base.specs.declared.value.Value.{Value}
 use Rattle.pungi_base.specs.declared.value.Value.TheVariants as value
 use Rattle.pungi_world.specs.Escapes.{is_this_object}

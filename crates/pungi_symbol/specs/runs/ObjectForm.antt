@@ -22,7 +22,8 @@ use Rattle.pungi_code.specs.declared.atom.Atom.{Atom}
 use Rattle.pungi_code.specs.declared.atom.Atom.TheVariants as atom
 use Rattle.pungi_code.specs.declared.code.Code.{Code}
 use Rattle.pungi_code.specs.declared.instr.Instr.{Instr}
-use Rattle.pungi_code.specs.declared.instr.Instr.TheVariants.{Set, Arith, Fit, Compare, Load, Store, Api, Call, Unset, Jump, Branch, Return, Fall}
+use Rattle.pungi_code.specs.declared.instr.Instr.TheVariants.{Set, Arith, Fit, Compare, Load, Store, Api, Call, Unset}
+use Rattle.pungi_code.specs.declared.instr.Instr.TheVariants.{Jump, Branch, Return, Fall}
 use Rattle.pungi_code.specs.declared.place.Place.{Place}
 use Rattle.pungi_code.specs.declared.place.Place.TheVariants.{Global, Field}
 use Rattle.pungi_code.specs.WellFormed.{place_kind}
@@ -101,4 +102,6 @@ abbrev pub is_object_instr : ℕ → Instr → Bool
 is_object_instr n i = is_known_here i && list_all (is_there n) (atoms_of i)
 
 abbrev pub has_object_form : ℕ → Code → Bool
-has_object_form n code = list_all is_pointer_param (take code.params code.vars) && list_all (λ line. is_object_instr n line.instr) code.instrs
+has_object_form n code =
+    list_all is_pointer_param (take code.params code.vars)
+    && list_all (λ line. is_object_instr n line.instr) code.instrs

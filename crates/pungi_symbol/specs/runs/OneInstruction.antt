@@ -6,7 +6,8 @@
 --   leads_line, leads_at         where the next instruction leads
 --   led_on choices code a m      where one more instruction leads; a run that is over stays where it is
 --   machine_at choices code n m  where so many instructions lead from the start of a code, where m is held at first
-use Rattle.std.specs.Prelude.{ℕ, zero, suc, ◌+◌, ℤ, List, ◌++◌, replicate, slice_get, Option, Some, None, Result, Ok, Err, if◌then◌else◌}
+use Rattle.std.specs.Prelude.{ℕ, zero, suc, ◌+◌, ℤ, List, ◌++◌, replicate, slice_get, Option, Some, None, Result, Ok}
+use Rattle.std.specs.Prelude.{Err, if◌then◌else◌}
 use Rattle.pungi_base.specs.declared.choice.Choice.{Choice}
 use Rattle.pungi_base.specs.declared.pos.Pos.{Pos}
 use Rattle.pungi_base.specs.declared.value.Value.{Value}
@@ -25,7 +26,8 @@ use Rattle.pungi_meaning.specs.Run.{nowhere}
 use Rattle.pungi_meaning.specs.Values.{fits, is_true, truth, arithmetic, holds, number_of}
 use Rattle.pungi_code.specs.declared.code.Line.{Line}
 use Rattle.pungi_code.specs.declared.instr.Instr.{Instr}
-use Rattle.pungi_code.specs.declared.instr.Instr.TheVariants.{Set, Arith, Fit, Compare, Load, Store, Api, Call, Unset, Jump, Branch, Return, Fall}
+use Rattle.pungi_code.specs.declared.instr.Instr.TheVariants.{Set, Arith, Fit, Compare, Load, Store, Api, Call, Unset}
+use Rattle.pungi_code.specs.declared.instr.Instr.TheVariants.{Jump, Branch, Return, Fall}
 use Rattle.pungi_code.specs.declared.registers.After.{After}
 use Rattle.pungi_code.specs.declared.registers.After.TheVariants as after
 use Rattle.pungi_code.specs.Registers.{Regs, put, content_of, all_values, choices_left, put_answer, with_outputs}
@@ -62,21 +64,29 @@ goes pc m = (after.Goes pc, m)
 abbrev pub leads : List Choice → Instr → Pos → ℕ → Regs → Led
 leads choices (Set x a) p pc m = on_value (content_of a m.vars) p m (λ v. goes (pc + 1) (put x (content.Holds v) m))
 leads choices (Arith x kind o a b) p pc m =
-    on_value (content_of a m.vars) p m (λ v. on_value (content_of b m.vars) p m (λ w. on_number (arithmetic o kind (number_of v) (number_of w)) p m (λ n. goes (pc + 1) (put x (content.Holds (value.Int n)) m))))
+    on_value (content_of a m.vars) p m (λ v. on_value (content_of b m.vars) p m
+    (λ w. on_number (arithmetic o kind (number_of v) (number_of w)) p m (λ n. goes (pc + 1)
+    (put x (content.Holds (value.Int n)) m))))
 leads choices (Fit x kind a) p pc m =
-    on_value (content_of a m.vars) p m (λ v. if fits kind (number_of v) then goes (pc + 1) (put x (content.Holds (value.Int (number_of v))) m) else (after.Stops p, m))
+    on_value (content_of a m.vars) p m (λ v. if fits kind (number_of v) then goes (pc + 1)
+    (put x (content.Holds (value.Int (number_of v))) m) else (after.Stops p, m))
 leads choices (Compare x c a b) p pc m =
-    on_value (content_of a m.vars) p m (λ v. on_value (content_of b m.vars) p m (λ w. goes (pc + 1) (put x (content.Holds (truth (holds c v w))) m)))
+    on_value (content_of a m.vars) p m (λ v. on_value (content_of b m.vars) p m
+    (λ w. goes (pc + 1) (put x (content.Holds (truth (holds c v w))) m)))
 leads choices (Load x place) p pc m =
-    on_slot (slot_of place m.vars) p m (λ s kind. on_effect p (load_effect m.world s kind (choices_left choices m)) m (λ e r. goes (pc + 1) (put_answer (Some x) e.value r)))
+    on_slot (slot_of place m.vars) p m (λ s kind. on_effect p (load_effect m.world s kind (choices_left choices m))
+    m (λ e r. goes (pc + 1) (put_answer (Some x) e.value r)))
 leads choices (Store place a) p pc m =
-    on_value (content_of a m.vars) p m (λ v. on_slot (slot_of place m.vars) p m (λ s kind. on_effect p (store_effect m.world s kind v (choices_left choices m)) m (λ e r. goes (pc + 1) r)))
+    on_value (content_of a m.vars) p m (λ v. on_slot (slot_of place m.vars) p m
+    (λ s kind. on_effect p (store_effect m.world s kind v (choices_left choices m)) m (λ e r. goes (pc + 1) r)))
 leads choices (Api x shape as' outs) p pc m =
-    on_values (all_values as' m.vars) p m (λ vs. on_effect p (call_effect m.world shape vs (choices_left choices m)) m (λ e r. goes (pc + 1) (with_outputs outs e.outputs (put_answer x e.value r))))
+    on_values (all_values as' m.vars) p m (λ vs. on_effect p (call_effect m.world shape vs (choices_left choices m))
+    m (λ e r. goes (pc + 1) (with_outputs outs e.outputs (put_answer x e.value r))))
 leads choices (Call x f as') p pc m = (after.Stops p, m)
 leads choices (Unset x) p pc m = goes (pc + 1) (put x content.Unset m)
 leads choices (Jump to) p pc m = goes to.0 m
-leads choices (Branch a this other) p pc m = on_value (content_of a m.vars) p m (λ v. goes (if is_true v then this.0 else other.0) m)
+leads choices (Branch a this other) p pc m =
+    on_value (content_of a m.vars) p m (λ v. goes (if is_true v then this.0 else other.0) m)
 leads choices (Return None) p pc m = (after.Leaves p None, m)
 leads choices (Return (Some a)) p pc m = on_value (content_of a m.vars) p m (λ v. (after.Leaves p (Some v), m))
 leads choices Fall p pc m = (after.Stops p, m)

@@ -19,7 +19,8 @@
 --   end_of                        how a state ends
 --   returned_object, is_class     the token that is returned, where it is an object; whether a token stands for it
 --   wanted, IsLevelState          what is owed to the object of a token where a function returns; each balance is that
-use Rattle.std.specs.Prelude.{◌≡◌, ℕ, ◌+◌, ◌-◌, ◌<◌, ◌≤◌, ◌==◌, ℤ, pos, ◌⊎◌, Bool, true, false, List, [], ◌∷◌, ◌++◌, length, map, take, replicate, slice_get, Option, Some, None, if◌then◌else◌}
+use Rattle.std.specs.Prelude.{◌≡◌, ℕ, ◌+◌, ◌-◌, ◌<◌, ◌≤◌, ◌==◌, ℤ, pos, ◌⊎◌, Bool, true, false, List, [], ◌∷◌, ◌++◌}
+use Rattle.std.specs.Prelude.{length, map, take, replicate, slice_get, Option, Some, None, if◌then◌else◌}
 use Rattle.std.specs.List.{range_with_len}
 use Rattle.pungi_base.specs.declared.choice.Choice.{Choice}
 use Rattle.pungi_base.specs.declared.choice.Choice.TheVariants as choice
@@ -43,7 +44,8 @@ use Rattle.pungi_symbol.specs.declared.states.known.Known.{Known}
 use Rattle.pungi_symbol.specs.declared.states.known.Status.{Status}
 use Rattle.pungi_symbol.specs.declared.states.known.Status.TheVariants as status
 use Rattle.pungi_symbol.specs.declared.states.mark.Mark.{Mark}
-use Rattle.pungi_symbol.specs.declared.states.mark.Mark.TheVariants.{Pointer, TextPointer, IsNull, IsObject, IsText, IsNumber}
+use Rattle.pungi_symbol.specs.declared.states.mark.Mark.TheVariants.{Pointer, TextPointer, IsNull, IsObject, IsText}
+use Rattle.pungi_symbol.specs.declared.states.mark.Mark.TheVariants.{IsNumber}
 use Rattle.pungi_symbol.specs.declared.states.spot.Progress.TheVariants.{Looking}
 use Rattle.pungi_symbol.specs.declared.states.state.State.{State}
 use Rattle.pungi_symbol.specs.declared.states.sym_end.SymEnd.{SymEnd}
@@ -76,7 +78,8 @@ abbrev pub known_at : ℕ → ℕ → Code → Known
 known_at statics f code = record {
   function = f;
   pc = 0;
-  vars = map Token (range_with_len statics (argument_count code)) ++ replicate (length code.vars - argument_count code) Unset;
+  vars = map Token (range_with_len statics (argument_count code))
+      ++ replicate (length code.vars - argument_count code) Unset;
   slots = [];
   marks = replicate statics IsObject ++ map content_mark (take code.params code.vars);
   progress = Looking 0;
@@ -104,7 +107,8 @@ table_of statics entry choices = map value.Object (range_with_len 0 statics) ++ 
 pub data Asked (code : List Line) (table : Table) (first : Known) : List Decision → Known → Type 0 where
   asked_here : Asked code table first [] first
   asked_on : (ds : List Decision) (k : Known) → Asked code table first ds k → k.status ≡ status.Going
-      → Asked code table first (answer table k (ask code k) ∷ ds) (go (slice_get code k.pc) k (ask code k) (answer table k (ask code k)))
+      → Asked code table first (answer table k (ask code k)
+      ∷ ds) (go (slice_get code k.pc) k (ask code k) (answer table k (ask code k)))
 
 pub data Path (code : List Line) (first : State) : List Decision → State → Type 0 where
   path_here : Path code first [] first
@@ -122,14 +126,17 @@ led_of table m pc (status.Returned p x) = (after.Leaves p (returned_value table 
 led_of table m pc (status.Stopped p) = (after.Stops p, m)
 
 abbrev pub EndsFrom : Code → Entry → List Choice → ℕ → Led → Type 0
-EndsFrom code entry choices n led = (fuel : ℕ) → run_for code entry choices (n + fuel) ≡ (Reaches (exec choices code.instrs fuel) led.0 led.1).end
+EndsFrom code entry choices n led =
+    (fuel : ℕ) → run_for code entry choices (n + fuel) ≡ (Reaches (exec choices code.instrs fuel) led.0 led.1).end
 
-pub record IsAt (code : Code) (entry : Entry) (choices : List Choice) (n : ℕ) (table : Table) (m : Regs) (pc : ℕ) (z : Status) : Type 0 where
+pub record IsAt (code : Code) (entry : Entry) (choices : List Choice) (n : ℕ) (table : Table) (m : Regs) (pc : ℕ)
+    (z : Status) : Type 0 where
   pub machine : machine_at choices code.instrs n (start code entry) ≡ led_of table m pc z
   pub ends : EndsFrom code entry choices n (led_of table m pc z)
 
 -- each instruction asks at least once
-pub record Meets (statics f : ℕ) (code : Code) (entry : Entry) (choices : List Choice) (n : ℕ) (ds : List Decision) (s : State) : Type 0 where
+pub record Meets (statics f : ℕ) (code : Code) (entry : Entry) (choices : List Choice) (n : ℕ) (ds : List Decision)
+    (s : State) : Type 0 where
   pub path : Path code.instrs (start_state statics f code) ds s
   pub asked : Asked code.instrs (table_of statics entry choices) (known_at statics f code) ds s.known
   pub m : Regs
@@ -139,10 +146,12 @@ pub record Meets (statics f : ℕ) (code : Code) (entry : Entry) (choices : List
 
 abbrev pub IsCovered : ℕ → ℕ → Code → Type 0
 IsCovered statics f code = (entry : Entry) (choices : List Choice) (n : ℕ) → code_fits statics code entry ≡ true
-    → (run_for code entry choices n ≡ run.NeedsChoice) ⊎ ((ds : List Decision) × ((s : State) × Meets statics f code entry choices n ds s))
+    → (run_for code entry choices n ≡ run.NeedsChoice)
+    ⊎ ((ds : List Decision) × ((s : State) × Meets statics f code entry choices n ds s))
 
 abbrev pub GoesBack : List Line → State → Decision × State → Type 0
-GoesBack code s p = (table : Table) → FitsState table p.1 → FitsState table s × (answer table s.known (ask code s.known) ≡ p.0)
+GoesBack code s p =
+    (table : Table) → FitsState table p.1 → FitsState table s × (answer table s.known (ask code s.known) ≡ p.0)
 
 -- ---- a run for a state
 
@@ -163,7 +172,9 @@ abbrev pub canon : State → Table
 canon s = own_values s.known.marks s.classes
 
 abbrev pub AreApart : State → Table → Type 0
-AreApart s table = (t u o : ℕ) → t < count s.known → u < count s.known → at table t ≡ value.Object o → at table u ≡ value.Object o → class_of s.classes t ≡ class_of s.classes u
+AreApart s table =
+    (t u o : ℕ) → t < count s.known → u < count s.known → at table t ≡ value.Object o → at table u ≡ value.Object o
+    → class_of s.classes t ≡ class_of s.classes u
 
 abbrev pub choice_of : Value → Choice
 choice_of value.Null = choice.Null

@@ -1,5 +1,5 @@
--- When a run lies in a state: the values of the tokens fit it, the state shows what the run holds, and its balances are what the
--- objects are owed.
+-- When a run lies in a state: the values of the tokens fit it, the state shows what the run holds, and its balances are
+-- what the objects are owed.
 --   number_of_object v     the number of the object that a value is
 --   slot_in, state_in      a slot of a run, as a state shows it
 --   owed w o               what an object is owed: its change, less what escaped of it so far
@@ -8,7 +8,8 @@
 --   IsWalked               the slots that the search passed are others, and the slot that it found is the one
 --   answer table k q       what the values of the tokens answer to a question
 --   Lies                   a run lies in a state
-use Rattle.std.specs.Prelude.{◌≡◌, ℕ, ◌+◌, ◌<◌, ℤ, pos, ◌+ℤ◌, ◌-ℤ◌, false, List, length, map, take, slice_get, Option, Some, None}
+use Rattle.std.specs.Prelude.{◌≡◌, ℕ, ◌+◌, ◌<◌, ℤ, pos, ◌+ℤ◌, ◌-ℤ◌, false, List, length, map, take, slice_get, Option}
+use Rattle.std.specs.Prelude.{Some, None}
 use Rattle.pungi_base.specs.declared.value.Value.{Value}
 use Rattle.pungi_base.specs.declared.value.Value.TheVariants as value
 use Rattle.pungi_api.specs.declared.param.Param.{Param}
@@ -31,7 +32,9 @@ use Rattle.pungi_symbol.specs.declared.answers.decision.Decision.{Decision}
 use Rattle.pungi_symbol.specs.declared.answers.decision.Decision.TheVariants.{Quiet, Outcome, Same as IsSame}
 use Rattle.pungi_symbol.specs.declared.states.known.Known.{Known}
 use Rattle.pungi_symbol.specs.declared.questions.question.Question.{Question}
-use Rattle.pungi_symbol.specs.declared.questions.question.Question.TheVariants.{Does, Touches, Overwrites, Null as AsksNull, Base, Answers, Same, Returns, Stops, Over}
+use Rattle.pungi_symbol.specs.declared.questions.question.Question.TheVariants.{Does, Touches, Overwrites}
+use Rattle.pungi_symbol.specs.declared.questions.question.Question.TheVariants.{Null as AsksNull, Base, Answers, Same}
+use Rattle.pungi_symbol.specs.declared.questions.question.Question.TheVariants.{Returns, Stops, Over}
 use Rattle.pungi_symbol.specs.declared.states.spot.Progress.{Progress}
 use Rattle.pungi_symbol.specs.declared.states.spot.Progress.TheVariants.{Looking, Found}
 use Rattle.pungi_symbol.specs.declared.states.spot.Spot.{Spot}
@@ -54,7 +57,8 @@ slot_in table (Global n) = slot.Global n
 slot_in table (Field t tag field) = slot.Field (number_of_object (at table t)) tag field
 
 abbrev pub state_in : Table → Touched → SlotState
-state_in table s = record { slot = slot_in table s.spot; at_entry = content_of table s.at_entry; held = content_of table s.held }
+state_in table s =
+    record { slot = slot_in table s.spot; at_entry = content_of table s.at_entry; held = content_of table s.held }
 
 abbrev pub owed : World → ℕ → ℤ
 owed w o = ((account_of w o).change -ℤ (account_of w o).handed -ℤ pos (held_now w o)) +ℤ pos (held_at_entry w o)
@@ -101,4 +105,5 @@ pub record Lies (code : List Line) (table : Table) (base : ℕ) (m : Regs) (s : 
   pub claims : (o : ℕ) → owed m.world o ≡ named o table s.balances
   pub below : (t : ℕ) → t < count s.known → IsOf (length m.world.accounts) (at table t)
   pub unmade : (o : ℕ) → (account_of m.world o).made ≡ false
-  pub walked : IsWalked m.world.slots s.known.progress (slot_at_place (place_in (instr_of (slice_get code s.known.pc))) m.vars)
+  pub walked : IsWalked m.world.slots s.known.progress (slot_at_place (place_in
+      (instr_of (slice_get code s.known.pc))) m.vars)

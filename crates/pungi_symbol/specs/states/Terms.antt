@@ -19,7 +19,8 @@ use Rattle.pungi_world.specs.declared.content.Content.TheVariants as content
 use Rattle.pungi_symbol.specs.declared.states.term.Term.{Term}
 use Rattle.pungi_symbol.specs.declared.states.term.Term.TheVariants.{Unset, Null, Text, Number, Token}
 use Rattle.pungi_symbol.specs.declared.states.mark.Mark.{Mark}
-use Rattle.pungi_symbol.specs.declared.states.mark.Mark.TheVariants.{Pointer, TextPointer, IsNull, IsObject, IsText, IsNumber}
+use Rattle.pungi_symbol.specs.declared.states.mark.Mark.TheVariants.{Pointer, TextPointer, IsNull, IsObject, IsText}
+use Rattle.pungi_symbol.specs.declared.states.mark.Mark.TheVariants.{IsNumber}
 
 abbrev pub Table : Type 0
 Table = List Value

@@ -1,6 +1,7 @@
 // Which answers a question still has in a state.
 ghost use Rattle.std.specs.Prelude.{◌≡◌, ◌||◌, not};
-ghost use Rattle.pungi_symbol.specs.answers.SymbolicState.{is_order, is_decision, is_outcome, are_one, are_other, can_same, can};
+ghost use Rattle.pungi_symbol.specs.answers.SymbolicState.{is_order, is_decision, is_outcome, are_one, are_other};
+ghost use Rattle.pungi_symbol.specs.answers.SymbolicState.{can_same, can};
 
 use crate::answers::decision::Decision;
 use crate::answers::outcomes::{outcomes_after, outcomes_of_call};
@@ -82,7 +83,8 @@ fn is_an_outcome(n: u32, d: Decision) -> bool
 impl State {
     /// Whether two tokens may be one object.
     fn can_be_one(&self, t: u32, u: u32) -> bool
-        ensures { result ≡ (are_one self.now.classes t u || not (are_other self.now.statics self.now.classes self.now.others t u)) }
+        ensures { result ≡ (are_one self.now.classes t u
+            || not (are_other self.now.statics self.now.classes self.now.others t u)) }
     {
         let classes = self.classes.as_slice();
         self.are_one(t, u) || !is_other(self.statics, classes, self.others.as_slice(), t, u)

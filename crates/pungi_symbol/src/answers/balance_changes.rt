@@ -5,7 +5,8 @@ ghost use Rattle.pungi_world.specs.Calls.{is_success, is_taken};
 ghost use Rattle.pungi_symbol.specs.states.Terms.{value_of_mark};
 ghost use Rattle.pungi_symbol.specs.questions.NextQuestion.{terms_of};
 ghost use Rattle.pungi_symbol.specs.answers.KnownAfter.{instr_of};
-ghost use Rattle.pungi_symbol.specs.answers.SymbolicState.{add_term, lower, taken_terms, terms_taken_by, special_weigh, form_weigh, weigh, stored_term};
+ghost use Rattle.pungi_symbol.specs.answers.SymbolicState.{add_term, lower, taken_terms, terms_taken_by, special_weigh};
+ghost use Rattle.pungi_symbol.specs.answers.SymbolicState.{form_weigh, weigh, stored_term};
 
 use crate::questions::call_questions::smaller_length;
 use crate::questions::next_question::line_at;
@@ -66,7 +67,10 @@ pub fn succeeds(answer: Answer, m: Mark) -> bool
 
 impl State {
     fn raise(&mut self, x: Term, d: i64) -> Result<(), Memory>
-        ensures { OnOk result (self.new ≡ record self.old { balances = add_term self.old.classes self.old.known x d self.old.balances }) }
+        ensures { OnOk result (self.new ≡ record self.old {
+          balances = add_term self.old.classes self.old.known x d
+              self.old.balances;
+        }) }
     {
         match self.known.object(x) {
             None => Ok(()),
@@ -78,13 +82,19 @@ impl State {
     }
 
     fn lower_if(&mut self, taken: bool, x: Term) -> Result<(), Memory>
-        ensures { OnOk result (self.new ≡ record self.old { balances = if taken then add_term self.old.classes self.old.known x (negsuc 0) self.old.balances else self.old.balances }) }
+        ensures { OnOk result (self.new ≡ record self.old {
+          balances = if taken then add_term self.old.classes
+              self.old.known x (negsuc 0) self.old.balances else self.old.balances;
+        }) }
     {
         if taken { self.raise(x, -1) } else { Ok(()) }
     }
 
     fn lower_taken(&mut self, success: bool, takes: &[Take], atoms: &[Atom]) -> Result<(), Memory>
-        ensures { OnOk result (self.new ≡ record self.old { balances = lower self.old.classes self.old.known (taken_terms success takes.now (terms_of self.old.known atoms.now)) self.old.balances }) }
+        ensures { OnOk result (self.new ≡ record self.old {
+          balances = lower self.old.classes self.old.known
+              (taken_terms success takes.now (terms_of self.old.known atoms.now)) self.old.balances;
+        }) }
     {
         let n = smaller_length(takes.len(), atoms.len());
         for i in 0..n {
@@ -95,7 +105,10 @@ impl State {
     }
 
     fn weigh_store(&mut self, place: Place, a: Atom) -> Result<(), Memory>
-        ensures { OnOk result (self.new ≡ record self.old { balances = weigh self.old.classes self.old.known (StoreOf place a) self.old.balances }) }
+        ensures { OnOk result (self.new ≡ record self.old {
+          balances = weigh self.old.classes self.old.known
+              (StoreOf place a) self.old.balances;
+        }) }
     {
         let found = self.known.seek(place)?;
         let held = self.known.held(found);
@@ -105,7 +118,10 @@ impl State {
     }
 
     fn weigh_special(&mut self, special: Special, x: Term) -> Result<(), Memory>
-        ensures { OnOk result (self.new ≡ record self.old { balances = special_weigh self.old.classes self.old.known special x self.old.balances }) }
+        ensures { OnOk result (self.new ≡ record self.old {
+          balances = special_weigh self.old.classes self.old.known
+              special x self.old.balances;
+        }) }
     {
         match special {
             Special::IncRef => self.raise(x, 1),
@@ -119,7 +135,10 @@ impl State {
     }
 
     fn weigh_call(&mut self, shape: &Shape, atoms: &[Atom]) -> Result<(), Memory>
-        ensures { OnOk result (self.new ≡ record self.old { balances = form_weigh self.old.classes self.old.known shape.now.row.form shape.now (terms_of self.old.known atoms.now) self.old.balances }) }
+        ensures { OnOk result (self.new ≡ record self.old {
+          balances = form_weigh self.old.classes self.old.known
+              shape.now.row.form shape.now (terms_of self.old.known atoms.now) self.old.balances;
+        }) }
     {
         match shape.row.form {
             Form::Plain => self.lower_taken(false, shape.row.takes.as_slice(), atoms),
@@ -132,7 +151,10 @@ impl State {
 
     /// The balances after an instruction that asks nothing.
     pub fn weigh_line(&mut self, code: &[Line]) -> Result<(), Memory>
-        ensures { OnOk result (self.new ≡ record self.old { balances = weigh self.old.classes self.old.known (instr_of (slice_get code.now self.old.known.pc)) self.old.balances }) }
+        ensures { OnOk result (self.new ≡ record self.old {
+          balances = weigh self.old.classes self.old.known
+              (instr_of (slice_get code.now self.old.known.pc)) self.old.balances;
+        }) }
     {
         match line_at(code, self.known.pc) {
             None => Ok(()),
@@ -146,7 +168,11 @@ impl State {
 
     /// The balances after a call that took over some of its arguments.
     pub fn lower_call(&mut self, code: &[Line], success: bool) -> Result<(), Memory>
-        ensures { OnOk result (self.new ≡ record self.old { balances = lower self.old.classes self.old.known (terms_taken_by success (instr_of (slice_get code.now self.old.known.pc)) self.old.known) self.old.balances }) }
+        ensures { OnOk result (self.new ≡ record self.old {
+          balances = lower self.old.classes self.old.known
+              (terms_taken_by success (instr_of (slice_get code.now self.old.known.pc)) self.old.known)
+              self.old.balances;
+        }) }
     {
         match line_at(code, self.known.pc) {
             None => Ok(()),
@@ -161,7 +187,10 @@ impl State {
 
     /// The balances after a store to a slot that wasn't touched.
     pub fn lower_stored(&mut self, code: &[Line]) -> Result<(), Memory>
-        ensures { OnOk result (self.new ≡ record self.old { balances = lower self.old.classes self.old.known (stored_term (instr_of (slice_get code.now self.old.known.pc)) self.old.known) self.old.balances }) }
+        ensures { OnOk result (self.new ≡ record self.old {
+          balances = lower self.old.classes self.old.known
+              (stored_term (instr_of (slice_get code.now self.old.known.pc)) self.old.known) self.old.balances;
+        }) }
     {
         match line_at(code, self.known.pc) {
             None => Ok(()),

@@ -1,10 +1,15 @@
 // What is known after an answer to a question.
 ghost use Rattle.std.specs.Prelude.{◌≡◌, ◌+◌, IfOk, OnOk, Some, slice_get, slice_set, if◌then◌else◌};
-ghost use Rattle.pungi_code.specs.declared.instr.Instr.TheVariants.{Load as LoadOf, Store as StoreOf, Compare as CompareOf};
-ghost use Rattle.pungi_symbol.specs.declared.states.known.Status.TheVariants.{Returned as IsReturned, Stopped as IsStopped};
+ghost use Rattle.pungi_code.specs.declared.instr.Instr.TheVariants.{Load as LoadOf, Store as StoreOf};
+ghost use Rattle.pungi_code.specs.declared.instr.Instr.TheVariants.{Compare as CompareOf};
+ghost use Rattle.pungi_symbol.specs.declared.states.known.Status.TheVariants.{Returned as IsReturned};
+ghost use Rattle.pungi_symbol.specs.declared.states.known.Status.TheVariants.{Stopped as IsStopped};
 ghost use Rattle.pungi_symbol.specs.states.Terms.{outcomes_of_mark, outcomes_of_answer, mark_at};
 ghost use Rattle.pungi_symbol.specs.states.Known.{count, mark_of};
-ghost use Rattle.pungi_symbol.specs.answers.KnownAfter.{go_on, put, arrive, compares_same, comparison_var, comparison_term, put_answer, term_with, call_var, touch, load_first, store_first, does, perform_line, place_of_line, instr_of, go, number_of_outcome, says_same};
+ghost use Rattle.pungi_symbol.specs.answers.KnownAfter.{go_on, put, arrive, compares_same, comparison_var};
+ghost use Rattle.pungi_symbol.specs.answers.KnownAfter.{comparison_term, put_answer, term_with, call_var, touch};
+ghost use Rattle.pungi_symbol.specs.answers.KnownAfter.{load_first, store_first, does, perform_line, place_of_line};
+ghost use Rattle.pungi_symbol.specs.answers.KnownAfter.{instr_of, go, number_of_outcome, says_same};
 
 use crate::answers::decision::Decision;
 use crate::answers::outcomes::{mark_after, mark_of_answer, number_of_outcome, says_same};
@@ -163,7 +168,8 @@ impl Known {
     }
 
     fn perform_line(&mut self, code: &[Line]) -> Result<(), Memory>
-        ensures { OnOk result (self.new ≡ perform_line (slice_get code.now self.old.pc) (λ i. does self.old i) self.old) }
+        ensures { OnOk result (self.new ≡ perform_line (slice_get code.now self.old.pc) (λ i. does self.old i)
+            self.old) }
     {
         match line_at(code, self.pc) {
             None => Ok(()),
@@ -172,7 +178,10 @@ impl Known {
     }
 
     fn note(&mut self, t: u32, k: u32)
-        ensures { self.new ≡ record self.old { marks = slice_set self.old.marks t (mark_at (outcomes_of_mark (mark_of self.old t)) k) } }
+        ensures { self.new ≡ record self.old {
+          marks = slice_set self.old.marks t
+              (mark_at (outcomes_of_mark (mark_of self.old t)) k);
+        } }
     {
         let m = mark_after(self.mark_of(t), k);
         let place = t as usize;
@@ -182,7 +191,10 @@ impl Known {
     }
 
     fn walk(&mut self, same: bool, i: u32) -> Result<(), Memory>
-        ensures { OnOk result (self.new ≡ record self.old { progress = if same then Progress.Found i else Progress.Looking (i + 1) }) }
+        ensures { OnOk result (self.new ≡ record self.old {
+          progress = if same then Progress.Found i else
+              Progress.Looking (i + 1);
+        }) }
     {
         if same {
             self.progress = Progress::Found(i);
@@ -198,7 +210,8 @@ impl Known {
     }
 
     fn take_answer(&mut self, code: &[Line], m: Mark) -> Result<(), Memory>
-        ensures { OnOk result (self.new ≡ go_on (put_answer (call_var (instr_of (slice_get code.now self.old.pc))) (Some (term_with m (count self.old))) (arrive m self.old))) }
+        ensures { OnOk result (self.new ≡ go_on (put_answer (call_var (instr_of (slice_get code.now self.old.pc)))
+            (Some (term_with m (count self.old))) (arrive m self.old))) }
     {
         let x = call_var(code, self.pc);
         let answer = term_with(m, self.tokens()?);
@@ -208,7 +221,8 @@ impl Known {
     }
 
     fn take_same(&mut self, code: &[Line], same: bool) -> Result<(), Memory>
-        ensures { OnOk result (self.new ≡ go_on (put (comparison_var (instr_of (slice_get code.now self.old.pc))) (comparison_term same (instr_of (slice_get code.now self.old.pc))) self.old)) }
+        ensures { OnOk result (self.new ≡ go_on (put (comparison_var (instr_of (slice_get code.now self.old.pc)))
+            (comparison_term same (instr_of (slice_get code.now self.old.pc))) self.old)) }
     {
         let x = comparison_var(code, self.pc);
         let c = comparison_term(same, code, self.pc);
@@ -216,7 +230,10 @@ impl Known {
     }
 
     fn returns(&mut self, code: &[Line], x: Option<Term>)
-        ensures { self.new ≡ record self.old { status = IsReturned (place_of_line (slice_get code.now self.old.pc)) x } }
+        ensures { self.new ≡ record self.old {
+          status = IsReturned (place_of_line (slice_get code.now self.old.pc))
+              x;
+        } }
     {
         self.status = Status::Returned(place_of_line(code, self.pc), x);
     }

@@ -1,9 +1,13 @@
 // What is known after an instruction's work is done.
 ghost use Rattle.std.specs.Prelude.{◌≡◌, OnOk};
-ghost use Rattle.pungi_code.specs.declared.instr.Instr.TheVariants.{Arith as ArithOf, Fit as FitOf, Compare as CompareOf, Load as LoadOf, Store as StoreOf, Api as ApiOf, Branch as BranchOf};
+ghost use Rattle.pungi_code.specs.declared.instr.Instr.TheVariants.{Arith as ArithOf, Fit as FitOf};
+ghost use Rattle.pungi_code.specs.declared.instr.Instr.TheVariants.{Compare as CompareOf, Load as LoadOf};
+ghost use Rattle.pungi_code.specs.declared.instr.Instr.TheVariants.{Store as StoreOf, Api as ApiOf, Branch as BranchOf};
 ghost use Rattle.pungi_symbol.specs.states.Known.{find, found_at, term_of};
 ghost use Rattle.pungi_symbol.specs.questions.NextQuestion.{first_term, terms_of};
-ghost use Rattle.pungi_symbol.specs.answers.KnownAfter.{go_on, go_to, put, truth_term, compares, number_there, put_answer, answer_of_row, answer_of_special, answer_of_form, store_at, does};
+ghost use Rattle.pungi_symbol.specs.answers.KnownAfter.{go_on, go_to, put, truth_term, compares, number_there};
+ghost use Rattle.pungi_symbol.specs.answers.KnownAfter.{put_answer, answer_of_row, answer_of_special, answer_of_form};
+ghost use Rattle.pungi_symbol.specs.answers.KnownAfter.{store_at, does};
 
 use crate::questions::slot_search::place_found;
 use crate::states::known::Known;
@@ -172,7 +176,8 @@ impl Known {
     }
 
     fn do_call(&mut self, x: Option<Var>, shape: &Shape, atoms: &[Atom]) -> Result<(), Memory>
-        ensures { OnOk result (self.new ≡ go_on (put_answer x (answer_of_form shape.now.row.form shape.now.row.answer (first_term (terms_of self.old atoms.now))) self.old)) }
+        ensures { OnOk result (self.new ≡ go_on (put_answer x (answer_of_form shape.now.row.form
+            shape.now.row.answer (first_term (terms_of self.old atoms.now))) self.old)) }
     {
         let first = self.first_of(atoms);
         let answer = answer_of_form(shape.row.form, shape.row.answer, first);

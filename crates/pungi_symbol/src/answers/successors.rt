@@ -24,7 +24,8 @@ impl State {
         d: Decision,
         next: &mut Vec<(Decision, Sym)>,
     ) -> Result<(), Memory>
-        ensures { OnOk result (next.new.items ≡ next.old.items ++ after_left (slice_get code.now self.known.pc) q self (Some d)) }
+        ensures { OnOk result (next.new.items ≡ next.old.items
+            ++ after_left (slice_get code.now self.known.pc) q self (Some d)) }
     {
         let mut state = self;
         state.answer(alloc, code, q, d)?;
@@ -41,7 +42,8 @@ impl State {
         left: Option<Decision>,
         next: &mut Vec<(Decision, Sym)>,
     ) -> Result<(), Memory>
-        ensures { OnOk result (next.new.items ≡ next.old.items ++ after_left (slice_get code.now self.known.pc) q self left) }
+        ensures { OnOk result (next.new.items ≡ next.old.items
+            ++ after_left (slice_get code.now self.known.pc) q self left) }
     {
         match left {
             None => Ok(()),
@@ -58,7 +60,8 @@ impl State {
         left: Option<Decision>,
         next: &mut Vec<(Decision, Sym)>,
     ) -> Result<(), Memory>
-        ensures { OnOk result (next.new.items ≡ next.old.items ++ after_left (slice_get code.now self.now.known.pc) q self.now left) }
+        ensures { OnOk result (next.new.items ≡ next.old.items
+            ++ after_left (slice_get code.now self.now.known.pc) q self.now left) }
     {
         match left {
             None => Ok(()),
@@ -79,7 +82,9 @@ impl State {
         d: Decision,
         next: &mut Vec<(Decision, Sym)>,
     ) -> Result<Option<Decision>, Memory>
-        ensures { IfOk result (λ o. next.new.items ++ after_left (slice_get code.now self.now.known.pc) q self.now o ≡ (next.old.items ++ after_left (slice_get code.now self.now.known.pc) q self.now left) ++ after_if (slice_get code.now self.now.known.pc) q self.now d) }
+        ensures { IfOk result (λ o. next.new.items ++ after_left (slice_get code.now self.now.known.pc) q self.now o
+            ≡ (next.old.items ++ after_left (slice_get code.now self.now.known.pc) q self.now left)
+            ++ after_if (slice_get code.now self.now.known.pc) q self.now d) }
     {
         if self.can(q, d) {
             self.put_copy(alloc, code, q, left, next)?;
@@ -99,7 +104,8 @@ impl State {
         decisions: &[Decision],
         next: &mut Vec<(Decision, Sym)>,
     ) -> Result<Option<Decision>, Memory>
-        ensures { IfOk result (λ o. next.new.items ++ after_left (slice_get code.now self.now.known.pc) q self.now o ≡ next.old.items ++ flat_map (after_if (slice_get code.now self.now.known.pc) q self.now) decisions.now) }
+        ensures { IfOk result (λ o. next.new.items ++ after_left (slice_get code.now self.now.known.pc) q self.now o
+            ≡ next.old.items ++ flat_map (after_if (slice_get code.now self.now.known.pc) q self.now) decisions.now) }
     {
         let mut left = None;
         for d in decisions {
@@ -116,7 +122,8 @@ impl State {
         q: Question,
         next: &mut Vec<(Decision, Sym)>,
     ) -> Result<Option<Decision>, Memory>
-        ensures { IfOk result (λ o. next.new.items ++ after_left (slice_get code.now self.now.known.pc) q self.now o ≡ next.old.items ++ flat_map (after_if (slice_get code.now self.now.known.pc) q self.now) decisions) }
+        ensures { IfOk result (λ o. next.new.items ++ after_left (slice_get code.now self.now.known.pc) q self.now o
+            ≡ next.old.items ++ flat_map (after_if (slice_get code.now self.now.known.pc) q self.now) decisions) }
     {
         let decisions = [
             Decision::Quiet,

@@ -1,7 +1,8 @@
 // What a call of the API asks.
 ghost use Rattle.std.specs.Prelude.{◌≡◌, min};
 ghost use Rattle.pungi_symbol.specs.states.Known.{term_of};
-ghost use Rattle.pungi_symbol.specs.questions.NextQuestion.{asks_all_set, asks_param, asks_params, asks_take, asks_takes, first_term, asks_special, asks_form, terms_of};
+ghost use Rattle.pungi_symbol.specs.questions.NextQuestion.{asks_all_set, asks_param, asks_params, asks_take};
+ghost use Rattle.pungi_symbol.specs.questions.NextQuestion.{asks_takes, first_term, asks_special, asks_form, terms_of};
 
 use crate::answers::decision::Decision;
 use crate::questions::question::Question;
@@ -124,7 +125,8 @@ impl Known {
 
     /// A call of the API.
     pub fn asks_call(&self, shape: &Shape, atoms: &[Atom]) -> Question
-        ensures { result ≡ asks_all_set (terms_of self.now atoms.now) (asks_form self.now shape.now.row.form shape.now (terms_of self.now atoms.now)) }
+        ensures { result ≡ asks_all_set (terms_of self.now atoms.now) (asks_form self.now shape.now.row.form
+            shape.now (terms_of self.now atoms.now)) }
     {
         self.asks_all_set(atoms, self.asks_form(shape, atoms))
     }

@@ -4,7 +4,9 @@ ghost use Rattle.pungi_code.specs.declared.instr.Instr.TheVariants.{Arith as Ari
 ghost use Rattle.pungi_code.specs.WellFormed.{place_kind};
 ghost use Rattle.pungi_meaning.specs.Values.{arithmetic};
 ghost use Rattle.pungi_symbol.specs.states.Known.{term_of, number, find};
-ghost use Rattle.pungi_symbol.specs.questions.NextQuestion.{asks_set, asks_known, asks_range, is_below, asks_fit, content_mark, asks_load, asks_store, asks_return, asks_instr, asks_line, ask};
+ghost use Rattle.pungi_symbol.specs.questions.NextQuestion.{asks_set, asks_known, asks_range, is_below, asks_fit};
+ghost use Rattle.pungi_symbol.specs.questions.NextQuestion.{content_mark, asks_load, asks_store, asks_return};
+ghost use Rattle.pungi_symbol.specs.questions.NextQuestion.{asks_instr, asks_line, ask};
 
 use crate::answers::decision::Decision;
 use crate::questions::question::Question;
@@ -18,7 +20,8 @@ use pungi_types::ValueKind;
 
 /// The instruction at this place, if there is one.
 pub fn line_at(instrs: &[Line], pc: usize) -> Option<&Line>
-    ensures { MatchOption result (slice_get instrs.now pc ≡ None) (λ l. (slice_get instrs.now pc ≡ Some l.now) × (pc < length instrs.now)) }
+    ensures { MatchOption result (slice_get instrs.now pc ≡ None) (λ l. (slice_get instrs.now pc ≡ Some l.now)
+        × (pc < length instrs.now)) }
 {
     if pc < instrs.len() {
         Some(&instrs[pc])
@@ -45,7 +48,10 @@ impl Known {
     }
 
     fn asks_operator(&self, kind: ValueKind, op: Op, a: Atom, b: Atom) -> Question
-        ensures { result ≡ asks_set (term_of self.now a) (asks_set (term_of self.now b) (asks_range (arithmetic op kind (number self.now (term_of self.now a)) (number self.now (term_of self.now b))) (is_below op (number self.now (term_of self.now a)) (number self.now (term_of self.now b))))) }
+        ensures { result ≡ asks_set (term_of self.now a) (asks_set (term_of self.now b)
+            (asks_range (arithmetic op kind (number self.now (term_of self.now a))
+            (number self.now (term_of self.now b))) (is_below op (number self.now (term_of self.now a))
+            (number self.now (term_of self.now b))))) }
     {
         let (x, y) = (self.term(a), self.term(b));
         let done = asks_arith(op, kind, self.number(x), self.number(y));
@@ -67,7 +73,8 @@ impl Known {
     }
 
     fn asks_place_store(&self, place: Place, a: Atom) -> Result<Question, Memory>
-        ensures { IfOk result (λ q. q ≡ asks_known self.now (term_of self.now a) (asks_store self.now (content_mark (place_kind place)) (find self.now place))) }
+        ensures { IfOk result (λ q. q ≡ asks_known self.now (term_of self.now a)
+            (asks_store self.now (content_mark (place_kind place)) (find self.now place))) }
     {
         let found = self.seek(place)?;
         let done = self.asks_store(content_mark(kind_of(place)), found);

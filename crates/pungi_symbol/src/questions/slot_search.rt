@@ -1,6 +1,7 @@
 // Where the slot of an instruction is.
 ghost use Rattle.std.specs.Prelude.{◌≡◌, ◌+◌, IfOk, position, drop};
-ghost use Rattle.pungi_symbol.specs.states.Known.{is_global, is_field, base_of, at_place, ask_base, seek, find_token, find_field, find, found_at, held_in, token_in, spot_of};
+ghost use Rattle.pungi_symbol.specs.states.Known.{is_global, is_field, base_of, at_place, ask_base, seek, find_token};
+ghost use Rattle.pungi_symbol.specs.states.Known.{find_field, find, found_at, held_in, token_in, spot_of};
 
 use crate::answers::decision::Decision;
 use crate::questions::found_slot::Finding;

@@ -2,7 +2,10 @@
 ghost use Rattle.std.specs.Prelude.{◌≡◌, pos, Some};
 ghost use Rattle.pungi_symbol.specs.states.Known.{number_in};
 ghost use Rattle.pungi_meaning.specs.Values.{arithmetic};
-ghost use Rattle.pungi_symbol.specs.questions.NextQuestion.{asks_set, asks_known, knows_mark, asks_thing, needs_mark, asks_order, asks_same, asks_compare, asks_range, is_below, asks_fit, content_mark, asks_load, asks_store, asks_dropped, asks_answer};
+ghost use Rattle.pungi_symbol.specs.questions.NextQuestion.{asks_set, asks_known, knows_mark, asks_thing, needs_mark};
+ghost use Rattle.pungi_symbol.specs.questions.NextQuestion.{asks_order, asks_same, asks_compare, asks_range, is_below};
+ghost use Rattle.pungi_symbol.specs.questions.NextQuestion.{asks_fit, content_mark, asks_load, asks_store};
+ghost use Rattle.pungi_symbol.specs.questions.NextQuestion.{asks_dropped, asks_answer};
 
 use crate::answers::decision::Decision;
 use crate::questions::found_slot::Finding;
@@ -162,7 +165,8 @@ impl Known {
 
     /// The condition of a branch.
     pub fn asks_condition(&self, a: Term) -> Question
-        ensures { result ≡ asks_order (number_in a) (Some (pos 0)) (asks_known self.now a (Question.Does Decision.Quiet)) }
+        ensures { result ≡ asks_order (number_in a) (Some (pos 0)) (asks_known self.now a
+            (Question.Does Decision.Quiet)) }
     {
         let known = self.asks_known(a, Question::Does(Decision::Quiet));
         asks_order(constant(a), Some(0), known)

@@ -62,7 +62,8 @@ fn tokens(alloc: Global, from: u32, end: u32) -> Result<Vec<Term>, Memory>
 }
 
 fn variables(alloc: Global, statics: u32, code: &Code) -> Result<Vec<Term>, Memory>
-    ensures { IfOk result (λ vars. vars.items ≡ map Term.Token (range_with_len statics (argument_count code.now)) ++ replicate (length code.now.vars - argument_count code.now) Term.Unset) }
+    ensures { IfOk result (λ vars. vars.items ≡ map Term.Token (range_with_len statics (argument_count code.now))
+        ++ replicate (length code.now.vars - argument_count code.now) Term.Unset) }
 {
     let n = argument_count(code);
     let mut vars = tokens(alloc, statics, token_after(statics, n)?)?;
@@ -79,7 +80,8 @@ fn contents_of(alloc: Global, kinds: &[Param]) -> Result<Vec<Mark>, Memory>
 }
 
 fn marks_at(alloc: Global, statics: u32, code: &Code) -> Result<Vec<Mark>, Memory>
-    ensures { IfOk result (λ marks. marks.items ≡ replicate statics Mark.IsObject ++ map content_mark (take code.now.params code.now.vars)) }
+    ensures { IfOk result (λ marks. marks.items ≡ replicate statics Mark.IsObject
+        ++ map content_mark (take code.now.params code.now.vars)) }
 {
     let mut marks = vec![in alloc; Mark::IsObject; statics as usize]?;
     let given = contents_of(alloc, front(code.vars.as_slice(), code.params as usize))?;

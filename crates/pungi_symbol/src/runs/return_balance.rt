@@ -38,7 +38,8 @@ fn owed_at(balances: &[i64], t: usize) -> i64
 }
 
 fn is_level_at(state: &State, returned: Option<u32>, t: usize) -> bool
-    ensures { IsTrue result ↔ (balance_at state.now.balances t ≡ (if is_class state.now.classes returned t then pos 1 else pos 0)) }
+    ensures { IsTrue result ↔ (balance_at state.now.balances t
+        ≡ (if is_class state.now.classes returned t then pos 1 else pos 0)) }
 {
     let b = owed_at(state.balances.as_slice(), t);
     if stands_for(state.classes.as_slice(), returned, t) {
@@ -50,7 +51,8 @@ fn is_level_at(state: &State, returned: Option<u32>, t: usize) -> bool
 
 /// The first token whose balance isn't what the return owes.
 pub fn off_level(state: &State, x: Option<Term>) -> Option<usize>
-    ensures { MatchOption result (IsLevelState state.now x) (λ t. (t < count state.now.known) × (balance_at state.now.balances t ≡ wanted state.now x t → ⊥)) }
+    ensures { MatchOption result (IsLevelState state.now x) (λ t. (t < count state.now.known)
+        × (balance_at state.now.balances t ≡ wanted state.now x t → ⊥)) }
 {
     let returned = returned_token(&state.known, x);
     let tokens = state.known.marks.len();
@@ -64,7 +66,8 @@ pub fn off_level(state: &State, x: Option<Term>) -> Option<usize>
 
 /// The first token of a state that returned whose balance isn't what the return owes.
 pub fn off_return(state: &State) -> Option<usize>
-    ensures { MatchOption result (LevelBy state.now state.now.known.status) (λ t. OffBy state.now state.now.known.status t) }
+    ensures { MatchOption result (LevelBy state.now state.now.known.status)
+        (λ t. OffBy state.now state.now.known.status t) }
 {
     match state.known.status {
         Status::Going => None,

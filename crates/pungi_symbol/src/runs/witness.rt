@@ -104,8 +104,10 @@ fn witness_of(
 pub fn run_of(alloc: Global, codes: &Codes, state: &Sym) -> Result<Witness, Memory>
     ensures objects { IfOk result (λ w. w.input.objects ≡ count state.now.known) }
     ensures few { IfOk result (λ w. w.input.objects < 2 ^ 31) }
-    ensures args { IfOk result (λ w. w.input.args ≡ take (option_map_or argument_count (code_at codes.now state.now.known.function) 0) (drop codes.now.statics (canon state.now))) }
-    ensures choices { IfOk result (λ w. w.choices ≡ map choice_of (drop (option_map_or argument_count (code_at codes.now state.now.known.function) 0) (drop codes.now.statics (canon state.now)))) }
+    ensures args { IfOk result (λ w. w.input.args ≡ take (option_map_or argument_count
+        (code_at codes.now state.now.known.function) 0) (drop codes.now.statics (canon state.now))) }
+    ensures choices { IfOk result (λ w. w.choices ≡ map choice_of (drop (option_map_or argument_count
+        (code_at codes.now state.now.known.function) 0) (drop codes.now.statics (canon state.now)))) }
 {
     let state = state.state();
     let arguments = arguments_of(codes, state.known.function);

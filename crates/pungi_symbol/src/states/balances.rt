@@ -1,7 +1,8 @@
 // What the objects of tokens are owed, and which tokens were merged.
 ghost use Rattle.std.specs.Prelude.{◌≡◌, ◌+ℤ◌, slice_set, map, IfOk, OnOk};
 ghost use Rattle.std.specs.List.{list_any};
-ghost use Rattle.pungi_symbol.specs.answers.SymbolicState.{class_of, balance_at, is_part, are_one, are_other, owed_for, owed_for_answer, redirect, gather_at};
+ghost use Rattle.pungi_symbol.specs.answers.SymbolicState.{class_of, balance_at, is_part, are_one, are_other, owed_for};
+ghost use Rattle.pungi_symbol.specs.answers.SymbolicState.{owed_for_answer, redirect, gather_at};
 
 use crate::states::mark::Mark;
 use crate::states::state::Pair;

@@ -1,6 +1,7 @@
 ghost use Rattle.std.specs.Prelude.{◌≡◌, IfOk};
 ghost use Rattle.pungi_symbol.specs.states.Terms.{value_of_mark};
-ghost use Rattle.pungi_symbol.specs.states.Known.{mark_of, variable, term_of, known_value, number, object_mark, object_of, number_in, slot_note};
+ghost use Rattle.pungi_symbol.specs.states.Known.{mark_of, variable, term_of, known_value, number, object_mark};
+ghost use Rattle.pungi_symbol.specs.states.Known.{object_of, number_in, slot_note};
 
 use crate::states::mark::Mark;
 use crate::states::spot::{Progress, Spot, Touched};

@@ -1,6 +1,8 @@
 ghost use Rattle.std.specs.Prelude.{◌≡◌, true, false, slice_get, IfOk, OnOk};
 ghost use Rattle.pungi_symbol.specs.answers.KnownAfter.{instr_of};
-ghost use Rattle.pungi_symbol.specs.answers.SymbolicState.{class_of, are_one, owed_for, lower, stored_term, gather_at, merge_classes, merge_two, apply_same, join, take_answer, follow, apply};
+ghost use Rattle.pungi_symbol.specs.answers.SymbolicState.{class_of, are_one, owed_for, lower, stored_term, gather_at};
+ghost use Rattle.pungi_symbol.specs.answers.SymbolicState.{merge_classes, merge_two, apply_same, join, take_answer};
+ghost use Rattle.pungi_symbol.specs.answers.SymbolicState.{follow, apply};
 
 use crate::answers::balance_changes::succeeds;
 use crate::answers::decision::Decision;
@@ -77,14 +79,17 @@ impl State {
     }
 
     fn overwrite(&mut self, code: &[Line], m: Mark) -> Result<(), Memory>
-        ensures { OnOk result (self.new ≡ join (owed_for m) (lower self.old.classes self.old.known (stored_term (instr_of (slice_get code.now self.old.known.pc)) self.old.known) self.old.balances) self.old) }
+        ensures { OnOk result (self.new ≡ join (owed_for m) (lower self.old.classes self.old.known
+            (stored_term (instr_of (slice_get code.now self.old.known.pc)) self.old.known) self.old.balances)
+            self.old) }
     {
         self.lower_stored(code)?;
         self.join(owed_for(m))
     }
 
     fn take_answer(&mut self, code: &[Line], answer: Answer, m: Mark) -> Result<(), Memory>
-        ensures { OnOk result (self.new ≡ take_answer (instr_of (slice_get code.now self.old.known.pc)) answer m self.old) }
+        ensures { OnOk result (self.new ≡ take_answer (instr_of (slice_get code.now self.old.known.pc)) answer m
+            self.old) }
     {
         self.lower_call(code, succeeds(answer, m))?;
         self.join(owed_for_answer(answer, m))

@@ -3,8 +3,8 @@ ghost use Rattle.std.specs.Prelude.{◌≡◌};
 use crate::states::state::State;
 use std::marker::Model;
 
-/// A symbolic state: what is known of all runs with one trace, with tokens in place of what came in. The static objects are
-/// the first tokens, the arguments come next, then one token comes with each choice.
+/// A symbolic state: what is known of all runs with one trace, with tokens in place of what came in. The static objects
+/// are the first tokens, the arguments come next, then one token comes with each choice.
 #[derive(Drop)]
 pub struct Sym {
     state: State,

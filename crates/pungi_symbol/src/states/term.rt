@@ -8,7 +8,7 @@ pub enum Term {
     /// A text.
     Text,
     Number(i64),
-    /// What came in as a token. The static objects are the first tokens, then the arguments come, then one token with each
-    /// choice.
+    /// What came in as a token. The static objects are the first tokens, then the arguments come, then one token with
+    /// each choice.
     Token(u32),
 }

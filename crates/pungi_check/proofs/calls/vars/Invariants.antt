@@ -5,4 +5,5 @@ use Rattle.pungi_check.proofs.calls.vars.Given as goal
 
 abbrev pub invariant-loop-var : goal.invariant-loop-var
 invariant-loop-var l =
-    l.out.items ++ vars_calls (map var_decl_view (drop l.var-index l.list.items)) ≡ l.fn.out.items ++ vars_calls (map var_decl_view l.list.items)
+    l.out.items ++ vars_calls (map var_decl_view (drop l.var-index l.list.items))
+    ≡ l.fn.out.items ++ vars_calls (map var_decl_view l.list.items)

@@ -17,12 +17,14 @@ pub refusals-requires : goal.refusals-requires
 refusals-requires c =
     let file = file_of c.args.names.now in
     let ds = map function_view c.args.list.now in
-    ap (λ (fs : List CallNode). map node_view fs) c.deref.ensures.value ∙ c.in_ok-graph.ensures ∙ ap (λ (whole : List Definition). map (node_of file (number_in 0 whole)) ds) c.requires.listed
+    ap (λ (fs : List CallNode). map node_view fs) c.deref.ensures.value ∙ c.in_ok-graph.ensures
+    ∙ ap (λ (whole : List Definition). map (node_of file (number_in 0 whole)) ds) c.requires.listed
 
 pub resolutions-requires-clause-own : goal.resolutions-requires-clause-own
 resolutions-requires-clause-own c =
     let file = file_of c.args.names.now in
-    own-listed (definitions file.items) (definitions file.items) (map function_view c.args.list.now) refl c.requires.listed (file-new file c.requires.none)
+    own-listed (definitions file.items) (definitions file.items) (map function_view c.args.list.now) refl
+    c.requires.listed (file-new file c.requires.none)
 
 pub resolutions-requires-clause-others : goal.resolutions-requires-clause-others
 resolutions-requires-clause-others c = c.in_ok-refused.ensures.holds

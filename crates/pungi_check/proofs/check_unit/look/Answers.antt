@@ -17,7 +17,8 @@ returns-clause-found c =
       few = file-few file none;
       own = all-own [] (definitions file.items) (file-new file none);
       set = c.in_ok-found.ensures.set;
-      names_are = c.in_ok-own.ensures ∙ ap (λ (list : List (Bor FunctionDef)). map (λ (d : Definition). d.name) (map function_view list)) c.deref.ensures.value
+      names_are = c.in_ok-own.ensures ∙ ap (λ (list : List (Bor FunctionDef)). map (λ (d : Definition). d.name)
+          (map function_view list)) c.deref.ensures.value
           ∙ ap (λ (ds : List Definition). map (λ (d : Definition). d.name) ds) c.requires.listed;
       refusals_are = c.in_ok-found.ensures.refusals;
       resolved_are = c.in_ok-found.ensures.resolved;

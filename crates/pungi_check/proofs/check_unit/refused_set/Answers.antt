@@ -13,6 +13,8 @@ returns c =
     let file = file_of c.args.names.now in
     let marks = c.in_ok-marks.marks.items in
     marked-set file c.deref.result.now marks c.in_ok-refused.refused.keys (file-new file c.requires.none)
-    (ap (λ (fs : List CallNode). map node_view fs) c.deref.ensures.value ∙ c.requires.graph) (c.in_ok-marks.ensures.least file)
-    (c.in_ok-refused.ensures ∙ ap (λ (ms : List Bool). with_marked [] (map function_view c.args.list.now) ms) c.deref-2.ensures.value
+    (ap (λ (fs : List CallNode). map node_view fs) c.deref.ensures.value ∙ c.requires.graph)
+    (c.in_ok-marks.ensures.least file)
+    (c.in_ok-refused.ensures ∙ ap (λ (ms : List Bool). with_marked [] (map function_view c.args.list.now) ms)
+    c.deref-2.ensures.value
     ∙ ap (λ (ds : List Definition). with_marked [] ds marks) c.requires.listed)

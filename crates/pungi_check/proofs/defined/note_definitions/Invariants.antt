@@ -7,5 +7,6 @@ use Rattle.pungi_check.proofs.defined.note_definitions.Given as goal
 
 abbrev pub invariant-loop-f : goal.invariant-loop-f
 invariant-loop-f l =
-    least_from l.first (definition_faults (file_of l.names) l.seen.keys (map function_view (drop l.f-index l.functions.items)))
+    least_from l.first (definition_faults (file_of l.names) l.seen.keys (map function_view
+    (drop l.f-index l.functions.items)))
     ≡ least_from l.fn.first (definition_faults (file_of l.names) [] (map function_view l.functions.items))

@@ -10,4 +10,5 @@ pub returns : goal.returns
 returns c =
     let ds = map function_view c.args.list.now in
     subst (λ (ns : List Node). IfOk c.nodes.result (λ r. map node_view r.items ≡ ns))
-    (graph-same (file_of c.args.names.now) (λ (w : ℕ). get nat_eq c.in_ok-numbers.numbers w) (number_in 0 ds) c.in_ok-numbers.ensures ds) c.nodes.ensures
+    (graph-same (file_of c.args.names.now) (λ (w : ℕ). get nat_eq c.in_ok-numbers.numbers w) (number_in 0 ds)
+    c.in_ok-numbers.ensures ds) c.nodes.ensures

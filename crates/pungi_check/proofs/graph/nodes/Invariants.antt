@@ -7,5 +7,6 @@ use Rattle.pungi_check.proofs.graph.nodes.Given as goal
 
 abbrev pub invariant-loop-f : goal.invariant-loop-f
 invariant-loop-f l =
-    map node_view l.nodes.items ++ map (node_of (file_of l.names) (λ (w : ℕ). get nat_eq l.numbers w)) (map function_view (drop l.f-index l.list))
+    map node_view l.nodes.items ++ map (node_of (file_of l.names) (λ (w : ℕ). get nat_eq l.numbers w))
+    (map function_view (drop l.f-index l.list))
     ≡ map (node_of (file_of l.names) (λ (w : ℕ). get nat_eq l.numbers w)) (map function_view l.list)

@@ -7,5 +7,6 @@ use Rattle.pungi_check.proofs.refusals.refusals.Goals as goal
 pub settled-requires : goal.settled-requires
 settled-requires c =
     let file = file_of c.args.names.now in
-    node-of c.args.list.now (node_of file (number_in 0 (definitions file.items))) c.args.graph.now c.loop-i.i c.index-list-i.result c.index-graph-i.result c.requires c.loop-i-test.true
+    node-of c.args.list.now (node_of file (number_in 0 (definitions file.items))) c.args.graph.now c.loop-i.i
+    c.index-list-i.result c.index-graph-i.result c.requires c.loop-i-test.true
     c.index-list-i.is c.index-graph-i.is

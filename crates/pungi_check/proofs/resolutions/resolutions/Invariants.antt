@@ -9,7 +9,8 @@ use Rattle.pungi_check.proofs.resolutions.resolutions.Given as goal
 
 abbrev pub invariant-loop-i : goal.invariant-loop-i
 invariant-loop-i l =
-    (map resolution_view l.all.items ++ map (resolution_of (file_of l.names) l.refused.keys) (map function_view (drop l.i l.list))
+    (map resolution_view l.all.items ++ map (resolution_of (file_of l.names) l.refused.keys)
+    (map function_view (drop l.i l.list))
     ≡ map (resolution_of (file_of l.names) l.refused.keys) (map function_view l.list))
     × AreOwn (definitions (file_of l.names).items) (map function_view (drop l.i l.list))
     × (list_all is_sound_function (map resolution_view l.all.items) ≡ true)

@@ -8,5 +8,7 @@ use Rattle.pungi_check.proofs.unit_uses.put_vars.Given as goal
 
 abbrev pub invariant-loop-var : goal.invariant-loop-var
 invariant-loop-var l =
-    map name_use_view l.out.items ++ vars_uses (file_of l.names).items (spec_view l.spec) (map var_decl_view (drop l.var-index l.vars.items))
-    ≡ map name_use_view l.fn.out.items ++ vars_uses (file_of l.names).items (spec_view l.spec) (map var_decl_view l.vars.items)
+    map name_use_view l.out.items ++ vars_uses (file_of l.names).items (spec_view l.spec)
+    (map var_decl_view (drop l.var-index l.vars.items))
+    ≡ map name_use_view l.fn.out.items ++ vars_uses (file_of l.names).items (spec_view l.spec)
+    (map var_decl_view l.vars.items)

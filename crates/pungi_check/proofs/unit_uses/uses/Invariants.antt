@@ -7,5 +7,6 @@ use Rattle.pungi_check.proofs.unit_uses.uses.Given as goal
 
 abbrev pub invariant-loop-i : goal.invariant-loop-i
 invariant-loop-i l =
-    map name_use_view l.out.items ++ definition.uses (file_of l.names).items (map item_view (drop l.i-index l.unit.items.items))
+    map name_use_view l.out.items ++ definition.uses (file_of l.names).items
+    (map item_view (drop l.i-index l.unit.items.items))
     ≡ definition.uses (file_of l.names).items (unit_view l.unit)

@@ -7,4 +7,5 @@ returns-in_ok-push c =
     let k = c.if-not-index.true in
     let h = c.index.ensures in
     let u : get_or c.args.marks.now.items c.args.function false ≡ false = sym (rw k at h) in
-    visited_pushed c.args.marks.now.items c.args.function c.args.waiting.now.items c.push.new.self.items (omega arith) u c.in_ok-push.ensures.items
+    visited_pushed c.args.marks.now.items c.args.function c.args.waiting.now.items c.push.new.self.items
+    (omega arith) u c.in_ok-push.ensures.items

@@ -1,7 +1,8 @@
 use Rattle.pungi_explore.proofs.visit.at_end.Goals as goal
 
 pub returns-then-is_balanced : goal.returns-then-is_balanced
-returns-then-is_balanced c = (c.is_balanced.ensures.balanced c.if-is_balanced.true c.args.codes.now, c.in_ok-run_there.ensures {u = tt})
+returns-then-is_balanced c =
+    (c.is_balanced.ensures.balanced c.if-is_balanced.true c.args.codes.now, c.in_ok-run_there.ensures {u = tt})
 
 pub returns : goal.returns
 returns c = record {

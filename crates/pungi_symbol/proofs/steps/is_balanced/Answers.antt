@@ -5,10 +5,14 @@ use Rattle.pungi_symbol.proofs.Promised.{all_level, own_uneven, off_returned}
 use Rattle.pungi_symbol.proofs.steps.is_balanced.Goals as goal
 
 pub returns-in-Some-clause-returned : goal.returns-in-Some-clause-returned
-returns-in-Some-clause-returned c _ = subst HasReturned c.state.ensures (off_returned c.state.result.now c.in-Some.field-0 c.in-Some.ensures)
+returns-in-Some-clause-returned c _ =
+    subst HasReturned c.state.ensures (off_returned c.state.result.now c.in-Some.field-0 c.in-Some.ensures)
 
 pub returns-in-Some-clause-uneven : goal.returns-in-Some-clause-uneven
-returns-in-Some-clause-uneven c _ = subst (λ s. (codes : Codes) → OwnUneven codes s) c.state.ensures (own_uneven c.state.result.now c.in-Some.field-0 c.in-Some.ensures)
+returns-in-Some-clause-uneven c _ =
+    subst (λ s. (codes : Codes) → OwnUneven codes s) c.state.ensures (own_uneven c.state.result.now
+    c.in-Some.field-0 c.in-Some.ensures)
 
 pub returns-in-None-clause-balanced : goal.returns-in-None-clause-balanced
-returns-in-None-clause-balanced c _ = subst (λ s. (codes : Codes) → AllLevel codes s) c.state.ensures (all_level c.state.result.now c.in-None.ensures)
+returns-in-None-clause-balanced c _ =
+    subst (λ s. (codes : Codes) → AllLevel codes s) c.state.ensures (all_level c.state.result.now c.in-None.ensures)

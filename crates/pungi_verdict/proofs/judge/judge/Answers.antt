@@ -32,7 +32,7 @@ returns-clause-caused c =
     let n = c.args.codes.now.statics in
     let refused = verdict.Refused c.args.f.now.pos (record { 0 = 0 }) in
     elim c.match-as_slice-i.branch [
-      in-Some+else-is_object_code w ↦
+      | in-Some+else-is_object_code w ↦
           let there : code_at c.args.codes.now c.args.i ≡ Some w.in-Some.code =
           code-read c.args.codes.now c.args.i c.as_slice.result.now c.index-as_slice-i.result c.as_slice.ensures c.requires.there c.index-as_slice-i.is ∙ w.in-Some.is in
           let other : is_object_code n w.in-Some.code ≡ false = search rules in

@@ -8,5 +8,6 @@ loop-i-init c =
     record {
       within = omega (arith, e);
       short = omega (arith, e);
-      asks = sym (needing_end c.args.self.now c.args.atoms.now c.args.last c.args.params.now c.smaller_length-i.result e);
+      asks = sym (needing_end c.args.self.now c.args.atoms.now c.args.last c.args.params.now
+          c.smaller_length-i.result e);
     }

@@ -17,9 +17,11 @@ loop-i-preserved c =
     let t = get_or c.args.takes.now c.loop-i.i Never in
     let x = term_of s.known (get_or c.args.atoms.now c.loop-i.i (Var (record { 0 = 0 }))) in
     let new : c.lower_if.new.self ≡ Less (is_taken c.args.success t) x s =
-    c.in_ok-lower_if.ensures {u = tt} ∙ ap (λ b. Less b c.term-x.result s) c.counts.ensures ∙ ap (λ y. Less (is_taken c.args.success t) y s) c.term-x.ensures in
+    c.in_ok-lower_if.ensures {u = tt} ∙ ap (λ b. Less b c.term-x.result s) c.counts.ensures
+    ∙ ap (λ y. Less (is_taken c.args.success t) y s) c.term-x.ensures in
     let takes : c.loop-i.i < length c.args.takes.now = omega arith in
     let atoms : c.loop-i.i < length c.args.atoms.now = omega arith in
     ap (Lowered c.args.success c.args.takes.now c.args.atoms.now (c.loop-i.i + 1)) new
-    ∙ lowered_step c.args.success c.args.takes.now c.args.atoms.now s c.loop-i.i Never (Var (record { 0 = 0 })) takes atoms
+    ∙ lowered_step c.args.success c.args.takes.now c.args.atoms.now s c.loop-i.i Never (Var (record { 0 = 0 }))
+    takes atoms
     ∙ c.loop-i.invariant
