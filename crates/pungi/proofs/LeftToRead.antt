@@ -1,5 +1,6 @@
 -- What is left to read of a text, and what was written of one.
-use Rattle.std.proofs.Common.{◌≡◌, ℕ, ◌<◌, List, ◌++◌, length, take, drop, Option, Some, None, sym, ap, ◌∙◌, append_assoc, length-append, take-append-drop, arith, [], subst, append-nil}
+use Rattle.std.proofs.Common.{◌≡◌, ℕ, ◌<◌, List, ◌++◌, length, take, drop, Option, Some, None, sym, ap, ◌∙◌}
+use Rattle.std.proofs.Common.{append_assoc, length-append, take-append-drop, arith, [], subst, append-nil}
 use Rattle.pungi.specs.Read.{IsRead, IsFront, IsWhole}
 use Rattle.pungi.specs.Limits.{file_limit}
 
@@ -9,27 +10,37 @@ Left None name rest bytes = Unit {0}
 Left (Some texts) name None bytes = ⊥
 Left (Some texts) name (Some rest) bytes = texts name ≡ Some (bytes ++ rest)
 
-front_left : (texts : Option (List ℕ → Option (List ℕ))) (name : List ℕ) (rest : Option (List ℕ)) (bytes : List ℕ) → Left texts name rest bytes → IsFront texts name bytes
+front_left : (texts : Option (List ℕ → Option (List ℕ))) (name : List ℕ) (rest : Option (List ℕ)) (bytes : List ℕ)
+    → Left texts name rest bytes → IsFront texts name bytes
 front_left None name rest bytes left = tt
 front_left (Some texts) name None bytes left = absurd left
 front_left (Some texts) name (Some rest) bytes left = (rest, left)
 
-pub long_left : (texts : Option (List ℕ → Option (List ℕ))) (name : List ℕ) (rest : Option (List ℕ)) (bytes gave : List ℕ) → Left texts name rest bytes → bytes ≡ gave → file_limit < length bytes
+pub long_left : (texts : Option (List ℕ → Option (List ℕ))) (name : List ℕ) (rest : Option (List ℕ))
+    (bytes gave : List ℕ) → Left texts name rest bytes → bytes ≡ gave → file_limit < length bytes
     → IsFront texts name gave × (file_limit < length gave)
-long_left texts name rest bytes gave left same long =
-    (subst (λ (b : List ℕ). IsFront texts name b) same (front_left texts name rest bytes left), subst (λ (b : List ℕ). file_limit < length b) same long)
+long_left texts name rest bytes gave left same long = (
+  subst (λ (b : List ℕ). IsFront texts name b) same (front_left texts name rest bytes left),
+  subst
+      (λ (b : List ℕ). file_limit < length b) same long,
+)
 
 some_same : (x y : List ℕ) → ◌≡◌ {A = Option (List ℕ)} (Some x) (Some y) → x ≡ y
 some_same x y e = cc
 
-pub whole_left : (texts : Option (List ℕ → Option (List ℕ))) (name : List ℕ) (rest : Option (List ℕ)) (bytes : List ℕ) → Left texts name rest bytes → rest ≡ Some [] → IsWhole texts rest name bytes
+pub whole_left : (texts : Option (List ℕ → Option (List ℕ))) (name : List ℕ) (rest : Option (List ℕ))
+    (bytes : List ℕ) → Left texts name rest bytes → rest ≡ Some [] → IsWhole texts rest name bytes
 whole_left None name rest bytes left end = end
 whole_left (Some texts) name None bytes left end = absurd left
-whole_left (Some texts) name (Some rest) bytes left end = (end, left ∙ ap Some (ap (λ (r : List ℕ). bytes ++ r) (some_same rest [] end) ∙ append-nil bytes))
+whole_left (Some texts) name (Some rest) bytes left end =
+    (end, left ∙ ap Some (ap (λ (r : List ℕ). bytes ++ r) (some_same rest [] end) ∙ append-nil bytes))
 
-pub split_on : (text front rest piece behind : List ℕ) (n : ℕ) → text ≡ front ++ rest → piece ≡ take n rest → behind ≡ drop n rest → text ≡ (front ++ take n rest) ++ behind
+pub split_on : (text front rest piece behind : List ℕ) (n : ℕ) → text ≡ front ++ rest → piece ≡ take n rest
+    → behind ≡ drop n rest → text ≡ (front ++ take n rest) ++ behind
 split_on text front rest piece behind n e p b =
-    e ∙ ap (λ (l : List ℕ). front ++ l) (sym (take-append-drop n rest)) ∙ sym (append_assoc front (take n rest) (drop n rest)) ∙ ap (λ (l : List ℕ). (front ++ take n rest) ++ l) (sym b)
+    e ∙ ap (λ (l : List ℕ). front ++ l) (sym (take-append-drop n rest))
+    ∙ sym (append_assoc front (take n rest) (drop n rest))
+    ∙ ap (λ (l : List ℕ). (front ++ take n rest) ++ l) (sym b)
 
 -- what was taken in two calls
 pub taken_on : (a b c x y : List ℕ) → b ≡ a ++ x → c ≡ b ++ y → c ≡ a ++ (x ++ y)

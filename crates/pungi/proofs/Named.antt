@@ -41,41 +41,61 @@ known_front names (k ∷ front) ks a = (a.0, known_front names front ks a.1)
 abbrev IsNamed : List (List ℕ) → Definition → Type 0
 IsNamed names d = IsCWord names d.name.0
 
-all_named : (names : List (List ℕ)) (items : List Item) → Known names (items_flat items) → All (IsNamed names) (definitions items)
+all_named : (names : List (List ℕ)) (items : List Item) → Known names (items_flat items)
+    → All (IsNamed names) (definitions items)
 all_named names [] a = All-nil (IsNamed names)
-all_named names (nothing p ∷ items) a = all_named names items (known_behind names (item_flat (nothing p)) (items_flat items) a)
-all_named names (doc p m ts ∷ items) a = all_named names items (known_behind names (item_flat (doc p m ts)) (items_flat items) a)
-all_named names (typedef s stars m p ∷ items) a = all_named names items (known_behind names (item_flat (typedef s stars m p)) (items_flat items) a)
-all_named names (tag qs s ∷ items) a = all_named names items (known_behind names (item_flat (tag qs s)) (items_flat items) a)
-all_named names (variables d ∷ items) a = all_named names items (known_behind names (item_flat (variables d)) (items_flat items) a)
-all_named names (prototype h ∷ items) a = all_named names items (known_behind names (item_flat (prototype h)) (items_flat items) a)
+all_named names (nothing p ∷ items) a =
+    all_named names items (known_behind names (item_flat (nothing p)) (items_flat items) a)
+all_named names (doc p m ts ∷ items) a =
+    all_named names items (known_behind names (item_flat (doc p m ts)) (items_flat items) a)
+all_named names (typedef s stars m p ∷ items) a =
+    all_named names items (known_behind names (item_flat (typedef s stars m p)) (items_flat items) a)
+all_named names (tag qs s ∷ items) a =
+    all_named names items (known_behind names (item_flat (tag qs s)) (items_flat items) a)
+all_named names (variables d ∷ items) a =
+    all_named names items (known_behind names (item_flat (variables d)) (items_flat items) a)
+all_named names (prototype h ∷ items) a =
+    all_named names items (known_behind names (item_flat (prototype h)) (items_flat items) a)
 all_named names (function_def (head qs s stars m p ps) b ∷ items) a =
     let f = function_def (head qs s stars m p ps) b in
-    let signature = known_front names (signature_flat qs s stars m ps) (stmt_flat b) (known_front names (item_flat f) (items_flat items) a) in
-    let named = (known_behind names (stars_flat stars) _ (known_behind names (spec_flat s) _ (known_behind names (keys_flat qs) _ signature))).0 in
-    All-cons (IsNamed names) (record { name = m; pos = p; result = s; stars = length stars; params = ps; body = b }) (definitions items) named
+    let signature = known_front names (signature_flat qs s stars m ps) (stmt_flat b)
+    (known_front names (item_flat f) (items_flat items) a) in
+    let named = (known_behind names (stars_flat stars) _ (known_behind names (spec_flat s) _
+    (known_behind names (keys_flat qs) _ signature))).0 in
+    All-cons (IsNamed names) (record { name = m; pos = p; result = s; stars = length stars; params = ps; body = b })
+    (definitions items) named
     (all_named names items (known_behind names (item_flat f) (items_flat items) a))
 
 -- the lines of judged functions may be printed
 verdict_printable : (names : List (List ℕ)) (v : Verdict) → IsReportable v → IsPrintable names v
 verdict_printable names verdict.Clean h = tt
 verdict_printable names (verdict.Faulty fault) h = h
-verdict_printable names (verdict.Unknown because) h = subst (λ (w : Why). IsPrintable names (verdict.Unknown w)) (sym h) tt
+verdict_printable names (verdict.Unknown because) h =
+    subst (λ (w : Why). IsPrintable names (verdict.Unknown w)) (sym h) tt
 verdict_printable names (verdict.Refused at rule) h = tt
 
-printable : (names : List (List ℕ)) (c : CheckedFile) (d : Definition) (line : Name × Verdict) → IsCWord names d.name.0 → IsSound c d line → IsReportable line.1 → IsLine names line
-printable names c d line known judged h = (subst (λ (m : Name). IsCWord names m.0) (sym judged.0) known, verdict_printable names line.1 h)
+printable : (names : List (List ℕ)) (c : CheckedFile) (d : Definition) (line : Name × Verdict)
+    → IsCWord names d.name.0 → IsSound c d line → IsReportable line.1 → IsLine names line
+printable names c d line known judged h =
+    (subst (λ (m : Name). IsCWord names m.0) (sym judged.0) known, verdict_printable names line.1 h)
 
-lines_printable : (names : List (List ℕ)) (c : CheckedFile) (ds : List Definition) (lines : List (Name × Verdict)) → All (IsNamed names) ds
-    → AllZip (IsSound c) ds lines → All (λ (line : Name × Verdict). IsReportable line.1) lines → All (IsLine names) lines
+lines_printable : (names : List (List ℕ)) (c : CheckedFile) (ds : List Definition) (lines : List (Name × Verdict))
+    → All (IsNamed names) ds
+    → AllZip (IsSound c) ds lines → All (λ (line : Name × Verdict). IsReportable line.1) lines
+    → All (IsLine names) lines
 lines_printable names c [] [] known judged h = All-nil (IsLine names)
 lines_printable names c [] (line ∷ lines) known judged h = absurd judged
 lines_printable names c (d ∷ ds) [] known judged h = absurd judged
 lines_printable names c (d ∷ ds) (line ∷ lines) known judged h =
-    All-cons (IsLine names) line lines (printable names c d line (known 0 d (omega arith)) judged.0 (h 0 line (omega arith)))
-    (lines_printable names c ds lines (λ k e lt. known (suc k) e (omega (arith, lt))) judged.1 (λ k e lt. h (suc k) e (omega (arith, lt))))
+    All-cons (IsLine names) line lines (printable names c d line (known 0 d (omega arith)) judged.0
+    (h 0 line (omega arith)))
+    (lines_printable names c ds lines (λ k e lt. known (suc k) e (omega (arith, lt))) judged.1
+    (λ k e lt. h (suc k) e (omega (arith, lt))))
 
-pub all_printable : (names : List (List ℕ)) (c : CheckedFile) (lines : List (Name × Verdict)) → AreKnownKinds names (items_flat c.file.items)
-    → AllZip (IsSound c) (definitions c.file.items) lines → All (λ (line : Name × Verdict). IsReportable line.1) lines → All (IsLine names) lines
+pub all_printable : (names : List (List ℕ)) (c : CheckedFile) (lines : List (Name × Verdict))
+    → AreKnownKinds names (items_flat c.file.items)
+    → AllZip (IsSound c) (definitions c.file.items) lines
+    → All (λ (line : Name × Verdict). IsReportable line.1) lines → All (IsLine names) lines
 all_printable names c lines known judged h =
-    lines_printable names c (definitions c.file.items) lines (all_named names c.file.items (known_of names (items_flat c.file.items) known)) judged h
+    lines_printable names c (definitions c.file.items) lines (all_named names c.file.items
+    (known_of names (items_flat c.file.items) known)) judged h

@@ -1,5 +1,6 @@
 -- The answer to a text within the limit.
-use Rattle.std.proofs.Common.{◌≡◌, ◌⊎◌, inl, inr, ⊎_elim, refl, ℕ, zero, suc, ◌≤◌, List, length, Option, Some, subst, arith}
+use Rattle.std.proofs.Common.{◌≡◌, ◌⊎◌, inl, inr, ⊎_elim, refl, ℕ, zero, suc, ◌≤◌, List, length, Option, Some, subst}
+use Rattle.std.proofs.Common.{arith}
 use Rattle.pungi.specs.Answer.{Answers, IsReported}
 use Rattle.pungi.specs.Examine.{IsReport}
 use Rattle.pungi.specs.Front.{IsRefusedAs}
@@ -10,7 +11,8 @@ use Rattle.pungi.specs.Status.{all_clean, some_faulty, some_open, words_refused,
 
 -- what is said of a text: the report, or why it is refused
 abbrev pub IsSaid : List ℕ → ℕ → List ℕ → Type 0
-IsSaid text status answer = ((status ≤ some_open) × IsReport text status answer) ⊎ ((status ≡ file_refused) × IsRefusedAs text answer)
+IsSaid text status answer =
+    ((status ≤ some_open) × IsReport text status answer) ⊎ ((status ≡ file_refused) × IsRefusedAs text answer)
 
 low : (status : ℕ) → status ≤ some_open → IsReported status
 low zero h = inl refl
@@ -19,13 +21,20 @@ low (suc (suc zero)) h = inr (inr refl)
 low (suc (suc (suc n))) h = absurd (omega (arith, h))
 
 not_reported : (status : ℕ) → status ≡ file_refused → IsReported status → ⊥
-not_reported status is h = ⊎_elim (λ (a : status ≡ all_clean). omega (arith, a, is)) (λ (b : (status ≡ some_faulty) ⊎ (status ≡ some_open)). ⊎_elim (λ (a : status ≡ some_faulty). omega (arith, a, is)) (λ (a : status ≡ some_open). omega (arith, a, is)) b) h
+not_reported status is h =
+    ⊎_elim (λ (a : status ≡ all_clean). omega (arith, a, is)) (λ (b : (status ≡ some_faulty)
+    ⊎ (status ≡ some_open)). ⊎_elim (λ (a : status ≡ some_faulty). omega (arith, a, is))
+    (λ (a : status ≡ some_open). omega (arith, a, is)) b) h
 
-one_of_six : (status : ℕ) → IsReported status → (status ≡ all_clean) ⊎ (status ≡ some_faulty) ⊎ (status ≡ some_open) ⊎ (status ≡ words_refused) ⊎ (status ≡ file_unread) ⊎ (status ≡ file_refused)
+one_of_six : (status : ℕ) → IsReported status
+    → (status ≡ all_clean) ⊎ (status ≡ some_faulty) ⊎ (status ≡ some_open) ⊎ (status ≡ words_refused)
+    ⊎ (status ≡ file_unread) ⊎ (status ≡ file_refused)
 one_of_six status h = ⊎_elim (λ a. inl a) (λ b. ⊎_elim (λ a. inr (inl a)) (λ a. inr (inr (inl a))) b) h
 
-pub text_answer : (words : List (List ℕ)) (texts opened : Option (List ℕ → Option (List ℕ))) (unread : Type 0) (status : ℕ) (answer file text read : List ℕ)
-    → file_word words ≡ Some file → opened ≡ texts → IsRead opened file text → length text ≤ file_limit → read ≡ text → IsSaid read status answer → Answers words texts unread status answer
+pub text_answer : (words : List (List ℕ)) (texts opened : Option (List ℕ → Option (List ℕ))) (unread : Type 0)
+    (status : ℕ) (answer file text read : List ℕ)
+    → file_word words ≡ Some file → opened ≡ texts → IsRead opened file text → length text ≤ file_limit
+    → read ≡ text → IsSaid read status answer → Answers words texts unread status answer
 text_answer words texts opened unread status answer file text read named same held within read-is said =
     let own : IsRead texts file text = subst (λ t. IsRead t file text) same held in
     ⊎_elim

@@ -13,20 +13,27 @@ use Rattle.pungi.specs.Answer.{Answers, HasSoundReport, IsReported}
 use Rattle.pungi.specs.Examine.{IsReport, IsSoundReport}
 
 -- lines that are sound, refused where a rule holds, and come for their cause, are right
-pub all_judged : (c : CheckedFile) (ds : List Definition) (lines : List (Name × Verdict)) → AllZip (IsSound c) ds lines → AllZip (IsRefused c) ds lines → AllZip (IsCaused c) ds lines → AllZip (IsJudged c) ds lines
+pub all_judged : (c : CheckedFile) (ds : List Definition) (lines : List (Name × Verdict))
+    → AllZip (IsSound c) ds lines → AllZip (IsRefused c) ds lines → AllZip (IsCaused c) ds lines
+    → AllZip (IsJudged c) ds lines
 all_judged c [] [] sound refused caused = tt
 all_judged c [] (line ∷ lines) sound refused caused = absurd sound
 all_judged c (d ∷ ds) [] sound refused caused = absurd sound
-all_judged c (d ∷ ds) (line ∷ lines) sound refused caused =
-    (record { sound = sound.0; refused = refused.0; caused = caused.0 }, all_judged c ds lines sound.1 refused.1 caused.1)
+all_judged c (d ∷ ds) (line ∷ lines) sound refused caused = (
+  record { sound = sound.0; refused = refused.0; caused = caused.0 },
+  all_judged c ds lines sound.1 refused.1
+      caused.1,
+)
 
-all_sound : (c : CheckedFile) (ds : List Definition) (lines : List (Name × Verdict)) → AllZip (IsJudged c) ds lines → AllZip (IsSound c) ds lines
+all_sound : (c : CheckedFile) (ds : List Definition) (lines : List (Name × Verdict)) → AllZip (IsJudged c) ds lines
+    → AllZip (IsSound c) ds lines
 all_sound c [] [] judged = tt
 all_sound c [] (line ∷ lines) judged = absurd judged
 all_sound c (d ∷ ds) [] judged = absurd judged
 all_sound c (d ∷ ds) (line ∷ lines) judged = (judged.0.sound, all_sound c ds lines judged.1)
 
-sound_report : (text : List ℕ) (status : ℕ) (bytes : List ℕ) → IsReport text status bytes → IsSoundReport text status bytes
+sound_report : (text : List ℕ) (status : ℕ) (bytes : List ℕ) → IsReport text status bytes
+    → IsSoundReport text status bytes
 sound_report text status bytes is =
     let report = is.report in
     record {
@@ -46,8 +53,10 @@ sound_report text status bytes is =
       };
     }
 
-pub sound_answer : (words : List (List ℕ)) (texts : Option (List ℕ → Option (List ℕ))) (rest : Option (List ℕ)) (gave : List ℕ) (before after status : ℕ) (answer : List ℕ)
-    → Answers words texts rest gave before after status answer → IsReported status → HasSoundReport words texts rest gave status answer
+pub sound_answer : (words : List (List ℕ)) (texts : Option (List ℕ → Option (List ℕ))) (rest : Option (List ℕ))
+    (gave : List ℕ) (before after status : ℕ) (answer : List ℕ)
+    → Answers words texts rest gave before after status answer → IsReported status
+    → HasSoundReport words texts rest gave status answer
 sound_answer words texts rest gave before after status answer a reported =
     let r = a.report reported in
     (r.0, r.1, r.2, sound_report gave status answer r.4)

@@ -8,19 +8,24 @@
 --                                one of that name, and else the bytes that it gave
 --   IsReported status            one of the statuses of a report
 --   HasSoundReport words texts rest gave status answer
---                                the answer is a sound report on the file that the words name, of which the shelf gave these bytes
+--                                the answer is a sound report on the file that the words name, of which the shelf gave
+--                                these bytes
 --   Answers words texts rest gave before after status answer
 --                                a status other than the two of a cut answer and of want of memory, with the text that
---                                goes with it, where these are the words of the command, the shelf's texts, what is left
---                                to read there, the bytes that it gave, and its counts of faults before and after. Each
---                                status has its cause, and none but that of a file that can't be read comes with a fault
+--                                goes with it, where these are the words of the command, the shelf's texts, what is
+--                                left to read there, the bytes that it gave, and its counts of faults before and after.
+--                                Each status has its cause, and none but that of a file that can't be read comes with a
+--                                fault
 --   IsOpened words status before after
---                                the names that `open` was given: the file's, once, or none where nothing is said of a file
-use Rattle.std.specs.Prelude.{◌≡◌, ◌≢◌, ◌⊎◌, ℕ, ◌≤◌, ◌<◌, List, [], ◌∷◌, ◌++◌, length, Option, None, Some, IsNone, codes}
+--                                the names that `open` was given: the file's, once, or none where nothing is said of a
+--                                file
+use Rattle.std.specs.Prelude.{◌≡◌, ◌≢◌, ◌⊎◌, ℕ, ◌≤◌, ◌<◌, List, [], ◌∷◌, ◌++◌, length, Option, None, Some, IsNone}
+use Rattle.std.specs.Prelude.{codes}
 use Rattle.pungi_base.specs.Shelf.{Rose}
 use Rattle.pungi_base.specs.Witness.{line_end}
 use Rattle.pungi.specs.Limits.{file_limit}
-use Rattle.pungi.specs.Status.{all_clean, some_faulty, some_open, words_refused, file_unread, answer_cut, file_refused, memory_wanted}
+use Rattle.pungi.specs.Status.{all_clean, some_faulty, some_open, words_refused, file_unread, answer_cut, file_refused}
+use Rattle.pungi.specs.Status.{memory_wanted}
 use Rattle.pungi.specs.Examine.{IsReport, IsSoundReport}
 use Rattle.pungi.specs.Front.{IsNoFile, IsRefusedAs}
 use Rattle.pungi.specs.Read.{IsFront, IsWhole}
@@ -37,7 +42,8 @@ long_text = codes "file refused over 1048576 bytes" ++ line_end
 
 abbrev pub IsRefusal : Option (List ℕ → Option (List ℕ)) → Option (List ℕ) → List ℕ → List ℕ → List ℕ → Type 0
 IsRefusal texts rest file gave answer =
-    ((file_limit < length gave) × IsFront texts file gave × (answer ≡ long_text)) ⊎ ((length gave ≤ file_limit) × IsWhole texts rest file gave × IsRefusedAs gave answer)
+    ((file_limit < length gave) × IsFront texts file gave × (answer ≡ long_text))
+    ⊎ ((length gave ≤ file_limit) × IsWhole texts rest file gave × IsRefusedAs gave answer)
 
 abbrev pub IsRefusedText : List ℕ → Type 0
 IsRefusedText text = (file_limit < length text) ⊎ ((length text ≤ file_limit) × IsNoFile text)
@@ -49,15 +55,23 @@ IsFileText words (Some texts) gave text = (file : List ℕ) × (file_word words 
 abbrev pub IsReported : ℕ → Type 0
 IsReported status = (status ≡ all_clean) ⊎ (status ≡ some_faulty) ⊎ (status ≡ some_open)
 
-abbrev pub HasSoundReport : List (List ℕ) → Option (List ℕ → Option (List ℕ)) → Option (List ℕ) → List ℕ → ℕ → List ℕ → Type 0
-HasSoundReport words texts rest gave status answer = (file : List ℕ) × (file_word words ≡ Some file) × IsWhole texts rest file gave × IsSoundReport gave status answer
+abbrev pub HasSoundReport : List (List ℕ) → Option (List ℕ → Option (List ℕ)) → Option (List ℕ) → List ℕ → ℕ
+    → List ℕ → Type 0
+HasSoundReport words texts rest gave status answer =
+    (file : List ℕ) × (file_word words ≡ Some file) × IsWhole texts rest file gave
+    × IsSoundReport gave status answer
 
-pub record Answers (words : List (List ℕ)) (texts : Option (List ℕ → Option (List ℕ))) (rest : Option (List ℕ)) (gave : List ℕ) (before after : ℕ) (status : ℕ) (answer : List ℕ) : Type 0 where
-  pub one : (status ≡ all_clean) ⊎ (status ≡ some_faulty) ⊎ (status ≡ some_open) ⊎ (status ≡ words_refused) ⊎ (status ≡ file_unread) ⊎ (status ≡ file_refused)
-  pub report : IsReported status → (file : List ℕ) × (file_word words ≡ Some file) × IsWhole texts rest file gave × (length gave ≤ file_limit) × IsReport gave status answer
+pub record Answers (words : List (List ℕ)) (texts : Option (List ℕ → Option (List ℕ))) (rest : Option (List ℕ))
+    (gave : List ℕ) (before after : ℕ) (status : ℕ) (answer : List ℕ) : Type 0 where
+  pub one : (status ≡ all_clean) ⊎ (status ≡ some_faulty) ⊎ (status ≡ some_open) ⊎ (status ≡ words_refused)
+      ⊎ (status ≡ file_unread) ⊎ (status ≡ file_refused)
+  pub report : IsReported status → (file : List ℕ) × (file_word words ≡ Some file) × IsWhole texts rest file gave
+      × (length gave ≤ file_limit) × IsReport gave status answer
   pub usage : status ≡ words_refused → IsNone (file_word words) × (answer ≡ usage_text)
-  pub failed : status ≡ file_unread → (file : List ℕ) × (file_word words ≡ Some file) × Rose before after × (answer ≡ unread_text file)
-  pub refused : status ≡ file_refused → (file : List ℕ) × (file_word words ≡ Some file) × IsRefusal texts rest file gave answer
+  pub failed : status ≡ file_unread → (file : List ℕ) × (file_word words ≡ Some file) × Rose before after
+      × (answer ≡ unread_text file)
+  pub refused : status ≡ file_refused → (file : List ℕ) × (file_word words ≡ Some file)
+      × IsRefusal texts rest file gave answer
   pub steady : status ≢ file_unread → after ≡ before
 
 abbrev pub IsOpened : List (List ℕ) → ℕ → List (List ℕ) → List (List ℕ) → Type 0

@@ -1,7 +1,9 @@
 -- The report on the text of a file.
 --   checked_file names items refused    what is known of a file, where these functions are refused
---   is_faulty, is_open, status_of the status that goes with verdicts: whether one is faulty, or else one is neither clean nor faulty
---   IsReportOn P names c status report    a report on a checked file: a line for each function that it defines, of which P
+--   is_faulty, is_open, status_of the status that goes with verdicts: whether one is faulty, or else one is neither
+--   clean nor faulty
+--   IsReportOn P names c status report    a report on a checked file: a line for each function that it defines, of
+--                                         which P
 --                                 holds, and the status that goes with them. No other lines print so: whatever lines
 --                                 print so, under whatever names, say the same
 --   IsReportOf P text status bytes    a report on the file that the text is
@@ -40,19 +42,24 @@ is_open (verdict.Unknown why) = true
 is_open (verdict.Refused at rule) = true
 
 abbrev pub status_of : List (Name × Verdict) → ℕ
-status_of lines = if list_any (λ line. is_faulty line.1) lines then some_faulty else (if list_any (λ line. is_open line.1) lines then some_open else all_clean)
+status_of lines =
+    if list_any (λ line. is_faulty line.1) lines then some_faulty else (if list_any (λ line. is_open line.1) lines
+    then some_open else all_clean)
 
-pub record IsReportOn (P : CheckedFile → Definition → Name × Verdict → Type 0) (names : List (List ℕ)) (c : CheckedFile) (status : ℕ) (report : List ℕ) : Type 0 where
+pub record IsReportOn (P : CheckedFile → Definition → Name × Verdict → Type 0) (names : List (List ℕ))
+    (c : CheckedFile) (status : ℕ) (report : List ℕ) : Type 0 where
   pub lines : List (Name × Verdict)
   pub judged : AllZip (P c) (definitions c.file.items) lines
   pub counted : status ≡ status_of lines
   pub printed : report ≡ report_text names lines
   pub readable : All (IsLine names) lines
   pub fits : All FitsLine lines
-  pub only : (others : List (List ℕ)) (more : List (Name × Verdict)) → All (IsLine others) more → All FitsLine more → report ≡ report_text others more
+  pub only : (others : List (List ℕ)) (more : List (Name × Verdict)) → All (IsLine others) more → All FitsLine more
+      → report ≡ report_text others more
       → AllZip (IsSameLine names others) lines more
 
-pub record IsReportOf (P : CheckedFile → Definition → Name × Verdict → Type 0) (text : List ℕ) (status : ℕ) (bytes : List ℕ) : Type 0 where
+pub record IsReportOf (P : CheckedFile → Definition → Name × Verdict → Type 0) (text : List ℕ) (status : ℕ)
+    (bytes : List ℕ) : Type 0 where
   pub names : List (List ℕ)
   pub items : List Item
   pub file : IsFile text names items

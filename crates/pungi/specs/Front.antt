@@ -1,7 +1,9 @@
 -- The front end: from the text of a file to what the file consists of, or to why the text is refused.
---   IsUnitOf text names items the text spells these items, and these are its names: its tokens, their macros replaced, are the unit
+--   IsUnitOf text names items the text spells these items, and these are its names: its tokens, their macros replaced,
+--   are the unit
 --   IsNoUnit text             it spells none
---   IsFile text names items   a file: a text that spells these items, in which no name is used twice and no function is one too many
+--   IsFile text names items   a file: a text that spells these items, in which no name is used twice and no function is
+--                             one too many
 --   IsNoFile text             it is no file
 --   IsParseFault ts fault     why tokens have no tree
 --   file_known names items    what is known of a file of these names and items
@@ -74,10 +76,15 @@ IsUnitFault file (unit.TooManyFunctions at) = least (faults file) ≡ finding_at
 
 abbrev pub IsFaultOf : List ℕ → FileFault → Type 0
 IsFaultOf text (fault.Lex found) = HasFault text found
-IsFaultOf text (fault.Macro found) = (names : List (List ℕ)) × (tokens : List Token) × AreTokensOf builtin_words names text tokens × HasMacroFault (length names) tokens found
-IsFaultOf text (fault.Parse found) = (names : List (List ℕ)) × (tokens expanded : List Token) × AreTokensOf builtin_words names text tokens
+IsFaultOf text (fault.Macro found) =
+    (names : List (List ℕ)) × (tokens : List Token) × AreTokensOf builtin_words names text tokens
+    × HasMacroFault (length names) tokens found
+IsFaultOf text (fault.Parse found) =
+    (names : List (List ℕ)) × (tokens expanded : List Token) × AreTokensOf builtin_words names text tokens
     × IsExpanded (length names) tokens expanded × IsParseFault (placed expanded) found
-IsFaultOf text (fault.Unit found) = (names : List (List ℕ)) × (items : List Item) × IsUnitOf text names items × IsUnitFault (file_known names items) found
+IsFaultOf text (fault.Unit found) =
+    (names : List (List ℕ)) × (items : List Item) × IsUnitOf text names items
+    × IsUnitFault (file_known names items) found
 
 abbrev pub AreKnownKinds : List (List ℕ) → List Kind → Type 0
 AreKnownKinds names ks = All (λ k. IsKnown names k) ks

@@ -68,7 +68,8 @@ fn status(lines: &[(Name, Verdict)]) -> u8
 fn reported(alloc: Global, names: &Names, checked: &Checked<'_>) -> Result<Answer, Memory>
     requires checked { IsChecked checked.now }
     requires known { AreKnownKinds names.now (items_flat (checked_view checked.now).file.items) }
-    ensures { IfOk result (λ a. (a.status ≤ some_open) × IsReportOn IsJudged names.now (checked_view checked.now) a.status a.text.items) }
+    ensures { IfOk result (λ a. (a.status ≤ some_open)
+        × IsReportOn IsJudged names.now (checked_view checked.now) a.status a.text.items) }
 {
     let lines = judge_all(alloc, checked)?;
     report_is_read_back();
@@ -81,7 +82,8 @@ fn reported(alloc: Global, names: &Names, checked: &Checked<'_>) -> Result<Answe
 /// The answer to a text within the limit: the report on its functions, or why it is refused.
 pub(crate) fn examine(alloc: Global, text: &[u8]) -> Result<Answer, Memory>
     requires { length text.now ≤ file_limit }
-    ensures { IfOk result (λ a. ((a.status ≤ some_open) × IsReport text.now a.status a.text.items) ⊎ ((a.status ≡ file_refused) × IsRefusedAs text.now a.text.items)) }
+    ensures { IfOk result (λ a. ((a.status ≤ some_open) × IsReport text.now a.status a.text.items)
+        ⊎ ((a.status ≡ file_refused) × IsRefusedAs text.now a.text.items)) }
 {
     let rows = Table::builtin(alloc)?;
     let mut names = Names::builtin(alloc)?;

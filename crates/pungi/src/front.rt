@@ -20,10 +20,12 @@ pub(crate) fn unit_of(alloc: Global, names: &mut Names, text: &[u8]) -> Result<U
     requires limit { length text.now ≤ file_limit }
     requires words { names.old ≡ builtin_words }
     ensures unit { IfOk result (λ unit. IsUnitOf text.now names.new (unit_view unit)) }
-    ensures only { IfOk result (λ unit. (others : List (List ℕ)) (items : List Item) → IsUnitOf text.now others items → items ≡ unit_view unit) }
+    ensures only { IfOk result (λ unit. (others : List (List ℕ)) (items : List Item)
+        → IsUnitOf text.now others items → items ≡ unit_view unit) }
     ensures known { IfOk result (λ unit. AreKnownKinds names.new (items_flat (unit_view unit))) }
     ensures few { IfOk result (λ unit. length (items_flat (unit_view unit)) ≤ token_limit) }
-    ensures fault { IfErr result (λ fault. (told : Pos × List ℕ) → reason_of fault ≡ Some told → IsFaultOf text.now fault × IsNoUnit text.now) }
+    ensures fault { IfErr result (λ fault. (told : Pos × List ℕ) → reason_of fault ≡ Some told
+        → IsFaultOf text.now fault × IsNoUnit text.now) }
 {
     let tokens = match lex(alloc, names, text) {
         Ok(tokens) => tokens,

@@ -81,7 +81,8 @@ fn refusal_line(alloc: Global, at: Pos, reason: &str) -> Result<Vec<u8>, Memory>
 /// That a file is refused, and why.
 pub(crate) fn refusal_answer(alloc: Global, fault: &FileFault) -> Result<Answer, Memory>
     ensures { IfOk result (λ a. (a.status ≡ file_refused)
-        × ((at : ThePos) × (reason : List ℕ) × (reason_of fault.now ≡ Some (at, reason)) × (a.text.items ≡ refused_text at reason))) }
+        × ((at : ThePos) × (reason : List ℕ) × (reason_of fault.now ≡ Some (at, reason))
+        × (a.text.items ≡ refused_text at reason))) }
 {
     let Some((at, reason)) = reason_of(fault) else {
         return Err(Memory);

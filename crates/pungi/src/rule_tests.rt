@@ -1,5 +1,5 @@
-//! Rules of functions: where each holds, where it holds at a later place, where it nearly holds, and where it holds beside
-//! another one. The expected findings are written by hand from the rules.
+//! Rules of functions: where each holds, where it holds at a later place, where it nearly holds, and where it holds
+//! beside another one. The expected findings are written by hand from the rules.
 
 use crate::tests::is_told;
 use pungi_base::Memory;

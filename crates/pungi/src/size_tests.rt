@@ -30,8 +30,8 @@ const MOST: &str =
 const OVER: &str =
     "int a, b, c, d, e, g, h, i, j, k, l, m, o, p, q, r; { int a, b, c, d, e, g, h, i, j, k, l, m, o, p, q, r; } ";
 
-/// The sizes of a function: at most 32 locals with its parameters, and at most 4,096 nodes. A statement here has four; a
-/// declared variable is one.
+/// The sizes of a function: at most 32 locals with its parameters, and at most 4,096 nodes. A statement here has four;
+/// a declared variable is one.
 const SIZES: &[(&str, usize, &str, &str)] = &[
     (SOME, 0, "return n;", "refused f 1:5 N0\n"),
     (MOST, 0, "return n;", "refused f 1:5 N0\n"),

@@ -6,7 +6,8 @@ use pungi_base::{Failed, Sink};
 /// Writes all of a text. After a failed write a front of it was taken.
 pub fn write_all<O: Sink>(out: &mut O, text: &[u8]) -> Result<(), Failed>
     ensures ok { OnOk result (O.taken out.new ≡ O.taken out.old ++ text.now) }
-    ensures err { OnErr result ((front : List ℕ) × (rest : List ℕ) × (text.now ≡ front ++ rest) × (0 < length rest) × (O.taken out.new ≡ O.taken out.old ++ front)) }
+    ensures err { OnErr result ((front : List ℕ) × (rest : List ℕ) × (text.now ≡ front ++ rest) × (0 < length rest)
+        × (O.taken out.new ≡ O.taken out.old ++ front)) }
     ensures steady { OnOk result (O.faults out.new ≡ O.faults out.old) }
     ensures failed { OnErr result (Rose (O.faults out.old) (O.faults out.new)) }
 {

@@ -1,5 +1,7 @@
 -- The functions of a file, their codes, and the verdicts on them one after another.
-use Rattle.std.proofs.Common.{◌≡◌, ℕ, zero, suc, ◌+◌, ◌<◌, ◌≤◌, ◌^◌, true, arith, List, [], ◌∷◌, ◌++◌, length, get_or, drop, map, option_map, slice_get, Option, Some, None, refl, sym, ap, ◌∙◌, subst, append_assoc, drop-cons}
+use Rattle.std.proofs.Common.{◌≡◌, ℕ, zero, suc, ◌+◌, ◌<◌, ◌≤◌, ◌^◌, true, arith, List, [], ◌∷◌, ◌++◌, length, get_or}
+use Rattle.std.proofs.Common.{drop, map, option_map, slice_get, Option, Some, None, refl, sym, ap, ◌∙◌, subst}
+use Rattle.std.proofs.Common.{append_assoc, drop-cons}
 use Rattle.std.specs.Prelude.{is_some, if◌then◌else◌}
 use Rattle.std.specs.List.{AllZip, list_all}
 use Rattle.std.proofs.lemmas.List.{append-nil, drop_all}
@@ -29,7 +31,8 @@ use Rattle.pungi_layout.specs.code.Codes.{code_for}
 use Rattle.pungi_lower.specs.Lowered.{codes_of, names_of, IsLowered, AreLowered}
 use Rattle.pungi_explore.specs.Explored.{IsFew, IsMany}
 use Rattle.pungi_verdict.specs.Replays.{IsGiven}
-use Rattle.pungi_verdict.specs.Causes.{file_codes, object_code, HasFewTraces, HasManyTraces, IsDecided, IsCausedBy, IsCausedIn}
+use Rattle.pungi_verdict.specs.Causes.{file_codes, object_code, HasFewTraces, HasManyTraces, IsDecided, IsCausedBy}
+use Rattle.pungi_verdict.specs.Causes.{IsCausedIn}
 use Rattle.pungi_verdict.specs.Refusals.{IsRefusedAt}
 use Rattle.pungi_verdict.specs.Sound.{statics_of, IsTrueOf}
 use Rattle.pungi_verdict.specs.Verdicts.{IsJudged}
@@ -42,20 +45,27 @@ same-some : {A : Type 0} (x y : A) → Some x ≡ Some y → x ≡ y
 same-some x y e = cc
 
 -- what a function does in which no rule holds
-resolution-is : (c : CheckedFile) (d : Definition) → refusal c.file c.refused d ≡ None → resolution_of c.file c.refused d ≡ Some (resolved c.file c.refused d)
-resolution-is c d none = ap (λ (o : Option Finding). if is_some o then None else Some (resolved c.file c.refused d)) none
+resolution-is : (c : CheckedFile) (d : Definition) → refusal c.file c.refused d ≡ None
+    → resolution_of c.file c.refused d ≡ Some (resolved c.file c.refused d)
+resolution-is c d none =
+    ap (λ (o : Option Finding). if is_some o then None else Some (resolved c.file c.refused d)) none
 
-mapped-at : {A B : Type 0} (g : A → B) (xs : List A) (i : ℕ) (x : A) → slice_get xs i ≡ Some x → slice_get (map g xs) i ≡ Some (g x)
+mapped-at : {A B : Type 0} (g : A → B) (xs : List A) (i : ℕ) (x : A) → slice_get xs i ≡ Some x
+    → slice_get (map g xs) i ≡ Some (g x)
 mapped-at g xs i x e = slice_get-map g xs i ∙ ap (option_map g) e
 
 -- the function that is resolved at a place
-pub function-is : (c : CheckedFile) (fs : List (Option Function)) (i : ℕ) (d : Definition) (o : Option Function) → map resolution_view fs ≡ map (resolution_of c.file c.refused) (definitions c.file.items)
-    → slice_get fs i ≡ Some o → slice_get (definitions c.file.items) i ≡ Some d → refusal c.file c.refused d ≡ None → resolution_view o ≡ Some (resolved c.file c.refused d)
+pub function-is : (c : CheckedFile) (fs : List (Option Function)) (i : ℕ) (d : Definition) (o : Option Function)
+    → map resolution_view fs ≡ map (resolution_of c.file c.refused) (definitions c.file.items)
+    → slice_get fs i ≡ Some o → slice_get (definitions c.file.items) i ≡ Some d → refusal c.file c.refused d ≡ None
+    → resolution_view o ≡ Some (resolved c.file c.refused d)
 function-is c fs i d o same at is none =
     let left : slice_get (map resolution_view fs) i ≡ Some (resolution_view o) = mapped-at resolution_view fs i o at in
-    let right : slice_get (map (resolution_of c.file c.refused) (definitions c.file.items)) i ≡ Some (resolution_of c.file c.refused d) =
+    let right : slice_get (map (resolution_of c.file c.refused) (definitions c.file.items)) i
+    ≡ Some (resolution_of c.file c.refused d) =
     mapped-at (resolution_of c.file c.refused) (definitions c.file.items) i d is in
-    let both : Some (resolution_view o) ≡ Some (resolution_of c.file c.refused d) = sym left ∙ ap (λ (l : List (Option ResolvedFunction)). slice_get l i) same ∙ right in
+    let both : Some (resolution_view o) ≡ Some (resolution_of c.file c.refused d) = sym left
+    ∙ ap (λ (l : List (Option ResolvedFunction)). slice_get l i) same ∙ right in
     same-some (resolution_view o) (resolution_of c.file c.refused d) both ∙ resolution-is c d none
 
 -- an element as a program reads it
@@ -66,52 +76,70 @@ mapped-long : {A B : Type 0} (g : A → B) (xs : List A) → length (map g xs) �
 mapped-long g [] = refl
 mapped-long g (x ∷ xs) = ap suc (mapped-long g xs)
 
-pub functions-long : (c : CheckedFile) (fs : List (Option Function)) → map resolution_view fs ≡ map (resolution_of c.file c.refused) (definitions c.file.items) → length fs ≡ length (definitions c.file.items)
+pub functions-long : (c : CheckedFile) (fs : List (Option Function))
+    → map resolution_view fs ≡ map (resolution_of c.file c.refused) (definitions c.file.items)
+    → length fs ≡ length (definitions c.file.items)
 functions-long c fs same =
-    sym (mapped-long resolution_view fs) ∙ ap (λ (l : List (Option ResolvedFunction)). length l) same ∙ mapped-long (resolution_of c.file c.refused) (definitions c.file.items)
+    sym (mapped-long resolution_view fs) ∙ ap (λ (l : List (Option ResolvedFunction)). length l) same
+    ∙ mapped-long (resolution_of c.file c.refused) (definitions c.file.items)
 
-pub codes-long : (c : CheckedFile) (codes : Codes) → codes ≡ file_codes c → length codes.codes ≡ length (definitions c.file.items)
+pub codes-long : (c : CheckedFile) (codes : Codes) → codes ≡ file_codes c
+    → length codes.codes ≡ length (definitions c.file.items)
 codes-long c codes same =
     ap (λ (cs : Codes). length cs.codes) same
     ∙ mapped-long code_for (map (resolution_of c.file c.refused) (definitions c.file.items))
     ∙ mapped-long (resolution_of c.file c.refused) (definitions c.file.items)
 
 -- a function in which no rule holds is resolved
-pub function-there : (c : CheckedFile) (fs : List (Option Function)) (i : ℕ) (d : Definition) (f : Function) → map resolution_view fs ≡ map (resolution_of c.file c.refused) (definitions c.file.items)
-    → slice_get fs i ≡ Some (Some f) → slice_get (definitions c.file.items) i ≡ Some d → refusal c.file c.refused d ≡ None → function_view f ≡ resolved c.file c.refused d
+pub function-there : (c : CheckedFile) (fs : List (Option Function)) (i : ℕ) (d : Definition) (f : Function)
+    → map resolution_view fs ≡ map (resolution_of c.file c.refused) (definitions c.file.items)
+    → slice_get fs i ≡ Some (Some f) → slice_get (definitions c.file.items) i ≡ Some d
+    → refusal c.file c.refused d ≡ None → function_view f ≡ resolved c.file c.refused d
 function-there c fs i d f same at is none =
     same-some (function_view f) (resolved c.file c.refused d) (function-is c fs i d (Some f) same at is none)
 
-pub none-there : (c : CheckedFile) (fs : List (Option Function)) (i : ℕ) (d : Definition) → map resolution_view fs ≡ map (resolution_of c.file c.refused) (definitions c.file.items)
-    → slice_get fs i ≡ Some None → slice_get (definitions c.file.items) i ≡ Some d → refusal c.file c.refused d ≡ None → ⊥
+pub none-there : (c : CheckedFile) (fs : List (Option Function)) (i : ℕ) (d : Definition)
+    → map resolution_view fs ≡ map (resolution_of c.file c.refused) (definitions c.file.items)
+    → slice_get fs i ≡ Some None → slice_get (definitions c.file.items) i ≡ Some d
+    → refusal c.file c.refused d ≡ None → ⊥
 none-there c fs i d same at is none =
     let no : None ≡ Some (resolved c.file c.refused d) = function-is c fs i d None same at is none in
     absurd (cc)
 
 -- each word and operator of the function at a place has a meaning
-sound-among : (fs : List (Option ResolvedFunction)) (i : ℕ) (f : ResolvedFunction) → list_all is_sound_function fs ≡ true → slice_get fs i ≡ Some (Some f) → is_sound_action f.body ≡ true
+sound-among : (fs : List (Option ResolvedFunction)) (i : ℕ) (f : ResolvedFunction)
+    → list_all is_sound_function fs ≡ true → slice_get fs i ≡ Some (Some f) → is_sound_action f.body ≡ true
 sound-among [] i f all at = absurd (cc)
 sound-among (o ∷ fs) zero f all at =
     let first : is_sound_function o ≡ true = and-left (is_sound_function o) (list_all is_sound_function fs) all in
     subst (λ (x : Option ResolvedFunction). is_sound_function x ≡ true) (same-some o (Some f) at) first
-sound-among (o ∷ fs) (suc i) f all at = sound-among fs i f (and-right (is_sound_function o) (list_all is_sound_function fs) all) at
+sound-among (o ∷ fs) (suc i) f all at =
+    sound-among fs i f (and-right (is_sound_function o) (list_all is_sound_function fs) all) at
 
-pub sound-there : (fs : List (Option Function)) (i : ℕ) (f : Function) → list_all is_sound_function (map resolution_view fs) ≡ true → slice_get fs i ≡ Some (Some f)
+pub sound-there : (fs : List (Option Function)) (i : ℕ) (f : Function)
+    → list_all is_sound_function (map resolution_view fs) ≡ true → slice_get fs i ≡ Some (Some f)
     → is_sound_action (function_view f).body ≡ true
-sound-there fs i f all at = sound-among (map resolution_view fs) i (function_view f) all (mapped-at resolution_view fs i (Some f) at)
+sound-there fs i f all at =
+    sound-among (map resolution_view fs) i (function_view f) all (mapped-at resolution_view fs i (Some f) at)
 
 -- the code of a place
-pub code-here : (c : CheckedFile) (i : ℕ) (d : Definition) → slice_get (definitions c.file.items) i ≡ Some d → refusal c.file c.refused d ≡ None
+pub code-here : (c : CheckedFile) (i : ℕ) (d : Definition) → slice_get (definitions c.file.items) i ≡ Some d
+    → refusal c.file c.refused d ≡ None
     → slice_get (codes_of c) i ≡ Some (code_for (Some (resolved c.file c.refused d)))
 code-here c i d is none =
-    let first : slice_get (map (resolution_of c.file c.refused) (definitions c.file.items)) i ≡ Some (Some (resolved c.file c.refused d)) =
-    mapped-at (resolution_of c.file c.refused) (definitions c.file.items) i d is ∙ ap (λ (o : Option ResolvedFunction). Some o) (resolution-is c d none) in
-    mapped-at code_for (map (resolution_of c.file c.refused) (definitions c.file.items)) i (Some (resolved c.file c.refused d)) first
+    let first : slice_get (map (resolution_of c.file c.refused) (definitions c.file.items)) i
+    ≡ Some (Some (resolved c.file c.refused d)) =
+    mapped-at (resolution_of c.file c.refused) (definitions c.file.items) i d is
+    ∙ ap (λ (o : Option ResolvedFunction). Some o) (resolution-is c d none) in
+    mapped-at code_for (map (resolution_of c.file c.refused) (definitions c.file.items)) i
+    (Some (resolved c.file c.refused d)) first
 
 -- .. as a program reads it
-pub code-read : (codes : Codes) (i : ℕ) (listed : List (Option Code)) (o : Option Code) → listed ≡ codes.codes → i < length codes.codes → o ≡ get_or listed i o → code_at codes i ≡ o
+pub code-read : (codes : Codes) (i : ℕ) (listed : List (Option Code)) (o : Option Code) → listed ≡ codes.codes
+    → i < length codes.codes → o ≡ get_or listed i o → code_at codes i ≡ o
 code-read codes i listed o same lt is =
-    let at : slice_get codes.codes i ≡ Some o = at-index codes.codes i o lt (is ∙ ap (λ (l : List (Option Code)). get_or l i o) same) in ap flatten at
+    let at : slice_get codes.codes i ≡ Some o = at-index codes.codes i o lt
+    (is ∙ ap (λ (l : List (Option Code)). get_or l i o) same) in ap flatten at
 
 joined-is : (o : Option (Option Code)) (code : Code) → flatten o ≡ Some code → o ≡ Some (Some code)
 joined-is None code e = absurd (cc)
@@ -119,13 +147,15 @@ joined-is (Some o) code e = ap (λ (x : Option Code). Some x) e
 
 -- ---- what is known of a function and its code
 
-pub given : (c : CheckedFile) (codes : Codes) (i : ℕ) (d : Definition) (f : ResolvedFunction) → AreLowered c codes.codes → AreWellFormed codes → slice_get (definitions c.file.items) i ≡ Some d
+pub given : (c : CheckedFile) (codes : Codes) (i : ℕ) (d : Definition) (f : ResolvedFunction)
+    → AreLowered c codes.codes → AreWellFormed codes → slice_get (definitions c.file.items) i ≡ Some d
     → f ≡ resolved c.file c.refused d → is_sound_action f.body ≡ true → codes.statics ≤ 2 ^ 30 + 24
     → (code : Code) → object_code codes.statics (code_at codes i) ≡ Some code → IsGiven codes.statics f code
 given c codes i d f lowered formed at is words few code e =
     let h = object-is codes.statics (code_at codes i) code e in
     let there : slice_get codes.codes i ≡ Some (Some code) = joined-is (slice_get codes.codes i) code h.0 in
-    let low : IsLowered f (function_nodes d) code = subst (λ (g : ResolvedFunction). IsLowered g (function_nodes d) code) (sym is) (lowered i d code at there) in
+    let low : IsLowered f (function_nodes d) code = subst (λ (g : ResolvedFunction). IsLowered g (function_nodes d)
+    code) (sym is) (lowered i d code at there) in
     record {
       meant = has-meaning codes.statics f (function_nodes d) code low h.1 words few;
       nodes = function_nodes d;
@@ -136,13 +166,15 @@ given c codes i d f lowered formed at is words few code e =
 
 -- ---- verdicts
 
-decided-more : (few less many more : Type 0) (v : Verdict) → (few → less) → (many → more) → IsDecided few many v → IsDecided less more v
+decided-more : (few less many more : Type 0) (v : Verdict) → (few → less) → (many → more) → IsDecided few many v
+    → IsDecided less more v
 decided-more few less many more verdict.Clean g k h = g h
 decided-more few less many more (verdict.Faulty fault) g k h = tt
 decided-more few less many more (verdict.Unknown because) g k h = (h.0, k h.1)
 decided-more few less many more (verdict.Refused at rule) g k h = h
 
-caused-more : (few less many more : Type 0) (o : Option Code) (v : Verdict) → (few → less) → (many → more) → IsCausedBy few many o v → IsCausedBy less more o v
+caused-more : (few less many more : Type 0) (o : Option Code) (v : Verdict) → (few → less) → (many → more)
+    → IsCausedBy few many o v → IsCausedBy less more o v
 caused-more few less many more None v g k h = h
 caused-more few less many more (Some code) v g k h = decided-more few less many more v g k h
 
@@ -153,22 +185,29 @@ decided-stands few many name (verdict.Faulty fault) h = tt
 decided-stands few many name (verdict.Unknown because) h = tt
 decided-stands few many name (verdict.Refused at rule) h = absurd h
 
-pub judged-verdict : (c : CheckedFile) (codes : Codes) (i : ℕ) (d : Definition) (f : ResolvedFunction) (v : Verdict) → codes ≡ file_codes c → slice_get (definitions c.file.items) i ≡ Some d
-    → refusal c.file c.refused d ≡ None → f ≡ resolved c.file c.refused d → IsTrueOf codes.statics f v → IsRefusedAt f.pos None v
-    → IsCausedBy (IsFew codes i) (IsMany codes i) (object_code codes.statics (code_at codes i)) v → IsJudged c d (d.name, v)
+pub judged-verdict : (c : CheckedFile) (codes : Codes) (i : ℕ) (d : Definition) (f : ResolvedFunction) (v : Verdict)
+    → codes ≡ file_codes c → slice_get (definitions c.file.items) i ≡ Some d
+    → refusal c.file c.refused d ≡ None → f ≡ resolved c.file c.refused d → IsTrueOf codes.statics f v
+    → IsRefusedAt f.pos None v
+    → IsCausedBy (IsFew codes i) (IsMany codes i) (object_code codes.statics (code_at codes i)) v
+    → IsJudged c d (d.name, v)
 judged-verdict c codes i d f v same at none is true_of refused caused =
     let g = resolved c.file c.refused d in
     let n = statics_of c in
     let in_file : IsTrueOf n f v = subst (λ (cs : Codes). IsTrueOf cs.statics f v) same true_of in
     let sound : IsTrueOf n g v = subst (λ (x : ResolvedFunction). IsTrueOf n x v) is in_file in
     let at_name : IsRefusedAt d.pos None v = subst (λ (x : ResolvedFunction). IsRefusedAt x.pos None v) is refused in
-    let by_codes : IsCausedBy (IsFew (file_codes c) i) (IsMany (file_codes c) i) (object_code n (code_at (file_codes c) i)) v =
-    subst (λ (cs : Codes). IsCausedBy (IsFew cs i) (IsMany cs i) (object_code cs.statics (code_at cs i)) v) same caused in
+    let by_codes : IsCausedBy (IsFew (file_codes c) i) (IsMany (file_codes c) i)
+    (object_code n (code_at (file_codes c) i)) v =
+    subst (λ (cs : Codes). IsCausedBy (IsFew cs i) (IsMany cs i) (object_code cs.statics (code_at cs i)) v) same
+    caused in
     let its_code : code_at (file_codes c) i ≡ code_for (Some g) = ap flatten (code-here c i d at none) in
     let by_code : IsCausedBy (IsFew (file_codes c) i) (IsMany (file_codes c) i) (object_code n (code_for (Some g))) v =
-    subst (λ (o : Option Code). IsCausedBy (IsFew (file_codes c) i) (IsMany (file_codes c) i) (object_code n o) v) its_code by_codes in
+    subst (λ (o : Option Code). IsCausedBy (IsFew (file_codes c) i) (IsMany (file_codes c) i) (object_code n o) v)
+    its_code by_codes in
     let in_it : IsCausedIn c d None v =
-    caused-more (IsFew (file_codes c) i) (HasFewTraces c d) (IsMany (file_codes c) i) (HasManyTraces c d) (object_code n (code_for (Some g))) v
+    caused-more (IsFew (file_codes c) i) (HasFewTraces c d) (IsMany (file_codes c) i) (HasManyTraces c d)
+    (object_code n (code_for (Some g))) v
     (λ few. record { place = i; is = at; few = few }) (λ many. record { place = i; is = at; many = many }) by_code in
     record {
       sound = (refl, sound);
@@ -177,16 +216,22 @@ judged-verdict c codes i d f v same at none is true_of refused caused =
     }
 
 -- the finding of the function at a place
-pub finding-here : (c : CheckedFile) (fs : List (Option Finding)) (i : ℕ) (o : Option Finding) → fs ≡ map (refusal c.file c.refused) (definitions c.file.items) → i < length (definitions c.file.items)
-    → o ≡ get_or fs i o → (d : Definition) → slice_get (definitions c.file.items) i ≡ Some d → refusal c.file c.refused d ≡ o
+pub finding-here : (c : CheckedFile) (fs : List (Option Finding)) (i : ℕ) (o : Option Finding)
+    → fs ≡ map (refusal c.file c.refused) (definitions c.file.items) → i < length (definitions c.file.items)
+    → o ≡ get_or fs i o → (d : Definition) → slice_get (definitions c.file.items) i ≡ Some d
+    → refusal c.file c.refused d ≡ o
 finding-here c fs i o same lt is d at =
-    let long : length fs ≡ length (definitions c.file.items) = ap (λ (l : List (Option Finding)). length l) same ∙ mapped-long (refusal c.file c.refused) (definitions c.file.items) in
+    let long : length fs ≡ length (definitions c.file.items) = ap (λ (l : List (Option Finding)). length l) same
+    ∙ mapped-long (refusal c.file c.refused) (definitions c.file.items) in
     let here : slice_get fs i ≡ Some o = at-index fs i o (omega (arith, long, lt)) is in
-    let there : slice_get (map (refusal c.file c.refused) (definitions c.file.items)) i ≡ Some (refusal c.file c.refused d) =
+    let there : slice_get (map (refusal c.file c.refused) (definitions c.file.items)) i
+    ≡ Some (refusal c.file c.refused d) =
     mapped-at (refusal c.file c.refused) (definitions c.file.items) i d at in
-    same-some (refusal c.file c.refused d) o (sym there ∙ ap (λ (l : List (Option Finding)). slice_get l i) (sym same) ∙ here)
+    same-some (refusal c.file c.refused d) o (sym there
+    ∙ ap (λ (l : List (Option Finding)). slice_get l i) (sym same) ∙ here)
 
-pub refused-verdict : (c : CheckedFile) (e : Finding) (d : Definition) → refusal c.file c.refused d ≡ Some e → IsJudged c d (d.name, verdict.Refused e.pos e.rule)
+pub refused-verdict : (c : CheckedFile) (e : Finding) (d : Definition) → refusal c.file c.refused d ≡ Some e
+    → IsJudged c d (d.name, verdict.Refused e.pos e.rule)
 refused-verdict c e d found = record {
   sound = (refl, tt);
   refused = subst (λ (o : Option Finding). IsRefusedAt d.pos o (verdict.Refused e.pos e.rule)) (sym found) refl;
@@ -199,49 +244,62 @@ defined-at [] i lt = absurd (omega (arith, lt))
 defined-at (d ∷ ds) zero lt = (d, refl)
 defined-at (d ∷ ds) (suc i) lt = defined-at ds i (omega (arith, lt))
 
-pub same-at : (ds : List Definition) (i : ℕ) (d e : Definition) → slice_get ds i ≡ Some d → slice_get ds i ≡ Some e → d ≡ e
+pub same-at : (ds : List Definition) (i : ℕ) (d e : Definition) → slice_get ds i ≡ Some d → slice_get ds i ≡ Some e
+    → d ≡ e
 same-at ds i d e x y = same-some d e (sym x ∙ y)
 
 -- ---- the functions of a file in order
 
 pub judged-all : (c : CheckedFile) (i : ℕ) (lines : List (Name × Verdict)) → length (definitions c.file.items) ≤ i
-    → ((more : List (Name × Verdict)) → AllZip (IsJudged c) (drop i (definitions c.file.items)) more → AllZip (IsJudged c) (definitions c.file.items) (lines ++ more)) → AllZip (IsJudged c) (definitions c.file.items) lines
+    → ((more : List (Name × Verdict)) → AllZip (IsJudged c) (drop i (definitions c.file.items)) more
+    → AllZip (IsJudged c) (definitions c.file.items) (lines ++ more))
+    → AllZip (IsJudged c) (definitions c.file.items) lines
 judged-all c i lines past so_far =
     let none : drop i (definitions c.file.items) ≡ [] = drop_all i (definitions c.file.items) past in
     subst (λ (l : List (Name × Verdict)). AllZip (IsJudged c) (definitions c.file.items) l) (append-nil lines)
     (so_far [] (subst (λ (l : List Definition). AllZip (IsJudged c) l []) (sym none) tt))
 
 -- what is left from a place on begins with what stands there
-left-from : (ds : List Definition) (i : ℕ) (d : Definition) → i < length ds → slice_get ds i ≡ Some d → drop i ds ≡ d ∷ drop (i + 1) ds
+left-from : (ds : List Definition) (i : ℕ) (d : Definition) → i < length ds → slice_get ds i ≡ Some d
+    → drop i ds ≡ d ∷ drop (i + 1) ds
 left-from ds i d lt at =
     let is : get_or ds i d ≡ d = get_or_from_slice_get ds i d d at in
     grind (arith, drop-cons ds i d)
 
 -- the name at a place is that of the function there
-pub name-is : (ds : List Definition) (names : List Name) (i : ℕ) (n : Name) (d : Definition) → names ≡ map (λ (e : Definition). e.name) ds → slice_get names i ≡ Some n
+pub name-is : (ds : List Definition) (names : List Name) (i : ℕ) (n : Name) (d : Definition)
+    → names ≡ map (λ (e : Definition). e.name) ds → slice_get names i ≡ Some n
     → slice_get ds i ≡ Some d → n ≡ d.name
 name-is ds names i n d same here at =
-    let there : slice_get (map (λ (e : Definition). e.name) ds) i ≡ Some d.name = mapped-at (λ (e : Definition). e.name) ds i d at in
+    let there : slice_get (map (λ (e : Definition). e.name) ds) i
+    ≡ Some d.name = mapped-at (λ (e : Definition). e.name) ds i d at in
     same-some n d.name (sym here ∙ ap (λ (ns : List Name). slice_get ns i) same ∙ there)
 
 -- the name that a program reads at a place
 pub name-read : (names : List Name) (i : ℕ) (n : Name) → i < length names → slice_get names i ≡ Some (get_or names i n)
 name-read names i n lt = slice_get-get_or names i n lt
 
-pub names-long : (ds : List Definition) (names : List Name) → names ≡ map (λ (d : Definition). d.name) ds → length names ≡ length ds
+pub names-long : (ds : List Definition) (names : List Name) → names ≡ map (λ (d : Definition). d.name) ds
+    → length names ≡ length ds
 names-long ds names same = ap (λ (ns : List Name). length ns) same ∙ mapped-long (λ (d : Definition). d.name) ds
 
-pub judged-next : (c : CheckedFile) (names : List Name) (i : ℕ) (n : Name) (v : Verdict) (lines more : List (Name × Verdict)) → names ≡ map (λ (d : Definition). d.name) (definitions c.file.items)
-    → i < length names → slice_get names i ≡ Some n → ((d : Definition) → slice_get (definitions c.file.items) i ≡ Some d → IsJudged c d (d.name, v))
-    → ((more : List (Name × Verdict)) → AllZip (IsJudged c) (drop i (definitions c.file.items)) more → AllZip (IsJudged c) (definitions c.file.items) (lines ++ more))
-    → AllZip (IsJudged c) (drop (i + 1) (definitions c.file.items)) more → AllZip (IsJudged c) (definitions c.file.items) ((lines ++ (n, v) ∷ []) ++ more)
+pub judged-next : (c : CheckedFile) (names : List Name) (i : ℕ) (n : Name) (v : Verdict)
+    (lines more : List (Name × Verdict)) → names ≡ map (λ (d : Definition). d.name) (definitions c.file.items)
+    → i < length names → slice_get names i ≡ Some n
+    → ((d : Definition) → slice_get (definitions c.file.items) i ≡ Some d → IsJudged c d (d.name, v))
+    → ((more : List (Name × Verdict)) → AllZip (IsJudged c) (drop i (definitions c.file.items)) more
+    → AllZip (IsJudged c) (definitions c.file.items) (lines ++ more))
+    → AllZip (IsJudged c) (drop (i + 1) (definitions c.file.items)) more
+    → AllZip (IsJudged c) (definitions c.file.items) ((lines ++ (n, v) ∷ []) ++ more)
 judged-next c names i n v lines more same lt here right so_far rest =
     let long = names-long (definitions c.file.items) names same in
     let inside : i < length (definitions c.file.items) = omega (arith, long, lt) in
     let d = defined-at (definitions c.file.items) i inside in
     let named : n ≡ d.0.name = name-is (definitions c.file.items) names i n d.0 same here d.1 in
-    subst (λ (l : List (Name × Verdict)). AllZip (IsJudged c) (definitions c.file.items) l) (sym (append_assoc lines ((n, v) ∷ []) more))
-    (so_far ((n, v) ∷ more) (subst (λ (l : List Definition). AllZip (IsJudged c) l ((n, v) ∷ more)) (sym (left-from (definitions c.file.items) i d.0 inside d.1))
+    subst (λ (l : List (Name × Verdict)). AllZip (IsJudged c) (definitions c.file.items) l)
+    (sym (append_assoc lines ((n, v) ∷ []) more))
+    (so_far ((n, v) ∷ more) (subst (λ (l : List Definition). AllZip (IsJudged c) l ((n, v) ∷ more))
+    (sym (left-from (definitions c.file.items) i d.0 inside d.1))
     (subst (λ (m : Name). IsJudged c d.0 (m, v)) (sym named) (right d.0 d.1), rest)))
 
 -- ---- codes
@@ -249,7 +307,9 @@ judged-next c names i n v lines more same lt here right so_far rest =
 pub resolved-of : (x : Checked) → IsChecked x → IsResolved (checked_view x) (map resolution_view x.resolved.items)
 resolved-of x h = record { are = h.resolved_are; own = h.own; set = h.set; rows = h.rows; few = h.few }
 
-pub same-codes : (k : Codes) (c : CheckedFile) → k.codes ≡ codes_of c → k.names ≡ names_of c → k.statics ≡ statics_of c → k ≡ file_codes c
+pub same-codes : (k : Codes) (c : CheckedFile) → k.codes ≡ codes_of c → k.names ≡ names_of c
+    → k.statics ≡ statics_of c → k ≡ file_codes c
 same-codes k c a b d =
-    ap (λ (cs : List (Option Code)). record k { codes = cs }) a ∙ ap (λ (ns : List Name). record (file_codes c) { names = ns; statics = k.statics }) b
+    ap (λ (cs : List (Option Code)). record k { codes = cs }) a
+    ∙ ap (λ (ns : List Name). record (file_codes c) { names = ns; statics = k.statics }) b
     ∙ ap (λ (n : ℕ). record (file_codes c) { statics = n }) d

@@ -23,7 +23,9 @@ is-zero n e = grind (arith, nat_tests)
 
 -- it has no heads
 pub flat : (n : ℕ) (code : Code) → is_object_code n code ≡ true → length code.heads ≡ 0
-flat n code e = is-zero (length code.heads) (and-left (has_no_head code) (has_object_form n code && (has_pointers code && are_signed None code.instrs)) e)
+flat n code e =
+    is-zero (length code.heads) (and-left (has_no_head code) (has_object_form n code
+    && (has_pointers code && are_signed None code.instrs)) e)
 
 -- its instructions are known
 pub formed : (n : ℕ) (code : Code) → is_object_code n code ≡ true → has_object_form n code ≡ true
@@ -39,7 +41,8 @@ chosen true a code e =
     (refl, same)
 
 -- the code of the object form is the code
-pub object-is : (n : ℕ) (o : Option Code) (code : Code) → object_code n o ≡ Some code → (o ≡ Some code) × (is_object_code n code ≡ true)
+pub object-is : (n : ℕ) (o : Option Code) (code : Code) → object_code n o ≡ Some code
+    → (o ≡ Some code) × (is_object_code n code ≡ true)
 object-is n None code e = absurd (cc)
 object-is n (Some a) code e =
     let h = chosen (is_object_code n a) a code e in
@@ -47,11 +50,13 @@ object-is n (Some a) code e =
     (same, subst (λ (x : Code). is_object_code n x ≡ true) h.1 h.0)
 
 -- a code of the object form
-pub object-some : (n : ℕ) (o : Option Code) (code : Code) → o ≡ Some code → is_object_code n code ≡ true → object_code n o ≡ Some code
+pub object-some : (n : ℕ) (o : Option Code) (code : Code) → o ≡ Some code → is_object_code n code ≡ true
+    → object_code n o ≡ Some code
 object-some n o code e h =
     ap (λ (x : Option Code). object_code n x) e ∙ ap (λ (b : Bool). if b then Some code else None) h
 
-pub object-none : (n : ℕ) (o : Option Code) (code : Code) → o ≡ Some code → is_object_code n code ≡ false → object_code n o ≡ None
+pub object-none : (n : ℕ) (o : Option Code) (code : Code) → o ≡ Some code → is_object_code n code ≡ false
+    → object_code n o ≡ None
 object-none n o code e h =
     ap (λ (x : Option Code). object_code n x) e ∙ ap (λ (b : Bool). if b then Some code else None) h
 
@@ -59,5 +64,8 @@ pub object-missing : (n : ℕ) (o : Option Code) → o ≡ None → object_code 
 object-missing n o e = ap (λ (x : Option Code). object_code n x) e
 
 -- the parameters of a code of the object form are pointers
-pub pointers : (n : ℕ) (code : Code) → is_object_code n code ≡ true → list_all is_pointer_param (take code.params code.vars) ≡ true
-pointers n code e = and-left (list_all is_pointer_param (take code.params code.vars)) (list_all (λ (line : Line). is_object_instr n line.instr) code.instrs) (formed n code e)
+pub pointers : (n : ℕ) (code : Code) → is_object_code n code ≡ true
+    → list_all is_pointer_param (take code.params code.vars) ≡ true
+pointers n code e =
+    and-left (list_all is_pointer_param (take code.params code.vars)) (list_all
+    (λ (line : Line). is_object_instr n line.instr) code.instrs) (formed n code e)

@@ -39,7 +39,8 @@ holds-null n param.ModuleDef e = absurd (cc)
 hold-nulls : (n : ℕ) (ks : List Param) → list_all is_pointer_param ks ≡ true → hold_values n ks (nulls ks) ≡ true
 hold-nulls n [] e = refl
 hold-nulls n (k ∷ ks) e =
-    both (holds_value n k value.Null) (hold_values n ks (nulls ks)) (holds-null n k (and-left (is_pointer_param k) (list_all is_pointer_param ks) e))
+    both (holds_value n k value.Null) (hold_values n ks (nulls ks)) (holds-null n k
+    (and-left (is_pointer_param k) (list_all is_pointer_param ks) e))
     (hold-nulls n ks (and-right (is_pointer_param k) (list_all is_pointer_param ks) e))
 
 at-most : (n : ℕ) → nat_le n n ≡ true
@@ -48,14 +49,17 @@ at-most n = grind (arith, nat_tests)
 below : (n : ℕ) → n ≤ 2 ^ 30 + 24 → nat_lt n (2 ^ 31) ≡ true
 below n few = grind (arith, nat_tests, few)
 
-pub has-meaning : (n : ℕ) (f : ResolvedFunction) (nodes : ℕ) (code : Code) → IsLowered f nodes code → is_object_code n code ≡ true → is_sound_action f.body ≡ true → n ≤ 2 ^ 30 + 24
+pub has-meaning : (n : ℕ) (f : ResolvedFunction) (nodes : ℕ) (code : Code) → IsLowered f nodes code
+    → is_object_code n code ≡ true → is_sound_action f.body ≡ true → n ≤ 2 ^ 30 + 24
     → HasMeaning n f
 has-meaning n f nodes code low object words few =
     let params = take code.params code.vars in
     let entry : Entry = record { objects = n; args = nulls params } in
-    let rest = both (nat_lt n (2 ^ 31)) (hold_values n params (nulls params)) (below n few) (hold-nulls n params (pointers n code object)) in
+    let rest = both (nat_lt n (2 ^ 31)) (hold_values n params (nulls params)) (below n few)
+    (hold-nulls n params (pointers n code object)) in
     record {
       words = words;
       entry = entry;
-      fits = sym (low.fits n entry) ∙ both (nat_le n n) (nat_lt n (2 ^ 31) && hold_values n params (nulls params)) (at-most n) rest;
+      fits = sym (low.fits n entry) ∙ both (nat_le n n) (nat_lt n (2 ^ 31) && hold_values n params (nulls params))
+          (at-most n) rest;
     }

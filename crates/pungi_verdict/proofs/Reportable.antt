@@ -20,26 +20,33 @@ use Rattle.pungi_verdict.specs.Refusals.{IsRefusedAt}
 use Rattle.pungi_verdict.specs.Sound.{statics_of, IsTrueOf}
 use Rattle.pungi_verdict.specs.Verdicts.{IsJudged, IsReportable}
 
-by-code : (few many : Type 0) (o : Option Code) (because : Why) → IsCausedBy few many o (verdict.Unknown because) → because ≡ why.Traces
+by-code : (few many : Type 0) (o : Option Code) (because : Why) → IsCausedBy few many o (verdict.Unknown because)
+    → because ≡ why.Traces
 by-code few many None because h = absurd h
 by-code few many (Some code) because h = h.0
 
-by-traces : (c : CheckedFile) (d : Definition) (o : Option Finding) (because : Why) → IsRefusedAt d.pos o (verdict.Unknown because) → IsCausedIn c d o (verdict.Unknown because) → because ≡ why.Traces
+by-traces : (c : CheckedFile) (d : Definition) (o : Option Finding) (because : Why)
+    → IsRefusedAt d.pos o (verdict.Unknown because) → IsCausedIn c d o (verdict.Unknown because)
+    → because ≡ why.Traces
 by-traces c d (Some e) because refused caused = absurd (cc)
 by-traces c d None because refused caused =
-    by-code (HasFewTraces c d) (HasManyTraces c d) (object_code (statics_of c) (code_for (Some (resolved c.file c.refused d)))) because caused
+    by-code (HasFewTraces c d) (HasManyTraces c d) (object_code (statics_of c)
+    (code_for (Some (resolved c.file c.refused d)))) because caused
 
-right-reportable : (c : CheckedFile) (d : Definition) (n : ℕ) (f : ResolvedFunction) (o : Option Finding) (v : Verdict) → IsTrueOf n f v → IsRefusedAt d.pos o v → IsCausedIn c d o v → IsReportable v
+right-reportable : (c : CheckedFile) (d : Definition) (n : ℕ) (f : ResolvedFunction) (o : Option Finding)
+    (v : Verdict) → IsTrueOf n f v → IsRefusedAt d.pos o v → IsCausedIn c d o v → IsReportable v
 right-reportable c d n f o verdict.Clean true_of refused caused = tt
 right-reportable c d n f o (verdict.Faulty fault) true_of refused caused = true_of.1.returns.all_used
 right-reportable c d n f o (verdict.Unknown because) true_of refused caused = by-traces c d o because refused caused
 right-reportable c d n f o (verdict.Refused at rule) true_of refused caused = tt
 
-pub reportable : (c : CheckedFile) (ds : List Definition) (lines : List (Name × Verdict)) → AllZip (IsJudged c) ds lines → All (λ (line : Name × Verdict). IsReportable line.1) lines
+pub reportable : (c : CheckedFile) (ds : List Definition) (lines : List (Name × Verdict))
+    → AllZip (IsJudged c) ds lines → All (λ (line : Name × Verdict). IsReportable line.1) lines
 reportable c [] [] judged = All-nil (λ (line : Name × Verdict). IsReportable line.1)
 reportable c [] (line ∷ lines) judged = absurd judged
 reportable c (d ∷ ds) [] judged = absurd judged
 reportable c (d ∷ ds) (line ∷ lines) judged =
     let here = judged.0 in
     All-cons (λ (line : Name × Verdict). IsReportable line.1) line lines
-    (right-reportable c d (statics_of c) (resolved c.file c.refused d) (refusal c.file c.refused d) line.1 here.sound.1 here.refused here.caused) (reportable c ds lines judged.1)
+    (right-reportable c d (statics_of c) (resolved c.file c.refused d) (refusal c.file c.refused d) line.1
+    here.sound.1 here.refused here.caused) (reportable c ds lines judged.1)

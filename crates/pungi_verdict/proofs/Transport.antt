@@ -18,13 +18,15 @@ use Rattle.pungi_verdict.specs.Replays.{IsUneven}
 use Rattle.pungi_verdict.specs.Sound.{IsClean}
 use Rattle.pungi_verdict.proofs.Forward.{leads-on, run-over}
 
-returned-over : (e : End) (world : World) (value : Option Value) (p : Pos) (used : List Pos) → e ≡ Returned world value p used → IsOver e
+returned-over : (e : End) (world : World) (value : Option Value) (p : Pos) (used : List Pos)
+    → e ≡ Returned world value p used → IsOver e
 returned-over e world value p used is = subst IsOver (sym is) tt
 
 -- ---- clean functions
 
 -- each run of the function that returns is one of its code
-pub clean : (n : ℕ) (f : ResolvedFunction) (nodes : ℕ) (code : Code) → IsLowered f nodes code → AreBalanced n code → IsClean n f
+pub clean : (n : ℕ) (f : ResolvedFunction) (nodes : ℕ) (code : Code) → IsLowered f nodes code → AreBalanced n code
+    → IsClean n f
 clean n f nodes code low balanced = λ entry fits choices steps world value p used e.
     let same = low.alike.alike entry choices (low.within n entry fits) in
     let h = same.ends steps (returned-over (run_of f entry choices steps).end world value p used e) in
@@ -39,27 +41,37 @@ clean n f nodes code low balanced = λ entry fits choices steps world value p us
 -- ---- faults
 
 -- the run of a code without heads is the function's run of so many steps
-pub replayed : (f : ResolvedFunction) (code : Code) (w : Witness) → length w.input.args ≤ f.locals → Behaves f code.instrs (length code.vars) 65536 → IsWellFormed code → length code.heads ≡ 0 → (u : IsUneven code w)
+pub replayed : (f : ResolvedFunction) (code : Code) (w : Witness) → length w.input.args ≤ f.locals
+    → Behaves f code.instrs (length code.vars) 65536 → IsWellFormed code → length code.heads ≡ 0
+    → (u : IsUneven code w)
     → (run_of f w.input w.choices (65536 * (length code.instrs + 2))).end ≡ Returned u.world u.value u.at u.used
 replayed f code w within same formed flat u =
     let long = suc (length code.instrs) in
     let regs = first_regs (length code.vars) w.input in
-    let done : IsOver (target code.instrs (length code.vars) w.input w.choices long).end = run-over code.instrs w.choices (leads-on code.heads code.instrs flat formed.back) regs in
-    let returned : IsOver (target code.instrs (length code.vars) w.input w.choices u.steps).end = returned-over _ u.world u.value u.at u.used u.run in
-    let one : target code.instrs (length code.vars) w.input w.choices long ≡ target code.instrs (length code.vars) w.input w.choices u.steps =
+    let done : IsOver (target code.instrs (length code.vars) w.input w.choices long).end = run-over code.instrs
+    w.choices (leads-on code.heads code.instrs flat formed.back) regs in
+    let returned : IsOver (target code.instrs (length code.vars) w.input w.choices u.steps).end = returned-over _
+    u.world u.value u.at u.used u.run in
+    let one : target code.instrs (length code.vars) w.input w.choices long
+    ≡ target code.instrs (length code.vars) w.input w.choices u.steps =
     one_end w.choices code.instrs long u.steps 0 regs _ _ done returned refl refl in
     let alike = same.alike w.input w.choices within in
-    let is : source f w.input w.choices (65536 * (long + 1)) ≡ target code.instrs (length code.vars) w.input w.choices long = alike.ends_only long done in
+    let is : source f w.input w.choices (65536 * (long + 1))
+    ≡ target code.instrs (length code.vars) w.input w.choices long = alike.ends_only long done in
     let count : 65536 * (length code.instrs + 2) ≡ 65536 * (long + 1) = omega arith in
     ap (λ (k : ℕ). (run_of f w.input w.choices k).end) count ∙ ap (λ (r : Run). r.end) (is ∙ one) ∙ u.run
 
 -- a run by choices that are those of a witness
-pub run-so : (f : ResolvedFunction) (w : Witness) (choices : List Choice) (fuel : ℕ) (e : End) → choices ≡ w.choices → e ≡ (run_of f w.input choices fuel).end → e ≡ (run_of f w.input w.choices fuel).end
+pub run-so : (f : ResolvedFunction) (w : Witness) (choices : List Choice) (fuel : ℕ) (e : End) → choices ≡ w.choices
+    → e ≡ (run_of f w.input choices fuel).end → e ≡ (run_of f w.input w.choices fuel).end
 run-so f w choices fuel e is run = run ∙ ap (λ (cs : List Choice). (run_of f w.input cs fuel).end) is
 
 -- the end of that run
-pub ends-so : (f : ResolvedFunction) (code : Code) (w : Witness) → length w.input.args ≤ f.locals → Behaves f code.instrs (length code.vars) 65536 → IsWellFormed code → length code.heads ≡ 0 → (u : IsUneven code w)
-    → (choices : List Choice) (fuel : ℕ) (e : End) → choices ≡ w.choices → fuel ≡ 65536 * (length code.instrs + 2) → e ≡ (run_of f w.input choices fuel).end → e ≡ Returned u.world u.value u.at u.used
+pub ends-so : (f : ResolvedFunction) (code : Code) (w : Witness) → length w.input.args ≤ f.locals
+    → Behaves f code.instrs (length code.vars) 65536 → IsWellFormed code → length code.heads ≡ 0
+    → (u : IsUneven code w)
+    → (choices : List Choice) (fuel : ℕ) (e : End) → choices ≡ w.choices → fuel ≡ 65536 * (length code.instrs + 2)
+    → e ≡ (run_of f w.input choices fuel).end → e ≡ Returned u.world u.value u.at u.used
 ends-so f code w within same formed flat u choices fuel e is count run =
     run
     ∙ ap (λ (cs : List Choice). (run_of f w.input cs fuel).end) is
@@ -80,5 +92,6 @@ uneven-of n code w h = record {
   off = λ balanced. h.differs (balanced h.object h.there);
 }
 
-pub within-of : (n : ℕ) (f : ResolvedFunction) (nodes : ℕ) (code : Code) (w : Witness) → IsLowered f nodes code → IsFaultRun n code w → length w.input.args ≤ f.locals
+pub within-of : (n : ℕ) (f : ResolvedFunction) (nodes : ℕ) (code : Code) (w : Witness) → IsLowered f nodes code
+    → IsFaultRun n code w → length w.input.args ≤ f.locals
 within-of n f nodes code w low h = low.within n w.input (sym (low.fits n w.input) ∙ h.returns.fits)

@@ -14,18 +14,23 @@ use Rattle.pungi_verdict.specs.Sound.{ReportsLowest, IsReturnOf}
 
 -- ---- a return is one return
 
-pub same-world : (w x : World) (v y : Option Value) (p q : Pos) (us ns : List Pos) → Returned w v p us ≡ Returned x y q ns → w ≡ x
+pub same-world : (w x : World) (v y : Option Value) (p q : Pos) (us ns : List Pos)
+    → Returned w v p us ≡ Returned x y q ns → w ≡ x
 same-world w x v y p q us ns e = cc
 
-pub same-value : (w x : World) (v y : Option Value) (p q : Pos) (us ns : List Pos) → Returned w v p us ≡ Returned x y q ns → v ≡ y
+pub same-value : (w x : World) (v y : Option Value) (p q : Pos) (us ns : List Pos)
+    → Returned w v p us ≡ Returned x y q ns → v ≡ y
 same-value w x v y p q us ns e = cc
 
-pub same-used : (w x : World) (v y : Option Value) (p q : Pos) (us ns : List Pos) → Returned w v p us ≡ Returned x y q ns → us ≡ ns
+pub same-used : (w x : World) (v y : Option Value) (p q : Pos) (us ns : List Pos)
+    → Returned w v p us ≡ Returned x y q ns → us ≡ ns
 same-used w x v y p q us ns e = cc
 
-pub off-too : (w x : World) (v y : Option Value) (p q : Pos) (us ns : List Pos) → Returned w v p us ≡ Returned x y q ns → (IsBalanced x y → ⊥) → IsBalanced w v → ⊥
+pub off-too : (w x : World) (v y : Option Value) (p q : Pos) (us ns : List Pos)
+    → Returned w v p us ≡ Returned x y q ns → (IsBalanced x y → ⊥) → IsBalanced w v → ⊥
 off-too w x v y p q us ns e off balanced =
-    off (subst (λ (z : World). IsBalanced z y) (same-world w x v y p q us ns e) (subst (λ (z : Option Value). IsBalanced w z) (same-value w x v y p q us ns e) balanced))
+    off (subst (λ (z : World). IsBalanced z y) (same-world w x v y p q us ns e)
+    (subst (λ (z : Option Value). IsBalanced w z) (same-value w x v y p q us ns e) balanced))
 
 pub not-stopped : (q : Pos) (w : World) (v : Option Value) (p : Pos) (us : List Pos) → Stopped q ≡ Returned w v p us → ⊥
 not-stopped q w v p us e = absurd (cc)
@@ -38,8 +43,10 @@ not-out w v p us e = absurd (cc)
 
 -- ---- the fault
 
-pub told : (f : ResolvedFunction) (code : Code) (w : Witness) (u : IsUneven code w) (steps : ℕ) (world : World) (value : Option Value) (p : Pos) (used : List Pos) (fault : Fault)
-    → (run_of f w.input w.choices steps).end ≡ Returned world value p used → Returned world value p used ≡ Returned u.world u.value u.at u.used
+pub told : (f : ResolvedFunction) (code : Code) (w : Witness) (u : IsUneven code w) (steps : ℕ) (world : World)
+    (value : Option Value) (p : Pos) (used : List Pos) (fault : Fault)
+    → (run_of f w.input w.choices steps).end ≡ Returned world value p used
+    → Returned world value p used ≡ Returned u.world u.value u.at u.used
     → fault.witness ≡ w → fault.pos ≡ p → fault.used ≡ used → ReportsLowest world value fault → IsReturnOf f fault
 told f code w u steps world value p used fault run same witness place places h = record {
   steps = steps;

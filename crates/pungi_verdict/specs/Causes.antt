@@ -3,8 +3,10 @@
 --   HasFewTraces, HasManyTraces c d   the code of a function has at most as many traces as are explored; it has more
 --   object_code n o             a code, where it has the object form
 --   IsRefusal v                 a verdict refuses
---   IsDecided few many v        a verdict is clean, faulty or unknown: clean only where there are few traces, unknown only where there are many
---   IsCausedBy few many o v     so is the verdict on a function with this code of the object form; one without is refused
+--   IsDecided few many v        a verdict is clean, faulty or unknown: clean only where there are few traces, unknown
+--                               only where there are many
+--   IsCausedBy few many o v     so is the verdict on a function with this code of the object form; one without is
+--                               refused
 --   IsCausedIn c d found v      so is one on a function of a file with this finding, if it has none
 --   IsCaused c d line           a verdict on a function comes for its cause
 use Rattle.std.specs.Prelude.{◌≡◌, ℕ, List, slice_get, Option, Some, None, if◌then◌else◌}
@@ -61,7 +63,8 @@ IsCausedBy few many (Some code) v = IsDecided few many v
 abbrev pub IsCausedIn : CheckedFile → Definition → Option Finding → Verdict → Type 0
 IsCausedIn c d (Some e) v = Unit {0}
 IsCausedIn c d None v =
-    IsCausedBy (HasFewTraces c d) (HasManyTraces c d) (object_code (statics_of c) (code_for (Some (resolved c.file c.refused d)))) v
+    IsCausedBy (HasFewTraces c d) (HasManyTraces c d) (object_code (statics_of c)
+    (code_for (Some (resolved c.file c.refused d)))) v
 
 abbrev pub IsCaused : CheckedFile → Definition → Name × Verdict → Type 0
 IsCaused c d line = IsCausedIn c d (refusal c.file c.refused d) line.1

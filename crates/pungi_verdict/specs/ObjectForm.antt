@@ -54,4 +54,5 @@ abbrev pub has_pointers : Code → Bool
 has_pointers code = list_all is_pointer_param (take code.locals code.vars)
 
 abbrev pub is_object_code : ℕ → Code → Bool
-is_object_code n code = has_no_head code && (has_object_form n code && (has_pointers code && are_signed None code.instrs))
+is_object_code n code =
+    has_no_head code && (has_object_form n code && (has_pointers code && are_signed None code.instrs))

@@ -1,6 +1,6 @@
 -- Which functions are refused, where, and by which rule.
---   IsRefusedAt name found v    a function with this finding is refused at the finding, by its rule; a refusal without one is at the function's name, by
---                               rule 0, which stands for a form that isn't judged
+--   IsRefusedAt name found v    a function with this finding is refused at the finding, by its rule; a refusal without
+--                               one is at the function's name, by rule 0, which stands for a form that isn't judged
 --   IsRefused c d line          so is a function of a file
 use Rattle.std.specs.Prelude.{◌≡◌, Option, Some, None}
 use Rattle.pungi_base.specs.declared.names.Name.{Name}

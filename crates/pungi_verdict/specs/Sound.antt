@@ -1,12 +1,14 @@
 -- What a verdict says of a function: that its meaning is clean, or faulty. Nothing here is about how that is found.
---   HasMeaning n f              each word and operator of a function has a meaning, and there is an entry to it, where there are n static objects
+--   HasMeaning n f              each word and operator of a function has a meaning, and there is an entry to it, where
+--                               there are n static objects
 --   IsClean n f                 each run that returns, from each entry and with each list of choices, returns balanced
 --   ReportsLowest w v fault     where this value is returned in this world, a fault names the lowest object that isn't
 --                               level, with its change and escapes
 --   IsReturnOf f fault          the run of a fault returns, and is not balanced
 --   IsFaultOf n f fault         so does it, from an entry of the function
 --   statics_of c                the static objects of a file
---   IsTrueOf n f v              what a verdict says of a function: clean and faulty speak of a function with a meaning, and are true of it
+--   IsTrueOf n f v              what a verdict says of a function: clean and faulty speak of a function with a meaning,
+--                               and are true of it
 --   IsSound c d line            a line has the name of a function, and what its verdict says of the function is true
 use Rattle.std.specs.Prelude.{◌≡◌, ◌≢◌, ℕ, ◌+◌, ◌<◌, true, List, length, Option}
 use Rattle.pungi_base.specs.declared.choice.Choice.{Choice}
@@ -37,7 +39,9 @@ pub record HasMeaning (n : ℕ) (f : ResolvedFunction) : Type 0 where
   pub fits : entry_fits f.params n entry ≡ true
 
 abbrev pub IsClean : ℕ → ResolvedFunction → Type 0
-IsClean n f = (entry : Entry) → entry_fits f.params n entry ≡ true → (choices : List Choice) (steps : ℕ) (world : World) (value : Option Value) (p : Pos) (used : List Pos)
+IsClean n f =
+    (entry : Entry) → entry_fits f.params n entry ≡ true
+    → (choices : List Choice) (steps : ℕ) (world : World) (value : Option Value) (p : Pos) (used : List Pos)
     → (run_of f entry choices steps).end ≡ Returned world value p used → IsBalanced world value
 
 pub record ReportsLowest (world : World) (value : Option Value) (fault : Fault) : Type 0 where

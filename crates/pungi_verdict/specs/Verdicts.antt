@@ -1,6 +1,8 @@
 -- The lines of a report.
---   IsJudged c d line           a line is right for a function: its verdict is true, it is refused where a rule holds and only there, and comes for its cause
---   IsReportable v              a verdict can be reported: a fault has a place for each of its choices, and no reason names a function
+--   IsJudged c d line           a line is right for a function: its verdict is true, it is refused where a rule holds
+--                               and only there, and comes for its cause
+--   IsReportable v              a verdict can be reported: a fault has a place for each of its choices, and no reason
+--                               names a function
 use Rattle.std.specs.Prelude.{◌≡◌, length}
 use Rattle.pungi_base.specs.declared.names.Name.{Name}
 use Rattle.pungi_base.specs.declared.verdict.Verdict.{Verdict}

@@ -53,10 +53,12 @@ fn judge_code(
 /// which says that its form isn't judged yet.
 fn judge(alloc: Global, codes: &Codes, i: usize, f: &Function) -> Result<Verdict, Memory>
     requires there { i < length codes.now.codes }
-    requires given { (code : CodeOf) → object_code codes.now.statics (code_at codes.now i) ≡ Some code → IsGiven codes.now.statics (function_view f.now) code }
+    requires given { (code : CodeOf) → object_code codes.now.statics (code_at codes.now i) ≡ Some code
+        → IsGiven codes.now.statics (function_view f.now) code }
     ensures sound { IfOk result (λ v. IsTrueOf codes.now.statics (function_view f.now) v) }
     ensures refused { IfOk result (λ v. IsRefusedAt (function_view f.now).pos None v) }
-    ensures caused { IfOk result (λ v. IsCausedBy (IsFew codes.now i) (IsMany codes.now i) (object_code codes.now.statics (code_at codes.now i)) v) }
+    ensures caused { IfOk result (λ v. IsCausedBy (IsFew codes.now i) (IsMany codes.now i)
+        (object_code codes.now.statics (code_at codes.now i)) v) }
 {
     if let Some(code) = &codes.codes.as_slice()[i] {
         if is_object_code(codes.statics, code) {
@@ -73,7 +75,9 @@ fn verdict(alloc: Global, checked: &Checked<'_>, codes: &Codes, i: usize) -> Res
     requires codes { codes.now ≡ file_codes (checked_view checked.now) }
     requires lowered { AreLowered (checked_view checked.now) codes.now.codes }
     requires formed { AreWellFormed codes.now }
-    ensures { IfOk result (λ v. (d : Definition) → slice_get (definitions (checked_view checked.now).file.items) i ≡ Some d → IsJudged (checked_view checked.now) d (d.name, v)) }
+    ensures { IfOk result (λ v. (d : Definition)
+        → slice_get (definitions (checked_view checked.now).file.items) i ≡ Some d
+        → IsJudged (checked_view checked.now) d (d.name, v)) }
 {
     match checked.refusals[i] {
         Some(finding) => Ok(Verdict::Refused(finding.pos, finding.rule)),
@@ -96,7 +100,8 @@ fn verdicts(
     requires codes { codes.now ≡ file_codes (checked_view checked.now) }
     requires lowered { AreLowered (checked_view checked.now) codes.now.codes }
     requires formed { AreWellFormed codes.now }
-    ensures { IfOk result (λ lines. AllZip (IsJudged (checked_view checked.now)) (definitions (checked_view checked.now).file.items) lines.items) }
+    ensures { IfOk result (λ lines. AllZip (IsJudged (checked_view checked.now))
+        (definitions (checked_view checked.now).file.items) lines.items) }
 {
     let mut lines = Vec::new(alloc);
     for (i, name) in names.iter().enumerate() {
@@ -131,14 +136,17 @@ pub fn judge_all(alloc: Global, checked: &Checked<'_>) -> Result<Vec<(Name, Verd
     // What a verdict says of a function is true: of a clean one each run that returns is balanced, from any entry and
     // with any choices; of a faulty one the run of its fault is not, and the fault reports the lowest object whose
     // change there differs from its escapes.
-    ensures sound { IfOk result (λ lines. AllZip (IsSound (checked_view checked.now)) (definitions (checked_view checked.now).file.items) lines.items) }
+    ensures sound { IfOk result (λ lines. AllZip (IsSound (checked_view checked.now))
+        (definitions (checked_view checked.now).file.items) lines.items) }
 
     // A function in which a rule holds is refused by the rule, and no other is but by rule 0.
-    ensures refused { IfOk result (λ lines. AllZip (IsRefused (checked_view checked.now)) (definitions (checked_view checked.now).file.items) lines.items) }
+    ensures refused { IfOk result (λ lines. AllZip (IsRefused (checked_view checked.now))
+        (definitions (checked_view checked.now).file.items) lines.items) }
 
     // Of those in which no rule holds exactly the ones are judged whose code has the object form. Such a function is
     // unknown only where it has more than 16,384 traces, and clean only where it has at most so many.
-    ensures caused { IfOk result (λ lines. AllZip (IsCaused (checked_view checked.now)) (definitions (checked_view checked.now).file.items) lines.items) }
+    ensures caused { IfOk result (λ lines. AllZip (IsCaused (checked_view checked.now))
+        (definitions (checked_view checked.now).file.items) lines.items) }
 
     // Each verdict can be reported.
     ensures reportable { IfOk result (λ lines. All (λ line. IsReportable line.1) lines.items) }

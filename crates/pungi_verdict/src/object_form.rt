@@ -2,8 +2,11 @@
 ghost use Rattle.std.specs.Prelude.{◌≡◌, ◌≤◌, None, length, take};
 ghost use Rattle.std.specs.List.{list_all};
 ghost use Rattle.pungi_code.specs.WellFormed.{place_kind};
-ghost use Rattle.pungi_symbol.specs.runs.ObjectForm.{atoms_in, atoms_of, is_there, is_pointer, is_pointer_param, is_small, has_small, is_known_here, is_object_instr, has_object_form};
-ghost use Rattle.pungi_verdict.specs.ObjectForm.{is_minus, is_zero, constant_of, is_constant, is_signed, are_signed, is_object_code};
+ghost use Rattle.pungi_symbol.specs.runs.ObjectForm.{atoms_in, atoms_of, is_there, is_pointer, is_pointer_param};
+ghost use Rattle.pungi_symbol.specs.runs.ObjectForm.{is_small, has_small, is_known_here, is_object_instr};
+ghost use Rattle.pungi_symbol.specs.runs.ObjectForm.{has_object_form};
+ghost use Rattle.pungi_verdict.specs.ObjectForm.{is_minus, is_zero, constant_of, is_constant, is_signed, are_signed};
+ghost use Rattle.pungi_verdict.specs.ObjectForm.{is_object_code};
 
 use pungi_api::{Answer, Form, Param, Row};
 use pungi_code::{Atom, Code, Instr, Line, Place};
@@ -209,7 +212,8 @@ fn has_object_form(statics: u32, code: &Code) -> bool
         && are_object_instrs(statics, code.instrs.as_slice())
 }
 
-/// Whether a code has the object form: no loop, locals that are pointers, no integer that isn't known, and no arithmetic.
+/// Whether a code has the object form: no loop, locals that are pointers, no integer that isn't known, and no
+/// arithmetic.
 pub fn is_object_code(statics: u32, code: &Code) -> bool
     ensures { result ≡ is_object_code statics code.now }
 {

@@ -10,4 +10,5 @@ use Rattle.pungi.proofs.examine.reported.Goals as goal
 pub report-requires : goal.report-requires
 report-requires c =
     subst (λ (lines : List (Name × Verdict)). All (IsLine c.args.names.now) lines) (sym c.deref-2.ensures.value)
-    (all_printable c.args.names.now (checked_view c.args.checked.now) c.in_ok-lines.lines.items c.requires.known c.in_ok-lines.ensures.sound c.in_ok-lines.ensures.reportable)
+    (all_printable c.args.names.now (checked_view c.args.checked.now) c.in_ok-lines.lines.items c.requires.known
+    c.in_ok-lines.ensures.sound c.in_ok-lines.ensures.reportable)

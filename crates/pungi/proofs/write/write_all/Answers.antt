@@ -9,8 +9,10 @@ pieces-preserved g c =
     record {
       taken = (
         so_far.0 ++ piece,
-        split_on c.args.text.now so_far.0 c.pieces.rest.now c.split_at.result.0.now c.split_at.result.1.now c.in_ok-count.count so_far.1 c.split_at.ensures.front c.split_at.ensures.back,
-        taken_on (g.O.Sink.taken c.args.out.now) (g.O.Sink.taken c.pieces.out) (g.O.Sink.taken c.write.new.self) so_far.0 piece so_far.2 c.in_ok-count.ensures.bytes,
+        split_on c.args.text.now so_far.0 c.pieces.rest.now c.split_at.result.0.now c.split_at.result.1.now
+            c.in_ok-count.count so_far.1 c.split_at.ensures.front c.split_at.ensures.back,
+        taken_on (g.O.Sink.taken c.args.out.now) (g.O.Sink.taken c.pieces.out) (g.O.Sink.taken c.write.new.self)
+            so_far.0 piece so_far.2 c.in_ok-count.ensures.bytes,
       );
       steady = c.in_ok-count.ensures.steady ∙ c.pieces.invariant.steady;
     }

@@ -11,17 +11,21 @@ pub returns-clause-codes : goal.returns-clause-codes
 returns-clause-codes c =
     let view = checked_view c.args.checked.now in
     let all = ap (λ (fs : List (Option Function)). map code_for (map resolution_view fs)) c.deref.ensures.value in
-    same-codes c.in_ok-codes.codes view (c.in_ok-codes.ensures.codes ∙ all ∙ ap (λ (fs : List (Option ResolvedFunction)). map code_for fs) c.requires.resolved_are)
-    (c.in_ok-codes.ensures.names ∙ c.in_ok-names.ensures ∙ c.as_slice.ensures ∙ c.requires.names_are) (c.in_ok-codes.ensures.statics ∙ c.requires.statics_are)
+    same-codes c.in_ok-codes.codes view (c.in_ok-codes.ensures.codes ∙ all
+    ∙ ap (λ (fs : List (Option ResolvedFunction)). map code_for fs) c.requires.resolved_are)
+    (c.in_ok-codes.ensures.names ∙ c.in_ok-names.ensures ∙ c.as_slice.ensures ∙ c.requires.names_are)
+    (c.in_ok-codes.ensures.statics ∙ c.requires.statics_are)
 
 pub returns-clause-lowered : goal.returns-clause-lowered
 returns-clause-lowered c =
     let view = checked_view c.args.checked.now in
-    c.in_ok-codes.ensures.lowered view (subst (λ (fs : List (Option Function)). IsResolved view (map resolution_view fs)) (sym c.deref.ensures.value) (resolved-of c.args.checked.now c.requires))
+    c.in_ok-codes.ensures.lowered view (subst (λ (fs : List (Option Function)). IsResolved view
+    (map resolution_view fs)) (sym c.deref.ensures.value) (resolved-of c.args.checked.now c.requires))
 
 pub returns-clause-formed : goal.returns-clause-formed
 returns-clause-formed c =
     let view = checked_view c.args.checked.now in
     c.in_ok-codes.ensures.well_formed view
-    (subst (λ (fs : List (Option Function)). IsResolved view (map resolution_view fs)) (sym c.deref.ensures.value) (resolved-of c.args.checked.now c.requires))
+    (subst (λ (fs : List (Option Function)). IsResolved view (map resolution_view fs)) (sym c.deref.ensures.value)
+    (resolved-of c.args.checked.now c.requires))
     (c.in_ok-names.ensures ∙ c.as_slice.ensures ∙ c.requires.names_are) c.requires.few_statics

@@ -14,7 +14,8 @@ pub judge_code-requires-clause-given : goal.judge_code-requires-clause-given
 judge_code-requires-clause-given c =
     let n = c.args.codes.now.statics in
     let there : code_at c.args.codes.now c.args.i ≡ Some c.in-Some.code =
-    code-read c.args.codes.now c.args.i c.as_slice.result.now c.index-as_slice-i.result c.as_slice.ensures c.requires.there c.index-as_slice-i.is ∙ c.in-Some.is in
+    code-read c.args.codes.now c.args.i c.as_slice.result.now c.index-as_slice-i.result c.as_slice.ensures
+    c.requires.there c.index-as_slice-i.is ∙ c.in-Some.is in
     let formed : is_object_code n c.in-Some.code ≡ true = search rules in
     c.requires.given c.in-Some.code (object-some n (code_at c.args.codes.now c.args.i) c.in-Some.code there formed)
 
@@ -22,9 +23,11 @@ pub returns-then-is_object_code-clause-caused : goal.returns-then-is_object_code
 returns-then-is_object_code-clause-caused c =
     let n = c.args.codes.now.statics in
     let there : code_at c.args.codes.now c.args.i ≡ Some c.in-Some.code =
-    code-read c.args.codes.now c.args.i c.as_slice.result.now c.index-as_slice-i.result c.as_slice.ensures c.requires.there c.index-as_slice-i.is ∙ c.in-Some.is in
+    code-read c.args.codes.now c.args.i c.as_slice.result.now c.index-as_slice-i.result c.as_slice.ensures
+    c.requires.there c.index-as_slice-i.is ∙ c.in-Some.is in
     let formed : is_object_code n c.in-Some.code ≡ true = search rules in
-    subst (λ (o : Option Code). IfOk c.judge_code.result (λ v. IsCausedBy (IsFew c.args.codes.now c.args.i) (IsMany c.args.codes.now c.args.i) o v))
+    subst (λ (o : Option Code). IfOk c.judge_code.result (λ v. IsCausedBy (IsFew c.args.codes.now c.args.i)
+    (IsMany c.args.codes.now c.args.i) o v))
     (sym (object-some n (code_at c.args.codes.now c.args.i) c.in-Some.code there formed)) c.judge_code.ensures.decided
 
 pub returns-clause-caused : goal.returns-clause-caused
@@ -34,14 +37,18 @@ returns-clause-caused c =
     elim c.match-as_slice-i.branch [
       | in-Some+else-is_object_code w ↦
           let there : code_at c.args.codes.now c.args.i ≡ Some w.in-Some.code =
-          code-read c.args.codes.now c.args.i c.as_slice.result.now c.index-as_slice-i.result c.as_slice.ensures c.requires.there c.index-as_slice-i.is ∙ w.in-Some.is in
+          code-read c.args.codes.now c.args.i c.as_slice.result.now c.index-as_slice-i.result c.as_slice.ensures
+          c.requires.there c.index-as_slice-i.is ∙ w.in-Some.is in
           let other : is_object_code n w.in-Some.code ≡ false = search rules in
-          subst (λ (o : Option Code). IsCausedBy (IsFew c.args.codes.now c.args.i) (IsMany c.args.codes.now c.args.i) o refused)
+          subst (λ (o : Option Code). IsCausedBy (IsFew c.args.codes.now c.args.i)
+          (IsMany c.args.codes.now c.args.i) o refused)
           (sym (object-none n (code_at c.args.codes.now c.args.i) w.in-Some.code there other)) tt
       | in_default w ↦
           let none : c.index-as_slice-i.result ≡ None = search rules in
           let missing : code_at c.args.codes.now c.args.i ≡ None =
-          code-read c.args.codes.now c.args.i c.as_slice.result.now c.index-as_slice-i.result c.as_slice.ensures c.requires.there c.index-as_slice-i.is ∙ none in
-          subst (λ (o : Option Code). IsCausedBy (IsFew c.args.codes.now c.args.i) (IsMany c.args.codes.now c.args.i) o refused)
+          code-read c.args.codes.now c.args.i c.as_slice.result.now c.index-as_slice-i.result c.as_slice.ensures
+          c.requires.there c.index-as_slice-i.is ∙ none in
+          subst (λ (o : Option Code). IsCausedBy (IsFew c.args.codes.now c.args.i)
+          (IsMany c.args.codes.now c.args.i) o refused)
           (sym (object-missing n (code_at c.args.codes.now c.args.i) missing)) tt
     ]

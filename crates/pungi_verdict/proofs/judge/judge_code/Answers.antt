@@ -9,29 +9,53 @@ use Rattle.pungi_verdict.proofs.judge.judge_code.Goals as goal
 
 pub returns-in-AllBalanced-clause-sound : goal.returns-in-AllBalanced-clause-sound
 returns-in-AllBalanced-clause-sound c =
-    let form : HasForm c.args.codes.now c.args.i c.args.code.now = record { is = c.requires.code; form = formed c.args.codes.now.statics c.args.code.now c.requires.given.object } in
-    let shown = subst (λ (e : Explored). IsExplored c.args.codes.now c.args.i e) c.in-AllBalanced.is c.in_ok-explored.ensures.shown in
-    (c.requires.given.meant, clean c.args.codes.now.statics (function_view c.args.f.now) c.requires.given.nodes c.args.code.now c.requires.given.lowered (shown c.args.code.now form).0)
+    let form : HasForm c.args.codes.now c.args.i c.args.code.now = record {
+      is = c.requires.code;
+      form = formed
+          c.args.codes.now.statics c.args.code.now c.requires.given.object;
+    } in
+    let shown = subst (λ (e : Explored). IsExplored c.args.codes.now c.args.i e) c.in-AllBalanced.is
+    c.in_ok-explored.ensures.shown in (
+      c.requires.given.meant,
+      clean c.args.codes.now.statics (function_view c.args.f.now) c.requires.given.nodes
+          c.args.code.now c.requires.given.lowered (shown c.args.code.now form).0,
+    )
 
 pub returns-in-AllBalanced-clause-decided : goal.returns-in-AllBalanced-clause-decided
 returns-in-AllBalanced-clause-decided c =
-    let shown = subst (λ (e : Explored). IsExplored c.args.codes.now c.args.i e) c.in-AllBalanced.is c.in_ok-explored.ensures.shown in
+    let shown = subst (λ (e : Explored). IsExplored c.args.codes.now c.args.i e) c.in-AllBalanced.is
+    c.in_ok-explored.ensures.shown in
     λ code has. (shown code has).1
 
 pub replay-requires-clause-within : goal.replay-requires-clause-within
 replay-requires-clause-within c =
-    let form : HasForm c.args.codes.now c.args.i c.args.code.now = record { is = c.requires.code; form = formed c.args.codes.now.statics c.args.code.now c.requires.given.object } in
-    let shown = subst (λ (e : Explored). IsExplored c.args.codes.now c.args.i e) c.in-Fault.is c.in_ok-explored.ensures.shown in
-    within-of c.args.codes.now.statics (function_view c.args.f.now) c.requires.given.nodes c.args.code.now c.in-Fault.witness c.requires.given.lowered (shown c.args.code.now form)
+    let form : HasForm c.args.codes.now c.args.i c.args.code.now = record {
+      is = c.requires.code;
+      form = formed
+          c.args.codes.now.statics c.args.code.now c.requires.given.object;
+    } in
+    let shown = subst (λ (e : Explored). IsExplored c.args.codes.now c.args.i e) c.in-Fault.is
+    c.in_ok-explored.ensures.shown in
+    within-of c.args.codes.now.statics (function_view c.args.f.now) c.requires.given.nodes c.args.code.now
+    c.in-Fault.witness c.requires.given.lowered (shown c.args.code.now form)
 
 pub replay-requires-clause-flat : goal.replay-requires-clause-flat
 replay-requires-clause-flat c = flat c.args.codes.now.statics c.args.code.now c.requires.given.object
 
 pub replay-requires-clause-uneven : goal.replay-requires-clause-uneven
 replay-requires-clause-uneven c =
-    let form : HasForm c.args.codes.now c.args.i c.args.code.now = record { is = c.requires.code; form = formed c.args.codes.now.statics c.args.code.now c.requires.given.object } in
-    let shown = subst (λ (e : Explored). IsExplored c.args.codes.now c.args.i e) c.in-Fault.is c.in_ok-explored.ensures.shown in
+    let form : HasForm c.args.codes.now c.args.i c.args.code.now = record {
+      is = c.requires.code;
+      form = formed
+          c.args.codes.now.statics c.args.code.now c.requires.given.object;
+    } in
+    let shown = subst (λ (e : Explored). IsExplored c.args.codes.now c.args.i e) c.in-Fault.is
+    c.in_ok-explored.ensures.shown in
     uneven-of c.args.codes.now.statics c.args.code.now c.in-Fault.witness (shown c.args.code.now form)
 
 pub returns-in-TooMany-clause-decided : goal.returns-in-TooMany-clause-decided
-returns-in-TooMany-clause-decided c = (refl, subst (λ (e : Explored). IsExplored c.args.codes.now c.args.i e) c.in-TooMany.is c.in_ok-explored.ensures.shown)
+returns-in-TooMany-clause-decided c = (
+  refl,
+  subst (λ (e : Explored). IsExplored c.args.codes.now c.args.i e) c.in-TooMany.is
+      c.in_ok-explored.ensures.shown,
+)

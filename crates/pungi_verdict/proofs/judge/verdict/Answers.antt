@@ -1,4 +1,5 @@
-use Rattle.std.proofs.Common.{◌≡◌, ◌<◌, ◌≤◌, ◌+◌, ◌^◌, ℕ, length, slice_get, Option, Some, None, ap, sym, subst, ◌∙◌, arith}
+use Rattle.std.proofs.Common.{◌≡◌, ◌<◌, ◌≤◌, ◌+◌, ◌^◌, ℕ, length, slice_get, Option, Some, None, ap, sym, subst, ◌∙◌}
+use Rattle.std.proofs.Common.{arith}
 use Rattle.pungi_base.specs.declared.verdict.Verdict.{Verdict}
 use Rattle.pungi_base.specs.declared.verdict.Verdict.TheVariants as verdict
 use Rattle.pungi_types.specs.Files.{Definition, definitions}
@@ -7,13 +8,15 @@ use Rattle.pungi_resolved.specs.declared.function.Function.{Function}
 use Rattle.pungi_check.specs.Found.{checked_view}
 use Rattle.pungi_code.specs.declared.code.Codes.{Codes}
 use Rattle.pungi_verdict.specs.Verdicts.{IsJudged}
-use Rattle.pungi_verdict.proofs.Files.{at-index, functions-long, function-there, none-there, finding-here, defined-at, same-at, sound-there, given, judged-verdict, refused-verdict}
+use Rattle.pungi_verdict.proofs.Files.{at-index, functions-long, function-there, none-there, finding-here, defined-at}
+use Rattle.pungi_verdict.proofs.Files.{same-at, sound-there, given, judged-verdict, refused-verdict}
 use Rattle.pungi_verdict.proofs.judge.verdict.Goals as goal
 
 pub returns-in-Some : goal.returns-in-Some
 returns-in-Some c = λ d at.
     let view = checked_view c.args.checked.now in
-    let found = finding-here view c.args.checked.now.refusals.items c.args.i c.index.result.now c.requires.checked.refusals_are c.requires.there c.index.ensures d at in
+    let found = finding-here view c.args.checked.now.refusals.items c.args.i c.index.result.now
+    c.requires.checked.refusals_are c.requires.there c.index.ensures d at in
     refused-verdict view c.in-Some.finding d (found ∙ c.in-Some.is)
 
 pub judge-requires-clause-given : goal.judge-requires-clause-given
@@ -21,23 +24,28 @@ judge-requires-clause-given c =
     let view = checked_view c.args.checked.now in
     let fs = c.args.checked.now.resolved.items in
     let here = defined-at (definitions view.file.items) c.args.i c.requires.there in
-    let none = finding-here view c.args.checked.now.refusals.items c.args.i c.index.result.now c.requires.checked.refusals_are c.requires.there c.index.ensures here.0 here.1 ∙ c.in-None.is in
+    let none = finding-here view c.args.checked.now.refusals.items c.args.i c.index.result.now
+    c.requires.checked.refusals_are c.requires.there c.index.ensures here.0 here.1 ∙ c.in-None.is in
     let long = functions-long view fs c.requires.checked.resolved_are in
     let lt : c.args.i < length fs = omega (arith, long, c.requires.there) in
     let at = at-index fs c.args.i c.index-in-None.result.now lt c.index-in-None.ensures in
-    let its : slice_get fs c.args.i ≡ Some (Some c.in-Some-index.f) = at ∙ ap (λ (o : Option Function). Some o) c.in-Some-index.is in
+    let its : slice_get fs c.args.i ≡ Some (Some c.in-Some-index.f) = at
+    ∙ ap (λ (o : Option Function). Some o) c.in-Some-index.is in
     let is = function-there view fs c.args.i here.0 c.in-Some-index.f c.requires.checked.resolved_are its here.1 none in
     let words = sound-there fs c.args.i c.in-Some-index.f c.requires.checked.sound its in
     let few : c.args.codes.now.statics ≤ 2 ^ 30 + 24 =
-    subst (λ (n : ℕ). n ≤ 2 ^ 30 + 24) (c.requires.checked.statics_are ∙ sym (ap (λ (cs : Codes). cs.statics) c.requires.codes)) c.requires.checked.few_statics in
-    given view c.args.codes.now c.args.i here.0 (function_view c.in-Some-index.f) c.requires.lowered c.requires.formed here.1 is words few
+    subst (λ (n : ℕ). n ≤ 2 ^ 30 + 24) (c.requires.checked.statics_are
+    ∙ sym (ap (λ (cs : Codes). cs.statics) c.requires.codes)) c.requires.checked.few_statics in
+    given view c.args.codes.now c.args.i here.0 (function_view c.in-Some-index.f) c.requires.lowered
+    c.requires.formed here.1 is words few
 
 pub unreachable-requires : goal.unreachable-requires
 unreachable-requires c =
     let view = checked_view c.args.checked.now in
     let fs = c.args.checked.now.resolved.items in
     let here = defined-at (definitions view.file.items) c.args.i c.requires.there in
-    let none = finding-here view c.args.checked.now.refusals.items c.args.i c.index.result.now c.requires.checked.refusals_are c.requires.there c.index.ensures here.0 here.1 ∙ c.in-None.is in
+    let none = finding-here view c.args.checked.now.refusals.items c.args.i c.index.result.now
+    c.requires.checked.refusals_are c.requires.there c.index.ensures here.0 here.1 ∙ c.in-None.is in
     let long = functions-long view fs c.requires.checked.resolved_are in
     let lt : c.args.i < length fs = omega (arith, long, c.requires.there) in
     let at = at-index fs c.args.i c.index-in-None.result.now lt c.index-in-None.ensures in
@@ -48,11 +56,15 @@ pub returns-in_ok-judge-in-Some-index : goal.returns-in_ok-judge-in-Some-index
 returns-in_ok-judge-in-Some-index c = λ d at.
     let view = checked_view c.args.checked.now in
     let fs = c.args.checked.now.resolved.items in
-    let none = finding-here view c.args.checked.now.refusals.items c.args.i c.index.result.now c.requires.checked.refusals_are c.requires.there c.index.ensures d at ∙ c.in-None.is in
+    let none = finding-here view c.args.checked.now.refusals.items c.args.i c.index.result.now
+    c.requires.checked.refusals_are c.requires.there c.index.ensures d at ∙ c.in-None.is in
     let long = functions-long view fs c.requires.checked.resolved_are in
     let lt : c.args.i < length fs = omega (arith, long, c.requires.there) in
     let there = at-index fs c.args.i c.index-in-None.result.now lt c.index-in-None.ensures in
-    let its : slice_get fs c.args.i ≡ Some (Some c.in-Some-index.f) = there ∙ ap (λ (o : Option Function). Some o) c.in-Some-index.is in
+    let its : slice_get fs c.args.i ≡ Some (Some c.in-Some-index.f) = there
+    ∙ ap (λ (o : Option Function). Some o) c.in-Some-index.is in
     let is = function-there view fs c.args.i d c.in-Some-index.f c.requires.checked.resolved_are its at none in
-    judged-verdict view c.args.codes.now c.args.i d (function_view c.in-Some-index.f) c.in_ok-judge-in-Some-index.field-0 c.requires.codes at none is
-    c.in_ok-judge-in-Some-index.ensures.sound c.in_ok-judge-in-Some-index.ensures.refused c.in_ok-judge-in-Some-index.ensures.caused
+    judged-verdict view c.args.codes.now c.args.i d (function_view c.in-Some-index.f)
+    c.in_ok-judge-in-Some-index.field-0 c.requires.codes at none is
+    c.in_ok-judge-in-Some-index.ensures.sound c.in_ok-judge-in-Some-index.ensures.refused
+    c.in_ok-judge-in-Some-index.ensures.caused

@@ -10,7 +10,8 @@ use Rattle.pungi_verdict.proofs.judge.verdicts.Goals as goal
 
 pub verdict-requires-clause-there : goal.verdict-requires-clause-there
 verdict-requires-clause-there c =
-    let long = names-long (definitions (checked_view c.args.checked.now).file.items) c.args.names.now c.requires.named in
+    let long = names-long (definitions (checked_view c.args.checked.now).file.items) c.args.names.now
+    c.requires.named in
     let lt = c.loop-i-test.true in
     omega (arith, long, lt)
 
@@ -22,8 +23,10 @@ loop-i-preserved c =
     let pushed : c.push.new.self.items ≡ c.loop-i.lines.items ++ line ∷ [] = c.in_ok-push.ensures.items in
     λ more rest.
     subst (λ (l : List (Name × Verdict)). AllZip (IsJudged view) (definitions view.file.items) (l ++ more)) (sym pushed)
-    (judged-next view c.args.names.now c.loop-i.i name c.in_ok-verdict.verdict c.loop-i.lines.items more c.requires.named
-    c.loop-i-test.true (name-read c.args.names.now c.loop-i.i (record { 0 = 0 }) c.loop-i-test.true) c.in_ok-verdict.ensures c.loop-i.invariant rest)
+    (judged-next view c.args.names.now c.loop-i.i name c.in_ok-verdict.verdict c.loop-i.lines.items more
+    c.requires.named
+    c.loop-i-test.true (name-read c.args.names.now c.loop-i.i (record { 0 = 0 }) c.loop-i-test.true)
+    c.in_ok-verdict.ensures c.loop-i.invariant rest)
 
 pub returns : goal.returns
 returns c =

@@ -10,5 +10,7 @@ use Rattle.pungi_verdict.proofs.judge.verdicts.Given as goal
 -- lines for the functions that are left complete the lines so far
 abbrev pub invariant-loop-i : goal.invariant-loop-i
 invariant-loop-i l =
-    (more : List (Name × Verdict)) → AllZip (IsJudged (checked_view l.checked)) (drop l.i (definitions (checked_view l.checked).file.items)) more
-    → AllZip (IsJudged (checked_view l.checked)) (definitions (checked_view l.checked).file.items) (l.lines.items ++ more)
+    (more : List (Name × Verdict)) → AllZip (IsJudged (checked_view l.checked))
+    (drop l.i (definitions (checked_view l.checked).file.items)) more
+    → AllZip (IsJudged (checked_view l.checked)) (definitions (checked_view l.checked).file.items)
+    (l.lines.items ++ more)
