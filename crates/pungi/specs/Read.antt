@@ -6,6 +6,7 @@
 --                                  the bytes that the shelf gave, which are all of the file and within the limit; or
 --                                  that they are over the limit
 use Rattle.std.specs.Prelude.{◌≡◌, ℕ, ◌≤◌, ◌<◌, List, [], ◌++◌, length, Option, None, Some}
+use Rattle.pungi.specs.Limits.{file_limit}
 use Rattle.pungi.specs.declared.read.Reading.{Reading}
 use Rattle.pungi.specs.declared.read.Reading.TheVariants.{Text, Long}
 
