@@ -1,7 +1,7 @@
 -- What is left to read of a text, and what was written of one.
 use Rattle.std.proofs.Common.{◌≡◌, ℕ, ◌<◌, List, ◌++◌, length, take, drop, Option, Some, None, sym, ap, ◌∙◌}
 use Rattle.std.proofs.Common.{append_assoc, length-append, take-append-drop, arith, [], subst, append-nil}
-use Rattle.pungi.specs.Read.{IsRead, IsFront, IsWhole}
+use Rattle.pungi.specs.Read.{IsFront, IsWhole}
 use Rattle.pungi.specs.Limits.{file_limit}
 
 -- where the texts are known, the bytes so far and what is left are the text of the name

@@ -2,5 +2,4 @@ pub mod Causes
 pub mod Fronts
 pub mod LeftToRead
 pub mod Named
-pub mod Refusals
 pub mod Sound

@@ -1,6 +1,6 @@
 -- What is said of each line of a report.
-use Rattle.std.proofs.Common.{◌≡◌, ◌⊎◌, ⊎_elim, ℕ, List, [], ◌∷◌, Option, Some}
-use Rattle.std.specs.List.{AllZip}
+use Rattle.std.proofs.Common.{◌≡◌, ℕ, ◌≤◌, Bool, true, false, List, [], ◌∷◌, Option, Some, if◌then◌else◌, arith}
+use Rattle.std.specs.List.{AllZip, list_any}
 use Rattle.pungi_base.specs.declared.names.Name.{Name}
 use Rattle.pungi_base.specs.declared.verdict.Verdict.{Verdict}
 use Rattle.pungi_types.specs.Files.{Definition}
@@ -10,7 +10,21 @@ use Rattle.pungi_verdict.specs.Refusals.{IsRefused}
 use Rattle.pungi_verdict.specs.Sound.{IsSound}
 use Rattle.pungi_verdict.specs.Verdicts.{IsJudged}
 use Rattle.pungi.specs.Answer.{Answers, HasSoundReport, IsReported}
-use Rattle.pungi.specs.Examine.{IsReport, IsSoundReport}
+use Rattle.pungi.specs.Examine.{IsReport, IsSoundReport, is_faulty, is_open, status_of}
+use Rattle.pungi.specs.Status.{all_clean, some_faulty, some_open}
+
+low_open : (b : Bool) → (if b then some_open else all_clean) ≤ some_open
+low_open true = omega arith
+low_open false = omega arith
+
+low_faulty : (a b : Bool) → (if a then some_faulty else (if b then some_open else all_clean)) ≤ some_open
+low_faulty true b = omega arith
+low_faulty false b = low_open b
+
+-- the status of lines is one of a report
+pub low_status : (lines : List (Name × Verdict)) → status_of lines ≤ some_open
+low_status lines =
+    low_faulty (list_any (λ line. is_faulty line.1) lines) (list_any (λ line. is_open line.1) lines)
 
 -- lines that are sound, refused where a rule holds, and come for their cause, are right
 pub all_judged : (c : CheckedFile) (ds : List Definition) (lines : List (Name × Verdict))

@@ -64,7 +64,6 @@ fn status(lines: &[(Name, Verdict)]) -> u8
 }
 
 /// The report on a checked file, with the status that goes with it.
-#[tactic(auto, using(crate::proofs::Sound::all_judged))]
 fn reported(alloc: Global, names: &Names, checked: &Checked<'_>) -> Result<Answer, Memory>
     requires checked { IsChecked checked.now }
     requires known { AreKnownKinds names.now (items_flat (checked_view checked.now).file.items) }

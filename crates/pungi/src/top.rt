@@ -57,7 +57,6 @@ fn decide<F: Shelf>(alloc: Global, words: &[String], shelf: &mut F) -> Result<An
 /// text, for any arguments, API results and failures, every object's count has at each return changed by exactly the
 /// references that escaped. Where it calls one faulty, the printed run is a run of that meaning that returns, and the
 /// printed object is the lowest whose change there differs from its escapes.
-#[tactic(auto, using(crate::proofs::Sound::sound_answer))]
 pub fn pungi<F: Shelf, O: Sink>(alloc: Global, words: &[String], shelf: &mut F, out: &mut O) -> u8
     // Safety: of a function that the report calls clean or faulty it is true.
     ensures sound { IsReported result → (text : List ℕ)

@@ -1,7 +1,7 @@
-use Rattle.std.proofs.Common.{map}
+use Rattle.std.proofs.Common.{map, ℕ, List, ◌++◌, ap, ◌∙◌}
 use Rattle.std.specs.Prelude.{string_bytes}
-use Rattle.pungi_base.specs.Shelf.{Rose}
 use Rattle.pungi.proofs.Causes.{file_is_refused, file_judged}
+use Rattle.pungi.proofs.Sound.{sound_answer}
 use Rattle.pungi.proofs.top.pungi.Goals as goal
 
 pub returns-in-Ok-write_all-clause-file : goal.returns-in-Ok-write_all-clause-file
@@ -17,3 +17,13 @@ returns-in-Ok-write_all-clause-judged g c = λ text is within names items file r
     (g.F.Shelf.rest c.decide.new.shelf) (g.F.Shelf.gave c.decide.new.shelf)
     (g.F.Shelf.faults c.args.shelf.now) (g.F.Shelf.faults c.decide.new.shelf) c.in-Ok.answer.status
     c.in-Ok.answer.text.items c.in-Ok.ensures.answer text is within names items file read
+
+pub returns-in-Ok-write_all-clause-sound : goal.returns-in-Ok-write_all-clause-sound
+returns-in-Ok-write_all-clause-sound g c = λ reported. (
+  c.in-Ok.answer.text.items,
+  sound_answer (map string_bytes c.args.words.now) (g.F.Shelf.texts c.args.shelf.now)
+      (g.F.Shelf.rest c.decide.new.shelf) (g.F.Shelf.gave c.decide.new.shelf) (g.F.Shelf.faults c.args.shelf.now)
+      (g.F.Shelf.faults c.decide.new.shelf) c.in-Ok.answer.status c.in-Ok.answer.text.items c.in-Ok.ensures.answer
+      reported,
+  c.in-Ok-write_all.ensures.ok ∙ ap (λ (text : List ℕ). g.O.Sink.taken c.args.out.now ++ text) c.deref.ensures.value,
+)
