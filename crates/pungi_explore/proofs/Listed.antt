@@ -1,7 +1,7 @@
 -- Each answer that a question still has is among those that stand for next states.
 use Rattle.std.proofs.Common.{◌≡◌, ℕ, zero, suc, ◌+◌, ◌≤◌, ◌<◌, List, [], ◌∷◌, length, map, Bool, true, false, refl}
-use Rattle.std.proofs.Common.{sym, ap, subst, arith, inl, inr}
-use Rattle.std.specs.Prelude.{nat_lt, slice_get}
+use Rattle.std.proofs.Common.{ap, arith, inl, inr}
+use Rattle.std.specs.Prelude.{slice_get}
 use Rattle.std.specs.List.{range_with_len}
 use Rattle.std.specs.declared.cmp.Ordering.{Ordering}
 use Rattle.std.specs.declared.cmp.Ordering.TheVariants.{Less, Equal, Greater}
@@ -46,7 +46,7 @@ same_decision Quiet (Outcome k) e = untrue e
 same_decision Quiet (Order o) e = untrue e
 same_decision Quiet (IsSame b) e = untrue e
 same_decision (Outcome j) Quiet e = untrue e
-same_decision (Outcome j) (Outcome k) e = let same : k ≡ j = grind (arith, nat_tests, e) in ap Outcome same
+same_decision (Outcome j) (Outcome k) e = let same : k ≡ j = grind (arith, nat_tests) in ap Outcome same
 same_decision (Outcome j) (Order o) e = untrue e
 same_decision (Outcome j) (IsSame b) e = untrue e
 same_decision (Order a) Quiet e = untrue e
@@ -68,16 +68,19 @@ only_one : (d' d : Decision) → is_decision d' d ≡ true → IsIn d (d' ∷ []
 only_one d' d e = inl (same_decision d' d e)
 
 -- one of the numbered answers
-numbered_from : (a n k : ℕ) → k < n → IsIn (Outcome (a + k)) (map Outcome (range_with_len a n))
-numbered_from a zero k lt = absurd (omega (arith, lt))
-numbered_from a (suc n) zero lt = let same : a + 0 ≡ a = omega arith in inl (ap Outcome same)
-numbered_from a (suc n) (suc k) lt =
-    let same : (a + 1) + k ≡ a + suc k = omega arith in
-    inr (subst (λ z. IsIn (Outcome z) (map Outcome (range_with_len (a + 1) n))) same (numbered_from (a + 1) n k
-    (omega (arith, lt))))
+numbered_from : (a n k j : ℕ) → a + k ≡ j → k < n → IsIn (Outcome j) (map Outcome (range_with_len a n))
+numbered_from a zero k j e lt = absurd (omega (arith, lt))
+numbered_from a (suc n) zero j e lt = let same : j ≡ a = omega (arith, e) in inl (ap Outcome same)
+numbered_from a (suc n) (suc k) j e lt =
+    let next : (a + 1) + k ≡ j = omega (arith, e) in
+    let rest : k < n = omega (arith, lt) in
+    inr (numbered_from (a + 1) n k j next rest)
 
 one_of : (n m : ℕ) (d : Decision) → n ≤ m → is_outcome n d ≡ true → IsIn d (numbered m)
-one_of n m (Outcome k) le e = let lt : k < m = grind (arith, nat_tests, le, e) in numbered_from 0 m k lt
+one_of n m (Outcome k) le e =
+    let lt : k < m = grind (arith, nat_tests) in
+    let same : 0 + k ≡ k = omega arith in
+    numbered_from 0 m k k same lt
 one_of n m Quiet le e = untrue e
 one_of n m (Order o) le e = untrue e
 one_of n m (IsSame b) le e = untrue e

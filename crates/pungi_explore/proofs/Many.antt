@@ -19,7 +19,7 @@ use Rattle.pungi_symbol.specs.declared.states.known.Status.TheVariants as status
 use Rattle.pungi_symbol.specs.declared.states.state.State.{State}
 use Rattle.pungi_symbol.specs.questions.NextQuestion.{ask}
 use Rattle.pungi_symbol.specs.states.Terms.{outcomes_of_answer}
-use Rattle.pungi_symbol.specs.answers.SymbolicState.{can, apply, successors, after_if, numbered, answers_of}
+use Rattle.pungi_symbol.specs.answers.SymbolicState.{can, apply, successors, after_if, answers_of}
 use Rattle.pungi_symbol.specs.runs.Paths.{Path, path_here}
 use Rattle.pungi_explore.specs.Traces.{IsIn, AreDifferent, HasEnded, states_after}
 use Rattle.pungi_explore.proofs.Begins.{Told, began}
@@ -67,13 +67,9 @@ rises_all code s b (d ∷ ds) h =
     (d, apply (slice_get code s.known.pc) (ask code s.known) d s) (flat_map one ds) h.0
     (rises_all code s (suc (rank d)) ds h.1))
 
-numbered_rise : (k n : ℕ) → AnswersRise (k + 1) (map Outcome (range_with_len k n))
-numbered_rise k zero = tt
-numbered_rise k (suc n) = (omega arith, numbered_rise (k + 1) n)
-
-rise_from : (b c : ℕ) (ds : List Decision) → c ≤ b → AnswersRise b ds → AnswersRise c ds
-rise_from b c [] le h = tt
-rise_from b c (d ∷ ds) le h = let first = h.0 in (omega (arith, le, first), h.1)
+numbered_rise : (k n b : ℕ) → b ≤ k + 1 → AnswersRise b (map Outcome (range_with_len k n))
+numbered_rise k zero b le = tt
+numbered_rise k (suc n) b le = (le, numbered_rise (k + 1) n (suc (k + 1)) (omega arith))
 
 one_rises : (d : Decision) → AnswersRise 0 (d ∷ [])
 one_rises d = (omega arith, tt)
@@ -84,11 +80,10 @@ same_rise = (omega arith, (omega arith, tt))
 all_rise : (q : Question) → AnswersRise 0 (answers_of q)
 all_rise (Does d) = one_rises d
 all_rise (Touches m) = one_rises Quiet
-all_rise (Overwrites m) = rise_from 1 0 (numbered 2) (omega arith) (numbered_rise 0 2)
-all_rise (AsksNull t) = rise_from 1 0 (numbered 2) (omega arith) (numbered_rise 0 2)
+all_rise (Overwrites m) = numbered_rise 0 2 0 (omega arith)
+all_rise (AsksNull t) = numbered_rise 0 2 0 (omega arith)
 all_rise (Base t u i) = same_rise
-all_rise (Answers a) =
-    let n = length (outcomes_of_answer a) in rise_from 1 0 (numbered n) (omega arith) (numbered_rise 0 n)
+all_rise (Answers a) = numbered_rise 0 (length (outcomes_of_answer a)) 0 (omega arith)
 all_rise (Same t u) = same_rise
 all_rise (Returns x) = one_rises Quiet
 all_rise (Stops d) = one_rises d

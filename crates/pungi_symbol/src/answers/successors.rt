@@ -4,6 +4,7 @@ ghost use Rattle.pungi_symbol.specs.declared.answers.decision.Decision.TheVarian
 ghost use Rattle.std.specs.List.{flat_map};
 ghost use Rattle.pungi_symbol.specs.answers.SymbolicState.{after_if, after_left, numbered, answers_of};
 ghost use Rattle.pungi_symbol.specs.answers.SymbolicState.{successors};
+ghost use Rattle.pungi_symbol.specs.questions.NextQuestion.{IsPlaced};
 ghost use Rattle.pungi_symbol.specs.Promises.{next_states};
 
 use crate::answers::decision::Decision;
@@ -26,6 +27,7 @@ impl State {
         d: Decision,
         next: &mut Vec<(Decision, Sym)>,
     ) -> Result<(), Memory>
+        requires placed { IsPlaced code.now self.known q }
         ensures { OnOk result (next.new.items ≡ next.old.items
             ++ after_left (slice_get code.now self.known.pc) q self (Some d)) }
     {
@@ -44,6 +46,7 @@ impl State {
         left: Option<Decision>,
         next: &mut Vec<(Decision, Sym)>,
     ) -> Result<(), Memory>
+        requires placed { IsPlaced code.now self.known q }
         ensures { OnOk result (next.new.items ≡ next.old.items
             ++ after_left (slice_get code.now self.known.pc) q self left) }
     {
@@ -62,6 +65,7 @@ impl State {
         left: Option<Decision>,
         next: &mut Vec<(Decision, Sym)>,
     ) -> Result<(), Memory>
+        requires placed { IsPlaced code.now self.now.known q }
         ensures { OnOk result (next.new.items ≡ next.old.items
             ++ after_left (slice_get code.now self.now.known.pc) q self.now left) }
     {
@@ -84,6 +88,7 @@ impl State {
         d: Decision,
         next: &mut Vec<(Decision, Sym)>,
     ) -> Result<Option<Decision>, Memory>
+        requires placed { IsPlaced code.now self.now.known q }
         ensures { IfOk result (λ o. next.new.items ++ after_left (slice_get code.now self.now.known.pc) q self.now o
             ≡ (next.old.items ++ after_left (slice_get code.now self.now.known.pc) q self.now left)
             ++ after_if (slice_get code.now self.now.known.pc) q self.now d) }
@@ -106,6 +111,7 @@ impl State {
         answers: &[Decision],
         next: &mut Vec<(Decision, Sym)>,
     ) -> Result<Option<Decision>, Memory>
+        requires placed { IsPlaced code.now self.now.known q }
         ensures { IfOk result (λ o. next.new.items ++ after_left (slice_get code.now self.now.known.pc) q self.now o
             ≡ next.old.items ++ flat_map (after_if (slice_get code.now self.now.known.pc) q self.now) answers.now) }
     {
@@ -125,6 +131,7 @@ impl State {
         d: Decision,
         next: &mut Vec<(Decision, Sym)>,
     ) -> Result<Option<Decision>, Memory>
+        requires placed { IsPlaced code.now self.now.known q }
         ensures { IfOk result (λ o. next.new.items ++ after_left (slice_get code.now self.now.known.pc) q self.now o
             ≡ next.old.items ++ flat_map (after_if (slice_get code.now self.now.known.pc) q self.now) (d ∷ [])) }
     {
@@ -142,6 +149,7 @@ impl State {
         count: u32,
         next: &mut Vec<(Decision, Sym)>,
     ) -> Result<Option<Decision>, Memory>
+        requires placed { IsPlaced code.now self.now.known q }
         ensures { IfOk result (λ o. next.new.items ++ after_left (slice_get code.now self.now.known.pc) q self.now o
             ≡ next.old.items ++ flat_map (after_if (slice_get code.now self.now.known.pc) q self.now)
             (numbered count)) }
@@ -161,6 +169,7 @@ impl State {
         q: Question,
         next: &mut Vec<(Decision, Sym)>,
     ) -> Result<Option<Decision>, Memory>
+        requires placed { IsPlaced code.now self.now.known q }
         ensures { IfOk result (λ o. next.new.items ++ after_left (slice_get code.now self.now.known.pc) q self.now o
             ≡ next.old.items ++ flat_map (after_if (slice_get code.now self.now.known.pc) q self.now)
             (IsSame false ∷ IsSame true ∷ [])) }
@@ -177,6 +186,7 @@ impl State {
         q: Question,
         next: &mut Vec<(Decision, Sym)>,
     ) -> Result<Option<Decision>, Memory>
+        requires placed { IsPlaced code.now self.now.known q }
         ensures { IfOk result (λ o. next.new.items ++ after_left (slice_get code.now self.now.known.pc) q self.now o
             ≡ next.old.items ++ flat_map (after_if (slice_get code.now self.now.known.pc) q self.now) (answers_of q)) }
     {
@@ -197,10 +207,11 @@ impl State {
     }
 
     /// The next states, each with its answer. The last one takes the place of the state, which isn't copied for it.
+    #[tactic(auto, using(crate::proofs::questions::Places::placed_as))]
     fn next_states(self, alloc: Global, code: &[Line]) -> Result<Vec<(Decision, Sym)>, Memory>
         ensures { IfOk result (λ next. next.items ≡ successors code.now self) }
     {
-        let q = self.known.question(code)?;
+        let q = self.known.question(code);
         let mut next = Vec::new(alloc);
         let left = self.put_all(alloc, code, q, &mut next)?;
         self.put_left(alloc, code, q, left, &mut next)?;
