@@ -16,3 +16,7 @@ pub params_after-first : (before : List Param) (p : Param) (others : Option (Lis
     → params_after before (with_first (Some p) others) ≡ params_after (before ++ p ∷ []) others
 params_after-first before p None = refl
 params_after-first before p (Some more) = rw (append_snoc before p more)
+
+pub params_after-none : (others : Option (List Param)) → params_after [] others ≡ others
+params_after-none None = refl
+params_after-none (Some more) = refl

@@ -18,6 +18,7 @@
 use Rattle.std.specs.Prelude.{◌≡◌, ℕ, suc, Bool, true, false, not, ◌&&◌, List, [], ◌∷◌, ◌++◌, map, Option, Some, None}
 use Rattle.std.specs.Prelude.{option_map, is_none, if◌then◌else◌, nat_le, codes, string_bytes, Result, Ok, Err, Vec}
 use Rattle.std.specs.List.{position_or_len}
+use Rattle.std.specs.declared.alloc.Global.{Global}
 use Rattle.std.specs.Str.{bytes_eq, is_utf8}
 use Rattle.toml.specs.Data.{Data, table, Members, no_members, member, get_member}
 use Rattle.toml.specs.Parse.{parse_document}
@@ -110,7 +111,7 @@ abbrev pub names_after : List (List ℕ) → List ℕ → List (List ℕ)
 names_after names text = names_in names (read_text text)
 
 -- where memory runs out nothing is stated
-abbrev pub Answers : List (ℕ × Row) → List (List ℕ) → List ℕ → Result (Vec (Name × Row)) ConfigFault → Type 0
+abbrev pub Answers : List (ℕ × Row) → List (List ℕ) → List ℕ → Result (Vec (Name × Row) Global) ConfigFault → Type 0
 Answers rows names text (Ok more) = reading rows names text ≡ Some (Ok (map named_row more.items))
 Answers rows names text (Err Text) = read_text text ≡ None
 Answers rows names text (Err (Shape key)) = reading rows names text ≡ Some (Err (string_bytes key))

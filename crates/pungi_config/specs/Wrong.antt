@@ -4,6 +4,7 @@
 --   row_read, function_read, rows_read     of a function, of one with its number, and of several
 use Rattle.std.specs.Prelude.{ℕ, List, ◌++◌, map, codes, Result, Ok, Err, Vec}
 use Rattle.std.specs.Borrow.{Bor}
+use Rattle.std.specs.declared.alloc.Global.{Global}
 use Rattle.pungi_base.specs.declared.names.Name.{Name}
 use Rattle.pungi_api.specs.declared.row.Row.{Row}
 use Rattle.pungi_api.specs.Rows.{named_row}
@@ -28,6 +29,6 @@ abbrev pub function_read : Result (Name × Row) Wrong → Result Row (List ℕ)
 function_read (Ok row) = Ok row.1
 function_read (Err wrong) = Err (spelled wrong)
 
-abbrev pub rows_read : Result (Vec (Name × Row)) Wrong → Result (List (ℕ × Row)) (List ℕ)
+abbrev pub rows_read : Result (Vec (Name × Row) Global) Wrong → Result (List (ℕ × Row)) (List ℕ)
 rows_read (Ok rows) = Ok (map named_row rows.items)
 rows_read (Err wrong) = Err (spelled wrong)

@@ -37,7 +37,11 @@ fn trial_number(text: &[u8]) -> Option<u32>
         }
         number = 10 * number + u32::from(*digit - b'0');
     }
-    if number <= TRIAL_LIMIT { Some(number) } else { None }
+    if number <= TRIAL_LIMIT {
+        Some(number)
+    } else {
+        None
+    }
 }
 
 fn owned(alloc: Global, text: &str) -> Option<String>

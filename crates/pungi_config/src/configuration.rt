@@ -1,11 +1,11 @@
 //! The rows that a configuration adds to the table.
-ghost use Rattle.std.specs.Prelude.{◌≡◌, ◌≤◌, ◌<◌, ◌+◌, ◌^◌, IfOk, IfErr, IfSome, IsTrue, Some, length, map, option_map};
-ghost use Rattle.std.specs.Prelude.{is_some, slice_get};
+ghost use Rattle.std.specs.Prelude.{◌≡◌, ◌≤◌, ◌<◌, ◌+◌, ◌-◌, ◌^◌, IfOk, IfErr, IfSome, IsTrue, Some, length, map, option_map};
+ghost use Rattle.std.specs.Prelude.{is_none, is_some, slice_get};
 ghost use Rattle.toml.specs.View.{view, table_view};
 ghost use Rattle.toml.specs.Data.{get_member};
 ghost use Rattle.pungi_base.specs.CWords.{is_c_word, is_word_byte, is_letter};
 ghost use Rattle.pungi_base.specs.Names.{Extends, with_text};
-ghost use Rattle.pungi_api.specs.Rows.{are_new, are_plain_rows, named_row};
+ghost use Rattle.pungi_api.specs.Rows.{are_new, are_plain_rows, named_row, row_in};
 ghost use Rattle.pungi_config.specs.Limits.{row_limit};
 ghost use Rattle.pungi_config.specs.Configuration.{Answers, is_free, is_function_table, names_after, number_of, read_function};
 ghost use Rattle.pungi_config.specs.Configuration.{read_members, read_row, read_rows, read_text, with_names, wrong_top};
@@ -50,7 +50,11 @@ fn member<'a>(members: &'a Members, key: &str) -> Option<&'a Value>
 }
 
 /// The row of a function, or the wrong key.
-fn read_row<'a>(alloc: Global, name: &'a str, value: &'a Value) -> Result<Result<Row, Wrong<'a>>, Memory>
+fn read_row<'a>(
+    alloc: Global,
+    name: &'a str,
+    value: &'a Value,
+) -> Result<Result<Row, Wrong<'a>>, Memory>
     ensures { IfOk result (λ read. row_read read ≡ read_row name.now (view value.now)) }
 {
     match value.as_table() {
@@ -79,6 +83,7 @@ fn free_number(
     ensures number { IfOk result (λ number. IfSome number (λ n. n.0 ≡ number_of names.old name.now)) }
     ensures text { IfOk result (λ number. IfSome number (λ n. slice_get names.new n.0 ≡ Some name.now)) }
     ensures names { IfOk result (λ number. IfSome number (λ n. names.new ≡ with_text names.old name.now)) }
+    ensures new { IfOk result (λ number. IfSome number (λ n. IsTrue (is_none (row_in table.now n.0)))) }
     ensures grows { Extends names.old names.new }
     ensures room { length names.new ≤ length names.old + 1 }
 {
@@ -106,6 +111,7 @@ fn read_function<'a>(
     ensures number { IfOk result (λ read. IfOk read (λ row. row.0.0 ≡ number_of names.old name.now)) }
     ensures text { IfOk result (λ read. IfOk read (λ row. slice_get names.new row.0.0 ≡ Some name.now)) }
     ensures names { IfOk result (λ read. IfOk read (λ row. names.new ≡ with_text names.old name.now)) }
+    ensures new { IfOk result (λ read. IfOk read (λ row. IsTrue (is_none (row_in table.now row.0.0)))) }
     ensures grows { Extends names.old names.new }
     ensures room { length names.new ≤ length names.old + 1 }
 {
@@ -136,7 +142,7 @@ fn read_rows<'a>(
     ensures room { length names.new ≤ length names.old + row_limit }
 {
     let mut rows = Vec::new(alloc);
-    for (name, value) in functions {
+    for (name, value) in functions.iter() {
         match read_function(alloc, names, table, name.as_str(), value)? {
             Ok(row) => rows.push(row)?,
             Err(wrong) => return Ok(Err(wrong)),

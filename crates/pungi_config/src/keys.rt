@@ -7,8 +7,8 @@ ghost use Rattle.pungi_config.specs.Keys.{plain_row, empty_row, with_key, read_k
 ghost use Rattle.pungi_config.specs.Wrong.{keys_read};
 ghost use Rattle.pungi_config.specs.Takes.{takes_of};
 
-use crate::words::answer_of;
 use crate::takes::{params_of, takes_of};
+use crate::words::answer_of;
 use pungi_api::{Answer, Form, Param, Row, Take};
 use pungi_base::{Memory, Seq};
 use std::alloc::Global;
@@ -48,9 +48,19 @@ fn has_success(answer: Answer) -> bool
 fn with_takes(row: Row, take: Take, value: &Value) -> Option<Row>
     ensures { result ≡ option_map (with_takes row) (takes_of row.params take row.takes (view value.now)) }
 {
-    let Row { form, params, takes, answer } = row;
+    let Row {
+        form,
+        params,
+        takes,
+        answer,
+    } = row;
     match takes_of(params.as_slice(), take, takes, value) {
-        Some(takes) => Some(Row { form, params, takes, answer }),
+        Some(takes) => Some(Row {
+            form,
+            params,
+            takes,
+            answer,
+        }),
         None => None,
     }
 }

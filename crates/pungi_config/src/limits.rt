@@ -19,5 +19,4 @@ pub fn limits_are_those_stated()
     ensures rows { ROW_LIMIT ≡ row_limit }
     ensures params { PARAM_LIMIT ≡ param_limit }
     ensures trial { TRIAL_LIMIT ≡ trial_limit }
-{
-}
+{}

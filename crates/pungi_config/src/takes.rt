@@ -5,8 +5,8 @@ ghost use Rattle.pungi_api.specs.Rows.{is_object};
 ghost use Rattle.pungi_config.specs.Takes.{params_of, params_in, place_of, is_never, take_one, take_each, takes_of};
 ghost use Rattle.pungi_config.specs.Takes.{take_at};
 
-use crate::words::param_of;
 use crate::limits::PARAM_LIMIT;
+use crate::words::param_of;
 use pungi_api::{Param, Take};
 use pungi_base::{Memory, Seq};
 use std::alloc::Global;
@@ -104,7 +104,12 @@ fn take_each(params: &[Param], take: Take, takes: Seq<Take>, values: &Array) -> 
 }
 
 /// What a row takes over once a value has numbered the parameters of which this holds.
-pub(crate) fn takes_of(params: &[Param], take: Take, takes: Seq<Take>, value: &Value) -> Option<Seq<Take>>
+pub(crate) fn takes_of(
+    params: &[Param],
+    take: Take,
+    takes: Seq<Take>,
+    value: &Value,
+) -> Option<Seq<Take>>
     ensures { result ≡ takes_of params.now take takes (view value.now) }
 {
     match value.as_array() {

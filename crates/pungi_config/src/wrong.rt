@@ -16,7 +16,7 @@ pub(crate) enum Wrong<'a> {
 
 /// The key as it is reported.
 pub(crate) fn spelled(alloc: Global, wrong: Wrong<'_>) -> Result<String, AllocError>
-    ensures { IfOk result (λ key. string_bytes key ≡ spelled wrong) }
+    ensures { IfOk result (λ key. string_bytes key ≡ spelled wrong.entry) }
 {
     match wrong {
         Wrong::Top(key) => String::from_str(alloc, key),
