@@ -3,6 +3,7 @@ pub mod Matched
 pub mod NewRows
 pub mod Numbers
 pub mod Params
+pub mod Parts
 pub mod PlainRows
 pub mod RowsAfter
 pub mod Texts

@@ -1,7 +1,7 @@
 -- The rows of a configuration are new: each name has a number of its own, since the names ascend.
 use Rattle.std.proofs.Common.{◌≡◌, ℕ, ◌==◌, Bool, true, false, ◌&&◌, cond, List, [], ◌∷◌, ◌++◌, Option, Some, None, refl, sym}
 use Rattle.std.proofs.Common.{subst, ap, ◌∙◌, is_none, String, Global, string_bytes, string_cmp, Ordering, Less, Equal}
-use Rattle.std.proofs.Common.{eqb→eq, eqb, T, nat_cmp, IsTrue}
+use Rattle.std.proofs.Common.{eqb-true, nat_cmp}
 use Rattle.std.specs.Prelude.{slice_get, unwrap_or}
 use Rattle.std.specs.List.{AllByRecursion}
 use Rattle.std.specs.Cmp.{tied_itself}
@@ -11,6 +11,7 @@ use Rattle.pungi_api.specs.declared.row.Row.{Row}
 use Rattle.pungi_api.specs.Rows.{row_in, are_new}
 use Rattle.pungi_base.specs.Names.{Extends}
 use Rattle.pungi_config.proofs.Numbers.{at_extended}
+use Rattle.pungi_config.proofs.Parts.{both, left_of, right_of, some_same}
 
 -- the number is that of a name before all of these
 abbrev pub StandsBefore : List (List ℕ) → List (String Global) → ℕ → Type 0
@@ -18,21 +19,6 @@ StandsBefore names keys n = (t : String Global) × (slice_get names n ≡ Some (
 
 abbrev pub AreBefore : List (List ℕ) → List (String Global) → List (ℕ × Row) → Type 0
 AreBefore names keys rows = AllByRecursion (λ r. StandsBefore names keys r.0) rows
-
-some_same : {A : Type 0} (x y : A) → Some x ≡ Some y → x ≡ y
-some_same x y e = ap (λ o. unwrap_or o x) e
-
-both : (a b : Bool) → a ≡ true → b ≡ true → (a && b) ≡ true
-both true b p q = q
-both false b p q = absurd cc
-
-left_of : (a b : Bool) → (a && b) ≡ true → a ≡ true
-left_of true b h = refl
-left_of false b h = h
-
-right_of : (a b : Bool) → (a && b) ≡ true → b ≡ true
-right_of true b h = h
-right_of false b h = absurd cc
 
 pub before_on : (names new : List (List ℕ)) (k : String Global) (keys : List (String Global)) (rows : List (ℕ × Row))
     → Extends names new → AreBefore names (k ∷ keys) rows → AreBefore new keys rows
@@ -67,7 +53,7 @@ none_before names new k keys (r ∷ rows) n grown at h = go (n == r.0) refl
     go false e = rw e (none_before names new k keys rows n grown at h.1)
     go true e =
         let there : slice_get new r.0 ≡ Some (string_bytes h.0.0) = at_extended names new r.0 (string_bytes h.0.0) grown h.0.1.0 in
-        let same : n ≡ r.0 = eqb→eq n r.0 e in
+        let same : n ≡ r.0 = eqb-true n r.0 e in
         absurd (not_before new h.0.0 k n (subst (λ m. slice_get new m ≡ Some (string_bytes h.0.0)) (sym same) there) at h.0.1.1.0)
 
 in_last : (rows : List (ℕ × Row)) (r : ℕ × Row) (n : ℕ) → row_in rows n ≡ None → (n == r.0) ≡ false → row_in (rows ++ r ∷ []) n ≡ None

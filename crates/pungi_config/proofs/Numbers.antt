@@ -8,6 +8,7 @@ use Rattle.std.specs.Str.{bytes_eq}
 use Rattle.std.proofs.lemmas.Slice.Eq.{bytes_eq-Decides}
 use Rattle.pungi_base.specs.Names.{has_text, with_text, AreDistinct, AreNames, Extends}
 use Rattle.pungi_config.specs.Configuration.{number_of}
+use Rattle.pungi_config.proofs.Parts.{some_same}
 
 pub same_bytes : (a b : List ℕ) → a ≡ b → bytes_eq a b ≡ true
 same_bytes a b e = (bytes_eq-Decides a b).1 e
@@ -18,9 +19,6 @@ turned a b h = go (bytes_eq b a) refl
     go : (t : Bool) → bytes_eq b a ≡ t → bytes_eq b a ≡ false
     go false e = e
     go true e = absurd (true≢false (sym (same_bytes a b (sym ((bytes_eq-Decides b a).0 e))) ∙ h))
-
-some_same : {A : Type 0} (x y : A) → Some x ≡ Some y → x ≡ y
-some_same x y e = ap (λ o. unwrap_or o x) e
 
 -- a text that none of these is
 apart_at : (y : List ℕ) (ys : List (List ℕ)) (n : ℕ) (x : List ℕ) → AllByRecursion (λ z. bytes_eq y z ≡ false) ys

@@ -19,6 +19,7 @@ use Rattle.pungi_config.specs.Keys.{plain_row, empty_row, with_takes, with_key, 
 use Rattle.pungi_config.specs.Configuration.{under, read_row, is_free, read_function, with_row, read_rows, number_of, path}
 use Rattle.pungi_config.specs.Configuration.{unless_wrong, wrong_top, read_members, functions_in, reading, read_text}
 use Rattle.pungi_base.specs.Names.{with_text}
+use Rattle.pungi_config.proofs.Parts.{both, left_of, right_of, some_same, ok_same}
 
 -- a parameter of an object may be taken over so
 IsAllowed : Answer → Take → Type 0
@@ -31,21 +32,6 @@ record IsPlain (r : Row) : Type 0 where
   plain : is_plain_form r.form ≡ true
   taking : r.form ≡ form.Plain
   fits : IsTaking r.answer r.params r.takes
-
-both : (a b : Bool) → a ≡ true → b ≡ true → (a && b) ≡ true
-both true b p q = q
-both false b p q = absurd cc
-
-left_of : (a b : Bool) → (a && b) ≡ true → a ≡ true
-left_of true b h = refl
-left_of false b h = h
-
-right_of : (a b : Bool) → (a && b) ≡ true → b ≡ true
-right_of true b h = h
-right_of false b h = absurd cc
-
-some_same : {A : Type 0} (x y : A) → Some x ≡ Some y → x ≡ y
-some_same x y e = ap (λ o. unwrap_or o x) e
 
 choose : {A : Type 0} {P : A → Type 0} (t : Bool) (x y : Option A) (r : A) → (t ≡ true → x ≡ Some r → P r)
     → (t ≡ false → y ≡ Some r → P r) → (if t then x else y) ≡ Some r → P r
@@ -114,13 +100,6 @@ key_plain key d row next h e =
     (λ k3. choose {P = IsPlain} (bytes_eq key (codes "takes_on_success") && has_success row.answer) _ _ next
     (λ k4 taken. of_takes takes.OnSuccess row next d (λ p w. both _ _ w (right_of _ _ k4)) h taken)
     (λ k4 w. absurd cc)))) e
-
-ok_same : {A B : Type 0} (x y : A) → Ok {E = B} x ≡ Ok y → x ≡ y
-ok_same {A} {B} x y e = ap (λ r. value r) e
-  where
-    value : Result A B → A
-    value (Ok z) = z
-    value (Err z) = x
 
 keys_plain : (keys : Members) (row last : Row) → IsPlain row → read_keys row keys ≡ Ok last → IsPlain last
 keys_plain no_members row last h e = subst IsPlain (ok_same row last e) h
