@@ -24,12 +24,12 @@ pub before_on : (names new : List (List ℕ)) (k : String Global) (keys : List (
     → Extends names new → AreBefore names (k ∷ keys) rows → AreBefore new keys rows
 before_on names new k keys [] grown h = tt
 before_on names new k keys (r ∷ rows) grown h =
-    ((h.0.0, (at_extended names new r.0 (string_bytes h.0.0) grown h.0.1.0, h.0.1.1.1)), before_on names new k keys rows grown h.1)
+    ((h.0.0, at_extended names new r.0 (string_bytes h.0.0) grown h.0.1, h.0.2.1), before_on names new k keys rows grown h.1)
 
 pub before_push : (names : List (List ℕ)) (k : String Global) (keys : List (String Global)) (rows : List (ℕ × Row)) (n : ℕ) (row : Row)
     → slice_get names n ≡ Some (string_bytes k) → AllByRecursion (λ y. string_cmp k y ≡ Less) keys → AreBefore names keys rows
     → AreBefore names keys (rows ++ (n, row) ∷ [])
-before_push names k keys [] n row at less h = ((k, (at, less)), tt)
+before_push names k keys [] n row at less h = ((k, at, less), tt)
 before_push names k keys (r ∷ rows) n row at less h = (h.0, before_push names k keys rows n row at less h.1)
 
 -- two names of one number are one name, which isn't before itself
@@ -44,25 +44,30 @@ not_before new t k n a b less =
     less_not_equal : Less ≡ Equal → ⊥
     less_not_equal e = absurd cc
 
-pub none_before : (names new : List (List ℕ)) (k : String Global) (keys : List (String Global)) (rows : List (ℕ × Row)) (n : ℕ)
+pub none_before
+    : (names new : List (List ℕ)) (k : String Global) (keys : List (String Global)) (rows : List (ℕ × Row)) (n : ℕ)
     → Extends names new → slice_get new n ≡ Some (string_bytes k) → AreBefore names (k ∷ keys) rows → row_in rows n ≡ None
 none_before names new k keys [] n grown at h = refl
-none_before names new k keys (r ∷ rows) n grown at h = go (n == r.0) refl
+none_before names new k keys (r ∷ rows) n grown at h = go (n == r.0) refl (none_before names new k keys rows n grown at h.1)
   where
-    go : (t : Bool) → (n == r.0) ≡ t → row_in (r ∷ rows) n ≡ None
-    go false e = rw e (none_before names new k keys rows n grown at h.1)
-    go true e =
-        let there : slice_get new r.0 ≡ Some (string_bytes h.0.0) = at_extended names new r.0 (string_bytes h.0.0) grown h.0.1.0 in
+    go : (t : Bool) → (n == r.0) ≡ t → row_in rows n ≡ None → row_in (r ∷ rows) n ≡ None
+    go false e later = rw e later
+    go true e later =
+        let there : slice_get new r.0 ≡ Some (string_bytes h.0.0)
+        = at_extended names new r.0 (string_bytes h.0.0) grown h.0.1 in
         let same : n ≡ r.0 = eqb-true n r.0 e in
-        absurd (not_before new h.0.0 k n (subst (λ m. slice_get new m ≡ Some (string_bytes h.0.0)) (sym same) there) at h.0.1.1.0)
+        absurd (not_before new h.0.0 k n (subst (λ m. slice_get new m ≡ Some (string_bytes h.0.0)) (sym same) there) at
+        h.0.2.0)
 
-in_last : (rows : List (ℕ × Row)) (r : ℕ × Row) (n : ℕ) → row_in rows n ≡ None → (n == r.0) ≡ false → row_in (rows ++ r ∷ []) n ≡ None
+in_last : (rows : List (ℕ × Row)) (r : ℕ × Row) (n : ℕ) → row_in rows n ≡ None → (n == r.0) ≡ false
+    → row_in (rows ++ r ∷ []) n ≡ None
 in_last [] r n a b = rw b refl
-in_last (x ∷ rows) r n a b = go (n == x.0) refl a
+in_last (x ∷ rows) r n a b = go (n == x.0) refl a (λ f. in_last rows r n f b)
   where
-    go : (t : Bool) → (n == x.0) ≡ t → cond t (Some x.1) (row_in rows n) ≡ None → row_in (x ∷ rows ++ r ∷ []) n ≡ None
-    go true e f = absurd cc
-    go false e f = rw e (in_last rows r n f b)
+    go : (t : Bool) → (n == x.0) ≡ t → cond t (Some x.1) (row_in rows n) ≡ None
+        → (row_in rows n ≡ None → row_in (rows ++ r ∷ []) n ≡ None) → row_in (x ∷ rows ++ r ∷ []) n ≡ None
+    go true e f later = absurd cc
+    go false e f later = rw e (later f)
 
 is_none_from : {A : Type 0} (o : Option A) → o ≡ None → is_none o ≡ true
 is_none_from o e = rw e refl
@@ -71,14 +76,17 @@ none_from : {A : Type 0} (o : Option A) → is_none o ≡ true → o ≡ None
 none_from None h = refl
 none_from (Some x) h = absurd cc
 
-new_from : (rows more : List (ℕ × Row)) (n : ℕ) (row : Row) → are_new rows more ≡ true → row_in rows n ≡ None → row_in more n ≡ None
-    → are_new rows (more ++ (n, row) ∷ []) ≡ true
+new_from : (rows more : List (ℕ × Row)) (n : ℕ) (row : Row) → are_new rows more ≡ true → row_in rows n ≡ None
+    → row_in more n ≡ None → are_new rows (more ++ (n, row) ∷ []) ≡ true
 new_from rows [] n row h a b = both _ _ (is_none_from _ a) refl
-new_from rows (r ∷ more) n row h a b = go (n == r.0) refl b
+new_from rows (r ∷ more) n row h a b =
+    go (n == r.0) refl b (λ e f. new_from (rows ++ r ∷ []) more n row (right_of _ _ h) (in_last rows r n a e) f)
   where
-    go : (t : Bool) → (n == r.0) ≡ t → cond t (Some r.1) (row_in more n) ≡ None → are_new rows (r ∷ more ++ (n, row) ∷ []) ≡ true
-    go true e f = absurd cc
-    go false e f = both _ _ (left_of _ _ h) (new_from (rows ++ r ∷ []) more n row (right_of _ _ h) (in_last rows r n a e) f)
+    go : (t : Bool) → (n == r.0) ≡ t → cond t (Some r.1) (row_in more n) ≡ None
+        → ((n == r.0) ≡ false → row_in more n ≡ None → are_new (rows ++ r ∷ []) (more ++ (n, row) ∷ []) ≡ true)
+        → are_new rows (r ∷ more ++ (n, row) ∷ []) ≡ true
+    go true e f later = absurd cc
+    go false e f later = both _ _ (left_of _ _ h) (later e f)
 
 pub new_push : (rows more : List (ℕ × Row)) (n : ℕ) (row : Row) → are_new rows more ≡ true → is_none (row_in rows n) ≡ true
     → row_in more n ≡ None → are_new rows (more ++ (n, row) ∷ []) ≡ true

@@ -1,13 +1,15 @@
 -- The number of a name among names, and names once one more is among them.
 use Rattle.std.proofs.Common.{◌≡◌, ℕ, zero, suc, ◌+◌, ◌≤◌, Bool, true, false, not, cond, List, [], ◌∷◌, ◌++◌, length, Some}
 use Rattle.std.proofs.Common.{None, Option, refl, sym, ap, subst, ◌∙◌, arith, append-nil, append_assoc, length-append}
-use Rattle.std.proofs.Common.{true≢false}
+use Rattle.std.proofs.Common.{true≢false, one-add}
 use Rattle.std.specs.Prelude.{slice_get, unwrap_or, if◌then◌else◌}
 use Rattle.std.specs.List.{AllByRecursion, IsDistinct, position_or_len}
 use Rattle.std.specs.Str.{bytes_eq}
 use Rattle.std.proofs.lemmas.Slice.Eq.{bytes_eq-Decides}
+use Rattle.pungi_api.specs.declared.row.Row.{Row}
+use Rattle.pungi_base.specs.CWords.{is_c_word}
 use Rattle.pungi_base.specs.Names.{has_text, with_text, AreDistinct, AreNames, Extends}
-use Rattle.pungi_config.specs.Configuration.{number_of}
+use Rattle.pungi_config.specs.Configuration.{number_of, is_free, is_free_number}
 use Rattle.pungi_config.proofs.Parts.{some_same}
 
 pub same_bytes : (a b : List ℕ) → a ≡ b → bytes_eq a b ≡ true
@@ -33,7 +35,7 @@ unfolding IsDistinct
 number_at [] name n d e = absurd cc
 number_at (x ∷ xs) name zero d e = rw (same_bytes name x (sym (some_same x name e))) refl
 number_at (x ∷ xs) name (suc n) d e =
-    rw (turned x name (apart_at x xs n name d.0 e), number_at xs name n d.1 e) refl
+    rw (turned x name (apart_at x xs n name d.0 e), number_at xs name n d.1 e) (one-add n)
 
 number_last : (names : List (List ℕ)) (name : List ℕ) → number_of (names ++ name ∷ []) name ≡ number_of names name
 number_last [] name = rw (same_bytes name name refl) refl
@@ -80,3 +82,13 @@ at_append (y ∷ a) more (suc n) x e = at_append a more n x e
 
 pub at_extended : (a b : List (List ℕ)) (n : ℕ) (x : List ℕ) → Extends a b → slice_get a n ≡ Some x → slice_get b n ≡ Some x
 at_extended a b n x grown e = subst (λ (l : List (List ℕ)). slice_get l n ≡ Some x) (sym grown.1) (at_append a grown.0 n x e)
+
+-- the same for a name that is spelled by a text
+module _ (names new : List (List ℕ)) (name text : List ℕ) (n : ℕ) (same : text ≡ name) (is : new ≡ with_text names text)
+    (distinct : AreNames new) (at : slice_get new n ≡ Some text) where
+  pub number_of_text : n ≡ number_of names name
+  number_of_text = number_is names new text n is distinct at ∙ ap (number_of names) same
+
+  -- whether the name is free, by the number that it has
+  pub free_text : (rows : List (ℕ × Row)) (b : Bool) → is_c_word name ≡ true → b ≡ is_free_number rows n → b ≡ is_free rows names name
+  free_text rows b word e = rw (word, ← number_of_text) e

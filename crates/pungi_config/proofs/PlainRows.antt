@@ -1,7 +1,7 @@
 -- The rows of a configuration are plain, and take over objects alone.
 use Rattle.std.proofs.Common.{◌≡◌, ℕ, zero, suc, Bool, true, false, ◌&&◌, List, [], ◌∷◌, map, Option, Some, None, refl, sym}
 use Rattle.std.proofs.Common.{subst, ap, ◌∙◌, option_map, Result, Ok, Err, codes, is_none}
-use Rattle.std.specs.Prelude.{slice_get, slice_set, if◌then◌else◌, unwrap_or, option_and_then, nat_le, length}
+use Rattle.std.specs.Prelude.{slice_get, slice_set, if◌then◌else◌, unwrap_or, option_and_then, nat_le, length, replicate}
 use Rattle.std.specs.List.{list_all}
 use Rattle.std.specs.Str.{bytes_eq}
 use Rattle.toml.specs.Data.{Data, string, integer, float, boolean, datetime, array, table, Items, no_items, item, Members}
@@ -22,10 +22,10 @@ use Rattle.pungi_base.specs.Names.{with_text}
 use Rattle.pungi_config.proofs.Parts.{both, left_of, right_of, some_same, ok_same}
 
 -- a parameter of an object may be taken over so
-IsAllowed : Answer → Take → Type 0
+abbrev IsAllowed : Answer → Take → Type 0
 IsAllowed a t = (p : Param) → is_object p ≡ true → may_take a p t ≡ true
 
-IsTaking : Answer → List Param → List Take → Type 0
+abbrev IsTaking : Answer → List Param → List Take → Type 0
 IsTaking a ps ts = may_take_all a ps ts ≡ true
 
 record IsPlain (r : Row) : Type 0 where
@@ -33,23 +33,23 @@ record IsPlain (r : Row) : Type 0 where
   taking : r.form ≡ form.Plain
   fits : IsTaking r.answer r.params r.takes
 
-choose : {A : Type 0} {P : A → Type 0} (t : Bool) (x y : Option A) (r : A) → (t ≡ true → x ≡ Some r → P r)
+choose : {A : Type 0} (P : A → Type 0) (t : Bool) (x y : Option A) (r : A) → (t ≡ true → x ≡ Some r → P r)
     → (t ≡ false → y ≡ Some r → P r) → (if t then x else y) ≡ Some r → P r
-choose true x y r p q h = p refl h
-choose false x y r p q h = q refl h
+choose P true x y r p q h = p refl h
+choose P false x y r p q h = q refl h
 
 -- of what a step gives, and the steps after it
-chain : {A B : Type 0} {P : B → Type 0} (f : A → Option B) (o : Option A) (r : B) → ((x : A) → o ≡ Some x → f x ≡ Some r → P r)
+chain : {A B : Type 0} (P : B → Type 0) (f : A → Option B) (o : Option A) (r : B) → ((x : A) → o ≡ Some x → f x ≡ Some r → P r)
     → option_and_then f o ≡ Some r → P r
-chain f None r k h = absurd cc
-chain f (Some x) r k h = k x refl h
+chain P f None r k h = absurd cc
+chain P f (Some x) r k h = k x refl h
 
-mapped : {A B : Type 0} {P : B → Type 0} (f : A → B) (o : Option A) (r : B) → ((x : A) → o ≡ Some x → P (f x))
+mapped : {A B : Type 0} (P : B → Type 0) (f : A → B) (o : Option A) (r : B) → ((x : A) → o ≡ Some x → P (f x))
     → option_map f o ≡ Some r → P r
-mapped f None r k h = absurd cc
-mapped {P} f (Some x) r k h = subst P (some_same (f x) r h) (k x refl)
+mapped P f None r k h = absurd cc
+mapped P f (Some x) r k h = subst P (some_same (f x) r h) (k x refl)
 
-none_taken : (a : Answer) (ps : List Param) → IsTaking a ps (map (λ p. takes.Never) ps)
+none_taken : (a : Answer) (ps : List Param) → IsTaking a ps (replicate (length ps) takes.Never)
 none_taken a [] = refl
 none_taken a (p ∷ ps) = none_taken a ps
 
@@ -63,7 +63,7 @@ taken_there a t (p ∷ ps) (x ∷ ts) (suc n) allowed h e = both _ _ (left_of _ 
 taken_at : (a : Answer) (t : Take) (ps : List Param) (ts us : List Take) (n : ℕ) → IsAllowed a t → IsTaking a ps ts
     → take_at ps t ts n ≡ Some us → IsTaking a ps us
 taken_at a t ps ts us n allowed h e =
-    choose {P = λ vs. IsTaking a ps vs} (is_free_object ps ts n) (Some (slice_set ts n t)) None us
+    choose (λ vs. IsTaking a ps vs) (is_free_object ps ts n) (Some (slice_set ts n t)) None us
     (λ free same. subst (λ vs. IsTaking a ps vs) (some_same _ _ same) (taken_there a t ps ts n allowed h (left_of _ _ free)))
     (λ k w. absurd cc) e
 
@@ -71,14 +71,14 @@ taken_each : (a : Answer) (t : Take) (ps : List Param) (ts us : List Take) (ds :
     → take_each ps t ts ds ≡ Some us → IsTaking a ps us
 taken_each a t ps ts us no_items allowed h e = subst (λ vs. IsTaking a ps vs) (some_same ts us e) h
 taken_each a t ps ts us (item d ds) allowed h e =
-    chain {P = λ vs. IsTaking a ps vs} (λ more. take_each ps t more ds) (take_one ps t ts d) us
+    chain (λ vs. IsTaking a ps vs) (λ more. take_each ps t more ds) (take_one ps t ts d) us
     (λ more one rest. taken_each a t ps more us ds allowed
-    (chain {P = λ vs. IsTaking a ps vs} (take_at ps t ts) (place_of d) more (λ n w at. taken_at a t ps ts more n allowed h at) one) rest) e
+    (chain (λ vs. IsTaking a ps vs) (take_at ps t ts) (place_of d) more (λ n w at. taken_at a t ps ts more n allowed h at) one) rest) e
 
 taken_of : (a : Answer) (t : Take) (ps : List Param) (ts us : List Take) (d : Data) → IsAllowed a t → IsTaking a ps ts
     → takes_of ps t ts d ≡ Some us → IsTaking a ps us
 taken_of a t ps ts us d allowed h e =
-    chain {P = λ vs. IsTaking a ps vs} (take_each ps t ts) (as_array d) us (λ ds w each. taken_each a t ps ts us ds allowed h each) e
+    chain (λ vs. IsTaking a ps vs) (take_each ps t ts) (as_array d) us (λ ds w each. taken_each a t ps ts us ds allowed h each) e
 
 of_parts : (a : Answer) (ps : List Param) → IsPlain (plain_row a ps)
 of_parts a ps = record { plain = refl; taking = refl; fits = none_taken a ps }
@@ -86,28 +86,31 @@ of_parts a ps = record { plain = refl; taking = refl; fits = none_taken a ps }
 of_takes : (t : Take) (row next : Row) (d : Data) → IsAllowed row.answer t → IsPlain row
     → option_map (with_takes row) (takes_of row.params t row.takes d) ≡ Some next → IsPlain next
 of_takes t row next d allowed h e =
-    mapped {P = IsPlain} (with_takes row) (takes_of row.params t row.takes d) next
+    mapped IsPlain (with_takes row) (takes_of row.params t row.takes d) next
     (λ us taken. record { plain = h.plain; taking = h.taking; fits = taken_of row.answer t row.params row.takes us d allowed h.fits taken }) e
 
 key_plain : (key : List ℕ) (d : Data) (row next : Row) → IsPlain row → with_key key d row ≡ Some next → IsPlain next
 key_plain key d row next h e =
-    choose {P = IsPlain} (bytes_eq key (codes "params")) _ _ next
-    (λ k params. mapped {P = IsPlain} (plain_row row.answer) (params_of d) next (λ ps w. of_parts row.answer ps) params)
-    (λ k. choose {P = IsPlain} (bytes_eq key (codes "result")) _ _ next
-    (λ k2 result. mapped {P = IsPlain} (λ a. plain_row a row.params) (answer_of d) next (λ a w. of_parts a row.params) result)
-    (λ k2. choose {P = IsPlain} (bytes_eq key (codes "takes")) _ _ next
+    choose IsPlain (bytes_eq key (codes "params")) _ _ next
+    (λ k params. mapped IsPlain (plain_row row.answer) (params_of d) next (λ ps w. of_parts row.answer ps) params)
+    (λ k. choose IsPlain (bytes_eq key (codes "result")) _ _ next
+    (λ k2 result. mapped IsPlain (λ a. plain_row a row.params) (answer_of d) next (λ a w. of_parts a row.params) result)
+    (λ k2. choose IsPlain (bytes_eq key (codes "takes")) _ _ next
     (λ k3 taken. of_takes takes.Always row next d (λ p w. w) h taken)
-    (λ k3. choose {P = IsPlain} (bytes_eq key (codes "takes_on_success") && has_success row.answer) _ _ next
+    (λ k3. choose IsPlain (bytes_eq key (codes "takes_on_success") && has_success row.answer) _ _ next
     (λ k4 taken. of_takes takes.OnSuccess row next d (λ p w. both _ _ w (right_of _ _ k4)) h taken)
     (λ k4 w. absurd cc)))) e
 
 keys_plain : (keys : Members) (row last : Row) → IsPlain row → read_keys row keys ≡ Ok last → IsPlain last
 keys_plain no_members row last h e = subst IsPlain (ok_same row last e) h
-keys_plain (member key d keys) row last h e = go (with_key key d row) refl e
+keys_plain (member key d keys) row last h e =
+    go (with_key key d row) refl (λ next plain f. keys_plain keys next last plain f) e
   where
-    go : (o : Option Row) → with_key key d row ≡ o → or_wrong key o (λ next. read_keys next keys) ≡ Ok last → IsPlain last
-    go None w f = absurd cc
-    go (Some next) w f = keys_plain keys next last (key_plain key d row next h w) f
+    go : (o : Option Row) → with_key key d row ≡ o
+        → ((next : Row) → IsPlain next → read_keys next keys ≡ Ok last → IsPlain last)
+        → or_wrong key o (λ next. read_keys next keys) ≡ Ok last → IsPlain last
+    go None w later f = absurd cc
+    go (Some next) w later f = later next (key_plain key d row next h w) f
 
 under_plain : (name : List ℕ) (r : Result Row (List ℕ)) (row : Row) → ((x : Row) → r ≡ Ok x → IsPlain x) → under name r ≡ Ok row
     → IsPlain row

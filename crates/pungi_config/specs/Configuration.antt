@@ -5,8 +5,9 @@
 --   path name              a name of a function, as it is reported
 --   read_row name d        the row of a function, if its value is a table with `params` and `result`; or the wrong key
 --   number_of names name   the number of a name among these, or the one that it would have as the next
---   is_free table names name     a word of C that is no keyword, predefined macro, type, static or API call, and of
---                          which the table has no row
+--   is_free_number table number  no keyword, predefined macro, type, static or API call that is known has this number,
+--                          and the table has no row of it
+--   is_free table names name     a word of C whose number is free
 --   read_rows table names functions    the row of each function under the number of its name, or the first wrong key
 --   count, is_function_table d   how many members there are; a table with at most 512
 --   wrong_top members      the first key other than `function`, or `function` itself where it is no such table
@@ -52,9 +53,11 @@ read_row name _ = Err (path name)
 abbrev pub number_of : List (List ℕ) → List ℕ → ℕ
 number_of names name = position_or_len (bytes_eq name) names
 
+abbrev pub is_free_number : List (ℕ × Row) → ℕ → Bool
+is_free_number rows number = nat_le first_free number && is_none (row_in rows number)
+
 abbrev pub is_free : List (ℕ × Row) → List (List ℕ) → List ℕ → Bool
-is_free rows names name =
-    is_c_word name && (nat_le first_free (number_of names name) && is_none (row_in rows (number_of names name)))
+is_free rows names name = is_c_word name && is_free_number rows (number_of names name)
 
 abbrev pub read_function : List (ℕ × Row) → List (List ℕ) → List ℕ → Data → Result Row (List ℕ)
 read_function rows names name d = if is_free rows names name then read_row name d else Err (path name)

@@ -8,7 +8,7 @@
 --                          none where it is another key, or its value is not of that kind
 --   read_keys row keys     the row once all keys are read, or the first wrong key
 --   has_key key keys       the key is there
-use Rattle.std.specs.Prelude.{ℕ, Bool, ◌&&◌, List, [], map, Option, Some, None, option_map, is_some, if◌then◌else◌, codes}
+use Rattle.std.specs.Prelude.{ℕ, Bool, ◌&&◌, List, [], length, replicate, Option, Some, None, option_map, is_some, if◌then◌else◌, codes}
 use Rattle.std.specs.Prelude.{Result, Ok, Err}
 use Rattle.std.specs.Str.{bytes_eq}
 use Rattle.toml.specs.Data.{Data, Members, no_members, member, get_member}
@@ -24,7 +24,7 @@ use Rattle.pungi_config.specs.Words.{answer_of}
 use Rattle.pungi_config.specs.Takes.{params_of, takes_of}
 
 abbrev pub plain_row : Answer → List Param → Row
-plain_row a ps = record { form = form.Plain; params = ps; takes = map (λ p. takes.Never) ps; answer = a }
+plain_row a ps = record { form = form.Plain; params = ps; takes = replicate (length ps) takes.Never; answer = a }
 
 abbrev pub empty_row : Row
 empty_row = plain_row answer.Null []

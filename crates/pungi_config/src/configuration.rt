@@ -1,6 +1,7 @@
 //! The rows that a configuration adds to the table.
 ghost use Rattle.std.specs.Prelude.{◌≡◌, ◌≤◌, ◌<◌, ◌+◌, ◌-◌, ◌^◌, IfOk, IfErr, IfSome, IsTrue, Some, length, map, option_map};
 ghost use Rattle.std.specs.Prelude.{is_none, is_some, slice_get};
+ghost use Rattle.std.specs.List.{list_all};
 ghost use Rattle.toml.specs.View.{view, table_view};
 ghost use Rattle.toml.specs.Data.{get_member};
 ghost use Rattle.pungi_base.specs.CWords.{is_c_word, is_word_byte, is_letter};
@@ -9,7 +10,7 @@ ghost use Rattle.pungi_api.specs.Rows.{are_new, are_plain_rows, named_row, row_i
 ghost use Rattle.pungi_config.specs.Limits.{row_limit};
 ghost use Rattle.pungi_config.specs.Configuration.{Answers, is_free, is_function_table, names_after, number_of, read_function};
 ghost use Rattle.pungi_config.specs.Configuration.{read_members, read_row, read_rows, read_text, with_names, wrong_top};
-ghost use Rattle.pungi_config.specs.Configuration.{IsTextFault, functions_in};
+ghost use Rattle.pungi_config.specs.Configuration.{IsTextFault, functions_in, is_free_number};
 ghost use Rattle.pungi_config.specs.Wrong.{function_read, row_read, rows_read};
 
 use crate::ConfigFault;
@@ -34,11 +35,22 @@ fn is_word_byte(b: u8) -> bool
     is_letter(b) || (b'0' <= b && b <= b'9')
 }
 
+fn are_word_bytes(text: &[u8]) -> bool
+    ensures { result ≡ list_all is_word_byte text.now }
+{
+    for byte in text {
+        if !is_word_byte(*byte) {
+            return false;
+        }
+    }
+    true
+}
+
 fn is_c_word(text: &[u8]) -> bool
     ensures { result ≡ is_c_word text.now }
 {
     match text {
-        [first, rest @ ..] => is_letter(*first) && rest.iter().all(|b| is_word_byte(*b)),
+        [first, rest @ ..] => is_letter(*first) && are_word_bytes(rest),
         [] => false,
     }
 }
@@ -71,6 +83,12 @@ fn read_row<'a>(
     }
 }
 
+fn is_free_number(table: &Table, number: Name) -> bool
+    ensures { result ≡ is_free_number table.now number.0 }
+{
+    OB_BASE <= number.0 && table.row(number).is_none()
+}
+
 /// The number of a name, if it is free for a row.
 fn free_number(
     alloc: Global,
@@ -91,10 +109,11 @@ fn free_number(
         return Ok(None);
     }
     let number = names.number(alloc, name.as_bytes())?;
-    if number.0 < OB_BASE || table.row(number).is_some() {
-        return Ok(None);
+    if is_free_number(table, number) {
+        Ok(Some(number))
+    } else {
+        Ok(None)
     }
-    Ok(Some(number))
 }
 
 /// The row of a function under its number, or the wrong key.

@@ -1,8 +1,7 @@
 //! The keys that describe one function.
-ghost use Rattle.std.specs.Prelude.{◌≡◌, IfOk, map, option_map};
+ghost use Rattle.std.specs.Prelude.{◌≡◌, IfOk, option_map};
 ghost use Rattle.toml.specs.View.{view, table_view};
 ghost use Rattle.pungi_api.specs.Rows.{has_success};
-ghost use Rattle.pungi_api.specs.declared.take.Take.TheVariants.{Never};
 ghost use Rattle.pungi_config.specs.Keys.{plain_row, empty_row, with_key, read_keys, with_takes};
 ghost use Rattle.pungi_config.specs.Wrong.{keys_read};
 ghost use Rattle.pungi_config.specs.Takes.{takes_of};
@@ -14,20 +13,10 @@ use pungi_base::{Memory, Seq};
 use std::alloc::Global;
 use toml::{Table, Value};
 
-fn none_taken(alloc: Global, params: &[Param]) -> Result<Seq<Take>, Memory>
-    ensures { IfOk result (λ takes. takes ≡ map (λ p. Never) params.now) }
-{
-    let mut takes = Seq::new(Vec::new(alloc));
-    for _ in params {
-        takes.push(Take::Never)?;
-    }
-    Ok(takes)
-}
-
 fn plain_row(alloc: Global, answer: Answer, params: Seq<Param>) -> Result<Row, Memory>
     ensures { IfOk result (λ row. row ≡ plain_row answer params) }
 {
-    let takes = none_taken(alloc, params.as_slice())?;
+    let takes = Seq::new(vec![in alloc; Take::Never; params.len()]?);
     Ok(Row {
         form: Form::Plain,
         params,
