@@ -1,8 +1,8 @@
 -- The rows of a configuration are new: each name has a number of its own, since the names ascend.
-use Rattle.std.proofs.Common.{◌≡◌, ℕ, ◌==◌, Bool, true, false, ◌&&◌, cond, List, [], ◌∷◌, ◌++◌, Option, Some, None, refl, sym}
-use Rattle.std.proofs.Common.{subst, ap, ◌∙◌, is_none, String, Global, string_bytes, string_cmp, Ordering, Less, Equal}
+use Rattle.std.proofs.Common.{◌≡◌, ℕ, ◌==◌, Bool, true, false, cond, List, [], ◌∷◌, ◌++◌, Option, Some, None, refl, sym}
+use Rattle.std.proofs.Common.{subst, ◌∙◌, is_none, String, Global, string_bytes, string_cmp, Less, Equal}
 use Rattle.std.proofs.Common.{eqb-true, nat_cmp}
-use Rattle.std.specs.Prelude.{slice_get, unwrap_or}
+use Rattle.std.specs.Prelude.{slice_get}
 use Rattle.std.specs.List.{AllByRecursion}
 use Rattle.std.specs.Cmp.{tied_itself}
 use Rattle.std.specs.Cmp.Lexicographic.{slice_cmp}
@@ -15,7 +15,9 @@ use Rattle.pungi_config.proofs.Parts.{both, left_of, right_of, some_same}
 
 -- the number is that of a name before all of these
 abbrev pub StandsBefore : List (List ℕ) → List (String Global) → ℕ → Type 0
-StandsBefore names keys n = (t : String Global) × (slice_get names n ≡ Some (string_bytes t)) × AllByRecursion (λ k. string_cmp t k ≡ Less) keys
+StandsBefore names keys n =
+    (t : String Global) × (slice_get names n ≡ Some (string_bytes t))
+    × AllByRecursion (λ k. string_cmp t k ≡ Less) keys
 
 abbrev pub AreBefore : List (List ℕ) → List (String Global) → List (ℕ × Row) → Type 0
 AreBefore names keys rows = AllByRecursion (λ r. StandsBefore names keys r.0) rows
@@ -23,11 +25,16 @@ AreBefore names keys rows = AllByRecursion (λ r. StandsBefore names keys r.0) r
 pub before_on : (names new : List (List ℕ)) (k : String Global) (keys : List (String Global)) (rows : List (ℕ × Row))
     → Extends names new → AreBefore names (k ∷ keys) rows → AreBefore new keys rows
 before_on names new k keys [] grown h = tt
-before_on names new k keys (r ∷ rows) grown h =
-    ((h.0.0, at_extended names new r.0 (string_bytes h.0.0) grown h.0.1, h.0.2.1), before_on names new k keys rows grown h.1)
+before_on names new k keys (r ∷ rows) grown h = (
+  (h.0.0, at_extended names new r.0 (string_bytes h.0.0) grown h.0.1, h.0.2.1),
+  before_on names new k keys rows
+      grown h.1,
+)
 
-pub before_push : (names : List (List ℕ)) (k : String Global) (keys : List (String Global)) (rows : List (ℕ × Row)) (n : ℕ) (row : Row)
-    → slice_get names n ≡ Some (string_bytes k) → AllByRecursion (λ y. string_cmp k y ≡ Less) keys → AreBefore names keys rows
+pub before_push : (names : List (List ℕ)) (k : String Global) (keys : List (String Global)) (rows : List (ℕ × Row))
+    (n : ℕ) (row : Row)
+    → slice_get names n ≡ Some (string_bytes k) → AllByRecursion (λ y. string_cmp k y ≡ Less) keys
+    → AreBefore names keys rows
     → AreBefore names keys (rows ++ (n, row) ∷ [])
 before_push names k keys [] n row at less h = ((k, at, less), tt)
 before_push names k keys (r ∷ rows) n row at less h = (h.0, before_push names k keys rows n row at less h.1)
@@ -46,9 +53,11 @@ not_before new t k n a b less =
 
 pub none_before
     : (names new : List (List ℕ)) (k : String Global) (keys : List (String Global)) (rows : List (ℕ × Row)) (n : ℕ)
-    → Extends names new → slice_get new n ≡ Some (string_bytes k) → AreBefore names (k ∷ keys) rows → row_in rows n ≡ None
+    → Extends names new → slice_get new n ≡ Some (string_bytes k) → AreBefore names (k ∷ keys) rows
+    → row_in rows n ≡ None
 none_before names new k keys [] n grown at h = refl
-none_before names new k keys (r ∷ rows) n grown at h = go (n == r.0) refl (none_before names new k keys rows n grown at h.1)
+none_before names new k keys (r ∷ rows) n grown at h =
+    go (n == r.0) refl (none_before names new k keys rows n grown at h.1)
   where
     go : (t : Bool) → (n == r.0) ≡ t → row_in rows n ≡ None → row_in (r ∷ rows) n ≡ None
     go false e later = rw e later
@@ -88,6 +97,7 @@ new_from rows (r ∷ more) n row h a b =
     go true e f later = absurd cc
     go false e f later = both _ _ (left_of _ _ h) (later e f)
 
-pub new_push : (rows more : List (ℕ × Row)) (n : ℕ) (row : Row) → are_new rows more ≡ true → is_none (row_in rows n) ≡ true
+pub new_push : (rows more : List (ℕ × Row)) (n : ℕ) (row : Row) → are_new rows more ≡ true
+    → is_none (row_in rows n) ≡ true
     → row_in more n ≡ None → are_new rows (more ++ (n, row) ∷ []) ≡ true
 new_push rows more n row h a b = new_from rows more n row h (none_from _ a) b

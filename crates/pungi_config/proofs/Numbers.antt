@@ -1,9 +1,10 @@
 -- The number of a name among names, and names once one more is among them.
-use Rattle.std.proofs.Common.{◌≡◌, ℕ, zero, suc, ◌+◌, ◌≤◌, Bool, true, false, not, cond, List, [], ◌∷◌, ◌++◌, length, Some}
-use Rattle.std.proofs.Common.{None, Option, refl, sym, ap, subst, ◌∙◌, arith, append-nil, append_assoc, length-append}
+use Rattle.std.proofs.Common.{◌≡◌, ℕ, zero, suc, ◌+◌, ◌≤◌, Bool, true, false, not, cond, List, [], ◌∷◌, ◌++◌, length}
+use Rattle.std.proofs.Common.{Some}
+use Rattle.std.proofs.Common.{refl, sym, ap, subst, ◌∙◌, arith, append-nil, append_assoc, length-append}
 use Rattle.std.proofs.Common.{true≢false, one-add}
-use Rattle.std.specs.Prelude.{slice_get, unwrap_or, if◌then◌else◌}
-use Rattle.std.specs.List.{AllByRecursion, IsDistinct, position_or_len}
+use Rattle.std.specs.Prelude.{slice_get, if◌then◌else◌}
+use Rattle.std.specs.List.{AllByRecursion, IsDistinct}
 use Rattle.std.specs.Str.{bytes_eq}
 use Rattle.std.proofs.lemmas.Slice.Eq.{bytes_eq-Decides}
 use Rattle.pungi_api.specs.declared.row.Row.{Row}
@@ -69,7 +70,8 @@ extends_with names new name is = subst (λ (l : List (List ℕ)). Extends names 
     go false = (name ∷ [], refl)
 
 pub few_with : (names new : List (List ℕ)) (name : List ℕ) → new ≡ with_text names name → length new ≤ length names + 1
-few_with names new name is = subst (λ (l : List (List ℕ)). length l ≤ length names + 1) (sym is) (go (has_text names name))
+few_with names new name is =
+    subst (λ (l : List (List ℕ)). length l ≤ length names + 1) (sym is) (go (has_text names name))
   where
     go : (t : Bool) → length (if t then names else names ++ name ∷ []) ≤ length names + 1
     go true = omega arith
@@ -80,8 +82,10 @@ at_append [] more n x e = absurd cc
 at_append (y ∷ a) more zero x e = e
 at_append (y ∷ a) more (suc n) x e = at_append a more n x e
 
-pub at_extended : (a b : List (List ℕ)) (n : ℕ) (x : List ℕ) → Extends a b → slice_get a n ≡ Some x → slice_get b n ≡ Some x
-at_extended a b n x grown e = subst (λ (l : List (List ℕ)). slice_get l n ≡ Some x) (sym grown.1) (at_append a grown.0 n x e)
+pub at_extended : (a b : List (List ℕ)) (n : ℕ) (x : List ℕ) → Extends a b → slice_get a n ≡ Some x
+    → slice_get b n ≡ Some x
+at_extended a b n x grown e =
+    subst (λ (l : List (List ℕ)). slice_get l n ≡ Some x) (sym grown.1) (at_append a grown.0 n x e)
 
 -- the same for a name that is spelled by a text
 module _ (names new : List (List ℕ)) (name text : List ℕ) (n : ℕ) (same : text ≡ name) (is : new ≡ with_text names text)
@@ -90,5 +94,6 @@ module _ (names new : List (List ℕ)) (name text : List ℕ) (n : ℕ) (same : 
   number_of_text = number_is names new text n is distinct at ∙ ap (number_of names) same
 
   -- whether the name is free, by the number that it has
-  pub free_text : (rows : List (ℕ × Row)) (b : Bool) → is_c_word name ≡ true → b ≡ is_free_number rows n → b ≡ is_free rows names name
+  pub free_text : (rows : List (ℕ × Row)) (b : Bool) → is_c_word name ≡ true → b ≡ is_free_number rows n
+      → b ≡ is_free rows names name
   free_text rows b word e = rw (word, ← number_of_text) e

@@ -1,5 +1,5 @@
 -- Parts of a conjunction, and of `Some` and `Ok`.
-use Rattle.std.proofs.Common.{◌≡◌, Bool, true, false, ◌&&◌, Some, None, Ok, Err, Option, Result, IfOk, refl, ap, subst}
+use Rattle.std.proofs.Common.{◌≡◌, Bool, true, false, ◌&&◌, Some, Ok, Err, Result, IfOk, refl, ap, subst}
 use Rattle.std.specs.Prelude.{unwrap_or}
 use mathlib.Core.Path.{Path}
 

@@ -1,11 +1,11 @@
 -- The rows of a configuration are plain, and take over objects alone.
-use Rattle.std.proofs.Common.{◌≡◌, ℕ, zero, suc, Bool, true, false, ◌&&◌, List, [], ◌∷◌, map, Option, Some, None, refl, sym}
-use Rattle.std.proofs.Common.{subst, ap, ◌∙◌, option_map, Result, Ok, Err, codes, is_none}
-use Rattle.std.specs.Prelude.{slice_get, slice_set, if◌then◌else◌, unwrap_or, option_and_then, nat_le, length, replicate}
-use Rattle.std.specs.List.{list_all}
+use Rattle.std.proofs.Common.{◌≡◌, ℕ, zero, suc, Bool, true, false, ◌&&◌, List, [], ◌∷◌, Option, Some, None, refl}
+use Rattle.std.proofs.Common.{subst, option_map, Result, Ok, Err, codes}
+use Rattle.std.specs.Prelude.{slice_get, slice_set, if◌then◌else◌, option_and_then, length, replicate}
 use Rattle.std.specs.Str.{bytes_eq}
-use Rattle.toml.specs.Data.{Data, string, integer, float, boolean, datetime, array, table, Items, no_items, item, Members}
-use Rattle.toml.specs.Data.{no_members, member, as_array, get_member}
+use Rattle.toml.specs.Data.{Data, string, integer, float, boolean, datetime, array, table, Items, no_items, item}
+use Rattle.toml.specs.Data.{Members}
+use Rattle.toml.specs.Data.{no_members, member, as_array}
 use Rattle.pungi_api.specs.declared.param.Param.{Param}
 use Rattle.pungi_api.specs.declared.take.Take.{Take}
 use Rattle.pungi_api.specs.declared.take.Take.TheVariants as takes
@@ -13,11 +13,13 @@ use Rattle.pungi_api.specs.declared.answer.Answer.{Answer}
 use Rattle.pungi_api.specs.declared.row.Form.TheVariants as form
 use Rattle.pungi_api.specs.declared.row.Row.{Row}
 use Rattle.pungi_api.specs.Rows.{is_object, has_success, may_take, may_take_all, is_plain_form, is_row, are_plain_rows}
-use Rattle.pungi_config.specs.Takes.{passes, is_free_object, take_at, take_one, take_each, takes_of, place_of, params_of}
+use Rattle.pungi_config.specs.Takes.{passes, is_free_object, take_at, take_one, take_each, takes_of, place_of}
+use Rattle.pungi_config.specs.Takes.{params_of}
 use Rattle.pungi_config.specs.Words.{answer_of}
 use Rattle.pungi_config.specs.Keys.{plain_row, empty_row, with_takes, with_key, or_wrong, read_keys, has_key}
-use Rattle.pungi_config.specs.Configuration.{under, read_row, is_free, read_function, with_row, read_rows, number_of, path}
-use Rattle.pungi_config.specs.Configuration.{unless_wrong, wrong_top, read_members, functions_in, reading, read_text}
+use Rattle.pungi_config.specs.Configuration.{under, read_row, is_free, read_function, with_row, read_rows, number_of}
+use Rattle.pungi_config.specs.Configuration.{path}
+use Rattle.pungi_config.specs.Configuration.{unless_wrong, wrong_top, read_members, functions_in}
 use Rattle.pungi_base.specs.Names.{with_text}
 use Rattle.pungi_config.proofs.Parts.{both, left_of, right_of, some_same, ok_same}
 
@@ -39,7 +41,8 @@ choose P true x y r p q h = p refl h
 choose P false x y r p q h = q refl h
 
 -- of what a step gives, and the steps after it
-chain : {A B : Type 0} (P : B → Type 0) (f : A → Option B) (o : Option A) (r : B) → ((x : A) → o ≡ Some x → f x ≡ Some r → P r)
+chain : {A B : Type 0} (P : B → Type 0) (f : A → Option B) (o : Option A) (r : B)
+    → ((x : A) → o ≡ Some x → f x ≡ Some r → P r)
     → option_and_then f o ≡ Some r → P r
 chain P f None r k h = absurd cc
 chain P f (Some x) r k h = k x refl h
@@ -58,27 +61,32 @@ taken_there : (a : Answer) (t : Take) (ps : List Param) (ts : List Take) (n : �
 taken_there a t [] ts n allowed h e = absurd cc
 taken_there a t (p ∷ ps) [] n allowed h e = absurd cc
 taken_there a t (p ∷ ps) (x ∷ ts) zero allowed h e = both _ _ (allowed p e) (right_of _ _ h)
-taken_there a t (p ∷ ps) (x ∷ ts) (suc n) allowed h e = both _ _ (left_of _ _ h) (taken_there a t ps ts n allowed (right_of _ _ h) e)
+taken_there a t (p ∷ ps) (x ∷ ts) (suc n) allowed h e =
+    both _ _ (left_of _ _ h) (taken_there a t ps ts n allowed (right_of _ _ h) e)
 
 taken_at : (a : Answer) (t : Take) (ps : List Param) (ts us : List Take) (n : ℕ) → IsAllowed a t → IsTaking a ps ts
     → take_at ps t ts n ≡ Some us → IsTaking a ps us
 taken_at a t ps ts us n allowed h e =
     choose (λ vs. IsTaking a ps vs) (is_free_object ps ts n) (Some (slice_set ts n t)) None us
-    (λ free same. subst (λ vs. IsTaking a ps vs) (some_same _ _ same) (taken_there a t ps ts n allowed h (left_of _ _ free)))
+    (λ free same. subst (λ vs. IsTaking a ps vs) (some_same _ _ same) (taken_there a t ps ts n allowed h
+    (left_of _ _ free)))
     (λ k w. absurd cc) e
 
-taken_each : (a : Answer) (t : Take) (ps : List Param) (ts us : List Take) (ds : Items) → IsAllowed a t → IsTaking a ps ts
+taken_each : (a : Answer) (t : Take) (ps : List Param) (ts us : List Take) (ds : Items) → IsAllowed a t
+    → IsTaking a ps ts
     → take_each ps t ts ds ≡ Some us → IsTaking a ps us
 taken_each a t ps ts us no_items allowed h e = subst (λ vs. IsTaking a ps vs) (some_same ts us e) h
 taken_each a t ps ts us (item d ds) allowed h e =
     chain (λ vs. IsTaking a ps vs) (λ more. take_each ps t more ds) (take_one ps t ts d) us
     (λ more one rest. taken_each a t ps more us ds allowed
-    (chain (λ vs. IsTaking a ps vs) (take_at ps t ts) (place_of d) more (λ n w at. taken_at a t ps ts more n allowed h at) one) rest) e
+    (chain (λ vs. IsTaking a ps vs) (take_at ps t ts) (place_of d) more (λ n w at. taken_at a t ps ts more n allowed
+    h at) one) rest) e
 
 taken_of : (a : Answer) (t : Take) (ps : List Param) (ts us : List Take) (d : Data) → IsAllowed a t → IsTaking a ps ts
     → takes_of ps t ts d ≡ Some us → IsTaking a ps us
 taken_of a t ps ts us d allowed h e =
-    chain (λ vs. IsTaking a ps vs) (take_each ps t ts) (as_array d) us (λ ds w each. taken_each a t ps ts us ds allowed h each) e
+    chain (λ vs. IsTaking a ps vs) (take_each ps t ts) (as_array d) us (λ ds w each. taken_each a t ps ts us ds
+    allowed h each) e
 
 of_parts : (a : Answer) (ps : List Param) → IsPlain (plain_row a ps)
 of_parts a ps = record { plain = refl; taking = refl; fits = none_taken a ps }
@@ -87,7 +95,12 @@ of_takes : (t : Take) (row next : Row) (d : Data) → IsAllowed row.answer t →
     → option_map (with_takes row) (takes_of row.params t row.takes d) ≡ Some next → IsPlain next
 of_takes t row next d allowed h e =
     mapped IsPlain (with_takes row) (takes_of row.params t row.takes d) next
-    (λ us taken. record { plain = h.plain; taking = h.taking; fits = taken_of row.answer t row.params row.takes us d allowed h.fits taken }) e
+    (λ us taken. record {
+      plain = h.plain;
+      taking = h.taking;
+      fits = taken_of row.answer t row.params row.takes us d
+          allowed h.fits taken;
+    }) e
 
 key_plain : (key : List ℕ) (d : Data) (row next : Row) → IsPlain row → with_key key d row ≡ Some next → IsPlain next
 key_plain key d row next h e =
@@ -112,7 +125,8 @@ keys_plain (member key d keys) row last h e =
     go None w later f = absurd cc
     go (Some next) w later f = later next (key_plain key d row next h w) f
 
-under_plain : (name : List ℕ) (r : Result Row (List ℕ)) (row : Row) → ((x : Row) → r ≡ Ok x → IsPlain x) → under name r ≡ Ok row
+under_plain : (name : List ℕ) (r : Result Row (List ℕ)) (row : Row) → ((x : Row) → r ≡ Ok x → IsPlain x)
+    → under name r ≡ Ok row
     → IsPlain row
 under_plain name (Ok x) row k e = subst IsPlain (ok_same x row e) (k x refl)
 under_plain name (Err key) row k e = absurd cc
@@ -147,17 +161,20 @@ with_row_plain : (n : ℕ) (r : Result Row (List ℕ)) (more : Result (List (ℕ
 with_row_plain n (Err key) more found k ks e = absurd cc
 with_row_plain n (Ok row) (Err key) found k ks e = absurd cc
 with_row_plain n (Ok row) (Ok more) found k ks e =
-    subst (λ xs. are_plain_rows xs ≡ true) (ok_same ((n, row) ∷ more) found e) (both _ _ (plain_is row (k row refl)) (ks more refl))
+    subst (λ xs. are_plain_rows xs ≡ true) (ok_same ((n, row) ∷ more) found e)
+    (both _ _ (plain_is row (k row refl)) (ks more refl))
 
 rows_plain : (functions : Members) (rows : List (ℕ × Row)) (names : List (List ℕ)) (found : List (ℕ × Row))
     → read_rows rows names functions ≡ Ok found → are_plain_rows found ≡ true
 rows_plain no_members rows names found e = subst (λ xs. are_plain_rows xs ≡ true) (ok_same [] found e) refl
 rows_plain (member name d functions) rows names found e =
-    with_row_plain (number_of names name) (read_function rows names name d) (read_rows rows (with_text names name) functions) found
+    with_row_plain (number_of names name) (read_function rows names name d)
+    (read_rows rows (with_text names name) functions) found
     (λ x w. function_plain rows names name d x w) (λ xs w. rows_plain functions rows (with_text names name) xs w) e
 
 unless_plain : (wrong : Option (List ℕ)) (r : Result (List (ℕ × Row)) (List ℕ)) (found : List (ℕ × Row))
-    → ((xs : List (ℕ × Row)) → r ≡ Ok xs → are_plain_rows xs ≡ true) → unless_wrong wrong r ≡ Ok found → are_plain_rows found ≡ true
+    → ((xs : List (ℕ × Row)) → r ≡ Ok xs → are_plain_rows xs ≡ true) → unless_wrong wrong r ≡ Ok found
+    → are_plain_rows found ≡ true
 unless_plain None r found k e = k found e
 unless_plain (Some key) r found k e = absurd cc
 

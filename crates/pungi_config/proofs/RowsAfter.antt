@@ -1,6 +1,7 @@
 -- The rows of functions, read from the front: what one more function does.
-use Rattle.std.proofs.Common.{◌≡◌, ℕ, List, [], ◌∷◌, ◌++◌, map, Result, Ok, Err, refl, sym, ap, ◌∙◌, append_assoc, String, subst}
-use Rattle.std.proofs.Common.{Global, string_bytes, string_cmp, Less, IfOk, IsTrue, is_none, Some}
+use Rattle.std.proofs.Common.{◌≡◌, ℕ, List, [], ◌∷◌, ◌++◌, map, Result, Ok, Err, refl, sym, ap, ◌∙◌, append_assoc}
+use Rattle.std.proofs.Common.{String, subst}
+use Rattle.std.proofs.Common.{Global, string_bytes, string_cmp, Less, IsTrue, is_none, Some}
 use Rattle.std.specs.Prelude.{slice_get}
 use Rattle.std.specs.List.{AllByRecursion}
 use Rattle.std.specs.List.Sorted.{IsStrictlySortedBy}
@@ -13,10 +14,7 @@ use Rattle.pungi_base.specs.declared.names.Name.{Name}
 use Rattle.pungi_api.specs.declared.row.Row.{Row}
 use Rattle.pungi_api.specs.Rows.{named_row, are_new, row_in}
 use Rattle.pungi_config.specs.Configuration.{with_row, read_rows, read_function, number_of, with_names}
-use Rattle.pungi_config.specs.Wrong.{function_read}
-use Rattle.pungi_config.specs.declared.wrong.Wrong.{Wrong}
 use Rattle.pungi_config.proofs.NewRows.{AreBefore, before_on, before_push, none_before, new_push}
-use Rattle.pungi_config.proofs.Parts.{of_ok}
 
 abbrev Entry : Type 0
 Entry = String Global × Value
@@ -65,7 +63,8 @@ module _ (table : List (ℕ × Row)) (names new : List (List ℕ)) (entry : Entr
   unfolding IsStrictlySortedBy
   sorted_on h = subst (λ l. IsStrictlySortedBy string_cmp (keys_of l)) steps h
 
-  keys_on : AreBefore names (keys_of it) (map named_row rows) → AreBefore names (entry.0 ∷ keys_of rest) (map named_row rows)
+  keys_on : AreBefore names (keys_of it) (map named_row rows)
+      → AreBefore names (entry.0 ∷ keys_of rest) (map named_row rows)
   keys_on h = subst (λ l. AreBefore names (keys_of l) (map named_row rows)) steps h
 
   pub before_next : Extends names new → slice_get new r.0.0 ≡ Some (string_bytes entry.0)

@@ -7,7 +7,8 @@
 --   Asked                  a file, with a configuration or without one; or a trial
 --   asked                  what is asked for where these are given, if that is one of the two
 --   is_accepted            the command accepts the words
---   asked_of words         what the words of a call ask for, if the command accepts them and they ask for one of the two
+--   asked_of words         what the words of a call ask for, if the command accepts them and they ask for one of the
+--                          two
 --   ask s                  what these settings ask for
 --   IsFaultOf kind fault   the fault of a refusal of `clap`, by its kind
 --   AnswersAsked, Answers  the settings where something is asked for, and refused words where nothing is

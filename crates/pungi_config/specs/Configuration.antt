@@ -16,7 +16,7 @@
 --   reading                that of a text, if it is a text of TOML
 --   with_names, names_after      the names once those of the functions are among them
 --   Answers                the rows, or the cause of a refusal
-use Rattle.std.specs.Prelude.{◌≡◌, ℕ, suc, Bool, true, false, not, ◌&&◌, List, [], ◌∷◌, ◌++◌, map, Option, Some, None}
+use Rattle.std.specs.Prelude.{◌≡◌, ℕ, suc, Bool, false, ◌&&◌, List, [], ◌∷◌, ◌++◌, map, Option, Some, None}
 use Rattle.std.specs.Prelude.{option_map, is_none, if◌then◌else◌, nat_le, codes, string_bytes, Result, Ok, Err, Vec}
 use Rattle.std.specs.List.{position_or_len}
 use Rattle.std.specs.declared.alloc.Global.{Global}

@@ -8,7 +8,8 @@
 --                          none where it is another key, or its value is not of that kind
 --   read_keys row keys     the row once all keys are read, or the first wrong key
 --   has_key key keys       the key is there
-use Rattle.std.specs.Prelude.{ℕ, Bool, ◌&&◌, List, [], length, replicate, Option, Some, None, option_map, is_some, if◌then◌else◌, codes}
+use Rattle.std.specs.Prelude.{ℕ, Bool, ◌&&◌, List, [], length, replicate, Option, Some, None, option_map, is_some}
+use Rattle.std.specs.Prelude.{if◌then◌else◌, codes}
 use Rattle.std.specs.Prelude.{Result, Ok, Err}
 use Rattle.std.specs.Str.{bytes_eq}
 use Rattle.toml.specs.Data.{Data, Members, no_members, member, get_member}

@@ -9,7 +9,7 @@
 --                          for each that the values of a list number; none where one of them numbers no object
 --                          parameter, or one of which something is stated already
 --   takes_of               the same for a value: for a list of them
-use Rattle.std.specs.Prelude.{ℕ, zero, suc, ℤ, pos, Bool, true, false, ◌&&◌, List, [], ◌∷◌, length, Option, Some, None}
+use Rattle.std.specs.Prelude.{ℕ, suc, pos, Bool, true, false, ◌&&◌, List, [], ◌∷◌, length, Option, Some, None}
 use Rattle.std.specs.Prelude.{option_and_then, if◌then◌else◌, nat_le, slice_get, slice_set}
 use Rattle.toml.specs.Data.{Data, integer, Items, no_items, item, as_array}
 use Rattle.pungi_api.specs.declared.param.Param.{Param}

@@ -1,5 +1,6 @@
 //! The rows that a configuration adds to the table.
-ghost use Rattle.std.specs.Prelude.{◌≡◌, ◌≤◌, ◌<◌, ◌+◌, ◌-◌, ◌^◌, IfOk, IfErr, IfSome, IsTrue, Some, length, map, option_map};
+ghost use Rattle.std.specs.Prelude.{◌≡◌, ◌≤◌, ◌<◌, ◌+◌, ◌-◌, ◌^◌, IfOk, IfErr, IfSome, IsTrue, Some, length, map};
+ghost use Rattle.std.specs.Prelude.{option_map};
 ghost use Rattle.std.specs.Prelude.{is_none, is_some, slice_get};
 ghost use Rattle.std.specs.List.{list_all};
 ghost use Rattle.toml.specs.View.{view, table_view};
@@ -8,7 +9,8 @@ ghost use Rattle.pungi_base.specs.CWords.{is_c_word, is_word_byte, is_letter};
 ghost use Rattle.pungi_base.specs.Names.{Extends, with_text};
 ghost use Rattle.pungi_api.specs.Rows.{are_new, are_plain_rows, named_row, row_in};
 ghost use Rattle.pungi_config.specs.Limits.{row_limit};
-ghost use Rattle.pungi_config.specs.Configuration.{Answers, is_free, is_function_table, names_after, number_of, read_function};
+ghost use Rattle.pungi_config.specs.Configuration.{Answers, is_free, is_function_table, names_after, number_of};
+ghost use Rattle.pungi_config.specs.Configuration.{read_function};
 ghost use Rattle.pungi_config.specs.Configuration.{read_members, read_row, read_rows, read_text, with_names, wrong_top};
 ghost use Rattle.pungi_config.specs.Configuration.{IsTextFault, functions_in, is_free_number};
 ghost use Rattle.pungi_config.specs.Wrong.{function_read, row_read, rows_read};
