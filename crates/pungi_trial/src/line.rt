@@ -12,7 +12,7 @@ fn push_pieces(text: &mut String, k: u32, pieces: &[&str]) -> Result<(), Memory>
         ++ pieces_text (decimal k) (map (λ p. p.now) pieces.now)) }
 {
     for piece in pieces {
-        write!(text, "{}", k.saturating_add(1))?;
+        write!(text, "{k}")?;
         text.push_str(piece)?;
     }
     Ok(())
