@@ -1,4 +1,3 @@
-pub mod Limits
 pub mod Lines
 pub mod Pieces
 pub mod Text

@@ -1,5 +1,4 @@
-ghost use Rattle.std.specs.Prelude.{◌≡◌, ◌≤◌, IfOk};
-ghost use Rattle.pungi_trial.specs.Limits.{trial_limit};
+ghost use Rattle.std.specs.Prelude.{◌≡◌, IfOk};
 ghost use Rattle.pungi_trial.specs.Text.{trial_text};
 
 use crate::line::push_line;
@@ -8,8 +7,6 @@ use std::alloc::Global;
 
 /// The text of a trial of `n` functions: an include line, and a line for each function.
 pub fn trial_text(alloc: Global, n: u32) -> Result<Vec<u8>, Memory>
-    requires some { 1 ≤ n }
-    requires few { n ≤ trial_limit }
     ensures { IfOk result (λ text. text.items ≡ trial_text n) }
 {
     let mut text = String::from_str(alloc, "#include <Python.h>\n")?;
