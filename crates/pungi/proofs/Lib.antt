@@ -3,3 +3,4 @@ pub mod Fronts
 pub mod LeftToRead
 pub mod Named
 pub mod Sound
+pub mod Statuses
