@@ -1,7 +1,11 @@
 -- How each status comes about.
 use Rattle.std.proofs.Common.{◌≡◌, ◌≢◌, ◌⊎◌, inl, inr, ⊎_elim, ℕ, zero, suc, ◌≤◌, ◌<◌, List, [], ◌∷◌, ◌++◌, length, refl}
 use Rattle.std.proofs.Common.{Option, Some, None, sym, subst, ap, ◌∙◌, append_assoc, append-nil, arith}
+use Rattle.std.specs.Prelude.{Result, Ok, Err, IfOk}
+use Rattle.pungi_api.specs.Rows.{builtin_rows}
+use Rattle.pungi_api.specs.declared.row.Row.{Row}
 use Rattle.pungi_base.specs.Shelf.{Rose}
+use Rattle.pungi_base.specs.Words.{builtin_words}
 use Rattle.pungi_config.specs.Command.{Asked, file, trial}
 use Rattle.pungi_config.specs.Limits.{config_limit}
 use Rattle.pungi_trial.specs.Text.{trial_text}
@@ -17,6 +21,17 @@ use Rattle.pungi.specs.Read.{IsFront, IsWhole}
 use Rattle.pungi.specs.Shelves.{Stand}
 use Rattle.pungi.specs.Status.{all_clean, some_faulty, some_open, words_refused, file_unread, file_refused}
 use Rattle.pungi.specs.Status.{config_refused, memory_wanted}
+
+-- what holds of a result in two ways
+pub both : {T E : Type 0} (r : Result T E) (P Q : T → Type 0) → IfOk r P → IfOk r Q → IfOk r (λ x. P x × Q x)
+both (Ok x) P Q p q = (p, q)
+both (Err e) P Q p q = tt
+
+pub api_of_manual : (names : List (List ℕ)) (rows : List (ℕ × Row)) → names ≡ builtin_words → rows ≡ builtin_rows
+    → ◌≡◌ {A = Api} (record { names = names; rows = rows }) builtin_api
+api_of_manual names rows a b =
+    let api : List (List ℕ) → List (ℕ × Row) → Api = λ n r. record { names = n; rows = r } in
+    ap (λ n. api n rows) a ∙ ap (λ r. api builtin_words r) b
 
 pub low_reported : (status : ℕ) → status ≤ some_open → IsReported status
 low_reported zero low = inl refl
@@ -135,10 +150,12 @@ file_answers first middle last config api name earlier status answer known given
 pub config_answers : (first middle last : Stand) (name config text : List ℕ) (status : ℕ) (answer : List ℕ)
     → middle.texts ≡ first.texts → middle.given ≡ first.given ++ config ∷ [] → middle.faults ≡ first.faults
     → IsWhole first.texts middle.rest config middle.gave → length middle.gave ≤ config_limit → text ≡ middle.gave
-    → IsConfigAnswer text name first.texts middle.rest last.rest middle.gave last.gave middle.given last.given
+    → IsConfigAnswer text name middle.texts middle.rest last.rest middle.gave last.gave middle.given last.given
     middle.faults last.faults status answer
     → Answers first middle last (asked_file name (Some config)) status answer
-config_answers first middle last name config text status answer texts given steady whole short same is =
+config_answers first middle last name config text status answer texts given steady whole short same found =
+    let is = subst (λ (ts : Option (List ℕ → Option (List ℕ))). IsConfigAnswer text name ts middle.rest last.rest
+    middle.gave last.gave middle.given last.given middle.faults last.faults status answer) texts found in
     ⊎_elim (λ (r : (status ≡ config_refused)
     × IsUntouched middle.rest last.rest middle.gave last.gave middle.given last.given middle.faults last.faults
     × ((reason : List ℕ) × IsWrong text reason × (answer ≡ wrong_text reason))).

@@ -89,8 +89,8 @@ pub(crate) fn report_answer(
     lines: &[(Name, Verdict)],
 ) -> Result<Answer, Memory>
     requires { All (IsLine names.now) lines.now }
-    ensures low { IfOk result (λ a. a.status ≤ some_open) }
-    ensures report { IfOk result (λ a. IsReportOn names.now lines.now a.status a.text.items) }
+    ensures { IfOk result (λ a. (a.status ≤ some_open)
+        × IsReportOn names.now lines.now a.status a.text.items) }
 {
     report_is_read_back();
     Ok(Answer {
@@ -142,9 +142,8 @@ pub(crate) fn trial_answer(
     n: u32,
     lines: &[(Name, Verdict)],
 ) -> Result<Answer, Memory>
-    ensures low { IfOk result (λ a. a.status ≤ some_open) }
-    ensures counted { IfOk result (λ a. a.status ≡ status_of lines.now) }
-    ensures printed { IfOk result (λ a. a.text.items ≡ trial_report n lines.now) }
+    ensures { IfOk result (λ a. (a.status ≤ some_open) × (a.status ≡ status_of lines.now)
+        × (a.text.items ≡ trial_report n lines.now)) }
 {
     Ok(Answer {
         status: status_of(lines),

@@ -3,17 +3,16 @@ use Rattle.pungi.proofs.Sound.{low_status}
 use Rattle.pungi.specs.Status.{some_open}
 use Rattle.pungi.proofs.lines.report_answer.Goals as goal
 
-pub returns-clause-low : goal.returns-clause-low
-returns-clause-low c =
-    subst (λ (n : ℕ). n ≤ some_open) (sym c.status_of.ensures) (low_status c.args.lines.now)
-
-pub returns-clause-report : goal.returns-clause-report
-returns-clause-report c = record {
-  counted = c.status_of.ensures;
-  printed = c.in_ok-report.ensures.text;
-  readable = c.requires;
-  fits = c.in_ok-report.ensures.fits;
-  only = λ others more named small same.
-      c.report_is_read_back.ensures c.args.names.now others c.args.lines.now more c.requires named
-      c.in_ok-report.ensures.fits small (sym c.in_ok-report.ensures.text ∙ same);
-}
+pub returns : goal.returns
+returns c = (
+  subst (λ (n : ℕ). n ≤ some_open) (sym c.status_of.ensures) (low_status c.args.lines.now),
+  record {
+    counted = c.status_of.ensures;
+    printed = c.in_ok-report.ensures.text;
+    readable = c.requires;
+    fits = c.in_ok-report.ensures.fits;
+    only = λ others more named small same.
+        c.report_is_read_back.ensures c.args.names.now others c.args.lines.now more c.requires named
+        c.in_ok-report.ensures.fits small (sym c.in_ok-report.ensures.text ∙ same);
+  },
+)
