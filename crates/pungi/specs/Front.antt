@@ -42,13 +42,13 @@ use Rattle.pungi.specs.declared.file_fault.FileFault.{FileFault}
 use Rattle.pungi.specs.declared.file_fault.FileFault.TheVariants as fault
 
 pub record IsUnitOf (words : List (List ℕ)) (text : List ℕ) (names : List (List ℕ)) (items : List Item) : Type 0
-    where
-  pub tokens : List Token
-  pub expanded : List Token
-  pub cut : AreTokensOf words names text tokens
-  pub replaced : IsExpanded (length names) tokens expanded
-  pub shallow : too_deep 0 (placed expanded) ≡ None
-  pub unit : IsUnit items (placed expanded)
+  where
+    pub tokens : List Token
+    pub expanded : List Token
+    pub cut : AreTokensOf words names text tokens
+    pub replaced : IsExpanded (length names) tokens expanded
+    pub shallow : too_deep 0 (placed expanded) ≡ None
+    pub unit : IsUnit items (placed expanded)
 
 abbrev pub IsNoUnit : List (List ℕ) → List ℕ → Type 0
 IsNoUnit words text = (names : List (List ℕ)) → (items : List Item) → IsUnitOf words text names items → ⊥

@@ -8,8 +8,7 @@ use std::alloc::Global;
 use std::test::Fail;
 
 /// A function that calls one that the manual's table lacks.
-const CALLER: &str =
-    "PyObject *f(void) { return PyErr_NewException(\"a.b\", NULL, NULL); }";
+const CALLER: &str = "PyObject *f(void) { return PyErr_NewException(\"a.b\", NULL, NULL); }";
 
 const EXCEPTION: &str = concat!(
     "[function.PyErr_NewException]\n",
@@ -73,7 +72,12 @@ const ACCEPTED: &[(&str, &str, u8, &str)] = &[
         2,
         "refused f 1:6 N0\n",
     ),
-    (EXCEPTION, "int PyErr_NewException;", 6, "file refused 1:5 duplicate name\n"),
+    (
+        EXCEPTION,
+        "int PyErr_NewException;",
+        6,
+        "file refused 1:5 duplicate name\n",
+    ),
 ];
 
 #[test]
@@ -91,7 +95,10 @@ fn accepted(rt: HostRuntime) -> Result<(), Fail> {
 const REFUSED: &[(&[u8], &str)] = &[
     (b"a = ", "not TOML"),
     (b"a = 1\na = 2\n", "not TOML"),
-    (b"[function.f]\nparams = []\nparams = []\nresult = \"new\"\n", "not TOML"),
+    (
+        b"[function.f]\nparams = []\nparams = []\nresult = \"new\"\n",
+        "not TOML",
+    ),
     (b"a = \"\xff\"\n", "not TOML"),
     (b"a = 1\n\0", "not TOML"),
     (b"b = 1\na = 1\n", "a"),
@@ -100,25 +107,70 @@ const REFUSED: &[(&[u8], &str)] = &[
     (b"[function]\nf = 1\n", "function.f"),
     (b"[function.f]\nparams = []\n", "function.f"),
     (b"[function.f]\nresult = \"new\"\n", "function.f"),
-    (b"[function.\"a b\"]\nparams = []\nresult = \"new\"\n", "function.a b"),
-    (b"[function.int]\nparams = []\nresult = \"new\"\n", "function.int"),
-    (b"[function.PyObject]\nparams = []\nresult = \"new\"\n", "function.PyObject"),
-    (b"[function.Py_RETURN_NONE]\nparams = []\nresult = \"new\"\n", "function.Py_RETURN_NONE"),
-    (b"[function.Py_None]\nparams = []\nresult = \"new\"\n", "function.Py_None"),
-    (b"[function.PyList_New]\nparams = []\nresult = \"new\"\n", "function.PyList_New"),
-    (b"[function.Py_INCREF]\nparams = []\nresult = \"new\"\n", "function.Py_INCREF"),
-    (b"[function.f]\nparams = []\nresult = \"gift\"\n", "function.f.result"),
-    (b"[function.f]\nparams = []\nresult = 1\n", "function.f.result"),
-    (b"[function.f]\nparams = \"object\"\nresult = \"new\"\n", "function.f.params"),
-    (b"[function.f]\nparams = [\"thing\"]\nresult = \"new\"\n", "function.f.params"),
+    (
+        b"[function.\"a b\"]\nparams = []\nresult = \"new\"\n",
+        "function.a b",
+    ),
+    (
+        b"[function.int]\nparams = []\nresult = \"new\"\n",
+        "function.int",
+    ),
+    (
+        b"[function.PyObject]\nparams = []\nresult = \"new\"\n",
+        "function.PyObject",
+    ),
+    (
+        b"[function.Py_RETURN_NONE]\nparams = []\nresult = \"new\"\n",
+        "function.Py_RETURN_NONE",
+    ),
+    (
+        b"[function.Py_None]\nparams = []\nresult = \"new\"\n",
+        "function.Py_None",
+    ),
+    (
+        b"[function.PyList_New]\nparams = []\nresult = \"new\"\n",
+        "function.PyList_New",
+    ),
+    (
+        b"[function.Py_INCREF]\nparams = []\nresult = \"new\"\n",
+        "function.Py_INCREF",
+    ),
+    (
+        b"[function.f]\nparams = []\nresult = \"gift\"\n",
+        "function.f.result",
+    ),
+    (
+        b"[function.f]\nparams = []\nresult = 1\n",
+        "function.f.result",
+    ),
+    (
+        b"[function.f]\nparams = \"object\"\nresult = \"new\"\n",
+        "function.f.params",
+    ),
+    (
+        b"[function.f]\nparams = [\"thing\"]\nresult = \"new\"\n",
+        "function.f.params",
+    ),
     (
         b"[function.f]\nparams = [\"int\", \"int\", \"int\", \"int\", \"int\", \"int\", \"int\", \"int\", \"int\"]\nresult = \"new\"\n",
         "function.f.params",
     ),
-    (b"[function.f]\nargs = []\nparams = []\nresult = \"new\"\n", "function.f.args"),
-    (b"[function.f]\nparams = [\"object\"]\nresult = \"new\"\ntakes = [0]\n", "function.f.takes"),
-    (b"[function.f]\nparams = [\"object\"]\nresult = \"new\"\ntakes = [2]\n", "function.f.takes"),
-    (b"[function.f]\nparams = [\"object\"]\nresult = \"new\"\ntakes = [1, 1]\n", "function.f.takes"),
+    (
+        b"[function.f]\nargs = []\nparams = []\nresult = \"new\"\n",
+        "function.f.args",
+    ),
+    (
+        b"[function.f]\nparams = [\"object\"]\nresult = \"new\"\ntakes = [0]\n",
+        "function.f.takes",
+    ),
+    (
+        b"[function.f]\nparams = [\"object\"]\nresult = \"new\"\ntakes = [2]\n",
+        "function.f.takes",
+    ),
+    (
+        b"[function.f]\nparams = [\"object\"]\nresult = \"new\"\ntakes = [1, 1]\n",
+        "function.f.takes",
+    ),
     (
         b"[function.f]\nparams = [\"object\"]\nresult = \"new\"\ntakes = [1]\ntakes_on_success = [1]\n",
         "function.f.takes_on_success",

@@ -27,12 +27,7 @@ use pungi_config::{CONFIG_LIMIT, limits_are_those_stated, rows};
 use std::alloc::Global;
 
 /// The answer to a text within the limit: the report on its functions, or why it is refused.
-fn answer_to(
-    alloc: Global,
-    names: &mut Names,
-    rows: &Table,
-    text: &[u8],
-) -> Result<Answer, Memory>
+fn answer_to(alloc: Global, names: &mut Names, rows: &Table, text: &[u8]) -> Result<Answer, Memory>
     requires limit { length text.now ≤ file_limit }
     requires words { BeginWithWords names.old }
     requires room { length names.old < 2 ^ 31 }
@@ -101,8 +96,11 @@ fn with_rows<F: Shelf>(
     requires room { length names.old < 2 ^ 31 }
     requires new { IsTrue (are_new table (map named_row more.items)) }
     requires rows { IsTrue (are_plain_rows (map named_row more.items)) }
-    ensures answer { IfOk result (λ a. IsFileAnswer (record { names = names.old; rows = table
-        ++ map named_row more.items }) file.now (F.texts shelf.old) (F.rest shelf.new) (F.gave shelf.new)
+    ensures answer { IfOk result (λ a. IsFileAnswer (record {
+      names = names.old;
+      rows = table
+          ++ map named_row more.items;
+    }) file.now (F.texts shelf.old) (F.rest shelf.new) (F.gave shelf.new)
         (F.faults shelf.old) (F.faults shelf.new) a.status a.text.items) }
     ensures given { OnOk result (F.given shelf.new ≡ F.given shelf.old ++ file.now ∷ []) }
     ensures memory { OnErr result (IsGiven (F.given shelf.old) file.now (F.given shelf.new)) }

@@ -12,8 +12,16 @@ use std::test::Fail;
 const TRIALS: &[(&str, u8, &str)] = &[
     ("1", 0, "trial 1 clean 1 faulty 0 unknown 0 refused 0\n"),
     ("10", 1, "trial 10 clean 2 faulty 2 unknown 0 refused 6\n"),
-    ("1000", 1, "trial 1000 clean 200 faulty 200 unknown 0 refused 600\n"),
-    ("2000", 1, "trial 2000 clean 400 faulty 400 unknown 0 refused 1200\n"),
+    (
+        "1000",
+        1,
+        "trial 1000 clean 200 faulty 200 unknown 0 refused 600\n",
+    ),
+    (
+        "2000",
+        1,
+        "trial 2000 clean 400 faulty 400 unknown 0 refused 1200\n",
+    ),
 ];
 
 fn is_told(alloc: Global, number: &str, status: u8, line: &str) -> Result<bool, Memory> {
