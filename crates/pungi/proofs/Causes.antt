@@ -128,7 +128,7 @@ no_refusal : (first middle last : Stand) (asked : Option Asked) (answer : List �
     (names : List (List ℕ)) (items : List Item) → IsRefusalFor first middle last asked answer
     → IsApiText asked first.texts api → IsFileText asked first.texts last.gave text → length text ≤ file_limit
     → IsFile api text names items → ⊥
-no_refusal first middle last None answer api text names items is known told short file = is
+no_refusal first middle last None answer api text names items is known told short spelled = is
 no_refusal first middle last (Some (file name config)) answer api text names items (other, configured, is) known told
     short spelled =
     let one : api ≡ other = same_api first middle name config api other known configured in

@@ -1,6 +1,7 @@
 -- What a configuration makes known, and why one is refused.
-use Rattle.std.proofs.Common.{◌≡◌, inl, inr, ℕ, ◌<◌, ◌^◌, List, ◌++◌, length, take, Option, Some, None, refl, sym, subst, ap}
-use Rattle.std.proofs.Common.{◌∙◌, arith}
+use Rattle.std.proofs.Common.{◌≡◌, inl, inr, ℕ, ◌≤◌, List, ◌++◌, length, take, Option, Some, None, refl, sym, subst, ap}
+use Rattle.std.proofs.Common.{◌∙◌, arith, length-take}
+use Rattle.std.proofs.lemmas.List.{take-append-le}
 use Rattle.std.specs.Prelude.{Result, Ok, Err, string_bytes, map}
 use Rattle.pungi_api.specs.Rows.{builtin_rows}
 use Rattle.pungi_api.specs.declared.row.Row.{Row}
@@ -39,3 +40,11 @@ wrong_for text names rows (Shape key) reason a b is told =
     (subst (λ (n : List (List ℕ)). reading builtin_rows n text ≡ Some (Err (string_bytes key))) a
     (subst (λ (r : List (ℕ × Row)). reading r names text ≡ Some (Err (string_bytes key))) b is)))
 wrong_for text names rows Memory reason a b is told = absurd (cc)
+
+-- a list that begins with the words still does once more stands after it
+pub begins_on : (old new : List (List ℕ)) → BeginWithWords old → Extends old new → BeginWithWords new
+begins_on old new is (more, grew) =
+    let many : length (take (length builtin_words) old) ≡ length builtin_words = ap length is in
+    let long : length builtin_words ≤ length old = omega (arith, many, length-take (length builtin_words) old) in
+    subst (λ (l : List (List ℕ)). take (length builtin_words) l ≡ builtin_words) (sym grew)
+    (take-append-le (length builtin_words) old more long ∙ is)

@@ -14,8 +14,8 @@
 --   trial_report n lines          the line of a trial of n functions
 --   IsTrialOf P n status line     the line of a trial on the text of that trial, and the status that goes with the
 --                                 verdicts
-use Rattle.std.specs.Prelude.{◌≡◌, ℕ, Bool, true, false, List, ◌++◌, length, codes, if◌then◌else◌}
-use Rattle.std.specs.List.{All, AllZip, filter, list_any}
+use Rattle.std.specs.Prelude.{◌≡◌, ℕ, Bool, true, false, List, ◌++◌, codes, count_by, if◌then◌else◌}
+use Rattle.std.specs.List.{All, AllZip, list_any}
 use Rattle.std.specs.Fmt.{decimal}
 use Rattle.pungi_base.specs.declared.names.Name.{Name}
 use Rattle.pungi_base.specs.declared.verdict.Verdict.{Verdict}
@@ -100,7 +100,7 @@ is_refused (verdict.Unknown why) = false
 is_refused (verdict.Refused at rule) = true
 
 abbrev pub count : (Verdict → Bool) → List (Name × Verdict) → ℕ
-count test lines = length (filter (λ line. test line.1) lines)
+count test lines = count_by (λ line. test line.1) lines
 
 abbrev pub trial_report : ℕ → List (Name × Verdict) → List ℕ
 trial_report n lines =

@@ -21,8 +21,8 @@ returns-in-Ok c =
       },
     )) c.report_answer.ensures
 
-pub returns : goal.returns
-returns c =
+pub returns-in-Err : goal.returns-in-Err
+returns-in-Err c =
     let api : Api = record { names = c.args.names.now; rows = c.args.rows.now } in
     IfOk-weaker c.refusal_answer.result _ _ (λ a h.
     inr (h.0, refused_as api c.args.text.now c.in-Err.fault a.text.items c.in-Err.ensures.fault h.1))

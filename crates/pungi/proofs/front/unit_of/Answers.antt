@@ -2,7 +2,12 @@ use Rattle.std.proofs.Common.{inl, ap}
 use Rattle.std.specs.Prelude.{Err}
 use Rattle.pungi.proofs.Fronts.{err_same, ok_is_no_err, lexed, ready, lex_refused, macro_refused, parse_refused}
 use Rattle.pungi.proofs.Fronts.{is_unit, known_kinds, only_items}
+use Rattle.pungi.proofs.Configured.{begins_on}
 use Rattle.pungi.proofs.front.unit_of.Goals as goal
+
+pub expand-requires-clause-words : goal.expand-requires-clause-words
+expand-requires-clause-words c =
+    begins_on c.args.names.now c.lex.new.names c.requires.words c.lex.ensures.grows
 
 pub returns-in-Err-clause-fault : goal.returns-in-Err-clause-fault
 returns-in-Err-clause-fault c =

@@ -3,6 +3,7 @@ use Rattle.std.specs.Prelude.{string_bytes}
 use Rattle.pungi_config.specs.Command.{asked_of}
 use Rattle.pungi.proofs.Causes.{config_is_refused, file_is_refused, file_judged, words_are_refused}
 use Rattle.pungi.proofs.Sound.{sound_answer}
+use Rattle.pungi.specs.Shelves.{stand_of}
 use Rattle.pungi.proofs.top.pungi.Goals as goal
 
 pub returns-in-Ok-write_all-clause-config : goal.returns-in-Ok-write_all-clause-config
@@ -29,7 +30,12 @@ pub returns-in-Ok-write_all-clause-sound : goal.returns-in-Ok-write_all-clause-s
 returns-in-Ok-write_all-clause-sound g c = λ reported. (
   c.in-Ok.ensures.answer.0,
   c.in-Ok.answer.text.items,
-  sound_answer _ _ _ (asked_of (map string_bytes c.args.words.now)) c.in-Ok.answer.status
+  sound_answer
+      (stand_of g.F.Shelf.texts g.F.Shelf.rest g.F.Shelf.gave g.F.Shelf.given g.F.Shelf.faults c.args.shelf.now)
+      (stand_of g.F.Shelf.texts g.F.Shelf.rest g.F.Shelf.gave g.F.Shelf.given g.F.Shelf.faults
+          c.in-Ok.ensures.answer.0)
+      (stand_of g.F.Shelf.texts g.F.Shelf.rest g.F.Shelf.gave g.F.Shelf.given g.F.Shelf.faults c.decide.new.shelf)
+      (asked_of (map string_bytes c.args.words.now)) c.in-Ok.answer.status
       c.in-Ok.answer.text.items (c.in-Ok.ensures.answer.1.report reported),
   c.in-Ok-write_all.ensures.ok ∙ ap (λ (text : List ℕ). g.O.Sink.taken c.args.out.now ++ text) c.deref.ensures.value,
 )
