@@ -1,5 +1,6 @@
 //! What is written of verdicts, and the status that goes with them.
-ghost use Rattle.std.specs.Prelude.{◌≡◌, ◌≤◌, IfOk, string_bytes};
+ghost use Rattle.std.specs.Prelude.{◌≡◌, ◌≤◌, ◌++◌, IfOk, OnOk, string_bytes};
+ghost use Rattle.std.specs.Fmt.{decimal};
 ghost use Rattle.std.specs.List.{All, list_any};
 ghost use Rattle.pungi_report.specs.Text.{IsLine};
 ghost use Rattle.pungi.specs.Examine.{IsReportOn, count, is_clean, is_faulty, is_open, is_refused, is_unknown};
@@ -11,6 +12,7 @@ use crate::status::{ALL_CLEAN, SOME_FAULTY, SOME_OPEN};
 use pungi_base::{Memory, Name, Names, Verdict};
 use pungi_report::{report, report_is_read_back};
 use std::alloc::Global;
+use std::fmt::Write;
 
 fn is_clean(verdict: &Verdict) -> bool
     ensures { result ≡ is_clean verdict.now }
@@ -123,17 +125,26 @@ fn refusals(lines: &[(Name, Verdict)]) -> usize
     lines.iter().filter(|line| is_refused(&line.1)).count()
 }
 
+/// Adds a word and a number.
+fn push_count(text: &mut String, word: &str, count: usize) -> Result<(), Memory>
+    ensures { OnOk result (string_bytes text.new ≡ string_bytes text.old ++ word.now ++ decimal count) }
+{
+    text.push_str(word)?;
+    write!(text, "{count}")?;
+    Ok(())
+}
+
 /// The line of a trial of so many functions.
 fn trial_line(alloc: Global, n: u32, lines: &[(Name, Verdict)]) -> Result<String, Memory>
     ensures { IfOk result (λ line. string_bytes line ≡ trial_report n lines.now) }
 {
-    let clean = cleans(lines);
-    let faulty = faults(lines);
-    let unknown = unknowns(lines);
-    let refused = refusals(lines);
-    Ok(format!(in alloc;
-        "trial {n} clean {clean} faulty {faulty} unknown {unknown} refused {refused}\n"
-    )?)
+    let mut text = format!(in alloc; "trial {n}")?;
+    push_count(&mut text, " clean ", cleans(lines))?;
+    push_count(&mut text, " faulty ", faults(lines))?;
+    push_count(&mut text, " unknown ", unknowns(lines))?;
+    push_count(&mut text, " refused ", refusals(lines))?;
+    text.push_str("\n")?;
+    Ok(text)
 }
 
 /// The line of a trial of so many functions with these verdicts, with the status that goes with them.
