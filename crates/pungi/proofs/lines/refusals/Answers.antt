@@ -1,4 +1,4 @@
-use Rattle.std.proofs.Common.{◌∙◌, Bool, rules}
+use Rattle.std.proofs.Common.{◌∙◌, rules}
 use Rattle.std.proofs.lemmas.Iterator.{YieldsList-from_slice}
 use Rattle.std.proofs.lemmas.Iterator.Consumers.{YieldsList-at, YieldsList-from_filter, count_from_yields_List}
 use Rattle.std.proofs.lemmas.List.Sums.{length-filter}
@@ -9,7 +9,7 @@ use Rattle.pungi.proofs.lines.refusals.Goals as goal
 
 pub returns : goal.returns
 returns c =
-    let test : Name × Verdict → Bool = λ line. is_refused line.1 in
-    count_from_yields_List c.filter.result _ c.count.ensures.ran (YieldsList-from_filter _ test
+    count_from_yields_List c.filter.result _ c.count.ensures.ran (YieldsList-from_filter _
+    (λ (line : Name × Verdict). is_refused line.1)
     (YieldsList-at c.filter.ensures.source (YieldsList-from_slice c.args.lines.now (cc))) c.filter.ensures.closure
-    (λ x b q k. search rules)) ∙ length-filter test c.args.lines.now
+    (λ x b q k. search rules)) ∙ length-filter (λ (line : Name × Verdict). is_refused line.1) c.args.lines.now
