@@ -1,4 +1,4 @@
-use Rattle.std.proofs.Common.{inl, inr, ◌≡◌, ◌∙◌, subst, ap, ℕ, ◌≤◌, List, length, arith}
+use Rattle.std.proofs.Common.{inl, inr, ◌∙◌, subst, ap, ℕ, ◌≤◌, List, length, arith}
 use Rattle.std.proofs.lemmas.Grind.{common_steps}
 use Rattle.std.proofs.lemmas.Result.{IfOk-weaker}
 use Rattle.pungi_base.specs.declared.names.Name.{Name}
