@@ -1,0 +1,37 @@
+use Rattle.std.proofs.Common.{ℕ, List, subst, sym, ◌≡◌, arith}
+use Rattle.std.proofs.lemmas.Result.{IfErr-weaker, IfOk-weaker}
+use Rattle.pungi.proofs.Statuses.{config_answers, opened_after, opened_before, opened_config, opened_for_config}
+use Rattle.pungi.specs.Shelves.{stand_of}
+use Rattle.pungi.proofs.file.configured.Goals as goal
+
+pub returns-in_err-text-clause-unasked : goal.returns-in_err-text-clause-unasked
+returns-in_err-text-clause-unasked g c =
+    IfErr-weaker c.from_residual.result _ _ (λ e h. ?) (search rules)
+
+pub returns-in-Text-clause-answer : goal.returns-in-Text-clause-answer
+returns-in-Text-clause-answer g c =
+    let loaded = rw c.in-Text.is at c.in_ok-text.ensures.loaded in
+    IfOk-weaker c.with_config.result _ _ (λ a h.
+    (
+      c.load.new.shelf,
+      config_answers _ _ _ c.args.file.now c.args.config.now c.deref.result.now a.status a.text.items
+          c.in_ok-text.ensures.texts c.in_ok-text.ensures.given loaded.3 loaded.1 loaded.2 ? h,
+    )) c.with_config.ensures.answer
+
+pub returns-in-Long-clause-asked : goal.returns-in-Long-clause-asked
+returns-in-Long-clause-asked g c =
+    IfOk-weaker c.wrong_answer.result _ _ (λ a h.
+    let is = h.0 in
+    opened_config c.args.file.now c.args.config.now a.status (g.F.Shelf.given c.args.shelf.now)
+    (g.F.Shelf.given c.load.new.shelf) c.in_ok-text.ensures.given (omega (arith, is)) (λ k. omega (arith, is, k)))
+    c.wrong_answer.ensures
+
+pub returns-in-Long-clause-unasked : goal.returns-in-Long-clause-unasked
+returns-in-Long-clause-unasked g c = ?
+
+pub returns-in-Unread-clause-asked : goal.returns-in-Unread-clause-asked
+returns-in-Unread-clause-asked g c =
+    let loaded = rw c.in-Unread.is at c.in_ok-text.ensures.loaded in
+    let is = loaded.0 in
+    opened_config c.args.file.now c.args.config.now c.in-Unread.answer.status (g.F.Shelf.given c.args.shelf.now)
+    (g.F.Shelf.given c.load.new.shelf) c.in_ok-text.ensures.given (omega (arith, is)) (λ k. omega (arith, is, k))
