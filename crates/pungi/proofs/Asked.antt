@@ -1,7 +1,7 @@
 -- What the words of a call ask for, and what was opened and answered for it.
-use Rattle.std.proofs.Common.{◌≡◌, ◌⊎◌, ⊎_elim, ℕ, ◌≤◌, List, [], length, refl, Option, Some, None, sym, subst, ap, ◌∙◌}
+use Rattle.std.proofs.Common.{◌≡◌, ◌⊎◌, ⊎_elim, ℕ, ◌≤◌, List, length, refl, Option, Some, None, sym, subst, ap, ◌∙◌}
 use Rattle.std.proofs.Common.{String, Global, string_bytes, arith}
-use Rattle.pungi_config.specs.Command.{Asked, ask, file, trial}
+use Rattle.pungi_config.specs.Command.{Asked, ask, trial}
 use Rattle.pungi_config.specs.declared.asked.Settings.{Settings}
 use Rattle.pungi_config.specs.declared.asked.Settings.TheVariants.{File, Trial}
 use Rattle.pungi_trial.specs.Text.{trial_text}
@@ -12,7 +12,7 @@ use Rattle.pungi.specs.Examine.{IsTrialOf}
 use Rattle.pungi.specs.Limits.{file_limit}
 use Rattle.pungi.specs.Shelves.{Stand}
 use Rattle.pungi.specs.Status.{some_open, file_refused}
-use Rattle.pungi.proofs.Statuses.{opened_none, refusal_answers, report_answers}
+use Rattle.pungi.proofs.Statuses.{opened_none}
 
 -- a file without a configuration is asked for
 pub plainly_asked : (asked : Option Asked) (found : Settings) (f : String Global) (config : Option (String Global))

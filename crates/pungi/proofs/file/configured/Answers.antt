@@ -14,14 +14,13 @@ returns-in_err-text-clause-unasked g c =
 pub returns-in-Text-clause-answer : goal.returns-in-Text-clause-answer
 returns-in-Text-clause-answer g c =
     let loaded = rw c.in-Text.is at c.in_ok-text.ensures.loaded in
-    IfOk-weaker c.with_config.result _ _ (λ a h.
-    (
+    IfOk-weaker c.with_config.result _ _ (λ a h. (
       c.load.new.shelf,
       config_answers
           (stand_of g.F.Shelf.texts g.F.Shelf.rest g.F.Shelf.gave g.F.Shelf.given g.F.Shelf.faults c.args.shelf.now)
           (stand_of g.F.Shelf.texts g.F.Shelf.rest g.F.Shelf.gave g.F.Shelf.given g.F.Shelf.faults c.load.new.shelf)
           (stand_of g.F.Shelf.texts g.F.Shelf.rest g.F.Shelf.gave g.F.Shelf.given g.F.Shelf.faults
-              c.with_config.new.shelf)
+          c.with_config.new.shelf)
           c.args.file.now c.args.config.now c.deref.result.now a.status a.text.items
           c.in_ok-text.ensures.texts c.in_ok-text.ensures.given loaded.3 loaded.1 loaded.2
           (c.deref.ensures.value ∙ loaded.0) h,
