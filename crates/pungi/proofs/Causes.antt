@@ -1,22 +1,21 @@
 -- Each status comes where its cause holds.
-use Rattle.std.proofs.Common.{◌≡◌, ◌⊎◌, inl, inr, ⊎_elim, ℕ, ◌≤◌, ◌<◌, List, [], ◌++◌, length, Option, Some, None, subst}
-use Rattle.std.proofs.Common.{Result, Ok, Err, refl, sym, ap, ◌∙◌, arith, length-append}
-use Rattle.pungi_api.specs.declared.row.Row.{Row}
+use Rattle.std.proofs.Common.{◌≡◌, ◌⊎◌, inl, inr, ⊎_elim, ℕ, ◌≤◌, ◌<◌, List, [], ◌++◌, length, Option, Some, None}
+use Rattle.std.proofs.Common.{subst, sym, ap, ◌∙◌, arith, length-append}
 use Rattle.pungi_config.specs.Command.{Asked, file, trial}
 use Rattle.pungi_config.specs.Limits.{config_limit}
 use Rattle.pungi_trial.specs.Text.{trial_text}
 use Rattle.pungi_tree.specs.Syntax.{Item}
 use Rattle.pungi_verdict.specs.Verdicts.{IsJudged}
-use Rattle.pungi.specs.Answer.{Answers, IsApiFor, IsConfigRead, IsConfigRefusal, IsFileRefusal, IsReported}
+use Rattle.pungi.specs.Answer.{Answers, IsApiFor, IsReported}
 use Rattle.pungi.specs.Answer.{IsReportFor, IsRefusalFor, IsOpened, long_text}
-use Rattle.pungi.specs.Api.{Api, IsConfigured, IsNoConfiguration, IsWrong, builtin_api, text_reason, wrong_text}
+use Rattle.pungi.specs.Api.{Api, IsConfigured, IsNoConfiguration, IsWrong, builtin_api, wrong_text}
 use Rattle.pungi.specs.Api.{long_reason}
 use Rattle.pungi.specs.Causes.{IsApiText, IsConfigText, IsFileText, IsRefusedConfig, IsRefusedText}
 use Rattle.pungi.specs.Front.{IsFile, IsNoFile, IsRefusedAs}
 use Rattle.pungi.specs.Limits.{file_limit}
 use Rattle.pungi.specs.Read.{IsFront, IsWhole}
 use Rattle.pungi.specs.Shelves.{Stand}
-use Rattle.pungi.specs.Status.{all_clean, some_faulty, some_open, words_refused, file_unread, file_refused}
+use Rattle.pungi.specs.Status.{words_refused, file_unread, file_refused}
 use Rattle.pungi.specs.Status.{config_refused}
 
 -- a text of a shelf that shows its texts is what was given of it, whole
@@ -40,7 +39,8 @@ longer_text : (name : List ℕ) (config : Option (List ℕ)) (texts : Option (Li
     (gave text : List ℕ) → IsFileText (Some (file name config)) texts gave text
     → IsFront texts name gave → file_limit < length gave → file_limit < length text
 longer_text name config None gave text is front long = rw is.1 long
-longer_text name config (Some texts) gave text is front long = longer_front texts name gave text file_limit is front long
+longer_text name config (Some texts) gave text is front long =
+    longer_front texts name gave text file_limit is front long
 
 -- a configuration makes one API known
 one_api : (text : List ℕ) (api other : Api) → IsConfigured text api → IsConfigured text other → api ≡ other

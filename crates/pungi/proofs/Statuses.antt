@@ -1,19 +1,18 @@
 -- How each status comes about.
-use Rattle.std.proofs.Common.{◌≡◌, ◌≢◌, ◌⊎◌, inl, inr, ⊎_elim, ℕ, zero, suc, ◌≤◌, ◌<◌, List, [], ◌∷◌, ◌++◌, length, refl}
+use Rattle.std.proofs.Common.{◌≡◌, ◌⊎◌, inl, inr, ⊎_elim, ℕ, zero, suc, ◌≤◌, ◌<◌, List, [], ◌∷◌, ◌++◌, length, refl}
 use Rattle.std.proofs.Common.{Option, Some, None, sym, subst, ap, ◌∙◌, append_assoc, append-nil, arith}
-use Rattle.std.specs.Prelude.{Result, Ok, Err, IfOk}
+use Rattle.std.specs.Prelude.{Result, Ok, Err, IfOk, OnErr}
 use Rattle.pungi_api.specs.Rows.{builtin_rows}
 use Rattle.pungi_api.specs.declared.row.Row.{Row}
 use Rattle.pungi_base.specs.Shelf.{Rose}
 use Rattle.pungi_base.specs.Words.{builtin_words}
-use Rattle.pungi_config.specs.Command.{Asked, file, trial}
+use Rattle.pungi_config.specs.Command.{Asked}
 use Rattle.pungi_config.specs.Limits.{config_limit}
-use Rattle.pungi_trial.specs.Text.{trial_text}
 use Rattle.pungi_verdict.specs.Verdicts.{IsJudged}
-use Rattle.pungi.specs.Answer.{Answers, IsApiFor, IsConfigRead, IsFileRefusal, IsOpened, IsReported, IsReportFor}
-use Rattle.pungi.specs.Answer.{IsRefusalFor, IsTextRefusal, asked_file, files, usage_text}
+use Rattle.pungi.specs.Answer.{Answers, IsApiFor, IsFileRefusal, IsOpened, IsReported, IsReportFor}
+use Rattle.pungi.specs.Answer.{IsRefusalFor, asked_file, files, usage_text}
 use Rattle.pungi.specs.Api.{Api, IsConfigured, IsWrong, builtin_api, long_reason, wrong_text}
-use Rattle.pungi.specs.Examine.{IsReport, IsReportOf, IsTrialOf}
+use Rattle.pungi.specs.Examine.{IsReport}
 use Rattle.pungi.specs.File.{IsConfigAnswer, IsFileAnswer, IsGiven, IsUntouched}
 use Rattle.pungi.specs.Limits.{file_limit}
 use Rattle.pungi.specs.Load.{unread_text}
@@ -26,6 +25,11 @@ use Rattle.pungi.specs.Status.{config_refused, memory_wanted}
 pub both : {T E : Type 0} (r : Result T E) (P Q : T → Type 0) → IfOk r P → IfOk r Q → IfOk r (λ x. P x × Q x)
 both (Ok x) P Q p q = (p, q)
 both (Err e) P Q p q = tt
+
+-- what holds of every result holds of one that is an error
+pub on_err : {T E : Type 0} (r : Result T E) (P : Type 0) → P → OnErr r P
+on_err (Ok x) P p = tt
+on_err (Err e) P p = p
 
 pub api_of_manual : (names : List (List ℕ)) (rows : List (ℕ × Row)) → names ≡ builtin_words → rows ≡ builtin_rows
     → ◌≡◌ {A = Api} (record { names = names; rows = rows }) builtin_api

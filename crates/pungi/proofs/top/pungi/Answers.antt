@@ -33,7 +33,7 @@ returns-in-Ok-write_all-clause-sound g c = λ reported. (
   sound_answer
       (stand_of g.F.Shelf.texts g.F.Shelf.rest g.F.Shelf.gave g.F.Shelf.given g.F.Shelf.faults c.args.shelf.now)
       (stand_of g.F.Shelf.texts g.F.Shelf.rest g.F.Shelf.gave g.F.Shelf.given g.F.Shelf.faults
-          c.in-Ok.ensures.answer.0)
+      c.in-Ok.ensures.answer.0)
       (stand_of g.F.Shelf.texts g.F.Shelf.rest g.F.Shelf.gave g.F.Shelf.given g.F.Shelf.faults c.decide.new.shelf)
       (asked_of (map string_bytes c.args.words.now)) c.in-Ok.answer.status
       c.in-Ok.answer.text.items (c.in-Ok.ensures.answer.1.report reported),
