@@ -68,7 +68,8 @@ pub record IsLexed (old new : List (List ℕ)) (text : List ℕ) (tokens : List 
   pub only : (after : List (List ℕ)) (others : List Token) → AreTokensOf old after text others
       → (after ≡ new) × (others ≡ tokens)
 
-pub lexed : (old new : List (List ℕ)) (text : List ℕ) (shown tokens : List Token) → shown ≡ tokens → AreTokensOf old new text tokens
+pub lexed : (old new : List (List ℕ)) (text : List ℕ) (shown tokens : List Token) → shown ≡ tokens
+    → AreTokensOf old new text tokens
     → ((after : List (List ℕ)) (others : List Token) → AreTokensOf old after text others
     → (after ≡ new) × (others ≡ tokens)) → IsLexed old new text shown
 lexed old new text shown tokens same cut only =

@@ -12,7 +12,8 @@
 --                                the report on the file that is asked for, of which the shelf gave all bytes, or the
 --                                line of the trial, with verdicts of which P holds, and the status that goes with them
 --   IsTextRefusal api text answer     a text is refused, and the line that says why
---   IsFileRefusal texts rest gave api name answer     a file is refused of which the shelf gave these bytes, and the line
+--   IsFileRefusal texts rest gave api name answer     a file is refused of which the shelf gave these bytes, and the
+--                                                     line
 --   IsRefusalFor first middle last asked answer    the file that is asked for is refused, or the text of the trial
 --   IsConfigRefusal first last config answer     a configuration is refused of which the shelf gave these bytes, and
 --                                the line

@@ -1,5 +1,6 @@
 //! The answer on a file that is read, over the API of the manual or that of a configuration.
-ghost use Rattle.std.specs.Prelude.{◌≡◌, ◌⊎◌, ◌≤◌, ◌<◌, ◌^◌, ◌∷◌, [], ◌++◌, ℕ, List, length, map, IfOk, OnOk, OnErr, IsTrue};
+ghost use Rattle.std.specs.Prelude.{◌≡◌, ◌⊎◌, ◌≤◌, ◌<◌, ◌^◌, ◌∷◌, [], ◌++◌, ℕ, List, length, map, IfOk, OnOk, OnErr};
+ghost use Rattle.std.specs.Prelude.{IsTrue};
 ghost use Rattle.std.specs.Prelude.{None, Some};
 ghost use Rattle.pungi_api.specs.Rows.{are_new, are_plain_rows, named_row};
 ghost use Rattle.pungi_base.specs.Words.{BeginWithWords};

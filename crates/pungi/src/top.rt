@@ -48,8 +48,8 @@ fn decide<F: Shelf>(alloc: Global, words: &[String], shelf: &mut F) -> Result<An
     }
 }
 
-/// Judges the functions of the file that the words name, and writes the report; or those of a trial, and writes how many
-/// have which verdict. `words[0]` is the program's name. It returns the status with which the program ends (see
+/// Judges the functions of the file that the words name, and writes the report; or those of a trial, and writes how
+/// many have which verdict. `words[0]` is the program's name. It returns the status with which the program ends (see
 /// `status`).
 ///
 /// The claim: where the report calls a function clean, then in every run of the subset's meaning on the file's own
