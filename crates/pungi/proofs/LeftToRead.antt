@@ -17,9 +17,9 @@ front_left (Some texts) name None bytes left = absurd left
 front_left (Some texts) name (Some rest) bytes left = (rest, left)
 
 pub long_left : (texts : Option (List ℕ → Option (List ℕ))) (name : List ℕ) (rest : Option (List ℕ))
-    (bytes gave : List ℕ) → Left texts name rest bytes → bytes ≡ gave → file_limit < length bytes
-    → IsFront texts name gave × (file_limit < length gave)
-long_left texts name rest bytes gave left same long = (
+    (bytes bytes_read : List ℕ) → Left texts name rest bytes → bytes ≡ bytes_read → file_limit < length bytes
+    → IsFront texts name bytes_read × (file_limit < length bytes_read)
+long_left texts name rest bytes bytes_read left same long = (
   subst (λ (b : List ℕ). IsFront texts name b) same (front_left texts name rest bytes left),
   subst
       (λ (b : List ℕ). file_limit < length b) same long,

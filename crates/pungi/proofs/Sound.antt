@@ -68,9 +68,9 @@ sound_report text status bytes is =
     }
 
 pub sound_answer : (words : List (List ℕ)) (texts : Option (List ℕ → Option (List ℕ))) (rest : Option (List ℕ))
-    (gave : List ℕ) (before after status : ℕ) (answer : List ℕ)
-    → Answers words texts rest gave before after status answer → IsReported status
-    → HasSoundReport words texts rest gave status answer
-sound_answer words texts rest gave before after status answer a reported =
+    (bytes_read : List ℕ) (before after status : ℕ) (answer : List ℕ)
+    → Answers words texts rest bytes_read before after status answer → IsReported status
+    → HasSoundReport words texts rest bytes_read status answer
+sound_answer words texts rest bytes_read before after status answer a reported =
     let r = a.report reported in
-    (r.0, r.1, r.2, sound_report gave status answer r.4)
+    (r.0, r.1, r.2, sound_report bytes_read status answer r.4)

@@ -41,37 +41,37 @@ abbrev pub long_text : List ℕ
 long_text = codes "file refused over 1048576 bytes" ++ line_end
 
 abbrev pub IsRefusal : Option (List ℕ → Option (List ℕ)) → Option (List ℕ) → List ℕ → List ℕ → List ℕ → Type 0
-IsRefusal texts rest file gave answer =
-    ((file_limit < length gave) × IsFront texts file gave × (answer ≡ long_text))
-    ⊎ ((length gave ≤ file_limit) × IsWhole texts rest file gave × IsRefusedAs gave answer)
+IsRefusal texts rest file bytes_read answer =
+    ((file_limit < length bytes_read) × IsFront texts file bytes_read × (answer ≡ long_text))
+    ⊎ ((length bytes_read ≤ file_limit) × IsWhole texts rest file bytes_read × IsRefusedAs bytes_read answer)
 
 abbrev pub IsRefusedText : List ℕ → Type 0
 IsRefusedText text = (file_limit < length text) ⊎ ((length text ≤ file_limit) × IsNoFile text)
 
 abbrev pub IsFileText : List (List ℕ) → Option (List ℕ → Option (List ℕ)) → List ℕ → List ℕ → Type 0
-IsFileText words None gave text = (file : List ℕ) × (file_word words ≡ Some file) × (text ≡ gave)
-IsFileText words (Some texts) gave text = (file : List ℕ) × (file_word words ≡ Some file) × (texts file ≡ Some text)
+IsFileText words None bytes_read text = (file : List ℕ) × (file_word words ≡ Some file) × (text ≡ bytes_read)
+IsFileText words (Some texts) bytes_read text = (file : List ℕ) × (file_word words ≡ Some file) × (texts file ≡ Some text)
 
 abbrev pub IsReported : ℕ → Type 0
 IsReported status = (status ≡ all_clean) ⊎ (status ≡ some_faulty) ⊎ (status ≡ some_open)
 
 abbrev pub HasSoundReport : List (List ℕ) → Option (List ℕ → Option (List ℕ)) → Option (List ℕ) → List ℕ → ℕ
     → List ℕ → Type 0
-HasSoundReport words texts rest gave status answer =
-    (file : List ℕ) × (file_word words ≡ Some file) × IsWhole texts rest file gave
-    × IsSoundReport gave status answer
+HasSoundReport words texts rest bytes_read status answer =
+    (file : List ℕ) × (file_word words ≡ Some file) × IsWhole texts rest file bytes_read
+    × IsSoundReport bytes_read status answer
 
 pub record Answers (words : List (List ℕ)) (texts : Option (List ℕ → Option (List ℕ))) (rest : Option (List ℕ))
-    (gave : List ℕ) (before after : ℕ) (status : ℕ) (answer : List ℕ) : Type 0 where
+    (bytes_read : List ℕ) (before after : ℕ) (status : ℕ) (answer : List ℕ) : Type 0 where
   pub one : (status ≡ all_clean) ⊎ (status ≡ some_faulty) ⊎ (status ≡ some_open) ⊎ (status ≡ words_refused)
       ⊎ (status ≡ file_unread) ⊎ (status ≡ file_refused)
-  pub report : IsReported status → (file : List ℕ) × (file_word words ≡ Some file) × IsWhole texts rest file gave
-      × (length gave ≤ file_limit) × IsReport gave status answer
+  pub report : IsReported status → (file : List ℕ) × (file_word words ≡ Some file) × IsWhole texts rest file bytes_read
+      × (length bytes_read ≤ file_limit) × IsReport bytes_read status answer
   pub usage : status ≡ words_refused → IsNone (file_word words) × (answer ≡ usage_text)
   pub failed : status ≡ file_unread → (file : List ℕ) × (file_word words ≡ Some file) × Rose before after
       × (answer ≡ unread_text file)
   pub refused : status ≡ file_refused → (file : List ℕ) × (file_word words ≡ Some file)
-      × IsRefusal texts rest file gave answer
+      × IsRefusal texts rest file bytes_read answer
   pub steady : status ≢ file_unread → after ≡ before
 
 abbrev pub IsOpened : List (List ℕ) → ℕ → List (List ℕ) → List (List ℕ) → Type 0

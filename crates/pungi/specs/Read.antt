@@ -19,6 +19,6 @@ IsWhole None rest file bytes = rest ≡ Some []
 IsWhole (Some texts) rest file bytes = (rest ≡ Some []) × (texts file ≡ Some bytes)
 
 abbrev pub IsReading : Option (List ℕ → Option (List ℕ)) → Option (List ℕ) → List ℕ → List ℕ → Reading → Type 0
-IsReading texts rest file gave (Text bytes) =
-    (bytes.items ≡ gave) × IsWhole texts rest file gave × (length gave ≤ file_limit)
-IsReading texts rest file gave Long = IsFront texts file gave × (file_limit < length gave)
+IsReading texts rest file bytes_read (Text bytes) =
+    (bytes.items ≡ bytes_read) × IsWhole texts rest file bytes_read × (length bytes_read ≤ file_limit)
+IsReading texts rest file bytes_read Long = IsFront texts file bytes_read × (file_limit < length bytes_read)

@@ -30,12 +30,12 @@ fn room(alloc: Global, size: usize) -> Result<Vec<u8>, AllocError>
 /// Reads the opened text of a name, to its end or until it is over the limit.
 pub fn read_opened<F: Shelf>(alloc: Global, shelf: &mut F, name: &str) -> Result<Reading, OpenFault>
     requires opened { Opens (F.texts shelf.old) name.now (F.rest shelf.old) }
-    requires unread { F.gave shelf.old ≡ [] }
-    ensures ok { IfOk result (IsReading (F.texts shelf.old) (F.rest shelf.new) name.now (F.gave shelf.new)) }
+    requires unread { F.bytes_read shelf.old ≡ [] }
+    ensures ok { IfOk result (IsReading (F.texts shelf.old) (F.rest shelf.new) name.now (F.bytes_read shelf.new)) }
     ensures steady { (result ≡ Err OpenFault.Failed → ⊥) → F.faults shelf.new ≡ F.faults shelf.old }
     ensures failed { result ≡ Err OpenFault.Failed → Rose (F.faults shelf.old) (F.faults shelf.new) }
     ensures texts { F.texts shelf.new ≡ F.texts shelf.old }
-    ensures given { F.given shelf.new ≡ F.given shelf.old }
+    ensures names_opened { F.names_opened shelf.new ≡ F.names_opened shelf.old }
 {
     let mut bytes = Vec::new(alloc);
     let mut piece = room(alloc, PIECE)?;

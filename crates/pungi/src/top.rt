@@ -19,11 +19,11 @@ use std::alloc::Global;
 /// What the program returns.
 fn decide<F: Shelf>(alloc: Global, words: &[String], shelf: &mut F) -> Result<Answer, Memory>
     ensures answer { IfOk result (λ a. Answers (map string_bytes words.now) (F.texts shelf.old) (F.rest shelf.new)
-        (F.gave shelf.new) (F.faults shelf.old) (F.faults shelf.new) a.status a.text.items) }
-    ensures asked { IfOk result (λ a. IsOpened (map string_bytes words.now) a.status (F.given shelf.old)
-        (F.given shelf.new)) }
-    ensures unasked { OnErr result (IsOpened (map string_bytes words.now) memory_wanted (F.given shelf.old)
-        (F.given shelf.new)) }
+        (F.bytes_read shelf.new) (F.faults shelf.old) (F.faults shelf.new) a.status a.text.items) }
+    ensures asked { IfOk result (λ a. IsOpened (map string_bytes words.now) a.status (F.names_opened shelf.old)
+        (F.names_opened shelf.new)) }
+    ensures unasked { OnErr result (IsOpened (map string_bytes words.now) memory_wanted (F.names_opened shelf.old)
+        (F.names_opened shelf.new)) }
     ensures steady { OnErr result (F.faults shelf.new ≡ F.faults shelf.old) }
     ensures texts { F.texts shelf.new ≡ F.texts shelf.old }
 {
@@ -60,41 +60,41 @@ fn decide<F: Shelf>(alloc: Global, words: &[String], shelf: &mut F) -> Result<An
 pub fn pungi<F: Shelf, O: Sink>(alloc: Global, words: &[String], shelf: &mut F, out: &mut O) -> u8
     // Safety: of a function that the report calls clean or faulty it is true.
     ensures sound { IsReported result → (text : List ℕ)
-        × HasSoundReport (map string_bytes words.now) (F.texts shelf.old) (F.rest shelf.new) (F.gave shelf.new)
+        × HasSoundReport (map string_bytes words.now) (F.texts shelf.old) (F.rest shelf.new) (F.bytes_read shelf.new)
         result text
-        × (O.taken out.new ≡ O.taken out.old ++ text) }
+        × (O.bytes_written out.new ≡ O.bytes_written out.old ++ text) }
 
     // The status has its cause, and the text that goes with it was written whole.
     ensures answer { result ≢ answer_cut → result ≢ memory_wanted → (text : List ℕ)
-        × Answers (map string_bytes words.now) (F.texts shelf.old) (F.rest shelf.new) (F.gave shelf.new)
+        × Answers (map string_bytes words.now) (F.texts shelf.old) (F.rest shelf.new) (F.bytes_read shelf.new)
         (F.faults shelf.old) (F.faults shelf.new) result text
-        × (O.taken out.new ≡ O.taken out.old ++ text) }
+        × (O.bytes_written out.new ≡ O.bytes_written out.old ++ text) }
 
     // A write failed: the sink's count rose, and a front of the text was taken.
     ensures cut { result ≡ answer_cut → Rose (O.faults out.old) (O.faults out.new)
         × ((status : ℕ) × (front : List ℕ) × (rest : List ℕ)
-        × Answers (map string_bytes words.now) (F.texts shelf.old) (F.rest shelf.new) (F.gave shelf.new)
+        × Answers (map string_bytes words.now) (F.texts shelf.old) (F.rest shelf.new) (F.bytes_read shelf.new)
         (F.faults shelf.old) (F.faults shelf.new) status (front ++ rest)
-        × (0 < length rest) × (O.taken out.new ≡ O.taken out.old ++ front)) }
+        × (0 < length rest) × (O.bytes_written out.new ≡ O.bytes_written out.old ++ front)) }
 
     // No write failed otherwise.
     ensures uncut { result ≢ answer_cut → O.faults out.new ≡ O.faults out.old }
 
     // For want of memory nothing was written, and no call on the shelf failed.
-    ensures memory { result ≡ memory_wanted → (O.taken out.new ≡ O.taken out.old)
+    ensures memory { result ≡ memory_wanted → (O.bytes_written out.new ≡ O.bytes_written out.old)
         × (F.faults shelf.new ≡ F.faults shelf.old) }
 
     // The file that the words name was opened, once, or none where nothing is said of it.
-    ensures asked { IsOpened (map string_bytes words.now) result (F.given shelf.old) (F.given shelf.new) }
+    ensures asked { IsOpened (map string_bytes words.now) result (F.names_opened shelf.old) (F.names_opened shelf.new) }
 
     // Where a cause holds, its status comes, unless a call failed or memory ran out.
     ensures words { IsNone (file_word (map string_bytes words.now)) → result ≢ answer_cut → result ≢ memory_wanted
         → result ≡ words_refused }
-    ensures file { (text : List ℕ) → IsFileText (map string_bytes words.now) (F.texts shelf.old) (F.gave shelf.new)
+    ensures file { (text : List ℕ) → IsFileText (map string_bytes words.now) (F.texts shelf.old) (F.bytes_read shelf.new)
         text → IsRefusedText text
         → result ≢ file_unread → result ≢ answer_cut → result ≢ memory_wanted → result ≡ file_refused }
     ensures judged { (text : List ℕ) → IsFileText (map string_bytes words.now) (F.texts shelf.old)
-        (F.gave shelf.new) text → length text ≤ file_limit
+        (F.bytes_read shelf.new) text → length text ≤ file_limit
         → (names : List (List ℕ)) → (items : List Item) → IsFile text names items
         → result ≢ file_unread → result ≢ answer_cut → result ≢ memory_wanted → IsReported result }
 
