@@ -3,7 +3,6 @@ ghost use Rattle.std.specs.Prelude.{IfErr, OnErr, OnOk, MatchOption, MatchResult
 ghost use Rattle.std.specs.Prelude.{slice_get};
 ghost use Rattle.std.specs.Io.KnownBytes.{ReadConsumes};
 ghost use Rattle.std.specs.Option.{option_map_or};
-ghost use Rattle.std.specs.List.{concat};
 ghost use Rattle.pungi_base.specs.Shelf.{Rose, Grew, Opens};
 ghost use Rattle.pungi_in_memory.specs.MemShelf.{ShelfState, text_named, pairs_of, left_at, open_fails, shelf_asked};
 ghost use Rattle.pungi_in_memory.specs.MemShelf.{shelf_failed, shelf_opened, shelf_read};
@@ -28,6 +27,7 @@ pub struct MemShelf {
 
 impl Model for MemShelf {
     ghost use Rattle.std.specs.Prelude.{map};
+    ghost use Rattle.std.specs.List.{concat};
     ghost use Rattle.pungi_in_memory.specs.MemShelf.{ShelfState, pairs_of, left_at};
 
     ghost Value = { ShelfState };

@@ -1,7 +1,6 @@
 ghost use Rattle.std.specs.Prelude.{◌≡◌, ◌≤◌, ◌<◌, ◌∷◌, ◌++◌, [], List, ℕ, length, min, take, drop, Some, None, Ok};
 ghost use Rattle.std.specs.Prelude.{Err, OnOk, OnErr, IfOk, unwrap_or, true, false};
 ghost use Rattle.std.specs.Io.KnownBytes.{ReadConsumes};
-ghost use Rattle.std.specs.List.{concat};
 ghost use Rattle.pungi_base.specs.Shelf.{Rose, Grew, Opens};
 ghost use Rattle.pungi_in_memory.specs.SureShelf.{SureState, sure_text};
 ghost use Rattle.pungi_in_memory.specs.MemShelf.{text_named, pairs_of, left_at};
@@ -23,6 +22,7 @@ pub struct SureShelf {
 
 impl Model for SureShelf {
     ghost use Rattle.std.specs.Prelude.{map};
+    ghost use Rattle.std.specs.List.{concat};
     ghost use Rattle.pungi_in_memory.specs.SureShelf.{SureState};
     ghost use Rattle.pungi_in_memory.specs.MemShelf.{pairs_of, left_at};
 

@@ -1,5 +1,4 @@
 ghost use Rattle.std.specs.Prelude.{◌≡◌, ◌≤◌, ◌<◌, ℕ, [], List, length, IfOk, OnOk, OnErr, Ok};
-ghost use Rattle.std.specs.List.{concat};
 ghost use Rattle.pungi_base.specs.Shelf.{Rose, Grew};
 ghost use Rattle.pungi_in_memory.specs.SureSink.{KeptState, kept_wrote};
 
@@ -17,6 +16,7 @@ pub struct SureSink {
 
 impl Model for SureSink {
     ghost use Rattle.std.specs.Prelude.{◌≤◌, vec_len, vec_capacity};
+    ghost use Rattle.std.specs.List.{concat};
     ghost use Rattle.pungi_in_memory.specs.SureSink.{KeptState};
 
     ghost Value = { KeptState };
