@@ -58,7 +58,7 @@ fn resolve_body<N: Lookup>(
 }
 
 /// What a function does in which no rule holds, where the names of its file are in force. Each word and operator in it
-/// has a meaning.
+/// has a meaning, and each case a constant that a `long` has.
 pub fn resolve<N: Lookup>(alloc: Global, names: &N, f: &FunctionDef) -> Result<Function, Memory>
     requires { IsPassed (N.env names.now) (definition_view f.now) }
     ensures function { IfOk result (λ x. function_view x ≡ resolved_in (N.env names.now) (definition_view f.now)) }
