@@ -1,9 +1,6 @@
 -- The constant of a case in which no rule holds is one that a `long` has.
 --   case-long    its value
---   long-fits    what a `long` has, 64 bits hold
-use Rattle.std.proofs.Common.{◌≡◌, ◌∙◌, ℕ, ℤ, zero, suc, ◌≤◌, pos, negsuc, arith, Bool, true, false, Some, None, refl}
-use Rattle.std.proofs.Common.{ap, FitsSigned}
-use mir.Syntax.{w64}
+use Rattle.std.proofs.Common.{◌≡◌, ◌∙◌, ℕ, zero, suc, ◌≤◌, pos, negsuc, arith, Bool, true, false, Some, None, refl, ap}
 use Rattle.std.specs.Prelude.{◌&&◌, nat_lt, nat_le, neg_ℤ, int_lt, if◌then◌else◌}
 use Rattle.std.proofs.lemmas.Bool.Decides.{nat_tests}
 use Rattle.pungi_base.specs.declared.kind.Kind.{Kind}
@@ -84,10 +81,3 @@ case-long env (int p (pos n) l u) c =
 case-long env (int p (negsuc n) l u) c = refl
 case-long env (char p x) c = let l = byte_low x in positive (byte x) (omega (arith, l))
 case-long env _ c = refl
-
-at_most : (m n : ℕ) → nat_le n m ≡ true → n ≤ m
-at_most m n h = grind (arith, nat_tests)
-
-pub long-fits : (v : ℤ) → is_long v ≡ true → FitsSigned w64 v
-long-fits (pos n) h = record { sfits = omega (arith, at_most 9223372036854775807 n h) }
-long-fits (negsuc n) h = record { sfits = omega (arith, at_most 9223372036854775807 n h) }
