@@ -7,6 +7,8 @@ mod api_tests;
 #[cfg(test)]
 mod base_tests;
 #[cfg(test)]
+mod config_tests;
+#[cfg(test)]
 mod format_tests;
 #[cfg(test)]
 mod kinds;

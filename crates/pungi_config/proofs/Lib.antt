@@ -1,0 +1,9 @@
+pub mod Counts
+pub mod Matched
+pub mod NewRows
+pub mod Numbers
+pub mod Params
+pub mod Parts
+pub mod PlainRows
+pub mod RowsAfter
+pub mod Texts

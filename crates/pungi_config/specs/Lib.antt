@@ -1,0 +1,7 @@
+pub mod Command
+pub mod Configuration
+pub mod Keys
+pub mod Limits
+pub mod Takes
+pub mod Words
+pub mod Wrong
