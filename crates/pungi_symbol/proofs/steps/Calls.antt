@@ -1,5 +1,5 @@
 -- A call of the API: a run and a state do the same.
-use Rattle.std.proofs.Common.{◌≡◌, ℕ, ◌+◌, ◌≤◌, ℤ, pos, negsuc, ◌+ℤ◌, List, [], ◌∷◌, ◌++◌, length, map, Bool, true}
+use Rattle.std.proofs.Common.{◌≡◌, ℕ, ◌+◌, ◌≤◌, ℤ, pos, negsuc, List, [], ◌∷◌, ◌++◌, length, map, Bool, true}
 use Rattle.std.proofs.Common.{false, refl, sym, ap, ◌∙◌, subst, arith, inl, inr, Option, None, Some, cond}
 use Rattle.std.specs.Prelude.{slice_set, slice_get}
 use Rattle.pungi_base.specs.declared.choice.Choice.{Choice}
@@ -15,14 +15,12 @@ use Rattle.pungi_code.specs.Registers.{Regs, put}
 use Rattle.pungi_symbol.specs.declared.answers.decision.Decision.TheVariants.{Quiet, Outcome}
 use Rattle.pungi_symbol.specs.declared.states.known.Status.TheVariants as status
 use Rattle.pungi_symbol.specs.declared.states.mark.Mark.{Mark}
-use Rattle.pungi_symbol.specs.declared.states.mark.Mark.TheVariants.{Pointer, TextPointer, IsNull, IsObject, IsText}
-use Rattle.pungi_symbol.specs.declared.states.mark.Mark.TheVariants.{IsNumber}
 use Rattle.pungi_symbol.specs.declared.questions.question.Question.TheVariants.{Does, Answers, Stops}
 use Rattle.pungi_symbol.specs.declared.states.state.State.{State}
 use Rattle.pungi_symbol.specs.declared.states.term.Term.{Term}
-use Rattle.pungi_symbol.specs.declared.states.term.Term.TheVariants.{Unset, Null, Text, Number, Token}
+use Rattle.pungi_symbol.specs.declared.states.term.Term.TheVariants.{Null}
 use Rattle.pungi_symbol.specs.states.Terms.{Table, at, content_of, is_mark, value_of_mark}
-use Rattle.pungi_symbol.specs.runs.Fits.{IsBelow, IsSound}
+use Rattle.pungi_symbol.specs.runs.Fits.{IsSound}
 use Rattle.pungi_symbol.specs.runs.ObjectForm.{is_there}
 use Rattle.pungi_symbol.specs.runs.RunInState.{Lies}
 use Rattle.std.specs.Prelude.{replicate, Result as Res, Ok, Err}
@@ -31,7 +29,6 @@ use Rattle.std.proofs.Common.{length-append}
 use Rattle.std.proofs.lemmas.List.{map-set}
 use Rattle.std.proofs.lemmas.Int.{ints}
 use Rattle.pungi_api.specs.declared.answer.Answer.{Answer}
-use Rattle.pungi_api.specs.declared.answer.Answer.TheVariants as answer
 use Rattle.pungi_api.specs.declared.param.Param.{Param}
 use Rattle.pungi_api.specs.declared.param.Param.TheVariants as param
 use Rattle.pungi_api.specs.declared.row.Form.{Form}
@@ -46,11 +43,10 @@ use Rattle.pungi_world.specs.declared.world.World.{World}
 use Rattle.pungi_world.specs.Calls.{lacks, stops, with_new_reference as world_answered, is_success, take_over, first_of}
 use Rattle.pungi_world.specs.Calls.{special_effect, form_effect, call_effect}
 use Rattle.pungi_world.specs.Choices.{value_of, answer_of}
-use Rattle.pungi_world.specs.Counts.{count_value, with_value}
+use Rattle.pungi_world.specs.Counts.{count_value}
 use Rattle.pungi_world.specs.Effects.{◌>>=◌, effect}
 use Rattle.pungi_code.specs.declared.instr.Instr.TheVariants.{Api}
 use Rattle.pungi_code.specs.Registers.{choices_left, put_answer as regs_answered, with_outputs, all_values}
-use Rattle.pungi_symbol.specs.declared.states.spot.Progress.TheVariants.{Looking}
 use Rattle.pungi_symbol.specs.states.Terms.{outcomes_of_answer, place_of, mark_at}
 use Rattle.pungi_symbol.specs.states.Known.{count}
 use Rattle.pungi_symbol.specs.questions.NextQuestion.{asks_all_set, asks_form, asks_special, asks_thing, asks_params}
@@ -61,7 +57,6 @@ use Rattle.pungi_symbol.specs.runs.ObjectForm.{has_small, is_small}
 use Rattle.pungi_symbol.specs.runs.Fits.{named, is_the}
 use Rattle.pungi_symbol.specs.runs.RunInState.{owed, IsOf, IsWalked, state_in, slot_at_place, place_in}
 use Rattle.pungi_symbol.specs.answers.KnownAfter.{instr_of}
-use Rattle.std.proofs.lemmas.Bool.Decides.{Decides-int_eq}
 use Rattle.pungi_world.specs.Choices.{choose}
 use Rattle.pungi_symbol.specs.answers.SymbolicState.{is_outcome}
 use Rattle.pungi_symbol.proofs.steps.Worlds.{IsNear, head_drop}
@@ -75,159 +70,20 @@ use Rattle.pungi_symbol.proofs.states.NamedObjects.{part, named_end}
 use Rattle.pungi_symbol.proofs.states.Claims.{at_term, at_terms, lowered_long, owing}
 use Rattle.pungi_symbol.proofs.states.Owed.{AreUnmade}
 use Rattle.pungi_symbol.proofs.states.Terms.{open_below}
-use Rattle.pungi_symbol.proofs.steps.Worlds.{counted_owed, counted_keeps, value_owed, value_slots, value_more}
-use Rattle.pungi_symbol.proofs.steps.Worlds.{value_there, value_unmade, of_more}
+use Rattle.pungi_symbol.proofs.steps.Worlds.{counted_owed, counted_keeps}
 use Rattle.pungi_symbol.proofs.steps.RunInState.{Moved, goes_on, Result, Linked, IsLine, atom_is, below_is, led_is}
-use Rattle.pungi_symbol.proofs.steps.RunInState.{null_result, stops_result, walked_anew, marks}
+use Rattle.pungi_symbol.proofs.steps.RunInState.{null_result, stops_result, marks}
 use Rattle.pungi_symbol.proofs.steps.Loads.{arrive_lies, next_value}
-use Rattle.pungi_symbol.proofs.steps.Stores.{one_part}
 use Rattle.pungi_symbol.proofs.steps.Rows.{AllSet, AllBelow, not_set, are_set, set_is, all_below, need_stops, need_asks}
 use Rattle.pungi_symbol.proofs.steps.Rows.{need_passes, needs_is, not_null, object_lacks, take_asks, take_passes}
-use Rattle.pungi_symbol.proofs.steps.Rows.{takes_is, KnownTaken, taken_known, AreOf, taken_over_is, Answering, a_void}
+use Rattle.pungi_symbol.proofs.steps.Rows.{takes_is, KnownTaken, taken_known, taken_over_is, Answering, a_void}
 use Rattle.pungi_symbol.proofs.steps.Rows.{a_null, a_choice, answering_is, chose, chose_none, chosen_is, known_is}
 use Rattle.pungi_symbol.proofs.steps.Rows.{success_agrees}
-
--- an answer of a run, as a state has it
-abbrev AnswerIs : Table → Option Value → Option Term → Type 0
-AnswerIs table None None = Unit {0}
-AnswerIs table None (Some c) = ⊥
-AnswerIs table (Some v) None = ⊥
-AnswerIs table (Some v) (Some c) = content_of table c ≡ content.Holds v
-
-no_outputs : (outs : List (Option Var)) (r : Regs) → with_outputs outs [] r ≡ r
-no_outputs [] r = refl
-no_outputs (x ∷ outs) r = refl
-
-first_is : (table : Table) (xs : List Term) → first_of (map (term_value table) xs) ≡ term_value table (first_term xs)
-first_is table [] = refl
-first_is table (x ∷ xs) = refl
-
-first_set : (xs : List Term) → AllSet xs → first_term xs ≡ Unset → ⊥
-first_set [] h e = cc
-first_set (x ∷ xs) h e = h.0 e
-
-first_below : (n : ℕ) (xs : List Term) → AllBelow n xs → IsBelow n (first_term xs)
-first_below n [] h = tt
-first_below n (x ∷ xs) h = h.0
-
--- the term of an answer
-term_with_is : (table : Table) (r : Mark) (t : ℕ) → is_mark r (at table t) ≡ true → is_open r ≡ false
-    → content_of table (term_with r t) ≡ content.Holds (at table t)
-term_with_is table Pointer t h o = refl
-term_with_is table TextPointer t h o = refl
-term_with_is table IsNull t h o = by (at table t) h
-  where
-    by : (v : Value) → is_mark IsNull v ≡ true → content.Holds value.Null ≡ content.Holds v
-    by value.Null z = refl
-    by (value.Object k) z = absurd (let bad : false ≡ true = z in cc)
-    by (value.Int n) z = absurd (let bad : false ≡ true = z in cc)
-    by value.Text z = absurd (let bad : false ≡ true = z in cc)
-term_with_is table IsObject t h o = refl
-term_with_is table IsText t h o = by (at table t) h
-  where
-    by : (v : Value) → is_mark IsText v ≡ true → content.Holds value.Text ≡ content.Holds v
-    by value.Null z = absurd (let bad : false ≡ true = z in cc)
-    by (value.Object k) z = absurd (let bad : false ≡ true = z in cc)
-    by (value.Int n) z = absurd (let bad : false ≡ true = z in cc)
-    by value.Text z = refl
-term_with_is table (IsNumber i) t h o = by (at table t) h
-  where
-    by : (v : Value) → is_mark (IsNumber i) v ≡ true → content.Holds (value.Int i) ≡ content.Holds v
-    by value.Null z = absurd (let bad : false ≡ true = z in cc)
-    by (value.Object k) z = absurd (let bad : false ≡ true = z in cc)
-    by (value.Int n) z = ap (λ y. content.Holds (value.Int y)) (sym ((Decides-int_eq n i).0 z))
-    by value.Text z = absurd (let bad : false ≡ true = z in cc)
-
--- the world after an answer
-part_none : (b : Bool) → part b (pos 0) ≡ pos 0
-part_none true = refl
-part_none false = refl
-
-record AnswerWorld (w : World) (a : Answer) (v : Value) (r : Mark) : Type 0 where
-  pub owes : (o : ℕ) → owed (world_answered a w (Some v)) o ≡ owed w o +ℤ part (is_the o v) (owed_for_answer a r)
-  pub slots : (world_answered a w (Some v)).slots ≡ w.slots
-  pub more : length w.accounts ≤ length (world_answered a w (Some v)).accounts
-  pub there : IsOf (length (world_answered a w (Some v)).accounts) v
-  pub unmade : AreUnmade (world_answered a w (Some v))
-
-plain_world : (w : World) (a : Answer) (v : Value) (r : Mark) → IsNear w v → AreUnmade w
-    → world_answered a w (Some v) ≡ with_value w v → owed_for_answer a r ≡ pos 0 → AnswerWorld w a v r
-plain_world w a v r near un e z = record {
-  owes = λ o. ap (λ y. owed y o) e ∙ value_owed w v o
-      ∙ (let b = ap (part (is_the o v)) z ∙ part_none (is_the o v) in omega (arith, ints, b));
-  slots = ap (λ y. y.slots) e ∙ value_slots w v;
-  more = subst (λ y. length w.accounts ≤ length y.accounts) (sym e) (value_more w v);
-  there = subst (λ y. IsOf (length y.accounts) v) (sym e) (value_there w v near);
-  unmade = subst (λ y. AreUnmade y) (sym e) (value_unmade w v un);
-}
-
-answer_world : (w : World) (a : Answer) (v : Value) (r : Mark) → IsNear w v → AreUnmade w → is_mark r v ≡ true
-    → is_open r ≡ false → AnswerWorld w a v r
-answer_world w answer.New v r near un m o =
-    let w1 = with_value w v in
-    let of = value_there w v near in
-    let kept = counted_keeps w1 v (pos 1) in
-    let more = value_more w v in
-    let ka = kept.accounts in
-    record {
-      owes = λ z. counted_owed w1 v (pos 1) z of ∙ (let a = value_owed w v z in let b = one_part z r v m o in omega
-          (arith, ints, a, b));
-      slots = kept.slots ∙ value_slots w v;
-      more = omega (arith, more, ka);
-      there = subst (λ n. IsOf n v) (sym ka) of;
-      unmade = kept.unmade (value_unmade w v un);
-    }
-answer_world w answer.Borrowed v r near un m o = plain_world w answer.Borrowed v r near un refl refl
-answer_world w answer.BorrowedSure v r near un m o = plain_world w answer.BorrowedSure v r near un refl refl
-answer_world w answer.Status v r near un m o = plain_world w answer.Status v r near un refl refl
-answer_world w answer.Truth v r near un m o = plain_world w answer.Truth v r near un refl refl
-answer_world w answer.Size v r near un m o = plain_world w answer.Size v r near un refl refl
-answer_world w answer.Int v r near un m o = plain_world w answer.Int v r near un refl refl
-answer_world w answer.Long v r near un m o = plain_world w answer.Long v r near un refl refl
-answer_world w answer.Text v r near un m o = plain_world w answer.Text v r near un refl refl
-answer_world w answer.Void v r near un m o = plain_world w answer.Void v r near un refl refl
-answer_world w answer.Null v r near un m o = plain_world w answer.Null v r near un refl refl
+use Rattle.pungi_symbol.proofs.steps.CallAnswers.{AnswerIs, no_outputs, first_is, first_set, first_below, term_with_is}
+use Rattle.pungi_symbol.proofs.steps.CallAnswers.{answer_world, of_term, of_terms, after_put, after_none}
 
 module _ (choices : List Choice) (code : List Line) (table : Table) (base : ℕ) (m : Regs) (s : State)
     (going : s.known.status ≡ status.Going) (w : IsSound s) (l : Lies code table base m s) (p : Pos) where
-  -- the next instruction comes after a call
-  after_put : (m1 : Regs) (bs : List ℤ) (x : Var) (c : Term) (v : Value) → content_of table c ≡ content.Holds v
-      → Lies code table base m1 (record s { balances = bs })
-      → Lies code table base (put x (content.Holds v) m1) (record s {
-        balances = bs;
-        known = record s.known
-            { pc = s.known.pc + 1; vars = slice_set s.known.vars x.0 c; progress = Looking 0 };
-      })
-  after_put m1 bs x c v e h = record {
-    fits = h.fits;
-    vars = ap (λ vs. slice_set vs x.0 (content.Holds v)) h.vars
-        ∙ ap (slice_set (map (content_of table) s.known.vars) x.0) (sym e)
-        ∙ sym (map-set (content_of table) s.known.vars x.0 c);
-    slots = h.slots;
-    used = h.used;
-    claims = h.claims;
-    below = h.below;
-    unmade = h.unmade;
-    walked = walked_anew m1.world.slots _;
-  }
-
-  after_none : (m1 : Regs) (bs : List ℤ) → Lies code table base m1 (record s { balances = bs })
-      → Lies code table base m1 (record s {
-        balances = bs;
-        known = record s.known
-            { pc = s.known.pc + 1; progress = Looking 0 };
-      })
-  after_none m1 bs h = record {
-    fits = h.fits;
-    vars = h.vars;
-    slots = h.slots;
-    used = h.used;
-    claims = h.claims;
-    below = h.below;
-    unmade = h.unmade;
-    walked = walked_anew m1.world.slots _;
-  }
-
   module _ (x : Option Var) (shape : Shape) (as' : List Atom) (outs : List (Option Var)) where
     abbrev I : Instr
     I = Api x shape as' outs
@@ -255,12 +111,12 @@ module _ (choices : List Choice) (code : List Line) (table : Table) (base : ℕ)
         → leads_at choices code s.known.pc m ≡ goes (s.known.pc + 1) (regs_answered z o m1)
         → Moved choices code table base s.known.pc (effort s.known) m (record s
         { balances = bs; known = go_on (put_answer z t s.known) })
-    moved_by None o t m1 bs k a h e = goes_on m1 (omega (arith, k)) e going (after_none m1 bs h)
-    moved_by (Some z) None None m1 bs k a h e = goes_on m1 (omega (arith, k)) e going (after_none m1 bs h)
+    moved_by None o t m1 bs k a h e = goes_on m1 (omega (arith, k)) e going (after_none code table base s m1 bs h)
+    moved_by (Some z) None None m1 bs k a h e = goes_on m1 (omega (arith, k)) e going (after_none code table base s m1 bs h)
     moved_by (Some z) None (Some c) m1 bs k a h e = absurd a
     moved_by (Some z) (Some v) None m1 bs k a h e = absurd a
     moved_by (Some z) (Some v) (Some c) m1 bs k a h e = goes_on (put z (content.Holds v) m1) (omega (arith, k)) e
-        going (after_put m1 bs z c v a h)
+        going (after_put code table base s m1 bs z c v a h)
 
     abbrev T1 : Option Term
     T1 = answer_of_form shape.row.form shape.row.answer (first_term Ts)
@@ -277,21 +133,6 @@ module _ (choices : List Choice) (code : List Line) (table : Table) (base : ℕ)
       refl,
       moved_by x o T1 m1 B1 k a h (led_is choices code table base m s going w
           l p I is ∙ e),
-    )
-
-    -- the values of the arguments
-    of_term : (y : Term) → IsBelow (count s.known) y → IsOf (length m.world.accounts) (term_value table y)
-    of_term Unset b = tt
-    of_term Null b = tt
-    of_term Text b = tt
-    of_term (Number n) b = tt
-    of_term (Token t) b = l.below t b
-
-    of_terms : (n : ℕ) → length m.world.accounts ≤ n → (xs : List Term) → AllBelow (count s.known) xs → AreOf n table xs
-    of_terms n le [] b = tt
-    of_terms n le (y ∷ xs) b = (
-      of_more (length m.world.accounts) n (term_value table y) le (of_term y b.0),
-      of_terms n le xs b.1,
     )
 
     module _ (is : IsLine choices code table base m s going w l p I) (all : all_values as' m.vars ≡ Some Vs)
@@ -320,7 +161,7 @@ module _ (choices : List Choice) (code : List Line) (table : Table) (base : ℕ)
             vars = l.vars;
             slots = kept.slots ∙ l.slots;
             used = let a = length-append m.used (replicate 0 p) in let c = l.used in omega (arith, a, c);
-            claims = λ o. (let a = counted_owed m.world Vf by o (of_term Tf b) in let c = at_term table s l.fits w o
+            claims = λ o. (let a = counted_owed m.world Vf by o (of_term table (length m.world.accounts) (count s.known) l.below Tf b) in let c = at_term table s l.fits w o
                 Tf by s.balances kn b w.notes.balances_long in let d = l.claims o in let f = ap (named o table) e in
                 omega (arith, ints, a, c, d, f));
             below = λ t lt. subst (λ n. IsOf n (at table t)) (sym kept.accounts) (l.below t lt);
@@ -436,7 +277,7 @@ module _ (choices : List Choice) (code : List Line) (table : Table) (base : ℕ)
       quiet_lies : KnownTaken s.known shape.row.takes Ts → shape.row.form ≡ form.Plain
           → Lies code table base (Used 0 (take_over m.world false shape.row.takes Vs)) (record s { balances = B1 })
       quiet_lies kt e =
-          let over = taken_over_is table m.world false shape.row.takes Ts (of_terms (length m.world.accounts)
+          let over = taken_over_is table m.world false shape.row.takes Ts (of_terms table (length m.world.accounts) (count s.known) l.below (length m.world.accounts)
           (omega arith) Ts below) in
           let kept = over.0 in
           record {
@@ -465,7 +306,7 @@ module _ (choices : List Choice) (code : List Line) (table : Table) (base : ℕ)
           → Result choices code table base m s going w l p I (Does Quiet)
       quiet_result o t e f kt a g h =
           done_result o (Used 0 (take_over m.world false shape.row.takes Vs)) (taken_over_is table m.world false
-          shape.row.takes Ts (of_terms (length m.world.accounts) (omega arith) Ts below)).0.accounts is
+          shape.row.takes Ts (of_terms table (length m.world.accounts) (count s.known) l.below (length m.world.accounts) (omega arith) Ts below)).0.accounts is
           (subst (AnswerIs table o) (sym (ap (λ z. answer_of_form z shape.row.answer Tf) e ∙ g)) a) (quiet_lies kt e)
           (plain_led e f ∙ ap CallGo h ∙ ap (goes (s.known.pc + 1)) (no_outputs outs
           (regs_answered x o (Used 0 (take_over m.world false shape.row.takes Vs)))))
@@ -496,7 +337,7 @@ module _ (choices : List Choice) (code : List Line) (table : Table) (base : ℕ)
           let aw = answer_world m.world a v r near l.unmade marked shut in
           let w2 = world_answered a m.world (Some v) in
           let over = taken_over_is table w2 (is_success a (Some v)) shape.row.takes Ts
-          (of_terms (length w2.accounts) aw.more Ts below) in
+          (of_terms table (length m.world.accounts) (count s.known) l.below (length w2.accounts) aw.more Ts below) in
           let kept = over.0 in
           let ka = kept.accounts in
           let success : is_success a (Some v) ≡ is_success a (Some (value_of_mark r)) = success_agrees a v

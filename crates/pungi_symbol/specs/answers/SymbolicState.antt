@@ -12,12 +12,13 @@
 --   redirect, gather, merge two tokens become one: their class, their balance, the state
 --   merge_two               the older token stands for both
 --   apply_same, join, take_answer, follow, apply    the state after an answer
---   decisions               all answers, in the order in which the states after them stand
+--   numbered n, answers_of q    the first so many numbered answers; the answers to a question, in the order in which
+--                           the states after them stand
 --   after_if, successors    the states after the answers that the next question still has
 --   after_left              the state after an answer that is left over, if there is one
 use Rattle.std.specs.Prelude.{ℕ, ◌==◌, nat_lt, ℤ, pos, negsuc, ◌+ℤ◌, Bool, true, false, not, ◌&&◌, ◌||◌, List, [], ◌∷◌}
 use Rattle.std.specs.Prelude.{◌++◌, length, get_or, slice_get, slice_set, map, Option, Some, None, if◌then◌else◌}
-use Rattle.std.specs.List.{list_any, flat_map}
+use Rattle.std.specs.List.{list_any, flat_map, range_with_len}
 use Rattle.std.specs.declared.cmp.Ordering.{Ordering}
 use Rattle.std.specs.declared.cmp.Ordering.TheVariants.{Less, Equal, Greater}
 use Rattle.pungi_api.specs.declared.answer.Answer.{Answer}
@@ -220,10 +221,21 @@ follow line Over d s = s
 abbrev pub apply : Option Line → Question → Decision → State → State
 apply line q d s = record (follow line q d s) { known = go line s.known q d }
 
-abbrev pub decisions : List Decision
-decisions =
-    Quiet ∷ Outcome 0 ∷ Outcome 1 ∷ Outcome 2 ∷ Order Less ∷ Order Equal ∷ Order Greater ∷ IsSame false
-    ∷ IsSame true ∷ []
+abbrev pub numbered : ℕ → List Decision
+numbered n = map Outcome (range_with_len 0 n)
+
+-- whether a token is NULL has two answers, and so has whether two tokens are one object
+abbrev pub answers_of : Question → List Decision
+answers_of (Does d) = d ∷ []
+answers_of (Touches m) = Quiet ∷ []
+answers_of (Overwrites m) = numbered 2
+answers_of (AsksNull t) = numbered 2
+answers_of (Base t u i) = IsSame false ∷ IsSame true ∷ []
+answers_of (Answers a) = numbered (length (outcomes_of_answer a))
+answers_of (Same t u) = IsSame false ∷ IsSame true ∷ []
+answers_of (Returns x) = Quiet ∷ []
+answers_of (Stops d) = d ∷ []
+answers_of Over = []
 
 abbrev pub after_if : Option Line → Question → State → Decision → List (Decision × State)
 after_if line q s d = if can s q d then (d, apply line q d s) ∷ [] else []
@@ -233,4 +245,5 @@ after_left line q s None = []
 after_left line q s (Some d) = (d, apply line q d s) ∷ []
 
 abbrev pub successors : List Line → State → List (Decision × State)
-successors code s = flat_map (after_if (slice_get code s.known.pc) (ask code s.known) s) decisions
+successors code s =
+    flat_map (after_if (slice_get code s.known.pc) (ask code s.known) s) (answers_of (ask code s.known))

@@ -17,7 +17,8 @@
 --   asks_return                    it is a return
 --   asks_instr k i, asks_line      what an instruction asks; what the next one asks, if there is one
 --   ask_while, ask code k          what is asked next, where the run isn't over
-use Rattle.std.specs.Prelude.{ℕ, ℤ, pos, Bool, ◌&&◌, not, int_lt, List, [], ◌∷◌, map, slice_get, Option, Some, None}
+--   IsPlaced code k q              a question names a touched slot that is there, or is that of an instruction
+use Rattle.std.specs.Prelude.{ℕ, ◌<◌, length, ℤ, pos, Bool, ◌&&◌, not, int_lt, List, [], ◌∷◌, map, slice_get, Option, Some, None}
 use Rattle.std.specs.Prelude.{if◌then◌else◌}
 use Rattle.std.specs.Ordering.{int_cmp}
 use Rattle.pungi_api.specs.declared.answer.Answer.{Answer}
@@ -51,7 +52,7 @@ use Rattle.pungi_symbol.specs.declared.states.mark.Mark.TheVariants.{Pointer, Te
 use Rattle.pungi_symbol.specs.declared.states.mark.Mark.TheVariants.{IsNumber}
 use Rattle.pungi_symbol.specs.declared.questions.question.Question.{Question}
 use Rattle.pungi_symbol.specs.declared.questions.question.Question.TheVariants.{Does, Touches, Overwrites}
-use Rattle.pungi_symbol.specs.declared.questions.question.Question.TheVariants.{Null as AsksNull, Answers, Same}
+use Rattle.pungi_symbol.specs.declared.questions.question.Question.TheVariants.{Null as AsksNull, Base, Answers, Same}
 use Rattle.pungi_symbol.specs.declared.questions.question.Question.TheVariants.{Returns, Stops, Over}
 use Rattle.pungi_symbol.specs.declared.states.term.Term.{Term}
 use Rattle.pungi_symbol.specs.declared.states.term.Term.TheVariants.{Unset, Null, Text, Number, Token}
@@ -245,3 +246,15 @@ ask_while (status.Stopped p) q = Over
 
 abbrev pub ask : List Line → Known → Question
 ask code k = ask_while k.status (asks_line k (slice_get code k.pc))
+
+abbrev pub IsPlaced : List Line → Known → Question → Type 0
+IsPlaced code k (Base t u i) = i < length k.slots
+IsPlaced code k (Answers a) = k.pc < length code
+IsPlaced code k (Same t u) = k.pc < length code
+IsPlaced code k (Does d) = Unit {0}
+IsPlaced code k (Touches m) = Unit {0}
+IsPlaced code k (Overwrites m) = Unit {0}
+IsPlaced code k (AsksNull t) = Unit {0}
+IsPlaced code k (Returns x) = Unit {0}
+IsPlaced code k (Stops d) = Unit {0}
+IsPlaced code k Over = Unit {0}

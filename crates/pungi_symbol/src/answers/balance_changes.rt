@@ -110,7 +110,7 @@ impl State {
               (StoreOf place a) self.old.balances;
         }) }
     {
-        let found = self.known.seek(place)?;
+        let found = self.known.seek(place);
         let held = self.known.held(found);
         let c = self.known.term(a);
         self.raise(held, 1)?;
