@@ -334,7 +334,10 @@ fn words(rt: HostRuntime) -> Result<(), Fail> {
 fn rows_text(alloc: Global, count: u32) -> Result<String, Fail> {
     let mut text = String::new(alloc);
     for number in 0..count {
-        write!(text, "function.f{number:03} = {{ params = [\"object\"], result = \"new\", takes = [1] }}\n")?;
+        write!(
+            text,
+            "function.f{number:03} = {{ params = [\"object\"], result = \"new\", takes = [1] }}\n"
+        )?;
     }
     Ok(text)
 }
