@@ -2,7 +2,7 @@
 ghost use Rattle.std.specs.Prelude.{◌≡◌, ◌≤◌, map, IfOk};
 ghost use Rattle.pungi_code.specs.WellFormed.{AreWellFormed};
 ghost use Rattle.pungi_layout.specs.code.Codes.{code_for};
-ghost use Rattle.pungi_lower.specs.Lowered.{AreLowered, names_of};
+ghost use Rattle.pungi_lower.specs.Lowered.{AreLowered, AreOfFile, names_of};
 ghost use Rattle.pungi_resolve.specs.Resolutions.{IsResolved, resolution_view};
 ghost use Rattle.pungi_types.specs.Limits.{most_statics};
 ghost use Rattle.pungi_types.specs.Refused.{CheckedFile};
@@ -24,6 +24,7 @@ pub fn lower(
     names: Seq<Name>,
     statics: u32,
 ) -> Result<Codes, Memory>
+    requires { AreOfFile (map resolution_view functions.now) }
     ensures codes { IfOk result (λ c. c.codes ≡ map code_for (map resolution_view functions.now)) }
     ensures names { IfOk result (λ c. c.names ≡ names) }
     ensures statics { IfOk result (λ c. c.statics ≡ statics) }

@@ -24,9 +24,9 @@ use Rattle.pungi_layout.specs.code.ExprCode.{stored_var, counted_var, base_var, 
 use Rattle.pungi_layout.specs.code.ExprCode.{expr_code, base_code, args_code}
 use Rattle.pungi_layout.specs.code.Sound.{IsSound, IsPlaceSound, AreSound}
 use Rattle.pungi_layout.specs.liveness.Liveness.{atom_vars, atoms_vars, Among, AreKnown, WritesFirst}
-use Rattle.pungi_layout.proofs.relation.Relation.{is_same}
+use Rattle.pungi_layout.proofs.relation.Waiting.{is_same}
 use Rattle.pungi_layout.proofs.code.ExprLengths.{expr_long, base_long, args_long, old_long, fit_long}
-use Rattle.pungi_layout.proofs.relation.PlacedExprs.{HasAt, has_front, has_cut}
+use Rattle.pungi_layout.proofs.relation.Standing.{HasAt, has_front, has_cut}
 use Rattle.pungi_layout.proofs.liveness.Paths.{Within, within_all, within_more, within_both, more, by_line}
 
 -- what was written once a value stands in a variable, if there is one

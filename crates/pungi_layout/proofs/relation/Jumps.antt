@@ -13,8 +13,8 @@ use Rattle.pungi_meaning.specs.Work.{or_else}
 use Rattle.pungi_code.specs.declared.code.Line.{Line}
 use Rattle.pungi_layout.specs.code.Sizes.{expr_size, option_size, declare_size, test_size, stmt_size}
 use Rattle.pungi_layout.specs.code.Scopes.{Env, label_or, stmt_label, list_label, in_loop, in_switch}
-use Rattle.pungi_layout.proofs.relation.Relation.{Waiting, StmtAt, LoopAt, loop_body, loop_again, end_of_loop, ListAt}
-use Rattle.pungi_layout.proofs.relation.Relation.{Inside, IsAt}
+use Rattle.pungi_layout.proofs.relation.Waiting.{Waiting, loop_body, loop_again, end_of_loop}
+use Rattle.pungi_layout.proofs.relation.Relation.{StmtAt, LoopAt, ListAt, Inside, IsAt}
 
 pub drop_next : {A : Type 0} (xs : List A) (i : ℕ) (x : A) (ys : List A) → drop i xs ≡ x ∷ ys → drop (suc i) xs ≡ ys
 drop_next [] zero x ys e = absurd (cc)

@@ -26,8 +26,8 @@ use Rattle.pungi_layout.specs.code.Parts.{gives_answer}
 use Rattle.pungi_layout.specs.code.Sizes.{expr_size, args_size}
 use Rattle.pungi_layout.specs.code.ExprCode.{to_var, var}
 use Rattle.pungi_layout.specs.code.Scopes.{Env}
-use Rattle.pungi_layout.proofs.relation.Relation.{Waiting, w, vars_of, answer_var, pushed_if, Stands, IsTemp}
-use Rattle.pungi_layout.proofs.relation.Relation.{ListArgsAt, IsAt}
+use Rattle.pungi_layout.proofs.relation.Waiting.{Waiting, w, vars_of, answer_var, pushed_if}
+use Rattle.pungi_layout.proofs.relation.Relation.{Stands, IsTemp, ListArgsAt, IsAt}
 use Rattle.pungi_layout.proofs.relation.Values.{Stack, Match, pushed, popped, reacted}
 use Rattle.pungi_layout.proofs.simulation.WorldAnswers.{IsAnswer, call_answer}
 use Rattle.pungi_layout.proofs.relation.Steps.{Continues, IsDone, first, still, one, react_by}

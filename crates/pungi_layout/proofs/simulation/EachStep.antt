@@ -9,7 +9,8 @@ use Rattle.pungi_meaning.specs.Run.{act}
 use Rattle.pungi_code.specs.declared.code.Line.{Line}
 use Rattle.pungi_code.specs.Registers.{Regs}
 use Rattle.pungi_layout.specs.code.Scopes.{Env}
-use Rattle.pungi_layout.proofs.relation.Relation.{Waiting, IsAt}
+use Rattle.pungi_layout.proofs.relation.Waiting.{Waiting}
+use Rattle.pungi_layout.proofs.relation.Relation.{IsAt}
 use Rattle.pungi_layout.proofs.relation.Values.{Match}
 use Rattle.pungi_layout.proofs.relation.Steps.{At, IsDone}
 use Rattle.pungi_layout.proofs.simulation.Operators.{compute_sim, step_sim, minus_sim, fit_sim, compare_sim, truth_sim}

@@ -29,9 +29,9 @@ use Rattle.pungi_layout.specs.code.Sizes.{expr_size, place_size, values_size, ar
 use Rattle.pungi_layout.specs.code.Sizes.{sign_size}
 use Rattle.pungi_layout.specs.code.ExprCode.{to_var, var, bit}
 use Rattle.pungi_layout.specs.code.Scopes.{Env}
-use Rattle.pungi_layout.proofs.relation.Relation.{Waiting, w, answer_var, pushed_if, Stands, Does, One, is_same, IsTemp}
-use Rattle.pungi_layout.proofs.relation.Relation.{FitAt, OldAt, StoreAt, level, PutAt, StepAt, ExprAt, BaseAt, ArgsAt}
-use Rattle.pungi_layout.proofs.relation.Relation.{ListArgsAt, IsAt}
+use Rattle.pungi_layout.proofs.relation.Waiting.{Waiting, w, answer_var, pushed_if, One, is_same, level}
+use Rattle.pungi_layout.proofs.relation.Relation.{Stands, Does, IsTemp, FitAt, OldAt, StoreAt, PutAt, StepAt, ExprAt}
+use Rattle.pungi_layout.proofs.relation.Relation.{BaseAt, ArgsAt, ListArgsAt, IsAt}
 use Rattle.pungi_layout.proofs.relation.Values.{Match, pushed, pushed_known}
 use Rattle.pungi_layout.proofs.relation.Steps.{Continues, IsDone, first, set_step, still, one, moved}
 use Rattle.pungi_layout.proofs.simulation.Operators.{bit_is}

@@ -6,6 +6,6 @@ use Rattle.pungi_emit.proofs.stmt.decl.emit_test.Goals as goal
 pub returns : goal.returns
 returns c =
     let h = rw (c.atom.ensures, c.in_ok-value.ensures.var) at c.in_ok-put.ensures in
-    test_laid c.args.around.locals (c.in_ok-place.place + 1) c.in_ok-place.place c.args.other c.args.pos
+    test_laid c.args.around.locals (c.next_place-place.result + 1) c.next_place-place.result c.args.other c.args.pos
     (value_view c.args.test.now) c.args.code.now c.emit_alone.new.code c.put.new.code c.in_ok-value.ensures.code
-    c.in_ok-place.ensures.place refl h
+    c.next_place-place.ensures refl h
