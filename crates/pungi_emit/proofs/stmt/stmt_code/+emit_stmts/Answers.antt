@@ -517,11 +517,12 @@ emit_switched-emit_cases-requires t c =
     (value_long v c.args.around.locals (length c.args.code.now)) in
     let n2 = grown c.emit_alone.new.code c.emit_unsets.new.code (unset_code c.args.pos (block_locals list))
     (length (block_locals list)) c.in_ok-emit_unsets.ensures (unset_long (block_locals list) c.args.pos) in
-    let m = cases_are list from c.args.starts.now c.requires.starts in (
-      sym (length-map c.args.list.now action_view) ∙ sym (starts_long list from)
-          ∙ sym (ap length c.requires.starts),
-      omega (arith, n1, n2, m, switch_is c.args.pos nowhere nowhere v list, c.requires.long),
-    )
+    let m = cases_are list from c.args.starts.now c.requires.starts in
+    record {
+      starts = sym (length-map c.args.list.now action_view) ∙ sym (starts_long list from)
+          ∙ sym (ap length c.requires.starts);
+      long = omega (arith, n1, n2, m, switch_is c.args.pos nowhere nowhere v list, c.requires.long);
+    }
 
 pub emit_switched-default_or-other-requires : goal.emit_switched-default_or-other-requires
 emit_switched-default_or-other-requires t c =
