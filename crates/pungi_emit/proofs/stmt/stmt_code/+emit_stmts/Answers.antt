@@ -809,8 +809,8 @@ emit_body-emit_switch-requires t c =
       ),
     )
 
-pub emit_body-returns-in_ok-emit_switch : goal.emit_body-returns-in_ok-emit_switch
-emit_body-returns-in_ok-emit_switch t c =
+pub emit_body-returns : goal.emit_body-returns
+emit_body-returns t c =
     let body = c.args.body.now in
     let nl = c.args.around.locals in
     let env = env_of c.args.scope.now in
@@ -819,5 +819,5 @@ emit_body-returns-in_ok-emit_switch t c =
     let P : Action → Type 0 = λ a. EmitsStmt nl env (switch c.args.pos v a) c.args.code.now c.emit_switch.new.code
     c.args.plan.now.left.now c.emit_switch.new.plan.left.now in
     let h : P (block body.pos (actions_of (map action_view items)) c.in-Block.field-1) = rw c.deref.ensures.value at
-    c.in_ok-emit_switch.ensures in
+    c.in_ok-emit_switch-in-Block.ensures in
     subst P (sym (block_view body c.in-Block.list c.in-Block.field-1 c.in-Block.is)) h
