@@ -56,9 +56,32 @@ pub as_listed : (vs : List expr.Value) → listed_values (values_of vs) ≡ vs
 as_listed [] = refl
 as_listed (v ∷ vs) = ap (λ l. v ∷ l) (as_listed vs)
 
+pub put_grown : (l : Line) (c0 c1 : List Line) → c1 ≡ c0 ++ l ∷ [] → length c1 ≡ length c0 + 1
+put_grown l c0 c1 e = grown c0 c1 (l ∷ []) 1 e refl
+
 -- ---- expressions
 
 module _ (nl : ℕ) where
+  pub value_grown : (d t : ℕ) (v : expr.Value) (c0 c1 : List Line) → c1 ≡ c0 ++ expr_code nl d t (length c0) v
+      → length c1 ≡ length c0 + expr_size v
+  value_grown d t v c0 c1 e = grown c0 c1 (expr_code nl d t (length c0) v) (expr_size v) e (expr_long v nl d t
+      (length c0))
+
+  pub base_grown : (d : ℕ) (place : expr.Place) (c0 c1 : List Line) → c1 ≡ c0 ++ base_code nl d (length c0) place
+      → length c1 ≡ length c0 + place_size place
+  base_grown d place c0 c1 e = grown c0 c1 (base_code nl d (length c0) place) (place_size place) e
+      (base_long place nl d (length c0))
+
+  pub held_grown : (d t b : ℕ) (kind : ValueKind) (place : expr.Place) (c0 c1 : List Line)
+      → c1 ≡ c0 ++ (base_code nl d (length c0) place ++ old_code kind place t b)
+      → length c1 ≡ length c0 + place_size place + 1
+  held_grown d t b kind place c0 c1 e =
+      let both : length (base_code nl d (length c0) place ++ old_code kind place t b) ≡ place_size place + 1 =
+      long_append (base_code nl d (length c0) place) (old_code kind place t b) (place_size place) 1
+      (base_long place nl d (length c0)) (old_long nl kind place t b) in
+      let n = grown c0 c1 (base_code nl d (length c0) place ++ old_code kind place t b) (place_size place + 1) e both in
+      omega (arith, n)
+
   pub held_emitted : (d t : ℕ) (kind : ValueKind) (place : expr.Place) (c0 c1 c2 : List Line)
       → c1 ≡ c0 ++ base_code nl d (length c0) place → c2 ≡ c1 ++ old_code kind place t (base_var nl place d)
       → c2 ≡ c0 ++ (base_code nl d (length c0) place ++ old_code kind place t (base_var nl place d))

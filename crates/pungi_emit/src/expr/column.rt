@@ -10,7 +10,7 @@ use pungi_resolved::{Value as Node, ValueNode};
 use pungi_types::ValueKind;
 
 /// Which of five variables a value of this kind has.
-pub fn column(kind: ValueKind) -> u32
+pub fn column(kind: ValueKind) -> u8
     ensures column { result ≡ column_of kind }
     ensures low { result < 5 }
 {
@@ -23,7 +23,7 @@ pub fn column(kind: ValueKind) -> u32
     }
 }
 
-fn joined_column(a: u32, b: u32) -> u32
+fn joined_column(a: u8, b: u8) -> u8
     requires left { a < 5 }
     requires right { b < 5 }
     ensures column { result ≡ joined_column a b }
@@ -38,7 +38,7 @@ fn joined_column(a: u32, b: u32) -> u32
     }
 }
 
-fn answer_column(answer: Answer) -> u32
+fn answer_column(answer: Answer) -> u8
     ensures column { result ≡ answer_column answer }
     ensures low { result < 5 }
 {
@@ -51,7 +51,7 @@ fn answer_column(answer: Answer) -> u32
     }
 }
 
-fn form_column(form: Form, answer: Answer) -> u32
+fn form_column(form: Form, answer: Answer) -> u8
     ensures column { result ≡ form_column form answer }
     ensures low { result < 5 }
 {
@@ -62,7 +62,7 @@ fn form_column(form: Form, answer: Answer) -> u32
 }
 
 /// Which of five variables the value of an expression has.
-pub fn value_column(node: &Node) -> u32
+pub fn value_column(node: &Node) -> u8
     ensures column { result ≡ value_column (value_view node.now) }
     ensures low { result < 5 }
 {

@@ -1,12 +1,11 @@
 // Calls of the API.
-ghost use Rattle.std.specs.Prelude.{◌≡◌, ◌++◌, map, IfOk, OnOk};
+ghost use Rattle.std.specs.Prelude.{◌≡◌, ◌+◌, ◌<◌, ◌^◌, ◌++◌, length, map, IfOk, OnOk};
 ghost use Rattle.pungi_resolved.specs.ValueView.{value_view};
 ghost use Rattle.pungi_meaning.specs.Work.{shape_of};
 ghost use Rattle.pungi_layout.specs.code.ExprCode.{row_code, var as var_atom};
 ghost use Rattle.pungi_layout.specs.code.Temporaries.{arg_vars};
 
 use crate::code::instructions::{Around, put};
-use crate::code::number::small;
 use crate::expr::parts::gives_answer;
 use crate::expr::temporary::{atom, front_column, operand, tail};
 use pungi_api::{Param, Row, Shape};
@@ -38,19 +37,20 @@ fn shape_of(alloc: Global, row: &Row) -> Result<Shape, Memory>
 #[tactic(auto, using(crate::proofs::expr::Arguments::args_step))]
 fn arg_atoms(
     alloc: Global,
-    locals: u32,
-    depth: u32,
+    locals: u16,
+    depth: u16,
     params: &[Param],
     args: &[Node],
 ) -> Result<Vec<Atom>, Memory>
+    requires { depth + length args.now < 2 ^ 16 }
     ensures { IfOk result (λ atoms. atoms.items ≡ map var_atom (arg_vars locals depth params.now
         (map value_view args.now))) }
 {
     let mut atoms = Vec::new(alloc);
     let mut left = params;
     for (i, arg) in args.iter().enumerate() {
-        let level = small(depth as u64 + i as u64)?;
-        atoms.push(atom(operand(locals, level, front_column(left), arg)?))?;
+        let level = depth + i as u16;
+        atoms.push(atom(operand(locals, level, front_column(left), arg)))?;
         left = tail(left);
     }
     Ok(atoms)
@@ -60,12 +60,13 @@ fn arg_atoms(
 pub fn emit_row(
     code: &mut Seq<Line>,
     around: Around,
-    depth: u32,
+    depth: u16,
     target: u32,
     pos: Pos,
     shape: &Shape,
     args: &[Node],
 ) -> Result<(), Memory>
+    requires { depth + length args.now < 2 ^ 16 }
     ensures { OnOk result (code.new ≡ code.old ++ row_code around.locals depth target pos shape.now.row
         (map value_view args.now)) }
 {
