@@ -112,7 +112,8 @@ module _ (choices : List Choice) (code : List Line) (table : Table) (base : ℕ)
         → Moved choices code table base s.known.pc (effort s.known) m (record s
         { balances = bs; known = go_on (put_answer z t s.known) })
     moved_by None o t m1 bs k a h e = goes_on m1 (omega (arith, k)) e going (after_none code table base s m1 bs h)
-    moved_by (Some z) None None m1 bs k a h e = goes_on m1 (omega (arith, k)) e going (after_none code table base s m1 bs h)
+    moved_by (Some z) None None m1 bs k a h e = goes_on m1 (omega (arith, k)) e going
+        (after_none code table base s m1 bs h)
     moved_by (Some z) None (Some c) m1 bs k a h e = absurd a
     moved_by (Some z) (Some v) None m1 bs k a h e = absurd a
     moved_by (Some z) (Some v) (Some c) m1 bs k a h e = goes_on (put z (content.Holds v) m1) (omega (arith, k)) e
@@ -161,7 +162,8 @@ module _ (choices : List Choice) (code : List Line) (table : Table) (base : ℕ)
             vars = l.vars;
             slots = kept.slots ∙ l.slots;
             used = let a = length-append m.used (replicate 0 p) in let c = l.used in omega (arith, a, c);
-            claims = λ o. (let a = counted_owed m.world Vf by o (of_term table (length m.world.accounts) (count s.known) l.below Tf b) in let c = at_term table s l.fits w o
+            claims = λ o. (let a = counted_owed m.world Vf by o (of_term table (length m.world.accounts)
+                (count s.known) l.below Tf b) in let c = at_term table s l.fits w o
                 Tf by s.balances kn b w.notes.balances_long in let d = l.claims o in let f = ap (named o table) e in
                 omega (arith, ints, a, c, d, f));
             below = λ t lt. subst (λ n. IsOf n (at table t)) (sym kept.accounts) (l.below t lt);
@@ -277,7 +279,8 @@ module _ (choices : List Choice) (code : List Line) (table : Table) (base : ℕ)
       quiet_lies : KnownTaken s.known shape.row.takes Ts → shape.row.form ≡ form.Plain
           → Lies code table base (Used 0 (take_over m.world false shape.row.takes Vs)) (record s { balances = B1 })
       quiet_lies kt e =
-          let over = taken_over_is table m.world false shape.row.takes Ts (of_terms table (length m.world.accounts) (count s.known) l.below (length m.world.accounts)
+          let over = taken_over_is table m.world false shape.row.takes Ts (of_terms table (length m.world.accounts)
+          (count s.known) l.below (length m.world.accounts)
           (omega arith) Ts below) in
           let kept = over.0 in
           record {
@@ -306,7 +309,8 @@ module _ (choices : List Choice) (code : List Line) (table : Table) (base : ℕ)
           → Result choices code table base m s going w l p I (Does Quiet)
       quiet_result o t e f kt a g h =
           done_result o (Used 0 (take_over m.world false shape.row.takes Vs)) (taken_over_is table m.world false
-          shape.row.takes Ts (of_terms table (length m.world.accounts) (count s.known) l.below (length m.world.accounts) (omega arith) Ts below)).0.accounts is
+          shape.row.takes Ts (of_terms table (length m.world.accounts) (count s.known) l.below
+          (length m.world.accounts) (omega arith) Ts below)).0.accounts is
           (subst (AnswerIs table o) (sym (ap (λ z. answer_of_form z shape.row.answer Tf) e ∙ g)) a) (quiet_lies kt e)
           (plain_led e f ∙ ap CallGo h ∙ ap (goes (s.known.pc + 1)) (no_outputs outs
           (regs_answered x o (Used 0 (take_over m.world false shape.row.takes Vs)))))
@@ -477,10 +481,12 @@ module _ (choices : List Choice) (code : List Line) (table : Table) (base : ℕ)
     call_result linked small h is = elim (set_is table s.known s.statics m.vars
         (atom_is choices code table base m s going w l p) as' h) [
           | not_set f g ↦ subst (Result choices code table base m s going w l p I)
-              (sym (f (asks_form s.known shape.row.form shape Ts))) (stops_result choices code table base m s going w l p
+              (sym (f (asks_form s.known shape.row.form shape Ts))) (stops_result choices code table base m s going
+              w l p
               I Quiet is (ap (λ o. on_values o p m CallOn) g))
           | are_set f g set ↦ subst (Result choices code table base m s going w l p I)
               (sym (f (asks_form s.known shape.row.form shape Ts))) (form_result is g set
-              (all_below s.known s.statics (below_is choices code table base m s going w l p) as' h) shape.row.form linked
+              (all_below s.known s.statics (below_is choices code table base m s going w l p) as' h) shape.row.form
+              linked
               refl small)
         ]
