@@ -15,7 +15,7 @@ TOP = os.path.dirname(HERE)
 STATEMENTS = [
     ("what a run of a function is", ["pungi_meaning.specs.Run.run_of"]),
     ("clean and faulty", ["pungi_verdict.specs.Sound.IsSound"]),
-    ("clean and faulty, from the bytes of a file to those of the report", ["pungi.specs.Answer.HasSoundReport"]),
+    ("clean and faulty, from the bytes of a file to those of the report", ["pungi.specs.Answer.IsReportFor", "pungi_verdict.specs.Sound.IsSound"]),
     ("a verdict: clean and faulty, refusals and causes", ["pungi_verdict.specs.Verdicts.IsJudged"]),
     ("the headline, from the bytes of a file to those of the report", ["pungi.specs.Answer.Answers"]),
 ]

@@ -1,11 +1,14 @@
 -- Why a text is refused by each part of the front end, and that it is no file then.
 use Rattle.std.proofs.Common.{◌≡◌, ◌⊎◌, ⊎_elim, ℕ, suc, false, List, [], ◌∷◌, length, Option, Some, None, Result, Ok}
 use Rattle.std.proofs.Common.{Err, refl, sym, subst, arith}
+use Rattle.std.specs.List.{AllZip}
 use Rattle.std.proofs.lemmas.List.Elements.{All-cons, All-nil}
 use Rattle.pungi_base.specs.declared.kind.Kind.{Kind}
 use Rattle.pungi_base.specs.declared.pos.Pos.{Pos}
 use Rattle.pungi_base.specs.declared.token.Token.{Token}
-use Rattle.pungi_base.specs.Words.{builtin_words}
+use Rattle.pungi_api.specs.declared.row.Row.{Row}
+use Rattle.pungi_base.specs.declared.names.Name.{Name}
+use Rattle.pungi_base.specs.declared.verdict.Verdict.{Verdict}
 use Rattle.pungi_lex.specs.declared.lex_fault.LexFault.{LexFault}
 use Rattle.pungi_lex.specs.declared.lex_fault.LexFault.TheVariants as lex
 use Rattle.pungi_lex.specs.declared.macro_fault.MacroFault.{MacroFault}
@@ -25,14 +28,15 @@ use Rattle.pungi_tree.specs.Syntax.{Item}
 use Rattle.pungi_check.specs.Duplicates.{faults}
 use Rattle.pungi_check.specs.Found.{checked_view, IsChecked}
 use Rattle.pungi_check.specs.declared.checked.Checked.{Checked}
-use Rattle.pungi_types.specs.Files.{SourceFile}
+use Rattle.pungi_types.specs.Files.{SourceFile, definitions, source_file}
 use Rattle.pungi_types.specs.Findings.{least}
 use Rattle.pungi_types.specs.Refused.{IsRefusedSet}
 use Rattle.pungi_verdict.specs.Verdicts.{IsJudged}
 use Rattle.pungi.specs.declared.file_fault.FileFault.{FileFault}
 use Rattle.pungi.specs.declared.file_fault.FileFault.TheVariants as fault
-use Rattle.pungi.specs.Examine.{IsReport, IsReportOn}
-use Rattle.pungi.specs.Front.{IsUnitOf, IsNoUnit, IsNoFile, IsRefusedAs, file_known, refused_text, IsUnitFault}
+use Rattle.pungi.specs.Api.{Api}
+use Rattle.pungi.specs.Examine.{AreVerdicts}
+use Rattle.pungi.specs.Front.{IsUnitOf, IsNoUnit, IsNoFile, IsRefusedAs, refused_text, IsUnitFault}
 use Rattle.pungi.specs.Front.{IsParseFault, IsFaultOf, AreKnownKinds, lex_reason, macro_reason, parse_reason}
 use Rattle.pungi.specs.Front.{unit_reason, reason_of}
 
@@ -43,16 +47,12 @@ lex_known (lex.OpenComment at) told h = refl
 lex_known (lex.OpenText at) told h = refl
 lex_known (lex.Number at) told h = refl
 
-pub lex_refused : (old : List (List ℕ)) (bytes : List ℕ) (found : LexFault) → old ≡ builtin_words
+pub lex_refused : (old : List (List ℕ)) (rows : List (ℕ × Row)) (bytes : List ℕ) (found : LexFault)
     → (is_memory found ≡ false → HasFault bytes found) → (is_memory found ≡ false → HasNoTokens old bytes)
     → (told : Pos × List ℕ) → reason_of (fault.Lex found) ≡ Some told
-    → IsFaultOf bytes (fault.Lex found) × IsNoUnit bytes
-lex_refused old bytes found is holds none told h =
-    let m = lex_known found told h in (
-      holds m,
-      λ names items file. none m names file.tokens (subst (λ (words : List (List ℕ)). AreTokensOf words
-          names bytes file.tokens) (sym is) file.cut),
-    )
+    → IsFaultOf (record { names = old; rows = rows }) bytes (fault.Lex found) × IsNoUnit old bytes
+lex_refused old rows bytes found holds none told h =
+    let m = lex_known found told h in (holds m, λ names items file. none m names file.tokens file.cut)
 
 macro_known : (found : MacroFault) (told : Pos × List ℕ) → macro_reason found ≡ Some told
     → is_want_of_memory found ≡ false
@@ -64,48 +64,42 @@ macro_known (macro.TooManyTokens at) told h = refl
 
 -- the tokens of a text, under the names after it, and no others
 pub record IsLexed (old new : List (List ℕ)) (text : List ℕ) (tokens : List Token) : Type 0 where
-  pub builtin : old ≡ builtin_words
   pub cut : AreTokensOf old new text tokens
   pub only : (after : List (List ℕ)) (others : List Token) → AreTokensOf old after text others
       → (after ≡ new) × (others ≡ tokens)
 
-pub lexed : (old new : List (List ℕ)) (text : List ℕ) (shown tokens : List Token) → old ≡ builtin_words
-    → shown ≡ tokens → AreTokensOf old new text tokens
+pub lexed : (old new : List (List ℕ)) (text : List ℕ) (shown tokens : List Token) → shown ≡ tokens → AreTokensOf old new text tokens
     → ((after : List (List ℕ)) (others : List Token) → AreTokensOf old after text others
     → (after ≡ new) × (others ≡ tokens)) → IsLexed old new text shown
-lexed old new text shown tokens is same cut only =
-    subst (λ (ts : List Token). IsLexed old new text ts) (sym same) (record { builtin = is; cut = cut; only = only })
-
-own_cut : (old new : List (List ℕ)) (text : List ℕ) (tokens : List Token) → IsLexed old new text tokens
-    → AreTokensOf builtin_words new text tokens
-own_cut old new text tokens l = subst (λ (words : List (List ℕ)). AreTokensOf words new text tokens) l.builtin l.cut
+lexed old new text shown tokens same cut only =
+    subst (λ (ts : List Token). IsLexed old new text ts) (sym same) (record { cut = cut; only = only })
 
 -- a file's tokens are these, and so are its names
 same_lexed : (old new : List (List ℕ)) (text : List ℕ) (tokens : List Token) → IsLexed old new text tokens
-    → (names : List (List ℕ)) (items : List Item) (file : IsUnitOf text names items)
+    → (names : List (List ℕ)) (items : List Item) (file : IsUnitOf old text names items)
     → (names ≡ new) × (file.tokens ≡ tokens)
 same_lexed old new text tokens l names items file =
-    l.only names file.tokens (subst (λ (words : List (List ℕ)). AreTokensOf words names text file.tokens)
-    (sym l.builtin) file.cut)
+    l.only names file.tokens file.cut
 
 -- its expansion is one of these tokens
 expansion_of : (old new : List (List ℕ)) (text : List ℕ) (tokens : List Token) → IsLexed old new text tokens
-    → (names : List (List ℕ)) (items : List Item) (file : IsUnitOf text names items)
+    → (names : List (List ℕ)) (items : List Item) (file : IsUnitOf old text names items)
     → IsExpanded (length new) tokens file.expanded
 expansion_of old new text tokens l names items file =
     let s = same_lexed old new text tokens l names items file in
     subst (λ (ts : List Token). IsExpanded (length new) ts file.expanded) s.1
     (subst (λ (ns : List (List ℕ)). IsExpanded (length ns) file.tokens file.expanded) s.0 file.replaced)
 
-pub macro_refused : (old new : List (List ℕ)) (text : List ℕ) (tokens : List Token) (found : MacroFault)
+pub macro_refused : (old new : List (List ℕ)) (rows : List (ℕ × Row)) (text : List ℕ) (tokens : List Token)
+    (found : MacroFault)
     → IsLexed old new text tokens
     → (is_want_of_memory found ≡ false → HasMacroFault (length new) tokens found)
     → (is_want_of_memory found ≡ false → HasNoExpansion (length new) tokens)
     → (told : Pos × List ℕ) → reason_of (fault.Macro found) ≡ Some told
-    → IsFaultOf text (fault.Macro found) × IsNoUnit text
-macro_refused old new text tokens found l holds none told h =
+    → IsFaultOf (record { names = old; rows = rows }) text (fault.Macro found) × IsNoUnit old text
+macro_refused old new rows text tokens found l holds none told h =
     let m = macro_known found told h in (
-      (new, tokens, own_cut old new text tokens l, holds m),
+      (new, tokens, l.cut, holds m),
       λ names items file. none m file.expanded
           (expansion_of old new text tokens l names items file),
     )
@@ -126,14 +120,14 @@ ready old new text tokens shown expanded l same replaced only =
 
 same_expansion : (old new : List (List ℕ)) (text : List ℕ) (tokens expanded : List Token)
     → IsReady old new text tokens expanded → (names : List (List ℕ)) (items : List Item)
-    (file : IsUnitOf text names items)
+    (file : IsUnitOf old text names items)
     → file.expanded ≡ expanded
 same_expansion old new text tokens expanded r names items file =
     r.only file.expanded (expansion_of old new text tokens r.lexed names items file)
 
 file_unit : (old new : List (List ℕ)) (text : List ℕ) (tokens expanded : List Token)
     → IsReady old new text tokens expanded → (names : List (List ℕ)) (items : List Item)
-    (file : IsUnitOf text names items)
+    (file : IsUnitOf old text names items)
     → (too_deep 0 (placed expanded) ≡ None) × IsUnit items (placed expanded)
 file_unit old new text tokens expanded r names items file =
     let e = same_expansion old new text tokens expanded r names items file in (
@@ -170,13 +164,14 @@ parse_fault ts (parse.Deep p) told h a = (a.deep p refl, λ items n u. let d = a
 parse_fault ts (parse.NotAUnit p) told h a =
     ((no_depth ts p (too_deep 0 ts) refl a, a.not_a_unit p refl), λ items n u. let m = a.only items n u in cc)
 
-pub parse_refused : (old new : List (List ℕ)) (text : List ℕ) (tokens expanded : List Token) (found : ParseFault)
+pub parse_refused : (old new : List (List ℕ)) (rows : List (ℕ × Row)) (text : List ℕ) (tokens expanded : List Token)
+    (found : ParseFault)
     → IsReady old new text tokens expanded → IsParsed (placed expanded) found
     → (told : Pos × List ℕ) → reason_of (fault.Parse found) ≡ Some told
-    → IsFaultOf text (fault.Parse found) × IsNoUnit text
-parse_refused old new text tokens expanded found r a told h =
+    → IsFaultOf (record { names = old; rows = rows }) text (fault.Parse found) × IsNoUnit old text
+parse_refused old new rows text tokens expanded found r a told h =
     let f = parse_fault (placed expanded) found told h a in (
-      (new, tokens, expanded, own_cut old new text tokens r.lexed, r.replaced, f.0),
+      (new, tokens, expanded, r.lexed.cut, r.replaced, f.0),
       λ names items file. let u = file_unit old new text tokens expanded r names items file in f.1 items u.0 u.1,
     )
 
@@ -187,11 +182,12 @@ not_deep ts (Some p) h a = absurd (a p h)
 
 pub is_unit : (old new : List (List ℕ)) (text : List ℕ) (tokens expanded : List Token) (items : List Item)
     → IsReady old new text tokens expanded
-    → ((p : Pos) → too_deep 0 (placed expanded) ≡ Some p → ⊥) → IsUnit items (placed expanded) → IsUnitOf text new items
+    → ((p : Pos) → too_deep 0 (placed expanded) ≡ Some p → ⊥) → IsUnit items (placed expanded)
+    → IsUnitOf old text new items
 is_unit old new text tokens expanded items r shallow unit = record {
   tokens = tokens;
   expanded = expanded;
-  cut = own_cut old new text tokens r.lexed;
+  cut = r.lexed.cut;
   replaced = r.replaced;
   shallow = not_deep (placed expanded) (too_deep 0 (placed expanded)) refl shallow;
   unit = unit;
@@ -212,18 +208,25 @@ kinds_length (t ∷ tokens) = rw (kinds_length tokens) refl
 pub only_items : (old new : List (List ℕ)) (text : List ℕ) (tokens expanded : List Token) (items : List Item)
     → IsReady old new text tokens expanded
     → ((others : List Item) → too_deep 0 (placed expanded) ≡ None → IsUnit others (placed expanded) → items ≡ others)
-    → (names : List (List ℕ)) (others : List Item) → IsUnitOf text names others → others ≡ items
+    → (names : List (List ℕ)) (others : List Item) → IsUnitOf old text names others → others ≡ items
 only_items old new text tokens expanded items r only names others file =
     let u = file_unit old new text tokens expanded r names others file in sym (only others u.0 u.1)
 
-no_unit_no_file : (text : List ℕ) → IsNoUnit text → IsNoFile text
-no_unit_no_file text none names items file = none names items file.spelled
+no_unit_no_file : (api : Api) (text : List ℕ) → IsNoUnit api.names text → IsNoFile api text
+no_unit_no_file api text none names items file = none names items file.spelled
 
 -- a text that spells nothing is no file
-pub no_file : (text : List ℕ) (found : FileFault)
-    → ((told : Pos × List ℕ) → reason_of found ≡ Some told → IsFaultOf text found × IsNoUnit text)
-    → (told : Pos × List ℕ) → reason_of found ≡ Some told → IsFaultOf text found × IsNoFile text
-no_file text found none told h = let n = none told h in (n.0, no_unit_no_file text n.1)
+pub no_file : (api : Api) (text : List ℕ) (found : FileFault)
+    → ((told : Pos × List ℕ) → reason_of found ≡ Some told → IsFaultOf api text found × IsNoUnit api.names text)
+    → (told : Pos × List ℕ) → reason_of found ≡ Some told → IsFaultOf api text found × IsNoFile api text
+no_file api text found none told h = let n = none told h in (n.0, no_unit_no_file api text n.1)
+
+-- want of memory says nothing of a text
+pub no_memory : (api : Api) (text : List ℕ) (found : FileFault) → found ≡ fault.Memory
+    → (told : Pos × List ℕ) → reason_of found ≡ Some told → IsFaultOf api text found × IsNoFile api text
+no_memory api text found is told h =
+    let none : ◌≡◌ {A = Option (Pos × List ℕ)} None (Some told) =
+    subst (λ (f : FileFault). reason_of f ≡ Some told) is h in absurd (cc)
 
 unit_fault : (file : SourceFile) (found : UnitFault) (told : Pos × List ℕ) → unit_reason found ≡ Some told
     → IsFaultOfUnit file found
@@ -233,42 +236,44 @@ unit_fault file (unit.DuplicateName at) told h a = (a, λ n. let b = a in cc)
 unit_fault file (unit.TooManyFunctions at) told h a = (a, λ n. let b = a in cc)
 
 -- the texts of names say nothing of a fault
-no_fault : (names others : List (List ℕ)) (items more : List Item) → more ≡ items
-    → least (faults (file_known others more)) ≡ None → least (faults (file_known names items)) ≡ None
-no_fault names others items more same h = subst (λ (is : List Item). least (faults (file_known names is)) ≡ None) same h
+no_fault : (rows : List (ℕ × Row)) (names others : List (List ℕ)) (items more : List Item) → more ≡ items
+    → least (faults (source_file others more rows)) ≡ None → least (faults (source_file names items rows)) ≡ None
+no_fault rows names others items more same h =
+    subst (λ (is : List Item). least (faults (source_file names is rows)) ≡ None) same h
 
-pub unit_refused : (text : List ℕ) (names : List (List ℕ)) (items : List Item) (found : UnitFault)
-    → IsUnitOf text names items
-    → ((others : List (List ℕ)) (more : List Item) → IsUnitOf text others more → more ≡ items)
-    → IsFaultOfUnit (file_known names items) found
+pub unit_refused : (api : Api) (text : List ℕ) (names : List (List ℕ)) (items : List Item) (found : UnitFault)
+    → IsUnitOf api.names text names items
+    → ((others : List (List ℕ)) (more : List Item) → IsUnitOf api.names text others more → more ≡ items)
+    → IsFaultOfUnit (source_file names items api.rows) found
     → (told : Pos × List ℕ) → reason_of (fault.Unit found) ≡ Some told
-    → IsFaultOf text (fault.Unit found) × IsNoFile text
-unit_refused text names items found spelled only holds told h =
-    let f = unit_fault (file_known names items) found told h holds in (
+    → IsFaultOf api text (fault.Unit found) × IsNoFile api text
+unit_refused api text names items found spelled only holds told h =
+    let f = unit_fault (source_file names items api.rows) found told h holds in (
       (names, items, spelled, f.0),
-      λ others more file. f.1 (no_fault names others items more (only others more file.spelled) file.distinct),
+      λ others more file. f.1 (no_fault api.rows names others items more (only others more file.spelled)
+          file.distinct),
     )
 
--- the report on a file that is accepted
-pub report_on : (text : List ℕ) (names : List (List ℕ)) (items : List Item) (x : Checked) (status : ℕ)
-    (report : List ℕ) → IsUnitOf text names items
-    → (checked_view x).file ≡ file_known names items → IsChecked x
-    → IsReportOn IsJudged names (checked_view x) status report → IsReport text status report
-report_on text names items x status report spelled same found is = record {
-  names = names;
+-- the verdicts on a file that is accepted
+pub verdicts_on : (api : Api) (text : List ℕ) (names : List (List ℕ)) (items : List Item) (x : Checked)
+    (lines : List (Name × Verdict)) → IsUnitOf api.names text names items
+    → (checked_view x).file ≡ source_file names items api.rows → IsChecked x
+    → AllZip (IsJudged (checked_view x)) (definitions (checked_view x).file.items) lines
+    → AreVerdicts IsJudged api text names lines
+verdicts_on api text names items x lines spelled same found is = record {
   items = items;
   file = record { spelled = spelled; distinct = subst (λ (f : SourceFile). least (faults f) ≡ None) same found.none };
   refused = x.refused.keys;
   least = subst (λ (f : SourceFile). IsRefusedSet f x.refused.keys) same found.set;
-  report = subst (λ (f : SourceFile). IsReportOn IsJudged names (record { file = f; refused = x.refused.keys })
-      status report) same is;
+  judged = subst (λ (f : SourceFile). AllZip (IsJudged (record { file = f; refused = x.refused.keys }))
+      (definitions f.items) lines) same is;
 }
 
 -- a text that is refused for this fault
-pub refused_as : (text : List ℕ) (found : FileFault) (answer : List ℕ)
-    → ((told : Pos × List ℕ) → reason_of found ≡ Some told → IsFaultOf text found × IsNoFile text)
+pub refused_as : (api : Api) (text : List ℕ) (found : FileFault) (answer : List ℕ)
+    → ((told : Pos × List ℕ) → reason_of found ≡ Some told → IsFaultOf api text found × IsNoFile api text)
     → (at : Pos) × (reason : List ℕ) × (reason_of found ≡ Some (at, reason)) × (answer ≡ refused_text at reason)
-    → IsRefusedAs text answer
-refused_as text found answer is said =
+    → IsRefusedAs api text answer
+refused_as api text found answer is said =
     let f = is (said.0, said.1) said.2 in
     record { none = f.1; cause = found; holds = f.0; at = said.0; reason = said.1; told = said.2; printed = said.3 }

@@ -2,7 +2,6 @@
 use Rattle.std.proofs.Common.{◌≡◌, ℕ, ◌<◌, List, ◌++◌, length, take, drop, Option, Some, None, sym, ap, ◌∙◌}
 use Rattle.std.proofs.Common.{append_assoc, length-append, take-append-drop, arith, [], subst, append-nil}
 use Rattle.pungi.specs.Read.{IsFront, IsWhole}
-use Rattle.pungi.specs.Limits.{file_limit}
 
 -- where the texts are known, the bytes so far and what is left are the text of the name
 abbrev pub Left : Option (List ℕ → Option (List ℕ)) → List ℕ → Option (List ℕ) → List ℕ → Type 0
@@ -17,12 +16,12 @@ front_left (Some texts) name None bytes left = absurd left
 front_left (Some texts) name (Some rest) bytes left = (rest, left)
 
 pub long_left : (texts : Option (List ℕ → Option (List ℕ))) (name : List ℕ) (rest : Option (List ℕ))
-    (bytes bytes_read : List ℕ) → Left texts name rest bytes → bytes ≡ bytes_read → file_limit < length bytes
-    → IsFront texts name bytes_read × (file_limit < length bytes_read)
-long_left texts name rest bytes bytes_read left same long = (
+    (bytes bytes_read : List ℕ) (limit : ℕ) → Left texts name rest bytes → bytes ≡ bytes_read → limit < length bytes
+    → IsFront texts name bytes_read × (limit < length bytes_read)
+long_left texts name rest bytes bytes_read limit left same long = (
   subst (λ (b : List ℕ). IsFront texts name b) same (front_left texts name rest bytes left),
   subst
-      (λ (b : List ℕ). file_limit < length b) same long,
+      (λ (b : List ℕ). limit < length b) same long,
 )
 
 some_same : (x y : List ℕ) → ◌≡◌ {A = Option (List ℕ)} (Some x) (Some y) → x ≡ y

@@ -1,5 +1,9 @@
+pub mod Asked
 pub mod Causes
+pub mod Configured
 pub mod Fronts
 pub mod LeftToRead
 pub mod Named
 pub mod Sound
+pub mod Statuses
+pub mod Trials

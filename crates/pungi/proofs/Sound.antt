@@ -1,5 +1,5 @@
 -- What is said of each line of a report.
-use Rattle.std.proofs.Common.{◌≡◌, ℕ, ◌≤◌, Bool, true, false, List, [], ◌∷◌, Option, Some, if◌then◌else◌, arith}
+use Rattle.std.proofs.Common.{◌≡◌, ℕ, ◌≤◌, Bool, true, false, List, [], ◌∷◌, Option, Some, None, if◌then◌else◌, arith}
 use Rattle.std.specs.List.{AllZip, list_any}
 use Rattle.pungi_base.specs.declared.names.Name.{Name}
 use Rattle.pungi_base.specs.declared.verdict.Verdict.{Verdict}
@@ -9,8 +9,12 @@ use Rattle.pungi_verdict.specs.Causes.{IsCaused}
 use Rattle.pungi_verdict.specs.Refusals.{IsRefused}
 use Rattle.pungi_verdict.specs.Sound.{IsSound}
 use Rattle.pungi_verdict.specs.Verdicts.{IsJudged}
-use Rattle.pungi.specs.Answer.{Answers, HasSoundReport, IsReported}
-use Rattle.pungi.specs.Examine.{IsReport, IsSoundReport, is_faulty, is_open, status_of}
+use Rattle.pungi_config.specs.Command.{Asked, file, trial}
+use Rattle.pungi_trial.specs.Text.{trial_text}
+use Rattle.pungi.specs.Answer.{IsReportFor}
+use Rattle.pungi.specs.Api.{Api, builtin_api}
+use Rattle.pungi.specs.Examine.{AreVerdicts, IsReportOf, IsTrialOf, is_faulty, is_open, status_of}
+use Rattle.pungi.specs.Shelves.{Stand}
 use Rattle.pungi.specs.Status.{all_clean, some_faulty, some_open}
 
 low_open : (b : Bool) → (if b then some_open else all_clean) ≤ some_open
@@ -46,31 +50,38 @@ all_sound c [] (line ∷ lines) judged = absurd judged
 all_sound c (d ∷ ds) [] judged = absurd judged
 all_sound c (d ∷ ds) (line ∷ lines) judged = (judged.0.sound, all_sound c ds lines judged.1)
 
-sound_report : (text : List ℕ) (status : ℕ) (bytes : List ℕ) → IsReport text status bytes
-    → IsSoundReport text status bytes
-sound_report text status bytes is =
-    let report = is.report in
-    record {
-      names = is.names;
-      items = is.items;
-      file = is.file;
-      refused = is.refused;
-      least = is.least;
-      report = record {
-        lines = report.lines;
-        judged = all_sound _ _ report.lines report.judged;
-        counted = report.counted;
-        printed = report.printed;
-        readable = report.readable;
-        fits = report.fits;
-        only = report.only;
-      };
-    }
+sound_verdicts : (api : Api) (text : List ℕ) (names : List (List ℕ)) (lines : List (Name × Verdict))
+    → AreVerdicts IsJudged api text names lines → AreVerdicts IsSound api text names lines
+sound_verdicts api text names lines is = record {
+  items = is.items;
+  file = is.file;
+  refused = is.refused;
+  least = is.least;
+  judged = all_sound _ _ lines is.judged;
+}
 
-pub sound_answer : (words : List (List ℕ)) (texts : Option (List ℕ → Option (List ℕ))) (rest : Option (List ℕ))
-    (bytes_read : List ℕ) (before after status : ℕ) (answer : List ℕ)
-    → Answers words texts rest bytes_read before after status answer → IsReported status
-    → HasSoundReport words texts rest bytes_read status answer
-sound_answer words texts rest bytes_read before after status answer a reported =
-    let r = a.report reported in
-    (r.0, r.1, r.2, sound_report bytes_read status answer r.4)
+sound_report : (api : Api) (text : List ℕ) (status : ℕ) (bytes : List ℕ) → IsReportOf IsJudged api text status bytes
+    → IsReportOf IsSound api text status bytes
+sound_report api text status bytes is = record {
+  names = is.names;
+  lines = is.lines;
+  verdicts = sound_verdicts api text is.names is.lines is.verdicts;
+  report = is.report;
+}
+
+sound_trial : (n status : ℕ) (line : List ℕ) → IsTrialOf IsJudged n status line → IsTrialOf IsSound n status line
+sound_trial n status line is = record {
+  names = is.names;
+  lines = is.lines;
+  verdicts = sound_verdicts builtin_api (trial_text n) is.names is.lines is.verdicts;
+  counted = is.counted;
+  printed = is.printed;
+}
+
+pub sound_answer : (first middle last : Stand) (asked : Option Asked) (status : ℕ) (answer : List ℕ)
+    → IsReportFor IsJudged first middle last asked status answer
+    → IsReportFor IsSound first middle last asked status answer
+sound_answer first middle last None status answer is = absurd is
+sound_answer first middle last (Some (file name config)) status answer (api, known, whole, short, is) =
+    (api, known, whole, short, sound_report api last.bytes_read status answer is)
+sound_answer first middle last (Some (trial n)) status answer (short, is) = (short, sound_trial n status answer is)

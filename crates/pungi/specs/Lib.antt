@@ -1,8 +1,12 @@
 pub mod Answer
+pub mod Api
+pub mod Causes
 pub mod Examine
+pub mod File
 pub mod FolderShelf
 pub mod Front
 pub mod Limits
+pub mod Load
 pub mod Read
-pub mod Settings
+pub mod Shelves
 pub mod Status

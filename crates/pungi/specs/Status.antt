@@ -3,9 +3,10 @@
 --   some_faulty      some function is faulty
 --   some_open        no function is faulty, and some is neither clean nor faulty
 --   words_refused    the words of the command are refused
---   file_unread      the file can't be read
+--   file_unread      a file can't be read
 --   answer_cut       the text of the answer could not be written whole
---   file_refused     the file is refused
+--   file_refused     the file, or the text of a trial, is refused
+--   config_refused   the configuration is refused
 --   memory_wanted    memory ran out
 use Rattle.std.specs.Prelude.{ℕ}
 
@@ -29,6 +30,9 @@ answer_cut = 5
 
 abbrev pub file_refused : ℕ
 file_refused = 6
+
+abbrev pub config_refused : ℕ
+config_refused = 7
 
 abbrev pub memory_wanted : ℕ
 memory_wanted = 8

@@ -1,5 +1,5 @@
 ghost use Rattle.std.specs.Prelude.{◌≡◌, ◌++◌, ◌∷◌, [], IfOk};
-ghost use Rattle.pungi.specs.Answer.{unread_text};
+ghost use Rattle.pungi.specs.Load.{unread_text};
 ghost use Rattle.pungi.specs.Status.{file_unread};
 
 use crate::status::FILE_UNREAD;
@@ -24,7 +24,7 @@ pub fn message(alloc: Global, status: u8, line: &str) -> Result<Answer, Memory>
     Ok(Answer { status, text })
 }
 
-/// That the file can't be read.
+/// That a file can't be read.
 pub fn unread_answer(alloc: Global, file: &str) -> Result<Answer, Memory>
     ensures { IfOk result (λ a. (a.status ≡ file_unread) × (a.text.items ≡ unread_text file.now)) }
 {

@@ -1,97 +1,68 @@
-ghost use Rattle.std.specs.Prelude.{◌≡◌, ◌⊎◌, ◌≤◌, length, IfOk};
-ghost use Rattle.std.specs.List.{list_any};
+ghost use Rattle.std.specs.Prelude.{◌≡◌, ◌≤◌, ◌<◌, ◌^◌, List, ℕ, Some, length, IfOk, IfErr};
+ghost use Rattle.std.specs.List.{All, AllZip};
+ghost use Rattle.pungi_base.specs.Words.{BeginWithWords};
+ghost use Rattle.pungi_base.specs.declared.pos.Pos.{Pos};
 ghost use Rattle.pungi_check.specs.Found.{checked_view, IsChecked};
+ghost use Rattle.pungi_report.specs.Text.{IsLine};
 ghost use Rattle.pungi_tree.specs.UnitFlat.{items_flat};
+ghost use Rattle.pungi_types.specs.Files.{definitions};
 ghost use Rattle.pungi_verdict.specs.Verdicts.{IsJudged};
-ghost use Rattle.pungi.specs.Examine.{IsReport, IsReportOn, is_faulty, is_open, status_of};
-ghost use Rattle.pungi.specs.Front.{AreKnownKinds, IsRefusedAs};
+ghost use Rattle.pungi.specs.Examine.{AreVerdicts};
+ghost use Rattle.pungi.specs.Front.{AreKnownKinds, IsFaultOf, IsNoFile, reason_of};
 ghost use Rattle.pungi.specs.Limits.{file_limit};
-ghost use Rattle.pungi.specs.Status.{some_open, file_refused};
 
-use crate::answer::Answer;
 use crate::file_fault::FileFault;
 use crate::front::unit_of;
-use crate::refusal::refusal_answer;
-use crate::status::{ALL_CLEAN, SOME_FAULTY, SOME_OPEN};
 use pungi_api::Table;
 use pungi_base::{Memory, Name, Names, Verdict};
 use pungi_check::{Checked, check};
-use pungi_report::{report, report_is_read_back};
 use pungi_verdict::judge_all;
 use std::alloc::Global;
 
-fn is_faulty(verdict: &Verdict) -> bool
-    ensures { result ≡ is_faulty verdict.now }
-{
-    match verdict {
-        Verdict::Faulty(_) => true,
-        Verdict::Clean | Verdict::Unknown(_) | Verdict::Refused(..) => false,
-    }
-}
-
-fn is_open(verdict: &Verdict) -> bool
-    ensures { result ≡ is_open verdict.now }
-{
-    match verdict {
-        Verdict::Unknown(_) | Verdict::Refused(..) => true,
-        Verdict::Clean | Verdict::Faulty(_) => false,
-    }
-}
-
-fn has_fault(lines: &[(Name, Verdict)]) -> bool
-    ensures { result ≡ list_any (λ line. is_faulty line.1) lines.now }
-{
-    lines.iter().any(|line| is_faulty(&line.1))
-}
-
-fn has_open(lines: &[(Name, Verdict)]) -> bool
-    ensures { result ≡ list_any (λ line. is_open line.1) lines.now }
-{
-    lines.iter().any(|line| is_open(&line.1))
-}
-
-/// The status that goes with these verdicts.
-fn status(lines: &[(Name, Verdict)]) -> u8
-    ensures { result ≡ status_of lines.now }
-{
-    if has_fault(lines) {
-        SOME_FAULTY
-    } else if has_open(lines) {
-        SOME_OPEN
-    } else {
-        ALL_CLEAN
-    }
-}
-
-/// The report on a checked file, with the status that goes with it.
-fn reported(alloc: Global, names: &Names, checked: &Checked<'_>) -> Result<Answer, Memory>
+/// The verdicts on the functions of a checked file.
+fn verdicts(
+    alloc: Global,
+    names: &Names,
+    checked: &Checked<'_>,
+) -> Result<Vec<(Name, Verdict)>, FileFault>
     requires checked { IsChecked checked.now }
     requires known { AreKnownKinds names.now (items_flat (checked_view checked.now).file.items) }
-    ensures { IfOk result (λ a. (a.status ≤ some_open)
-        × IsReportOn IsJudged names.now (checked_view checked.now) a.status a.text.items) }
+    ensures judged { IfOk result (λ lines. AllZip (IsJudged (checked_view checked.now))
+        (definitions (checked_view checked.now).file.items) lines.items) }
+    ensures readable { IfOk result (λ lines. All (IsLine names.now) lines.items) }
+    ensures memory { IfErr result (λ fault. fault ≡ FileFault.Memory) }
 {
-    let lines = judge_all(alloc, checked)?;
-    report_is_read_back();
-    Ok(Answer {
-        status: status(&lines),
-        text: report(alloc, names, &lines)?,
-    })
+    let _ = names;
+    match judge_all(alloc, checked) {
+        Ok(lines) => Ok(lines),
+        Err(Memory) => Err(FileFault::Memory),
+    }
 }
 
-/// The answer to a text within the limit: the report on its functions, or why it is refused.
-pub(crate) fn examine(alloc: Global, text: &[u8]) -> Result<Answer, Memory>
-    requires { length text.now ≤ file_limit }
-    ensures { IfOk result (λ a. ((a.status ≤ some_open) × IsReport text.now a.status a.text.items)
-        ⊎ ((a.status ≡ file_refused) × IsRefusedAs text.now a.text.items)) }
+/// The verdict on each function of the file that a text within the limit is, by its name, in the order of the file. The
+/// names gain the words of the text.
+pub fn examine(
+    alloc: Global,
+    names: &mut Names,
+    rows: &Table,
+    text: &[u8],
+) -> Result<Vec<(Name, Verdict)>, FileFault>
+    requires limit { length text.now ≤ file_limit }
+    requires words { BeginWithWords names.old }
+    requires room { length names.old < 2 ^ 31 }
+    ensures verdicts { IfOk result (λ lines. AreVerdicts IsJudged (record { names = names.old; rows = rows.now })
+        text.now names.new lines.items) }
+    ensures readable { IfOk result (λ lines. All (IsLine names.new) lines.items) }
+    ensures fault { IfErr result (λ fault. (told : Pos × List ℕ) → reason_of fault ≡ Some told
+        → IsFaultOf (record { names = names.old; rows = rows.now }) text.now fault
+        × IsNoFile (record { names = names.old; rows = rows.now }) text.now) }
 {
-    let rows = Table::builtin(alloc)?;
-    let mut names = Names::builtin(alloc)?;
-    let unit = match unit_of(alloc, &mut names, text) {
+    let unit = match unit_of(alloc, names, text) {
         Ok(unit) => unit,
-        Err(fault) => return refusal_answer(alloc, &fault),
+        Err(fault) => return Err(fault),
     };
-    match check(alloc, &names, &unit, &rows) {
-        Ok(checked) => reported(alloc, &names, &checked),
-        Err(fault) => refusal_answer(alloc, &FileFault::Unit(fault)),
+    match check(alloc, names, &unit, rows) {
+        Ok(checked) => verdicts(alloc, names, &checked),
+        Err(fault) => Err(FileFault::Unit(fault)),
     }
 }

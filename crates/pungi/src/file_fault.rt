@@ -18,4 +18,7 @@ pub enum FileFault {
     /// Its names or functions are refused.
     #[error("{0}")]
     Unit(UnitFault),
+    /// Memory ran out after that.
+    #[error("no memory")]
+    Memory,
 }

@@ -2,16 +2,21 @@
 #![tactic(auto)]
 
 mod answer;
+mod config;
 mod examine;
+mod file;
 mod file_fault;
 mod folder_shelf;
 mod front;
+mod limits;
+mod lines;
+mod load;
 mod out_sink;
 mod read;
 mod refusal;
-mod settings;
 mod status;
 mod top;
+mod trial;
 mod write;
 
 use crate::folder_shelf::FolderShelf;
@@ -24,6 +29,8 @@ use std::io::ErrorKind;
 use std::process::ExitCode;
 
 #[cfg(test)]
+mod config_tests;
+#[cfg(test)]
 mod rule_tests;
 #[cfg(test)]
 mod size_tests;
@@ -31,6 +38,8 @@ mod size_tests;
 mod test_modules;
 #[cfg(test)]
 mod tests;
+#[cfg(test)]
+mod trial_tests;
 #[cfg(test)]
 mod verdict_tests;
 

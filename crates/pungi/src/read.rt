@@ -5,9 +5,6 @@ ghost use Rattle.pungi.specs.Read.{IsReading};
 use pungi_base::{Failed, OpenFault, Shelf};
 use std::alloc::{AllocError, Global};
 
-/// How many bytes a file has at most.
-pub const FILE_LIMIT: usize = 1048576;
-
 /// How many bytes are requested at a time.
 const PIECE: usize = 65536;
 
@@ -16,7 +13,7 @@ const PIECE: usize = 65536;
 pub enum Reading {
     /// All of its bytes.
     Text(Vec<u8>),
-    /// It has more than `FILE_LIMIT` bytes.
+    /// It has more bytes than the limit.
     Long,
 }
 
@@ -28,10 +25,15 @@ fn room(alloc: Global, size: usize) -> Result<Vec<u8>, AllocError>
 }
 
 /// Reads the opened text of a name, to its end or until it is over the limit.
-pub fn read_opened<F: Shelf>(alloc: Global, shelf: &mut F, name: &str) -> Result<Reading, OpenFault>
+pub fn read_opened<F: Shelf>(
+    alloc: Global,
+    shelf: &mut F,
+    name: &str,
+    limit: usize,
+) -> Result<Reading, OpenFault>
     requires opened { Opens (F.texts shelf.old) name.now (F.rest shelf.old) }
     requires unread { F.bytes_read shelf.old ≡ [] }
-    ensures ok { IfOk result (IsReading (F.texts shelf.old) (F.rest shelf.new) name.now (F.bytes_read shelf.new)) }
+    ensures ok { IfOk result (IsReading (F.texts shelf.old) (F.rest shelf.new) name.now (F.bytes_read shelf.new) limit) }
     ensures steady { (result ≡ Err OpenFault.Failed → ⊥) → F.faults shelf.new ≡ F.faults shelf.old }
     ensures failed { result ≡ Err OpenFault.Failed → Rose (F.faults shelf.old) (F.faults shelf.new) }
     ensures texts { F.texts shelf.new ≡ F.texts shelf.old }
@@ -39,7 +41,7 @@ pub fn read_opened<F: Shelf>(alloc: Global, shelf: &mut F, name: &str) -> Result
 {
     let mut bytes = Vec::new(alloc);
     let mut piece = room(alloc, PIECE)?;
-    'reads: while bytes.len() <= FILE_LIMIT {
+    'reads: while bytes.len() <= limit {
         let count = match shelf.read(&mut piece) {
             Ok(count) => count,
             Err(Failed) => return Err(OpenFault::Failed),

@@ -65,6 +65,7 @@ fn reason_of(fault: &FileFault) -> Option<(Pos, &'static str)>
         FileFault::Macro(fault) => macro_reason(fault),
         FileFault::Parse(fault) => parse_reason(fault),
         FileFault::Unit(fault) => unit_reason(fault),
+        FileFault::Memory => None,
     }
 }
 

@@ -12,14 +12,17 @@ pub const SOME_OPEN: u8 = 2;
 /// The words of the command are refused.
 pub const WORDS_REFUSED: u8 = 3;
 
-/// The file can't be read.
+/// A file can't be read.
 pub const FILE_UNREAD: u8 = 4;
 
 /// The text of the answer could not be written whole.
 pub const ANSWER_CUT: u8 = 5;
 
-/// The file is refused.
+/// The file, or the text of a trial, is refused.
 pub const FILE_REFUSED: u8 = 6;
+
+/// The configuration is refused.
+pub const CONFIG_REFUSED: u8 = 7;
 
 /// Memory ran out.
 pub const MEMORY_WANTED: u8 = 8;

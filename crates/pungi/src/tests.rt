@@ -11,7 +11,7 @@ use std::test::Fail;
 /// A function that is clean: its one reference is returned, or it was never made.
 const NUMBER: &str = "PyObject *f(PyObject *self, PyObject *args) { return PyLong_FromLong(1); }";
 
-fn words(alloc: Global, list: &[&str]) -> Result<Vec<String>, Memory> {
+pub(crate) fn words(alloc: Global, list: &[&str]) -> Result<Vec<String>, Memory> {
     let mut words = Vec::new(alloc);
     for word in list {
         words.push(String::from_str(alloc, word)?)?;
@@ -359,18 +359,32 @@ fn empty_report(rt: HostRuntime) -> Result<(), Fail> {
     Ok(())
 }
 
-/// Words other than one file give the usage line.
+const REFUSED_WORDS: &[&[&str]] = &[
+    &[],
+    &["pungi"],
+    &["pungi", "a.c", "b.c"],
+    &["pungi", "--help"],
+    &["pungi", "--version"],
+    &["pungi", "-x"],
+    &["pungi", "--config", "c.toml"],
+    &["pungi", "--config"],
+    &["pungi", "a.c", "--config"],
+    &["pungi", "--trial"],
+    &["pungi", "--trial", "0"],
+    &["pungi", "--trial", "05"],
+    &["pungi", "--trial", "+5"],
+    &["pungi", "--trial", "2001"],
+    &["pungi", "--trial", "10000"],
+    &["pungi", "--trial", "5", "a.c"],
+    &["pungi", "--trial", "5", "--config", "c.toml"],
+    &["pungi", "--trial", "5", "--trial", "5"],
+];
+
+/// Words that ask for neither a file nor a trial give the usage line.
 #[test]
 fn refused_words(rt: HostRuntime) -> Result<(), Fail> {
     let alloc = rt.alloc();
-    let lists: [&[&str]; 5] = [
-        &[],
-        &["pungi"],
-        &["pungi", "a.c", "b.c"],
-        &["pungi", "--help"],
-        &["pungi", "-"],
-    ];
-    for list in lists {
+    for list in REFUSED_WORDS {
         let mut shelf = SureShelf::new(alloc, Vec::new(alloc));
         let mut out = SureSink::new(alloc, 64)?;
         let status = pungi(alloc, &words(alloc, list)?, &mut shelf, &mut out);

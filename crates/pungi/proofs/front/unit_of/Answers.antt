@@ -2,24 +2,30 @@ use Rattle.std.proofs.Common.{inl, ap}
 use Rattle.std.specs.Prelude.{Err}
 use Rattle.pungi.proofs.Fronts.{err_same, ok_is_no_err, lexed, ready, lex_refused, macro_refused, parse_refused}
 use Rattle.pungi.proofs.Fronts.{is_unit, known_kinds, only_items}
+use Rattle.pungi.proofs.Configured.{begins_on}
 use Rattle.pungi.proofs.front.unit_of.Goals as goal
+
+pub expand-requires-clause-words : goal.expand-requires-clause-words
+expand-requires-clause-words c =
+    begins_on c.args.names.now c.lex.new.names c.requires.words c.lex.ensures.grows
 
 pub returns-in-Err-clause-fault : goal.returns-in-Err-clause-fault
 returns-in-Err-clause-fault c =
-    lex_refused c.args.names.now c.args.text.now c.in-Err.fault c.requires.words c.in-Err.ensures.fault
+    λ rows. lex_refused c.args.names.now rows c.args.text.now c.in-Err.fault c.in-Err.ensures.fault
     c.in-Err.ensures.none
 
 pub returns-in-Err-expand-clause-fault : goal.returns-in-Err-expand-clause-fault
 returns-in-Err-expand-clause-fault c =
     let l = lexed c.args.names.now c.lex.new.names c.args.text.now c.deref.result.now c.in-Ok.tokens.items
-    c.requires.words c.deref.ensures.value c.in-Ok.ensures.tokens c.in-Ok.ensures.only in
-    macro_refused c.args.names.now c.lex.new.names c.args.text.now c.deref.result.now c.in-Err-expand.fault l
+    c.deref.ensures.value c.in-Ok.ensures.tokens c.in-Ok.ensures.only in
+    λ rows. macro_refused c.args.names.now c.lex.new.names rows c.args.text.now c.deref.result.now
+    c.in-Err-expand.fault l
     c.in-Err-expand.ensures.fault c.in-Err-expand.ensures.none
 
 pub returns-in-Ok-parse-clause-unit : goal.returns-in-Ok-parse-clause-unit
 returns-in-Ok-parse-clause-unit c =
     let l = lexed c.args.names.now c.lex.new.names c.args.text.now c.deref.result.now c.in-Ok.tokens.items
-    c.requires.words c.deref.ensures.value c.in-Ok.ensures.tokens c.in-Ok.ensures.only in
+    c.deref.ensures.value c.in-Ok.ensures.tokens c.in-Ok.ensures.only in
     let r = ready c.args.names.now c.lex.new.names c.args.text.now c.deref.result.now c.deref-2.result.now
     c.in-Ok-expand.expanded.items l c.deref-2.ensures.value c.in-Ok-expand.ensures.expanded
     c.in-Ok-expand.ensures.only in
@@ -29,7 +35,7 @@ returns-in-Ok-parse-clause-unit c =
 pub returns-in-Ok-parse-clause-only : goal.returns-in-Ok-parse-clause-only
 returns-in-Ok-parse-clause-only c =
     let l = lexed c.args.names.now c.lex.new.names c.args.text.now c.deref.result.now c.in-Ok.tokens.items
-    c.requires.words c.deref.ensures.value c.in-Ok.ensures.tokens c.in-Ok.ensures.only in
+    c.deref.ensures.value c.in-Ok.ensures.tokens c.in-Ok.ensures.only in
     let r = ready c.args.names.now c.lex.new.names c.args.text.now c.deref.result.now c.deref-2.result.now
     c.in-Ok-expand.expanded.items l c.deref-2.ensures.value c.in-Ok-expand.ensures.expanded
     c.in-Ok-expand.ensures.only in
@@ -45,12 +51,12 @@ returns-in-Ok-parse-clause-known c =
 pub returns-clause-fault : goal.returns-clause-fault
 returns-clause-fault c =
     let l = lexed c.args.names.now c.lex.new.names c.args.text.now c.deref.result.now c.in-Ok.tokens.items
-    c.requires.words c.deref.ensures.value c.in-Ok.ensures.tokens c.in-Ok.ensures.only in
+    c.deref.ensures.value c.in-Ok.ensures.tokens c.in-Ok.ensures.only in
     let r = ready c.args.names.now c.lex.new.names c.args.text.now c.deref.result.now c.deref-2.result.now
     c.in-Ok-expand.expanded.items l c.deref-2.ensures.value c.in-Ok-expand.ensures.expanded
     c.in-Ok-expand.ensures.only in
-    parse_refused c.args.names.now c.lex.new.names c.args.text.now c.deref.result.now c.deref-2.result.now
-    c.in-Err-parse.fault r
+    λ rows. parse_refused c.args.names.now c.lex.new.names rows c.args.text.now c.deref.result.now
+    c.deref-2.result.now c.in-Err-parse.fault r
     (record {
       deep = λ p e. c.in-Err-parse.ensures.deep p (ap Err e);
       not_a_unit = λ p e. c.in-Err-parse.ensures.not_a_unit p (ap Err e);

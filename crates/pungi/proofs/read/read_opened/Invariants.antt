@@ -1,5 +1,4 @@
 use Rattle.std.proofs.Common.{◌≡◌, ◌<◌, ◌+◌, ◌-◌, vec_len}
-use Rattle.pungi.specs.Limits.{file_limit}
 use Rattle.pungi.proofs.LeftToRead.{Left}
 use Rattle.pungi.proofs.read.read_opened.Given as goal
 
@@ -14,4 +13,4 @@ invariant-reads g l = record {
 }
 
 abbrev pub decreases-reads : goal.decreases-reads
-decreases-reads g l = file_limit + 1 - vec_len l.bytes
+decreases-reads g l = l.limit + 1 - vec_len l.bytes

@@ -1,0 +1,41 @@
+//! Trials. The kinds of their functions come by turns. Of five in a row the first is clean and the second leaks. The
+//! third and the fourth have loops and locals that are numbers, so they are not judged (rule 0), and the fifth calls
+//! through a field (rule 3).
+
+use crate::pungi;
+use crate::tests::words;
+use pungi_base::Memory;
+use pungi_in_memory::{SureShelf, SureSink};
+use std::alloc::Global;
+use std::test::Fail;
+
+const TRIALS: &[(&str, u8, &str)] = &[
+    ("1", 0, "trial 1 clean 1 faulty 0 unknown 0 refused 0\n"),
+    ("10", 1, "trial 10 clean 2 faulty 2 unknown 0 refused 6\n"),
+    (
+        "1000",
+        1,
+        "trial 1000 clean 200 faulty 200 unknown 0 refused 600\n",
+    ),
+    (
+        "2000",
+        1,
+        "trial 2000 clean 400 faulty 400 unknown 0 refused 1200\n",
+    ),
+];
+
+fn is_told(alloc: Global, number: &str, status: u8, line: &str) -> Result<bool, Memory> {
+    let words = words(alloc, &["pungi", "--trial", number])?;
+    let mut shelf = SureShelf::new(alloc, Vec::new(alloc));
+    let mut out = SureSink::new(alloc, 128)?;
+    let found = pungi(alloc, &words, &mut shelf, &mut out);
+    Ok(found == status && out.bytes() == line.as_bytes())
+}
+
+#[test]
+fn trials(rt: HostRuntime) -> Result<(), Fail> {
+    for (number, status, line) in TRIALS {
+        assert!(rt; is_told(rt.alloc(), number, *status, line)?, "at {number}");
+    }
+    Ok(())
+}
