@@ -4,3 +4,5 @@ pub mod Decls
 pub mod Cases
 pub mod StmtCode
 pub mod Room
+pub mod Switches
+pub mod Loops

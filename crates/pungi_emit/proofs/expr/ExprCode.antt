@@ -56,6 +56,9 @@ pub as_listed : (vs : List expr.Value) → listed_values (values_of vs) ≡ vs
 as_listed [] = refl
 as_listed (v ∷ vs) = ap (λ l. v ∷ l) (as_listed vs)
 
+pub put_grown : (l : Line) (c0 c1 : List Line) → c1 ≡ c0 ++ l ∷ [] → length c1 ≡ length c0 + 1
+put_grown l c0 c1 e = grown c0 c1 (l ∷ []) 1 e refl
+
 -- ---- expressions
 
 module _ (nl : ℕ) where

@@ -1,5 +1,6 @@
 -- The parts of a statement are within the limits that the statement is within.
-use Rattle.std.proofs.Common.{◌≡◌, ℕ, ◌+◌, ◌*◌, ◌<◌, ◌≤◌, ◌^◌, List, length, false, ap, ◌∙◌, refl}
+use Rattle.std.proofs.Common.{◌≡◌, ℕ, ◌+◌, ◌*◌, ◌<◌, ◌≤◌, ◌^◌, List, ◌++◌, length, Option, Some, None, false, ap, ◌∙◌}
+use Rattle.std.proofs.Common.{refl}
 use Rattle.pungi_base.specs.declared.pos.Pos.{Pos}
 use Rattle.pungi_resolved.specs.ActionView.{actions_of}
 use Rattle.pungi_resolved.specs.Actions as stmt
@@ -8,13 +9,16 @@ use Rattle.pungi_meaning.specs.Stmts.{block_cases}
 use Rattle.pungi_meaning.specs.Todo.{listed}
 use Rattle.pungi_meaning.specs.Work.{block_locals}
 use Rattle.pungi_layout.specs.code.Scopes.{list_cases}
+use Rattle.pungi_code.specs.declared.code.Line.{Line}
 use Rattle.pungi_code.specs.Limits.{most_instructions}
-use Rattle.pungi_layout.specs.code.Sound.{IsStmtSound, stmt_nodes}
-use Rattle.pungi_layout.specs.code.Sizes.{expr_size, stmt_size, stmts_size}
+use Rattle.pungi_layout.specs.code.Sound.{IsOptionSound, IsOptionWanted, IsStmtSound, stmt_nodes}
+use Rattle.pungi_layout.specs.code.Sizes.{expr_size, option_size, declare_size, stmt_size, stmts_size}
+use Rattle.pungi_layout.specs.code.StmtCode.{unset_code, option_code, declare_code}
 use Rattle.pungi_emit.specs.planning.LabelPlaces.{list_starts}
 use Rattle.pungi_emit.specs.planning.Plans.{switch_from}
 use Rattle.pungi_emit.specs.stmt.Cases.{cases_at, is_block}
-use Rattle.pungi_layout.proofs.code.StmtLengths.{cases_long}
+use Rattle.pungi_layout.proofs.code.StmtLengths.{unset_long, option_long, declare_long, cases_long}
+use Rattle.pungi_emit.proofs.expr.ExprCode.{grown}
 use Rattle.pungi_emit.proofs.stmt.Cases.{cases_placed}
 use Rattle.pungi_emit.proofs.stmt.StmtCode.{as_actions}
 
@@ -56,3 +60,22 @@ skipped_size p v (stmt.goto p' l) h = refl
 skipped_size p v (stmt.break p') h = refl
 skipped_size p v (stmt.continue p') h = refl
 skipped_size p v (stmt.return p' u) h = refl
+
+-- ---- how far instructions reach
+
+pub unset_grown : (p : Pos) (rs : List stmt.DeclaredLocal) (c0 c1 : List Line) → c1 ≡ c0 ++ unset_code p rs
+    → length c1 ≡ length c0 + length rs
+unset_grown p rs c0 c1 e = grown c0 c1 (unset_code p rs) (length rs) e (unset_long rs p)
+
+pub declare_grown : (nl : ℕ) (rs : List stmt.DeclaredLocal) (c0 c1 : List Line)
+    → c1 ≡ c0 ++ declare_code nl (length c0) rs → length c1 ≡ length c0 + declare_size rs
+declare_grown nl rs c0 c1 e = grown c0 c1 (declare_code nl (length c0) rs) (declare_size rs) e
+    (declare_long rs nl (length c0))
+
+pub option_grown : (nl : ℕ) (o : Option expr.Value) (c0 c1 : List Line) → c1 ≡ c0 ++ option_code nl (length c0) o
+    → length c1 ≡ length c0 + option_size o
+option_grown nl o c0 c1 e = grown c0 c1 (option_code nl (length c0) o) (option_size o) e (option_long o nl (length c0))
+
+pub wanted_sound : (nl : ℕ) (o : Option expr.Value) → IsOptionWanted nl o → IsOptionSound nl o
+wanted_sound nl None h = tt
+wanted_sound nl (Some v) h = h.1

@@ -1,7 +1,7 @@
 -- An instruction that reads or writes a place leads to one of the same statement, further on, or to where no temporary
 -- is kept.
 use Rattle.std.proofs.Common.{◌≡◌, ◌⊎◌, inl, inr, ℕ, ◌+◌, ◌<◌, List, [], ◌∷◌, ◌++◌, length, Some, refl, sym, subst}
-use Rattle.std.proofs.Common.{arith, Bool, true, false, pos, if◌then◌else◌}
+use Rattle.std.proofs.Common.{arith, Bool, true, false, if◌then◌else◌}
 use Rattle.std.specs.Prelude.{slice_get}
 use Rattle.pungi_base.specs.declared.kind.Kind.{Kind}
 use Rattle.pungi_base.specs.declared.pos.Pos.{Pos}

@@ -24,7 +24,6 @@ use Rattle.pungi_world.specs.declared.world.World.{World}
 use Rattle.pungi_world.specs.Slots.{load_effect, store_effect}
 use Rattle.pungi_world.specs.Calls.{call_effect}
 use Rattle.pungi_meaning.specs.declared.op.Op.{Op}
-use Rattle.pungi_meaning.specs.declared.op.Op.TheVariants as ops
 use Rattle.pungi_meaning.specs.Values.{op_of, slot_kind, wide}
 use Rattle.pungi_meaning.specs.Todo.{Operation, Fitted, Todo, ToEval, ToOld, ToKeep, ToCompute, ToFit, ToTruth, ToStore}
 use Rattle.pungi_meaning.specs.Todo.{ToPop, ToExec, ToChoose, ToJoin, ToRest, ToTest, ToTurn, ToAgain, ToBack, ToSwitch}

@@ -1,5 +1,6 @@
 use Rattle.std.proofs.Common.{◌≡◌, ◌+◌, ◌<◌, ◌≤◌, ◌^◌, List, ◌∷◌, ◌++◌, length, map, drop, get_or, sym, ap, ◌∙◌, subst}
 use Rattle.std.proofs.Common.{arith}
+use Rattle.std.proofs.lemmas.List.{length-map}
 use denote.Param.Weighed.{at_most}
 use Rattle.pungi_resolved.specs.ValueView.{value_view, values_of, place_view}
 use Rattle.pungi_resolved.specs.declared.value.Value.{Value as Node, size-Value}
@@ -11,7 +12,8 @@ use Rattle.pungi_layout.specs.code.Temporaries.{operand, front_column}
 use Rattle.pungi_layout.proofs.relation.Columns.{positive}
 use Rattle.pungi_emit.proofs.expr.ExprCode.{operands_emitted, stored_emitted, updated_emitted, negated_emitted}
 use Rattle.pungi_emit.proofs.expr.ExprCode.{joined_emitted, chosen_emitted, row_emitted, arg_emitted}
-use Rattle.pungi_emit.proofs.expr.ExprCode.{value_grown}
+use Rattle.pungi_emit.proofs.expr.ExprCode.{put_grown, value_grown, base_grown, held_grown}
+use Rattle.pungi_emit.proofs.expr.Arguments.{args_few}
 use Rattle.pungi_emit.proofs.code.Lists.{next_one}
 use Rattle.pungi_emit.proofs.expr.expr_code.+emit.Goals as goal
 
@@ -141,3 +143,128 @@ emit_args-emit_value-requires t c =
       omega (arith, at_most size-Value xs i c.arg-item.result s, ap size-Value c.arg-item.is),
       (sound.1, (omega (arith, deep), omega (arith, long))),
     )
+
+-- .. the code stays within its limit
+
+pub emit_stepped-emit_held-requires : goal.emit_stepped-emit_held-requires
+emit_stepped-emit_held-requires t c =
+    let n = put_grown _ c.args.code.now c.put.new.code c.in_ok-put.ensures in
+    (omega arith, c.requires.sound, omega (arith, c.requires.deep), omega (arith, n, c.requires.long))
+
+pub emit_stored-emit_value-requires : goal.emit_stored-emit_value-requires
+emit_stored-emit_value-requires t c =
+    let n = base_grown c.args.around.locals c.args.depth (place_view c.args.place.now) c.args.code.now
+    c.emit_base.new.code c.in_ok-emit_base.ensures in (
+      omega arith,
+      c.requires.sound.2,
+      omega (arith, c.above-level.ensures.low, c.requires.deep),
+      omega (arith, n, c.requires.long),
+    )
+
+pub emit_updated-emit_value-requires : goal.emit_updated-emit_value-requires
+emit_updated-emit_value-requires t c =
+    let n = held_grown c.args.around.locals c.args.depth c.temp-old.result _ c.args.kind
+    (place_view c.args.place.now) c.args.code.now c.emit_held.new.code c.in_ok-emit_held.ensures in (
+      omega arith,
+      c.requires.sound.2,
+      omega (arith, c.above-level.ensures.low, c.requires.deep),
+      omega (arith, n, c.requires.long),
+    )
+
+pub emit_operands-emit_value-requires-2 : goal.emit_operands-emit_value-requires-2
+emit_operands-emit_value-requires-2 t c =
+    let n = value_grown c.args.around.locals c.args.depth c.args.left (value_view c.args.a.now) c.args.code.now
+    c.emit_value.new.code c.in_ok-emit_value.ensures in
+    (omega arith, c.requires.sound.1, omega (arith, c.requires.deep), omega (arith, n, c.requires.long))
+
+pub emit_negated-emit_value-requires : goal.emit_negated-emit_value-requires
+emit_negated-emit_value-requires t c =
+    let n = put_grown _ c.args.code.now c.put.new.code c.in_ok-put.ensures in
+    (omega arith, c.requires.sound.1, omega (arith, c.requires.deep), omega (arith, n, c.requires.long))
+
+pub emit_negated-next_place-test-requires : goal.emit_negated-next_place-test-requires
+emit_negated-next_place-test-requires t c =
+    let n = put_grown _ c.args.code.now c.put.new.code c.in_ok-put.ensures in
+    let m = value_grown c.args.around.locals (c.args.depth + 1) c.temp_of-value.result (value_view c.args.part.now)
+    c.put.new.code c.emit_value.new.code c.in_ok-emit_value.ensures in
+    omega (arith, n, m, c.requires.long)
+
+pub emit_joined-emit_value-requires : goal.emit_joined-emit_value-requires
+emit_joined-emit_value-requires t c =
+    let n = put_grown _ c.args.code.now c.put.new.code c.in_ok-put.ensures in
+    (omega arith, c.requires.sound.1, omega (arith, c.requires.deep), omega (arith, n, c.requires.long))
+
+pub emit_joined-next_place-test-requires : goal.emit_joined-next_place-test-requires
+emit_joined-next_place-test-requires t c =
+    let n = put_grown _ c.args.code.now c.put.new.code c.in_ok-put.ensures in
+    let m = value_grown c.args.around.locals (c.args.depth + 1) c.temp_of-left.result (value_view c.args.a.now)
+    c.put.new.code c.emit_value.new.code c.in_ok-emit_value.ensures in
+    omega (arith, n, m, c.requires.long)
+
+pub emit_joined-emit_value-requires-2 : goal.emit_joined-emit_value-requires-2
+emit_joined-emit_value-requires-2 t c =
+    let n = put_grown _ c.args.code.now c.put.new.code c.in_ok-put.ensures in
+    let m = value_grown c.args.around.locals (c.args.depth + 1) c.temp_of-left.result (value_view c.args.a.now)
+    c.put.new.code c.emit_value.new.code c.in_ok-emit_value.ensures in
+    let k = put_grown _ c.emit_value.new.code c.put-2.new.code c.in_ok-put-2.ensures in
+    (omega arith, c.requires.sound.3, omega (arith, c.requires.deep), omega (arith, n, m, k, c.requires.long))
+
+pub emit_joined-next_place-last-requires : goal.emit_joined-next_place-last-requires
+emit_joined-next_place-last-requires t c =
+    let n = put_grown _ c.args.code.now c.put.new.code c.in_ok-put.ensures in
+    let m = value_grown c.args.around.locals (c.args.depth + 1) c.temp_of-left.result (value_view c.args.a.now)
+    c.put.new.code c.emit_value.new.code c.in_ok-emit_value.ensures in
+    let k = put_grown _ c.emit_value.new.code c.put-2.new.code c.in_ok-put-2.ensures in
+    let l = value_grown c.args.around.locals (c.args.depth + 1) c.temp_of-right.result (value_view c.args.b.now)
+    c.put-2.new.code c.emit_value-2.new.code c.in_ok-emit_value-2.ensures in
+    omega (arith, n, m, k, l, c.requires.long)
+
+pub emit_chosen-next_place-test-requires : goal.emit_chosen-next_place-test-requires
+emit_chosen-next_place-test-requires t c =
+    let n = value_grown c.args.around.locals c.args.depth c.temp_of-value.result (value_view c.args.c.now)
+    c.args.code.now c.emit_value.new.code c.in_ok-emit_value.ensures in
+    omega (arith, n, c.requires.long)
+
+pub emit_chosen-emit_value-requires-2 : goal.emit_chosen-emit_value-requires-2
+emit_chosen-emit_value-requires-2 t c =
+    let n = value_grown c.args.around.locals c.args.depth c.temp_of-value.result (value_view c.args.c.now)
+    c.args.code.now c.emit_value.new.code c.in_ok-emit_value.ensures in
+    let m = put_grown _ c.emit_value.new.code c.put.new.code c.in_ok-put.ensures in
+    (omega arith, c.requires.sound.3, omega (arith, c.requires.deep), omega (arith, n, m, c.requires.long))
+
+pub emit_chosen-next_place-jump-requires : goal.emit_chosen-next_place-jump-requires
+emit_chosen-next_place-jump-requires t c =
+    let n = value_grown c.args.around.locals c.args.depth c.temp_of-value.result (value_view c.args.c.now)
+    c.args.code.now c.emit_value.new.code c.in_ok-emit_value.ensures in
+    let m = put_grown _ c.emit_value.new.code c.put.new.code c.in_ok-put.ensures in
+    let k = value_grown c.args.around.locals c.args.depth c.args.target (value_view c.args.a.now) c.put.new.code
+    c.emit_value-2.new.code c.in_ok-emit_value-2.ensures in
+    omega (arith, n, m, k, c.requires.long)
+
+pub emit_chosen-emit_value-requires-3 : goal.emit_chosen-emit_value-requires-3
+emit_chosen-emit_value-requires-3 t c =
+    let n = value_grown c.args.around.locals c.args.depth c.temp_of-value.result (value_view c.args.c.now)
+    c.args.code.now c.emit_value.new.code c.in_ok-emit_value.ensures in
+    let m = put_grown _ c.emit_value.new.code c.put.new.code c.in_ok-put.ensures in
+    let k = value_grown c.args.around.locals c.args.depth c.args.target (value_view c.args.a.now) c.put.new.code
+    c.emit_value-2.new.code c.in_ok-emit_value-2.ensures in
+    let l = put_grown _ c.emit_value-2.new.code c.put-2.new.code c.in_ok-put-2.ensures in
+    (omega arith, c.requires.sound.5, omega (arith, c.requires.deep), omega (arith, n, m, k, l, c.requires.long))
+
+pub emit_chosen-next_place-end-requires : goal.emit_chosen-next_place-end-requires
+emit_chosen-next_place-end-requires t c =
+    let n = value_grown c.args.around.locals c.args.depth c.temp_of-value.result (value_view c.args.c.now)
+    c.args.code.now c.emit_value.new.code c.in_ok-emit_value.ensures in
+    let m = put_grown _ c.emit_value.new.code c.put.new.code c.in_ok-put.ensures in
+    let k = value_grown c.args.around.locals c.args.depth c.args.target (value_view c.args.a.now) c.put.new.code
+    c.emit_value-2.new.code c.in_ok-emit_value-2.ensures in
+    let l = put_grown _ c.emit_value-2.new.code c.put-2.new.code c.in_ok-put-2.ensures in
+    let o = value_grown c.args.around.locals c.args.depth c.args.target (value_view c.args.b.now) c.put-2.new.code
+    c.emit_value-3.new.code c.in_ok-emit_value-3.ensures in
+    omega (arith, n, m, k, l, o, c.requires.long)
+
+pub emit_called-emit_row-requires : goal.emit_called-emit_row-requires
+emit_called-emit_row-requires t c =
+    let n = args_few (map value_view c.args.args.now) in
+    let m = length-map c.args.args.now value_view in
+    omega (arith, n, m, c.requires.deep)
