@@ -8,7 +8,7 @@ ghost use Rattle.pungi_symbol.specs.runs.ObjectForm.{has_object_form};
 ghost use Rattle.pungi_verdict.specs.ObjectForm.{is_minus, is_zero, constant_of, is_constant, is_signed, are_signed};
 ghost use Rattle.pungi_verdict.specs.ObjectForm.{is_object_code};
 
-use pungi_api::{Answer, Form, Param, Row};
+use pungi_api::{Answer, CallAnswer, Param};
 use pungi_code::{Atom, Code, Instr, Line, Place};
 use pungi_meaning::Op;
 
@@ -90,12 +90,12 @@ fn is_small(answer: Answer) -> bool
     }
 }
 
-fn has_small(row: &Row) -> bool
-    ensures { result ≡ has_small row.now.form row.now }
+fn has_small(answer: CallAnswer) -> bool
+    ensures { result ≡ has_small answer }
 {
-    match row.form {
-        Form::Plain => is_small(row.answer),
-        Form::Special(_) => true,
+    match answer {
+        CallAnswer::Of(answer) => is_small(answer),
+        CallAnswer::Argument => true,
     }
 }
 
@@ -105,7 +105,7 @@ fn is_known_here(instr: &Instr) -> bool
 {
     match instr {
         Instr::Load(_, place) | Instr::Store(place, _) => is_pointer_slot(place),
-        Instr::Api(_, shape, _, _) => has_small(&shape.row),
+        Instr::Api(_, signature, _, _) => has_small(signature.get().answer),
         Instr::Call(_, _, _) => false,
         _ => true,
     }
