@@ -1,4 +1,4 @@
-// The instructions of values that stand alone, and of declared locals.
+// The instructions of values that stand alone, of declared locals, of tests and of `return`.
 ghost use Rattle.std.specs.Prelude.{◌≡◌, ◌+◌, ◌<◌, ◌≤◌, ◌^◌, ◌++◌, length, map, IfOk, OnOk};
 ghost use Rattle.pungi_resolved.specs.ActionView.{declared_view, action_view, actions_of};
 ghost use Rattle.pungi_code.specs.Limits.{most_instructions};
@@ -9,7 +9,7 @@ ghost use Rattle.pungi_layout.specs.code.Sound.{IsSound, IsOptionSound, IsOption
 ghost use Rattle.pungi_layout.specs.code.Sound.{AreStmtsSound, expr_nodes, option_nodes, declare_nodes};
 ghost use Rattle.pungi_layout.specs.code.Temporaries.{temp_of};
 ghost use Rattle.pungi_layout.specs.code.StmtCode.{unset_code, value_code, option_code, bind_code, declare_code};
-ghost use Rattle.pungi_layout.specs.code.StmtCode.{test_code, tested_code};
+ghost use Rattle.pungi_layout.specs.code.StmtCode.{test_code, tested_code, return_code};
 
 use crate::code::instructions::{Around, next_place, put};
 use crate::expr::expr_code::emit_value;
@@ -182,5 +182,26 @@ pub fn emit_tested(
         emit_test(code, around, pos, test, other)
     } else {
         Ok(())
+    }
+}
+
+/// `return`.
+pub fn emit_return(
+    code: &mut Seq<Line>,
+    around: Around,
+    pos: Pos,
+    node: &Option<Box<Node>>,
+) -> Result<(), Memory>
+    requires sound { IsOptionWanted around.locals (optional_view node.now) }
+    requires few { option_nodes (optional_view node.now) < 2 ^ 16 }
+    requires long { length code.old + (option_size (optional_view node.now) + 1) ≤ most_instructions }
+    ensures { OnOk result (code.new ≡ code.old ++ return_code around.locals (length code.old) pos
+        (optional_view node.now)) }
+{
+    if let Some(node) = node {
+        let value = emit_alone(code, around, node)?;
+        put(code, pos, Instr::Return(Some(atom(value))))
+    } else {
+        put(code, pos, Instr::Return(None))
     }
 }

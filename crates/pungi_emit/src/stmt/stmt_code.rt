@@ -6,48 +6,27 @@ ghost use Rattle.pungi_resolved.specs.ValueView.{value_view, optional_view};
 ghost use Rattle.pungi_resolved.specs.Actions.{block, if_only, if_else, while, do_while, for, switch};
 ghost use Rattle.pungi_emit.specs.stmt.Cases.{is_block, skipped_code};
 ghost use Rattle.pungi_emit.specs.stmt.Emits.{Emits, EmitsStmt, EmitsList};
-ghost use Rattle.pungi_layout.specs.code.Sizes.{expr_size, option_size, stmt_size, stmts_size};
-ghost use Rattle.pungi_layout.specs.code.Sound.{IsOptionWanted, IsStmtSound, AreStmtsSound, option_nodes, stmt_nodes};
-ghost use Rattle.pungi_layout.specs.code.Sound.{stmts_nodes};
+ghost use Rattle.pungi_layout.specs.code.Sizes.{expr_size, stmt_size, stmts_size};
+ghost use Rattle.pungi_layout.specs.code.Sound.{IsStmtSound, AreStmtsSound, stmt_nodes, stmts_nodes};
 ghost use Rattle.pungi_emit.specs.planning.LabelPlaces.{list_labels, list_starts, env_of};
 ghost use Rattle.pungi_emit.specs.planning.Plans.{Begins, switch_from, plan_of, plans_of, skipped_plan};
 ghost use Rattle.pungi_layout.specs.code.Scopes.{in_block};
-ghost use Rattle.pungi_layout.specs.code.StmtCode.{stmt_code, return_code};
+ghost use Rattle.pungi_layout.specs.code.StmtCode.{stmt_code};
 ghost use Rattle.pungi_meaning.specs.Run.{nowhere};
 
 use crate::code::instructions::{Around, next_place, put};
-use crate::expr::temporary::{atom, temp_in};
+use crate::expr::temporary::temp_in;
 use crate::planning::labels::plan_labels;
 use crate::planning::plan::{Plan, next_planned, planned_all};
 use crate::planning::scope::{Labels, Placed, Scope, goto_place};
 use crate::stmt::decl::{
-    emit_alone, emit_declared, emit_option, emit_test, emit_tested, emit_unset, emit_unsets,
+    emit_alone, emit_declared, emit_option, emit_return, emit_test, emit_tested, emit_unset,
+    emit_unsets,
 };
 use crate::stmt::switch::{default_or, emit_cases, is_block};
 use pungi_base::{Memory, Pos, Seq};
 use pungi_code::{Instr, Label, Line};
 use pungi_resolved::{Action, ActionNode, DeclaredLocal, Value as Node};
-
-/// `return`.
-fn emit_return(
-    code: &mut Seq<Line>,
-    around: Around,
-    pos: Pos,
-    node: &Option<Box<Node>>,
-) -> Result<(), Memory>
-    requires sound { IsOptionWanted around.locals (optional_view node.now) }
-    requires few { option_nodes (optional_view node.now) < 2 ^ 16 }
-    requires long { length code.old + (option_size (optional_view node.now) + 1) ≤ most_instructions }
-    ensures { OnOk result (code.new ≡ code.old ++ return_code around.locals (length code.old) pos
-        (optional_view node.now)) }
-{
-    if let Some(node) = node {
-        let value = emit_alone(code, around, node)?;
-        put(code, pos, Instr::Return(Some(atom(value))))
-    } else {
-        put(code, pos, Instr::Return(None))
-    }
-}
 
 /// `if` without `else`.
 #[cycle(emit_stmts)]
