@@ -4,5 +4,3 @@ pub mod Decls
 pub mod Cases
 pub mod StmtCode
 pub mod Room
-pub mod Switches
-pub mod Loops

@@ -13,6 +13,7 @@ use Rattle.pungi_code.specs.declared.code.Line.{Line}
 use Rattle.pungi_code.specs.Limits.{most_instructions}
 use Rattle.pungi_layout.specs.code.Sound.{IsOptionSound, IsOptionWanted, IsStmtSound, stmt_nodes}
 use Rattle.pungi_layout.specs.code.Sizes.{expr_size, option_size, declare_size, stmt_size, stmts_size}
+use Rattle.pungi_layout.specs.code.Sizes.{switch_size}
 use Rattle.pungi_layout.specs.code.StmtCode.{unset_code, option_code, declare_code}
 use Rattle.pungi_emit.specs.planning.LabelPlaces.{list_starts}
 use Rattle.pungi_emit.specs.planning.Plans.{switch_from}
@@ -36,6 +37,11 @@ pub switch_is : (p r q : Pos) (v : expr.Value) (list : List stmt.Action)
 switch_is p r q v list =
     ap (λ l. expr_size v + (length (block_locals l) + 2 * length (block_cases l) + 1 + stmts_size (actions_of list)))
     (as_actions list)
+
+pub switched_is : (r q : Pos) (list : List stmt.Action) → switch_size (stmt.block r (actions_of list) q)
+    ≡ length (block_locals list) + 2 * length (block_cases list) + 1 + stmts_size (actions_of list)
+switched_is r q list =
+    ap (λ l. length (block_locals l) + 2 * length (block_cases l) + 1 + stmts_size (actions_of list)) (as_actions list)
 
 pub cases_are : (list : List stmt.Action) (pc : ℕ) (starts : List ℕ) → starts ≡ list_starts pc list
     → length (cases_at list starts) ≡ length (block_cases list)

@@ -149,16 +149,14 @@ emit_args-emit_value-requires t c =
 pub emit_stepped-emit_held-requires : goal.emit_stepped-emit_held-requires
 emit_stepped-emit_held-requires t c =
     let n = put_grown _ c.args.code.now c.put.new.code c.in_ok-put.ensures in
-    (omega arith, c.requires.sound, omega (arith, c.requires.deep), omega (arith, n, c.requires.long))
+    (omega arith, (c.requires.sound, omega (arith, c.requires.deep), omega (arith, n, c.requires.long)))
 
 pub emit_stored-emit_value-requires : goal.emit_stored-emit_value-requires
 emit_stored-emit_value-requires t c =
     let n = base_grown c.args.around.locals c.args.depth (place_view c.args.place.now) c.args.code.now
     c.emit_base.new.code c.in_ok-emit_base.ensures in (
       omega arith,
-      c.requires.sound.2,
-      omega (arith, c.above-level.ensures.low, c.requires.deep),
-      omega (arith, n, c.requires.long),
+      (c.requires.sound.2, omega (arith, c.above-level.ensures.low, c.requires.deep), omega (arith, n, c.requires.long)),
     )
 
 pub emit_updated-emit_value-requires : goal.emit_updated-emit_value-requires
@@ -166,21 +164,19 @@ emit_updated-emit_value-requires t c =
     let n = held_grown c.args.around.locals c.args.depth c.temp-old.result _ c.args.kind
     (place_view c.args.place.now) c.args.code.now c.emit_held.new.code c.in_ok-emit_held.ensures in (
       omega arith,
-      c.requires.sound.2,
-      omega (arith, c.above-level.ensures.low, c.requires.deep),
-      omega (arith, n, c.requires.long),
+      (c.requires.sound.2, omega (arith, c.above-level.ensures.low, c.requires.deep), omega (arith, n, c.requires.long)),
     )
 
 pub emit_operands-emit_value-requires-2 : goal.emit_operands-emit_value-requires-2
 emit_operands-emit_value-requires-2 t c =
     let n = value_grown c.args.around.locals c.args.depth c.args.left (value_view c.args.a.now) c.args.code.now
     c.emit_value.new.code c.in_ok-emit_value.ensures in
-    (omega arith, c.requires.sound.1, omega (arith, c.requires.deep), omega (arith, n, c.requires.long))
+    (omega arith, (c.requires.sound.1, omega (arith, c.requires.deep), omega (arith, n, c.requires.long)))
 
 pub emit_negated-emit_value-requires : goal.emit_negated-emit_value-requires
 emit_negated-emit_value-requires t c =
     let n = put_grown _ c.args.code.now c.put.new.code c.in_ok-put.ensures in
-    (omega arith, c.requires.sound.1, omega (arith, c.requires.deep), omega (arith, n, c.requires.long))
+    (omega arith, (c.requires.sound.1, omega (arith, c.requires.deep), omega (arith, n, c.requires.long)))
 
 pub emit_negated-next_place-test-requires : goal.emit_negated-next_place-test-requires
 emit_negated-next_place-test-requires t c =
@@ -192,7 +188,7 @@ emit_negated-next_place-test-requires t c =
 pub emit_joined-emit_value-requires : goal.emit_joined-emit_value-requires
 emit_joined-emit_value-requires t c =
     let n = put_grown _ c.args.code.now c.put.new.code c.in_ok-put.ensures in
-    (omega arith, c.requires.sound.1, omega (arith, c.requires.deep), omega (arith, n, c.requires.long))
+    (omega arith, (c.requires.sound.1, omega (arith, c.requires.deep), omega (arith, n, c.requires.long)))
 
 pub emit_joined-next_place-test-requires : goal.emit_joined-next_place-test-requires
 emit_joined-next_place-test-requires t c =
@@ -207,7 +203,7 @@ emit_joined-emit_value-requires-2 t c =
     let m = value_grown c.args.around.locals (c.args.depth + 1) c.temp_of-left.result (value_view c.args.a.now)
     c.put.new.code c.emit_value.new.code c.in_ok-emit_value.ensures in
     let k = put_grown _ c.emit_value.new.code c.put-2.new.code c.in_ok-put-2.ensures in
-    (omega arith, c.requires.sound.3, omega (arith, c.requires.deep), omega (arith, n, m, k, c.requires.long))
+    (omega arith, (c.requires.sound.3, omega (arith, c.requires.deep), omega (arith, n, m, k, c.requires.long)))
 
 pub emit_joined-next_place-last-requires : goal.emit_joined-next_place-last-requires
 emit_joined-next_place-last-requires t c =
@@ -230,7 +226,7 @@ emit_chosen-emit_value-requires-2 t c =
     let n = value_grown c.args.around.locals c.args.depth c.temp_of-value.result (value_view c.args.c.now)
     c.args.code.now c.emit_value.new.code c.in_ok-emit_value.ensures in
     let m = put_grown _ c.emit_value.new.code c.put.new.code c.in_ok-put.ensures in
-    (omega arith, c.requires.sound.3, omega (arith, c.requires.deep), omega (arith, n, m, c.requires.long))
+    (omega arith, (c.requires.sound.3, omega (arith, c.requires.deep), omega (arith, n, m, c.requires.long)))
 
 pub emit_chosen-next_place-jump-requires : goal.emit_chosen-next_place-jump-requires
 emit_chosen-next_place-jump-requires t c =
@@ -249,7 +245,7 @@ emit_chosen-emit_value-requires-3 t c =
     let k = value_grown c.args.around.locals c.args.depth c.args.target (value_view c.args.a.now) c.put.new.code
     c.emit_value-2.new.code c.in_ok-emit_value-2.ensures in
     let l = put_grown _ c.emit_value-2.new.code c.put-2.new.code c.in_ok-put-2.ensures in
-    (omega arith, c.requires.sound.5, omega (arith, c.requires.deep), omega (arith, n, m, k, l, c.requires.long))
+    (omega arith, (c.requires.sound.5, omega (arith, c.requires.deep), omega (arith, n, m, k, l, c.requires.long)))
 
 pub emit_chosen-next_place-end-requires : goal.emit_chosen-next_place-end-requires
 emit_chosen-next_place-end-requires t c =
@@ -268,3 +264,27 @@ emit_called-emit_row-requires t c =
     let n = args_few (map value_view c.args.args.now) in
     let m = length-map c.args.args.now value_view in
     omega (arith, n, m, c.requires.deep)
+
+pub emit_negated-overflow_add-test : goal.emit_negated-overflow_add-test
+emit_negated-overflow_add-test t c =
+    let n = put_grown _ c.args.code.now c.put.new.code c.in_ok-put.ensures in
+    let m = value_grown c.args.around.locals (c.args.depth + 1) c.temp_of-value.result (value_view c.args.part.now)
+    c.put.new.code c.emit_value.new.code c.in_ok-emit_value.ensures in
+    omega (arith, n, m, c.next_place-test.ensures, c.requires.long)
+
+pub emit_negated-overflow_add-test-2 : goal.emit_negated-overflow_add-test-2
+emit_negated-overflow_add-test-2 t c =
+    let n = put_grown _ c.args.code.now c.put.new.code c.in_ok-put.ensures in
+    let m = value_grown c.args.around.locals (c.args.depth + 1) c.temp_of-value.result (value_view c.args.part.now)
+    c.put.new.code c.emit_value.new.code c.in_ok-emit_value.ensures in
+    omega (arith, n, m, c.next_place-test.ensures, c.requires.long)
+
+pub emit_joined-overflow_add-end : goal.emit_joined-overflow_add-end
+emit_joined-overflow_add-end t c =
+    let n = put_grown _ c.args.code.now c.put.new.code c.in_ok-put.ensures in
+    let m = value_grown c.args.around.locals (c.args.depth + 1) c.temp_of-left.result (value_view c.args.a.now)
+    c.put.new.code c.emit_value.new.code c.in_ok-emit_value.ensures in
+    let k = put_grown _ c.emit_value.new.code c.put-2.new.code c.in_ok-put-2.ensures in
+    let l = value_grown c.args.around.locals (c.args.depth + 1) c.temp_of-right.result (value_view c.args.b.now)
+    c.put-2.new.code c.emit_value-2.new.code c.in_ok-emit_value-2.ensures in
+    omega (arith, n, m, k, l, c.next_place-last.ensures, c.requires.long)

@@ -7,10 +7,12 @@ use Rattle.pungi_resolved.specs.ValueView.{value_view, optional_view}
 use Rattle.pungi_meaning.specs.Run.{nowhere}
 use Rattle.pungi_layout.specs.code.Heads.{head_at, stmt_marks, stmts_marks, switch_marks}
 use Rattle.pungi_layout.specs.code.Sizes.{expr_size, option_size, test_size, stmt_size, stmts_size}
+use Rattle.pungi_layout.specs.code.Sizes.{switch_size}
 use Rattle.pungi_layout.specs.code.Scopes.{for_head}
 use Rattle.pungi_emit.specs.planning.LabelPlaces.{stmt_labels, list_labels, list_starts}
 use Rattle.pungi_emit.specs.planning.Plans.{places_of, switch_from, plan_of, plans_of, switch_plan}
 use Rattle.pungi_emit.proofs.code.Lists.{next_one}
+use Rattle.pungi_emit.proofs.stmt.Room.{block_is, switched_is}
 use Rattle.pungi_emit.proofs.stmt.StmtCode.{next_start}
 use Rattle.pungi_emit.proofs.planning.PlanLists.{room_is_there, filled, one_filled, two_filled}
 use Rattle.pungi_emit.proofs.planning.Plans.{labels_long, starts_long, block_plan_is, choice_plan}
@@ -401,3 +403,52 @@ survey_switch-survey_choice-requires t c =
     let e = choice_size c.args.pos v a c.args.pc c.after_value-place.result (c.after_value-place.result
     + switch_size a) place refl in
     (omega arith, omega (arith, e, c.requires))
+
+pub survey_inner-declared_count-own-requires : goal.survey_inner-declared_count-own-requires
+survey_inner-declared_count-own-requires t c =
+    omega (arith, block_is nowhere nowhere (map action_view c.args.list.now), c.requires)
+
+pub survey_inner-overflow_add-from : goal.survey_inner-overflow_add-from
+survey_inner-overflow_add-from t c =
+    omega (arith, block_is nowhere nowhere (map action_view c.args.list.now), c.declared_count-own.ensures, c.requires)
+
+pub survey_inner-survey_inside-requires : goal.survey_inner-survey_inside-requires
+survey_inner-survey_inside-requires t c = (
+  omega arith,
+  omega (arith, block_is nowhere nowhere (map action_view c.args.list.now), c.declared_count-own.ensures, c.requires),
+)
+
+pub survey_switched-declared_count-own-requires : goal.survey_switched-declared_count-own-requires
+survey_switched-declared_count-own-requires t c =
+    let e = switched_is nowhere nowhere (map action_view c.args.list.now) in
+    omega (arith, e, c.requires)
+
+pub survey_switched-cases_count-cases-requires : goal.survey_switched-cases_count-cases-requires
+survey_switched-cases_count-cases-requires t c =
+    let e = switched_is nowhere nowhere (map action_view c.args.list.now) in
+    omega (arith, e, c.requires)
+
+pub survey_switched-overflow_add-unset : goal.survey_switched-overflow_add-unset
+survey_switched-overflow_add-unset t c =
+    let e = switched_is nowhere nowhere (map action_view c.args.list.now) in
+    omega (arith, e, c.declared_count-own.ensures, c.requires)
+
+pub survey_switched-overflow_add-compared : goal.survey_switched-overflow_add-compared
+survey_switched-overflow_add-compared t c =
+    let e = switched_is nowhere nowhere (map action_view c.args.list.now) in
+    omega (arith, e, c.declared_count-own.ensures, c.cases_count-cases.ensures, c.requires)
+
+pub survey_switched-overflow_add-branched : goal.survey_switched-overflow_add-branched
+survey_switched-overflow_add-branched t c =
+    let e = switched_is nowhere nowhere (map action_view c.args.list.now) in
+    omega (arith, e, c.declared_count-own.ensures, c.cases_count-cases.ensures, c.requires)
+
+pub survey_switched-overflow_add-from : goal.survey_switched-overflow_add-from
+survey_switched-overflow_add-from t c =
+    let e = switched_is nowhere nowhere (map action_view c.args.list.now) in
+    omega (arith, e, c.declared_count-own.ensures, c.cases_count-cases.ensures, c.requires)
+
+pub survey_switched-survey_inside-requires : goal.survey_switched-survey_inside-requires
+survey_switched-survey_inside-requires t c =
+    let e = switched_is nowhere nowhere (map action_view c.args.list.now) in
+    (omega arith, omega (arith, e, c.declared_count-own.ensures, c.cases_count-cases.ensures, c.requires))

@@ -24,8 +24,8 @@ use Rattle.pungi_emit.proofs.planning.Plans.{part_through, first_begins, second_
 use Rattle.pungi_emit.proofs.stmt.StmtCode.{test_place, stmt_place, else_place, if_laid, else_laid, block_laid}
 use Rattle.pungi_emit.proofs.stmt.StmtCode.{next_laid}
 use Rattle.pungi_emit.proofs.stmt.stmt_code.+emit_stmts.Goals as goal
-use Rattle.pungi_emit.proofs.stmt.Switches as switches
-use Rattle.pungi_emit.proofs.stmt.Loops as loops
+use Rattle.pungi_emit.proofs.stmt.stmt_code.Switches as switches
+use Rattle.pungi_emit.proofs.stmt.stmt_code.Loops as loops
 
 pub emit_if-emit_stmt-requires : goal.emit_if-emit_stmt-requires
 emit_if-emit_stmt-requires t c =

@@ -1,0 +1,3 @@
+-- What the emitters of statements owe.
+mod Switches
+mod Loops
