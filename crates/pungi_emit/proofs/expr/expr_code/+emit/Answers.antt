@@ -23,7 +23,8 @@ emit_chosen-returns t c =
     let e1 = rw c.temp_of-value.ensures at c.in_ok-emit_value.ensures in
     let e10 = rw (c.branch_on-branch.ensures, c.temp_of-value.ensures) at c.replace-2.ensures in
     chosen_emitted c.args.around.locals c.args.depth c.args.target c.next_place-test.result c.next_place-jump.result
-    c.next_place-end.result c.args.pos (value_view c.args.c.now) (value_view c.args.a.now) (value_view c.args.b.now) hole
+    c.next_place-end.result c.args.pos (value_view c.args.c.now) (value_view c.args.a.now) (value_view c.args.b.now)
+    hole
     hole c.args.code.now c.emit_value.new.code c.put.new.code c.emit_value-2.new.code c.put-2.new.code
     c.emit_value-3.new.code c.replace.new.code c.replace-2.new.code e1 c.next_place-test.ensures
     c.in_ok-put.ensures c.in_ok-emit_value-2.ensures c.next_place-jump.ensures c.in_ok-put-2.ensures
@@ -39,7 +40,8 @@ emit_joined-returns t c =
     let e8 = rw (c.branch_on-second.ensures, c.is_and-on.ensures, c.temp_of-right.ensures) at
     c.in_ok-put-3.ensures in
     let e9 = rw (c.bit-2.ensures, c.is_and-on.ensures) at c.in_ok-put-4.ensures in
-    joined_emitted c.args.around.locals c.args.depth c.args.target c.next_place-test.result c.next_place-last.result c.args.pos
+    joined_emitted c.args.around.locals c.args.depth c.args.target c.next_place-test.result c.next_place-last.result
+    c.args.pos
     c.args.mark (value_view c.args.a.now) (value_view c.args.b.now) (line c.args.pos Fall) c.args.code.now
     c.put.new.code c.emit_value.new.code c.put-2.new.code c.emit_value-2.new.code c.replace.new.code
     c.put-3.new.code c.put-4.new.code e1 e2 c.next_place-test.ensures c.in_ok-put-2.ensures e5
@@ -149,14 +151,21 @@ emit_args-emit_value-requires t c =
 pub emit_stepped-emit_held-requires : goal.emit_stepped-emit_held-requires
 emit_stepped-emit_held-requires t c =
     let n = put_grown _ c.args.code.now c.put.new.code c.in_ok-put.ensures in
-    (omega arith, (c.requires.sound, omega (arith, c.requires.deep), omega (arith, n, c.requires.long)))
+    (omega arith, (c.requires.sound, (omega (arith, c.requires.deep), omega (arith, n, c.requires.long))))
 
 pub emit_stored-emit_value-requires : goal.emit_stored-emit_value-requires
 emit_stored-emit_value-requires t c =
     let n = base_grown c.args.around.locals c.args.depth (place_view c.args.place.now) c.args.code.now
     c.emit_base.new.code c.in_ok-emit_base.ensures in (
       omega arith,
-      (c.requires.sound.2, omega (arith, c.above-level.ensures.low, c.requires.deep), omega (arith, n, c.requires.long)),
+      (
+        c.requires.sound.2,
+        (
+          omega (arith, c.above-level.ensures.low, c.requires.deep),
+          omega
+              (arith, n, c.requires.long),
+        ),
+      ),
     )
 
 pub emit_updated-emit_value-requires : goal.emit_updated-emit_value-requires
@@ -164,19 +173,26 @@ emit_updated-emit_value-requires t c =
     let n = held_grown c.args.around.locals c.args.depth c.temp-old.result _ c.args.kind
     (place_view c.args.place.now) c.args.code.now c.emit_held.new.code c.in_ok-emit_held.ensures in (
       omega arith,
-      (c.requires.sound.2, omega (arith, c.above-level.ensures.low, c.requires.deep), omega (arith, n, c.requires.long)),
+      (
+        c.requires.sound.2,
+        (
+          omega (arith, c.above-level.ensures.low, c.requires.deep),
+          omega
+              (arith, n, c.requires.long),
+        ),
+      ),
     )
 
 pub emit_operands-emit_value-requires-2 : goal.emit_operands-emit_value-requires-2
 emit_operands-emit_value-requires-2 t c =
     let n = value_grown c.args.around.locals c.args.depth c.args.left (value_view c.args.a.now) c.args.code.now
     c.emit_value.new.code c.in_ok-emit_value.ensures in
-    (omega arith, (c.requires.sound.1, omega (arith, c.requires.deep), omega (arith, n, c.requires.long)))
+    (omega arith, (c.requires.sound.1, (omega (arith, c.requires.deep), omega (arith, n, c.requires.long))))
 
 pub emit_negated-emit_value-requires : goal.emit_negated-emit_value-requires
 emit_negated-emit_value-requires t c =
     let n = put_grown _ c.args.code.now c.put.new.code c.in_ok-put.ensures in
-    (omega arith, (c.requires.sound.1, omega (arith, c.requires.deep), omega (arith, n, c.requires.long)))
+    (omega arith, (c.requires.sound.1, (omega (arith, c.requires.deep), omega (arith, n, c.requires.long))))
 
 pub emit_negated-next_place-test-requires : goal.emit_negated-next_place-test-requires
 emit_negated-next_place-test-requires t c =
@@ -188,7 +204,7 @@ emit_negated-next_place-test-requires t c =
 pub emit_joined-emit_value-requires : goal.emit_joined-emit_value-requires
 emit_joined-emit_value-requires t c =
     let n = put_grown _ c.args.code.now c.put.new.code c.in_ok-put.ensures in
-    (omega arith, (c.requires.sound.1, omega (arith, c.requires.deep), omega (arith, n, c.requires.long)))
+    (omega arith, (c.requires.sound.1, (omega (arith, c.requires.deep), omega (arith, n, c.requires.long))))
 
 pub emit_joined-next_place-test-requires : goal.emit_joined-next_place-test-requires
 emit_joined-next_place-test-requires t c =
@@ -203,7 +219,7 @@ emit_joined-emit_value-requires-2 t c =
     let m = value_grown c.args.around.locals (c.args.depth + 1) c.temp_of-left.result (value_view c.args.a.now)
     c.put.new.code c.emit_value.new.code c.in_ok-emit_value.ensures in
     let k = put_grown _ c.emit_value.new.code c.put-2.new.code c.in_ok-put-2.ensures in
-    (omega arith, (c.requires.sound.3, omega (arith, c.requires.deep), omega (arith, n, m, k, c.requires.long)))
+    (omega arith, (c.requires.sound.3, (omega (arith, c.requires.deep), omega (arith, n, m, k, c.requires.long))))
 
 pub emit_joined-next_place-last-requires : goal.emit_joined-next_place-last-requires
 emit_joined-next_place-last-requires t c =
@@ -226,7 +242,7 @@ emit_chosen-emit_value-requires-2 t c =
     let n = value_grown c.args.around.locals c.args.depth c.temp_of-value.result (value_view c.args.c.now)
     c.args.code.now c.emit_value.new.code c.in_ok-emit_value.ensures in
     let m = put_grown _ c.emit_value.new.code c.put.new.code c.in_ok-put.ensures in
-    (omega arith, (c.requires.sound.3, omega (arith, c.requires.deep), omega (arith, n, m, c.requires.long)))
+    (omega arith, (c.requires.sound.3, (omega (arith, c.requires.deep), omega (arith, n, m, c.requires.long))))
 
 pub emit_chosen-next_place-jump-requires : goal.emit_chosen-next_place-jump-requires
 emit_chosen-next_place-jump-requires t c =
@@ -245,7 +261,7 @@ emit_chosen-emit_value-requires-3 t c =
     let k = value_grown c.args.around.locals c.args.depth c.args.target (value_view c.args.a.now) c.put.new.code
     c.emit_value-2.new.code c.in_ok-emit_value-2.ensures in
     let l = put_grown _ c.emit_value-2.new.code c.put-2.new.code c.in_ok-put-2.ensures in
-    (omega arith, (c.requires.sound.5, omega (arith, c.requires.deep), omega (arith, n, m, k, l, c.requires.long)))
+    (omega arith, (c.requires.sound.5, (omega (arith, c.requires.deep), omega (arith, n, m, k, l, c.requires.long))))
 
 pub emit_chosen-next_place-end-requires : goal.emit_chosen-next_place-end-requires
 emit_chosen-next_place-end-requires t c =

@@ -1,3 +1,0 @@
--- What the emitters of statements owe.
-mod Switches
-mod Loops
