@@ -54,3 +54,7 @@ pub bind_grown : (nl : ℕ) (r : stmt.DeclaredLocal) (c0 c1 : List Line)
 bind_grown nl r c0 c1 e =
     grown c0 c1 (bind_code nl (length c0) r.at r.number r.kind r.value) (option_size r.value + 1) e
     (bind_long r.value nl (length c0) r.number r.at r.kind)
+
+pub alone_grown : (nl : ℕ) (v : expr.Value) (c0 c1 : List Line) → c1 ≡ c0 ++ value_code nl (length c0) v
+    → length c1 ≡ length c0 + expr_size v
+alone_grown nl v c0 c1 e = grown c0 c1 (value_code nl (length c0) v) (expr_size v) e (value_long v nl (length c0))

@@ -23,14 +23,14 @@ returns-clause-heads c =
     let body = action_view c.args.f.now.body in
     let z : 0 + stmt_size body ≡ stmt_size body = omega arith in
     let m = c.in_ok-size.ensures.marks ∙ ap (λ l. l ++ stmt_marks 0 body) (c.new-marks.ensures ∙ c.new.ensures.items) in
-    let i = c.in_ok-instrs.ensures (c.in_ok-size.ensures.next ∙ z) c.in_ok-locals.ensures in
+    let i = c.in_ok-instrs.ensures (c.in_ok-size.ensures.next ∙ z) in
     c.new-heads.ensures
     ∙ (rw (c.as_slice-2.ensures, c.as_slice-3.ensures) at c.in_ok-heads.ensures)
     ∙ ap (λ ms. heads_below ms c.in_ok-instrs.instrs (length c.in_ok-instrs.instrs)) m
     ∙ ap (λ l. heads_below (stmt_marks 0 body) l (length l)) i
 
-pub heads-heads-requires : goal.heads-heads-requires
-heads-heads-requires c =
+pub heads-requires : goal.heads-requires
+heads-requires c =
     let body = action_view c.args.f.now.body in
     let z : 0 + stmt_size body ≡ stmt_size body = omega arith in
     let i = c.in_ok-instrs.ensures (c.in_ok-size.ensures.next ∙ z) in

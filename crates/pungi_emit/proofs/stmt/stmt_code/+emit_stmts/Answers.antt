@@ -460,13 +460,13 @@ emit_until-next_place-head-requires t c =
 pub emit_until-emit_test-requires : goal.emit_until-emit_test-requires
 emit_until-emit_test-requires t c =
     let n = put_grown _ c.args.code.now c.put.new.code c.in_ok-put.ensures in
-    (c.requires.sound.0.1, (omega (arith, c.requires.few), omega (arith, n, c.requires.long)))
+    record { sound = c.requires.sound.0.1; few = omega (arith, c.requires.few); long = omega (arith, n, c.requires.long) }
 
 pub emit_for-emit_declared-requires : goal.emit_for-emit_declared-requires
 emit_for-emit_declared-requires t c =
     let rs = map declared_view c.args.reached.now in
     let n = unset_grown c.args.pos rs c.args.code.now c.emit_unset.new.code c.in_ok-emit_unset.ensures in
-    (c.requires.sound.0, (omega (arith, c.requires.few), omega (arith, n, c.requires.long)))
+    record { sound = c.requires.sound.0; few = omega (arith, c.requires.few); long = omega (arith, n, c.requires.long) }
 
 pub emit_for-emit_option-requires : goal.emit_for-emit_option-requires
 emit_for-emit_option-requires t c =
@@ -474,7 +474,7 @@ emit_for-emit_option-requires t c =
     let rs = map declared_view c.args.reached.now in
     let n = unset_grown c.args.pos rs c.args.code.now c.emit_unset.new.code c.in_ok-emit_unset.ensures in
     let m = declare_grown nl rs c.emit_unset.new.code c.emit_declared.new.code c.in_ok-emit_declared.ensures in
-    (c.requires.sound.1, (omega (arith, c.requires.few), omega (arith, n, m, c.requires.long)))
+    record { sound = c.requires.sound.1; few = omega (arith, c.requires.few); long = omega (arith, n, m, c.requires.long) }
 
 pub emit_for-next_place-head-requires : goal.emit_for-next_place-head-requires
 emit_for-next_place-head-requires t c =
@@ -493,10 +493,7 @@ emit_for-emit_tested-requires t c =
     let n = unset_grown c.args.pos rs c.args.code.now c.emit_unset.new.code c.in_ok-emit_unset.ensures in
     let m = declare_grown nl rs c.emit_unset.new.code c.emit_declared.new.code c.in_ok-emit_declared.ensures in
     let k = option_grown nl (optional_view c.args.first.now) c.emit_declared.new.code c.emit_option.new.code
-    c.in_ok-emit_option.ensures in (
-      wanted_sound nl (optional_view c.args.c.now) c.requires.sound.2,
-      (omega (arith, c.requires.few), omega (arith, n, m, k, c.requires.long)),
-    )
+    c.in_ok-emit_option.ensures in record { sound = wanted_sound nl (optional_view c.args.c.now) c.requires.sound.2; few = omega (arith, c.requires.few); long = omega (arith, n, m, k, c.requires.long) }
 
 pub emit_for-emit_option-requires-2 : goal.emit_for-emit_option-requires-2
 emit_for-emit_option-requires-2 t c =
@@ -508,7 +505,7 @@ emit_for-emit_option-requires-2 t c =
     c.in_ok-emit_declared.ensures c.in_ok-emit_option.ensures c.in_ok-emit_tested.ensures in
     let m = stmt_place nl env _ (action_view c.args.body.now) c.emit_tested.new.code c.emit_stmt.new.code
     c.in_ok-emit_stmt.ensures.code in
-    (c.requires.sound.3, (omega (arith, c.requires.few), omega (arith, n, m, c.requires.long)))
+    record { sound = c.requires.sound.3; few = omega (arith, c.requires.few); long = omega (arith, n, m, c.requires.long) }
 
 pub emit_switched-emit_cases-requires : goal.emit_switched-emit_cases-requires
 emit_switched-emit_cases-requires t c =
