@@ -5,7 +5,7 @@ use Rattle.pungi_base.specs.declared.pos.Pos.{Pos}
 use Rattle.pungi_api.specs.declared.answer.Answer.TheVariants as answer
 use Rattle.pungi_api.specs.declared.param.Param.{Param}
 use Rattle.pungi_api.specs.declared.param.Param.TheVariants as param
-use Rattle.pungi_api.specs.declared.row.Form.TheVariants as form
+use Rattle.pungi_api.specs.declared.call_answer.CallAnswer.TheVariants.{Of}
 use Rattle.pungi_api.specs.declared.take.Take.TheVariants as take
 use Rattle.pungi_meaning.specs.declared.cmp.Cmp.TheVariants as cmps
 use Rattle.pungi_code.specs.declared.atom.Atom.{Atom}
@@ -100,17 +100,12 @@ statics_differ = refl
 -- an item is taken over also where the call fails
 abbrev Sets : Code
 Sets = One (Api (Some (At 2)) (record {
-  row = record {
-    form = form.Plain;
-    params = param.Object ∷ param.Object ∷ [];
-    takes = take.Never ∷ take.Always
-        ∷ [];
-    answer = answer.Status;
-  };
-  units_in = None;
-  units_out = None;
+  own = None;
+  params = param.Object ∷ param.Object ∷ [];
+  takes = take.Never ∷ take.Always ∷ [];
+  answer = Of answer.Status;
+  outputs = [];
   least = 0;
-  outputs = 0;
 }) (Var' 0 ∷ Var' 1 ∷ []) []) Two
 
 abbrev Asked2 : State

@@ -103,7 +103,9 @@ impl Known {
             Instr::Compare(_, _, a, b) => Ok(self.asks_compare(self.term(*a), self.term(*b))),
             Instr::Load(_, place) => Ok(self.asks_place_load(*place)?),
             Instr::Store(place, a) => self.asks_place_store(*place, *a),
-            Instr::Api(_, shape, args, _) => Ok(self.asks_call(shape, args.as_slice())),
+            Instr::Api(_, signature, args, _) => {
+                Ok(self.asks_call(signature.get(), args.as_slice()))
+            }
             Instr::Call(_, _, _) => Ok(Question::Stops(Decision::Quiet)),
             Instr::Unset(_) => Ok(Question::Does(Decision::Quiet)),
             Instr::Jump(_) => Ok(Question::Does(Decision::Quiet)),
