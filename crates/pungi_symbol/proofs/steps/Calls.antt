@@ -111,7 +111,8 @@ module _ (choices : List Choice) (code : List Line) (table : Table) (base : ℕ)
         → Moved choices code table base s.known.pc (effort s.known) m (record s
         { balances = bs; known = go_on (put_answer z t s.known) })
     moved_by None o t m1 bs k a h e = goes_on m1 (omega (arith, k)) e going (after_none code table base s m1 bs h)
-    moved_by (Some z) None None m1 bs k a h e = goes_on m1 (omega (arith, k)) e going (after_none code table base s m1 bs h)
+    moved_by (Some z) None None m1 bs k a h e =
+        goes_on m1 (omega (arith, k)) e going (after_none code table base s m1 bs h)
     moved_by (Some z) None (Some c) m1 bs k a h e = absurd a
     moved_by (Some z) (Some v) None m1 bs k a h e = absurd a
     moved_by (Some z) (Some v) (Some c) m1 bs k a h e = goes_on (put z (content.Holds v) m1) (omega (arith, k)) e
@@ -266,12 +267,10 @@ module _ (choices : List Choice) (code : List Line) (table : Table) (base : ℕ)
       -- a call that uses a choice
       module _ (a : Answer) where
         abbrev Gone : Value → World
-        Gone v = take_over (world_answered a m.world (Some v)) (is_success a (Some v))
-            g.takes Vs
+        Gone v = take_over (world_answered a m.world (Some v)) (is_success a (Some v)) g.takes Vs
 
         abbrev Bs : Mark → List ℤ
-        Bs r = lower s.classes s.known (taken_terms (is_success a (Some (value_of_mark r)))
-            g.takes Ts) s.balances
+        Bs r = lower s.classes s.known (taken_terms (is_success a (Some (value_of_mark r))) g.takes Ts) s.balances
 
         answer_moved : (z : Option Var) (v : Value) (r : Mark) → at table (count s.known) ≡ v → is_mark r v ≡ true
             → is_open r ≡ false → IsNear m.world v → KnownTaken s.known g.takes Ts
@@ -319,7 +318,8 @@ module _ (choices : List Choice) (code : List Line) (table : Table) (base : ℕ)
                 → (Gone v).slots ≡ map (state_in table) s.known.slots
                 → ((o : ℕ) → owed (Gone v) o ≡ named o table (Bs r ++ owed_for_answer a r ∷ []))
                 → at table (count s.known) ≡ v
-                → leads_at choices code s.known.pc m ≡ goes (s.known.pc + 1) (regs_answered z (Some v) (Used 1 (Gone v)))
+                → leads_at choices code s.known.pc m
+                ≡ goes (s.known.pc + 1) (regs_answered z (Some v) (Used 1 (Gone v)))
                 → Moved choices code table base s.known.pc (effort s.known) m (record (join
                 (owed_for_answer a r) (Bs r) s) {
                   known = go_on (put_answer z
