@@ -1,11 +1,13 @@
 -- What one call of the API takes, takes over, returns and writes (Python/C API Reference Manual 3.11).
---   own_effect s, own_param s, own_answer s    of a row with an effect of its own: that effect, what its one argument may
---                                              be, and what it returns
+--   own_effect s, own_param s, own_answer s    of a row with an effect of its own: that effect, what its one argument
+--                                              may be, and what it returns
 --   plain_signature row         a call whose parameters, answer and arguments that it takes over say all
 --   special_signature s         a call with an effect of its own
+--   form_signature f row        a call of a row of this form
 --   signature_of row            a call of a row
---   may_take_of g               a call takes over only objects, on success only where success can be seen
---   is_signature g              so it is with a call, and it writes no fewer variables than it has to
+--   row_answer a                the answer that a row would have which returns that, as far as success can be seen
+--   is_signature g              a call takes over only objects, on success only where success can be seen, and has no
+--                               more variables to write than it may write
 use Rattle.std.specs.Prelude.{nat_le, Bool, ◌&&◌, [], ◌∷◌, length, Some, None}
 use Rattle.pungi_api.specs.declared.answer.Answer.{Answer}
 use Rattle.pungi_api.specs.declared.answer.Answer.TheVariants as answer

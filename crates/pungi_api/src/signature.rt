@@ -1,7 +1,8 @@
 ghost use Rattle.std.specs.Prelude.{◌≡◌, ◌∷◌, [], true, IfOk};
 ghost use Rattle.pungi_api.specs.declared.row.Row.{Row as RowOf};
 ghost use Rattle.pungi_api.specs.Rows.{is_row};
-ghost use Rattle.pungi_api.specs.Signatures.{signature_of, plain_signature, special_signature, own_effect, own_param, own_answer, is_signature};
+ghost use Rattle.pungi_api.specs.Signatures.{signature_of, plain_signature, special_signature, own_effect, own_param};
+ghost use Rattle.pungi_api.specs.Signatures.{own_answer, is_signature};
 
 use crate::{Answer, CallAnswer, Form, Output, OwnEffect, Param, Row, Special, Take};
 use pungi_base::{Memory, Seq};

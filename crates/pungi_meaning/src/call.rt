@@ -42,7 +42,10 @@ fn call(
 {
     let args = take_newest(alloc, &mut m.values, count)?;
     let rest = unused(choices, m.used.len());
-    let api = ApiCall { signature, args: &args };
+    let api = ApiCall {
+        signature,
+        args: &args,
+    };
     match m.world.apply(alloc, &api, rest) {
         Ok(effect) => {
             note_used(&mut m.used, pos, effect.used)?;

@@ -43,7 +43,12 @@ fn call_row<N: Lookup>(
         None => unreachable!(),
         Some(row) => {
             let signature = boxed_signature(alloc, row)?;
-            Typed::new(alloc, pos, ValueNode::CalledRow(name, signature, args), kind)
+            Typed::new(
+                alloc,
+                pos,
+                ValueNode::CalledRow(name, signature, args),
+                kind,
+            )
         }
     }
 }

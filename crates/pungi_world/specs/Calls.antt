@@ -17,8 +17,8 @@
 --   own_world own g args w value    the world after it, where it has this effect of its own, or none
 --   is_undescribed own          the call has an effect that isn't described
 --   call_effect                 what a call of the API does
-use Rattle.std.specs.Prelude.{ℕ, pos, negsuc, Bool, true, false, ◌||◌, List, [], ◌∷◌, length, get_or, Option, None, Some}
-use Rattle.std.specs.Prelude.{Result, Ok, Err, if◌then◌else◌}
+use Rattle.std.specs.Prelude.{ℕ, pos, negsuc, Bool, true, false, ◌||◌, List, [], ◌∷◌, length, get_or, Option, None}
+use Rattle.std.specs.Prelude.{Some, Result, Ok, Err, if◌then◌else◌}
 use Rattle.std.specs.List.{list_any, zip}
 use Rattle.pungi_base.specs.declared.value.Value.{Value}
 use Rattle.pungi_base.specs.declared.value.Value.TheVariants as value
