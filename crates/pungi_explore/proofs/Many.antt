@@ -1,8 +1,8 @@
 -- Leaves of the trees below states, as different traces to ends.
-use Rattle.std.proofs.Common.{◌≡◌, ℕ, suc, ◌+◌, ◌≤◌, List, [], ◌∷◌, ◌++◌, length, map, Bool, true, false, refl, sym, ap}
+use Rattle.std.proofs.Common.{◌≡◌, ℕ, zero, suc, ◌+◌, ◌≤◌, List, [], ◌∷◌, ◌++◌, length, map, Bool, true, false, refl, sym, ap}
 use Rattle.std.proofs.Common.{◌∙◌, subst, arith, ◌⊎◌, inl, inr, cond}
 use Rattle.std.specs.Prelude.{slice_get}
-use Rattle.std.specs.List.{flat_map}
+use Rattle.std.specs.List.{flat_map, range_with_len}
 use Rattle.std.specs.declared.cmp.Ordering.TheVariants.{Less, Equal, Greater}
 use Rattle.std.proofs.Common.{length-append}
 use Rattle.std.proofs.Math.ListN.{length-map}
@@ -11,10 +11,15 @@ use Rattle.std.proofs.lemmas.List.Concat.{flat_map-cons}
 use Rattle.pungi_code.specs.declared.code.Line.{Line}
 use Rattle.pungi_symbol.specs.declared.answers.decision.Decision.{Decision}
 use Rattle.pungi_symbol.specs.declared.answers.decision.Decision.TheVariants.{Quiet, Outcome, Order, Same as IsSame}
+use Rattle.pungi_symbol.specs.declared.questions.question.Question.{Question}
+use Rattle.pungi_symbol.specs.declared.questions.question.Question.TheVariants.{Does, Touches, Overwrites}
+use Rattle.pungi_symbol.specs.declared.questions.question.Question.TheVariants.{Null as AsksNull, Base, Answers, Same}
+use Rattle.pungi_symbol.specs.declared.questions.question.Question.TheVariants.{Returns, Stops, Over}
 use Rattle.pungi_symbol.specs.declared.states.known.Status.TheVariants as status
 use Rattle.pungi_symbol.specs.declared.states.state.State.{State}
 use Rattle.pungi_symbol.specs.questions.NextQuestion.{ask}
-use Rattle.pungi_symbol.specs.answers.SymbolicState.{can, apply, successors, after_if, decisions}
+use Rattle.pungi_symbol.specs.states.Terms.{outcomes_of_answer}
+use Rattle.pungi_symbol.specs.answers.SymbolicState.{can, apply, successors, after_if, answers_of}
 use Rattle.pungi_symbol.specs.runs.Paths.{Path, path_here}
 use Rattle.pungi_explore.specs.Traces.{IsIn, AreDifferent, HasEnded, states_after}
 use Rattle.pungi_explore.proofs.Begins.{Told, began}
@@ -26,15 +31,15 @@ use Rattle.pungi_explore.proofs.Trees.{HaveAtLeast, none_left, left_out, one_end
 
 -- ---- the answers to a question are different
 
--- their order among all answers
+-- their order among the answers to one question
 abbrev pub rank : Decision → ℕ
 rank Quiet = 0
 rank (Outcome k) = k + 1
-rank (Order Less) = 4
-rank (Order Equal) = 5
-rank (Order Greater) = 6
-rank (IsSame false) = 7
-rank (IsSame true) = 8
+rank (Order Less) = 0
+rank (Order Equal) = 1
+rank (Order Greater) = 2
+rank (IsSame false) = 0
+rank (IsSame true) = 1
 
 abbrev pub Rises : ℕ → List (Decision × State) → Type 0
 Rises b [] = Unit {0}
@@ -62,29 +67,30 @@ rises_all code s b (d ∷ ds) h =
     (d, apply (slice_get code s.known.pc) (ask code s.known) d s) (flat_map one ds) h.0
     (rises_all code s (suc (rank d)) ds h.1))
 
-all_rise : AnswersRise 0 decisions
-all_rise = (
-  omega arith,
-  (
-    omega arith,
-    (
-      omega arith,
-      (
-        omega arith,
-        (
-          omega arith,
-          (
-            omega arith,
-            (omega arith, (omega arith, (omega arith, tt))),
-          ),
-        ),
-      ),
-    ),
-  ),
-)
+numbered_rise : (k n b : ℕ) → b ≤ k + 1 → AnswersRise b (map Outcome (range_with_len k n))
+numbered_rise k zero b le = tt
+numbered_rise k (suc n) b le = (le, numbered_rise (k + 1) n (suc (k + 1)) (omega arith))
+
+one_rises : (d : Decision) → AnswersRise 0 (d ∷ [])
+one_rises d = (omega arith, tt)
+
+same_rise : AnswersRise 0 (IsSame false ∷ IsSame true ∷ [])
+same_rise = (omega arith, (omega arith, tt))
+
+all_rise : (q : Question) → AnswersRise 0 (answers_of q)
+all_rise (Does d) = one_rises d
+all_rise (Touches m) = one_rises Quiet
+all_rise (Overwrites m) = numbered_rise 0 2 0 (omega arith)
+all_rise (AsksNull t) = numbered_rise 0 2 0 (omega arith)
+all_rise (Base t u i) = same_rise
+all_rise (Answers a) = numbered_rise 0 (length (outcomes_of_answer a)) 0 (omega arith)
+all_rise (Same t u) = same_rise
+all_rise (Returns x) = one_rises Quiet
+all_rise (Stops d) = one_rises d
+all_rise Over = tt
 
 answers_rise : (code : List Line) (s : State) → Rises 0 (successors code s)
-answers_rise code s = rises_all code s 0 decisions all_rise
+answers_rise code s = rises_all code s 0 (answers_of (ask code s.known)) (all_rise (ask code s.known))
 
 above : (b : ℕ) (q : Decision × State) (ps : List (Decision × State)) → Rises b ps → IsIn q ps → b ≤ rank q.0
 above b q [] h i = absurd i

@@ -5,7 +5,7 @@ use Rattle.pungi_code.specs.declared.code.Line.{Line}
 use Rattle.pungi_symbol.specs.declared.answers.decision.Decision.{Decision}
 use Rattle.pungi_symbol.specs.declared.states.state.State.{State}
 use Rattle.pungi_symbol.specs.questions.NextQuestion.{ask}
-use Rattle.pungi_symbol.specs.answers.SymbolicState.{can, apply, after_if, decisions, successors}
+use Rattle.pungi_symbol.specs.answers.SymbolicState.{can, apply, after_if, answers_of, successors}
 use Rattle.pungi_explore.specs.Traces.{states_after}
 use Rattle.pungi_explore.proofs.Each.{Each, each_of_if, each_of_flat, each_of_map}
 
@@ -18,7 +18,7 @@ each_answer P code s h =
       d,
       apply (slice_get code s.known.pc)
           (ask code s.known) d s,
-    ) (h d)) decisions
+    ) (h d)) (answers_of (ask code s.known))
 
 pub each_next : (P : State → Type 0) (code : List Line) (s : State)
     → ((d : Decision) → can s (ask code s.known) d ≡ true

@@ -57,8 +57,8 @@ fn search(alloc: Global, codes: &Codes, f: usize) -> Result<Explored, Memory>
 /// one, if the function has at most 16,384 traces. `TooMany` comes only where it has more. Of a function whose code
 /// hasn't the form, no result says anything.
 ///
-/// `Memory` is want of memory. A walk of 2^64 - 1 states is reported as it, too, and so are a count that leaves its
-/// integers and a state that has ended with 2^31 tokens or more, since no entry has so many objects.
+/// `Memory` is want of memory. A walk of 2^64 - 1 states is reported as it, too, and so are a balance that leaves 64
+/// bits and a state that has ended with 2^31 tokens or more, since no entry has so many objects.
 pub fn explore(alloc: Global, codes: &Codes, f: usize) -> Result<Explored, Memory>
     ensures shown { IfOk result (IsExplored codes.now f) }
     ensures found { IfOk result (FindsFault codes.now f) }

@@ -9,6 +9,7 @@ pub mod SlotSearch
 pub mod Loads
 pub mod Stores
 pub mod Rows
+pub mod CallAnswers
 pub mod Calls
 pub mod StepForward
 pub mod Questions

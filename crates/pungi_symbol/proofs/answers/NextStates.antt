@@ -8,7 +8,7 @@ use Rattle.pungi_code.specs.declared.code.Line.{Line}
 use Rattle.pungi_symbol.specs.declared.answers.decision.Decision.{Decision}
 use Rattle.pungi_symbol.specs.declared.states.state.State.{State}
 use Rattle.pungi_symbol.specs.questions.NextQuestion.{ask}
-use Rattle.pungi_symbol.specs.answers.SymbolicState.{can, apply, after_if, decisions, successors}
+use Rattle.pungi_symbol.specs.answers.SymbolicState.{can, apply, after_if, answers_of, successors}
 use Rattle.pungi_symbol.specs.runs.Paths.{Path, path_on}
 use Rattle.pungi_symbol.proofs.answers.Fits.{one_all}
 
@@ -31,7 +31,7 @@ module _ (P : Decision × State → Type 0) where
       → P (d, apply (slice_get code s.known.pc) (ask code s.known) d s)) → All P (successors code s)
   all_next code s h = after_all (after_if (slice_get code s.known.pc) (ask code s.known) s)
       (λ d. after_one (can s (ask code s.known) d) (d, apply (slice_get code s.known.pc) (ask code s.known) d s)
-      (h d)) decisions
+      (h d)) (answers_of (ask code s.known))
 
 -- a path goes on to each next state
 pub paths_next : (code : List Line) (first s : State) (ds : List Decision) → Path code first ds s

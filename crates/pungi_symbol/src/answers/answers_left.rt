@@ -82,7 +82,7 @@ fn is_an_outcome(n: u32, d: Decision) -> bool
 
 impl State {
     /// Whether two tokens may be one object.
-    fn can_be_one(&self, t: u32, u: u32) -> bool
+    fn can_be_one(&self, t: usize, u: usize) -> bool
         ensures { result ≡ (are_one self.now.classes t u
             || not (are_other self.now.statics self.now.classes self.now.others t u)) }
     {
@@ -90,7 +90,7 @@ impl State {
         self.are_one(t, u) || !is_other(self.statics, classes, self.others.as_slice(), t, u)
     }
 
-    fn can_same(&self, t: u32, u: u32, d: Decision) -> bool
+    fn can_same(&self, t: usize, u: usize, d: Decision) -> bool
         ensures { result ≡ can_same self.now t u d }
     {
         match d {

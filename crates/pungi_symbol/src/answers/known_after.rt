@@ -1,5 +1,5 @@
 // What is known after an answer to a question.
-ghost use Rattle.std.specs.Prelude.{◌≡◌, ◌+◌, IfOk, OnOk, Some, slice_get, slice_set, if◌then◌else◌};
+ghost use Rattle.std.specs.Prelude.{◌≡◌, ◌+◌, ◌<◌, ◌^◌, OnOk, Some, length, slice_get, slice_set, if◌then◌else◌};
 ghost use Rattle.pungi_code.specs.declared.instr.Instr.TheVariants.{Load as LoadOf, Store as StoreOf};
 ghost use Rattle.pungi_code.specs.declared.instr.Instr.TheVariants.{Compare as CompareOf};
 ghost use Rattle.pungi_symbol.specs.declared.states.known.Status.TheVariants.{Returned as IsReturned};
@@ -10,6 +10,7 @@ ghost use Rattle.pungi_symbol.specs.answers.KnownAfter.{go_on, put, arrive, comp
 ghost use Rattle.pungi_symbol.specs.answers.KnownAfter.{comparison_term, put_answer, term_with, call_var, touch};
 ghost use Rattle.pungi_symbol.specs.answers.KnownAfter.{load_first, store_first, does, perform_line, place_of_line};
 ghost use Rattle.pungi_symbol.specs.answers.KnownAfter.{instr_of, go, number_of_outcome, says_same};
+ghost use Rattle.pungi_symbol.specs.questions.NextQuestion.{IsPlaced};
 
 use crate::answers::decision::Decision;
 use crate::answers::outcomes::{mark_after, mark_of_answer, number_of_outcome, says_same};
@@ -33,7 +34,7 @@ fn compares_same(cmp: Cmp, same: bool) -> bool
 }
 
 /// What a call returned, of which this is known.
-fn term_with(m: Mark, t: u32) -> Term
+fn term_with(m: Mark, t: usize) -> Term
     ensures { result ≡ term_with m t }
 {
     match m {
@@ -91,16 +92,20 @@ fn comparison_term(same: bool, code: &[Line], pc: usize) -> Term
     }
 }
 
+/// The place after one of a list.
+fn place_after(slots: &[Touched], i: usize) -> usize
+    requires within { i < length slots.now }
+    ensures { result ≡ i + 1 }
+{
+    i + 1
+}
+
 impl Known {
     /// How many tokens there are.
-    pub fn tokens(&self) -> Result<u32, Memory>
-        ensures { IfOk result (λ n. n ≡ count self.now) }
+    pub fn tokens(&self) -> usize
+        ensures { result ≡ count self.now }
     {
-        let n = self.marks.len();
-        if n > u32::MAX as usize {
-            return Err(Memory);
-        }
-        Ok(n as u32)
+        self.marks.len()
     }
 
     fn arrive(&mut self, m: Mark) -> Result<(), Memory>
@@ -113,7 +118,7 @@ impl Known {
     fn touch(&mut self, spot: Spot, held: Term) -> Result<(), Memory>
         ensures { OnOk result (self.new ≡ touch spot held self.old) }
     {
-        let token = self.tokens()?;
+        let token = self.tokens();
         let slot = Touched {
             spot,
             at_entry: Term::Token(token),
@@ -124,13 +129,15 @@ impl Known {
     }
 
     fn load_place(&mut self, x: Var, place: Place, m: Mark) -> Result<(), Memory>
+        requires room { self.old.pc + 1 < 2 ^ 64 }
         ensures { OnOk result (self.new ≡ load_first (LoadOf x place) m self.old) }
     {
-        let token = Term::Token(self.tokens()?);
+        let token = Term::Token(self.tokens());
         let spot = self.spot(place);
         self.touch(spot, token)?;
         self.arrive(m)?;
-        self.assign(x.0, token)
+        self.assign(x.0, token);
+        Ok(())
     }
 
     fn load_line(&mut self, code: &[Line], m: Mark) -> Result<(), Memory>
@@ -146,13 +153,15 @@ impl Known {
     }
 
     fn store_place(&mut self, place: Place, a: Atom, m: Mark) -> Result<(), Memory>
+        requires room { self.old.pc + 1 < 2 ^ 64 }
         ensures { OnOk result (self.new ≡ store_first (StoreOf place a) m self.old) }
     {
         let held = self.term(a);
         let spot = self.spot(place);
         self.touch(spot, held)?;
         self.arrive(m)?;
-        self.go_on()
+        self.go_on();
+        Ok(())
     }
 
     fn store_line(&mut self, code: &[Line], m: Mark) -> Result<(), Memory>
@@ -167,66 +176,63 @@ impl Known {
         }
     }
 
-    fn perform_line(&mut self, code: &[Line]) -> Result<(), Memory>
-        ensures { OnOk result (self.new ≡ perform_line (slice_get code.now self.old.pc) (λ i. does self.old i)
-            self.old) }
+    fn perform_line(&mut self, code: &[Line])
+        ensures { self.new ≡ perform_line (slice_get code.now self.old.pc) (λ i. does self.old i) self.old }
     {
         match line_at(code, self.pc) {
-            None => Ok(()),
+            None => {}
             Some(line) => self.perform(&line.instr),
         }
     }
 
-    fn note(&mut self, t: u32, k: u32)
+    fn note(&mut self, t: usize, k: u32)
         ensures { self.new ≡ record self.old {
           marks = slice_set self.old.marks t
               (mark_at (outcomes_of_mark (mark_of self.old t)) k);
         } }
     {
         let m = mark_after(self.mark_of(t), k);
-        let place = t as usize;
-        if place < self.marks.len() {
-            self.marks.set(place, m);
+        if t < self.marks.len() {
+            self.marks.set(t, m);
         }
     }
 
-    fn walk(&mut self, same: bool, i: u32) -> Result<(), Memory>
-        ensures { OnOk result (self.new ≡ record self.old {
+    fn walk(&mut self, same: bool, i: usize)
+        requires within { i < length self.old.slots }
+        ensures { self.new ≡ record self.old {
           progress = if same then Progress.Found i else
               Progress.Looking (i + 1);
-        }) }
+        } }
     {
         if same {
             self.progress = Progress::Found(i);
-            return Ok(());
-        }
-        match i.checked_add(1) {
-            Some(next) => {
-                self.progress = Progress::Looking(next);
-                Ok(())
-            }
-            None => Err(Memory),
+        } else {
+            let next = place_after(self.slots.as_slice(), i);
+            self.progress = Progress::Looking(next);
         }
     }
 
     fn take_answer(&mut self, code: &[Line], m: Mark) -> Result<(), Memory>
+        requires within { self.old.pc < length code.now }
         ensures { OnOk result (self.new ≡ go_on (put_answer (call_var (instr_of (slice_get code.now self.old.pc)))
             (Some (term_with m (count self.old))) (arrive m self.old))) }
     {
         let x = call_var(code, self.pc);
-        let answer = term_with(m, self.tokens()?);
+        let answer = term_with(m, self.tokens());
         self.arrive(m)?;
         self.put_answer(x, Some(answer));
-        self.go_on()
+        self.go_on();
+        Ok(())
     }
 
-    fn take_same(&mut self, code: &[Line], same: bool) -> Result<(), Memory>
-        ensures { OnOk result (self.new ≡ go_on (put (comparison_var (instr_of (slice_get code.now self.old.pc)))
-            (comparison_term same (instr_of (slice_get code.now self.old.pc))) self.old)) }
+    fn take_same(&mut self, code: &[Line], same: bool)
+        requires within { self.old.pc < length code.now }
+        ensures { self.new ≡ go_on (put (comparison_var (instr_of (slice_get code.now self.old.pc)))
+            (comparison_term same (instr_of (slice_get code.now self.old.pc))) self.old) }
     {
         let x = comparison_var(code, self.pc);
         let c = comparison_term(same, code, self.pc);
-        self.assign(x, c)
+        self.assign(x, c);
     }
 
     fn returns(&mut self, code: &[Line], x: Option<Term>)
@@ -246,21 +252,31 @@ impl Known {
 
     /// What is known after an answer to a question.
     pub fn go(&mut self, code: &[Line], q: Question, d: Decision) -> Result<(), Memory>
+        requires placed { IsPlaced code.now self.old q }
         ensures { OnOk result (self.new ≡ go (slice_get code.now self.old.pc) self.old q d) }
     {
         let k = number_of_outcome(d);
         let same = says_same(d);
         match q {
-            Question::Does(_) => self.perform_line(code),
+            Question::Does(_) => {
+                self.perform_line(code);
+                Ok(())
+            }
             Question::Touches(m) => self.load_line(code, m),
             Question::Overwrites(m) => self.store_line(code, mark_after(m, k)),
             Question::Null(t) => {
                 self.note(t, k);
                 Ok(())
             }
-            Question::Base(_, _, i) => self.walk(same, i),
+            Question::Base(_, _, i) => {
+                self.walk(same, i);
+                Ok(())
+            }
             Question::Answers(answer) => self.take_answer(code, mark_of_answer(answer, k)),
-            Question::Same(_, _) => self.take_same(code, same),
+            Question::Same(_, _) => {
+                self.take_same(code, same);
+                Ok(())
+            }
             Question::Returns(x) => {
                 self.returns(code, x);
                 Ok(())

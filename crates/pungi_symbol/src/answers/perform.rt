@@ -1,20 +1,18 @@
 // What is known after an instruction's work is done.
-ghost use Rattle.std.specs.Prelude.{◌≡◌, OnOk};
+ghost use Rattle.std.specs.Prelude.{◌≡◌, ◌+◌, ◌<◌, ◌^◌};
 ghost use Rattle.pungi_code.specs.declared.instr.Instr.TheVariants.{Arith as ArithOf, Fit as FitOf};
 ghost use Rattle.pungi_code.specs.declared.instr.Instr.TheVariants.{Compare as CompareOf, Load as LoadOf};
 ghost use Rattle.pungi_code.specs.declared.instr.Instr.TheVariants.{Store as StoreOf, Api as ApiOf, Branch as BranchOf};
 ghost use Rattle.pungi_symbol.specs.states.Known.{find, found_at, term_of};
 ghost use Rattle.pungi_symbol.specs.questions.NextQuestion.{first_term, terms_of};
 ghost use Rattle.pungi_symbol.specs.answers.KnownAfter.{go_on, go_to, put, truth_term, compares, number_there};
-ghost use Rattle.pungi_symbol.specs.answers.KnownAfter.{put_answer, answer_of_row, answer_of_special, answer_of_form};
-ghost use Rattle.pungi_symbol.specs.answers.KnownAfter.{store_at, does};
+ghost use Rattle.pungi_symbol.specs.answers.KnownAfter.{put_answer, answer_of_row, answer_of_call, store_at, does};
 
 use crate::questions::slot_search::place_found;
 use crate::states::known::Known;
 use crate::states::spot::{Progress, Touched};
 use crate::states::term::Term;
-use pungi_api::{Answer, Form, Shape, Special};
-use pungi_base::Memory;
+use pungi_api::{Answer, CallAnswer};
 use pungi_code::{Atom, Instr, Label, Place, Var};
 use pungi_meaning::{Cmp, Op, arithmetic, is_true, number_of, truth};
 use pungi_types::ValueKind;
@@ -44,22 +42,12 @@ fn answer_of_row(answer: Answer) -> Option<Term>
     }
 }
 
-fn answer_of_special(special: Special, x: Term) -> Option<Term>
-    ensures { result ≡ answer_of_special special x }
+fn answer_of_call(answer: CallAnswer, x: Term) -> Option<Term>
+    ensures { result ≡ answer_of_call answer x }
 {
-    match special {
-        Special::NewRef => Some(x),
-        Special::XNewRef => Some(x),
-        _ => None,
-    }
-}
-
-fn answer_of_form(form: Form, answer: Answer, x: Term) -> Option<Term>
-    ensures { result ≡ answer_of_form form answer x }
-{
-    match form {
-        Form::Plain => answer_of_row(answer),
-        Form::Special(special) => answer_of_special(special, x),
+    match answer {
+        CallAnswer::Of(answer) => answer_of_row(answer),
+        CallAnswer::Argument => Some(x),
     }
 }
 
@@ -74,17 +62,12 @@ impl Known {
     }
 
     /// To the next instruction.
-    pub fn go_on(&mut self) -> Result<(), Memory>
-        ensures { OnOk result (self.new ≡ go_on self.old) }
+    pub fn go_on(&mut self)
+        requires room { self.old.pc + 1 < 2 ^ 64 }
+        ensures { self.new ≡ go_on self.old }
     {
-        match self.pc.checked_add(1) {
-            Some(pc) => {
-                self.pc = pc;
-                self.progress = Progress::Looking(0);
-                Ok(())
-            }
-            None => Err(Memory),
-        }
+        self.pc += 1;
+        self.progress = Progress::Looking(0);
     }
 
     fn go_to(&mut self, label: Label)
@@ -95,16 +78,18 @@ impl Known {
     }
 
     /// A variable gets this, and the next instruction comes.
-    pub fn assign(&mut self, x: u32, c: Term) -> Result<(), Memory>
-        ensures { OnOk result (self.new ≡ go_on (put x c self.old)) }
+    pub fn assign(&mut self, x: u32, c: Term)
+        requires room { self.old.pc + 1 < 2 ^ 64 }
+        ensures { self.new ≡ go_on (put x c self.old) }
     {
         self.put(x, c);
-        self.go_on()
+        self.go_on();
     }
 
     /// A variable gets the answer of a call, where there is one.
     pub fn put_answer(&mut self, x: Option<Var>, answer: Option<Term>)
-        ensures { self.new ≡ put_answer x answer self.old }
+        ensures is { self.new ≡ put_answer x answer self.old }
+        ensures place { self.new.pc ≡ self.old.pc }
     {
         match x {
             None => {}
@@ -115,18 +100,17 @@ impl Known {
         }
     }
 
-    fn store_at(&mut self, i: u32, c: Term)
+    fn store_at(&mut self, i: usize, c: Term)
         ensures { self.new ≡ store_at i c self.old }
     {
         let was = self.slot(i);
-        let place = i as usize;
-        if place < self.slots.len() {
+        if i < self.slots.len() {
             let now = Touched {
                 spot: was.spot,
                 at_entry: was.at_entry,
                 held: c,
             };
-            self.slots.set(place, now);
+            self.slots.set(i, now);
         }
     }
 
@@ -136,53 +120,58 @@ impl Known {
         cmp.holds(self.value(x), self.value(y))
     }
 
-    fn do_arith(&mut self, x: Var, kind: ValueKind, op: Op, a: Atom, b: Atom) -> Result<(), Memory>
-        ensures { OnOk result (self.new ≡ does self.old (ArithOf x kind op a b)) }
+    fn do_arith(&mut self, x: Var, kind: ValueKind, op: Op, a: Atom, b: Atom)
+        requires room { self.old.pc + 1 < 2 ^ 64 }
+        ensures { self.new ≡ does self.old (ArithOf x kind op a b) }
     {
         let (left, right) = (self.number(self.term(a)), self.number(self.term(b)));
         let n = number_there(arithmetic(op, kind, left, right));
-        self.assign(x.0, Term::Number(n))
+        self.assign(x.0, Term::Number(n));
     }
 
-    fn do_fit(&mut self, x: Var, kind: ValueKind, a: Atom) -> Result<(), Memory>
-        ensures { OnOk result (self.new ≡ does self.old (FitOf x kind a)) }
+    fn do_fit(&mut self, x: Var, kind: ValueKind, a: Atom)
+        requires room { self.old.pc + 1 < 2 ^ 64 }
+        ensures { self.new ≡ does self.old (FitOf x kind a) }
     {
         let n = self.number(self.term(a));
-        self.assign(x.0, Term::Number(n))
+        self.assign(x.0, Term::Number(n));
     }
 
-    fn do_compare(&mut self, x: Var, cmp: Cmp, a: Atom, b: Atom) -> Result<(), Memory>
-        ensures { OnOk result (self.new ≡ does self.old (CompareOf x cmp a b)) }
+    fn do_compare(&mut self, x: Var, cmp: Cmp, a: Atom, b: Atom)
+        requires room { self.old.pc + 1 < 2 ^ 64 }
+        ensures { self.new ≡ does self.old (CompareOf x cmp a b) }
     {
         let holds = self.compares(cmp, self.term(a), self.term(b));
-        self.assign(x.0, truth_term(holds))
+        self.assign(x.0, truth_term(holds));
     }
 
-    fn do_load(&mut self, x: Var, place: Place) -> Result<(), Memory>
-        ensures { OnOk result (self.new ≡ does self.old (LoadOf x place)) }
+    fn do_load(&mut self, x: Var, place: Place)
+        requires room { self.old.pc + 1 < 2 ^ 64 }
+        ensures { self.new ≡ does self.old (LoadOf x place) }
     {
-        let found = self.seek(place)?;
+        let found = self.seek(place);
         let held = self.held(found);
-        self.assign(x.0, held)
+        self.assign(x.0, held);
     }
 
-    fn do_store(&mut self, place: Place, a: Atom) -> Result<(), Memory>
-        ensures { OnOk result (self.new ≡ does self.old (StoreOf place a)) }
+    fn do_store(&mut self, place: Place, a: Atom)
+        requires room { self.old.pc + 1 < 2 ^ 64 }
+        ensures { self.new ≡ does self.old (StoreOf place a) }
     {
-        let found = self.seek(place)?;
+        let found = self.seek(place);
         let c = self.term(a);
         self.store_at(place_found(found), c);
-        self.go_on()
+        self.go_on();
     }
 
-    fn do_call(&mut self, x: Option<Var>, shape: &Shape, atoms: &[Atom]) -> Result<(), Memory>
-        ensures { OnOk result (self.new ≡ go_on (put_answer x (answer_of_form shape.now.row.form
-            shape.now.row.answer (first_term (terms_of self.old atoms.now))) self.old)) }
+    fn do_call(&mut self, x: Option<Var>, answer: CallAnswer, atoms: &[Atom])
+        requires room { self.old.pc + 1 < 2 ^ 64 }
+        ensures { self.new ≡ go_on (put_answer x
+            (answer_of_call answer (first_term (terms_of self.old atoms.now))) self.old) }
     {
         let first = self.first_of(atoms);
-        let answer = answer_of_form(shape.row.form, shape.row.answer, first);
-        self.put_answer(x, answer);
-        self.go_on()
+        self.put_answer(x, answer_of_call(answer, first));
+        self.go_on();
     }
 
     fn do_branch(&mut self, a: Atom, this: Label, other: Label)
@@ -196,32 +185,29 @@ impl Known {
     }
 
     /// An instruction's work is done.
-    pub fn perform(&mut self, instr: &Instr) -> Result<(), Memory>
-        ensures { OnOk result (self.new ≡ does self.old instr.now) }
+    pub fn perform(&mut self, instr: &Instr)
+        requires room { self.old.pc + 1 < 2 ^ 64 }
+        ensures { self.new ≡ does self.old instr.now }
     {
         match instr {
             Instr::Set(x, a) => {
                 let c = self.term(*a);
-                self.assign(x.0, c)
+                self.assign(x.0, c);
             }
             Instr::Arith(x, kind, op, a, b) => self.do_arith(*x, *kind, *op, *a, *b),
             Instr::Fit(x, kind, a) => self.do_fit(*x, *kind, *a),
             Instr::Compare(x, cmp, a, b) => self.do_compare(*x, *cmp, *a, *b),
             Instr::Load(x, place) => self.do_load(*x, *place),
             Instr::Store(place, a) => self.do_store(*place, *a),
-            Instr::Api(x, shape, args, _) => self.do_call(*x, shape, args.as_slice()),
-            Instr::Call(_, _, _) => Ok(()),
+            Instr::Api(x, signature, args, _) => {
+                self.do_call(*x, signature.get().answer, args.as_slice())
+            }
+            Instr::Call(_, _, _) => {}
             Instr::Unset(x) => self.assign(x.0, Term::Unset),
-            Instr::Jump(to) => {
-                self.go_to(*to);
-                Ok(())
-            }
-            Instr::Branch(a, this, other) => {
-                self.do_branch(*a, *this, *other);
-                Ok(())
-            }
-            Instr::Return(_) => Ok(()),
-            Instr::Fall => Ok(()),
+            Instr::Jump(to) => self.go_to(*to),
+            Instr::Branch(a, this, other) => self.do_branch(*a, *this, *other),
+            Instr::Return(_) => {}
+            Instr::Fall => {}
         }
     }
 }

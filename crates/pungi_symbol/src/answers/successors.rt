@@ -1,10 +1,14 @@
 // The states after the answers to the next question.
-ghost use Rattle.std.specs.Prelude.{◌≡◌, ◌++◌, Some, slice_get, IfOk, OnOk};
+ghost use Rattle.std.specs.Prelude.{◌≡◌, ◌++◌, ◌∷◌, [], true, false, Some, slice_get, IfOk, OnOk};
+ghost use Rattle.pungi_symbol.specs.declared.answers.decision.Decision.TheVariants.{Same as IsSame};
 ghost use Rattle.std.specs.List.{flat_map};
-ghost use Rattle.pungi_symbol.specs.answers.SymbolicState.{after_if, after_left, decisions, successors};
+ghost use Rattle.pungi_symbol.specs.answers.SymbolicState.{after_if, after_left, numbered, answers_of};
+ghost use Rattle.pungi_symbol.specs.answers.SymbolicState.{successors};
+ghost use Rattle.pungi_symbol.specs.questions.NextQuestion.{IsPlaced};
 ghost use Rattle.pungi_symbol.specs.Promises.{next_states};
 
 use crate::answers::decision::Decision;
+use crate::answers::outcomes::outcomes_of_call;
 use crate::questions::question::Question;
 use crate::states::code_lines::lines;
 use crate::states::state::State;
@@ -12,7 +16,6 @@ use crate::states::sym::Sym;
 use pungi_base::Memory;
 use pungi_code::{Codes, Line};
 use std::alloc::Global;
-use std::cmp::Ordering;
 
 impl State {
     /// The state after an answer is put among the next ones.
@@ -24,6 +27,7 @@ impl State {
         d: Decision,
         next: &mut Vec<(Decision, Sym)>,
     ) -> Result<(), Memory>
+        requires placed { IsPlaced code.now self.known q }
         ensures { OnOk result (next.new.items ≡ next.old.items
             ++ after_left (slice_get code.now self.known.pc) q self (Some d)) }
     {
@@ -42,6 +46,7 @@ impl State {
         left: Option<Decision>,
         next: &mut Vec<(Decision, Sym)>,
     ) -> Result<(), Memory>
+        requires placed { IsPlaced code.now self.known q }
         ensures { OnOk result (next.new.items ≡ next.old.items
             ++ after_left (slice_get code.now self.known.pc) q self left) }
     {
@@ -60,6 +65,7 @@ impl State {
         left: Option<Decision>,
         next: &mut Vec<(Decision, Sym)>,
     ) -> Result<(), Memory>
+        requires placed { IsPlaced code.now self.now.known q }
         ensures { OnOk result (next.new.items ≡ next.old.items
             ++ after_left (slice_get code.now self.now.known.pc) q self.now left) }
     {
@@ -82,6 +88,7 @@ impl State {
         d: Decision,
         next: &mut Vec<(Decision, Sym)>,
     ) -> Result<Option<Decision>, Memory>
+        requires placed { IsPlaced code.now self.now.known q }
         ensures { IfOk result (λ o. next.new.items ++ after_left (slice_get code.now self.now.known.pc) q self.now o
             ≡ (next.old.items ++ after_left (slice_get code.now self.now.known.pc) q self.now left)
             ++ after_if (slice_get code.now self.now.known.pc) q self.now d) }
@@ -94,24 +101,81 @@ impl State {
         }
     }
 
-    /// The states after all answers that the question still has, but for the last one, which is left over.
+    /// The states after those of these answers that the question still has, but for the last one, which is left over.
     #[tactic(auto, using(crate::proofs::answers::EachAnswer::next_step, crate::proofs::answers::EachAnswer::next_end))]
-    fn put_answers(
+    fn put_each(
         &self,
         alloc: Global,
         code: &[Line],
         q: Question,
-        decisions: &[Decision],
+        answers: &[Decision],
         next: &mut Vec<(Decision, Sym)>,
     ) -> Result<Option<Decision>, Memory>
+        requires placed { IsPlaced code.now self.now.known q }
         ensures { IfOk result (λ o. next.new.items ++ after_left (slice_get code.now self.now.known.pc) q self.now o
-            ≡ next.old.items ++ flat_map (after_if (slice_get code.now self.now.known.pc) q self.now) decisions.now) }
+            ≡ next.old.items ++ flat_map (after_if (slice_get code.now self.now.known.pc) q self.now) answers.now) }
     {
         let mut left = None;
-        for d in decisions {
+        for d in answers {
             left = self.leave(alloc, code, q, left, *d, next)?;
         }
         Ok(left)
+    }
+
+    /// The same of one answer.
+    fn put_one(
+        &self,
+        alloc: Global,
+        code: &[Line],
+        q: Question,
+        d: Decision,
+        next: &mut Vec<(Decision, Sym)>,
+    ) -> Result<Option<Decision>, Memory>
+        requires placed { IsPlaced code.now self.now.known q }
+        ensures { IfOk result (λ o. next.new.items ++ after_left (slice_get code.now self.now.known.pc) q self.now o
+            ≡ next.old.items ++ flat_map (after_if (slice_get code.now self.now.known.pc) q self.now) (d ∷ [])) }
+    {
+        let answers = [d];
+        self.put_each(alloc, code, q, &answers, next)
+    }
+
+    /// The same of the first so many numbered answers.
+    #[tactic(auto, using(crate::proofs::answers::EachAnswer::numbered_step, crate::proofs::answers::EachAnswer::numbered_start))]
+    fn put_numbered(
+        &self,
+        alloc: Global,
+        code: &[Line],
+        q: Question,
+        count: u32,
+        next: &mut Vec<(Decision, Sym)>,
+    ) -> Result<Option<Decision>, Memory>
+        requires placed { IsPlaced code.now self.now.known q }
+        ensures { IfOk result (λ o. next.new.items ++ after_left (slice_get code.now self.now.known.pc) q self.now o
+            ≡ next.old.items ++ flat_map (after_if (slice_get code.now self.now.known.pc) q self.now)
+            (numbered count)) }
+    {
+        let mut left = None;
+        for k in 0..count {
+            left = self.leave(alloc, code, q, left, Decision::Outcome(k), next)?;
+        }
+        Ok(left)
+    }
+
+    /// The same of whether two tokens are one object.
+    fn put_same(
+        &self,
+        alloc: Global,
+        code: &[Line],
+        q: Question,
+        next: &mut Vec<(Decision, Sym)>,
+    ) -> Result<Option<Decision>, Memory>
+        requires placed { IsPlaced code.now self.now.known q }
+        ensures { IfOk result (λ o. next.new.items ++ after_left (slice_get code.now self.now.known.pc) q self.now o
+            ≡ next.old.items ++ flat_map (after_if (slice_get code.now self.now.known.pc) q self.now)
+            (IsSame false ∷ IsSame true ∷ [])) }
+    {
+        let answers = [Decision::Same(false), Decision::Same(true)];
+        self.put_each(alloc, code, q, &answers, next)
     }
 
     /// The states after all answers but the last one, which is left over.
@@ -122,28 +186,32 @@ impl State {
         q: Question,
         next: &mut Vec<(Decision, Sym)>,
     ) -> Result<Option<Decision>, Memory>
+        requires placed { IsPlaced code.now self.now.known q }
         ensures { IfOk result (λ o. next.new.items ++ after_left (slice_get code.now self.now.known.pc) q self.now o
-            ≡ next.old.items ++ flat_map (after_if (slice_get code.now self.now.known.pc) q self.now) decisions) }
+            ≡ next.old.items ++ flat_map (after_if (slice_get code.now self.now.known.pc) q self.now) (answers_of q)) }
     {
-        let decisions = [
-            Decision::Quiet,
-            Decision::Outcome(0),
-            Decision::Outcome(1),
-            Decision::Outcome(2),
-            Decision::Order(Ordering::Less),
-            Decision::Order(Ordering::Equal),
-            Decision::Order(Ordering::Greater),
-            Decision::Same(false),
-            Decision::Same(true),
-        ];
-        self.put_answers(alloc, code, q, &decisions, next)
+        match q {
+            Question::Does(d) => self.put_one(alloc, code, q, d, next),
+            Question::Touches(_) => self.put_one(alloc, code, q, Decision::Quiet, next),
+            Question::Overwrites(_) => self.put_numbered(alloc, code, q, 2, next),
+            Question::Null(_) => self.put_numbered(alloc, code, q, 2, next),
+            Question::Base(_, _, _) => self.put_same(alloc, code, q, next),
+            Question::Answers(answer) => {
+                self.put_numbered(alloc, code, q, outcomes_of_call(answer), next)
+            }
+            Question::Same(_, _) => self.put_same(alloc, code, q, next),
+            Question::Returns(_) => self.put_one(alloc, code, q, Decision::Quiet, next),
+            Question::Stops(d) => self.put_one(alloc, code, q, d, next),
+            Question::Over => Ok(None),
+        }
     }
 
     /// The next states, each with its answer. The last one takes the place of the state, which isn't copied for it.
+    #[tactic(auto, using(crate::proofs::questions::Places::placed_as))]
     fn next_states(self, alloc: Global, code: &[Line]) -> Result<Vec<(Decision, Sym)>, Memory>
         ensures { IfOk result (λ next. next.items ≡ successors code.now self) }
     {
-        let q = self.known.question(code)?;
+        let q = self.known.question(code);
         let mut next = Vec::new(alloc);
         let left = self.put_all(alloc, code, q, &mut next)?;
         self.put_left(alloc, code, q, left, &mut next)?;

@@ -6,7 +6,7 @@ pub enum Finding {
     /// It takes a question to know, or the run stops.
     Waits(Question),
     /// The touched slot at this place.
-    At(u32),
+    At(usize),
     /// No slot that was touched.
     Nowhere,
 }

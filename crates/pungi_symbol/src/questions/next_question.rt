@@ -1,5 +1,5 @@
 // What the next instruction asks.
-ghost use Rattle.std.specs.Prelude.{◌≡◌, ◌<◌, IfOk, MatchOption, None, Some, length, slice_get};
+ghost use Rattle.std.specs.Prelude.{◌≡◌, ◌<◌, MatchOption, None, Some, length, slice_get};
 ghost use Rattle.pungi_code.specs.declared.instr.Instr.TheVariants.{Arith as ArithOf};
 ghost use Rattle.pungi_code.specs.WellFormed.{place_kind};
 ghost use Rattle.pungi_meaning.specs.Values.{arithmetic};
@@ -13,7 +13,6 @@ use crate::questions::question::Question;
 use crate::questions::term_questions::{asks_arith, asks_fit, asks_set, content_mark};
 use crate::states::known::{Known, Status};
 use pungi_api::Param;
-use pungi_base::Memory;
 use pungi_code::{Atom, Instr, Line, Place};
 use pungi_meaning::Op;
 use pungi_types::ValueKind;
@@ -65,20 +64,20 @@ impl Known {
         asks_set(x, asks_fit(kind, self.number(x)))
     }
 
-    fn asks_place_load(&self, place: Place) -> Result<Question, Memory>
-        ensures { IfOk result (λ q. q ≡ asks_load self.now (content_mark (place_kind place)) (find self.now place)) }
+    fn asks_place_load(&self, place: Place) -> Question
+        ensures { result ≡ asks_load self.now (content_mark (place_kind place)) (find self.now place) }
     {
-        let found = self.seek(place)?;
-        Ok(self.asks_load(content_mark(kind_of(place)), found))
+        let found = self.seek(place);
+        self.asks_load(content_mark(kind_of(place)), found)
     }
 
-    fn asks_place_store(&self, place: Place, a: Atom) -> Result<Question, Memory>
-        ensures { IfOk result (λ q. q ≡ asks_known self.now (term_of self.now a)
-            (asks_store self.now (content_mark (place_kind place)) (find self.now place))) }
+    fn asks_place_store(&self, place: Place, a: Atom) -> Question
+        ensures { result ≡ asks_known self.now (term_of self.now a)
+            (asks_store self.now (content_mark (place_kind place)) (find self.now place)) }
     {
-        let found = self.seek(place)?;
+        let found = self.seek(place);
         let done = self.asks_store(content_mark(kind_of(place)), found);
-        Ok(self.asks_known(self.term(a), done))
+        self.asks_known(self.term(a), done)
     }
 
     fn asks_return(&self, a: Option<Atom>) -> Question
@@ -93,43 +92,43 @@ impl Known {
         }
     }
 
-    fn asks_instr(&self, instr: &Instr) -> Result<Question, Memory>
-        ensures { IfOk result (λ q. q ≡ asks_instr self.now instr.now) }
+    fn asks_instr(&self, instr: &Instr) -> Question
+        ensures { result ≡ asks_instr self.now instr.now }
     {
         match instr {
-            Instr::Set(_, a) => Ok(self.asks_set_atom(*a)),
-            Instr::Arith(_, kind, op, a, b) => Ok(self.asks_operator(*kind, *op, *a, *b)),
-            Instr::Fit(_, kind, a) => Ok(self.asks_conversion(*kind, *a)),
-            Instr::Compare(_, _, a, b) => Ok(self.asks_compare(self.term(*a), self.term(*b))),
-            Instr::Load(_, place) => Ok(self.asks_place_load(*place)?),
+            Instr::Set(_, a) => self.asks_set_atom(*a),
+            Instr::Arith(_, kind, op, a, b) => self.asks_operator(*kind, *op, *a, *b),
+            Instr::Fit(_, kind, a) => self.asks_conversion(*kind, *a),
+            Instr::Compare(_, _, a, b) => self.asks_compare(self.term(*a), self.term(*b)),
+            Instr::Load(_, place) => self.asks_place_load(*place),
             Instr::Store(place, a) => self.asks_place_store(*place, *a),
-            Instr::Api(_, shape, args, _) => Ok(self.asks_call(shape, args.as_slice())),
-            Instr::Call(_, _, _) => Ok(Question::Stops(Decision::Quiet)),
-            Instr::Unset(_) => Ok(Question::Does(Decision::Quiet)),
-            Instr::Jump(_) => Ok(Question::Does(Decision::Quiet)),
-            Instr::Branch(a, _, _) => Ok(self.asks_condition(self.term(*a))),
-            Instr::Return(a) => Ok(self.asks_return(*a)),
-            Instr::Fall => Ok(Question::Stops(Decision::Quiet)),
+            Instr::Api(_, signature, args, _) => self.asks_call(signature.get(), args.as_slice()),
+            Instr::Call(_, _, _) => Question::Stops(Decision::Quiet),
+            Instr::Unset(_) => Question::Does(Decision::Quiet),
+            Instr::Jump(_) => Question::Does(Decision::Quiet),
+            Instr::Branch(a, _, _) => self.asks_condition(self.term(*a)),
+            Instr::Return(a) => self.asks_return(*a),
+            Instr::Fall => Question::Stops(Decision::Quiet),
         }
     }
 
-    fn asks_line(&self, code: &[Line]) -> Result<Question, Memory>
-        ensures { IfOk result (λ q. q ≡ asks_line self.now (slice_get code.now self.now.pc)) }
+    fn asks_line(&self, code: &[Line]) -> Question
+        ensures { result ≡ asks_line self.now (slice_get code.now self.now.pc) }
     {
         match line_at(code, self.pc) {
-            None => Ok(Question::Stops(Decision::Quiet)),
+            None => Question::Stops(Decision::Quiet),
             Some(line) => self.asks_instr(&line.instr),
         }
     }
 
     /// What the next instruction asks, where the run isn't over.
-    pub fn question(&self, code: &[Line]) -> Result<Question, Memory>
-        ensures { IfOk result (λ q. q ≡ ask code.now self.now) }
+    pub fn question(&self, code: &[Line]) -> Question
+        ensures { result ≡ ask code.now self.now }
     {
         match self.status {
             Status::Going => self.asks_line(code),
-            Status::Returned(_, _) => Ok(Question::Over),
-            Status::Stopped(_) => Ok(Question::Over),
+            Status::Returned(_, _) => Question::Over,
+            Status::Stopped(_) => Question::Over,
         }
     }
 }

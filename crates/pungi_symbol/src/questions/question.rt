@@ -13,13 +13,13 @@ pub enum Question {
     /// A slot is touched for the first time and written; whether the content at entry, which has this mark, is `NULL`.
     Overwrites(Mark),
     /// Whether a token is `NULL`.
-    Null(u32),
+    Null(usize),
     /// Whether the token of a base is that of the touched slot at this place.
-    Base(u32, u32, u32),
+    Base(usize, usize, usize),
     /// What a call returns.
     Answers(Answer),
     /// Whether two tokens that are compared are the same object.
-    Same(u32, u32),
+    Same(usize, usize),
     /// The function returns this.
     Returns(Option<Term>),
     /// The run stops, with this one answer.

@@ -1,5 +1,5 @@
 // Where the slot of an instruction is.
-ghost use Rattle.std.specs.Prelude.{◌≡◌, ◌+◌, IfOk, position, drop};
+ghost use Rattle.std.specs.Prelude.{◌≡◌, ◌+◌, ◌<◌, IfSome, Some, position, drop, length};
 ghost use Rattle.pungi_symbol.specs.states.Known.{is_global, is_field, base_of, at_place, ask_base, seek, find_token};
 ghost use Rattle.pungi_symbol.specs.states.Known.{find_field, find, found_at, held_in, token_in, spot_of};
 
@@ -10,7 +10,7 @@ use crate::states::known::{Known, touched_at};
 use crate::states::mark::Mark;
 use crate::states::spot::{Progress, Spot, Touched};
 use crate::states::term::Term;
-use pungi_base::{Memory, Name};
+use pungi_base::Name;
 use pungi_code::Place;
 
 fn is_this_global(name: Name, spot: Spot) -> bool
@@ -31,7 +31,7 @@ fn is_this_field(tag: Name, field: Name, spot: Spot) -> bool
     }
 }
 
-fn base(spot: Spot) -> u32
+fn base(spot: Spot) -> usize
     ensures { result ≡ base_of spot }
 {
     match spot {
@@ -40,10 +40,9 @@ fn base(spot: Spot) -> u32
     }
 }
 
-fn slots_from(slots: &[Touched], from: u32) -> &[Touched]
+fn slots_from(slots: &[Touched], from: usize) -> &[Touched]
     ensures { result.now ≡ drop from slots.now }
 {
-    let from = from as usize;
     if from < slots.len() {
         &slots[from..]
     } else {
@@ -58,66 +57,51 @@ fn first_global(slots: &[Touched], name: Name) -> Option<usize>
 }
 
 fn first_field(slots: &[Touched], tag: Name, field: Name) -> Option<usize>
-    ensures { result ≡ position (λ s. is_field tag field s.spot) slots.now }
+    ensures is { result ≡ position (λ s. is_field tag field s.spot) slots.now }
+    ensures within { IfSome result (λ j. j < length slots.now) }
 {
     slots.iter().position(|s| is_this_field(tag, field, s.spot))
 }
 
-/// The place so far after another.
-fn place_after(c: u32, j: usize) -> Result<u32, Memory>
-    ensures { IfOk result (λ i. i ≡ c + j) }
-{
-    if j > u32::MAX as usize {
-        return Err(Memory);
-    }
-    match c.checked_add(j as u32) {
-        Some(i) => Ok(i),
-        None => Err(Memory),
-    }
-}
-
-fn at_place(found: Option<usize>) -> Result<Finding, Memory>
-    ensures { IfOk result (λ f. f ≡ at_place found) }
+fn at_place(found: Option<usize>) -> Finding
+    ensures { result ≡ at_place found }
 {
     match found {
-        None => Ok(Finding::Nowhere),
-        Some(i) => Ok(Finding::At(place_after(0, i)?)),
+        None => Finding::Nowhere,
+        Some(i) => Finding::At(i),
     }
 }
 
-fn ask_base(t: u32, c: u32, slots: &[Touched], found: Option<usize>) -> Result<Finding, Memory>
-    ensures { IfOk result (λ f. f ≡ ask_base t c slots.now found) }
+fn base_at(t: usize, c: usize, j: usize, slots: &[Touched]) -> Finding
+    requires within { c + j < length slots.now }
+    ensures { result ≡ ask_base t c slots.now (Some j) }
 {
-    match found {
-        None => Ok(Finding::Nowhere),
-        Some(j) => {
-            let i = place_after(c, j)?;
-            let other = base(touched_at(slots, i).spot);
-            Ok(Finding::Waits(Question::Base(t, other, i)))
-        }
+    let i = c + j;
+    let other = base(touched_at(slots, i).spot);
+    Finding::Waits(Question::Base(t, other, i))
+}
+
+#[tactic(auto, using(crate::proofs::questions::Places::within_rest))]
+fn base_from(t: usize, c: usize, tag: Name, field: Name, slots: &[Touched]) -> Finding
+    ensures { result ≡ ask_base t c slots.now (position (λ s. is_field tag field s.spot) (drop c slots.now)) }
+{
+    match first_field(slots_from(slots, c), tag, field) {
+        None => Finding::Nowhere,
+        Some(j) => base_at(t, c, j, slots),
     }
 }
 
-fn sought(
-    progress: Progress,
-    t: u32,
-    tag: Name,
-    field: Name,
-    slots: &[Touched],
-) -> Result<Finding, Memory>
-    ensures { IfOk result (λ f. f ≡ seek progress t tag field slots.now) }
+fn sought(progress: Progress, t: usize, tag: Name, field: Name, slots: &[Touched]) -> Finding
+    ensures { result ≡ seek progress t tag field slots.now }
 {
     match progress {
-        Progress::Found(i) => Ok(Finding::At(i)),
-        Progress::Looking(c) => {
-            let found = first_field(slots_from(slots, c), tag, field);
-            Ok(ask_base(t, c, slots, found)?)
-        }
+        Progress::Found(i) => Finding::At(i),
+        Progress::Looking(c) => base_from(t, c, tag, field, slots),
     }
 }
 
 /// The token of a term.
-fn token_of(x: Term) -> u32
+fn token_of(x: Term) -> usize
     ensures { result ≡ token_in x }
 {
     match x {
@@ -130,7 +114,7 @@ fn token_of(x: Term) -> u32
 }
 
 /// The place of the touched slot that was found.
-pub fn place_found(f: Finding) -> u32
+pub fn place_found(f: Finding) -> usize
     ensures { result ≡ found_at f }
 {
     match f {
@@ -141,38 +125,38 @@ pub fn place_found(f: Finding) -> u32
 }
 
 impl Known {
-    fn seek_token(&self, t: u32, m: Mark, tag: Name, field: Name) -> Result<Finding, Memory>
-        ensures { IfOk result (λ f. f ≡ find_token self.now t m tag field) }
+    fn seek_token(&self, t: usize, m: Mark, tag: Name, field: Name) -> Finding
+        ensures { result ≡ find_token self.now t m tag field }
     {
         match m {
-            Mark::Pointer => Ok(Finding::Waits(Question::Null(t))),
-            Mark::TextPointer => Ok(Finding::Waits(Question::Null(t))),
-            Mark::IsNull => Ok(Finding::Waits(Question::Stops(Decision::Quiet))),
+            Mark::Pointer => Finding::Waits(Question::Null(t)),
+            Mark::TextPointer => Finding::Waits(Question::Null(t)),
+            Mark::IsNull => Finding::Waits(Question::Stops(Decision::Quiet)),
             Mark::IsObject => sought(self.progress, t, tag, field, self.slots.as_slice()),
-            Mark::IsText => Ok(Finding::Waits(Question::Stops(Decision::Quiet))),
-            Mark::IsNumber(_) => Ok(Finding::Waits(Question::Stops(Decision::Quiet))),
+            Mark::IsText => Finding::Waits(Question::Stops(Decision::Quiet)),
+            Mark::IsNumber(_) => Finding::Waits(Question::Stops(Decision::Quiet)),
         }
     }
 
-    fn seek_field(&self, x: Term, tag: Name, field: Name) -> Result<Finding, Memory>
-        ensures { IfOk result (λ f. f ≡ find_field self.now x tag field) }
+    fn seek_field(&self, x: Term, tag: Name, field: Name) -> Finding
+        ensures { result ≡ find_field self.now x tag field }
     {
         match x {
-            Term::Unset => Ok(Finding::Waits(Question::Stops(Decision::Quiet))),
-            Term::Null => Ok(Finding::Waits(Question::Stops(Decision::Quiet))),
-            Term::Text => Ok(Finding::Waits(Question::Stops(Decision::Quiet))),
-            Term::Number(_) => Ok(Finding::Waits(Question::Stops(Decision::Quiet))),
+            Term::Unset => Finding::Waits(Question::Stops(Decision::Quiet)),
+            Term::Null => Finding::Waits(Question::Stops(Decision::Quiet)),
+            Term::Text => Finding::Waits(Question::Stops(Decision::Quiet)),
+            Term::Number(_) => Finding::Waits(Question::Stops(Decision::Quiet)),
             Term::Token(t) => self.seek_token(t, self.mark_of(t), tag, field),
         }
     }
 
     /// Where the slot of an instruction is.
-    pub fn seek(&self, place: Place) -> Result<Finding, Memory>
-        ensures { IfOk result (λ f. f ≡ find self.now place) }
+    pub fn seek(&self, place: Place) -> Finding
+        ensures { result ≡ find self.now place }
     {
         match place {
-            Place::Global(name, _) => Ok(at_place(first_global(self.slots.as_slice(), name))?),
-            Place::Field(base, tag, field, _) => Ok(self.seek_field(self.term(base), tag, field)?),
+            Place::Global(name, _) => at_place(first_global(self.slots.as_slice(), name)),
+            Place::Field(base, tag, field, _) => self.seek_field(self.term(base), tag, field),
         }
     }
 

@@ -30,7 +30,7 @@ pub fn asks_set(x: Term, q: Question) -> Question
     }
 }
 
-fn knows_mark(m: Mark, t: u32, q: Question) -> Question
+fn knows_mark(m: Mark, t: usize, q: Question) -> Question
     ensures { result ≡ knows_mark m t q }
 {
     match m {
@@ -43,7 +43,7 @@ fn knows_mark(m: Mark, t: u32, q: Question) -> Question
     }
 }
 
-fn needs_mark(m: Mark, t: u32, q: Question) -> Question
+fn needs_mark(m: Mark, t: usize, q: Question) -> Question
     ensures { result ≡ needs_mark m t q }
 {
     match m {
@@ -68,7 +68,7 @@ fn asks_order(a: Option<i64>, b: Option<i64>, q: Question) -> Question
     }
 }
 
-fn asks_same(a: Option<u32>, b: Option<u32>) -> Question
+fn asks_same(a: Option<usize>, b: Option<usize>) -> Question
     ensures { result ≡ asks_same a b }
 {
     match a {

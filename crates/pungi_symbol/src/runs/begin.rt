@@ -37,21 +37,15 @@ pub fn arguments_of(codes: &Codes, f: usize) -> usize
     }
 }
 
-/// The sum of two counts of tokens.
-fn token_after(statics: u32, n: usize) -> Result<u32, Memory>
-    ensures { IfOk result (λ end. end ≡ statics + n) }
+/// How many tokens there are once the arguments came.
+fn tokens_at(statics: u32, code: &Code) -> usize
+    ensures { result ≡ statics + argument_count code.now }
 {
-    if n > u32::MAX as usize {
-        return Err(Memory);
-    }
-    match statics.checked_add(n as u32) {
-        Some(end) => Ok(end),
-        None => Err(Memory),
-    }
+    statics as usize + front(code.vars.as_slice(), code.params as usize).len()
 }
 
 #[tactic(auto, using(crate::proofs::runs::Ranges::tokens_more))]
-fn tokens(alloc: Global, from: u32, end: u32) -> Result<Vec<Term>, Memory>
+fn tokens(alloc: Global, from: usize, end: usize) -> Result<Vec<Term>, Memory>
     ensures { IfOk result (λ vars. vars.items ≡ map Term.Token (range_with_len from (end - from))) }
 {
     let mut vars = Vec::new(alloc);
@@ -66,7 +60,7 @@ fn variables(alloc: Global, statics: u32, code: &Code) -> Result<Vec<Term>, Memo
         ++ replicate (length code.now.vars - argument_count code.now) Term.Unset) }
 {
     let n = argument_count(code);
-    let mut vars = tokens(alloc, statics, token_after(statics, n)?)?;
+    let mut vars = tokens(alloc, statics as usize, tokens_at(statics, code))?;
     let unset = vec![in alloc; Term::Unset; code.vars.len() - n]?;
     vars.extend_from_slice(unset.as_slice())?;
     Ok(vars)
@@ -90,7 +84,7 @@ fn marks_at(alloc: Global, statics: u32, code: &Code) -> Result<Vec<Mark>, Memor
 }
 
 #[tactic(auto, using(crate::proofs::runs::Ranges::range_more))]
-fn classes_at(alloc: Global, end: u32) -> Result<Vec<u32>, Memory>
+fn classes_at(alloc: Global, end: usize) -> Result<Vec<usize>, Memory>
     ensures { IfOk result (λ classes. classes.items ≡ range_with_len 0 end) }
 {
     let mut classes = Vec::new(alloc);
@@ -120,9 +114,9 @@ fn known_at_start(alloc: Global, statics: u32, f: usize, code: &Code) -> Result<
 pub fn first_state(alloc: Global, statics: u32, f: usize, code: &Code) -> Result<State, Memory>
     ensures { IfOk result (λ s. s ≡ start_state statics f code.now) }
 {
-    let end = token_after(statics, argument_count(code))?;
+    let end = tokens_at(statics, code);
     let classes = classes_at(alloc, end)?;
-    let balances = vec![in alloc; 0i64; end as usize]?;
+    let balances = vec![in alloc; 0i64; end]?;
     let known = known_at_start(alloc, statics, f, code)?;
     Ok(State {
         known,

@@ -10,7 +10,7 @@ use crate::states::known::{Known, Status};
 use crate::states::state::State;
 use crate::states::term::Term;
 
-fn returned_token(known: &Known, x: Option<Term>) -> Option<u32>
+fn returned_token(known: &Known, x: Option<Term>) -> Option<usize>
     ensures { result ≡ returned_object known.now x }
 {
     match x {
@@ -19,12 +19,12 @@ fn returned_token(known: &Known, x: Option<Term>) -> Option<u32>
     }
 }
 
-fn stands_for(classes: &[u32], returned: Option<u32>, t: usize) -> bool
+fn stands_for(classes: &[usize], returned: Option<usize>, t: usize) -> bool
     ensures { result ≡ is_class classes.now returned t }
 {
     match returned {
         None => false,
-        Some(u) => class_at(classes, u) as usize == t,
+        Some(u) => class_at(classes, u) == t,
     }
 }
 
@@ -37,7 +37,7 @@ fn owed_at(balances: &[i64], t: usize) -> i64
     }
 }
 
-fn is_level_at(state: &State, returned: Option<u32>, t: usize) -> bool
+fn is_level_at(state: &State, returned: Option<usize>, t: usize) -> bool
     ensures { IsTrue result ↔ (balance_at state.now.balances t
         ≡ (if is_class state.now.classes returned t then pos 1 else pos 0)) }
 {

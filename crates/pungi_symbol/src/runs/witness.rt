@@ -15,6 +15,16 @@ use pungi_base::{Choice, Entry, Memory, Seq, Value, Witness};
 use pungi_code::Codes;
 use std::alloc::Global;
 
+/// The object of a class, by its number.
+fn object_number(class: usize) -> Result<u32, Memory>
+    ensures { IfOk result (λ n. n ≡ class) }
+{
+    if class > u32::MAX as usize {
+        return Err(Memory);
+    }
+    Ok(class as u32)
+}
+
 fn value_for(m: Mark, class: u32) -> Value
     ensures { result ≡ own_value m class }
 {
@@ -48,7 +58,7 @@ fn own_table(alloc: Global, state: &State) -> Result<Vec<Value>, Memory>
     let n = smaller_length(marks.len(), classes.len());
     let mut table = Vec::new(alloc);
     for i in 0..n {
-        table.push(value_for(marks[i], classes[i]))?;
+        table.push(value_for(marks[i], object_number(classes[i])?))?;
     }
     Ok(table)
 }
@@ -72,8 +82,12 @@ fn object_count(state: &State) -> Result<u32, Memory>
     ensures is { IfOk result (λ n. n ≡ count state.now.known) }
     ensures few { IfOk result (λ n. n < 2 ^ 31) }
 {
-    let n = state.known.tokens()?;
-    if n < 0x8000_0000 { Ok(n) } else { Err(Memory) }
+    let n = state.known.tokens();
+    if n < 0x8000_0000 {
+        Ok(n as u32)
+    } else {
+        Err(Memory)
+    }
 }
 
 fn witness_of(

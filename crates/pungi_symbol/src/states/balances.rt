@@ -11,36 +11,35 @@ use pungi_base::{Memory, Seq};
 use std::alloc::Global;
 
 /// The token that stands for a token.
-pub fn class_at(classes: &[u32], t: u32) -> u32
+pub fn class_at(classes: &[usize], t: usize) -> usize
     ensures { result ≡ class_of classes.now t }
 {
-    match classes.get(t as usize) {
+    match classes.get(t) {
         Some(c) => *c,
         None => 0,
     }
 }
 
 /// What the object of a token is owed.
-pub fn balance_at(balances: &[i64], t: u32) -> i64
+pub fn balance_at(balances: &[i64], t: usize) -> i64
     ensures { result ≡ balance_at balances.now t }
 {
-    match balances.get(t as usize) {
+    match balances.get(t) {
         Some(b) => *b,
         None => 0,
     }
 }
 
-fn put_balance(balances: &mut Seq<i64>, t: u32, b: i64)
+fn put_balance(balances: &mut Seq<i64>, t: usize, b: i64)
     ensures { balances.new ≡ slice_set balances.old t b }
 {
-    let place = t as usize;
-    if place < balances.len() {
-        balances.set(place, b);
+    if t < balances.len() {
+        balances.set(t, b);
     }
 }
 
 /// A number is added to the balance of a token.
-pub fn add(balances: &mut Seq<i64>, t: u32, d: i64) -> Result<(), Memory>
+pub fn add(balances: &mut Seq<i64>, t: usize, d: i64) -> Result<(), Memory>
     ensures { OnOk result (balances.new ≡ slice_set balances.old t (balance_at balances.old t +ℤ d)) }
 {
     match balance_at(balances.as_slice(), t).checked_add(d) {
@@ -53,7 +52,7 @@ pub fn add(balances: &mut Seq<i64>, t: u32, d: i64) -> Result<(), Memory>
 }
 
 /// What stands at one token goes to another.
-pub fn gather_at(balances: &mut Seq<i64>, c: u32, d: u32) -> Result<(), Memory>
+pub fn gather_at(balances: &mut Seq<i64>, c: usize, d: usize) -> Result<(), Memory>
     ensures { OnOk result (balances.new ≡ gather_at c d balances.old) }
 {
     let more = balance_at(balances.as_slice(), d);
@@ -86,7 +85,7 @@ pub fn owed_for_answer(answer: Answer, m: Mark) -> i64
     }
 }
 
-fn is_part(classes: &[u32], c: u32, d: u32, pair: &Pair) -> bool
+fn is_part(classes: &[usize], c: usize, d: usize, pair: &Pair) -> bool
     ensures { result ≡ is_part classes.now c d pair.now }
 {
     let a = class_at(classes, pair.a);
@@ -94,28 +93,29 @@ fn is_part(classes: &[u32], c: u32, d: u32, pair: &Pair) -> bool
     (a == c && b == d) || (a == d && b == c)
 }
 
-fn any_part(classes: &[u32], c: u32, d: u32, others: &[Pair]) -> bool
+fn any_part(classes: &[usize], c: usize, d: usize, others: &[Pair]) -> bool
     ensures { result ≡ list_any (is_part classes.now c d) others.now }
 {
     others.iter().any(|pair| is_part(classes, c, d, pair))
 }
 
 /// Two tokens are noted as one object.
-pub fn is_one(classes: &[u32], t: u32, u: u32) -> bool
+pub fn is_one(classes: &[usize], t: usize, u: usize) -> bool
     ensures { result ≡ are_one classes.now t u }
 {
     class_at(classes, t) == class_at(classes, u)
 }
 
 /// Two tokens are noted as different objects.
-pub fn is_other(statics: u32, classes: &[u32], others: &[Pair], t: u32, u: u32) -> bool
+pub fn is_other(statics: u32, classes: &[usize], others: &[Pair], t: usize, u: usize) -> bool
     ensures { result ≡ are_other statics classes.now others.now t u }
 {
     let (c, d) = (class_at(classes, t), class_at(classes, u));
-    (c < statics && d < statics) || any_part(classes, c, d, others)
+    let first = statics as usize;
+    (c < first && d < first) || any_part(classes, c, d, others)
 }
 
-fn redirect(c: u32, d: u32, e: u32) -> u32
+fn redirect(c: usize, d: usize, e: usize) -> usize
     ensures { result ≡ redirect c d e }
 {
     if e == d { c } else { e }
@@ -124,12 +124,12 @@ fn redirect(c: u32, d: u32, e: u32) -> u32
 /// The classes after two of them are merged.
 pub fn redirected_classes(
     alloc: Global,
-    classes: &[u32],
-    c: u32,
-    d: u32,
-) -> Result<Seq<u32>, Memory>
+    classes: &[usize],
+    c: usize,
+    d: usize,
+) -> Result<Seq<usize>, Memory>
     ensures { IfOk result (λ s. s ≡ map (redirect c d) classes.now) }
 {
-    let items: Vec<u32> = classes.iter().map(|e| redirect(c, d, *e)).collect(alloc)?;
+    let items: Vec<usize> = classes.iter().map(|e| redirect(c, d, *e)).collect(alloc)?;
     Ok(Seq::new(items))
 }

@@ -50,7 +50,7 @@ fn value_of_mark(m: Mark) -> Value
 }
 
 /// A token that is known to be an object.
-fn object_mark(m: Mark, t: u32) -> Option<u32>
+fn object_mark(m: Mark, t: usize) -> Option<usize>
     ensures { result ≡ object_mark m t }
 {
     match m {
@@ -77,10 +77,10 @@ pub fn constant(x: Term) -> Option<i64>
 }
 
 /// The touched slot at a place.
-pub fn touched_at(slots: &[Touched], i: u32) -> Touched
+pub fn touched_at(slots: &[Touched], i: usize) -> Touched
     ensures { result ≡ slot_note slots.now i }
 {
-    match slots.get(i as usize) {
+    match slots.get(i) {
         Some(s) => *s,
         None => Touched {
             spot: Spot::Global(Name(0)),
@@ -120,10 +120,10 @@ impl Known {
     }
 
     /// What is known of a token.
-    pub fn mark_of(&self, t: u32) -> Mark
+    pub fn mark_of(&self, t: usize) -> Mark
         ensures { result ≡ mark_of self.now t }
     {
-        match self.marks.as_slice().get(t as usize) {
+        match self.marks.as_slice().get(t) {
             Some(m) => *m,
             None => Mark::IsNull,
         }
@@ -138,7 +138,7 @@ impl Known {
             Atom::Int(n) => Term::Number(n),
             Atom::Null => Term::Null,
             Atom::Text => Term::Text,
-            Atom::Static(k) => Term::Token(k),
+            Atom::Static(k) => Term::Token(k as usize),
         }
     }
 
@@ -163,7 +163,7 @@ impl Known {
     }
 
     /// The token of a term that is known to be an object.
-    pub fn object(&self, x: Term) -> Option<u32>
+    pub fn object(&self, x: Term) -> Option<usize>
         ensures { result ≡ object_of self.now x }
     {
         match x {
@@ -176,7 +176,7 @@ impl Known {
     }
 
     /// The touched slot at a place.
-    pub fn slot(&self, i: u32) -> Touched
+    pub fn slot(&self, i: usize) -> Touched
         ensures { result ≡ slot_note self.now.slots i }
     {
         touched_at(self.slots.as_slice(), i)

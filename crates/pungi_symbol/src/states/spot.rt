@@ -6,7 +6,7 @@ use pungi_base::Name;
 pub enum Spot {
     Global(Name),
     /// A field: the token of the object, the tag of the struct through which it is reached, and the field's name.
-    Field(u32, Name, Name),
+    Field(usize, Name, Name),
 }
 
 /// A slot that was touched: what it held at entry, and what it holds.
@@ -21,7 +21,7 @@ pub struct Touched {
 #[derive(Clone, Copy)]
 pub enum Progress {
     /// The touched slots before this one are other slots.
-    Looking(u32),
+    Looking(usize),
     /// The slot is the touched one at this place.
-    Found(u32),
+    Found(usize),
 }

@@ -3,6 +3,7 @@ ghost use Rattle.pungi_symbol.specs.answers.KnownAfter.{instr_of};
 ghost use Rattle.pungi_symbol.specs.answers.SymbolicState.{class_of, are_one, owed_for, lower, stored_term, gather_at};
 ghost use Rattle.pungi_symbol.specs.answers.SymbolicState.{merge_classes, merge_two, apply_same, join, take_answer};
 ghost use Rattle.pungi_symbol.specs.answers.SymbolicState.{follow, apply};
+ghost use Rattle.pungi_symbol.specs.questions.NextQuestion.{IsPlaced};
 
 use crate::answers::balance_changes::succeeds;
 use crate::answers::decision::Decision;
@@ -21,8 +22,8 @@ use std::alloc::Global;
 /// Two tokens that are known to be different objects.
 #[derive(Clone, Copy)]
 pub struct Pair {
-    pub a: u32,
-    pub b: u32,
+    pub a: usize,
+    pub b: usize,
 }
 
 /// What a symbolic state notes. `classes` has the token that each token was merged with, and `balances` what is owed by
@@ -32,7 +33,7 @@ pub struct State {
     pub known: Known,
     /// How many static objects there are. They are the first tokens.
     pub statics: u32,
-    pub classes: Seq<u32>,
+    pub classes: Seq<usize>,
     pub balances: Seq<i64>,
     pub others: Seq<Pair>,
 }
@@ -56,14 +57,14 @@ impl State {
     }
 
     /// The token that stands for a token.
-    pub fn class_of(&self, t: u32) -> u32
+    pub fn class_of(&self, t: usize) -> usize
         ensures { result ≡ class_of self.now.classes t }
     {
         class_at(self.classes.as_slice(), t)
     }
 
     /// Two tokens are noted as one object.
-    pub fn are_one(&self, t: u32, u: u32) -> bool
+    pub fn are_one(&self, t: usize, u: usize) -> bool
         ensures { result ≡ are_one self.now.classes t u }
     {
         is_one(self.classes.as_slice(), t, u)
@@ -72,7 +73,7 @@ impl State {
     fn join(&mut self, d: i64) -> Result<(), Memory>
         ensures { OnOk result (self.new ≡ join d self.old.balances self.old) }
     {
-        let token = self.known.tokens()?;
+        let token = self.known.tokens();
         self.classes.push(token)?;
         self.balances.push(d)?;
         Ok(())
@@ -95,13 +96,13 @@ impl State {
         self.join(owed_for_answer(answer, m))
     }
 
-    fn gathered(&mut self, c: u32, d: u32) -> Result<(), Memory>
+    fn gathered(&mut self, c: usize, d: usize) -> Result<(), Memory>
         ensures { OnOk result (self.new ≡ record self.old { balances = gather_at c d self.old.balances }) }
     {
         gather_at(&mut self.balances, c, d)
     }
 
-    fn merge_classes(&mut self, alloc: Global, c: u32, d: u32) -> Result<(), Memory>
+    fn merge_classes(&mut self, alloc: Global, c: usize, d: usize) -> Result<(), Memory>
         ensures { OnOk result (self.new ≡ merge_classes c d self.old) }
     {
         self.classes = redirected_classes(alloc, self.classes.as_slice(), c, d)?;
@@ -109,7 +110,7 @@ impl State {
     }
 
     /// The older token stands for both.
-    fn merge_two(&mut self, alloc: Global, c: u32, d: u32) -> Result<(), Memory>
+    fn merge_two(&mut self, alloc: Global, c: usize, d: usize) -> Result<(), Memory>
         ensures { OnOk result (self.new ≡ merge_two c d self.old) }
     {
         if d < c {
@@ -119,14 +120,14 @@ impl State {
         }
     }
 
-    fn part(&mut self, t: u32, u: u32) -> Result<(), Memory>
+    fn part(&mut self, t: usize, u: usize) -> Result<(), Memory>
         ensures { OnOk result (self.new ≡ apply_same (are_one self.old.classes t u) false t u self.old) }
     {
         self.others.push(Pair { a: t, b: u })?;
         Ok(())
     }
 
-    fn unite(&mut self, alloc: Global, t: u32, u: u32) -> Result<(), Memory>
+    fn unite(&mut self, alloc: Global, t: usize, u: usize) -> Result<(), Memory>
         ensures { OnOk result (self.new ≡ apply_same (are_one self.old.classes t u) true t u self.old) }
     {
         if self.are_one(t, u) {
@@ -136,7 +137,7 @@ impl State {
         self.merge_two(alloc, c, d)
     }
 
-    fn take_same(&mut self, alloc: Global, same: bool, t: u32, u: u32) -> Result<(), Memory>
+    fn take_same(&mut self, alloc: Global, same: bool, t: usize, u: usize) -> Result<(), Memory>
         ensures { OnOk result (self.new ≡ apply_same (are_one self.old.classes t u) same t u self.old) }
     {
         if same {
@@ -179,6 +180,7 @@ impl State {
         q: Question,
         d: Decision,
     ) -> Result<(), Memory>
+        requires placed { IsPlaced code.now self.old.known q }
         ensures { OnOk result (self.new ≡ apply (slice_get code.now self.old.known.pc) q d self.old) }
     {
         self.follow(alloc, code, q, d)?;

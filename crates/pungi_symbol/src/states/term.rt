@@ -10,5 +10,5 @@ pub enum Term {
     Number(i64),
     /// What came in as a token. The static objects are the first tokens, then the arguments come, then one token with
     /// each choice.
-    Token(u32),
+    Token(usize),
 }
