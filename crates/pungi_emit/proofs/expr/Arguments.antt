@@ -1,5 +1,6 @@
 -- The variables of arguments, one after another.
-use Rattle.std.proofs.Common.{◌≡◌, ℕ, ◌+◌, ◌≤◌, List, [], ◌∷◌, ◌++◌, length, map, refl, sym, ap, ◌∙◌, append_assoc, arith}
+use Rattle.std.proofs.Common.{◌≡◌, ℕ, ◌+◌, ◌≤◌, List, [], ◌∷◌, ◌++◌, length, map, refl, sym, ap, ◌∙◌, append_assoc}
+use Rattle.std.proofs.Common.{arith}
 use Rattle.pungi_api.specs.declared.param.Param.{Param}
 use Rattle.pungi_resolved.specs.Values as expr
 use Rattle.pungi_code.specs.declared.atom.Atom.{Atom}

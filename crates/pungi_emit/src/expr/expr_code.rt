@@ -81,7 +81,8 @@ fn emit_stepped(
 ) -> Result<(), Memory>
     requires sound { IsSound around.locals (stepped pos behind_it mark kind (place_view place.now)) }
     requires deep { depth + expr_nodes (stepped pos behind_it mark kind (place_view place.now)) < 2 ^ 16 }
-    requires long { length code.old + expr_size (stepped pos behind_it mark kind (place_view place.now)) ≤ most_instructions }
+    requires long { length code.old + expr_size (stepped pos behind_it mark kind (place_view place.now))
+        ≤ most_instructions }
     ensures { OnOk result (code.new ≡ code.old ++ expr_code around.locals depth target (length code.old)
         (stepped pos behind_it mark kind (place_view place.now))) }
 {
@@ -114,7 +115,8 @@ fn emit_stored(
 ) -> Result<(), Memory>
     requires sound { IsSound around.locals (stored pos kind (place_view place.now) (value_view part.now)) }
     requires deep { depth + expr_nodes (stored pos kind (place_view place.now) (value_view part.now)) < 2 ^ 16 }
-    requires long { length code.old + expr_size (stored pos kind (place_view place.now) (value_view part.now)) ≤ most_instructions }
+    requires long { length code.old + expr_size (stored pos kind (place_view place.now) (value_view part.now))
+        ≤ most_instructions }
     ensures { OnOk result (code.new ≡ code.old ++ expr_code around.locals depth target (length code.old)
         (stored pos kind (place_view place.now) (value_view part.now))) }
 {
@@ -141,9 +143,12 @@ fn emit_updated(
     place: &Place,
     part: &Node,
 ) -> Result<(), Memory>
-    requires sound { IsSound around.locals (updated pos mark counted kind (place_view place.now) (value_view part.now)) }
-    requires deep { depth + expr_nodes (updated pos mark counted kind (place_view place.now) (value_view part.now)) < 2 ^ 16 }
-    requires long { length code.old + expr_size (updated pos mark counted kind (place_view place.now) (value_view part.now)) ≤ most_instructions }
+    requires sound { IsSound around.locals (updated pos mark counted kind (place_view place.now)
+        (value_view part.now)) }
+    requires deep { depth + expr_nodes (updated pos mark counted kind (place_view place.now) (value_view part.now))
+        < 2 ^ 16 }
+    requires long { length code.old + expr_size (updated pos mark counted kind (place_view place.now)
+        (value_view part.now)) ≤ most_instructions }
     ensures { OnOk result (code.new ≡ code.old ++ expr_code around.locals depth target (length code.old)
         (updated pos mark counted kind (place_view place.now) (value_view part.now))) }
 {
@@ -177,7 +182,8 @@ fn emit_operands(
 ) -> Result<(), Memory>
     requires sound { IsSound around.locals (value_view a.now) × IsSound around.locals (value_view b.now) }
     requires deep { depth + (expr_nodes (value_view a.now) + expr_nodes (value_view b.now) + 1) < 2 ^ 16 }
-    requires long { length code.old + (expr_size (value_view a.now) + expr_size (value_view b.now)) ≤ most_instructions }
+    requires long { length code.old + (expr_size (value_view a.now) + expr_size (value_view b.now))
+        ≤ most_instructions }
     ensures { OnOk result (code.new ≡ code.old ++ (expr_code around.locals depth left (length code.old)
         (value_view a.now) ++ expr_code around.locals (depth + 1) right (length code.old
         + expr_size (value_view a.now)) (value_view b.now))) }
@@ -203,7 +209,8 @@ fn emit_computed(
 ) -> Result<(), Memory>
     requires sound { IsSound around.locals (computed pos mark kind (value_view a.now) (value_view b.now)) }
     requires deep { depth + expr_nodes (computed pos mark kind (value_view a.now) (value_view b.now)) < 2 ^ 16 }
-    requires long { length code.old + expr_size (computed pos mark kind (value_view a.now) (value_view b.now)) ≤ most_instructions }
+    requires long { length code.old + expr_size (computed pos mark kind (value_view a.now) (value_view b.now))
+        ≤ most_instructions }
     ensures { OnOk result (code.new ≡ code.old ++ expr_code around.locals depth target (length code.old)
         (computed pos mark kind (value_view a.now) (value_view b.now))) }
 {
@@ -228,7 +235,8 @@ fn emit_compared(
 ) -> Result<(), Memory>
     requires sound { IsSound around.locals (compared pos mark (value_view a.now) (value_view b.now)) }
     requires deep { depth + expr_nodes (compared pos mark (value_view a.now) (value_view b.now)) < 2 ^ 16 }
-    requires long { length code.old + expr_size (compared pos mark (value_view a.now) (value_view b.now)) ≤ most_instructions }
+    requires long { length code.old + expr_size (compared pos mark (value_view a.now) (value_view b.now))
+        ≤ most_instructions }
     ensures { OnOk result (code.new ≡ code.old ++ expr_code around.locals depth target (length code.old)
         (compared pos mark (value_view a.now) (value_view b.now))) }
 {
@@ -326,7 +334,8 @@ fn emit_joined(
 ) -> Result<(), Memory>
     requires sound { IsSound around.locals (joined_by pos mark (value_view a.now) (value_view b.now)) }
     requires deep { depth + expr_nodes (joined_by pos mark (value_view a.now) (value_view b.now)) < 2 ^ 16 }
-    requires long { length code.old + expr_size (joined_by pos mark (value_view a.now) (value_view b.now)) ≤ most_instructions }
+    requires long { length code.old + expr_size (joined_by pos mark (value_view a.now) (value_view b.now))
+        ≤ most_instructions }
     ensures { OnOk result (code.new ≡ code.old ++ expr_code around.locals depth target (length code.old)
         (joined_by pos mark (value_view a.now) (value_view b.now))) }
 {
@@ -363,7 +372,8 @@ fn emit_chosen(
 ) -> Result<(), Memory>
     requires sound { IsSound around.locals (chosen pos (value_view c.now) (value_view a.now) (value_view b.now)) }
     requires deep { depth + expr_nodes (chosen pos (value_view c.now) (value_view a.now) (value_view b.now)) < 2 ^ 16 }
-    requires long { length code.old + expr_size (chosen pos (value_view c.now) (value_view a.now) (value_view b.now)) ≤ most_instructions }
+    requires long { length code.old + expr_size (chosen pos (value_view c.now) (value_view a.now)
+        (value_view b.now)) ≤ most_instructions }
     ensures { OnOk result (code.new ≡ code.old ++ expr_code around.locals depth target (length code.old)
         (chosen pos (value_view c.now) (value_view a.now) (value_view b.now))) }
 {
@@ -421,8 +431,10 @@ fn emit_called(
     args: &[Node],
 ) -> Result<(), Memory>
     requires sound { IsSound around.locals (called_row pos name signature.now (values_of (map value_view args.now))) }
-    requires deep { depth + expr_nodes (called_row pos name signature.now (values_of (map value_view args.now))) < 2 ^ 16 }
-    requires long { length code.old + expr_size (called_row pos name signature.now (values_of (map value_view args.now))) ≤ most_instructions }
+    requires deep { depth + expr_nodes (called_row pos name signature.now (values_of (map value_view args.now)))
+        < 2 ^ 16 }
+    requires long { length code.old + expr_size (called_row pos name signature.now
+        (values_of (map value_view args.now))) ≤ most_instructions }
     ensures { OnOk result (code.new ≡ code.old ++ expr_code around.locals depth target (length code.old)
         (called_row pos name signature.now (values_of (map value_view args.now)))) }
 {

@@ -230,7 +230,8 @@ fn survey_for(
     test: &Option<Box<Node>>,
     last: &Option<Box<Node>>,
 ) -> Result<u32, Memory>
-    requires { pc + stmt_size (for pos (map declared_view reached.now) (optional_view first.now) (optional_view test.now) (optional_view last.now) (action_view body.now)) ≤ most_instructions }
+    requires { pc + stmt_size (for pos (map declared_view reached.now) (optional_view first.now)
+        (optional_view test.now) (optional_view last.now) (action_view body.now)) ≤ most_instructions }
     ensures { IfOk result (λ next. SurveysStmt pc (for pos (map declared_view reached.now) (optional_view first.now)
         (optional_view test.now) (optional_view last.now) (action_view body.now)) next marks.old marks.new places.old
         places.new labels.old labels.new) }
@@ -259,7 +260,8 @@ fn survey_else(
     pos: Pos,
     c: &Node,
 ) -> Result<u32, Memory>
-    requires { pc + stmt_size (if_else pos (value_view c.now) (action_view a.now) (action_view b.now)) ≤ most_instructions }
+    requires { pc + stmt_size (if_else pos (value_view c.now) (action_view a.now) (action_view b.now))
+        ≤ most_instructions }
     ensures { IfOk result (λ next. SurveysStmt pc (if_else pos (value_view c.now) (action_view a.now)
         (action_view b.now)) next marks.old marks.new places.old places.new labels.old labels.new) }
 {

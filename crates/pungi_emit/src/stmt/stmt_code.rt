@@ -43,7 +43,8 @@ fn emit_if(
         plan.old.left.now }
     requires sound { IsStmtSound around.locals (if_only pos (value_view c.now) (action_view body.now)) }
     requires few { stmt_nodes (if_only pos (value_view c.now) (action_view body.now)) < 2 ^ 16 }
-    requires long { length code.old + stmt_size (if_only pos (value_view c.now) (action_view body.now)) ≤ most_instructions }
+    requires long { length code.old + stmt_size (if_only pos (value_view c.now) (action_view body.now))
+        ≤ most_instructions }
     ensures { OnOk result (EmitsStmt around.locals (env_of scope.now) (if_only pos (value_view c.now)
         (action_view body.now)) code.old code.new plan.old.left.now plan.new.left.now) }
 {
@@ -67,9 +68,11 @@ fn emit_else(
 ) -> Result<(), Memory>
     requires plan { Begins (plan_of (length code.old) (if_else pos (value_view c.now) (action_view a.now)
         (action_view b.now))) plan.old.left.now }
-    requires sound { IsStmtSound around.locals (if_else pos (value_view c.now) (action_view a.now) (action_view b.now)) }
+    requires sound { IsStmtSound around.locals (if_else pos (value_view c.now) (action_view a.now)
+        (action_view b.now)) }
     requires few { stmt_nodes (if_else pos (value_view c.now) (action_view a.now) (action_view b.now)) < 2 ^ 16 }
-    requires long { length code.old + stmt_size (if_else pos (value_view c.now) (action_view a.now) (action_view b.now)) ≤ most_instructions }
+    requires long { length code.old + stmt_size (if_else pos (value_view c.now) (action_view a.now)
+        (action_view b.now)) ≤ most_instructions }
     ensures { OnOk result (EmitsStmt around.locals (env_of scope.now) (if_else pos (value_view c.now)
         (action_view a.now) (action_view b.now)) code.old code.new plan.old.left.now plan.new.left.now) }
 {
@@ -97,7 +100,8 @@ fn emit_while(
         plan.old.left.now }
     requires sound { IsStmtSound around.locals (while pos (value_view c.now) (action_view body.now)) }
     requires few { stmt_nodes (while pos (value_view c.now) (action_view body.now)) < 2 ^ 16 }
-    requires long { length code.old + stmt_size (while pos (value_view c.now) (action_view body.now)) ≤ most_instructions }
+    requires long { length code.old + stmt_size (while pos (value_view c.now) (action_view body.now))
+        ≤ most_instructions }
     ensures { OnOk result (EmitsStmt around.locals (env_of scope.now) (while pos (value_view c.now)
         (action_view body.now)) code.old code.new plan.old.left.now plan.new.left.now) }
 {
@@ -130,7 +134,8 @@ fn emit_until(
         plan.old.left.now }
     requires sound { IsStmtSound around.locals (do_while pos (action_view body.now) (value_view c.now)) }
     requires few { stmt_nodes (do_while pos (action_view body.now) (value_view c.now)) < 2 ^ 16 }
-    requires long { length code.old + stmt_size (do_while pos (action_view body.now) (value_view c.now)) ≤ most_instructions }
+    requires long { length code.old + stmt_size (do_while pos (action_view body.now) (value_view c.now))
+        ≤ most_instructions }
     ensures { OnOk result (EmitsStmt around.locals (env_of scope.now) (do_while pos (action_view body.now)
         (value_view c.now)) code.old code.new plan.old.left.now plan.new.left.now) }
 {
@@ -167,9 +172,12 @@ fn emit_for(
     requires plan { Begins (plan_of (length code.old) (for pos (map declared_view reached.now)
         (optional_view first.now) (optional_view c.now) (optional_view last.now) (action_view body.now)))
         plan.old.left.now }
-    requires sound { IsStmtSound around.locals (for pos (map declared_view reached.now) (optional_view first.now) (optional_view c.now) (optional_view last.now) (action_view body.now)) }
-    requires few { stmt_nodes (for pos (map declared_view reached.now) (optional_view first.now) (optional_view c.now) (optional_view last.now) (action_view body.now)) < 2 ^ 16 }
-    requires long { length code.old + stmt_size (for pos (map declared_view reached.now) (optional_view first.now) (optional_view c.now) (optional_view last.now) (action_view body.now)) ≤ most_instructions }
+    requires sound { IsStmtSound around.locals (for pos (map declared_view reached.now) (optional_view first.now)
+        (optional_view c.now) (optional_view last.now) (action_view body.now)) }
+    requires few { stmt_nodes (for pos (map declared_view reached.now) (optional_view first.now)
+        (optional_view c.now) (optional_view last.now) (action_view body.now)) < 2 ^ 16 }
+    requires long { length code.old + stmt_size (for pos (map declared_view reached.now) (optional_view first.now)
+        (optional_view c.now) (optional_view last.now) (action_view body.now)) ≤ most_instructions }
     ensures { OnOk result (EmitsStmt around.locals (env_of scope.now) (for pos (map declared_view reached.now)
         (optional_view first.now) (optional_view c.now) (optional_view last.now) (action_view body.now)) code.old
         code.new plan.old.left.now plan.new.left.now) }
@@ -256,7 +264,8 @@ fn emit_block(
         plan.old.left.now }
     requires sound { IsStmtSound around.locals (block pos (actions_of (map action_view list.now)) nowhere) }
     requires few { stmt_nodes (block pos (actions_of (map action_view list.now)) nowhere) < 2 ^ 16 }
-    requires long { length code.old + stmt_size (block pos (actions_of (map action_view list.now)) nowhere) ≤ most_instructions }
+    requires long { length code.old + stmt_size (block pos (actions_of (map action_view list.now)) nowhere)
+        ≤ most_instructions }
     ensures { OnOk result (EmitsStmt around.locals (env_of scope.now) (block pos
         (actions_of (map action_view list.now)) nowhere) code.old code.new plan.old.left.now plan.new.left.now) }
 {
@@ -289,9 +298,12 @@ fn emit_switched(
         (map action_view list.now)) (map action_view list.now) }
     requires end { end ≡ switch_from (length code.old + expr_size (value_view node.now)) (map action_view list.now)
         + stmts_size (actions_of (map action_view list.now)) }
-    requires sound { IsStmtSound around.locals (switch pos (value_view node.now) (block nowhere (actions_of (map action_view list.now)) nowhere)) }
-    requires few { stmt_nodes (switch pos (value_view node.now) (block nowhere (actions_of (map action_view list.now)) nowhere)) < 2 ^ 16 }
-    requires long { length code.old + stmt_size (switch pos (value_view node.now) (block nowhere (actions_of (map action_view list.now)) nowhere)) ≤ most_instructions }
+    requires sound { IsStmtSound around.locals (switch pos (value_view node.now)
+        (block nowhere (actions_of (map action_view list.now)) nowhere)) }
+    requires few { stmt_nodes (switch pos (value_view node.now) (block nowhere
+        (actions_of (map action_view list.now)) nowhere)) < 2 ^ 16 }
+    requires long { length code.old + stmt_size (switch pos (value_view node.now)
+        (block nowhere (actions_of (map action_view list.now)) nowhere)) ≤ most_instructions }
     ensures { OnOk result (Emits (stmt_code around.locals (env_of scope.now) (length code.old)
         (switch pos (value_view node.now) (block nowhere (actions_of (map action_view list.now)) nowhere)))
         (plans_of (switch_from (length code.old + expr_size (value_view node.now)) (map action_view list.now))
@@ -325,9 +337,12 @@ fn emit_switch(
 ) -> Result<(), Memory>
     requires plan { Begins (plan_of (length code.old) (switch pos (value_view node.now)
         (block nowhere (actions_of (map action_view list.now)) nowhere))) plan.old.left.now }
-    requires sound { IsStmtSound around.locals (switch pos (value_view node.now) (block nowhere (actions_of (map action_view list.now)) nowhere)) }
-    requires few { stmt_nodes (switch pos (value_view node.now) (block nowhere (actions_of (map action_view list.now)) nowhere)) < 2 ^ 16 }
-    requires long { length code.old + stmt_size (switch pos (value_view node.now) (block nowhere (actions_of (map action_view list.now)) nowhere)) ≤ most_instructions }
+    requires sound { IsStmtSound around.locals (switch pos (value_view node.now)
+        (block nowhere (actions_of (map action_view list.now)) nowhere)) }
+    requires few { stmt_nodes (switch pos (value_view node.now) (block nowhere
+        (actions_of (map action_view list.now)) nowhere)) < 2 ^ 16 }
+    requires long { length code.old + stmt_size (switch pos (value_view node.now)
+        (block nowhere (actions_of (map action_view list.now)) nowhere)) ≤ most_instructions }
     ensures { OnOk result (EmitsStmt around.locals (env_of scope.now) (switch pos (value_view node.now)
         (block nowhere (actions_of (map action_view list.now)) nowhere)) code.old code.new plan.old.left.now
         plan.new.left.now) }
@@ -357,7 +372,8 @@ fn emit_skipped(
         plan.old.left.now }
     requires sound { IsStmtSound around.locals (switch pos (value_view node.now) (action_view body.now)) }
     requires few { stmt_nodes (switch pos (value_view node.now) (action_view body.now)) < 2 ^ 16 }
-    requires long { length code.old + (expr_size (value_view node.now) + (1 + stmt_size (action_view body.now))) ≤ most_instructions }
+    requires long { length code.old + (expr_size (value_view node.now) + (1 + stmt_size (action_view body.now)))
+        ≤ most_instructions }
     ensures { OnOk result (Emits (skipped_code around.locals (env_of scope.now) (length code.old) pos
         (value_view node.now) (action_view body.now)) (skipped_plan (length code.old
         + expr_size (value_view node.now)) (action_view body.now)) code.old code.new plan.old.left.now
@@ -390,7 +406,8 @@ fn emit_choice(
         plan.old.left.now }
     requires sound { IsStmtSound around.locals (switch pos (value_view node.now) (action_view body.now)) }
     requires few { stmt_nodes (switch pos (value_view node.now) (action_view body.now)) < 2 ^ 16 }
-    requires long { length code.old + stmt_size (switch pos (value_view node.now) (action_view body.now)) ≤ most_instructions }
+    requires long { length code.old + stmt_size (switch pos (value_view node.now) (action_view body.now))
+        ≤ most_instructions }
     ensures { OnOk result (EmitsStmt around.locals (env_of scope.now) (switch pos (value_view node.now)
         (action_view body.now)) code.old code.new plan.old.left.now plan.new.left.now) }
 {
@@ -418,7 +435,8 @@ fn emit_body(
         plan.old.left.now }
     requires sound { IsStmtSound around.locals (switch pos (value_view node.now) (action_view body.now)) }
     requires few { stmt_nodes (switch pos (value_view node.now) (action_view body.now)) < 2 ^ 16 }
-    requires long { length code.old + stmt_size (switch pos (value_view node.now) (action_view body.now)) ≤ most_instructions }
+    requires long { length code.old + stmt_size (switch pos (value_view node.now) (action_view body.now))
+        ≤ most_instructions }
     requires block { is_block (action_view body.now) ≡ true }
     ensures { OnOk result (EmitsStmt around.locals (env_of scope.now) (switch pos (value_view node.now)
         (action_view body.now)) code.old code.new plan.old.left.now plan.new.left.now) }

@@ -460,7 +460,12 @@ emit_until-next_place-head-requires t c =
 pub emit_until-emit_test-requires : goal.emit_until-emit_test-requires
 emit_until-emit_test-requires t c =
     let n = put_grown _ c.args.code.now c.put.new.code c.in_ok-put.ensures in
-    record { sound = c.requires.sound.0.1; few = omega (arith, c.requires.few); long = omega (arith, n, c.requires.long) }
+    record {
+      sound = c.requires.sound.0.1;
+      few = omega (arith, c.requires.few);
+      long = omega
+          (arith, n, c.requires.long);
+    }
 
 pub emit_for-emit_declared-requires : goal.emit_for-emit_declared-requires
 emit_for-emit_declared-requires t c =
@@ -474,7 +479,12 @@ emit_for-emit_option-requires t c =
     let rs = map declared_view c.args.reached.now in
     let n = unset_grown c.args.pos rs c.args.code.now c.emit_unset.new.code c.in_ok-emit_unset.ensures in
     let m = declare_grown nl rs c.emit_unset.new.code c.emit_declared.new.code c.in_ok-emit_declared.ensures in
-    record { sound = c.requires.sound.1; few = omega (arith, c.requires.few); long = omega (arith, n, m, c.requires.long) }
+    record {
+      sound = c.requires.sound.1;
+      few = omega (arith, c.requires.few);
+      long = omega
+          (arith, n, m, c.requires.long);
+    }
 
 pub emit_for-next_place-head-requires : goal.emit_for-next_place-head-requires
 emit_for-next_place-head-requires t c =
@@ -493,7 +503,11 @@ emit_for-emit_tested-requires t c =
     let n = unset_grown c.args.pos rs c.args.code.now c.emit_unset.new.code c.in_ok-emit_unset.ensures in
     let m = declare_grown nl rs c.emit_unset.new.code c.emit_declared.new.code c.in_ok-emit_declared.ensures in
     let k = option_grown nl (optional_view c.args.first.now) c.emit_declared.new.code c.emit_option.new.code
-    c.in_ok-emit_option.ensures in record { sound = wanted_sound nl (optional_view c.args.c.now) c.requires.sound.2; few = omega (arith, c.requires.few); long = omega (arith, n, m, k, c.requires.long) }
+    c.in_ok-emit_option.ensures in record {
+      sound = wanted_sound nl (optional_view c.args.c.now) c.requires.sound.2;
+      few = omega (arith, c.requires.few);
+      long = omega (arith, n, m, k, c.requires.long);
+    }
 
 pub emit_for-emit_option-requires-2 : goal.emit_for-emit_option-requires-2
 emit_for-emit_option-requires-2 t c =
@@ -505,7 +519,12 @@ emit_for-emit_option-requires-2 t c =
     c.in_ok-emit_declared.ensures c.in_ok-emit_option.ensures c.in_ok-emit_tested.ensures in
     let m = stmt_place nl env _ (action_view c.args.body.now) c.emit_tested.new.code c.emit_stmt.new.code
     c.in_ok-emit_stmt.ensures.code in
-    record { sound = c.requires.sound.3; few = omega (arith, c.requires.few); long = omega (arith, n, m, c.requires.long) }
+    record {
+      sound = c.requires.sound.3;
+      few = omega (arith, c.requires.few);
+      long = omega
+          (arith, n, m, c.requires.long);
+    }
 
 pub emit_switched-emit_cases-requires : goal.emit_switched-emit_cases-requires
 emit_switched-emit_cases-requires t c =
@@ -517,11 +536,12 @@ emit_switched-emit_cases-requires t c =
     (value_long v c.args.around.locals (length c.args.code.now)) in
     let n2 = grown c.emit_alone.new.code c.emit_unsets.new.code (unset_code c.args.pos (block_locals list))
     (length (block_locals list)) c.in_ok-emit_unsets.ensures (unset_long (block_locals list) c.args.pos) in
-    let m = cases_are list from c.args.starts.now c.requires.starts in (
-      sym (length-map c.args.list.now action_view) ∙ sym (starts_long list from)
-          ∙ sym (ap length c.requires.starts),
-      omega (arith, n1, n2, m, switch_is c.args.pos nowhere nowhere v list, c.requires.long),
-    )
+    let m = cases_are list from c.args.starts.now c.requires.starts in
+    record {
+      starts = sym (length-map c.args.list.now action_view) ∙ sym (starts_long list from)
+          ∙ sym (ap length c.requires.starts);
+      long = omega (arith, n1, n2, m, switch_is c.args.pos nowhere nowhere v list, c.requires.long);
+    }
 
 pub emit_switched-default_or-other-requires : goal.emit_switched-default_or-other-requires
 emit_switched-default_or-other-requires t c =
@@ -789,8 +809,8 @@ emit_body-emit_switch-requires t c =
       ),
     )
 
-pub emit_body-returns-in_ok-emit_switch : goal.emit_body-returns-in_ok-emit_switch
-emit_body-returns-in_ok-emit_switch t c =
+pub emit_body-returns : goal.emit_body-returns
+emit_body-returns t c =
     let body = c.args.body.now in
     let nl = c.args.around.locals in
     let env = env_of c.args.scope.now in
@@ -799,5 +819,5 @@ emit_body-returns-in_ok-emit_switch t c =
     let P : Action → Type 0 = λ a. EmitsStmt nl env (switch c.args.pos v a) c.args.code.now c.emit_switch.new.code
     c.args.plan.now.left.now c.emit_switch.new.plan.left.now in
     let h : P (block body.pos (actions_of (map action_view items)) c.in-Block.field-1) = rw c.deref.ensures.value at
-    c.in_ok-emit_switch.ensures in
+    c.in_ok-emit_switch-in-Block.ensures in
     subst P (sym (block_view body c.in-Block.list c.in-Block.field-1 c.in-Block.is)) h
