@@ -152,7 +152,8 @@ module _ (code : List Line) (nl room : ℕ) where
     ExprAt d t pc (expr.dropped p v) = ExprAt d t pc v
     ExprAt d t pc (expr.called p n vs) = Stands pc p (Call None 0 [])
     ExprAt d t pc (expr.called_row p n sig vs) =
-        (ts : List ℕ) × ArgsAt d ts pc vs × Stands (pc + values_size vs) p (Api (answer_var (has_call_value sig.answer) t)
+        (ts : List ℕ) × ArgsAt d ts pc vs × Stands (pc + values_size vs) p (Api
+        (answer_var (has_call_value sig.answer) t)
         sig (map var ts) [])
     ExprAt d t pc (expr.nonsense p) = Stands pc p Fall
 

@@ -104,7 +104,8 @@ module _ (choices : List Choice) (code : List Line) (nl room : ℕ) where
   call_sim : (p : Pos) (sig : Signature) (n t : ℕ) (k : List Todo) (s : State) (env : Env) (pc : ℕ) (ks : List Waiting)
       (m : Regs) → n ≤ length ks → Stands code nl room pc p (Api (answer_var (has_call_value sig.answer) t) sig
       (map var (reverse_aux (vars_of (take n ks)) [])) []) → IsTemp code nl room (length (drop n ks)) t
-      → IsAt code nl room env k (pc + 1) (pushed_if (has_call_value sig.answer) t (drop n ks)) → Match code nl room ks s m
+      → IsAt code nl room env k (pc + 1) (pushed_if (has_call_value sig.answer) t (drop n ks))
+      → Match code nl room ks s m
       → IsDone choices code nl room (call choices p sig n k s) 0 pc m
   call_sim p sig n t k s env pc ks m le h at is ma =
       let g = has_call_value sig.answer in
@@ -142,7 +143,8 @@ module _ (choices : List Choice) (code : List Line) (nl room : ℕ) where
       (map var (reverse_aux (vars_of (take i ks)) us)) [])) at' (subst (λ x. Stands code nl room x p
       (Api (answer_var (has_call_value sig.answer) t) sig (map var (reverse_aux (vars_of (take i ks)) ts)) []))
       q h) in
-      let is' = subst (λ x. IsAt code nl room env k (x + 1) (pushed_if (has_call_value sig.answer) t (drop i ks))) q is in
+      let is' = subst (λ x. IsAt code nl room env k (x + 1) (pushed_if (has_call_value sig.answer) t (drop i ks))) q
+      is in
       subst (λ n. IsDone choices code nl room (call choices p sig n k s) 0 pc m) e0
       (call_sim p sig i t k s env pc ks m le' h' tmp is' ma)
   next_by (Some v) p sig args i others k s env pc ks m [] t ne same le le' at tmp h is ma =
@@ -156,7 +158,8 @@ module _ (choices : List Choice) (code : List Line) (nl room : ℕ) where
       let le2 : suc i ≤ length args = next_within args i v (same ∙ ne) in
       let h' = subst (λ x. Stands code nl room x p (Api (answer_var (has_call_value sig.answer) t) sig
       (map var (reverse_aux (vars_of (take i ks)) (t0 ∷ ts))) [])) q h in
-      let is' = subst (λ x. IsAt code nl room env k (x + 1) (pushed_if (has_call_value sig.answer) t (drop i ks))) q is in
+      let is' = subst (λ x. IsAt code nl room env k (x + 1) (pushed_if (has_call_value sig.answer) t (drop i ks))) q
+      is in
       still choices code nl room (ToEval v ∷ ToArgs p sig args (i + 1) ∷ k) s pc m env ks (
         t0,
         at'.1,

@@ -227,7 +227,8 @@ module _ (most : ℕ) where
       react_light (call_effect s.world sig (newest i s.values) (unused choices s)) p n
       (after_call p sig (newest i s.values) (drop i s.values) k) s (λ e q. (le, h))
 
-  pub arg_light : (o : Option expr.Value) (choices : List Choice) (p : Pos) (sig : Signature) (args : List expr.Value) (i : ℕ)
+  pub arg_light : (o : Option expr.Value) (choices : List Choice) (p : Pos) (sig : Signature)
+      (args : List expr.Value) (i : ℕ)
       (k : List Todo) (s : State) → IsNext args i o (drop i args) → AreLight k
       → Leaves (args_weight (drop i args) + weight k) (next_arg choices p sig args i o k s)
   arg_light None choices p sig args i k s e h =

@@ -113,7 +113,8 @@ abbrev mutual
   IsTyped file vars (expr.converted p kind v) = (is_counted kind ≡ true) × IsNumber v × IsTyped file vars v
   IsTyped file vars (expr.cast_of p v) = IsTyped file vars v
   IsTyped file vars (expr.dropped p v) = IsTyped file vars v
-  IsTyped file vars (expr.called_row p n g vs) = (is_signature g ≡ true) × (g.outputs ≡ []) × AreTyped file vars g.params vs
+  IsTyped file vars (expr.called_row p n g vs) = (is_signature g ≡ true) × (g.outputs ≡ [])
+      × AreTyped file vars g.params vs
   IsTyped file vars v = Unit {0}
 
   -- a global has the kind of its first declaration, and a field that of the first of its name in the struct

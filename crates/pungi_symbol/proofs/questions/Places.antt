@@ -44,7 +44,8 @@ use Rattle.pungi_symbol.specs.declared.states.spot.Progress.TheVariants.{Looking
 use Rattle.pungi_symbol.specs.declared.states.spot.Touched.{Touched}
 use Rattle.pungi_symbol.specs.declared.states.term.Term.{Term}
 use Rattle.pungi_symbol.specs.declared.states.term.Term.TheVariants.{Unset, Null, Text, Number, Token}
-use Rattle.pungi_symbol.specs.states.Known.{mark_of, term_of, number, number_in, object_of, slot_note, no_slot, is_global}
+use Rattle.pungi_symbol.specs.states.Known.{mark_of, term_of, number, number_in, object_of, slot_note, no_slot}
+use Rattle.pungi_symbol.specs.states.Known.{is_global}
 use Rattle.pungi_symbol.specs.states.Known.{is_field, at_place, ask_base, seek, find_token, find_field, find}
 use Rattle.pungi_symbol.specs.questions.NextQuestion.{asks_set, knows_mark, asks_known, needs_mark, asks_thing}
 use Rattle.pungi_symbol.specs.questions.NextQuestion.{asks_order, asks_same, asks_range, content_mark, asks_load}

@@ -59,7 +59,8 @@ pub no_outputs : (outs : List (Option Var)) (r : Regs) → with_outputs outs [] 
 no_outputs [] r = refl
 no_outputs (x ∷ outs) r = refl
 
-pub first_is : (table : Table) (xs : List Term) → first_of (map (term_value table) xs) ≡ term_value table (first_term xs)
+pub first_is : (table : Table) (xs : List Term)
+    → first_of (map (term_value table) xs) ≡ term_value table (first_term xs)
 first_is table [] = refl
 first_is table (x ∷ xs) = refl
 

@@ -51,7 +51,8 @@ use Rattle.pungi_symbol.specs.states.Known.{slot_note, spot_of, token_in}
 use Rattle.pungi_symbol.specs.questions.NextQuestion.{asks_set, asks_known, asks_thing, asks_order, asks_same}
 use Rattle.pungi_symbol.specs.questions.NextQuestion.{asks_range, content_mark, asks_load, asks_store, asks_dropped}
 use Rattle.pungi_symbol.specs.questions.NextQuestion.{asks_all_set, asks_param, asks_params, asks_take, asks_takes}
-use Rattle.pungi_symbol.specs.questions.NextQuestion.{asks_answer, asks_call_answer, asks_own, asks_signature, first_term}
+use Rattle.pungi_symbol.specs.questions.NextQuestion.{asks_answer, asks_call_answer, asks_own, asks_signature}
+use Rattle.pungi_symbol.specs.questions.NextQuestion.{first_term}
 use Rattle.pungi_symbol.specs.questions.NextQuestion.{terms_of}
 use Rattle.pungi_symbol.specs.questions.NextQuestion.{asks_return, asks_instr, asks_line}
 use Rattle.pungi_symbol.specs.answers.KnownAfter.{instr_of}

@@ -20,7 +20,8 @@
 --   asks_instr k i, asks_line      what an instruction asks; what the next one asks, if there is one
 --   ask_while, ask code k          what is asked next, where the run isn't over
 --   IsPlaced code k q              a question names a touched slot that is there, or is that of an instruction
-use Rattle.std.specs.Prelude.{ℕ, ◌<◌, length, ℤ, pos, Bool, ◌&&◌, not, int_lt, List, [], ◌∷◌, map, slice_get, Option, Some, None}
+use Rattle.std.specs.Prelude.{ℕ, ◌<◌, length, ℤ, pos, Bool, ◌&&◌, not, int_lt, List, [], ◌∷◌, map, slice_get, Option}
+use Rattle.std.specs.Prelude.{Some, None}
 use Rattle.std.specs.Prelude.{if◌then◌else◌}
 use Rattle.std.specs.Ordering.{int_cmp}
 use Rattle.pungi_api.specs.declared.answer.Answer.{Answer}
