@@ -33,7 +33,7 @@ abbrev mutual
   is_sound (cast_of p v) = is_sound v
   is_sound (dropped p v) = is_sound v
   is_sound (called p n vs) = are_sound vs
-  is_sound (called_row p n r vs) = are_sound vs
+  is_sound (called_row p n g vs) = are_sound vs
   is_sound (nonsense p) = false
 
   pub are_sound : Values → Bool

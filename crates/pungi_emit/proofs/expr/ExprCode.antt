@@ -1,22 +1,22 @@
 -- Instructions that are put one after another are those of the expression.
-use Rattle.std.proofs.Common.{◌≡◌, ℕ, zero, suc, ◌+◌, ◌*◌, List, [], ◌∷◌, ◌++◌, length, map, Option, Some, None, refl}
-use Rattle.std.proofs.Common.{sym, ap, ◌∙◌, subst, arith, append_assoc, append-nil, length-append, Bool, true, false}
+use Rattle.std.proofs.Common.{◌≡◌, ℕ, ◌+◌, List, [], ◌∷◌, ◌++◌, length, refl}
+use Rattle.std.proofs.Common.{sym, ap, ◌∙◌, arith, append_assoc, length-append, true, false}
 use Rattle.std.proofs.Common.{not, pos}
 use Rattle.std.specs.Prelude.{slice_set}
 use Rattle.pungi_base.specs.declared.kind.Kind.{Kind}
 use Rattle.pungi_base.specs.declared.pos.Pos.{Pos}
 use Rattle.pungi_base.specs.declared.punct.Punct.{Punct}
 use Rattle.pungi_api.specs.declared.param.Param.{Param}
-use Rattle.pungi_api.specs.declared.row.Row.{Row}
+use Rattle.pungi_api.specs.declared.signature.Signature.{Signature}
 use Rattle.pungi_types.specs.declared.kind.ValueKind.{ValueKind}
 use Rattle.pungi_resolved.specs.Values as expr
-use Rattle.pungi_meaning.specs.Values.{op_of, cmp_of, wide}
+use Rattle.pungi_meaning.specs.Values.{op_of, wide}
 use Rattle.pungi_resolved.specs.ValueView.{values_of}
 use Rattle.pungi_meaning.specs.Exprs.{is_and, step_op}
 use Rattle.pungi_meaning.specs.Todo.{listed_values}
 use Rattle.pungi_code.specs.declared.atom.Atom.TheVariants as atom
 use Rattle.pungi_code.specs.declared.code.Line.{Line}
-use Rattle.pungi_code.specs.declared.instr.Instr.TheVariants.{Set, Arith, Fit, Compare, Branch, Jump, Fall}
+use Rattle.pungi_code.specs.declared.instr.Instr.TheVariants.{Set, Arith, Branch, Jump}
 use Rattle.pungi_layout.specs.code.Sizes.{expr_size, place_size}
 use Rattle.pungi_layout.specs.code.Temporaries.{column, temp, temp_of, tail, arg_var}
 use Rattle.pungi_layout.specs.code.ExprCode.{line, to_var, var, at_label, bit, branch_on, fit_code, old_code}
@@ -314,12 +314,12 @@ module _ (nl : ℕ) where
       (λ m. args_code nl (d + 1) m (tail ps) vs) c1 (c1 ++ args_code nl (d + 1) (length c1) (tail ps) vs)
       (length c0 + expr_size v) n refl))
 
-  pub row_emitted : (d t : ℕ) (p : Pos) (row : Row) (vs : List expr.Value) (c0 c1 c2 : List Line) →
-      c1 ≡ c0 ++ args_code nl d (length c0) row.params (values_of vs) →
-      c2 ≡ c1 ++ row_code nl d t p row vs →
-      c2 ≡ c0 ++ (args_code nl d (length c0) row.params (values_of vs)
-      ++ row_code nl d t p row (listed_values (values_of vs)))
-  row_emitted d t p row vs c0 c1 c2 e f =
-      glued c0 c1 c2 (args_code nl d (length c0) row.params (values_of vs)) (row_code nl d t p row vs) e f
-      ∙ ap (λ l. c0 ++ (args_code nl d (length c0) row.params (values_of vs) ++ row_code nl d t p row l))
+  pub row_emitted : (d t : ℕ) (p : Pos) (sig : Signature) (vs : List expr.Value) (c0 c1 c2 : List Line) →
+      c1 ≡ c0 ++ args_code nl d (length c0) sig.params (values_of vs) →
+      c2 ≡ c1 ++ row_code nl d t p sig vs →
+      c2 ≡ c0 ++ (args_code nl d (length c0) sig.params (values_of vs)
+      ++ row_code nl d t p sig (listed_values (values_of vs)))
+  row_emitted d t p sig vs c0 c1 c2 e f =
+      glued c0 c1 c2 (args_code nl d (length c0) sig.params (values_of vs)) (row_code nl d t p sig vs) e f
+      ∙ ap (λ l. c0 ++ (args_code nl d (length c0) sig.params (values_of vs) ++ row_code nl d t p sig l))
       (sym (as_listed vs))

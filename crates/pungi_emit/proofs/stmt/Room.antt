@@ -6,9 +6,7 @@ use Rattle.pungi_resolved.specs.ActionView.{actions_of}
 use Rattle.pungi_resolved.specs.Actions as stmt
 use Rattle.pungi_resolved.specs.Values as expr
 use Rattle.pungi_meaning.specs.Stmts.{block_cases}
-use Rattle.pungi_meaning.specs.Todo.{listed}
 use Rattle.pungi_meaning.specs.Work.{block_locals}
-use Rattle.pungi_layout.specs.code.Scopes.{list_cases}
 use Rattle.pungi_code.specs.declared.code.Line.{Line}
 use Rattle.pungi_code.specs.Limits.{most_instructions}
 use Rattle.pungi_layout.specs.code.Sound.{IsOptionSound, IsOptionWanted, IsStmtSound, stmt_nodes}
@@ -16,7 +14,6 @@ use Rattle.pungi_layout.specs.code.Sizes.{expr_size, option_size, declare_size, 
 use Rattle.pungi_layout.specs.code.Sizes.{switch_size}
 use Rattle.pungi_layout.specs.code.StmtCode.{unset_code, option_code, declare_code}
 use Rattle.pungi_emit.specs.planning.LabelPlaces.{list_starts}
-use Rattle.pungi_emit.specs.planning.Plans.{switch_from}
 use Rattle.pungi_emit.specs.stmt.Cases.{cases_at, is_block}
 use Rattle.pungi_layout.proofs.code.StmtLengths.{unset_long, option_long, declare_long, cases_long}
 use Rattle.pungi_emit.proofs.expr.ExprCode.{grown}

@@ -2,7 +2,7 @@
 --   IsWithinLimits f    its places are there, the first of its locals are its parameters, and its code has at most
 --                       most_instructions instructions and fewer than most_variables variables
 --   IsWithinAny o       the same of a function that may be refused
-use Rattle.std.specs.Prelude.{ℕ, ◌+◌, ◌*◌, ◌<◌, ◌≤◌, length, Option, Some, None}
+use Rattle.std.specs.Prelude.{◌+◌, ◌*◌, ◌<◌, ◌≤◌, length, Option, Some, None}
 use Rattle.pungi_code.specs.Limits.{most_instructions, most_variables}
 use Rattle.pungi_resolved.specs.Functions.{ResolvedFunction}
 use Rattle.pungi_layout.specs.code.Sizes.{stmt_size}

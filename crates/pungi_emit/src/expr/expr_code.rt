@@ -19,7 +19,7 @@ use crate::expr::temporary::{
     above, atom, base_var, counted_var, front_column, operand, sign_var, stored_var, tail, temp,
     temp_of,
 };
-use pungi_api::{Param, Shape};
+use pungi_api::{BoxedSignature, Param};
 use pungi_base::{Kind, Memory, Name, Pos, Punct, Seq};
 use pungi_code::{Atom, Instr, Label, Line, Var};
 use pungi_meaning::{Cmp, Op};
@@ -418,7 +418,7 @@ fn emit_args(
     Ok(())
 }
 
-/// A call of a row, after its arguments.
+/// A call of the API, after its arguments.
 #[cycle(emit)]
 fn emit_called(
     code: &mut Seq<Line>,
@@ -427,19 +427,19 @@ fn emit_called(
     target: u32,
     pos: Pos,
     name: Name,
-    shape: &Shape,
+    signature: &BoxedSignature,
     args: &[Node],
 ) -> Result<(), Memory>
-    requires sound { IsSound around.locals (called_row pos name shape.now.row (values_of (map value_view args.now))) }
-    requires deep { depth + expr_nodes (called_row pos name shape.now.row (values_of (map value_view args.now)))
+    requires sound { IsSound around.locals (called_row pos name signature.now (values_of (map value_view args.now))) }
+    requires deep { depth + expr_nodes (called_row pos name signature.now (values_of (map value_view args.now)))
         < 2 ^ 16 }
-    requires long { length code.old + expr_size (called_row pos name shape.now.row
+    requires long { length code.old + expr_size (called_row pos name signature.now
         (values_of (map value_view args.now))) ≤ most_instructions }
     ensures { OnOk result (code.new ≡ code.old ++ expr_code around.locals depth target (length code.old)
-        (called_row pos name shape.now.row (values_of (map value_view args.now)))) }
+        (called_row pos name signature.now (values_of (map value_view args.now)))) }
 {
-    emit_args(code, around, depth, shape.row.params.as_slice(), args)?;
-    emit_row(code, around, depth, target, pos, shape, args)?;
+    emit_args(code, around, depth, signature.get().params.as_slice(), args)?;
+    emit_row(code, around, depth, target, pos, signature, args)?;
     Ok(())
 }
 
@@ -509,8 +509,8 @@ pub fn emit_value(
                 Instr::Call(None, 0, Seq::new(Vec::new(around.alloc))),
             )
         }
-        ValueNode::CalledRow(name, shape, args) => {
-            emit_called(code, around, depth, target, pos, *name, shape, args)
+        ValueNode::CalledRow(name, signature, args) => {
+            emit_called(code, around, depth, target, pos, *name, signature, args)
         }
     }
 }

@@ -3,7 +3,7 @@ use Rattle.std.proofs.Common.{◌≡◌, inl, inr, ℕ, ◌+◌, List, [], ◌�
 use Rattle.std.proofs.Common.{arith, Bool, true, false, pos, if◌then◌else◌}
 use Rattle.pungi_base.specs.declared.pos.Pos.{Pos}
 use Rattle.pungi_api.specs.declared.param.Param.{Param}
-use Rattle.pungi_api.specs.declared.row.Row.{Row}
+use Rattle.pungi_api.specs.declared.signature.Signature.{Signature}
 use Rattle.pungi_types.specs.declared.kind.ValueKind.{ValueKind}
 use Rattle.pungi_resolved.specs.Values as expr
 use Rattle.pungi_resolved.specs.Actions as stmt
@@ -11,13 +11,12 @@ use Rattle.pungi_meaning.specs.declared.op.Op.TheVariants as ops
 use Rattle.pungi_meaning.specs.Values.{op_of, cmp_of, wide}
 use Rattle.pungi_meaning.specs.Exprs.{is_and}
 use Rattle.pungi_meaning.specs.Todo.{listed_values}
-use Rattle.pungi_meaning.specs.Work.{shape_of}
 use Rattle.pungi_code.specs.declared.atom.Atom.{Atom}
 use Rattle.pungi_code.specs.declared.atom.Atom.TheVariants as atom
 use Rattle.pungi_code.specs.declared.code.Line.{Line}
 use Rattle.pungi_code.specs.declared.instr.Instr.{Instr}
 use Rattle.pungi_code.specs.declared.instr.Instr.TheVariants.{Set, Arith, Fit, Compare, Api}
-use Rattle.pungi_layout.specs.code.Parts.{is_minus, gives_answer}
+use Rattle.pungi_layout.specs.code.Parts.{is_minus, has_call_value}
 use Rattle.pungi_layout.specs.code.Sizes.{expr_size, place_size, values_size, fit_size, store_size, sign_size}
 use Rattle.pungi_layout.specs.code.Temporaries.{column, temp, value_column, temp_of, operand, tail, arg_var, arg_vars}
 use Rattle.pungi_layout.specs.code.ExprCode.{line, to_var, var, bit, old_code, above, stored_var, counted_var, base_var}
@@ -137,10 +136,10 @@ module _ (code : List Line) (nl : ℕ) (all : List stmt.Action) where
       expr_enters (expr.cast_of p v) d t pc s c h = expr_enters v d t pc s (under p _ c) h
       expr_enters (expr.dropped p v) d t pc s c h = expr_enters v d t pc s (under p _ c) h
       expr_enters (expr.called p n vs) d t pc s c h = here code nl all a part pc p _ h.0 (c p (inl refl))
-      expr_enters (expr.called_row p n row vs) d t pc s c h =
-          let g = has_cut code pc (values_size vs) (args_code nl d pc row.params vs) _
-          (args_long vs nl d pc row.params) h in
-          args_enters vs d pc row.params s (under p _ c) g.0
+      expr_enters (expr.called_row p n sig vs) d t pc s c h =
+          let g = has_cut code pc (values_size vs) (args_code nl d pc sig.params vs) _
+          (args_long vs nl d pc sig.params) h in
+          args_enters vs d pc sig.params s (under p _ c) g.0
           (here code nl all a part (pc + values_size vs) p _ g.1.0 (c p (inl refl)))
       expr_enters (expr.nonsense p) d t pc s c h = here code nl all a part pc p _ h.0 (c p (inl refl))
 
@@ -165,10 +164,10 @@ module _ (code : List Line) (nl : ℕ) (all : List stmt.Action) where
           let g = has_cut code pc (expr_size v) (expr_code nl d x pc v) _ (expr_long v nl d x pc) h in
           expr_enters v d x pc s.1 (covers_front (expr_positions v) (values_positions vs) (own a) c) g.0
 
-    answer_fine : (b : Bool) (pc : ℕ) (p : Pos) (t : ℕ) (row : Row) (as' : List Atom) → IsAmong p (own a)
+    answer_fine : (b : Bool) (pc : ℕ) (p : Pos) (t : ℕ) (sig : Signature) (as' : List Atom) → IsAmong p (own a)
         → Exit code nl all a part (pc + 1)
-        → AllFine code nl all pc (line p (Api (if b then Some (to_var t) else None) (shape_of row) as' []) ∷ [])
-    answer_fine b pc p t row as' m next = one_fine pc p (Api (if b then Some (to_var t) else None) (shape_of row)
+        → AllFine code nl all pc (line p (Api (if b then Some (to_var t) else None) sig as' []) ∷ [])
+    answer_fine b pc p t sig as' m next = one_fine pc p (Api (if b then Some (to_var t) else None) sig
         as' []) refl m next
 
     mutual
@@ -412,16 +411,16 @@ module _ (code : List Line) (nl : ℕ) (all : List stmt.Action) where
       expr_fine (expr.cast_of p v) d t pc s c h next = expr_fine v d t pc s (under p _ c) h next
       expr_fine (expr.dropped p v) d t pc s c h next = expr_fine v d t pc s (under p _ c) h next
       expr_fine (expr.called p n vs) d t pc s c h next = (tt, tt)
-      expr_fine (expr.called_row p n row vs) d t pc s c h next =
+      expr_fine (expr.called_row p n sig vs) d t pc s c h next =
           let q = pc + values_size vs in
           let k = c p (inl refl) in
-          let g = has_cut code pc (values_size vs) (args_code nl d pc row.params vs) _
-          (args_long vs nl d pc row.params) h in
+          let g = has_cut code pc (values_size vs) (args_code nl d pc sig.params vs) _
+          (args_long vs nl d pc sig.params) h in
           let e : pc + (values_size vs + 1) ≡ q + 1 = omega arith in
-          all_append code nl all pc (values_size vs) (args_code nl d pc row.params vs) _
-          (args_long vs nl d pc row.params)
-          (args_fine vs d pc row.params s (under p _ c) g.0 (here code nl all a part q p _ g.1.0 k))
-          (answer_fine (gives_answer row) q p t row (map var (arg_vars nl d row.params (listed_values vs))) k
+          all_append code nl all pc (values_size vs) (args_code nl d pc sig.params vs) _
+          (args_long vs nl d pc sig.params)
+          (args_fine vs d pc sig.params s (under p _ c) g.0 (here code nl all a part q p _ g.1.0 k))
+          (answer_fine (has_call_value sig.answer) q p t sig (map var (arg_vars nl d sig.params (listed_values vs))) k
           (exit_at code nl all a part _ _ e next))
       expr_fine (expr.nonsense p) d t pc s c h next = (tt, tt)
 

@@ -2,13 +2,13 @@
 use Rattle.std.proofs.Common.{◌≡◌, ℕ, ◌+◌, ◌<◌, ◌≤◌, Some, None, refl, arith, Bool, true, false, if◌then◌else◌}
 use Rattle.pungi_api.specs.declared.answer.Answer.{Answer}
 use Rattle.pungi_api.specs.declared.answer.Answer.TheVariants as answer
-use Rattle.pungi_api.specs.declared.row.Form.{Form}
-use Rattle.pungi_api.specs.declared.row.Form.TheVariants as form
+use Rattle.pungi_api.specs.declared.call_answer.CallAnswer.{CallAnswer}
+use Rattle.pungi_api.specs.declared.call_answer.CallAnswer.TheVariants.{Of, Argument}
 use Rattle.pungi_types.specs.declared.kind.ValueKind.{ValueKind}
 use Rattle.pungi_types.specs.declared.kind.ValueKind.TheVariants as kinds
 use Rattle.pungi_resolved.specs.Values as expr
 use Rattle.pungi_meaning.specs.Values.{fits}
-use Rattle.pungi_layout.specs.code.Temporaries.{column, answer_column, form_column, value_column}
+use Rattle.pungi_layout.specs.code.Temporaries.{column, answer_column, call_column, value_column}
 use Rattle.pungi_layout.specs.code.ExprCode.{to_var, above}
 use Rattle.pungi_layout.specs.code.Sound.{expr_nodes, place_nodes}
 use Rattle.pungi_layout.proofs.relation.Waiting.{answer_var, level}
@@ -29,9 +29,9 @@ answer_low answer.Size = omega arith
 answer_low answer.Text = omega arith
 answer_low a = omega arith
 
-form_low : (f : Form) (a : Answer) → form_column f a < 5
-form_low form.Plain a = answer_low a
-form_low (form.Special s) a = omega arith
+call_low : (a : CallAnswer) → call_column a < 5
+call_low (Of a) = answer_low a
+call_low Argument = omega arith
 
 pub if_low : (b : Bool) (m n : ℕ) → m < 5 → n < 5 → (if b then m else n) < 5
 if_low true m n h g = h
@@ -53,7 +53,7 @@ value_low (expr.chosen p c a b) = joined_low _ _ _ (value_column a) (value_colum
 value_low (expr.converted p kind v) = column_low kind
 value_low (expr.cast_of p v) = value_low v
 value_low (expr.dropped p v) = value_low v
-value_low (expr.called_row p n row vs) = form_low row.form row.answer
+value_low (expr.called_row p n sig vs) = call_low sig.answer
 value_low v = omega arith
 
 pub positive : (v : expr.Value) → 1 ≤ expr_nodes v
@@ -71,7 +71,7 @@ positive (expr.chosen p c a b) = omega arith
 positive (expr.converted p kind v) = omega arith
 positive (expr.cast_of p v) = omega arith
 positive (expr.dropped p v) = omega arith
-positive (expr.called_row p n row vs) = omega arith
+positive (expr.called_row p n sig vs) = omega arith
 positive v = omega arith
 
 pub above_is : (place : expr.Place) (d : ℕ) → above place d ≡ level place d

@@ -10,11 +10,10 @@ use Rattle.pungi_resolved.specs.Values as expr
 use Rattle.pungi_meaning.specs.declared.op.Op.TheVariants as ops
 use Rattle.pungi_meaning.specs.Values.{wide}
 use Rattle.pungi_meaning.specs.Todo.{listed_values}
-use Rattle.pungi_meaning.specs.Work.{shape_of}
 use Rattle.pungi_code.specs.declared.atom.Atom.TheVariants as atom
 use Rattle.pungi_code.specs.declared.code.Line.{Line}
 use Rattle.pungi_code.specs.declared.instr.Instr.TheVariants.{Arith, Fit, Api}
-use Rattle.pungi_layout.specs.code.Parts.{is_minus, gives_answer}
+use Rattle.pungi_layout.specs.code.Parts.{is_minus, has_call_value}
 use Rattle.pungi_layout.specs.code.Sizes.{expr_size, place_size, values_size, fit_size}
 use Rattle.pungi_layout.specs.code.Temporaries.{column, temp, value_column, temp_of, operand, fitting_column}
 use Rattle.pungi_layout.specs.code.Temporaries.{front_column, tail, arg_var, arg_vars}
@@ -348,14 +347,14 @@ module _ (code : List Line) (nl room : ℕ) where
     expr_placed (expr.cast_of p v) d t pc le at s h = expr_placed v d t pc (omega (arith, le)) at s h
     expr_placed (expr.dropped p v) d t pc le at s h = expr_placed v d t pc (omega (arith, le)) at s h
     expr_placed (expr.called p n vs) d t pc le at s h = h.0
-    expr_placed (expr.called_row p n row vs) d t pc le at s h =
-        let ts = arg_vars nl d row.params (listed_values vs) in
-        let g = has_cut code pc (values_size vs) (args_code nl d pc row.params vs) _
-        (args_long vs nl d pc row.params) h in (
+    expr_placed (expr.called_row p n sig vs) d t pc le at s h =
+        let ts = arg_vars nl d sig.params (listed_values vs) in
+        let g = has_cut code pc (values_size vs) (args_code nl d pc sig.params vs) _
+        (args_long vs nl d pc sig.params) h in (
           ts,
-          args_placed vs d pc row.params (omega (arith, le)) s g.0,
+          args_placed vs d pc sig.params (omega (arith, le)) s g.0,
           subst (λ o. Stands code nl room
-              (pc + values_size vs) p (Api o (shape_of row) (map var ts) [])) (answer_is (gives_answer row) t) g.1.0,
+              (pc + values_size vs) p (Api o sig (map var ts) [])) (answer_is (has_call_value sig.answer) t) g.1.0,
         )
     expr_placed (expr.nonsense p) d t pc le at s h = h.0
 

@@ -13,7 +13,7 @@ use Rattle.pungi_meaning.specs.declared.op.Op.TheVariants as ops
 use Rattle.pungi_meaning.specs.Values.{op_of, cmp_of, wide, slot_kind}
 use Rattle.pungi_meaning.specs.declared.cmp.Cmp.TheVariants as cmps
 use Rattle.pungi_meaning.specs.Exprs.{step_op, is_and}
-use Rattle.pungi_meaning.specs.Work.{block_locals, shape_of}
+use Rattle.pungi_meaning.specs.Work.{block_locals}
 use Rattle.pungi_meaning.specs.Todo.{Loop, Todo, ToEval, ToLoad, ToOld, ToKeep, ToStep, ToMinus, ToCompute, ToFit}
 use Rattle.pungi_meaning.specs.Todo.{ToCompare, ToNot, ToRight, ToTruth, ToPick, ToStore, ToPop, ToArgs, ToExec}
 use Rattle.pungi_meaning.specs.Todo.{ToForget, ToDeclare, ToBind, ToChoose, ToJoin, ToRest, ToTest, ToTurn, ToAgain}
@@ -24,7 +24,7 @@ use Rattle.pungi_code.specs.declared.instr.Instr.{Instr}
 use Rattle.pungi_code.specs.declared.instr.Instr.TheVariants.{Set, Arith, Fit, Compare, Load, Store, Api, Call, Unset}
 use Rattle.pungi_code.specs.declared.instr.Instr.TheVariants.{Jump, Branch, Return, Fall}
 use Rattle.pungi_code.specs.declared.place.Place.TheVariants.{Global, Field}
-use Rattle.pungi_layout.specs.code.Parts.{is_minus, gives, gives_answer}
+use Rattle.pungi_layout.specs.code.Parts.{is_minus, gives, has_call_value}
 use Rattle.pungi_layout.specs.code.Sizes.{expr_size, place_size, values_size, args_size, fit_size, store_size}
 use Rattle.pungi_layout.specs.code.Sizes.{option_size, declare_size, switch_size, stmt_size, stmts_size}
 use Rattle.pungi_layout.specs.code.ExprCode.{line, to_var, var, at_label, bit, branch_on}
@@ -151,9 +151,10 @@ module _ (code : List Line) (nl room : ℕ) where
     ExprAt d t pc (expr.cast_of p v) = ExprAt d t pc v
     ExprAt d t pc (expr.dropped p v) = ExprAt d t pc v
     ExprAt d t pc (expr.called p n vs) = Stands pc p (Call None 0 [])
-    ExprAt d t pc (expr.called_row p n row vs) =
-        (ts : List ℕ) × ArgsAt d ts pc vs × Stands (pc + values_size vs) p (Api (answer_var (gives_answer row) t)
-        (shape_of row) (map var ts) [])
+    ExprAt d t pc (expr.called_row p n sig vs) =
+        (ts : List ℕ) × ArgsAt d ts pc vs × Stands (pc + values_size vs) p (Api
+        (answer_var (has_call_value sig.answer) t)
+        sig (map var ts) [])
     ExprAt d t pc (expr.nonsense p) = Stands pc p Fall
 
     pub BaseAt : ℕ → ℕ → ℕ → expr.Place → Type 0
@@ -390,11 +391,11 @@ module _ (code : List Line) (nl room : ℕ) where
       × StoreAt kind place t (top_var (rest ks)) (top_var ks) pc
       × IsAt env k (pc + store_size) (w t ∷ below_store place ks)
   IsAt env (ToPop ∷ k) pc ks = HasOne ks × IsAt env k pc (rest ks)
-  IsAt env (ToArgs p row args i ∷ k) pc ks =
+  IsAt env (ToArgs p sig args i ∷ k) pc ks =
       (ts : List ℕ) × (t : ℕ) × (i ≤ length args) × (i ≤ length ks) × ListArgsAt (length ks) ts pc (drop i args)
       × IsTemp (length (drop i ks)) t × Stands (pc + args_size (drop i args)) p
-      (Api (answer_var (gives_answer row) t) (shape_of row) (map var (reverse_aux (vars_of (take i ks)) ts)) [])
-      × IsAt env k (pc + args_size (drop i args) + 1) (pushed_if (gives_answer row) t (drop i ks))
+      (Api (answer_var (has_call_value sig.answer) t) sig (map var (reverse_aux (vars_of (take i ks)) ts)) [])
+      × IsAt env k (pc + args_size (drop i args) + 1) (pushed_if (has_call_value sig.answer) t (drop i ks))
   IsAt env (ToForget ∷ k) pc ks = IsAt env k pc []
   IsAt env (ToExec a ∷ k) pc ks = (ks ≡ []) × StmtAt env pc a × IsAt env k (pc + stmt_size a) []
   IsAt env (ToDeclare rs ∷ k) pc ks = (ks ≡ []) × ReachAt pc rs × IsAt env k (pc + declare_size rs) []

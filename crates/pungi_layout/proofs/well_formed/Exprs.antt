@@ -4,12 +4,11 @@ use Rattle.std.proofs.Common.{Some, None, refl, sym, subst}
 use Rattle.std.specs.Prelude.{◌&&◌, not, ◌^◌, if◌then◌else◌}
 use Rattle.pungi_base.specs.declared.pos.Pos.{Pos}
 use Rattle.pungi_tree.specs.Syntax.{Item}
-use Rattle.pungi_api.specs.Rows.{is_row, is_empty, fits_form}
+use Rattle.pungi_api.specs.Signatures.{is_signature}
+use Rattle.pungi_api.specs.declared.output.Output.{Output}
 use Rattle.pungi_api.specs.declared.param.Param.{Param}
 use Rattle.pungi_api.specs.declared.param.Param.TheVariants as param
-use Rattle.pungi_api.specs.declared.row.Form.{Form}
-use Rattle.pungi_api.specs.declared.row.Form.TheVariants as form
-use Rattle.pungi_api.specs.declared.row.Row.{Row}
+use Rattle.pungi_api.specs.declared.signature.Signature.{Signature}
 use Rattle.pungi_types.specs.declared.kind.ValueKind.{ValueKind}
 use Rattle.pungi_resolved.specs.Values as expr
 use Rattle.pungi_meaning.specs.declared.op.Op.TheVariants as ops
@@ -20,11 +19,11 @@ use Rattle.pungi_code.specs.declared.atom.Atom.TheVariants as atom
 use Rattle.pungi_code.specs.declared.code.Code.{Code}
 use Rattle.pungi_code.specs.declared.code.Line.{Line}
 use Rattle.pungi_code.specs.WellFormed.{is_wide, is_number, is_order, counts_in, is_argument, are_arguments}
-use Rattle.pungi_code.specs.WellFormed.{form_params, wanted_params, row_answer, is_answer, is_sound}
+use Rattle.pungi_code.specs.WellFormed.{returned_param, is_answer, are_outputs, is_sound}
 use Rattle.pungi_layout.proofs.well_formed.Both.{and_true, and_left, and_right}
-use Rattle.pungi_layout.specs.code.Parts.{is_minus, gives_answer}
+use Rattle.pungi_layout.specs.code.Parts.{is_minus, has_call_value}
 use Rattle.pungi_layout.specs.code.Sizes.{expr_size, place_size, values_size}
-use Rattle.pungi_layout.specs.code.Temporaries.{column, temp, form_column, value_column, temp_of, operand, tail}
+use Rattle.pungi_layout.specs.code.Temporaries.{column, temp, call_column, value_column, temp_of, operand, tail}
 use Rattle.pungi_layout.specs.code.Temporaries.{arg_var, arg_vars}
 use Rattle.pungi_layout.specs.code.ExprCode.{to_var, var, bit, branch_on, fit_code, old_code, above, stored_var}
 use Rattle.pungi_layout.specs.code.ExprCode.{counted_var, base_var, sign_code, sign_var, row_code, expr_code, base_code}
@@ -140,41 +139,30 @@ module _ (file : List Item) (code : Code) (nl n : ℕ) (temps : (d c : ℕ) → 
   args_few (expr.value_and v vs) d ps = let o = some_nodes v in let h = args_few vs (d + 1) (tail ps) in omega
       (arith, o, h)
 
-  -- what a row lists, and what it takes
-  record SameArgs (ps qs : List Param) (vs : expr.Values) : Type 0 where
-    codes : (d pc : ℕ) → args_code nl d pc ps vs ≡ args_code nl d pc qs vs
-    vars : (d : ℕ) → arg_vars nl d ps (listed_values vs) ≡ arg_vars nl d qs (listed_values vs)
+  answer_fine : (b : Bool) (sig : Signature) (t : ℕ) (k : Param) → IsHeld code.vars t k
+      → Goes k (call_column sig.answer) false
+      → is_answer code.vars sig (if b then Some (to_var t) else None) ≡ true
+  answer_fine true sig t k h g = var_fine code t k h (λ q. is_wide (returned_param sig.answer) q)
+      (answer_goes sig.answer k g)
+  answer_fine false sig t k h g = refl
 
-  special_same : (ps : List Param) (vs : expr.Values) → is_empty ps ≡ true
-      → AreTyped file code.vars (param.ObjectOrNull ∷ []) vs → SameArgs ps (param.ObjectOrNull ∷ []) vs
-  special_same [] (expr.value_and v expr.no_values) e h = record { codes = λ d pc. refl; vars = λ d. refl }
-  special_same [] (expr.value_and v (expr.value_and w vs)) e h = absurd h.2
-  special_same [] expr.no_values e h = absurd h
-  special_same (p ∷ ps) vs e h = absurd (cc)
+  -- a call that writes no variable
+  outputs_fine : (os : List Output) → os ≡ [] → are_outputs code.vars os [] ≡ true
+  outputs_fine [] e = refl
+  outputs_fine (o ∷ os) e = absurd (cc)
 
-  row_same : (f : Form) (row : Row) (vs : expr.Values) → fits_form f row ≡ true
-      → AreTyped file code.vars (form_params f row.params) vs → SameArgs row.params (form_params f row.params) vs
-  row_same form.Plain row vs e h = record { codes = λ d pc. refl; vars = λ d. refl }
-  row_same (form.Special x) row vs e h = special_same row.params vs (and_left (is_empty row.params)
-      (is_empty row.takes) e) h
-
-  answer_fine : (b : Bool) (row : Row) (t : ℕ) (k : Param) → IsHeld code.vars t k
-      → Goes k (form_column row.form row.answer) false
-      → is_answer code.vars row (if b then Some (to_var t) else None) ≡ true
-  answer_fine true row t k h g = var_fine code t k h (λ q. is_wide (row_answer row) q)
-      (answer_goes row.form row.answer k g)
-  answer_fine false row t k h g = refl
-
-  api_fine : (row : Row) (vs : expr.Values) (d t : ℕ) (k : Param) (p : Pos) → is_row row ≡ true
-      → AreTyped file code.vars (wanted_params row) vs → d + values_nodes vs + 1 ≤ n → IsHeld code.vars t k
-      → Goes k (form_column row.form row.answer) false → AreFine code (row_code nl d t p row (listed_values vs))
-  api_fine row vs d t k p r h le ht g =
-      let e = (row_same row.form row vs r h).vars d in
-      let P : List ℕ → Type 0 = λ xs. are_arguments code.vars (wanted_params row) (map var xs) ≡ true in
-      let f = subst P (sym e) (args_fit vs d (wanted_params row) (omega (arith, le)) h) in
-      let c = args_few vs d row.params in
-      let l : length (map var (arg_vars nl d row.params (listed_values vs))) ≤ 2 ^ 14 = omega (arith, c, le, few) in
-      (and_true _ _ (answer_fine (gives_answer row) row t k ht g) (and_true _ _ f (le_true _ (2 ^ 14) l)), tt)
+  api_fine : (sig : Signature) (vs : expr.Values) (d t : ℕ) (k : Param) (p : Pos) → is_signature sig ≡ true
+      → sig.outputs ≡ [] → AreTyped file code.vars sig.params vs → d + values_nodes vs + 1 ≤ n
+      → IsHeld code.vars t k → Goes k (call_column sig.answer) false
+      → AreFine code (row_code nl d t p sig (listed_values vs))
+  api_fine sig vs d t k p r o h le ht g =
+      let f = args_fit vs d sig.params (omega (arith, le)) h in
+      let c = args_few vs d sig.params in
+      let l : length (map var (arg_vars nl d sig.params (listed_values vs))) ≤ 2 ^ 14 = omega (arith, c, le, few) in (
+        and_true _ _ (answer_fine (has_call_value sig.answer) sig t k ht g) (and_true _ _ f
+            (and_true _ _ (outputs_fine sig.outputs o) (and_true _ _ (le_true _ (2 ^ 14) l) r))),
+        tt,
+      )
 
   -- .. branches
   wanted_fine : (on : Bool) (x : ℕ) (k : Param) (l m : ℕ) → IsHeld code.vars x k → is_tested code k ≡ true
@@ -438,12 +426,10 @@ module _ (file : List Item) (code : Code) (nl n : ℕ) (temps : (d c : ℕ) → 
     expr_fine (expr.cast_of p v) d t pc k le at ht g h f = expr_fine v d t pc k (omega (arith, le)) at ht g h f
     expr_fine (expr.dropped p v) d t pc k le at ht g h f = expr_fine v d t pc k (omega (arith, le)) at ht g h f
     expr_fine (expr.called p w vs) d t pc k le at ht g h f = absurd (cc)
-    expr_fine (expr.called_row p w row vs) d t pc k le at ht g h f =
-        let e = (row_same row.form row vs h.0 h.1).codes d pc in
-        fine_append code (args_code nl d pc row.params vs) _
-        (subst (λ (ls : List Line). AreFine code ls) (sym e) (args_fine vs d pc (wanted_params row)
-        (omega (arith, le)) (omega (arith, at)) h.1 f))
-        (api_fine row vs d t k p h.0 h.1 (omega (arith, le)) ht g)
+    expr_fine (expr.called_row p w sig vs) d t pc k le at ht g h f = fine_append code
+        (args_code nl d pc sig.params vs) _
+        (args_fine vs d pc sig.params (omega (arith, le)) (omega (arith, at)) h.2 f)
+        (api_fine sig vs d t k p h.0 h.1 h.2 (omega (arith, le)) ht g)
     expr_fine (expr.nonsense p) d t pc k le at ht g h f = (refl, tt)
 
     base_fine : (place : expr.Place) (d pc : ℕ) (kind : ValueKind) → d + place_nodes place ≤ n

@@ -284,8 +284,8 @@ module _ (most : ℕ) where
   step_light choices (ToPick a b ∷ k) s h = pick_light most (is_true (top s.values)) a b _ k s (omega arith) h.1
   step_light choices (ToStore kind place ∷ k) s h = store_light most place choices kind _ k s (omega arith) h.1
   step_light choices (ToPop ∷ k) s h = (omega arith, h.1)
-  step_light choices (ToArgs p row args i ∷ k) s h = at_most most (next_arg choices p row args i (slice_get args i) k s)
-      (omega arith) (arg_light most (slice_get args i) choices p row args i k s (is_next args i) h.1)
+  step_light choices (ToArgs p sig args i ∷ k) s h = at_most most (next_arg choices p sig args i (slice_get args i) k s)
+      (omega arith) (arg_light most (slice_get args i) choices p sig args i k s (is_next args i) h.1)
   step_light choices (ToExec a ∷ k) s h = execute_light a k s h.0 h.1
   step_light choices (ToForget ∷ k) s h = (omega arith, h.1)
   step_light choices (ToDeclare [] ∷ k) s h = (omega arith, h.1)

@@ -9,7 +9,7 @@ use Rattle.pungi_base.specs.declared.names.Name.{Name}
 use Rattle.pungi_base.specs.declared.pos.Pos.{Pos}
 use Rattle.pungi_base.specs.declared.value.Value.{Value}
 use Rattle.pungi_base.specs.declared.value.Value.TheVariants as value
-use Rattle.pungi_api.specs.declared.row.Row.{Row}
+use Rattle.pungi_api.specs.declared.signature.Signature.{Signature}
 use Rattle.pungi_types.specs.declared.kind.ValueKind.{ValueKind}
 use Rattle.pungi_resolved.specs.Values as expr
 use Rattle.pungi_types.specs.Operators.{is_same_kind}
@@ -31,7 +31,7 @@ use Rattle.pungi_meaning.specs.Todo.{State, Step, Goes, Returns, Stops, Wants, l
 use Rattle.pungi_meaning.specs.Exprs.{base_first, read_local, load_slot, load_field, after_load, load_old, store_slot}
 use Rattle.pungi_meaning.specs.Exprs.{store_field, store, after_store, convert, sign, step, after_arithmetic}
 use Rattle.pungi_meaning.specs.Exprs.{after_call, call, next_arg, evaluate}
-use Rattle.pungi_meaning.specs.Work.{top, below, newest, unused, content_at, after_effect, shape_of, pop_value}
+use Rattle.pungi_meaning.specs.Work.{top, below, newest, unused, content_at, after_effect, pop_value}
 use Rattle.pungi_layout.specs.alike.Weights.{expr_weight, place_weight, values_weight, args_weight, stmt_weight}
 use Rattle.pungi_layout.specs.alike.Weights.{list_weight, loop_weight, switch_weight, other_weight, weight}
 use Rattle.pungi_layout.proofs.simulation.Calls.{IsNext}
@@ -218,22 +218,23 @@ module _ (most : ℕ) where
   evaluate_light (expr.cast_of p v) choices k s h = (omega arith, (tt, h))
   evaluate_light (expr.dropped p v) choices k s h = (omega arith, (tt, h))
   evaluate_light (expr.called p n vs) choices k s h = tt
-  evaluate_light (expr.called_row p n row vs) choices k s h = (omega (arith, args_listed vs), (tt, h))
+  evaluate_light (expr.called_row p n sig vs) choices k s h = (omega (arith, args_listed vs), (tt, h))
   evaluate_light (expr.nonsense p) choices k s h = tt
 
-  call_light : (choices : List Choice) (p : Pos) (row : Row) (i n : ℕ) (k : List Todo) (s : State)
-      → weight k + 1 ≤ n → AreLight k → Leaves n (call choices p row i k s)
-  call_light choices p row i n k s le h =
-      react_light (call_effect s.world (shape_of row) (newest i s.values) (unused choices s)) p n
-      (after_call p row (newest i s.values) (drop i s.values) k) s (λ e q. (le, h))
+  call_light : (choices : List Choice) (p : Pos) (sig : Signature) (i n : ℕ) (k : List Todo) (s : State)
+      → weight k + 1 ≤ n → AreLight k → Leaves n (call choices p sig i k s)
+  call_light choices p sig i n k s le h =
+      react_light (call_effect s.world sig (newest i s.values) (unused choices s)) p n
+      (after_call p sig (newest i s.values) (drop i s.values) k) s (λ e q. (le, h))
 
-  pub arg_light : (o : Option expr.Value) (choices : List Choice) (p : Pos) (row : Row) (args : List expr.Value) (i : ℕ)
+  pub arg_light : (o : Option expr.Value) (choices : List Choice) (p : Pos) (sig : Signature)
+      (args : List expr.Value) (i : ℕ)
       (k : List Todo) (s : State) → IsNext args i o (drop i args) → AreLight k
-      → Leaves (args_weight (drop i args) + weight k) (next_arg choices p row args i o k s)
-  arg_light None choices p row args i k s e h =
-      let d : args_weight (drop i args) ≡ 1 = ap args_weight e in call_light choices p row (length args) _ k s
+      → Leaves (args_weight (drop i args) + weight k) (next_arg choices p sig args i o k s)
+  arg_light None choices p sig args i k s e h =
+      let d : args_weight (drop i args) ≡ 1 = ap args_weight e in call_light choices p sig (length args) _ k s
       (omega (arith, d)) h
-  arg_light (Some v) choices p row args i k s e h =
+  arg_light (Some v) choices p sig args i k s e h =
       let n : suc i ≡ i + 1 = omega arith in
       let d : args_weight (drop i args) ≡ expr_weight v + 1 + args_weight (drop (i + 1) args) = ap args_weight e
       ∙ ap (λ j. expr_weight v + 1 + args_weight (drop j args)) n in

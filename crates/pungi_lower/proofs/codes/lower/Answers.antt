@@ -1,4 +1,4 @@
-use Rattle.std.proofs.Common.{map, ap, ◌∙◌, get_or}
+use Rattle.std.proofs.Common.{map, get_or}
 use Rattle.std.proofs.lemmas.Option.{slice_get-get_or}
 use Rattle.pungi_resolve.specs.Resolutions.{resolution_view}
 use Rattle.pungi_lower.proofs.Lowered.{made-lowered, made-well-formed}

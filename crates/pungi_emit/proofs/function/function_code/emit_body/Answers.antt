@@ -1,4 +1,4 @@
-use Rattle.std.proofs.Common.{◌+◌, ◌*◌, ◌<◌, ◌≤◌, ◌^◌, ◌++◌, length, sym, ap, ◌∙◌, subst, arith}
+use Rattle.std.proofs.Common.{◌++◌, length, sym, ap, ◌∙◌, subst, arith}
 use Rattle.pungi_types.specs.Operators.{is_void}
 use Rattle.pungi_resolved.specs.ActionView.{action_view}
 use Rattle.pungi_meaning.specs.Run.{closing_brace}

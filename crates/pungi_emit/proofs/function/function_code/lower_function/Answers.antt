@@ -1,4 +1,4 @@
-use Rattle.std.proofs.Common.{◌≡◌, ◌+◌, ◌≤◌, [], ◌++◌, length, sym, ap, ◌∙◌, arith, append-nil}
+use Rattle.std.proofs.Common.{◌≡◌, ◌+◌, [], ◌++◌, length, sym, ap, ◌∙◌, arith, append-nil}
 use Rattle.pungi_resolved.specs.ActionView.{action_view, function_view}
 use Rattle.pungi_layout.specs.code.Sizes.{stmt_size}
 use Rattle.pungi_layout.specs.code.Heads.{stmt_marks, heads_below}

@@ -1,4 +1,4 @@
-use Rattle.std.proofs.Common.{◌≡◌, ◌+◌, ◌<◌, List, [], ◌∷◌, ◌++◌, length, map, drop, sym, ap, ◌∙◌, subst, arith}
+use Rattle.std.proofs.Common.{◌+◌, ◌<◌, List, [], ◌∷◌, ◌++◌, length, map, drop, sym, ap, ◌∙◌, subst, arith}
 use Rattle.pungi_resolved.specs.ActionView.{declared_view}
 use Rattle.pungi_resolved.specs.declared.action.DeclaredLocal.{DeclaredLocal}
 use Rattle.pungi_layout.specs.code.Sound.{AreDeclared}

@@ -1,4 +1,4 @@
-use Rattle.std.proofs.Common.{◌≡◌, ◌+◌, ◌<◌, List, ◌∷◌, ◌++◌, length, map, drop, sym, ap, ◌∙◌, subst, arith}
+use Rattle.std.proofs.Common.{◌+◌, ◌<◌, List, ◌∷◌, ◌++◌, length, map, drop, sym, ap, ◌∙◌, subst, arith}
 use Rattle.pungi_resolved.specs.ActionView.{action_view, actions_of}
 use Rattle.pungi_resolved.specs.declared.action.Action.{Action}
 use Rattle.pungi_meaning.specs.Work.{block_locals, action_locals}
