@@ -19,67 +19,67 @@ use Rattle.pungi.specs.Status.{words_refused, file_unread, file_refused}
 use Rattle.pungi.specs.Status.{config_refused}
 
 -- a text of a shelf that shows its texts is what was given of it, whole
-same_whole : (texts : List ℕ → Option (List ℕ)) (rest : Option (List ℕ)) (name gave text : List ℕ)
-    → texts name ≡ Some text → IsWhole (Some texts) rest name gave → text ≡ gave
-same_whole texts rest name gave text told (end, was) = cc
+same_whole : (texts : List ℕ → Option (List ℕ)) (rest : Option (List ℕ)) (name bytes_read text : List ℕ)
+    → texts name ≡ Some text → IsWhole (Some texts) rest name bytes_read → text ≡ bytes_read
+same_whole texts rest name bytes_read text told (end, was) = cc
 
 same_text : (name : List ℕ) (config : Option (List ℕ)) (texts : Option (List ℕ → Option (List ℕ)))
-    (rest : Option (List ℕ)) (gave text : List ℕ) → IsFileText (Some (file name config)) texts gave text
-    → IsWhole texts rest name gave → text ≡ gave
-same_text name config None rest gave text is whole = is.1
-same_text name config (Some texts) rest gave text is whole = same_whole texts rest name gave text is whole
+    (rest : Option (List ℕ)) (bytes_read text : List ℕ) → IsFileText (Some (file name config)) texts bytes_read text
+    → IsWhole texts rest name bytes_read → text ≡ bytes_read
+same_text name config None rest bytes_read text is whole = is.1
+same_text name config (Some texts) rest bytes_read text is whole = same_whole texts rest name bytes_read text is whole
 
-longer_front : (texts : List ℕ → Option (List ℕ)) (name gave text : List ℕ) (limit : ℕ) → texts name ≡ Some text
-    → IsFront (Some texts) name gave → limit < length gave → limit < length text
-longer_front texts name gave text limit told (behind, was) long =
-    let is : text ≡ gave ++ behind = cc in
-    rw is (omega (arith, long, length-append gave behind))
+longer_front : (texts : List ℕ → Option (List ℕ)) (name bytes_read text : List ℕ) (limit : ℕ) → texts name ≡ Some text
+    → IsFront (Some texts) name bytes_read → limit < length bytes_read → limit < length text
+longer_front texts name bytes_read text limit told (behind, was) long =
+    let is : text ≡ bytes_read ++ behind = cc in
+    rw is (omega (arith, long, length-append bytes_read behind))
 
 longer_text : (name : List ℕ) (config : Option (List ℕ)) (texts : Option (List ℕ → Option (List ℕ)))
-    (gave text : List ℕ) → IsFileText (Some (file name config)) texts gave text
-    → IsFront texts name gave → file_limit < length gave → file_limit < length text
-longer_text name config None gave text is front long = rw is.1 long
-longer_text name config (Some texts) gave text is front long =
-    longer_front texts name gave text file_limit is front long
+    (bytes_read text : List ℕ) → IsFileText (Some (file name config)) texts bytes_read text
+    → IsFront texts name bytes_read → file_limit < length bytes_read → file_limit < length text
+longer_text name config None bytes_read text is front long = rw is.1 long
+longer_text name config (Some texts) bytes_read text is front long =
+    longer_front texts name bytes_read text file_limit is front long
 
 -- a configuration makes one API known
 one_api : (text : List ℕ) (api other : Api) → IsConfigured text api → IsConfigured text other → api ≡ other
 one_api text api other (more, read, is) (rows, found, was) =
     let same : more ≡ rows = cc in cc
 
-same_configured : (texts : Option (List ℕ → Option (List ℕ))) (rest : Option (List ℕ)) (name config gave : List ℕ)
-    (api other : Api) → IsApiText (Some (file name (Some config))) texts api → IsWhole texts rest config gave
-    → IsConfigured gave other → api ≡ other
-same_configured None rest name config gave api other is whole known = absurd is
-same_configured (Some texts) rest name config gave api other (text, told, short, is) whole known =
-    let same : text ≡ gave = same_whole texts rest config gave text told whole in
-    one_api gave api other (subst (λ (t : List ℕ). IsConfigured t api) same is) known
+same_configured : (texts : Option (List ℕ → Option (List ℕ))) (rest : Option (List ℕ)) (name config bytes_read : List ℕ)
+    (api other : Api) → IsApiText (Some (file name (Some config))) texts api → IsWhole texts rest config bytes_read
+    → IsConfigured bytes_read other → api ≡ other
+same_configured None rest name config bytes_read api other is whole known = absurd is
+same_configured (Some texts) rest name config bytes_read api other (text, told, short, is) whole known =
+    let same : text ≡ bytes_read = same_whole texts rest config bytes_read text told whole in
+    one_api bytes_read api other (subst (λ (t : List ℕ). IsConfigured t api) same is) known
 
 same_api : (first middle : Stand) (name : List ℕ) (config : Option (List ℕ)) (api other : Api)
     → IsApiText (Some (file name config)) first.texts api → IsApiFor first middle config other → api ≡ other
 same_api first middle name None api other is known = is ∙ sym known
 same_api first middle name (Some config) api other is known =
-    same_configured first.texts middle.rest name config middle.gave api other is known.whole known.rows
+    same_configured first.texts middle.rest name config middle.bytes_read api other is known.whole known.rows
 
 -- rows that were read are not refused
 not_wrong : (text reason : List ℕ) (api : Api) → IsConfigured text api → IsWrong text reason → ⊥
 not_wrong text reason api (more, read, is) wrong = ⊎_elim (λ h. let none = h.0 in cc) (λ h. let found = h in cc) wrong
 
 accepted_config : (texts : Option (List ℕ → Option (List ℕ))) (rest : Option (List ℕ))
-    (name config gave answer : List ℕ) (api : Api) → IsApiText (Some (file name (Some config))) texts api
-    → ((config_limit < length gave) × IsFront texts config gave × (answer ≡ wrong_text long_reason))
-    ⊎ ((length gave ≤ config_limit) × IsWhole texts rest config gave
-    × ((reason : List ℕ) × IsWrong gave reason × (answer ≡ wrong_text reason))) → ⊥
-accepted_config None rest name config gave answer api is wrong = absurd is
-accepted_config (Some texts) rest name config gave answer api (text, told, short, is) wrong =
-    ⊎_elim (λ (l : (config_limit < length gave) × IsFront (Some texts) config gave
+    (name config bytes_read answer : List ℕ) (api : Api) → IsApiText (Some (file name (Some config))) texts api
+    → ((config_limit < length bytes_read) × IsFront texts config bytes_read × (answer ≡ wrong_text long_reason))
+    ⊎ ((length bytes_read ≤ config_limit) × IsWhole texts rest config bytes_read
+    × ((reason : List ℕ) × IsWrong bytes_read reason × (answer ≡ wrong_text reason))) → ⊥
+accepted_config None rest name config bytes_read answer api is wrong = absurd is
+accepted_config (Some texts) rest name config bytes_read answer api (text, told, short, is) wrong =
+    ⊎_elim (λ (l : (config_limit < length bytes_read) × IsFront (Some texts) config bytes_read
     × (answer ≡ wrong_text long_reason)).
-    let long : config_limit < length text = longer_front texts config gave text config_limit told l.1 l.0 in
+    let long : config_limit < length text = longer_front texts config bytes_read text config_limit told l.1 l.0 in
     omega (arith, short, long))
-    (λ (w : (length gave ≤ config_limit) × IsWhole (Some texts) rest config gave
-    × ((reason : List ℕ) × IsWrong gave reason × (answer ≡ wrong_text reason))).
-    let same : text ≡ gave = same_whole texts rest config gave text told w.1 in
-    not_wrong gave w.2.0 api (subst (λ (t : List ℕ). IsConfigured t api) same is) w.2.1) wrong
+    (λ (w : (length bytes_read ≤ config_limit) × IsWhole (Some texts) rest config bytes_read
+    × ((reason : List ℕ) × IsWrong bytes_read reason × (answer ≡ wrong_text reason))).
+    let same : text ≡ bytes_read = same_whole texts rest config bytes_read text told w.1 in
+    not_wrong bytes_read w.2.0 api (subst (λ (t : List ℕ). IsConfigured t api) same is) w.2.1) wrong
 
 -- where the API and the file's text are known, the configuration isn't refused
 not_unconfigured : (first middle last : Stand) (asked : Option Asked) (status : ℕ) (answer : List ℕ)
@@ -87,7 +87,7 @@ not_unconfigured : (first middle last : Stand) (asked : Option Asked) (status : 
     → status ≡ config_refused → ⊥
 not_unconfigured first middle last asked status answer a api known h =
     let u = a.unconfigured h in
-    accepted_config first.texts last.rest u.0 u.1 last.gave answer api
+    accepted_config first.texts last.rest u.0 u.1 last.bytes_read answer api
     (subst (λ (o : Option Asked). IsApiText o first.texts api) u.2 known) u.3
 
 none_asked : (asked : Option Asked) (texts : Option (List ℕ → Option (List ℕ))) (api : Api) → IsApiText asked texts api
@@ -110,14 +110,14 @@ refused_is_no_file api text short refused =
 
 no_report : (first middle last : Stand) (asked : Option Asked) (status : ℕ) (answer : List ℕ) (api : Api)
     (text : List ℕ) → IsReportFor IsJudged first middle last asked status answer → IsApiText asked first.texts api
-    → IsFileText asked first.texts last.gave text → IsRefusedText api text → ⊥
+    → IsFileText asked first.texts last.bytes_read text → IsRefusedText api text → ⊥
 no_report first middle last None status answer api text is known told refused = is
 no_report first middle last (Some (file name config)) status answer api text (other, configured, whole, short, is)
     known told refused =
-    let same : text ≡ last.gave = same_text name config first.texts last.rest last.gave text told whole in
+    let same : text ≡ last.bytes_read = same_text name config first.texts last.rest last.bytes_read text told whole in
     let one : api ≡ other = same_api first middle name config api other known configured in
     let v = is.verdicts in
-    refused_is_no_file other last.gave short (subst (λ (a : Api). IsRefusedText a last.gave) one
+    refused_is_no_file other last.bytes_read short (subst (λ (a : Api). IsRefusedText a last.bytes_read) one
     (subst (λ (t : List ℕ). IsRefusedText api t) same refused)) is.names v.items v.file
 no_report first middle last (Some (trial n)) status answer api text (short, is) known told refused =
     let v = is.verdicts in
@@ -126,19 +126,19 @@ no_report first middle last (Some (trial n)) status answer api text (short, is) 
 
 no_refusal : (first middle last : Stand) (asked : Option Asked) (answer : List ℕ) (api : Api) (text : List ℕ)
     (names : List (List ℕ)) (items : List Item) → IsRefusalFor first middle last asked answer
-    → IsApiText asked first.texts api → IsFileText asked first.texts last.gave text → length text ≤ file_limit
+    → IsApiText asked first.texts api → IsFileText asked first.texts last.bytes_read text → length text ≤ file_limit
     → IsFile api text names items → ⊥
 no_refusal first middle last None answer api text names items is known told short spelled = is
 no_refusal first middle last (Some (file name config)) answer api text names items (other, configured, is) known told
     short spelled =
     let one : api ≡ other = same_api first middle name config api other known configured in
-    ⊎_elim (λ (l : (file_limit < length last.gave) × IsFront first.texts name last.gave × (answer ≡ long_text)).
-    let long : file_limit < length text = longer_text name config first.texts last.gave text told l.1 l.0 in
+    ⊎_elim (λ (l : (file_limit < length last.bytes_read) × IsFront first.texts name last.bytes_read × (answer ≡ long_text)).
+    let long : file_limit < length text = longer_text name config first.texts last.bytes_read text told l.1 l.0 in
     omega (arith, short, long))
-    (λ (r : (length last.gave ≤ file_limit) × IsWhole first.texts last.rest name last.gave
-    × IsRefusedAs other last.gave answer).
-    let same : text ≡ last.gave = same_text name config first.texts last.rest last.gave text told r.1 in
-    r.2.none names items (subst (λ (a : Api). IsFile a last.gave names items) one
+    (λ (r : (length last.bytes_read ≤ file_limit) × IsWhole first.texts last.rest name last.bytes_read
+    × IsRefusedAs other last.bytes_read answer).
+    let same : text ≡ last.bytes_read = same_text name config first.texts last.rest last.bytes_read text told r.1 in
+    r.2.none names items (subst (λ (a : Api). IsFile a last.bytes_read names items) one
     (subst (λ (t : List ℕ). IsFile api t names items) same spelled))) is
 no_refusal first middle last (Some (trial n)) answer api text names items is known told short spelled =
     ⊎_elim (λ (l : (file_limit < length (trial_text n)) × (answer ≡ long_text)).
@@ -151,7 +151,7 @@ no_refusal first middle last (Some (trial n)) answer api text names items is kno
 
 pub file_is_refused : (first middle last : Stand) (asked : Option Asked) (status : ℕ) (answer : List ℕ)
     → Answers first middle last asked status answer → (api : Api) → IsApiText asked first.texts api
-    → (text : List ℕ) → IsFileText asked first.texts last.gave text → IsRefusedText api text
+    → (text : List ℕ) → IsFileText asked first.texts last.bytes_read text → IsRefusedText api text
     → (status ≡ file_unread → ⊥) → status ≡ file_refused
 file_is_refused first middle last asked status answer a api known text told refused read =
     let reported = λ (h : IsReported status).
@@ -163,7 +163,7 @@ file_is_refused first middle last asked status answer a api known text told refu
 
 pub file_judged : (first middle last : Stand) (asked : Option Asked) (status : ℕ) (answer : List ℕ)
     → Answers first middle last asked status answer → (api : Api) → IsApiText asked first.texts api
-    → (text : List ℕ) → IsFileText asked first.texts last.gave text → length text ≤ file_limit
+    → (text : List ℕ) → IsFileText asked first.texts last.bytes_read text → length text ≤ file_limit
     → (names : List (List ℕ)) (items : List Item) → IsFile api text names items
     → (status ≡ file_unread → ⊥) → IsReported status
 file_judged first middle last asked status answer a api known text told short names items spelled read =
@@ -173,12 +173,12 @@ file_judged first middle last asked status answer a api known text told short na
     (λ h. absurd (none_asked asked first.texts api known (a.usage h).0)) (λ h. absurd (read h))
     (λ h. absurd (refused h)) (λ h. absurd (not_unconfigured first middle last asked status answer a api known h))
 
-no_rows_read : (texts : Option (List ℕ → Option (List ℕ))) (rest : Option (List ℕ)) (name config gave : List ℕ)
+no_rows_read : (texts : Option (List ℕ → Option (List ℕ))) (rest : Option (List ℕ)) (name config bytes_read : List ℕ)
     (api : Api) (text : List ℕ) → IsConfigText (Some (file name (Some config))) texts text → IsRefusedConfig text
-    → IsWhole texts rest config gave → length gave ≤ config_limit → IsConfigured gave api → ⊥
-no_rows_read None rest name config gave api text is refused whole short known = is
-no_rows_read (Some texts) rest name config gave api text is refused whole short known =
-    let same : text ≡ gave = same_whole texts rest config gave text is whole in
+    → IsWhole texts rest config bytes_read → length bytes_read ≤ config_limit → IsConfigured bytes_read api → ⊥
+no_rows_read None rest name config bytes_read api text is refused whole short known = is
+no_rows_read (Some texts) rest name config bytes_read api text is refused whole short known =
+    let same : text ≡ bytes_read = same_whole texts rest config bytes_read text is whole in
     ⊎_elim (λ (long : config_limit < length text).
     let within : length text ≤ config_limit = rw same short in omega (arith, long, within))
     (λ (none : (length text ≤ config_limit) × IsNoConfiguration text).
@@ -190,7 +190,7 @@ no_rows : (first middle : Stand) (name : List ℕ) (asked : Option (List ℕ)) (
     → IsApiFor first middle asked api → ⊥
 no_rows first middle name None api text is refused known = is
 no_rows first middle name (Some config) api text is refused known =
-    no_rows_read first.texts middle.rest name config middle.gave api text is refused known.whole known.short known.rows
+    no_rows_read first.texts middle.rest name config middle.bytes_read api text is refused known.whole known.short known.rows
 
 no_config_report : (first middle last : Stand) (asked : Option Asked) (status : ℕ) (answer : List ℕ)
     (text : List ℕ) → IsReportFor IsJudged first middle last asked status answer

@@ -16,9 +16,9 @@ front_left (Some texts) name None bytes left = absurd left
 front_left (Some texts) name (Some rest) bytes left = (rest, left)
 
 pub long_left : (texts : Option (List ℕ → Option (List ℕ))) (name : List ℕ) (rest : Option (List ℕ))
-    (bytes gave : List ℕ) (limit : ℕ) → Left texts name rest bytes → bytes ≡ gave → limit < length bytes
-    → IsFront texts name gave × (limit < length gave)
-long_left texts name rest bytes gave limit left same long = (
+    (bytes bytes_read : List ℕ) (limit : ℕ) → Left texts name rest bytes → bytes ≡ bytes_read → limit < length bytes
+    → IsFront texts name bytes_read × (limit < length bytes_read)
+long_left texts name rest bytes bytes_read limit left same long = (
   subst (λ (b : List ℕ). IsFront texts name b) same (front_left texts name rest bytes left),
   subst
       (λ (b : List ℕ). limit < length b) same long,

@@ -83,5 +83,5 @@ pub sound_answer : (first middle last : Stand) (asked : Option Asked) (status : 
     → IsReportFor IsSound first middle last asked status answer
 sound_answer first middle last None status answer is = absurd is
 sound_answer first middle last (Some (file name config)) status answer (api, known, whole, short, is) =
-    (api, known, whole, short, sound_report api last.gave status answer is)
+    (api, known, whole, short, sound_report api last.bytes_read status answer is)
 sound_answer first middle last (Some (trial n)) status answer (short, is) = (short, sound_trial n status answer is)

@@ -83,12 +83,12 @@ usage_answers first middle last asked status answer is steady none said = record
 
 pub unread_answers : (first middle last : Stand) (asked : Option Asked) (status : ℕ) (answer name : List ℕ)
     (earlier : List (List ℕ)) → status ≡ file_unread → Rose first.faults last.faults
-    → last.given ≡ earlier ++ name ∷ [] → answer ≡ unread_text name → Answers first middle last asked status answer
-unread_answers first middle last asked status answer name earlier is rose given said = record {
+    → last.names_opened ≡ earlier ++ name ∷ [] → answer ≡ unread_text name → Answers first middle last asked status answer
+unread_answers first middle last asked status answer name earlier is rose names_opened said = record {
   one = inr (inr (inr (inr (inl is))));
   report = λ r. let low = reported_low status r in absurd (omega (arith, low, is));
   usage = λ h. absurd (omega (arith, is, h));
-  failed = λ h. (rose, (name, (earlier, given), said));
+  failed = λ h. (rose, (name, (earlier, names_opened), said));
   refused = λ h. absurd (omega (arith, is, h));
   unconfigured = λ h. absurd (omega (arith, is, h));
   steady = λ h. absurd (h is);
@@ -109,9 +109,9 @@ refusal_answers first middle last asked status answer is steady refused = record
 
 wrong_answers : (first middle last : Stand) (name config : List ℕ) (status : ℕ) (answer : List ℕ)
     → status ≡ config_refused → last.faults ≡ first.faults
-    → ((config_limit < length last.gave) × IsFront first.texts config last.gave × (answer ≡ wrong_text long_reason))
-    ⊎ ((length last.gave ≤ config_limit) × IsWhole first.texts last.rest config last.gave
-    × ((reason : List ℕ) × IsWrong last.gave reason × (answer ≡ wrong_text reason)))
+    → ((config_limit < length last.bytes_read) × IsFront first.texts config last.bytes_read × (answer ≡ wrong_text long_reason))
+    ⊎ ((length last.bytes_read ≤ config_limit) × IsWhole first.texts last.rest config last.bytes_read
+    × ((reason : List ℕ) × IsWrong last.bytes_read reason × (answer ≡ wrong_text reason)))
     → Answers first middle last (asked_file name (Some config)) status answer
 wrong_answers first middle last name config status answer is steady wrong = record {
   one = inr (inr (inr (inr (inr (inr is)))));
@@ -124,8 +124,8 @@ wrong_answers first middle last name config status answer is steady wrong = reco
 }
 
 pub long_answers : (first middle last : Stand) (name config : List ℕ) (status : ℕ) (answer : List ℕ)
-    → status ≡ config_refused → last.faults ≡ first.faults → IsFront first.texts config last.gave
-    → config_limit < length last.gave → answer ≡ wrong_text long_reason
+    → status ≡ config_refused → last.faults ≡ first.faults → IsFront first.texts config last.bytes_read
+    → config_limit < length last.bytes_read → answer ≡ wrong_text long_reason
     → Answers first middle last (asked_file name (Some config)) status answer
 long_answers first middle last name config status answer is steady front long said =
     wrong_answers first middle last name config status answer is steady (inl (long, front, said))
@@ -133,58 +133,58 @@ long_answers first middle last name config status answer is steady front long sa
 -- the answer on a file, over what is known for it
 pub file_answers : (first middle last : Stand) (config : Option (List ℕ)) (api : Api) (name : List ℕ)
     (earlier : List (List ℕ)) (status : ℕ) (answer : List ℕ) → IsApiFor first middle config api
-    → last.given ≡ earlier ++ name ∷ []
-    → IsFileAnswer api name first.texts last.rest last.gave first.faults last.faults status answer
+    → last.names_opened ≡ earlier ++ name ∷ []
+    → IsFileAnswer api name first.texts last.rest last.bytes_read first.faults last.faults status answer
     → Answers first middle last (asked_file name config) status answer
-file_answers first middle last config api name earlier status answer known given is =
+file_answers first middle last config api name earlier status answer known names_opened is =
     ⊎_elim (λ (r : (status ≤ some_open) × (last.faults ≡ first.faults)
-    × IsWhole first.texts last.rest name last.gave × (length last.gave ≤ file_limit)
-    × IsReport api last.gave status answer).
+    × IsWhole first.texts last.rest name last.bytes_read × (length last.bytes_read ≤ file_limit)
+    × IsReport api last.bytes_read status answer).
     report_answers first middle last (asked_file name config) status answer r.0 r.1 (api, known, r.2, r.3, r.4))
     (λ (r : ((status ≡ file_unread) × Rose first.faults last.faults × (answer ≡ unread_text name))
     ⊎ ((status ≡ file_refused) × (last.faults ≡ first.faults)
-    × IsFileRefusal first.texts last.rest last.gave api name answer)).
+    × IsFileRefusal first.texts last.rest last.bytes_read api name answer)).
     ⊎_elim (λ (u : (status ≡ file_unread) × Rose first.faults last.faults × (answer ≡ unread_text name)).
-    unread_answers first middle last (asked_file name config) status answer name earlier u.0 u.1 given u.2)
+    unread_answers first middle last (asked_file name config) status answer name earlier u.0 u.1 names_opened u.2)
     (λ (u : (status ≡ file_refused) × (last.faults ≡ first.faults)
-    × IsFileRefusal first.texts last.rest last.gave api name answer).
+    × IsFileRefusal first.texts last.rest last.bytes_read api name answer).
     refusal_answers first middle last (asked_file name config) status answer u.0 u.1 (api, known, u.2)) r) is
 
 -- the answer on a file, where the configuration is read and this is its text
 pub config_answers : (first middle last : Stand) (name config text : List ℕ) (status : ℕ) (answer : List ℕ)
-    → middle.texts ≡ first.texts → middle.given ≡ first.given ++ config ∷ [] → middle.faults ≡ first.faults
-    → IsWhole first.texts middle.rest config middle.gave → length middle.gave ≤ config_limit → text ≡ middle.gave
-    → IsConfigAnswer text name middle.texts middle.rest last.rest middle.gave last.gave middle.given last.given
+    → middle.texts ≡ first.texts → middle.names_opened ≡ first.names_opened ++ config ∷ [] → middle.faults ≡ first.faults
+    → IsWhole first.texts middle.rest config middle.bytes_read → length middle.bytes_read ≤ config_limit → text ≡ middle.bytes_read
+    → IsConfigAnswer text name middle.texts middle.rest last.rest middle.bytes_read last.bytes_read middle.names_opened last.names_opened
     middle.faults last.faults status answer
     → Answers first middle last (asked_file name (Some config)) status answer
-config_answers first middle last name config text status answer texts given steady whole short same found =
+config_answers first middle last name config text status answer texts names_opened steady whole short same found =
     let is = subst (λ (ts : Option (List ℕ → Option (List ℕ))). IsConfigAnswer text name ts middle.rest last.rest
-    middle.gave last.gave middle.given last.given middle.faults last.faults status answer) texts found in
+    middle.bytes_read last.bytes_read middle.names_opened last.names_opened middle.faults last.faults status answer) texts found in
     ⊎_elim (λ (r : (status ≡ config_refused)
-    × IsUntouched middle.rest last.rest middle.gave last.gave middle.given last.given middle.faults last.faults
+    × IsUntouched middle.rest last.rest middle.bytes_read last.bytes_read middle.names_opened last.names_opened middle.faults last.faults
     × ((reason : List ℕ) × IsWrong text reason × (answer ≡ wrong_text reason))).
     wrong_answers first middle last name config status answer r.0 (r.1.same_faults ∙ steady)
     (inr (
       subst (λ (g : List ℕ). length g ≤ config_limit) (sym r.1.same_gave) short,
       subst (λ (g : List ℕ). IsWhole first.texts last.rest config g) (sym r.1.same_gave)
-          (subst (λ (rest : Option (List ℕ)). IsWhole first.texts rest config middle.gave) (sym r.1.same_rest) whole),
+          (subst (λ (rest : Option (List ℕ)). IsWhole first.texts rest config middle.bytes_read) (sym r.1.same_rest) whole),
       (
         r.2.0,
         subst (λ (g : List ℕ). IsWrong g r.2.0) (same ∙ sym r.1.same_gave) r.2.1,
         r.2.2,
       ),
     )))
-    (λ (r : (api : Api) × IsConfigured text api × (last.given ≡ middle.given ++ name ∷ [])
-    × IsFileAnswer api name first.texts last.rest last.gave middle.faults last.faults status answer).
-    file_answers first middle last (Some config) r.0 name middle.given status answer
+    (λ (r : (api : Api) × IsConfigured text api × (last.names_opened ≡ middle.names_opened ++ name ∷ [])
+    × IsFileAnswer api name first.texts last.rest last.bytes_read middle.faults last.faults status answer).
+    file_answers first middle last (Some config) r.0 name middle.names_opened status answer
     (record {
       texts = texts;
-      given = given;
+      names_opened = names_opened;
       whole = whole;
       short = short;
       rows = subst (λ (g : List ℕ). IsConfigured g r.0) same r.1;
     }) r.2
-    (subst (λ (faults : ℕ). IsFileAnswer r.0 name first.texts last.rest last.gave faults last.faults status answer)
+    (subst (λ (faults : ℕ). IsFileAnswer r.0 name first.texts last.rest last.bytes_read faults last.faults status answer)
     steady r.3)) is
 
 -- which names were opened
@@ -249,35 +249,35 @@ opened_both name config status before middle after one two accepted = record {
 }
 
 pub file_accepted : (api : Api) (name : List ℕ) (texts : Option (List ℕ → Option (List ℕ)))
-    (rest : Option (List ℕ)) (gave : List ℕ) (before after status : ℕ) (answer : List ℕ)
-    → IsFileAnswer api name texts rest gave before after status answer → status ≡ config_refused → ⊥
-file_accepted api name texts rest gave before after status answer is h =
-    ⊎_elim (λ (r : (status ≤ some_open) × (after ≡ before) × IsWhole texts rest name gave
-    × (length gave ≤ file_limit) × IsReport api gave status answer). let low = r.0 in omega (arith, low, h))
+    (rest : Option (List ℕ)) (bytes_read : List ℕ) (before after status : ℕ) (answer : List ℕ)
+    → IsFileAnswer api name texts rest bytes_read before after status answer → status ≡ config_refused → ⊥
+file_accepted api name texts rest bytes_read before after status answer is h =
+    ⊎_elim (λ (r : (status ≤ some_open) × (after ≡ before) × IsWhole texts rest name bytes_read
+    × (length bytes_read ≤ file_limit) × IsReport api bytes_read status answer). let low = r.0 in omega (arith, low, h))
     (λ (r : ((status ≡ file_unread) × Rose before after × (answer ≡ unread_text name))
-    ⊎ ((status ≡ file_refused) × (after ≡ before) × IsFileRefusal texts rest gave api name answer)).
+    ⊎ ((status ≡ file_refused) × (after ≡ before) × IsFileRefusal texts rest bytes_read api name answer)).
     ⊎_elim (λ (u : (status ≡ file_unread) × Rose before after × (answer ≡ unread_text name)). let is = u.0 in
     omega (arith, is, h))
-    (λ (u : (status ≡ file_refused) × (after ≡ before) × IsFileRefusal texts rest gave api name answer).
+    (λ (u : (status ≡ file_refused) × (after ≡ before) × IsFileRefusal texts rest bytes_read api name answer).
     let is = u.0 in omega (arith, is, h)) r) is
 
 -- both files, or the configuration alone where it is refused
 pub opened_for_config : (text name config : List ℕ) (texts : Option (List ℕ → Option (List ℕ)))
-    (rest rest' : Option (List ℕ)) (gave gave' : List ℕ) (start given given' : List (List ℕ))
-    (before after status : ℕ) (answer : List ℕ) → given ≡ start ++ config ∷ []
-    → IsConfigAnswer text name texts rest rest' gave gave' given given' before after status answer
-    → IsOpened (asked_file name (Some config)) status start given'
-opened_for_config text name config texts rest rest' gave gave' start given given' before after status answer one is =
+    (rest rest' : Option (List ℕ)) (bytes_read bytes_read' : List ℕ) (start names_opened names_opened' : List (List ℕ))
+    (before after status : ℕ) (answer : List ℕ) → names_opened ≡ start ++ config ∷ []
+    → IsConfigAnswer text name texts rest rest' bytes_read bytes_read' names_opened names_opened' before after status answer
+    → IsOpened (asked_file name (Some config)) status start names_opened'
+opened_for_config text name config texts rest rest' bytes_read bytes_read' start names_opened names_opened' before after status answer one is =
     ⊎_elim (λ (r : (status ≡ config_refused)
-    × IsUntouched rest rest' gave gave' given given' before after
+    × IsUntouched rest rest' bytes_read bytes_read' names_opened names_opened' before after
     × ((reason : List ℕ) × IsWrong text reason × (answer ≡ wrong_text reason))).
     let is = r.0 in
-    opened_config name config status start given' (r.1.same_given ∙ one) (omega (arith, is))
+    opened_config name config status start names_opened' (r.1.same_given ∙ one) (omega (arith, is))
     (λ h. omega (arith, is, h)))
-    (λ (r : (api : Api) × IsConfigured text api × (given' ≡ given ++ name ∷ [])
-    × IsFileAnswer api name texts rest' gave' before after status answer).
-    opened_both name config status start given given' one r.2
-    (λ h. file_accepted r.0 name texts rest' gave' before after status answer r.3 h)) is
+    (λ (r : (api : Api) × IsConfigured text api × (names_opened' ≡ names_opened ++ name ∷ [])
+    × IsFileAnswer api name texts rest' bytes_read' before after status answer).
+    opened_both name config status start names_opened names_opened' one r.2
+    (λ h. file_accepted r.0 name texts rest' bytes_read' before after status answer r.3 h)) is
 
 pub opened_before : (name config : List ℕ) (start after : List (List ℕ)) → IsGiven start config after
     → IsOpened (asked_file name (Some config)) memory_wanted start after

@@ -60,10 +60,10 @@ long_text = codes "file refused over 1048576 bytes" ++ line_end
 
 pub record IsConfigRead (first middle : Stand) (config : List ℕ) (api : Api) : Type 0 where
   pub texts : middle.texts ≡ first.texts
-  pub given : middle.given ≡ first.given ++ config ∷ []
-  pub whole : IsWhole first.texts middle.rest config middle.gave
-  pub short : length middle.gave ≤ config_limit
-  pub rows : IsConfigured middle.gave api
+  pub names_opened : middle.names_opened ≡ first.names_opened ++ config ∷ []
+  pub whole : IsWhole first.texts middle.rest config middle.bytes_read
+  pub short : length middle.bytes_read ≤ config_limit
+  pub rows : IsConfigured middle.bytes_read api
 
 abbrev pub IsApiFor : Stand → Stand → Option (List ℕ) → Api → Type 0
 IsApiFor first middle None api = api ≡ builtin_api
@@ -73,8 +73,8 @@ abbrev pub IsReportFor : (CheckedFile → Definition → Name × Verdict → Typ
     → ℕ → List ℕ → Type 0
 IsReportFor P first middle last None status answer = ⊥
 IsReportFor P first middle last (Some (file name config)) status answer =
-    (api : Api) × IsApiFor first middle config api × IsWhole first.texts last.rest name last.gave
-    × (length last.gave ≤ file_limit) × IsReportOf P api last.gave status answer
+    (api : Api) × IsApiFor first middle config api × IsWhole first.texts last.rest name last.bytes_read
+    × (length last.bytes_read ≤ file_limit) × IsReportOf P api last.bytes_read status answer
 IsReportFor P first middle last (Some (trial n)) status answer =
     (length (trial_text n) ≤ file_limit) × IsTrialOf P n status answer
 
@@ -84,21 +84,21 @@ IsTextRefusal api text answer =
     ⊎ ((length text ≤ file_limit) × IsRefusedAs api text answer)
 
 abbrev pub IsFileRefusal : Option (List ℕ → Option (List ℕ)) → Option (List ℕ) → List ℕ → Api → List ℕ → List ℕ → Type 0
-IsFileRefusal texts rest gave api name answer =
-    ((file_limit < length gave) × IsFront texts name gave × (answer ≡ long_text))
-    ⊎ ((length gave ≤ file_limit) × IsWhole texts rest name gave × IsRefusedAs api gave answer)
+IsFileRefusal texts rest bytes_read api name answer =
+    ((file_limit < length bytes_read) × IsFront texts name bytes_read × (answer ≡ long_text))
+    ⊎ ((length bytes_read ≤ file_limit) × IsWhole texts rest name bytes_read × IsRefusedAs api bytes_read answer)
 
 abbrev pub IsRefusalFor : Stand → Stand → Stand → Option Asked → List ℕ → Type 0
 IsRefusalFor first middle last None answer = ⊥
 IsRefusalFor first middle last (Some (file name config)) answer =
-    (api : Api) × IsApiFor first middle config api × IsFileRefusal first.texts last.rest last.gave api name answer
+    (api : Api) × IsApiFor first middle config api × IsFileRefusal first.texts last.rest last.bytes_read api name answer
 IsRefusalFor first middle last (Some (trial n)) answer = IsTextRefusal builtin_api (trial_text n) answer
 
 abbrev pub IsConfigRefusal : Stand → Stand → List ℕ → List ℕ → Type 0
 IsConfigRefusal first last config answer =
-    ((config_limit < length last.gave) × IsFront first.texts config last.gave × (answer ≡ wrong_text long_reason))
-    ⊎ ((length last.gave ≤ config_limit) × IsWhole first.texts last.rest config last.gave
-    × ((reason : List ℕ) × IsWrong last.gave reason × (answer ≡ wrong_text reason)))
+    ((config_limit < length last.bytes_read) × IsFront first.texts config last.bytes_read × (answer ≡ wrong_text long_reason))
+    ⊎ ((length last.bytes_read ≤ config_limit) × IsWhole first.texts last.rest config last.bytes_read
+    × ((reason : List ℕ) × IsWrong last.bytes_read reason × (answer ≡ wrong_text reason)))
 
 abbrev pub IsLast : List (List ℕ) → List ℕ → Type 0
 IsLast names name = (earlier : List (List ℕ)) × (names ≡ earlier ++ name ∷ [])
@@ -112,7 +112,7 @@ pub record Answers (first middle last : Stand) (asked : Option Asked) (status : 
   pub report : IsReported status → IsReportFor IsJudged first middle last asked status answer
   pub usage : status ≡ words_refused → (asked ≡ None) × (answer ≡ usage_text)
   pub failed : status ≡ file_unread → Rose first.faults last.faults
-      × ((name : List ℕ) × IsLast last.given name × (answer ≡ unread_text name))
+      × ((name : List ℕ) × IsLast last.names_opened name × (answer ≡ unread_text name))
   pub refused : status ≡ file_refused → IsRefusalFor first middle last asked answer
   pub unconfigured : status ≡ config_refused → (name : List ℕ) × (config : List ℕ)
       × (asked ≡ Some (file name (Some config))) × IsConfigRefusal first last config answer

@@ -22,10 +22,10 @@ IsConfigText (Some (trial n)) texts text = ⊥
 IsConfigText None texts text = ⊥
 
 abbrev pub IsFileText : Option Asked → Option (List ℕ → Option (List ℕ)) → List ℕ → List ℕ → Type 0
-IsFileText None texts gave text = ⊥
-IsFileText (Some (file name config)) (Some texts) gave text = texts name ≡ Some text
-IsFileText (Some (file name config)) None gave text = (config ≡ None) × (text ≡ gave)
-IsFileText (Some (trial n)) texts gave text = text ≡ trial_text n
+IsFileText None texts bytes_read text = ⊥
+IsFileText (Some (file name config)) (Some texts) bytes_read text = texts name ≡ Some text
+IsFileText (Some (file name config)) None bytes_read text = (config ≡ None) × (text ≡ bytes_read)
+IsFileText (Some (trial n)) texts bytes_read text = text ≡ trial_text n
 
 abbrev pub IsApiText : Option Asked → Option (List ℕ → Option (List ℕ)) → Api → Type 0
 IsApiText None texts api = ⊥

@@ -22,23 +22,23 @@ IsGiven before name after = (after ≡ before) ⊎ (after ≡ before ++ name ∷
 
 abbrev pub IsFileAnswer : Api → List ℕ → Option (List ℕ → Option (List ℕ)) → Option (List ℕ) → List ℕ → ℕ → ℕ → ℕ
     → List ℕ → Type 0
-IsFileAnswer api name texts rest gave before after status answer =
-    ((status ≤ some_open) × (after ≡ before) × IsWhole texts rest name gave × (length gave ≤ file_limit)
-    × IsReport api gave status answer)
+IsFileAnswer api name texts rest bytes_read before after status answer =
+    ((status ≤ some_open) × (after ≡ before) × IsWhole texts rest name bytes_read × (length bytes_read ≤ file_limit)
+    × IsReport api bytes_read status answer)
     ⊎ ((status ≡ file_unread) × Rose before after × (answer ≡ unread_text name))
-    ⊎ ((status ≡ file_refused) × (after ≡ before) × IsFileRefusal texts rest gave api name answer)
+    ⊎ ((status ≡ file_refused) × (after ≡ before) × IsFileRefusal texts rest bytes_read api name answer)
 
-pub record IsUntouched (rest rest' : Option (List ℕ)) (gave gave' : List ℕ) (given given' : List (List ℕ))
+pub record IsUntouched (rest rest' : Option (List ℕ)) (bytes_read bytes_read' : List ℕ) (names_opened names_opened' : List (List ℕ))
     (before after : ℕ) : Type 0 where
   pub same_rest : rest' ≡ rest
-  pub same_gave : gave' ≡ gave
-  pub same_given : given' ≡ given
+  pub same_gave : bytes_read' ≡ bytes_read
+  pub same_given : names_opened' ≡ names_opened
   pub same_faults : after ≡ before
 
 abbrev pub IsConfigAnswer : List ℕ → List ℕ → Option (List ℕ → Option (List ℕ)) → Option (List ℕ) → Option (List ℕ)
     → List ℕ → List ℕ → List (List ℕ) → List (List ℕ) → ℕ → ℕ → ℕ → List ℕ → Type 0
-IsConfigAnswer text name texts rest rest' gave gave' given given' before after status answer =
-    ((status ≡ config_refused) × IsUntouched rest rest' gave gave' given given' before after
+IsConfigAnswer text name texts rest rest' bytes_read bytes_read' names_opened names_opened' before after status answer =
+    ((status ≡ config_refused) × IsUntouched rest rest' bytes_read bytes_read' names_opened names_opened' before after
     × ((reason : List ℕ) × IsWrong text reason × (answer ≡ wrong_text reason)))
-    ⊎ ((api : Api) × IsConfigured text api × (given' ≡ given ++ name ∷ [])
-    × IsFileAnswer api name texts rest' gave' before after status answer)
+    ⊎ ((api : Api) × IsConfigured text api × (names_opened' ≡ names_opened ++ name ∷ [])
+    × IsFileAnswer api name texts rest' bytes_read' before after status answer)

@@ -17,9 +17,9 @@ unread_text file = codes "cannot read " ++ file ++ line_end
 
 abbrev pub IsLoaded : Option (List ℕ → Option (List ℕ)) → Option (List ℕ) → List ℕ → List ℕ → ℕ → ℕ → ℕ → Loaded
     → Type 0
-IsLoaded texts rest file gave limit before after (Text bytes) =
-    (bytes.items ≡ gave) × IsWhole texts rest file gave × (length gave ≤ limit) × (after ≡ before)
-IsLoaded texts rest file gave limit before after Long =
-    IsFront texts file gave × (limit < length gave) × (after ≡ before)
-IsLoaded texts rest file gave limit before after (Unread a) =
+IsLoaded texts rest file bytes_read limit before after (Text bytes) =
+    (bytes.items ≡ bytes_read) × IsWhole texts rest file bytes_read × (length bytes_read ≤ limit) × (after ≡ before)
+IsLoaded texts rest file bytes_read limit before after Long =
+    IsFront texts file bytes_read × (limit < length bytes_read) × (after ≡ before)
+IsLoaded texts rest file bytes_read limit before after (Unread a) =
     (a.status ≡ file_unread) × (a.text.items ≡ unread_text file) × Rose before after

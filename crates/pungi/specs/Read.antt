@@ -18,6 +18,6 @@ IsWhole None rest file bytes = rest ≡ Some []
 IsWhole (Some texts) rest file bytes = (rest ≡ Some []) × (texts file ≡ Some bytes)
 
 abbrev pub IsReading : Option (List ℕ → Option (List ℕ)) → Option (List ℕ) → List ℕ → List ℕ → ℕ → Reading → Type 0
-IsReading texts rest file gave limit (Text bytes) =
-    (bytes.items ≡ gave) × IsWhole texts rest file gave × (length gave ≤ limit)
-IsReading texts rest file gave limit Long = IsFront texts file gave × (limit < length gave)
+IsReading texts rest file bytes_read limit (Text bytes) =
+    (bytes.items ≡ bytes_read) × IsWhole texts rest file bytes_read × (length bytes_read ≤ limit)
+IsReading texts rest file bytes_read limit Long = IsFront texts file bytes_read × (limit < length bytes_read)

@@ -1,4 +1,5 @@
 ghost use Rattle.std.specs.Prelude.{◌≡◌, [], None, Some};
+ghost use Rattle.std.specs.List.{concat};
 ghost use Rattle.pungi.specs.FolderShelf.{left_of};
 
 use pungi_base::{Failed, History, OpenFault, Shelf};
@@ -12,8 +13,8 @@ use std::io::Read;
 pub struct FolderShelf<'a> {
     files: &'a HostRuntime,
     opened: Option<File>,
-    gave: History,
-    given: History,
+    bytes_read: History,
+    names_opened: History,
     faults: u64,
 }
 
@@ -21,15 +22,15 @@ impl<'a> FolderShelf<'a> {
     /// A shelf that opened no file yet, so that nothing is left to read, and where no call failed.
     pub fn new(files: &'a HostRuntime) -> FolderShelf<'a>
         ensures rest { ⟦<FolderShelf<'a> as Shelf>⟧.rest result ≡ Some [] }
-        ensures gave { ⟦<FolderShelf<'a> as Shelf>⟧.gave result ≡ [] }
-        ensures given { ⟦<FolderShelf<'a> as Shelf>⟧.given result ≡ [] }
+        ensures bytes_read { ⟦<FolderShelf<'a> as Shelf>⟧.bytes_read result ≡ [] }
+        ensures names_opened { ⟦<FolderShelf<'a> as Shelf>⟧.names_opened result ≡ [] }
         ensures faults { ⟦<FolderShelf<'a> as Shelf>⟧.faults result ≡ 0 }
     {
         FolderShelf {
             files,
             opened: None,
-            gave: History::new(),
-            given: History::new(),
+            bytes_read: History::new(),
+            names_opened: History::new(),
             faults: 0,
         }
     }
@@ -40,18 +41,18 @@ impl Shelf for FolderShelf<'_> {
 
     ghost rest = { λ s. left_of s.opened };
 
-    ghost gave = { λ s. s.gave.bytes };
+    ghost bytes_read = { λ s. concat s.bytes_read.pieces };
 
-    ghost given = { λ s. s.given.pieces };
+    ghost names_opened = { λ s. s.names_opened.pieces };
 
     ghost faults = { λ s. s.faults };
 
     fn open(&mut self, _alloc: Global, name: &str) -> Result<(), OpenFault> {
-        self.given.add(name.as_bytes());
+        self.names_opened.add(name.as_bytes());
         match File::open(self.files, name) {
             Ok(file) => {
                 self.opened = Some(file);
-                self.gave = History::new();
+                self.bytes_read = History::new();
                 Ok(())
             }
             Err(_) => {
@@ -71,7 +72,7 @@ impl Shelf for FolderShelf<'_> {
                 Ok(0)
             }
             Ok(count) => {
-                self.gave.add(&buf[..count]);
+                self.bytes_read.add(&buf[..count]);
                 Ok(count)
             }
             Err(_) => {

@@ -24,11 +24,11 @@ pub fn load<F: Shelf>(
     name: &str,
     limit: usize,
 ) -> Result<Loaded, Memory>
-    ensures loaded { IfOk result (IsLoaded (F.texts shelf.old) (F.rest shelf.new) name.now (F.gave shelf.new) limit
+    ensures loaded { IfOk result (IsLoaded (F.texts shelf.old) (F.rest shelf.new) name.now (F.bytes_read shelf.new) limit
         (F.faults shelf.old) (F.faults shelf.new)) }
-    ensures given { OnOk result (F.given shelf.new ≡ F.given shelf.old ++ name.now ∷ []) }
-    ensures memory { OnErr result ((F.given shelf.new ≡ F.given shelf.old)
-        ⊎ (F.given shelf.new ≡ F.given shelf.old ++ name.now ∷ [])) }
+    ensures names_opened { OnOk result (F.names_opened shelf.new ≡ F.names_opened shelf.old ++ name.now ∷ []) }
+    ensures memory { OnErr result ((F.names_opened shelf.new ≡ F.names_opened shelf.old)
+        ⊎ (F.names_opened shelf.new ≡ F.names_opened shelf.old ++ name.now ∷ [])) }
     ensures steady { OnErr result (F.faults shelf.new ≡ F.faults shelf.old) }
     ensures texts { F.texts shelf.new ≡ F.texts shelf.old }
 {

@@ -1,4 +1,5 @@
 ghost use Rattle.std.specs.Prelude.{◌≡◌, []};
+ghost use Rattle.std.specs.List.{concat};
 
 use pungi_base::{Failed, History, Sink};
 use std::io::{Stdout, Write};
@@ -7,33 +8,33 @@ use std::io::{Stdout, Write};
 #[derive(Drop)]
 pub struct OutSink {
     out: Stdout,
-    taken: History,
+    bytes_written: History,
     faults: u64,
 }
 
 impl OutSink {
     /// A sink that took nothing yet, and where no call failed.
     pub fn new(out: Stdout) -> OutSink
-        ensures taken { ⟦<OutSink as Sink>⟧.taken result ≡ [] }
+        ensures bytes_written { ⟦<OutSink as Sink>⟧.bytes_written result ≡ [] }
         ensures faults { ⟦<OutSink as Sink>⟧.faults result ≡ 0 }
     {
         OutSink {
             out,
-            taken: History::new(),
+            bytes_written: History::new(),
             faults: 0,
         }
     }
 }
 
 impl Sink for OutSink {
-    ghost taken = { λ s. s.taken.bytes };
+    ghost bytes_written = { λ s. concat s.bytes_written.pieces };
 
     ghost faults = { λ s. s.faults };
 
     fn write(&mut self, piece: &[u8]) -> Result<usize, Failed> {
         match self.out.write(piece) {
             Ok(count) if count > 0 || piece.is_empty() => {
-                self.taken.add(&piece[..count]);
+                self.bytes_written.add(&piece[..count]);
                 Ok(count)
             }
             _ => {

@@ -32,12 +32,12 @@ pub fn read_opened<F: Shelf>(
     limit: usize,
 ) -> Result<Reading, OpenFault>
     requires opened { Opens (F.texts shelf.old) name.now (F.rest shelf.old) }
-    requires unread { F.gave shelf.old ≡ [] }
-    ensures ok { IfOk result (IsReading (F.texts shelf.old) (F.rest shelf.new) name.now (F.gave shelf.new) limit) }
+    requires unread { F.bytes_read shelf.old ≡ [] }
+    ensures ok { IfOk result (IsReading (F.texts shelf.old) (F.rest shelf.new) name.now (F.bytes_read shelf.new) limit) }
     ensures steady { (result ≡ Err OpenFault.Failed → ⊥) → F.faults shelf.new ≡ F.faults shelf.old }
     ensures failed { result ≡ Err OpenFault.Failed → Rose (F.faults shelf.old) (F.faults shelf.new) }
     ensures texts { F.texts shelf.new ≡ F.texts shelf.old }
-    ensures given { F.given shelf.new ≡ F.given shelf.old }
+    ensures names_opened { F.names_opened shelf.new ≡ F.names_opened shelf.old }
 {
     let mut bytes = Vec::new(alloc);
     let mut piece = room(alloc, PIECE)?;

@@ -23,13 +23,13 @@ use std::alloc::Global;
 
 /// What the program returns.
 fn decide<F: Shelf>(alloc: Global, words: &[String], shelf: &mut F) -> Result<Answer, Memory>
-    ensures answer { IfOk result (λ a. let at = stand_of F.texts F.rest F.gave F.given F.faults in
+    ensures answer { IfOk result (λ a. let at = stand_of F.texts F.rest F.bytes_read F.names_opened F.faults in
         (middle : F) × Answers (at shelf.old) (at middle) (at shelf.new) (asked_of (map string_bytes words.now))
         a.status a.text.items) }
-    ensures asked { IfOk result (λ a. IsOpened (asked_of (map string_bytes words.now)) a.status (F.given shelf.old)
-        (F.given shelf.new)) }
+    ensures asked { IfOk result (λ a. IsOpened (asked_of (map string_bytes words.now)) a.status (F.names_opened shelf.old)
+        (F.names_opened shelf.new)) }
     ensures unasked { OnErr result (IsOpened (asked_of (map string_bytes words.now)) memory_wanted
-        (F.given shelf.old) (F.given shelf.new)) }
+        (F.names_opened shelf.old) (F.names_opened shelf.new)) }
     ensures steady { OnErr result (F.faults shelf.new ≡ F.faults shelf.old) }
     ensures texts { F.texts shelf.new ≡ F.texts shelf.old }
 {
@@ -59,36 +59,36 @@ fn decide<F: Shelf>(alloc: Global, words: &[String], shelf: &mut F) -> Result<An
 /// those of the manual, and those of the configuration.
 pub fn pungi<F: Shelf, O: Sink>(alloc: Global, words: &[String], shelf: &mut F, out: &mut O) -> u8
     // Safety: of a function that the report calls clean or faulty it is true.
-    ensures sound { IsReported result → let at = stand_of F.texts F.rest F.gave F.given F.faults in
+    ensures sound { IsReported result → let at = stand_of F.texts F.rest F.bytes_read F.names_opened F.faults in
         (middle : F) × (text : List ℕ)
         × IsReportFor IsSound (at shelf.old) (at middle) (at shelf.new) (asked_of (map string_bytes words.now)) result
         text
-        × (O.taken out.new ≡ O.taken out.old ++ text) }
+        × (O.bytes_written out.new ≡ O.bytes_written out.old ++ text) }
 
     // The status has its cause, and the text that goes with it was written whole.
     ensures answer { result ≢ answer_cut → result ≢ memory_wanted →
-        let at = stand_of F.texts F.rest F.gave F.given F.faults in
+        let at = stand_of F.texts F.rest F.bytes_read F.names_opened F.faults in
         (middle : F) × (text : List ℕ)
         × Answers (at shelf.old) (at middle) (at shelf.new) (asked_of (map string_bytes words.now)) result text
-        × (O.taken out.new ≡ O.taken out.old ++ text) }
+        × (O.bytes_written out.new ≡ O.bytes_written out.old ++ text) }
 
     // A write failed: the sink's count rose, and a front of the text was taken.
     ensures cut { result ≡ answer_cut → Rose (O.faults out.old) (O.faults out.new)
-        × (let at = stand_of F.texts F.rest F.gave F.given F.faults in
+        × (let at = stand_of F.texts F.rest F.bytes_read F.names_opened F.faults in
         (middle : F) × (status : ℕ) × (front : List ℕ) × (rest : List ℕ)
         × Answers (at shelf.old) (at middle) (at shelf.new) (asked_of (map string_bytes words.now)) status
         (front ++ rest)
-        × (0 < length rest) × (O.taken out.new ≡ O.taken out.old ++ front)) }
+        × (0 < length rest) × (O.bytes_written out.new ≡ O.bytes_written out.old ++ front)) }
 
     // No write failed otherwise.
     ensures uncut { result ≢ answer_cut → O.faults out.new ≡ O.faults out.old }
 
     // For want of memory nothing was written, and no call on the shelf failed.
-    ensures memory { result ≡ memory_wanted → (O.taken out.new ≡ O.taken out.old)
+    ensures memory { result ≡ memory_wanted → (O.bytes_written out.new ≡ O.bytes_written out.old)
         × (F.faults shelf.new ≡ F.faults shelf.old) }
 
     // No file was opened but those that the words name, in their order, each once.
-    ensures asked { IsOpened (asked_of (map string_bytes words.now)) result (F.given shelf.old) (F.given shelf.new) }
+    ensures asked { IsOpened (asked_of (map string_bytes words.now)) result (F.names_opened shelf.old) (F.names_opened shelf.new) }
 
     // Where a cause holds, its status comes, unless a call failed or memory ran out.
     ensures words { asked_of (map string_bytes words.now) ≡ None → result ≢ answer_cut → result ≢ memory_wanted
@@ -98,11 +98,11 @@ pub fn pungi<F: Shelf, O: Sink>(alloc: Global, words: &[String], shelf: &mut F, 
         → result ≢ file_unread → result ≢ answer_cut → result ≢ memory_wanted → result ≡ config_refused }
     ensures file { (api : Api) → IsApiText (asked_of (map string_bytes words.now)) (F.texts shelf.old) api
         → (text : List ℕ) → IsFileText (asked_of (map string_bytes words.now)) (F.texts shelf.old)
-        (F.gave shelf.new) text → IsRefusedText api text
+        (F.bytes_read shelf.new) text → IsRefusedText api text
         → result ≢ file_unread → result ≢ answer_cut → result ≢ memory_wanted → result ≡ file_refused }
     ensures judged { (api : Api) → IsApiText (asked_of (map string_bytes words.now)) (F.texts shelf.old) api
         → (text : List ℕ) → IsFileText (asked_of (map string_bytes words.now)) (F.texts shelf.old)
-        (F.gave shelf.new) text → length text ≤ file_limit
+        (F.bytes_read shelf.new) text → length text ≤ file_limit
         → (names : List (List ℕ)) → (items : List Item) → IsFile api text names items
         → result ≢ file_unread → result ≢ answer_cut → result ≢ memory_wanted → IsReported result }
 

@@ -1,5 +1,5 @@
 -- The table of rows (Python/C API Reference Manual 3.11).
---   with_given, params_of s    the parameters of a signature that are there
+--   with_given, params_of s    the parameters that are there
 --   takes_of n third           of so many parameters only the third may be taken over
 --   plain_row p, special_row s the rows that the program's constants state
 --   builtin_row c, builtin_rows    the row of a call of the manual under the number of its name; all of them
@@ -27,7 +27,7 @@ use Rattle.pungi_api.specs.declared.answer.Answer.TheVariants as answer
 use Rattle.pungi_api.specs.declared.row.Form.{Form}
 use Rattle.pungi_api.specs.declared.row.Form.TheVariants as form
 use Rattle.pungi_api.specs.declared.row.Row.{Row}
-use Rattle.pungi_api.specs.declared.manual.Signature.{Signature}
+use Rattle.pungi_api.specs.declared.manual.Parameters.{Parameters}
 use Rattle.pungi_api.specs.declared.manual.PlainRow.{PlainRow}
 use Rattle.pungi_api.specs.declared.manual.SpecialRow.{SpecialRow}
 use Rattle.pungi_api.specs.Manual.{Call, calls}
@@ -36,7 +36,7 @@ abbrev pub with_given : Option Param → List Param → List Param
 with_given None ps = ps
 with_given (Some p) ps = p ∷ ps
 
-abbrev pub params_of : Signature → List Param
+abbrev pub params_of : Parameters → List Param
 params_of s = with_given s.0 (with_given s.1 (with_given s.2 []))
 
 abbrev pub takes_of : ℕ → Take → List Take

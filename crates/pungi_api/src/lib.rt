@@ -2,19 +2,27 @@
 #![tactic(auto)]
 
 mod answer;
+mod boxed_signature;
+mod call_answer;
 pub mod manual;
+mod output;
+mod own_effect;
 mod param;
 mod row;
 pub mod row_words;
-mod shape;
+mod signature;
 mod special;
 mod table;
 mod take;
 
 pub use answer::Answer;
+pub use boxed_signature::BoxedSignature;
+pub use call_answer::CallAnswer;
+pub use output::Output;
+pub use own_effect::OwnEffect;
 pub use param::Param;
 pub use row::{Form, Row};
-pub use shape::Shape;
+pub use signature::{Signature, signature_of, signatures_are_well_formed};
 pub use special::Special;
 pub use table::Table;
 pub use take::Take;

@@ -10,55 +10,55 @@ use pungi_base::words::{self, PY_LONG_FROM_LONG};
 
 /// The parameters of a plain row, in order.
 #[derive(Clone, Copy, Debug)]
-pub struct Signature(pub Option<Param>, pub Option<Param>, pub Option<Param>);
+pub struct Parameters(pub Option<Param>, pub Option<Param>, pub Option<Param>);
 
 /// A plain row: the number of its name, its parameters, when the third is taken over, and its answer.
 #[derive(Clone, Copy, Debug)]
-pub struct PlainRow(pub u32, pub Signature, pub Take, pub Answer);
+pub struct PlainRow(pub u32, pub Parameters, pub Take, pub Answer);
 
 /// A row with an effect of its own: the number of its name, and its effect.
 #[derive(Clone, Copy, Debug)]
 pub struct SpecialRow(pub u32, pub Special);
 
-const L: Signature = Signature(Some(Param::Long), None, None);
+const L: Parameters = Parameters(Some(Param::Long), None, None);
 
-const T: Signature = Signature(Some(Param::Text), None, None);
+const T: Parameters = Parameters(Some(Param::Text), None, None);
 
-const Z: Signature = Signature(Some(Param::Size), None, None);
+const Z: Parameters = Parameters(Some(Param::Size), None, None);
 
-const NOTHING: Signature = Signature(None, None, None);
+const NOTHING: Parameters = Parameters(None, None, None);
 
-const O: Signature = Signature(Some(Param::Object), None, None);
+const O: Parameters = Parameters(Some(Param::Object), None, None);
 
-const OO: Signature = Signature(Some(Param::Object), Some(Param::Object), None);
+const OO: Parameters = Parameters(Some(Param::Object), Some(Param::Object), None);
 
-const OT: Signature = Signature(Some(Param::Object), Some(Param::Text), None);
+const OT: Parameters = Parameters(Some(Param::Object), Some(Param::Text), None);
 
-const ON: Signature = Signature(Some(Param::Object), Some(Param::ObjectOrNull), None);
+const ON: Parameters = Parameters(Some(Param::Object), Some(Param::ObjectOrNull), None);
 
-const OON: Signature = Signature(
+const OON: Parameters = Parameters(
     Some(Param::Object),
     Some(Param::Object),
     Some(Param::ObjectOrNull),
 );
 
-const OZ: Signature = Signature(Some(Param::Object), Some(Param::Size), None);
+const OZ: Parameters = Parameters(Some(Param::Object), Some(Param::Size), None);
 
-const M: Signature = Signature(Some(Param::ModuleDef), None, None);
+const M: Parameters = Parameters(Some(Param::ModuleDef), None, None);
 
-const OZO: Signature = Signature(Some(Param::Object), Some(Param::Size), Some(Param::Object));
+const OZO: Parameters = Parameters(Some(Param::Object), Some(Param::Size), Some(Param::Object));
 
-const OTO: Signature = Signature(Some(Param::Object), Some(Param::Text), Some(Param::Object));
+const OTO: Parameters = Parameters(Some(Param::Object), Some(Param::Text), Some(Param::Object));
 
-const OOO: Signature = Signature(
+const OOO: Parameters = Parameters(
     Some(Param::Object),
     Some(Param::Object),
     Some(Param::Object),
 );
 
-const OTL: Signature = Signature(Some(Param::Object), Some(Param::Text), Some(Param::Long));
+const OTL: Parameters = Parameters(Some(Param::Object), Some(Param::Text), Some(Param::Long));
 
-const OOI: Signature = Signature(Some(Param::Object), Some(Param::Object), Some(Param::Int));
+const OOI: Parameters = Parameters(Some(Param::Object), Some(Param::Object), Some(Param::Int));
 
 /// The plain rows, in the order of their names among the words (Python/C API Reference Manual 3.11).
 pub static PLAIN_ROWS: [PlainRow; 64] = [

@@ -5,7 +5,7 @@ ghost use Rattle.indexmap.specs.IndexMap.{get, keys};
 ghost use Rattle.pungi_api.specs.Rows.{plain_row, special_row, params_of, takes_of, builtin_rows, row_in, is_row};
 ghost use Rattle.pungi_api.specs.Rows.{are_rows, are_plain_rows, named_row, are_new};
 
-use crate::manual::{PLAIN_ROWS, PlainRow, SPECIAL_ROWS, Signature, SpecialRow};
+use crate::manual::{PLAIN_ROWS, Parameters, PlainRow, SPECIAL_ROWS, SpecialRow};
 use crate::{Answer, Form, Param, Row, Take};
 use indexmap::IndexMap;
 use pungi_base::{Memory, Name, Seq};
@@ -30,17 +30,17 @@ impl Model for Table {
     ghost invariant = { λ t. IsTrue (are_rows t.rows.entries) };
 }
 
-fn params_of(alloc: Global, signature: Signature) -> Result<Seq<Param>, Memory>
-    ensures { IfOk result (λ params. params ≡ params_of signature) }
+fn params_of(alloc: Global, list: Parameters) -> Result<Seq<Param>, Memory>
+    ensures { IfOk result (λ params. params ≡ params_of list) }
 {
     let mut params = Seq::new(Vec::new(alloc));
-    if let Some(param) = signature.0 {
+    if let Some(param) = list.0 {
         params.push(param)?;
     }
-    if let Some(param) = signature.1 {
+    if let Some(param) = list.1 {
         params.push(param)?;
     }
-    if let Some(param) = signature.2 {
+    if let Some(param) = list.2 {
         params.push(param)?;
     }
     Ok(params)

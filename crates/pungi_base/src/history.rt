@@ -1,5 +1,6 @@
 ghost use Rattle.std.specs.Prelude.{◌≡◌, ℕ, List, [], ◌∷◌, ◌++◌};
 ghost use Rattle.std.specs.Borrow.{ftrue};
+ghost use Rattle.std.specs.List.{concat};
 
 use std::marker::Model;
 
@@ -9,9 +10,6 @@ use std::marker::Model;
 pub struct History {
     /// The pieces, in order.
     pub ghost pieces: { List (List ℕ) },
-
-    /// Their bytes, one piece after another.
-    pub ghost bytes: { List ℕ },
 }
 
 impl Model for History {
@@ -21,7 +19,7 @@ impl Model for History {
 impl History {
     /// A history without a piece.
     pub fn new() -> History
-        ensures { (result.pieces ≡ []) × (result.bytes ≡ []) }
+        ensures { result.pieces ≡ [] }
     {
         History {}
     }
@@ -29,6 +27,6 @@ impl History {
     /// Adds a piece at the end.
     pub fn add(&mut self, _piece: &[u8])
         ensures { (self.new.pieces ≡ self.old.pieces ++ _piece.now ∷ [])
-            × (self.new.bytes ≡ self.old.bytes ++ _piece.now) }
+            × (concat self.new.pieces ≡ concat self.old.pieces ++ _piece.now) }
     {}
 }

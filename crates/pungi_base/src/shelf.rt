@@ -43,20 +43,20 @@ pub trait Shelf {
     ghost rest: { Self → Option (List ℕ) };
 
     /// The bytes that `read` gave since a text was opened last.
-    ghost gave: { Self → List ℕ };
+    ghost bytes_read: { Self → List ℕ };
 
     /// The names that `open` was given so far.
-    ghost given: { Self → List (List ℕ) };
+    ghost names_opened: { Self → List (List ℕ) };
 
     /// How often a call failed. At most 2^64 - 1.
     ghost faults: { Self → ℕ };
 
     /// Opens the text of a name.
     fn open(&mut self, alloc: Global, name: &str) -> Result<(), OpenFault>
-        ensures ok { OnOk result (Opens (texts self.old) name.now (rest self.new) × (gave self.new ≡ [])) }
-        ensures err { OnErr result ((rest self.new ≡ rest self.old) × (gave self.new ≡ gave self.old)) }
-        ensures given { (result ≡ Err OpenFault.Memory → ⊥) → given self.new ≡ given self.old ++ name.now ∷ [] }
-        ensures memory { result ≡ Err OpenFault.Memory → given self.new ≡ given self.old }
+        ensures ok { OnOk result (Opens (texts self.old) name.now (rest self.new) × (bytes_read self.new ≡ [])) }
+        ensures err { OnErr result ((rest self.new ≡ rest self.old) × (bytes_read self.new ≡ bytes_read self.old)) }
+        ensures names_opened { (result ≡ Err OpenFault.Memory → ⊥) → names_opened self.new ≡ names_opened self.old ++ name.now ∷ [] }
+        ensures memory { result ≡ Err OpenFault.Memory → names_opened self.new ≡ names_opened self.old }
         ensures texts { texts self.new ≡ texts self.old }
         ensures steady { (result ≡ Err OpenFault.Failed → ⊥) → faults self.new ≡ faults self.old }
         ensures failed { result ≡ Err OpenFault.Failed → Rose (faults self.old) (faults self.new) };
@@ -66,9 +66,9 @@ pub trait Shelf {
     fn read(&mut self, buf: &mut [u8]) -> Result<usize, Failed>
         ensures within { IfOk result (λ count. count ≤ length buf.new) }
         ensures bytes { ReadConsumes (rest self.old) (rest self.new) result buf.new }
-        ensures gave { Grew (gave self.old) (gave self.new) result buf.new }
+        ensures bytes_read { Grew (bytes_read self.old) (bytes_read self.new) result buf.new }
         ensures end { IfOk result (λ count. count ≡ 0 → 0 < length buf.new → rest self.new ≡ Some []) }
-        ensures given { given self.new ≡ given self.old }
+        ensures names_opened { names_opened self.new ≡ names_opened self.old }
         ensures texts { texts self.new ≡ texts self.old }
         ensures steady { OnOk result (faults self.new ≡ faults self.old) }
         ensures failed { OnErr result (Rose (faults self.old) (faults self.new)) };

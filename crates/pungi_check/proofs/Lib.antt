@@ -1,4 +1,4 @@
-pub mod Worked
+pub mod worked
 pub mod Places
 pub mod Agreement
 pub mod SameKinds

@@ -1,3 +1,4 @@
+pub use Rattle.pungi_names.specs.Limits
 pub mod Duplicates
 pub mod Calls
 pub mod CallGraph

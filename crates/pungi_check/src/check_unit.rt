@@ -9,8 +9,10 @@ ghost use Rattle.pungi_check.specs.declared.fault.UnitFault.TheVariants.{Duplica
 ghost use Rattle.pungi_api.specs.Rows.{are_rows};
 ghost use Rattle.pungi_base.specs.Numbers.{static_count};
 ghost use Rattle.pungi_declared.specs.DeclaredView.{function_view};
+ghost use Rattle.pungi_names.specs.Limits.{most_tokens};
 ghost use Rattle.pungi_names.specs.NamesView.{file_of};
 ghost use Rattle.pungi_resolve.specs.Resolutions.{resolution_of, resolution_view};
+ghost use Rattle.pungi_tree.specs.UnitFlat.{items_flat};
 ghost use Rattle.pungi_tree.specs.UnitView.{unit_view};
 ghost use Rattle.pungi_types.specs.Files.{source_file, definitions};
 ghost use Rattle.pungi_types.specs.Findings.{least};
@@ -37,9 +39,6 @@ use pungi_resolved::Function;
 use pungi_tree::{FunctionDef, Unit};
 use pungi_types::Finding;
 use std::alloc::Global;
-
-/// So many type objects a file may have. There is no memory for more.
-const MOST_TYPE_OBJECTS: u32 = 1 << 30;
 
 /// The fault that a finding stands for.
 fn fault(found: Finding) -> UnitFault
@@ -71,17 +70,12 @@ fn refuse_fault(
     }
 }
 
-/// How many static objects there are. There is no memory for a file with more than 2^30 type objects.
-fn statics(names: &UnitNames<'_>) -> Result<u32, Memory>
-    ensures counted { IfOk result (λ n. n ≡ static_count + length (type_objects (file_of names.now).items)) }
-    ensures few { IfOk result (λ n. n ≤ most_statics) }
+/// How many static objects there are.
+fn statics(names: &UnitNames<'_>) -> u32
+    ensures counted { result ≡ static_count + length (type_objects (file_of names.now).items) }
+    ensures few { result ≤ most_statics }
 {
-    let count = names.type_objects();
-    if count <= MOST_TYPE_OBJECTS {
-        Ok(count + STATICS)
-    } else {
-        Err(Memory)
-    }
+    STATICS + names.type_objects()
 }
 
 /// The names of functions.
@@ -157,13 +151,12 @@ fn look<'u>(
     ensures fault { IfErr result (λ e. IsFaultOf (file_of names.now) e) }
 {
     refuse_fault(alloc, names, unit, list)?;
-    let statics = statics(names)?;
     let own = names_of(alloc, list)?;
     let found = find(alloc, names, list)?;
     Ok(Parts {
         names: own,
         found,
-        statics,
+        statics: statics(names),
     })
 }
 
@@ -183,7 +176,8 @@ fn look_at(
     rows: &Table,
     list: &Vec<&FunctionDef>,
 ) -> Result<Parts, UnitFault>
-    requires { map function_view list.now.items ≡ definitions (unit_view unit.now) }
+    requires functions { map function_view list.now.items ≡ definitions (unit_view unit.now) }
+    requires few { length (items_flat (unit_view unit.now)) ≤ most_tokens }
     ensures found { IfOk result (λ p. IsFound (source_file texts.now (unit_view unit.now) rows.now) p.names
         p.found.refused.keys p.found.refusals.items (map resolution_view p.found.resolved.items) p.statics) }
     ensures fault { IfErr result (λ e. IsFaultOf (source_file texts.now (unit_view unit.now) rows.now) e) }
@@ -193,14 +187,15 @@ fn look_at(
     look(alloc, &names, unit, list)
 }
 
-/// A unit that is accepted, with what is found of each of its functions. One with a fault is refused: the first in its
-/// text is reported. `Memory` where memory ran out.
+/// A unit of at most 262,144 tokens that is accepted, with what is found of each of its functions. One with a fault is
+/// refused: the first in its text is reported. `Memory` where memory ran out.
 pub fn check<'u>(
     alloc: Global,
     texts: &'u Names,
     unit: &'u Unit,
     rows: &'u Table,
 ) -> Result<Checked<'u>, UnitFault>
+    requires { length (items_flat (unit_view unit.now)) ≤ most_tokens }
     ensures file { IfOk result (λ c. (checked_view c).file ≡ source_file texts.now (unit_view unit.now) rows.now) }
     ensures checked { IfOk result (λ c. IsChecked c) }
     ensures fault { IfErr result (λ e. IsFaultOf (source_file texts.now (unit_view unit.now) rows.now) e) }

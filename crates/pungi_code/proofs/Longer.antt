@@ -94,10 +94,10 @@ perform_extends choices f g h (Store place a) p pc m o is e =
     value_extends (content_of a m.vars) p _ _ o (λ v b. slot_extends (slot_of place m.vars) p _ _ o
     (λ s k d. reacting_extends (store_effect m.world s k v (choices_left choices m)) p m _ _ o
     (λ x' q c. noted_extends f g h (Stored p s v ∷ []) (pc + 1) _ o is c) d) b) e
-perform_extends choices f g h (Api x shape as' outs) p pc m o is e =
+perform_extends choices f g h (Api x g' as' outs) p pc m o is e =
     values_extend (all_values as' m.vars) p _ _ o (λ vs d. reacting_extends
-    (call_effect m.world shape vs (choices_left choices m)) p m _ _ o (λ x' q c. noted_extends f g h
-    (Called p shape vs x' ∷ []) (pc + 1) _ o is c) d) e
+    (call_effect m.world g' vs (choices_left choices m)) p m _ _ o (λ x' q c. noted_extends f g h
+    (Called p g' vs x' ∷ []) (pc + 1) _ o is c) d) e
 perform_extends choices f g h (Call x n as') p pc m o is e = e
 perform_extends choices f g h (Unset x) p pc m o is e = h (pc + 1) (put x content.Unset m) o is e
 perform_extends choices f g h (Jump to) p pc m o is e = h to.0 m o is e

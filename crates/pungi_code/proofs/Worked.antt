@@ -15,6 +15,7 @@ use Rattle.pungi_api.specs.declared.row.Form.TheVariants as form
 use Rattle.pungi_api.specs.declared.row.Row.{Row}
 use Rattle.pungi_api.specs.declared.special.Special.TheVariants as special
 use Rattle.pungi_api.specs.declared.take.Take.TheVariants as take
+use Rattle.pungi_api.specs.Signatures.{signature_of}
 use Rattle.pungi_types.specs.declared.kind.ValueKind.TheVariants as kinds
 use Rattle.pungi_world.specs.declared.slot.Slot.TheVariants as slot
 use Rattle.pungi_world.specs.World.{account_of}
@@ -22,7 +23,6 @@ use Rattle.pungi_meaning.specs.declared.op.Op.TheVariants as ops
 use Rattle.pungi_meaning.specs.declared.cmp.Cmp.TheVariants as cmps
 use Rattle.pungi_meaning.specs.Todo.{Operation, Computed, Fitted, Compared, Loaded, Stored}
 use Rattle.pungi_meaning.specs.Run.{Run, End, Returned, Stopped, NeedsChoice, OutOfFuel, nowhere}
-use Rattle.pungi_meaning.specs.Work.{shape_of}
 use Rattle.pungi_code.specs.declared.atom.Atom.{Atom}
 use Rattle.pungi_code.specs.declared.atom.Atom.TheVariants as atom
 use Rattle.pungi_code.specs.declared.atom.Var.{Var}
@@ -169,7 +169,7 @@ inc_ref = record { form = form.Special special.IncRef; params = []; takes = []; 
 -- PyObject *f(PyObject *x) { return PyLong_FromLong(1); }
 abbrev making : Code
 making =
-    code_of (line 35 (Api (Some (v 1)) (shape_of from_long) (atom.Int (pos 1) ∷ []) [])
+    code_of (line 35 (Api (Some (v 1)) (signature_of from_long) (atom.Int (pos 1) ∷ []) [])
     ∷ line 28 (Return (Some (var 1))) ∷ []) (param.ObjectOrNull ∷ param.ObjectOrNull ∷ [])
 
 makes_none : told (run_with making value.Null (choice.Null ∷ []) 9).end ≡ gives (Some value.Null) (at 28) (at 35 ∷ [])
@@ -185,7 +185,7 @@ makes_by_a_choice = refl
 -- void f(PyObject *x) { Py_INCREF(x); }
 abbrev counting : Code
 counting =
-    code_of (line 23 (Api None (shape_of inc_ref) (var 0 ∷ []) []) ∷ line 37 (Return None) ∷ [])
+    code_of (line 23 (Api None (signature_of inc_ref) (var 0 ∷ []) []) ∷ line 37 (Return None) ∷ [])
     (param.ObjectOrNull ∷ [])
 
 counts : told (run_with counting (value.Object 25) [] 9).end ≡ gives None (at 37) []
@@ -196,6 +196,24 @@ counts_one = refl
 
 counts_no_null : told (run_with counting value.Null [] 9).end ≡ stops (at 23)
 counts_no_null = refl
+
+abbrev new_ref : Row
+new_ref = record { form = form.Special special.NewRef; params = []; takes = []; answer = answer.Null }
+
+-- PyObject *f(PyObject *x) { return Py_NewRef(x); }
+abbrev sharing : Code
+sharing =
+    code_of (line 35 (Api (Some (v 1)) (signature_of new_ref) (var 0 ∷ []) []) ∷ line 28 (Return (Some (var 1)))
+    ∷ []) (param.ObjectOrNull ∷ param.ObjectOrNull ∷ [])
+
+answers_its_argument : told (run_with sharing (value.Object 25) [] 9).end ≡ gives (Some (value.Object 25)) (at 28) []
+answers_its_argument = refl
+
+shares_one : change_of 25 (run_with sharing (value.Object 25) [] 9).end ≡ pos 1
+shares_one = refl
+
+shares_no_null : told (run_with sharing value.Null [] 9).end ≡ stops (at 35)
+shares_no_null = refl
 
 -- void f(Box *x) { x->first = x->second; }
 abbrev moving : Code

@@ -13,7 +13,7 @@ use Rattle.pungi_base.specs.declared.pos.Pos.{Pos}
 use Rattle.pungi_base.specs.declared.value.Value.{Value}
 use Rattle.pungi_base.specs.declared.value.Value.TheVariants as value
 use Rattle.pungi_api.specs.declared.param.Param.{Param}
-use Rattle.pungi_api.specs.declared.shape.Shape.{Shape}
+use Rattle.pungi_api.specs.declared.signature.Signature.{Signature}
 use Rattle.pungi_world.specs.declared.content.Content.{Content}
 use Rattle.pungi_world.specs.declared.content.Content.TheVariants as content
 use Rattle.pungi_world.specs.declared.slot.Slot.{Slot}
@@ -59,10 +59,10 @@ store choices p next pc m v s kind =
     after_effect p (store_effect m.world s kind v (choices_left choices m)) m
     (λ e r. with_operations (Stored p s v ∷ []) (next (pc + 1) r))
 
-abbrev pub call : List Choice → Option Var → Shape → List (Option Var) → Pos → Next → ℕ → Regs → List Value → Run
-call choices x shape outs p next pc m vs =
-    after_effect p (call_effect m.world shape vs (choices_left choices m)) m
-    (λ e r. with_operations (Called p shape vs e ∷ []) (next (pc
+abbrev pub call : List Choice → Option Var → Signature → List (Option Var) → Pos → Next → ℕ → Regs → List Value → Run
+call choices x g outs p next pc m vs =
+    after_effect p (call_effect m.world g vs (choices_left choices m)) m
+    (λ e r. with_operations (Called p g vs e ∷ []) (next (pc
     + 1) (with_outputs outs e.outputs (put_answer x e.value r))))
 
 abbrev pub perform : List Choice → Instr → Pos → Next → ℕ → Regs → Run
@@ -84,8 +84,8 @@ perform choices (Compare x c a b) p next pc m =
 perform choices (Load x place) p next pc m = with_slot (slot_of place m.vars) p (load choices x p next pc m)
 perform choices (Store place a) p next pc m =
     with_value (content_of a m.vars) p (λ v. with_slot (slot_of place m.vars) p (store choices p next pc m v))
-perform choices (Api x shape as' outs) p next pc m =
-    with_values (all_values as' m.vars) p (call choices x shape outs p next pc m)
+perform choices (Api x g as' outs) p next pc m =
+    with_values (all_values as' m.vars) p (call choices x g outs p next pc m)
 perform choices (Call x f as') p next pc m = end_at_once (Stopped p)
 perform choices (Unset x) p next pc m = next (pc + 1) (put x content.Unset m)
 perform choices (Jump to) p next pc m = next to.0 m

@@ -11,10 +11,11 @@
 --   is_slot_kind k, place_kind place    a slot may be of this kind; the kind of a place
 --   is_place vars place k           a place is a slot of this kind, of an object
 --   is_argument vars p a, are_arguments    an atom may be passed for a parameter
---   form_params, wanted_params row  what a call of a row takes
---   answer_param a, form_answer, row_answer row    what it returns
---   is_answer vars row x, is_output the variable that an answer goes to, where there is one, may hold it; one that a
---   call writes is there
+--   answer_param a, returned_param a    what a call returns, by its row's answer; by its own
+--   is_answer vars g x              the variable that an answer goes to, where there is one, may hold it
+--   output_param o                  what a call writes to a variable
+--   is_output vars o x, are_outputs the variable that an output goes to, where there is one, may hold it; so it is with
+--                                   all outputs of a call
 --   is_label code l                 a label is a place of the code
 --   is_sound code i                 an instruction names variables, labels and kinds that are there
 --   leads_on i                      the instruction after this one may come next
@@ -34,9 +35,12 @@ use Rattle.pungi_api.specs.declared.param.Param.{Param}
 use Rattle.pungi_api.specs.declared.param.Param.TheVariants as param
 use Rattle.pungi_api.specs.declared.answer.Answer.{Answer}
 use Rattle.pungi_api.specs.declared.answer.Answer.TheVariants as answer
-use Rattle.pungi_api.specs.declared.row.Form.{Form}
-use Rattle.pungi_api.specs.declared.row.Form.TheVariants as form
-use Rattle.pungi_api.specs.declared.row.Row.{Row}
+use Rattle.pungi_api.specs.declared.call_answer.CallAnswer.{CallAnswer}
+use Rattle.pungi_api.specs.declared.call_answer.CallAnswer.TheVariants.{Of, Argument}
+use Rattle.pungi_api.specs.declared.output.Output.{Output}
+use Rattle.pungi_api.specs.declared.output.Output.TheVariants as output
+use Rattle.pungi_api.specs.declared.signature.Signature.{Signature}
+use Rattle.pungi_api.specs.Signatures.{is_signature}
 use Rattle.pungi_types.specs.Limits.{most_functions, most_locals, most_statics}
 use Rattle.pungi_types.specs.declared.kind.ValueKind.{ValueKind}
 use Rattle.pungi_types.specs.declared.kind.ValueKind.TheVariants as kinds
@@ -148,14 +152,6 @@ are_arguments vars [] (a ∷ as') = false
 are_arguments vars (p ∷ ps) [] = false
 are_arguments vars (p ∷ ps) (a ∷ as') = is_argument vars p a && are_arguments vars ps as'
 
--- a special row takes one object, or NULL
-abbrev pub form_params : Form → List Param → List Param
-form_params form.Plain ps = ps
-form_params (form.Special s) ps = param.ObjectOrNull ∷ []
-
-abbrev pub wanted_params : Row → List Param
-wanted_params row = form_params row.form row.params
-
 abbrev pub answer_param : Answer → Param
 answer_param answer.Status = param.Int
 answer_param answer.Truth = param.Int
@@ -165,20 +161,33 @@ answer_param answer.Size = param.Size
 answer_param answer.Text = param.TextOrNull
 answer_param a = param.ObjectOrNull
 
-abbrev pub form_answer : Form → Answer → Param
-form_answer form.Plain a = answer_param a
-form_answer (form.Special s) a = param.ObjectOrNull
+abbrev pub returned_param : CallAnswer → Param
+returned_param (Of a) = answer_param a
+returned_param Argument = param.ObjectOrNull
 
-abbrev pub row_answer : Row → Param
-row_answer row = form_answer row.form row.answer
+abbrev pub is_answer : List Param → Signature → Option Var → Bool
+is_answer vars g None = true
+is_answer vars g (Some x) = is_var vars x && is_wide (returned_param g.answer) (var_kind vars x)
 
-abbrev pub is_answer : List Param → Row → Option Var → Bool
-is_answer vars row None = true
-is_answer vars row (Some x) = is_var vars x && is_wide (row_answer row) (var_kind vars x)
+abbrev pub output_param : Output → Param
+output_param output.Object = param.ObjectOrNull
+output_param output.Int = param.Int
+output_param output.Truth = param.Int
+output_param output.Long = param.Long
+output_param output.Size = param.Size
+output_param output.Text = param.TextOrNull
+output_param output.TextOrNull = param.TextOrNull
 
-abbrev pub is_output : List Param → Option Var → Bool
-is_output vars None = true
-is_output vars (Some x) = is_var vars x
+abbrev pub is_output : List Param → Output → Option Var → Bool
+is_output vars o None = true
+is_output vars o (Some x) = is_var vars x && is_wide (output_param o) (var_kind vars x)
+
+-- as many variables as a call may write
+abbrev pub are_outputs : List Param → List Output → List (Option Var) → Bool
+are_outputs vars [] [] = true
+are_outputs vars [] (x ∷ xs) = false
+are_outputs vars (o ∷ os) [] = false
+are_outputs vars (o ∷ os) (x ∷ xs) = is_output vars o x && are_outputs vars os xs
 
 abbrev pub is_label : Code → Label → Bool
 is_label code l = nat_lt l.0 (length code.instrs)
@@ -196,9 +205,9 @@ is_sound code (Load x place) =
     is_var code.vars x && (is_place code.vars place (place_kind place)
     && is_wide (place_kind place) (var_kind code.vars x))
 is_sound code (Store place a) = is_place code.vars place (place_kind place) && atom_is code.vars (place_kind place) a
-is_sound code (Api x shape as' outs) =
-    is_answer code.vars shape.row x && (are_arguments code.vars (wanted_params shape.row) as'
-    && (list_all (λ o. is_output code.vars o) outs && nat_le (length as') most_arguments))
+is_sound code (Api x g as' outs) =
+    is_answer code.vars g x && (are_arguments code.vars g.params as'
+    && (are_outputs code.vars g.outputs outs && (nat_le (length as') most_arguments && is_signature g)))
 is_sound code (Call x f as') = false
 is_sound code (Unset x) = is_var code.vars x
 is_sound code (Jump to) = is_label code to

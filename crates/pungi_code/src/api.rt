@@ -7,9 +7,9 @@ ghost use Rattle.pungi_code.specs.Registers.{all_values, with_values};
 use crate::registers::{After, Registers, answer, write_outputs};
 use crate::values::values_of;
 use crate::{Atom, Var};
-use pungi_api::Shape;
+use pungi_api::Signature;
 use pungi_base::{Choice, Memory, Pos, Value};
-use pungi_meaning::{is_defined_form, note_used, unused};
+use pungi_meaning::{note_used, unused};
 use pungi_world::{ApiCall, Halt};
 use std::alloc::Global;
 
@@ -19,21 +19,18 @@ fn call(
     alloc: Global,
     choices: &[Choice],
     x: Option<Var>,
-    shape: &Shape,
+    signature: &Signature,
     outs: &[Option<Var>],
     pos: Pos,
     pc: usize,
     args: &[Value],
 ) -> Result<After, Memory>
     requires { pc < 2 ^ 63 }
-    ensures { IfOk result (λ after. Does (λ next. call choices.now x shape.now outs.now pos next pc (regs_of m.old)
+    ensures { IfOk result (λ after. Does (λ next. call choices.now x signature.now outs.now pos next pc (regs_of m.old)
         args.now) after m.new) }
 {
-    if !is_defined_form(shape.row.form) {
-        return Ok(After::Stops(pos));
-    }
     let rest = unused(choices, m.used.len());
-    let api = ApiCall { shape, args };
+    let api = ApiCall { signature, args };
     match m.world.apply(alloc, &api, rest) {
         Ok(effect) => {
             note_used(&mut m.used, pos, effect.used)?;
@@ -53,7 +50,7 @@ pub fn call_api(
     alloc: Global,
     choices: &[Choice],
     x: Option<Var>,
-    shape: &Shape,
+    signature: &Signature,
     args: &[Atom],
     outs: &[Option<Var>],
     pos: Pos,
@@ -61,10 +58,10 @@ pub fn call_api(
 ) -> Result<After, Memory>
     requires { pc < 2 ^ 63 }
     ensures { IfOk result (λ after. Does (λ next. with_values (all_values args.now (regs_of m.old).vars) pos
-        (call choices.now x shape.now outs.now pos next pc (regs_of m.old))) after m.new) }
+        (call choices.now x signature.now outs.now pos next pc (regs_of m.old))) after m.new) }
 {
     match values_of(alloc, args, &m.vars)? {
-        Some(values) => call(m, alloc, choices, x, shape, outs, pos, pc, &values),
+        Some(values) => call(m, alloc, choices, x, signature, outs, pos, pc, &values),
         None => Ok(After::Stops(pos)),
     }
 }

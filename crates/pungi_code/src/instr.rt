@@ -1,5 +1,5 @@
 use crate::{Atom, Place, Var};
-use pungi_api::Shape;
+use pungi_api::BoxedSignature;
 use pungi_base::Seq;
 use pungi_meaning::{Cmp, Op};
 use pungi_types::ValueKind;
@@ -24,9 +24,9 @@ pub enum Instr {
     Load(Var, Place),
     /// A slot is written. A base that is `NULL` stops.
     Store(Place, Atom),
-    /// A call of the API: where its answer goes, what it is a call of, its arguments, and for each variable that it may
-    /// write where that goes.
-    Api(Option<Var>, Shape, Seq<Atom>, Seq<Option<Var>>),
+    /// A call of the API: where its answer goes, its signature, its arguments, and for each variable that it may write
+    /// where that goes.
+    Api(Option<Var>, BoxedSignature, Seq<Atom>, Seq<Option<Var>>),
     /// A call of a function of the file by its number: where its result goes, and its arguments.
     Call(Option<Var>, u32, Seq<Atom>),
     /// The variable holds nothing from now on.

@@ -3,3 +3,4 @@ pub mod Actions
 pub mod Decls
 pub mod Cases
 pub mod StmtCode
+pub mod Room

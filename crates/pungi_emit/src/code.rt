@@ -1,4 +1,3 @@
 //! Instructions one after another, and their places.
 
 pub(crate) mod instructions;
-pub(crate) mod number;

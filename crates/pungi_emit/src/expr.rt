@@ -6,4 +6,5 @@ pub(crate) mod parts;
 pub(crate) mod place;
 pub(crate) mod row;
 pub(crate) mod size;
+pub(crate) mod step;
 pub(crate) mod temporary;

@@ -34,21 +34,21 @@ pub record ShelfState : Type 0 where
   pub failing : List ℕ
   pub calls : ℕ
   pub faults : ℕ
-  pub given : List (List ℕ)
+  pub names_opened : List (List ℕ)
   pub rest : List ℕ
-  pub gave : List ℕ
+  pub bytes_read : List ℕ
 
 abbrev pub open_fails : ShelfState → List ℕ → Bool
 open_fails s name = is_failing s.failing s.calls || is_none (text_named s.texts name)
 
 abbrev pub shelf_asked : ShelfState → List ℕ → ShelfState
-shelf_asked s name = record s { given = s.given ++ name ∷ [] }
+shelf_asked s name = record s { names_opened = s.names_opened ++ name ∷ [] }
 
 abbrev pub shelf_failed : ShelfState → ShelfState
 shelf_failed s = record s { calls = next_call s.calls; faults = next_call s.faults }
 
 abbrev pub shelf_opened : ShelfState → List ℕ → ShelfState
-shelf_opened s rest = record s { calls = next_call s.calls; rest = rest; gave = [] }
+shelf_opened s rest = record s { calls = next_call s.calls; rest = rest; bytes_read = [] }
 
 abbrev pub shelf_read : ShelfState → List ℕ → List ℕ → ShelfState
-shelf_read s piece rest = record s { calls = next_call s.calls; rest = rest; gave = s.gave ++ piece }
+shelf_read s piece rest = record s { calls = next_call s.calls; rest = rest; bytes_read = s.bytes_read ++ piece }

@@ -7,9 +7,9 @@ use Rattle.pungi_in_memory.specs.MemShelf.{text_named}
 
 pub record SureState : Type 0 where
   pub texts : List (List ℕ × List ℕ)
-  pub given : List (List ℕ)
+  pub names_opened : List (List ℕ)
   pub rest : List ℕ
-  pub gave : List ℕ
+  pub bytes_read : List ℕ
 
 abbrev pub sure_text : List (List ℕ × List ℕ) → List ℕ → Option (List ℕ)
 sure_text texts name = Some (unwrap_or (text_named texts name) [])

@@ -6,7 +6,7 @@ use Rattle.std.specs.Prelude.{ℕ, ◌-◌, List, ◌++◌, length, take}
 pub record KeptState : Type 0 where
   pub room : ℕ
   pub bytes : List ℕ
-  pub taken : List ℕ
+  pub bytes_written : List ℕ
 
 abbrev pub kept_wrote : KeptState → List ℕ → KeptState
-kept_wrote s piece = record s { bytes = s.bytes ++ take (s.room - length s.bytes) piece; taken = s.taken ++ piece }
+kept_wrote s piece = record s { bytes = s.bytes ++ take (s.room - length s.bytes) piece; bytes_written = s.bytes_written ++ piece }

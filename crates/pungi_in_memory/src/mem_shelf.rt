@@ -19,14 +19,15 @@ pub struct MemShelf {
     failing: Vec<u64>,
     calls: u64,
     faults: u64,
-    given: Vec<Vec<u8>>,
+    names_opened: Vec<Vec<u8>>,
     opened: usize,
     at: usize,
-    gave: History,
+    bytes_read: History,
 }
 
 impl Model for MemShelf {
     ghost use Rattle.std.specs.Prelude.{map};
+    ghost use Rattle.std.specs.List.{concat};
     ghost use Rattle.pungi_in_memory.specs.MemShelf.{ShelfState, pairs_of, left_at};
 
     ghost Value = { ShelfState };
@@ -37,10 +38,10 @@ impl Model for MemShelf {
       calls = s.calls;
       faults
           = s.faults;
-      given = map (λ n. n.items) s.given.items;
+      names_opened = map (λ n. n.items) s.names_opened.items;
       rest = left_at s.texts.items s.opened s.at;
-      gave
-          = s.gave.bytes;
+      bytes_read
+          = concat s.bytes_read.pieces;
     } };
 }
 
@@ -94,9 +95,9 @@ impl MemShelf {
           failing = failing.items;
           calls = 0;
           faults = 0;
-          given = [];
+          names_opened = [];
           rest = [];
-          gave = [];
+          bytes_read = [];
         } }
     {
         let opened = texts.len();
@@ -105,10 +106,10 @@ impl MemShelf {
             failing,
             calls: 0,
             faults: 0,
-            given: Vec::new(alloc),
+            names_opened: Vec::new(alloc),
             opened,
             at: 0,
-            gave: History::new(),
+            bytes_read: History::new(),
         }
     }
 }
@@ -118,18 +119,18 @@ impl Shelf for MemShelf {
 
     ghost rest = { λ s. Some s.rest };
 
-    ghost gave = { λ s. s.gave };
+    ghost bytes_read = { λ s. s.bytes_read };
 
-    ghost given = { λ s. s.given };
+    ghost names_opened = { λ s. s.names_opened };
 
     ghost faults = { λ s. s.faults };
 
     fn open(&mut self, alloc: Global, name: &str) -> Result<(), OpenFault>
         ensures ok { OnOk result (Opens (Some (text_named self.old.texts)) name.now (Some self.new.rest)
-            × (self.new.gave ≡ [])) }
-        ensures err { OnErr result ((Some self.new.rest ≡ Some self.old.rest) × (self.new.gave ≡ self.old.gave)) }
-        ensures given { (result ≡ Err OpenFault.Memory → ⊥) → self.new.given ≡ self.old.given ++ name.now ∷ [] }
-        ensures memory { result ≡ Err OpenFault.Memory → self.new.given ≡ self.old.given }
+            × (self.new.bytes_read ≡ [])) }
+        ensures err { OnErr result ((Some self.new.rest ≡ Some self.old.rest) × (self.new.bytes_read ≡ self.old.bytes_read)) }
+        ensures names_opened { (result ≡ Err OpenFault.Memory → ⊥) → self.new.names_opened ≡ self.old.names_opened ++ name.now ∷ [] }
+        ensures memory { result ≡ Err OpenFault.Memory → self.new.names_opened ≡ self.old.names_opened }
         ensures texts { Some (text_named self.new.texts) ≡ Some (text_named self.old.texts) }
         ensures steady { (result ≡ Err OpenFault.Failed → ⊥) → self.new.faults ≡ self.old.faults }
         ensures failed { result ≡ Err OpenFault.Failed → Rose self.old.faults self.new.faults }
@@ -140,8 +141,8 @@ impl Shelf for MemShelf {
         ensures refused { result ≡ Err OpenFault.Failed → self.new ≡ shelf_failed (shelf_asked self.old name.now) }
         ensures unchanged { result ≡ Err OpenFault.Memory → self.new ≡ self.old }
     {
-        let given = Vec::from_slice(alloc, name.as_bytes())?;
-        self.given.push(given)?;
+        let names_opened = Vec::from_slice(alloc, name.as_bytes())?;
+        self.names_opened.push(names_opened)?;
         self.calls = self.calls.saturating_add(1);
         if self.failing.contains(&self.calls) {
             self.faults = self.faults.saturating_add(1);
@@ -155,7 +156,7 @@ impl Shelf for MemShelf {
             Some(place) => {
                 self.opened = place;
                 self.at = 0;
-                self.gave = History::new();
+                self.bytes_read = History::new();
                 Ok(())
             }
         }
@@ -164,9 +165,9 @@ impl Shelf for MemShelf {
     fn read(&mut self, buf: &mut [u8]) -> Result<usize, Failed>
         ensures within { IfOk result (λ count. count ≤ length buf.new) }
         ensures bytes { ReadConsumes (Some self.old.rest) (Some self.new.rest) result buf.new }
-        ensures gave { Grew self.old.gave self.new.gave result buf.new }
+        ensures bytes_read { Grew self.old.bytes_read self.new.bytes_read result buf.new }
         ensures end { IfOk result (λ count. count ≡ 0 → 0 < length buf.new → Some self.new.rest ≡ Some []) }
-        ensures given { self.new.given ≡ self.old.given }
+        ensures names_opened { self.new.names_opened ≡ self.old.names_opened }
         ensures texts { Some (text_named self.new.texts) ≡ Some (text_named self.old.texts) }
         ensures steady { OnOk result (self.new.faults ≡ self.old.faults) }
         ensures failed { OnErr result (Rose self.old.faults self.new.faults) }
@@ -183,7 +184,7 @@ impl Shelf for MemShelf {
             return Err(Failed);
         }
         let count = copy_front(rest_of(&self.texts, self.opened, self.at), buf);
-        self.gave.add(&buf[..count]);
+        self.bytes_read.add(&buf[..count]);
         self.at += count;
         Ok(count)
     }

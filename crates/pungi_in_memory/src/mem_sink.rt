@@ -75,7 +75,7 @@ impl MemSink {
 }
 
 impl Sink for MemSink {
-    ghost taken = { λ s. s.bytes };
+    ghost bytes_written = { λ s. s.bytes };
 
     ghost faults = { λ s. s.faults };
 

@@ -14,14 +14,15 @@ use std::marker::Model;
 #[derive(Drop)]
 pub struct SureShelf {
     texts: Vec<(String, Vec<u8>)>,
-    given: Vec<Vec<u8>>,
+    names_opened: Vec<Vec<u8>>,
     opened: usize,
     at: usize,
-    gave: History,
+    bytes_read: History,
 }
 
 impl Model for SureShelf {
     ghost use Rattle.std.specs.Prelude.{map};
+    ghost use Rattle.std.specs.List.{concat};
     ghost use Rattle.pungi_in_memory.specs.SureShelf.{SureState};
     ghost use Rattle.pungi_in_memory.specs.MemShelf.{pairs_of, left_at};
 
@@ -29,25 +30,25 @@ impl Model for SureShelf {
 
     ghost view = { λ s. record {
       texts = pairs_of s.texts.items;
-      given = map (λ n. n.items) s.given.items;
+      names_opened = map (λ n. n.items) s.names_opened.items;
       rest
           = left_at s.texts.items s.opened s.at;
-      gave = s.gave.bytes;
+      bytes_read = concat s.bytes_read.pieces;
     } };
 }
 
 impl SureShelf {
     /// A shelf with these texts by their names.
     pub fn new(alloc: Global, texts: Vec<(String, Vec<u8>)>) -> SureShelf
-        ensures { result ≡ record { texts = pairs_of texts.items; given = []; rest = []; gave = [] } }
+        ensures { result ≡ record { texts = pairs_of texts.items; names_opened = []; rest = []; bytes_read = [] } }
     {
         let opened = texts.len();
         SureShelf {
             texts,
-            given: Vec::new(alloc),
+            names_opened: Vec::new(alloc),
             opened,
             at: 0,
-            gave: History::new(),
+            bytes_read: History::new(),
         }
     }
 }
@@ -57,48 +58,48 @@ impl Shelf for SureShelf {
 
     ghost rest = { λ s. Some s.rest };
 
-    ghost gave = { λ s. s.gave };
+    ghost bytes_read = { λ s. s.bytes_read };
 
-    ghost given = { λ s. s.given };
+    ghost names_opened = { λ s. s.names_opened };
 
     ghost faults = { λ _. 0 };
 
     fn open(&mut self, alloc: Global, name: &str) -> Result<(), OpenFault>
         ensures ok { OnOk result (Opens (Some (sure_text self.old.texts)) name.now (Some self.new.rest)
-            × (self.new.gave ≡ [])) }
-        ensures err { OnErr result ((Some self.new.rest ≡ Some self.old.rest) × (self.new.gave ≡ self.old.gave)) }
-        ensures given { (result ≡ Err OpenFault.Memory → ⊥) → self.new.given ≡ self.old.given ++ name.now ∷ [] }
-        ensures memory { result ≡ Err OpenFault.Memory → self.new.given ≡ self.old.given }
+            × (self.new.bytes_read ≡ [])) }
+        ensures err { OnErr result ((Some self.new.rest ≡ Some self.old.rest) × (self.new.bytes_read ≡ self.old.bytes_read)) }
+        ensures names_opened { (result ≡ Err OpenFault.Memory → ⊥) → self.new.names_opened ≡ self.old.names_opened ++ name.now ∷ [] }
+        ensures memory { result ≡ Err OpenFault.Memory → self.new.names_opened ≡ self.old.names_opened }
         ensures texts { Some (sure_text self.new.texts) ≡ Some (sure_text self.old.texts) }
         ensures steady { (result ≡ Err OpenFault.Failed → ⊥) → (let none : ℕ = 0 in none ≡ none) }
         ensures failed { result ≡ Err OpenFault.Failed → Rose 0 0 }
 
         ensures opened { OnOk result (self.new ≡ record {
           texts = self.old.texts;
-          given = self.old.given ++ name.now
+          names_opened = self.old.names_opened ++ name.now
               ∷ [];
           rest = self.new.rest;
-          gave = [];
+          bytes_read = [];
         }) }
         ensures unchanged { result ≡ Err OpenFault.Memory → self.new ≡ self.old }
     {
-        let given = Vec::from_slice(alloc, name.as_bytes())?;
-        self.given.push(given)?;
+        let names_opened = Vec::from_slice(alloc, name.as_bytes())?;
+        self.names_opened.push(names_opened)?;
         self.opened = match place_of(&self.texts, name) {
             None => self.texts.len(),
             Some(place) => place,
         };
         self.at = 0;
-        self.gave = History::new();
+        self.bytes_read = History::new();
         Ok(())
     }
 
     fn read(&mut self, buf: &mut [u8]) -> Result<usize, Failed>
         ensures within { IfOk result (λ count. count ≤ length buf.new) }
         ensures bytes { ReadConsumes (Some self.old.rest) (Some self.new.rest) result buf.new }
-        ensures gave { Grew self.old.gave self.new.gave result buf.new }
+        ensures bytes_read { Grew self.old.bytes_read self.new.bytes_read result buf.new }
         ensures end { IfOk result (λ count. count ≡ 0 → 0 < length buf.new → Some self.new.rest ≡ Some []) }
-        ensures given { self.new.given ≡ self.old.given }
+        ensures names_opened { self.new.names_opened ≡ self.old.names_opened }
         ensures texts { Some (sure_text self.new.texts) ≡ Some (sure_text self.old.texts) }
         ensures steady { OnOk result (let none : ℕ = 0 in none ≡ none) }
         ensures failed { OnErr result (Rose 0 0) }
@@ -106,12 +107,12 @@ impl Shelf for SureShelf {
         ensures count { result ≡ Ok (min (length buf.old) (length self.old.rest)) }
         ensures left { IfOk result (λ count. self.new ≡ record self.old {
           rest = drop count self.old.rest;
-          gave
-              = self.old.gave ++ take count buf.new;
+          bytes_read
+              = self.old.bytes_read ++ take count buf.new;
         }) }
     {
         let count = copy_front(rest_of(&self.texts, self.opened, self.at), buf);
-        self.gave.add(&buf[..count]);
+        self.bytes_read.add(&buf[..count]);
         self.at += count;
         Ok(count)
     }

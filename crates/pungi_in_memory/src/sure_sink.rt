@@ -11,16 +11,17 @@ use std::marker::Model;
 pub struct SureSink {
     room: usize,
     bytes: Vec<u8>,
-    taken: History,
+    bytes_written: History,
 }
 
 impl Model for SureSink {
     ghost use Rattle.std.specs.Prelude.{◌≤◌, vec_len, vec_capacity};
+    ghost use Rattle.std.specs.List.{concat};
     ghost use Rattle.pungi_in_memory.specs.SureSink.{KeptState};
 
     ghost Value = { KeptState };
 
-    ghost view = { λ s. record { room = s.room; bytes = s.bytes.items; taken = s.taken.bytes } };
+    ghost view = { λ s. record { room = s.room; bytes = s.bytes.items; bytes_written = concat s.bytes_written.pieces } };
 
     ghost invariant = { λ s. (vec_len s.bytes ≤ s.room) × (s.room ≤ vec_capacity s.bytes) };
 }
@@ -28,13 +29,13 @@ impl Model for SureSink {
 impl SureSink {
     /// A sink that keeps so many bytes.
     pub fn new(alloc: Global, room: usize) -> Result<SureSink, Memory>
-        ensures { IfOk result (λ sink. sink ≡ record { room = room; bytes = []; taken = [] }) }
+        ensures { IfOk result (λ sink. sink ≡ record { room = room; bytes = []; bytes_written = [] }) }
     {
         let bytes = Vec::with_capacity(alloc, room)?;
         Ok(SureSink {
             room,
             bytes,
-            taken: History::new(),
+            bytes_written: History::new(),
         })
     }
 
@@ -47,14 +48,14 @@ impl SureSink {
 }
 
 impl Sink for SureSink {
-    ghost taken = { λ s. s.taken };
+    ghost bytes_written = { λ s. s.bytes_written };
 
     ghost faults = { λ _. 0 };
 
     fn write(&mut self, piece: &[u8]) -> Result<usize, Failed>
         ensures within { IfOk result (λ count. count ≤ length piece.now) }
         ensures some { IfOk result (λ count. 0 < length piece.now → 0 < count) }
-        ensures bytes { Grew self.old.taken self.new.taken result piece.now }
+        ensures bytes { Grew self.old.bytes_written self.new.bytes_written result piece.now }
         ensures steady { OnOk result (let none : ℕ = 0 in none ≡ none) }
         ensures failed { OnErr result (Rose 0 0) }
 
@@ -64,7 +65,7 @@ impl Sink for SureSink {
         let room = self.room - self.bytes.len();
         let count = piece.len().min(room);
         self.bytes.extend_from_slice(&piece[..count]).unwrap();
-        self.taken.add(piece);
+        self.bytes_written.add(piece);
         Ok(piece.len())
     }
 }

@@ -1,4 +1,5 @@
 -- No temporary is kept where one statement's instructions end and another's begin.
+pub mod Places
 pub mod Exprs
 pub mod Stmts
 pub mod Heads

@@ -2,4 +2,5 @@
 pub mod FoundPlaces
 pub mod Paths
 pub mod Exprs
+pub mod Values
 pub mod Stmts

@@ -1,7 +1,10 @@
 -- What remains of a function, and the place of its code that does it.
+pub mod Waiting
 pub mod Relation
 pub mod Values
 pub mod Steps
+pub mod Standing
+pub mod Columns
 pub mod PlacedExprs
 pub mod PlacedStmts
 pub mod Jumps

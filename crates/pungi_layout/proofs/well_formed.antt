@@ -2,6 +2,7 @@
 pub mod Both
 pub mod Instructions
 pub mod Columns
+pub mod Operands
 pub mod Exprs
 pub mod JumpPlaces
 pub mod Stmts

@@ -10,7 +10,9 @@ pub mod KnownTokens
 pub mod MarkLemmas
 pub mod NameLemmas
 pub mod NumberLemmas
+pub mod OneDirective
 pub mod OneExpansion
+pub mod OneReplacement
 pub mod Progress
 pub mod RunLemmas
 pub mod SizedTokens

@@ -1,189 +1,22 @@
 -- Tokens have one expansion, and a fault excludes it: each relation of an expansion has one answer.
-use Rattle.std.proofs.Common.{◌≡◌, ◌⊎◌, ◌+◌, ◌<◌, ◌≤◌, ℕ, zero, suc, Bool, true, false, not, ◌&&◌, List, [], ◌∷◌, ◌++◌}
-use Rattle.std.proofs.Common.{length, drop, get_or, set, Some, None, Ok, Err, refl, sym, ap, subst, ◌∙◌, arith}
-use Rattle.std.proofs.Common.{append_assoc, length-append, inl, inr}
+use Rattle.std.proofs.Common.{◌≡◌, ◌⊎◌, ◌+◌, ◌≤◌, ℕ, Bool, true, false, not, ◌&&◌, List, [], ◌∷◌, ◌++◌, length, set}
+use Rattle.std.proofs.Common.{None, Ok, Err, refl, sym, ap, subst, ◌∙◌, arith, append_assoc, length-append, inl, inr}
 use Rattle.std.specs.Prelude.{Result, IfOk, IfErr}
 use Rattle.std.specs.List.{list_all}
 use Rattle.std.proofs.lemmas.List.{append-nil, length-map}
-use Rattle.std.proofs.lemmas.Option.{same_Some}
-use Rattle.pungi_base.specs.declared.pos.Pos.{Pos}
 use Rattle.pungi_base.specs.declared.kind.Kind.{Kind}
 use Rattle.pungi_base.specs.declared.token.Token.{Token}
 use Rattle.pungi_lex.specs.Limits.{token_limit}
 use Rattle.pungi_lex.specs.declared.macro_fault.MacroFault.{MacroFault}
-use Rattle.pungi_lex.specs.declared.macro_fault.MacroFault.TheVariants as fault
-use Rattle.pungi_lex.specs.Directive.{Defines, Define, OfFunction, Again, Joint, Obeys, Inclusion, Definition, Other}
-use Rattle.pungi_lex.specs.Directive.{IsHash, IsDefinition, IsDefinitionOf, HasNoJointBelow, IsJointAt}
+use Rattle.pungi_lex.specs.Directive.{Obeys, IsHash}
 use Rattle.pungi_lex.specs.Expander.{Part, Directed, Plain, tokens_in, starts_first, ArePartsBefore, Runs, Ends}
 use Rattle.pungi_lex.specs.Expander.{Directs, Expanded, Refuses, OfDirective, OfCount, IsExpanded, HasMacroFault}
 use Rattle.pungi_lex.specs.Expander.{HasNoExpansion}
 use Rattle.pungi_lex.specs.MacroFault.{is_want_of_memory}
-use Rattle.pungi_lex.specs.Macros.{Macros, Expands, Nothing, Kept, Replaced, word_number, body_of, body_at, replacement}
-use Rattle.pungi_lex.specs.Macros.{placed}
+use Rattle.pungi_lex.specs.Macros.{Macros, Expands, Nothing, Kept, Replaced, placed}
 use Rattle.pungi_lex.specs.Predefined.{predefined}
-
--- ---- kinds expand to one list
-
--- how an expansion of a kind and others came about
-record KeptAs (macros : Macros) (k : Kind) (ks out : List Kind) (n : ℕ) : Type 0 where
-  pub rest : List Kind
-  pub spent : ℕ
-  pub none : replacement macros k ≡ None
-  pub behind : Expands macros ks rest spent
-  pub out_is : out ≡ k ∷ rest
-  pub n_is : n ≡ 1 + spent
-
-record ReplacedBy (macros : Macros) (k : Kind) (ks out : List Kind) (n : ℕ) : Type 0 where
-  pub name : ℕ
-  pub body : List Kind
-  pub inner : List Kind
-  pub rest : List Kind
-  pub within : ℕ
-  pub spent : ℕ
-  pub named : word_number k ≡ Some name
-  pub has : body_of macros name ≡ Some body
-  pub inside : Expands (set macros name None) body inner within
-  pub behind : Expands macros ks rest spent
-  pub out_is : out ≡ inner ++ rest
-  pub n_is : n ≡ 1 + (within + spent)
-
-abbrev Expanding : Macros → List Kind → List Kind → ℕ → Type 0
-Expanding macros [] out n = (out ≡ []) × (n ≡ 0)
-Expanding macros (k ∷ ks) out n = KeptAs macros k ks out n ⊎ ReplacedBy macros k ks out n
-
-expanding : (macros : Macros) (ks out : List Kind) (n : ℕ) → Expands macros ks out n → Expanding macros ks out n
-expanding macros ks out n (Nothing _) = (refl, refl)
-expanding macros ks out n (Kept _ k rest o i e x) =
-    inl (record { rest = o; spent = i; none = e; behind = x; out_is = refl; n_is = refl })
-expanding macros ks out n (Replaced _ k name body rest inner o i j w e x y) =
-    inr (record {
-      name = name;
-      body = body;
-      inner = inner;
-      rest = o;
-      within = i;
-      spent = j;
-      named = w;
-      has = e;
-      inside = x;
-      behind = y;
-      out_is = refl;
-      n_is = refl;
-    })
-
-replaced_some : (macros : Macros) (k : Kind) (name : ℕ) (body : List Kind) → word_number k ≡ Some name
-    → body_of macros name ≡ Some body → replacement macros k ≡ Some body
-replaced_some macros k name body named has = ap (body_at macros) named ∙ has
-
-abbrev OneExpansion : Macros → List Kind → List Kind → ℕ → Type 0
-OneExpansion macros ks out n = (other : List Kind) (k : ℕ) → Expands macros ks other k → (other ≡ out) × (k ≡ n)
-
-kept_once : (macros : Macros) (k : Kind) (ks out : List Kind) (n : ℕ) → replacement macros k ≡ None
-    → OneExpansion macros ks out n → (other : List Kind) (c : ℕ) → Expanding macros (k ∷ ks) other c
-    → (other ≡ k ∷ out) × (c ≡ 1 + n)
-kept_once macros k ks out n none behind other c (inl y) =
-    let r = behind y.rest y.spent y.behind in
-    (y.out_is ∙ ap (λ (l : List Kind). k ∷ l) r.0, y.n_is ∙ ap (λ (j : ℕ). 1 + j) r.1)
-kept_once macros k ks out n none behind other c (inr y) =
-    let both : None ≡ Some y.body = sym none ∙ replaced_some macros k y.name y.body y.named y.has in
-    absurd cc
-
-replaced_once : (macros : Macros) (k : Kind) (name : ℕ) (body ks inner out : List Kind) (i j : ℕ)
-    → word_number k ≡ Some name → body_of macros name ≡ Some body → OneExpansion (set macros name None) body inner i
-    → OneExpansion macros ks out j → (other : List Kind) (c : ℕ) → Expanding macros (k ∷ ks) other c
-    → (other ≡ inner ++ out) × (c ≡ 1 + (i + j))
-replaced_once macros k name body ks inner out i j named has inside behind other c (inl y) =
-    let both : None ≡ Some body = sym y.none ∙ replaced_some macros k name body named has in
-    absurd cc
-replaced_once macros k name body ks inner out i j named has inside behind other c (inr y) =
-    let same : y.name ≡ name = same_Some y.name name (sym y.named ∙ named) in
-    let bodies : y.body ≡ body = same_Some y.body body (sym y.has ∙ ap (body_of macros) same ∙ has) in
-    let within : Expands (set macros name None) body y.inner y.within =
-    subst (λ (b : List Kind). Expands (set macros name None) b y.inner y.within) bodies
-    (subst (λ (n : ℕ). Expands (set macros n None) y.body y.inner y.within) same y.inside) in
-    let r = inside y.inner y.within within in
-    let s = behind y.rest y.spent y.behind in
-    (y.out_is ∙ (λ a. r.0 a ++ s.0 a), y.n_is ∙ (λ a. 1 + (r.1 a + s.1 a)))
-
-expands_once : (macros : Macros) (ks out : List Kind) (n : ℕ) → Expands macros ks out n → OneExpansion macros ks out n
-expands_once macros ks out n (Nothing _) other c y = expanding macros [] other c y
-expands_once macros ks out n (Kept _ k rest o i e x) other c y =
-    kept_once macros k rest o i e (expands_once macros rest o i x) other c (expanding macros (k ∷ rest) other c y)
-expands_once macros ks out n (Replaced _ k name body rest inner o i j w e x z) other c y =
-    replaced_once macros k name body rest inner o i j w e (expands_once (set macros name None) body inner i x)
-    (expands_once macros rest o j z) other c (expanding macros (k ∷ rest) other c y)
-
--- ---- a directive has one answer
-
-defined_once : (words : List Token) (name other : ℕ) (at place : Pos) → IsDefinitionOf name at words
-    → IsDefinitionOf other place words → (other ≡ name) × (place ≡ at)
-defined_once [] name other at place x y = absurd x
-defined_once (word ∷ []) name other at place x y = absurd x
-defined_once (word ∷ defined ∷ body) name other at place x y = (same_Some other name (sym y.1 ∙ x.1), y.2 ∙ sym x.2)
-
-is_definition : (words : List Token) (name : ℕ) (at : Pos) → IsDefinitionOf name at words → IsDefinition words
-is_definition [] name at x = x
-is_definition (word ∷ []) name at x = x
-is_definition (word ∷ defined ∷ body) name at x = (x.0, (name, x.1))
-
-item_once : (tokens : List Token) (n : ℕ) (t u : Token) → n < length tokens → t ≡ get_or tokens n t
-    → u ≡ get_or tokens n u → u ≡ t
-item_once [] n t u h x y = absurd (omega arith)
-item_once (a ∷ tokens) zero t u h x y = y ∙ sym x
-item_once (a ∷ tokens) (suc n) t u h x y = item_once tokens n t u (omega arith) x y
-
-joint_within : (body : List Token) (i : ℕ) (t : Token) → IsJointAt body i → t ≡ get_or body i t
-    → HasNoJointBelow body (length body) → ⊥
-joint_within body i t joint is none = none i joint.0 t is (joint.2 t is)
-
-joint_once : (body : List Token) (i j : ℕ) (t u : Token) → IsJointAt body i → t ≡ get_or body i t → IsJointAt body j
-    → u ≡ get_or body j u → u ≡ t
-joint_once body i j t u x t-is y u-is =
-    let before : i < j → ⊥ = λ h. y.1 i h t t-is (x.2 t t-is) in
-    let behind : j < i → ⊥ = λ h. x.1 j h u u-is (y.2 u u-is) in
-    let same : j ≡ i = omega (arith, before, behind) in
-    item_once body i t u x.0 t-is (subst (λ (n : ℕ). u ≡ get_or body n u) same u-is)
-
-defines_once : (macros : Macros) (name : ℕ) (at : Pos) (body : List Token) (r s : Result Macros MacroFault)
-    → Defines macros name at body r → Defines macros name at body s → s ≡ r
-defines_once macros name at body r s (Define _ f d n) (Define _ g e m) = refl
-defines_once macros name at body r s (Define _ f d n) (OfFunction _ g) = absurd (f g)
-defines_once macros name at body r s (Define _ f d n) (Again _ g e) = absurd (d e)
-defines_once macros name at body r s (Define _ f d n) (Joint _ i t g e j is) = absurd (joint_within body i t j is n)
-defines_once macros name at body r s (OfFunction _ f) (Define _ g e m) = absurd (g f)
-defines_once macros name at body r s (OfFunction _ f) (OfFunction _ g) = refl
-defines_once macros name at body r s (OfFunction _ f) (Again _ g e) = absurd (g f)
-defines_once macros name at body r s (OfFunction _ f) (Joint _ i t g e j is) = absurd (g f)
-defines_once macros name at body r s (Again _ f d) (Define _ g e m) = absurd (e d)
-defines_once macros name at body r s (Again _ f d) (OfFunction _ g) = absurd (f g)
-defines_once macros name at body r s (Again _ f d) (Again _ g e) = refl
-defines_once macros name at body r s (Again _ f d) (Joint _ i t g e j is) = absurd (e d)
-defines_once macros name at body r s (Joint _ i t f d j is) (Define _ g e m) = absurd (joint_within body i t j is m)
-defines_once macros name at body r s (Joint _ i t f d j is) (OfFunction _ g) = absurd (f g)
-defines_once macros name at body r s (Joint _ i t f d j is) (Again _ g e) = absurd (d e)
-defines_once macros name at body r s (Joint _ i t f d j is) (Joint _ n u g e k u-is) =
-    ap (λ (x : Token). Err (fault.Directive x.pos)) (joint_once body i n t u j is k u-is)
-
-obeys_once : (macros : Macros) (hash : Token) (words : List Token) (r s : Result Macros MacroFault)
-    → Obeys macros hash words r → Obeys macros hash words s → s ≡ r
-obeys_once macros hash words r s (Inclusion _ i) (Inclusion _ j) = refl
-obeys_once macros hash words r s (Inclusion _ i) (Definition _ name at _ j d y) = absurd (j i)
-obeys_once macros hash words r s (Inclusion _ i) (Other _ j d) = absurd (j i)
-obeys_once macros hash words r s (Definition _ name at _ i d x) (Inclusion _ j) = absurd (i j)
-obeys_once macros hash words r s (Definition _ name at _ i d x) (Definition _ other place _ j e y) =
-    let same = defined_once words name other at place d e in
-    defines_once macros name at (drop 2 words) r s x (subst (λ (n : ℕ). Defines macros n at (drop 2 words) s) same.0
-    (subst (λ (p : Pos). Defines macros other p (drop 2 words) s) same.1 y))
-obeys_once macros hash words r s (Definition _ name at _ i d x) (Other _ j e) =
-    absurd (e (is_definition words name at d))
-obeys_once macros hash words r s (Other _ i d) (Inclusion _ j) = absurd (i j)
-obeys_once macros hash words r s (Other _ i d) (Definition _ name at _ j e y) =
-    absurd (d (is_definition words name at e))
-obeys_once macros hash words r s (Other _ i d) (Other _ j e) = refl
-
-ok_once : (macros next other : Macros) (hash : Token) (words : List Token) → Obeys macros hash words (Ok next)
-    → Obeys macros hash words (Ok other) → other ≡ next
-ok_once macros next other hash words x y = let same = obeys_once macros hash words (Ok next) (Ok other) x y in cc
+use Rattle.pungi_lex.proofs.OneReplacement.{expands_once}
+use Rattle.pungi_lex.proofs.OneDirective.{obeys_once, ok_once}
 
 -- ---- tokens have one list of parts
 

@@ -1,15 +1,21 @@
--- In the order of reading: nodes, sound, kinds, TypedLaws, Lowered, Worked, WorkedOperators, WorkedStatements,
--- WorkedSlots, WorkedCode, WorkedCodeOperators, WorkedCodeStatements, WorkedCodeSlots. The file named after a folder
--- says what is in it.
+-- In the order of reading: nodes, sound, kinds, TypedLaws, Lowered, Within, Worked, WorkedOperators, WorkedOrder,
+-- WorkedStatements, WorkedSwitch, WorkedJumps, WorkedSlots, WorkedCalls, WorkedPlaces, WorkedCode,
+-- WorkedCodeOperators, WorkedCodeStatements, WorkedCodeSlots. The file named after a folder says what is in it.
 pub mod nodes
 pub mod sound
 pub mod kinds
 pub mod TypedLaws
 pub mod Lowered
+pub mod Within
 pub mod Worked
 pub mod WorkedOperators
+pub mod WorkedOrder
 pub mod WorkedStatements
+pub mod WorkedSwitch
+pub mod WorkedJumps
 pub mod WorkedSlots
+pub mod WorkedCalls
+pub mod WorkedPlaces
 pub mod WorkedCode
 pub mod WorkedCodeOperators
 pub mod WorkedCodeStatements

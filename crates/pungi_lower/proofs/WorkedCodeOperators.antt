@@ -4,9 +4,9 @@ use Rattle.pungi_base.specs.declared.value.Value.TheVariants as value
 use Rattle.pungi_lower.proofs.Worked.{at, gives, stops, told}
 use Rattle.pungi_lower.proofs.WorkedOperators.{file_0, file_2, file_4, file_6, file_10, file_14, file_15, file_16}
 use Rattle.pungi_lower.proofs.WorkedOperators.{file_17, file_18, file_19, file_20, file_21, file_22, file_23, file_24}
-use Rattle.pungi_lower.proofs.WorkedOperators.{file_26, file_27, file_28, file_29, file_30, file_31, file_33, file_34}
-use Rattle.pungi_lower.proofs.WorkedOperators.{file_35, file_36, file_37, file_39, file_41, file_43, file_44, file_46}
-use Rattle.pungi_lower.proofs.WorkedOperators.{file_49, file_52, file_53}
+use Rattle.pungi_lower.proofs.WorkedOperators.{file_26, file_27, file_28, file_29, file_30, file_31}
+use Rattle.pungi_lower.proofs.WorkedOrder.{file_33, file_34, file_35, file_36, file_37, file_39, file_41, file_43}
+use Rattle.pungi_lower.proofs.WorkedOrder.{file_44, file_46, file_49, file_52, file_53}
 use Rattle.pungi_lower.proofs.WorkedCode.{last_run}
 
 -- ---- Operators at the ends of their ranges

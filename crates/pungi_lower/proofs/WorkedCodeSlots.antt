@@ -10,11 +10,11 @@ use Rattle.pungi_world.specs.declared.slot.Slot.TheVariants.{Global, Field}
 use Rattle.pungi_world.specs.declared.slot.SlotState.{SlotState}
 use Rattle.pungi_lower.proofs.Worked.{at, name, gives, stops, wants, goes_on, told}
 use Rattle.pungi_lower.proofs.WorkedSlots.{slots_of, change_of, held_then, file_0, file_2, file_3, file_6, file_7}
-use Rattle.pungi_lower.proofs.WorkedSlots.{file_9, file_10, file_11, file_12, file_13, file_15, file_17, file_18}
-use Rattle.pungi_lower.proofs.WorkedSlots.{file_19, file_20, file_21, file_22, file_24, file_25, file_26, file_27}
-use Rattle.pungi_lower.proofs.WorkedSlots.{file_28, file_29, file_30, file_31, file_32, file_33, file_34, file_35}
-use Rattle.pungi_lower.proofs.WorkedSlots.{file_36, file_37, file_39, file_40, file_41, file_42, file_43, file_45}
-use Rattle.pungi_lower.proofs.WorkedSlots.{file_46, file_47}
+use Rattle.pungi_lower.proofs.WorkedSlots.{file_9, file_10, file_11, file_12, file_13, file_15, file_17}
+use Rattle.pungi_lower.proofs.WorkedCalls.{file_18, file_19, file_20, file_21, file_22, file_24, file_25, file_26}
+use Rattle.pungi_lower.proofs.WorkedCalls.{file_27, file_28, file_29, file_30, file_31, file_32, file_33}
+use Rattle.pungi_lower.proofs.WorkedPlaces.{file_34, file_35, file_36, file_37, file_39, file_40, file_41, file_42}
+use Rattle.pungi_lower.proofs.WorkedPlaces.{file_43, file_45, file_46, file_47}
 use Rattle.pungi_lower.proofs.WorkedCode.{last_run}
 
 -- ---- A loop, objects and slots

@@ -3,10 +3,11 @@ use Rattle.std.proofs.Common.{◌≡◌, refl, [], ◌∷◌, Some, None, pos, n
 use Rattle.pungi_base.specs.declared.value.Value.TheVariants as value
 use Rattle.pungi_lower.proofs.Worked.{at, gives, stops, told}
 use Rattle.pungi_lower.proofs.WorkedStatements.{file_0, file_1, file_2, file_3, file_4, file_5, file_6, file_7, file_9}
-use Rattle.pungi_lower.proofs.WorkedStatements.{file_10, file_11, file_12, file_13, file_14, file_15, file_19, file_20}
-use Rattle.pungi_lower.proofs.WorkedStatements.{file_22, file_23, file_24, file_25, file_26, file_28, file_29, file_30}
-use Rattle.pungi_lower.proofs.WorkedStatements.{file_31, file_32, file_33, file_34, file_35, file_36, file_37, file_38}
-use Rattle.pungi_lower.proofs.WorkedStatements.{file_39, file_41, file_42, file_43}
+use Rattle.pungi_lower.proofs.WorkedStatements.{file_10, file_11, file_12, file_13, file_14, file_39, file_41, file_42}
+use Rattle.pungi_lower.proofs.WorkedStatements.{file_43}
+use Rattle.pungi_lower.proofs.WorkedSwitch.{file_15, file_19, file_20, file_22, file_23, file_24, file_25}
+use Rattle.pungi_lower.proofs.WorkedJumps.{file_26, file_28, file_29, file_30, file_31, file_32, file_33, file_34}
+use Rattle.pungi_lower.proofs.WorkedJumps.{file_35, file_36, file_37, file_38}
 use Rattle.pungi_lower.proofs.WorkedCode.{last_run}
 
 -- ---- Locals without a value

@@ -5,6 +5,7 @@
 --   IsLowered f nodes code    what a code is of a function that has so many nodes in the text
 --   AreLowered c codes     so is each code of its function
 --   IsEachPassed c         what is known of each function in which no rule holds
+--   AreOfFile functions    these are what the functions of some checked file do
 use Rattle.std.specs.Prelude.{◌≡◌, ℕ, ◌*◌, ◌≤◌, true, List, Option, Some, None, length, map, slice_get}
 use Rattle.pungi_base.specs.declared.entry.Entry.{Entry}
 use Rattle.pungi_base.specs.declared.names.Name.{Name}
@@ -15,7 +16,7 @@ use Rattle.pungi_resolve.specs.Functions.{resolved}
 use Rattle.pungi_resolved.specs.Functions.{ResolvedFunction}
 use Rattle.pungi_types.specs.Refused.{CheckedFile}
 use Rattle.pungi_resolve.specs.Passed.{IsPassed}
-use Rattle.pungi_resolve.specs.Resolutions.{resolution_of}
+use Rattle.pungi_resolve.specs.Resolutions.{resolution_of, IsResolved}
 use Rattle.pungi_meaning.specs.Entries.{entry_fits}
 use Rattle.pungi_code.specs.declared.code.Code.{Code}
 use Rattle.pungi_code.specs.Entries.{code_fits}
@@ -49,3 +50,7 @@ abbrev pub IsEachPassed : CheckedFile → Type 0
 IsEachPassed c =
     (i : ℕ) (d : Definition) → slice_get (definitions c.file.items) i ≡ Some d → refusal c.file c.refused d ≡ None
     → IsPassed (file_env c.file c.refused d.name.0) d
+
+pub record AreOfFile (functions : List (Option ResolvedFunction)) : Type 0 where
+  pub file : CheckedFile
+  pub resolved : IsResolved file functions

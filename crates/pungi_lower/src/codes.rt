@@ -2,7 +2,7 @@
 ghost use Rattle.std.specs.Prelude.{◌≡◌, ◌≤◌, map, IfOk};
 ghost use Rattle.pungi_code.specs.WellFormed.{AreWellFormed};
 ghost use Rattle.pungi_layout.specs.code.Codes.{code_for};
-ghost use Rattle.pungi_lower.specs.Lowered.{AreLowered, names_of};
+ghost use Rattle.pungi_lower.specs.Lowered.{AreLowered, AreOfFile, names_of};
 ghost use Rattle.pungi_resolve.specs.Resolutions.{IsResolved, resolution_view};
 ghost use Rattle.pungi_types.specs.Limits.{most_statics};
 ghost use Rattle.pungi_types.specs.Refused.{CheckedFile};
@@ -13,17 +13,19 @@ use pungi_emit::lower_functions;
 use pungi_resolved::Function;
 use std::alloc::Global;
 
-/// The codes of functions with these names, over so many static objects. There is none of a function that isn't
-/// resolved, and none of one that calls a function of the file. Where the functions are those of a checked file, a code
-/// runs as its function does, from any entry and with any choices; it has at most four instructions for each node of
-/// the text, and no temporary is kept where one statement ends and another begins; each code is well-formed, and each
-/// global and each field has one kind in all codes.
+/// The codes of functions with these names, over so many static objects. They are the functions of a checked file, so
+/// each that is resolved is within the limits of the emitters. There is no code of a function that isn't resolved, and
+/// none of one that calls a function of the file. A code runs as its function does, from any entry and with any
+/// choices; it has at most four instructions for each node of the text, and no temporary is kept where one statement
+/// ends and another begins; each code is well-formed, and each global and each field has one kind in all codes.
+/// `Memory` where memory ran out.
 pub fn lower(
     alloc: Global,
     functions: &[Option<Function>],
     names: Seq<Name>,
     statics: u32,
 ) -> Result<Codes, Memory>
+    requires { AreOfFile (map resolution_view functions.now) }
     ensures codes { IfOk result (λ c. c.codes ≡ map code_for (map resolution_view functions.now)) }
     ensures names { IfOk result (λ c. c.names ≡ names) }
     ensures statics { IfOk result (λ c. c.statics ≡ statics) }

@@ -29,7 +29,7 @@ use Rattle.pungi_base.specs.declared.punct.Punct.{Punct}
 use Rattle.pungi_base.specs.declared.punct.Punct.TheVariants as puncts
 use Rattle.pungi_base.specs.declared.value.Value.{Value}
 use Rattle.pungi_base.specs.declared.value.Value.TheVariants as value
-use Rattle.pungi_api.specs.declared.row.Row.{Row}
+use Rattle.pungi_api.specs.declared.signature.Signature.{Signature}
 use Rattle.pungi_types.specs.declared.kind.ValueKind.{ValueKind}
 use Rattle.pungi_resolved.specs.Values as expr
 use Rattle.pungi_types.specs.Operators.{is_same_kind}
@@ -49,7 +49,7 @@ use Rattle.pungi_meaning.specs.Todo.{ToLoad, ToOld, ToKeep, ToStep, ToMinus, ToC
 use Rattle.pungi_meaning.specs.Todo.{ToRight, ToTruth, ToPick, ToStore, ToPop, ToArgs, State, Step, Goes, Stops}
 use Rattle.pungi_meaning.specs.Todo.{listed_values}
 use Rattle.pungi_meaning.specs.Work.{top, below, newest, go_on, push_value, pop_value, replace_value, replace_two}
-use Rattle.pungi_meaning.specs.Work.{with_result, content_at, with_local, unused, after_effect, shape_of}
+use Rattle.pungi_meaning.specs.Work.{with_result, content_at, with_local, unused, after_effect}
 
 -- ---- places
 
@@ -163,18 +163,17 @@ right_side on v b k s = pop_value (if is_wanted on (is_true v) then ToEval b ∷
 
 -- ---- calls of the API
 
-abbrev pub after_call : Pos → Row → List Value → List Value → List Todo → Effect → State → Step
-after_call p row args others k e s =
-    Goes (Called p (shape_of row) args e ∷ []) k (record s { values = with_result e.value others })
+abbrev pub after_call : Pos → Signature → List Value → List Value → List Todo → Effect → State → Step
+after_call p g args others k e s = Goes (Called p g args e ∷ []) k (record s { values = with_result e.value others })
 
-abbrev pub call : List Choice → Pos → Row → ℕ → List Todo → State → Step
-call choices p row n k s =
-    after_effect p (call_effect s.world (shape_of row) (newest n s.values) (unused choices s))
-    (after_call p row (newest n s.values) (drop n s.values) k) s
+abbrev pub call : List Choice → Pos → Signature → ℕ → List Todo → State → Step
+call choices p g n k s =
+    after_effect p (call_effect s.world g (newest n s.values) (unused choices s))
+    (after_call p g (newest n s.values) (drop n s.values) k) s
 
-abbrev pub next_arg : List Choice → Pos → Row → List expr.Value → ℕ → Option expr.Value → List Todo → State → Step
-next_arg choices p row args i (Some v) k s = go_on (ToEval v ∷ ToArgs p row args (i + 1) ∷ k) s
-next_arg choices p row args i None k s = call choices p row (length args) k s
+abbrev pub next_arg : List Choice → Pos → Signature → List expr.Value → ℕ → Option expr.Value → List Todo → State → Step
+next_arg choices p g args i (Some v) k s = go_on (ToEval v ∷ ToArgs p g args (i + 1) ∷ k) s
+next_arg choices p g args i None k s = call choices p g (length args) k s
 
 -- ---- a node
 
@@ -202,5 +201,5 @@ evaluate choices (expr.converted p kind v) k s = go_on (ToEval v ∷ ToFit p kin
 evaluate choices (expr.cast_of p v) k s = go_on (ToEval v ∷ k) s
 evaluate choices (expr.dropped p v) k s = go_on (ToEval v ∷ k) s
 evaluate choices (expr.called p n vs) k s = Stops p
-evaluate choices (expr.called_row p n row vs) k s = go_on (ToArgs p row (listed_values vs) 0 ∷ k) s
+evaluate choices (expr.called_row p n g vs) k s = go_on (ToArgs p g (listed_values vs) 0 ∷ k) s
 evaluate choices (expr.nonsense p) k s = Stops p

@@ -11,8 +11,7 @@ use Rattle.std.specs.Prelude.{ℕ, ℤ, Bool, List, [], ◌∷◌, Option}
 use Rattle.pungi_base.specs.declared.names.Name.{Name}
 use Rattle.pungi_base.specs.declared.pos.Pos.{Pos}
 use Rattle.pungi_base.specs.declared.value.Value.{Value}
-use Rattle.pungi_api.specs.declared.row.Row.{Row}
-use Rattle.pungi_api.specs.declared.shape.Shape.{Shape}
+use Rattle.pungi_api.specs.declared.signature.Signature.{Signature}
 use Rattle.pungi_resolved.specs.Values as expr
 use Rattle.pungi_resolved.specs.Actions as stmt
 use Rattle.pungi_types.specs.declared.kind.ValueKind.{ValueKind}
@@ -34,7 +33,7 @@ pub data Operation : Type 0 where
   Compared : Pos → Cmp → Value → Value → Operation
   Loaded : Pos → Slot → Option Value → Operation
   Stored : Pos → Slot → Value → Operation
-  Called : Pos → Shape → List Value → Effect → Operation
+  Called : Pos → Signature → List Value → Effect → Operation
 
 pub data Todo : Type 0 where
   -- expressions
@@ -54,7 +53,7 @@ pub data Todo : Type 0 where
   ToPick : expr.Value → expr.Value → Todo
   ToStore : ValueKind → expr.Place → Todo
   ToPop : Todo
-  ToArgs : Pos → Row → List expr.Value → ℕ → Todo  -- of a call: all arguments, and the place of the next one
+  ToArgs : Pos → Signature → List expr.Value → ℕ → Todo  -- of a call: all arguments, and the place of the next one
   -- statements
   ToExec : stmt.Action → Todo
   ToForget : Todo

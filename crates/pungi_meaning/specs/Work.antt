@@ -13,7 +13,6 @@
 --   unused choices s                   the choices that are left
 --   after_effect p r go s              what the world does at a place: with its effect and the world after it the run
 --                                      goes on
---   shape_of row                       a call of a row that writes no variable
 --   or_else                            the first of two that is there
 use Rattle.std.specs.Prelude.{ℕ, ◌+◌, List, [], ◌∷◌, ◌++◌, length, take, drop, reverse, replicate, get_or, slice_set}
 use Rattle.std.specs.Prelude.{Option, Some, None, Result, Ok, Err}
@@ -21,8 +20,6 @@ use Rattle.pungi_base.specs.declared.choice.Choice.{Choice}
 use Rattle.pungi_base.specs.declared.pos.Pos.{Pos}
 use Rattle.pungi_base.specs.declared.value.Value.{Value}
 use Rattle.pungi_base.specs.declared.value.Value.TheVariants as value
-use Rattle.pungi_api.specs.declared.row.Row.{Row}
-use Rattle.pungi_api.specs.declared.shape.Shape.{Shape}
 use Rattle.pungi_resolved.specs.Actions.{DeclaredLocal, Action, declare}
 use Rattle.pungi_world.specs.declared.content.Content.{Content}
 use Rattle.pungi_world.specs.declared.content.Content.TheVariants.{Unset}
@@ -93,9 +90,6 @@ after_effect p (Ok r) go s = go r.0 (record s { world = r.1; used = s.used ++ re
 after_effect p (Err halt.Stopped) go s = Stops p
 after_effect p (Err halt.NeedsChoice) go s = Wants
 after_effect p (Err halt.Memory) go s = Wants
-
-abbrev pub shape_of : Row → Shape
-shape_of row = record { row = row; units_in = None; units_out = None; least = 0; outputs = 0 }
 
 abbrev pub or_else : {A : Type 0} → Option A → Option A → Option A
 or_else (Some x) other = Some x

@@ -2,7 +2,6 @@
 ghost use Rattle.std.specs.Prelude.{◌≡◌, ◌<◌, [], drop, length, map, reverse, slice_get, IfOk, OnOk, MatchOption, None};
 ghost use Rattle.std.specs.Prelude.{Some};
 ghost use Rattle.pungi_resolved.specs.ValueView.{value_view};
-ghost use Rattle.pungi_world.specs.Calls.{is_defined_form};
 ghost use Rattle.pungi_meaning.specs.Exprs.{call as call_step, next_arg};
 ghost use Rattle.pungi_meaning.specs.Machine.{todos, state_of, Matches};
 ghost use Rattle.pungi_meaning.specs.Work.{newest};
@@ -11,29 +10,11 @@ use crate::expr::evaluate_then;
 use crate::machine::{Ending, Machine};
 use crate::stack::{note_used, unused};
 use crate::task::Task;
-use pungi_api::{Form, Shape, Special};
+use pungi_api::Signature;
 use pungi_base::{Choice, Memory, Pos, Value};
 use pungi_resolved::Value as Node;
 use pungi_world::{ApiCall, Halt};
 use std::alloc::Global;
-
-/// Whether the effect of a row of this form is defined.
-pub fn is_defined_form(form: Form) -> bool
-    ensures { result ≡ is_defined_form form }
-{
-    match form {
-        Form::Plain => true,
-        Form::Special(special) => match special {
-            Special::IncRef
-            | Special::DecRef
-            | Special::XIncRef
-            | Special::XDecRef
-            | Special::NewRef
-            | Special::XNewRef => true,
-            _ => false,
-        },
-    }
-}
 
 /// The newest values, taken off. The oldest of them comes first.
 #[tactic(auto, using(crate::proofs::NewestLemmas::newest_range, crate::proofs::NewestLemmas::newest_left))]
@@ -53,18 +34,18 @@ fn call(
     alloc: Global,
     choices: &[Choice],
     pos: Pos,
-    shape: &Shape,
+    signature: &Signature,
     count: usize,
 ) -> Result<Option<Ending>, Memory>
-    ensures { IfOk result (λ halt. Matches (call_step choices.now pos shape.now.row count (todos m.old.tasks.items)
+    ensures { IfOk result (λ halt. Matches (call_step choices.now pos signature.now count (todos m.old.tasks.items)
         (state_of m.old)) halt m.new) }
 {
-    if !is_defined_form(shape.row.form) {
-        return Ok(Some(Ending::Stop(pos)));
-    }
     let args = take_newest(alloc, &mut m.values, count)?;
     let rest = unused(choices, m.used.len());
-    let api = ApiCall { shape, args: &args };
+    let api = ApiCall {
+        signature,
+        args: &args,
+    };
     match m.world.apply(alloc, &api, rest) {
         Ok(effect) => {
             note_used(&mut m.used, pos, effect.used)?;
@@ -91,16 +72,16 @@ fn arg_at<'a>(args: &'a [Node], i: usize) -> Option<&'a Node>
 fn go_on<'a>(
     m: &mut Machine<'a>,
     pos: Pos,
-    shape: &'a Shape,
+    signature: &'a Signature,
     args: &'a [Node],
     i: usize,
     arg: &'a Node,
 ) -> Result<Option<Ending>, Memory>
     requires { i < length args.now }
-    ensures { IfOk result (λ halt. Matches (next_arg [] pos shape.now.row (map value_view args.now) i
+    ensures { IfOk result (λ halt. Matches (next_arg [] pos signature.now (map value_view args.now) i
         (Some (value_view arg.now)) (todos m.old.tasks.items) (state_of m.old)) halt m.new) }
 {
-    evaluate_then(m, Task::Args(pos, shape, args, i + 1), arg)
+    evaluate_then(m, Task::Args(pos, signature, args, i + 1), arg)
 }
 
 /// The next argument of a call, or the call.
@@ -110,15 +91,15 @@ pub fn next_arg<'a>(
     alloc: Global,
     choices: &[Choice],
     pos: Pos,
-    shape: &'a Shape,
+    signature: &'a Signature,
     args: &'a [Node],
     i: usize,
 ) -> Result<Option<Ending>, Memory>
-    ensures { IfOk result (λ halt. Matches (next_arg choices.now pos shape.now.row (map value_view args.now) i
+    ensures { IfOk result (λ halt. Matches (next_arg choices.now pos signature.now (map value_view args.now) i
         (slice_get (map value_view args.now) i) (todos m.old.tasks.items) (state_of m.old)) halt m.new) }
 {
     match arg_at(args, i) {
-        Some(arg) => go_on(m, pos, shape, args, i, arg),
-        None => call(m, alloc, choices, pos, shape, args.len()),
+        Some(arg) => go_on(m, pos, signature, args, i, arg),
+        None => call(m, alloc, choices, pos, signature, args.len()),
     }
 }

@@ -1,5 +1,5 @@
 ghost use Rattle.std.specs.Prelude.{◌≡◌, ℕ, IfOk, IsTrue};
-ghost use Rattle.pungi_world.specs.Calls.{call_effect, is_defined_form};
+ghost use Rattle.pungi_world.specs.Calls.{call_effect};
 ghost use Rattle.pungi_world.specs.Counts.{AreWithin};
 ghost use Rattle.pungi_world.specs.Effects.{Gives};
 ghost use Rattle.pungi_world.specs.Escapes.{IsCountable};
@@ -128,8 +128,7 @@ impl CountedWorld {
         api: &ApiCall,
         choices: &[Choice],
     ) -> Result<Effect, Halt>
-        requires { IsTrue (is_defined_form api.now.shape.now.row.form) }
-        ensures { Gives result self.new (call_effect self.old api.now.shape.now api.now.args.now choices.now) }
+        ensures { Gives result self.new (call_effect self.old api.now.signature.now api.now.args.now choices.now) }
     {
         let count = api.args.len() as u64;
         if self.most >= MOST || count >= MOST {

@@ -12,7 +12,7 @@ use crate::machine::{Ending, Machine};
 use crate::slot::load_old;
 use crate::task::Task;
 use crate::{Cmp, Op, truth, wide};
-use pungi_api::Shape;
+use pungi_api::Signature;
 use pungi_base::{Choice, Kind, Memory, Pos, Punct, Value};
 use pungi_resolved::{Place, Value as Node, ValueNode};
 use pungi_types::ValueKind;
@@ -287,15 +287,15 @@ fn update<'a>(
 fn prepare<'a>(
     m: &mut Machine<'a>,
     pos: Pos,
-    shape: &'a Shape,
+    signature: &'a Signature,
     args: &'a [Node],
 ) -> Result<Option<Ending>, Memory>
     ensures goes { IfOk result (λ halt. halt ≡ None) }
     ensures todos { OnOk result (todos m.new.tasks.items
-        ≡ ToArgs pos shape.now.row (listed_values (values_of (map value_view args.now))) 0 ∷ todos m.old.tasks.items) }
+        ≡ ToArgs pos signature.now (listed_values (values_of (map value_view args.now))) 0 ∷ todos m.old.tasks.items) }
     ensures state { OnOk result (state_of m.new ≡ state_of m.old) }
 {
-    do_first(m, Task::Args(pos, shape, args, 0))
+    do_first(m, Task::Args(pos, signature, args, 0))
 }
 
 /// An expression is evaluated, or leaves its parts and its remainder.
@@ -339,6 +339,6 @@ pub fn evaluate<'a>(
         ValueNode::Cast(part) => do_first(m, Task::Eval(part)),
         ValueNode::Dropped(part) => do_first(m, Task::Eval(part)),
         ValueNode::Called(_, _) => Ok(Some(Ending::Stop(node.pos))),
-        ValueNode::CalledRow(_, shape, args) => prepare(m, node.pos, shape, args),
+        ValueNode::CalledRow(_, signature, args) => prepare(m, node.pos, signature.get(), args),
     }
 }

@@ -20,7 +20,6 @@ mod stmt;
 mod task;
 mod unwind;
 
-pub use call::is_defined_form;
 pub use cmp::{Cmp, number_of};
 pub use condition::{is_true, truth};
 pub use counted_world::CountedWorld;

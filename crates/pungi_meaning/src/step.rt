@@ -151,7 +151,9 @@ fn operate<'a>(
             take(&mut m.values);
             Ok(None)
         }
-        Task::Args(pos, shape, args, i) => next_arg(m, alloc, choices, pos, shape, args, i),
+        Task::Args(pos, signature, args, i) => {
+            next_arg(m, alloc, choices, pos, signature, args, i)
+        },
         Task::Exec(action) => execute(m, action),
         Task::Forget => {
             m.values.clear();

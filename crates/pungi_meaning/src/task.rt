@@ -1,5 +1,5 @@
 use crate::{Cmp, Op};
-use pungi_api::Shape;
+use pungi_api::Signature;
 use pungi_base::{Name, Pos};
 use pungi_resolved::{Action, DeclaredLocal, Place, Value};
 use pungi_types::ValueKind;
@@ -31,7 +31,7 @@ pub enum Task<'a> {
     Pick(&'a Value, &'a Value),
     Store(ValueKind, &'a Place),
     Pop,
-    Args(Pos, &'a Shape, &'a [Value], usize),
+    Args(Pos, &'a Signature, &'a [Value], usize),
     Exec(&'a Action),
     Forget,
     Declare(&'a [DeclaredLocal]),

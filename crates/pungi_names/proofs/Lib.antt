@@ -3,6 +3,7 @@ pub mod DepthLemmas
 pub mod ListLemmas
 pub mod PlaceLemmas
 pub mod SeenLemmas
+pub mod SizeLemmas
 pub mod SpecLemmas
 pub mod StepLemmas
 pub mod StructLemmas

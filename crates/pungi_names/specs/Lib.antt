@@ -6,6 +6,7 @@ pub mod FieldsView
 pub mod Finds
 pub mod First
 pub mod GlobalsView
+pub mod Limits
 pub mod MeaningView
 pub mod NamesView
 pub mod RowsView

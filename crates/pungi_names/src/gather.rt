@@ -1,5 +1,5 @@
 //! Names of a file are gathered.
-ghost use Rattle.std.specs.Prelude.{◌≡◌, ◌+◌, ◌<◌, ◌^◌, ℕ, None, IfOk, OnOk, length, map, option_map, nat_eq};
+ghost use Rattle.std.specs.Prelude.{◌≡◌, ◌+◌, ◌≤◌, ℕ, None, IfOk, OnOk, length, map, option_map, nat_eq};
 ghost use Rattle.indexmap.specs.IndexMap.{get, IsEmpty};
 ghost use Rattle.indexmap.specs.IndexSet.{contains, IsEmpty as IsEmptySet};
 ghost use Rattle.pungi_api.specs.Rows.{row_in};
@@ -7,13 +7,16 @@ ghost use Rattle.pungi_declared.specs.DeclaredView.{function_view, tag_view, var
 ghost use Rattle.pungi_base.specs.Numbers.{static_count};
 ghost use Rattle.pungi_names.specs.CallsView.{signature_view, function_signature};
 ghost use Rattle.pungi_names.specs.FieldsView.{kind_in};
+ghost use Rattle.pungi_names.specs.Limits.{most_tokens};
 ghost use Rattle.pungi_names.specs.NamesView.{file_of};
 ghost use Rattle.pungi_names.specs.RowsView.{call_view, row_seen};
 ghost use Rattle.pungi_names.specs.StructsView.{kept_or};
+ghost use Rattle.pungi_tree.specs.UnitFlat.{items_flat};
 ghost use Rattle.pungi_tree.specs.UnitView.{unit_view};
 ghost use Rattle.pungi_types.specs.Files.{source_file, typedefs as typedefs_of, variables_of, definitions};
 ghost use Rattle.pungi_types.specs.Files.{definition_in, prototypes as prototypes_of, is_place_in};
 ghost use Rattle.pungi_types.specs.Kinds.{field_in_some, struct_fields};
+ghost use Rattle.pungi_types.specs.Limits.{most_statics};
 ghost use Rattle.pungi_types.specs.Names.{global_kind, is_table_name, is_module, type_objects as type_objects_of};
 ghost use Rattle.pungi_types.specs.Tags.{tags as tags_of};
 ghost use Rattle.pungi_types.specs.TypesView.{typedef_view};
@@ -35,9 +38,6 @@ use pungi_declared::{Tag, Variable, prototypes, tags, typedefs, variables};
 use pungi_tree::{FunctionDef, Unit};
 use pungi_types::{Typedef, ValueKind};
 use std::alloc::Global;
-
-/// So many type objects have numbers after those of the API.
-const MOST_TYPE_OBJECTS: usize = 0xffff_ffe7;
 
 fn gather_kinds<'u>(
     alloc: Global,
@@ -80,6 +80,7 @@ fn fill_values(
     requires typedefs { map typedef_view typedefs.now.items ≡ typedefs_of (unit_view kinds.now.cores.unit.now) }
     requires tags { map tag_view tags.now.items ≡ tags_of (unit_view kinds.now.cores.unit.now) }
     requires variables { map variable_view variables.now.items ≡ variables_of (unit_view kinds.now.cores.unit.now) }
+    requires few { length (items_flat (unit_view kinds.now.cores.unit.now)) ≤ most_tokens }
     requires no_fields { IsEmpty parts.old.fields }
     requires no_globals { IsEmpty parts.old.globals }
     requires no_tables { IsEmptySet parts.old.tables }
@@ -96,17 +97,13 @@ fn fill_values(
         ≡ is_module (unit_view kinds.now.cores.unit.now) w) }
     ensures type_objects { OnOk result (parts.new.type_objects.keys
         ≡ type_objects_of (unit_view kinds.now.cores.unit.now)) }
-    ensures few { OnOk result (length parts.new.type_objects.keys + static_count < 2 ^ 32) }
+    ensures few { OnOk result (static_count + length parts.new.type_objects.keys ≤ most_statics) }
 {
     note_structs(alloc, kinds, &mut parts.fields, typedefs, tags)?;
     note_globals(kinds, &mut parts.globals, variables)?;
     note_tables(kinds, &mut parts.tables, variables)?;
     note_modules(kinds, &mut parts.modules, variables)?;
-    note_type_objects(kinds, &mut parts.type_objects, variables)?;
-    if parts.type_objects.len() > MOST_TYPE_OBJECTS {
-        return Err(Memory);
-    }
-    Ok(())
+    note_type_objects(kinds, &mut parts.type_objects, variables)
 }
 
 fn gather_values<'u>(
@@ -119,6 +116,7 @@ fn gather_values<'u>(
     requires typedefs { map typedef_view typedefs.now.items ≡ typedefs_of (unit_view kinds.cores.unit.now) }
     requires tags { map tag_view tags.now.items ≡ tags_of (unit_view kinds.cores.unit.now) }
     requires variables { map variable_view variables.now.items ≡ variables_of (unit_view kinds.cores.unit.now) }
+    requires few { length (items_flat (unit_view kinds.cores.unit.now)) ≤ most_tokens }
     ensures { IfOk result (λ values. unit_view values.kinds.cores.unit.now ≡ unit_view kinds.entry.cores.unit.now) }
 {
     let mut parts = ValueParts {
@@ -153,6 +151,7 @@ fn typed_values<'u>(
 ) -> Result<Values<'u>, Memory>
     requires typedefs { map typedef_view typedefs.now.items ≡ typedefs_of (unit_view unit.now) }
     requires tags { map tag_view tags.now.items ≡ tags_of (unit_view unit.now) }
+    requires few { length (items_flat (unit_view unit.now)) ≤ most_tokens }
     ensures { IfOk result (λ values. unit_view values.kinds.cores.unit.now ≡ unit_view unit.now) }
 {
     let variables = variables(alloc, unit)?;
@@ -161,6 +160,7 @@ fn typed_values<'u>(
 }
 
 fn unit_values<'u>(alloc: Global, unit: &'u Unit) -> Result<Values<'u>, Memory>
+    requires { length (items_flat (unit_view unit.now)) ≤ most_tokens }
     ensures { IfOk result (λ values. unit_view values.kinds.cores.unit.now ≡ unit_view unit.now) }
 {
     let typedefs = typedefs(alloc, unit)?;
@@ -221,7 +221,8 @@ pub fn unit_names<'u>(
     rows: &'u Table,
     functions: &Vec<&FunctionDef>,
 ) -> Result<UnitNames<'u>, Memory>
-    requires { map function_view functions.now.items ≡ definitions (unit_view unit.now) }
+    requires functions { map function_view functions.now.items ≡ definitions (unit_view unit.now) }
+    requires few { length (items_flat (unit_view unit.now)) ≤ most_tokens }
     ensures { IfOk result (λ names. file_of names ≡ source_file texts.now (unit_view unit.now) rows.now) }
 {
     let values = unit_values(alloc, unit)?;

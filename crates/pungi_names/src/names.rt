@@ -1,5 +1,5 @@
 // The names of a file.
-ghost use Rattle.std.specs.Prelude.{◌≡◌, ℕ, nat_eq, option_map};
+ghost use Rattle.std.specs.Prelude.{◌≡◌, ◌+◌, ◌≤◌, ℕ, nat_eq, option_map};
 ghost use Rattle.indexmap.specs.IndexMap.{get};
 ghost use Rattle.indexmap.specs.IndexSet.{contains};
 ghost use Rattle.pungi_api.specs.Rows.{row_in};
@@ -57,12 +57,14 @@ impl Drop for UnitNames<'_> {
 
 impl<'u> UnitNames<'u> {
     ghost use Rattle.std.specs.Prelude.{is_some, length, None};
+    ghost use Rattle.pungi_base.specs.Numbers.{static_count};
     ghost use Rattle.pungi_names.specs.CalledView.{called_view};
     ghost use Rattle.pungi_names.specs.MeaningView.{meaning_view};
     ghost use Rattle.pungi_names.specs.NamesView.{file_of, file_callee};
     ghost use Rattle.pungi_names.specs.SeenCalls.{seen};
     ghost use Rattle.pungi_tree.specs.ExprView.{spec_view, declr_view};
     ghost use Rattle.pungi_types.specs.Exprs.{row_or, value_or_none};
+    ghost use Rattle.pungi_types.specs.Limits.{most_statics};
     ghost use Rattle.pungi_types.specs.Names.{is_table, is_static, type_objects as type_objects_of, is_function};
     ghost use Rattle.pungi_types.specs.Names.{global_kind, global_or, local_or};
 
@@ -93,7 +95,8 @@ impl<'u> UnitNames<'u> {
 
     /// How many type objects the file has.
     pub fn type_objects(&self) -> u32
-        ensures { result ≡ length (type_objects_of (file_of self.now).items) }
+        ensures counted { result ≡ length (type_objects_of (file_of self.now).items) }
+        ensures few { static_count + result ≤ most_statics }
     {
         self.values.type_object_count()
     }

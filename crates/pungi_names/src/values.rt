@@ -1,5 +1,5 @@
 // The values that stand outside functions, and the fields of structs.
-ghost use Rattle.std.specs.Prelude.{◌≡◌, ◌+◌, ◌<◌, ◌^◌, ◌&&◌, not, nat_le, ℕ, nat_eq, option_map, None, length};
+ghost use Rattle.std.specs.Prelude.{◌≡◌, ◌+◌, ◌≤◌, ◌&&◌, not, nat_le, ℕ, nat_eq, option_map, None, length};
 ghost use Rattle.indexmap.specs.IndexMap.{get};
 ghost use Rattle.indexmap.specs.IndexSet.{contains};
 ghost use Rattle.pungi_base.specs.Numbers.{static_count, first_type_object, statics_end};
@@ -7,6 +7,7 @@ ghost use Rattle.pungi_names.specs.FieldsView.{kind_in};
 ghost use Rattle.pungi_names.specs.StructsView.{kept_or};
 ghost use Rattle.pungi_tree.specs.UnitView.{unit_view};
 ghost use Rattle.pungi_types.specs.Kinds.{field_in_some, struct_fields};
+ghost use Rattle.pungi_types.specs.Limits.{most_statics};
 ghost use Rattle.pungi_types.specs.Names.{global_kind, is_module, is_table_name, type_objects as type_objects_of};
 ghost use Rattle.pungi_types.specs.Names.{is_plain_static};
 
@@ -36,7 +37,7 @@ pub(crate) struct Values<'u> {
     pub(crate) ghost modules_found: { (w : ℕ)
         → contains nat_eq modules w ≡ is_module (unit_view kinds.cores.unit.now) w },
     pub(crate) ghost type_objects_found: { type_objects.keys ≡ type_objects_of (unit_view kinds.cores.unit.now) },
-    pub(crate) ghost few: { length type_objects.keys + static_count < 2 ^ 32 },
+    pub(crate) ghost few: { static_count + length type_objects.keys ≤ most_statics },
 }
 
 /// A static that is used without `&`.
@@ -133,14 +134,15 @@ impl<'u> Values<'u> {
 
     /// How many type objects the file has.
     pub(crate) fn type_object_count(&self) -> u32
-        ensures { result ≡ length (type_objects_of (unit_view self.now.kinds.cores.unit.now)) }
+        ensures counted { result ≡ length (type_objects_of (unit_view self.now.kinds.cores.unit.now)) }
+        ensures few { static_count + result ≤ most_statics }
     {
         self.type_objects.len() as u32
     }
 
     fn place_of(&self, word: Name) -> u32
         ensures place { result ≡ place_among (type_objects_of (unit_view self.now.kinds.cores.unit.now)) word.0 }
-        ensures few { result + static_count < 2 ^ 32 }
+        ensures few { static_count + result ≤ most_statics }
     {
         match self.type_objects.get_index_of(&word.0) {
             Some(place) => place as u32,

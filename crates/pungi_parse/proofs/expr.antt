@@ -10,6 +10,7 @@ pub mod ExprSound
 pub mod ClimbSound
 pub mod ExprSteps
 pub mod PostfixComplete
+pub mod OperatorEnds
 pub mod TightComplete
 pub mod AllRead
 pub mod TypeExprTheorems

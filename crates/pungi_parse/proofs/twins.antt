@@ -2,5 +2,6 @@
 pub mod Twin
 pub mod ExprLikes
 pub mod ExprTwins
+pub mod DeclTwins
 pub mod StmtTwins
 pub mod UnitTwins

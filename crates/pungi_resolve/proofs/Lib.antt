@@ -4,6 +4,7 @@ pub mod OperatorKinds
 pub mod UsedValues
 pub mod SoundParts
 pub mod SoundExprs
+pub mod CaseConstants
 pub mod SoundStmts
 pub mod SoundFunctions
 pub mod ListLemmas

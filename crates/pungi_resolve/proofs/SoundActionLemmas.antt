@@ -3,7 +3,8 @@ use Rattle.std.proofs.Common.{◌≡◌, true, List, [], ◌∷◌}
 use Rattle.pungi_resolved.specs.Actions.{DeclaredLocal, Action, block, declare, do_expr, if_only, if_else, while}
 use Rattle.pungi_resolved.specs.Actions.{do_while, for, switch, case, default, label, goto, break, continue, return}
 use Rattle.pungi_resolved.specs.Actions.{Actions, no_actions, action_and}
-use Rattle.pungi_resolve.specs.Sound.{is_sound, is_sound_option, are_sound_locals, is_sound_action, are_sound_actions}
+use Rattle.pungi_resolve.specs.Sound.{is_long, is_sound, is_sound_option, are_sound_locals, is_sound_action}
+use Rattle.pungi_resolve.specs.Sound.{are_sound_actions}
 use Rattle.pungi_resolve.specs.SoundActions.{AreSoundLocals, IsSoundAction, AreSoundActions}
 use Rattle.pungi_resolve.proofs.Clean.{and_left, and_right}
 
@@ -41,7 +42,7 @@ mutual
         action-holds a (and_right (is_sound_option w) _ r3),
       )
   action-holds (switch p v a) h = (and_left _ _ h, action-holds a (and_right (is_sound v) _ h))
-  action-holds (case p v a) h = action-holds a h
+  action-holds (case p v a) h = (and_left _ _ h, action-holds a (and_right (is_long v) _ h))
   action-holds (default p a) h = action-holds a h
   action-holds (label p n a) h = action-holds a h
   action-holds (goto p n) h = tt

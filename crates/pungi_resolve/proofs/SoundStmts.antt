@@ -1,6 +1,6 @@
 -- A statement in which no rule holds is sound once it is resolved.
 use Rattle.std.proofs.Common.{◌≡◌, ◌∙◌, true, false, List, [], ◌∷◌, Option, Some, None, refl, subst}
-use Rattle.std.specs.Prelude.{◌&&◌, is_none}
+use Rattle.std.specs.Prelude.{◌&&◌, ◌||◌, not, is_none}
 use Rattle.pungi_base.specs.declared.key.Key.{Key}
 use Rattle.pungi_base.specs.declared.pos.Pos.{Pos}
 use Rattle.pungi_tree.specs.Syntax.{Expr, Spec, Declr, Init, value, table, VarDecl, var_decl, decl, ForStart}
@@ -13,7 +13,8 @@ use Rattle.pungi_types.specs.Kinds.{declared_kind}
 use Rattle.pungi_types.specs.Names.{Env}
 use Rattle.pungi_types.specs.Operators.{is_void}
 use Rattle.pungi_types.specs.Exprs.{kind_of, expr_findings}
-use Rattle.pungi_types.specs.Labels.{switch_findings}
+use Rattle.pungi_types.specs.Findings.{when}
+use Rattle.pungi_types.specs.Labels.{constant_of, switch_findings}
 use Rattle.pungi_resolve.specs.Exprs.{resolve}
 use Rattle.pungi_resolve.specs.Stmts.{Site, with_vars, with_start, site_after, initial_value, declared_locals}
 use Rattle.pungi_resolve.specs.Stmts.{start_declared, start_value, option_value, return_value, action, actions}
@@ -27,6 +28,7 @@ use Rattle.pungi_resolve.proofs.Clean.{Clean, left, right, not_when, or_left, an
 use Rattle.pungi_resolve.proofs.Known.{HasKinds, one_more, is_value_kind, declared-not_void}
 use Rattle.pungi_resolve.proofs.SoundParts.{convert-same}
 use Rattle.pungi_resolve.proofs.SoundExprs.{expr-good}
+use Rattle.pungi_resolve.proofs.CaseConstants.{case-long}
 
 -- the site at which a frame is
 abbrev pub site : Frame → Site
@@ -161,7 +163,10 @@ mutual
   stmt-sound f h (switch p e s) c =
       and_true _ _ (switched-sound f.env h p e (left (switched_findings f.env p e) _ c))
       (stmt-sound (in_switch f) h s (right (switch_findings s) _ (right (switched_findings f.env p e) _ c)))
-  stmt-sound f h (case p e s) c = stmt-sound (in_label f) h s (right (expr_findings f.env e) _ (right _ _ c))
+  stmt-sound f h (case p e s) c =
+      let parts = right (when (not f.cases || is_none (constant_of e)) p 7) _ c in
+      and_true _ _ (case-long f.env e (left (expr_findings f.env e) _ parts))
+      (stmt-sound (in_label f) h s (right (expr_findings f.env e) _ parts))
   stmt-sound f h (default p s) c = stmt-sound (in_label f) h s (right _ _ c)
   stmt-sound f h (label p n s) c = stmt-sound (in_label f) h s c
   stmt-sound f h (goto p n q) c = refl

@@ -9,10 +9,10 @@ use Rattle.pungi_types.specs.declared.kind.ValueKind.TheVariants as kinds
 use Rattle.pungi_types.specs.declared.lookup.Want.{Want}
 use Rattle.pungi_types.specs.Names.{Env}
 use Rattle.pungi_types.specs.Kinds.{not_void}
-use Rattle.pungi_types.specs.Findings.{nothing_found, ◌and◌, when}
+use Rattle.pungi_types.specs.Findings.{nothing_found, ◌and◌, when, when_some}
 use Rattle.pungi_types.specs.Operators.{is_void}
-use Rattle.pungi_types.specs.Exprs.{kind_of, void_call, operand, when_some, void_use, is_module_address, wants_module}
-use Rattle.pungi_types.specs.Exprs.{first_met, cast_wrong, expr_findings}
+use Rattle.pungi_types.specs.Exprs.{kind_of, void_call, operand, void_use, is_module_address, wants_module, first_met}
+use Rattle.pungi_types.specs.Exprs.{cast_wrong, expr_findings}
 use Rattle.pungi_resolve.proofs.Clean.{Clean, left, right, not_when, and_right}
 
 not_void-same : (k : Option ValueKind) → is_void k ≡ false → not_void k ≡ k

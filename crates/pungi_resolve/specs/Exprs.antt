@@ -11,6 +11,7 @@ use Rattle.pungi_base.specs.declared.kind.Kind.TheVariants as tokens
 use Rattle.pungi_base.specs.declared.names.Name.{Name}
 use Rattle.pungi_base.specs.declared.pos.Pos.{Pos}
 use Rattle.pungi_base.specs.declared.punct.Punct.{Punct}
+use Rattle.pungi_api.specs.Signatures.{signature_of}
 use Rattle.pungi_tree.specs.Syntax.{Expr, word, int, float, char, text, null, paren, unary, post, binary, assign}
 use Rattle.pungi_tree.specs.Syntax.{conditional, comma, cast, size_of_type, call, new, index, dot, arrow, Exprs}
 use Rattle.pungi_tree.specs.Syntax.{no_exprs, expr_and}
@@ -111,7 +112,7 @@ cast_value p to from v =
 
 abbrev pub call_value : Pos → Callee → Name → Values → Value
 call_value p (defined d) n vs = called p n vs
-call_value p (a_row r) n vs = called_row p n r vs
+call_value p (a_row r) n vs = called_row p n (signature_of r) vs
 call_value p _ n vs = nonsense p
 
 abbrev pub callee_name : Expr → Name

@@ -1,7 +1,8 @@
--- A resolved tree in which every name and operator has a meaning.
+-- A resolved tree in which every name and operator has a meaning, and every case a constant that a `long` has.
+--   is_long v    a `long` has the number
 --   is_sound, are_sound, is_sound_place, is_sound_option, are_sound_locals    values, places and locals
 --   is_sound_action, are_sound_actions    statements
-use Rattle.std.specs.Prelude.{Bool, true, false, ◌&&◌, List, [], ◌∷◌, Option, Some, None}
+use Rattle.std.specs.Prelude.{ℤ, pos, negsuc, nat_le, Bool, true, false, ◌&&◌, List, [], ◌∷◌, Option, Some, None}
 use Rattle.pungi_resolved.specs.Values.{Value, constant, text_of, null_of, static_of, module_of, read, inner, signed}
 use Rattle.pungi_resolved.specs.Values.{negated, stepped, computed, compared, joined_by, stored, updated, chosen}
 use Rattle.pungi_resolved.specs.Values.{converted, cast_of, dropped, called, called_row, nonsense, Values, no_values}
@@ -32,7 +33,7 @@ abbrev mutual
   is_sound (cast_of p v) = is_sound v
   is_sound (dropped p v) = is_sound v
   is_sound (called p n vs) = are_sound vs
-  is_sound (called_row p n r vs) = are_sound vs
+  is_sound (called_row p n g vs) = are_sound vs
   is_sound (nonsense p) = false
 
   pub are_sound : Values → Bool
@@ -53,6 +54,10 @@ abbrev pub are_sound_locals : List DeclaredLocal → Bool
 are_sound_locals [] = true
 are_sound_locals (r ∷ rs) = is_sound_option r.value && are_sound_locals rs
 
+abbrev pub is_long : ℤ → Bool
+is_long (pos n) = nat_le n 9223372036854775807
+is_long (negsuc n) = nat_le n 9223372036854775807
+
 abbrev mutual
   pub is_sound_action : Action → Bool
   is_sound_action (block p ss q) = are_sound_actions ss
@@ -65,7 +70,7 @@ abbrev mutual
   is_sound_action (for p rs u v w a) = are_sound_locals rs
       && (is_sound_option u && (is_sound_option v && (is_sound_option w && is_sound_action a)))
   is_sound_action (switch p v a) = is_sound v && is_sound_action a
-  is_sound_action (case p v a) = is_sound_action a
+  is_sound_action (case p v a) = is_long v && is_sound_action a
   is_sound_action (default p a) = is_sound_action a
   is_sound_action (label p n a) = is_sound_action a
   is_sound_action (goto p n) = true

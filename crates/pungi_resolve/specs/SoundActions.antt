@@ -5,7 +5,7 @@ use Rattle.std.specs.Prelude.{◌≡◌, true, List, [], ◌∷◌}
 use Rattle.pungi_resolved.specs.Actions.{DeclaredLocal, Action, block, declare, do_expr, if_only, if_else, while}
 use Rattle.pungi_resolved.specs.Actions.{do_while, for, switch, case, default, label, goto, break, continue, return}
 use Rattle.pungi_resolved.specs.Actions.{Actions, no_actions, action_and}
-use Rattle.pungi_resolve.specs.Sound.{is_sound, is_sound_option}
+use Rattle.pungi_resolve.specs.Sound.{is_long, is_sound, is_sound_option}
 
 abbrev pub AreSoundLocals : List DeclaredLocal → Type 0
 AreSoundLocals [] = Unit {0}
@@ -23,7 +23,7 @@ abbrev mutual
   IsSoundAction (for p rs u v w a) = AreSoundLocals rs × (is_sound_option u ≡ true) × (is_sound_option v ≡ true)
       × (is_sound_option w ≡ true) × IsSoundAction a
   IsSoundAction (switch p v a) = (is_sound v ≡ true) × IsSoundAction a
-  IsSoundAction (case p v a) = IsSoundAction a
+  IsSoundAction (case p v a) = (is_long v ≡ true) × IsSoundAction a
   IsSoundAction (default p a) = IsSoundAction a
   IsSoundAction (label p n a) = IsSoundAction a
   IsSoundAction (goto p n) = Unit {0}

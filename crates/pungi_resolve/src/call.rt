@@ -1,5 +1,6 @@
 //! Calls of functions and of the API (C11 6.5.2.2).
 ghost use Rattle.std.specs.Prelude.{◌≡◌, IfOk, map, true, false};
+ghost use Rattle.pungi_api.specs.Signatures.{signature_of};
 ghost use Rattle.pungi_types.specs.Standing.{is_defined};
 ghost use Rattle.pungi_types.specs.Exprs.{callee, callee_of};
 ghost use Rattle.pungi_resolve.specs.Exprs.{call_value, callee_name};
@@ -8,31 +9,18 @@ ghost use Rattle.pungi_tree.specs.ExprView.{expr_view};
 ghost use Rattle.pungi_resolved.specs.ValueView.{boxed_view, value_view, values_of};
 
 use crate::typed::Typed;
-use pungi_api::{Row, Shape};
+use pungi_api::{BoxedSignature, Row, signature_of};
 use pungi_base::{Memory, Name, Pos};
 use pungi_resolved::{Value, ValueNode};
 use pungi_tree::{Expr, ExprNode};
 use pungi_types::{Lookup, ValueKind};
 use std::alloc::Global;
 
-/// The shape of a call of a row without a format.
-fn shape_of(alloc: Global, row: &Row) -> Result<Box<Shape>, Memory>
-    ensures { IfOk result (λ s. s.value.row ≡ row.now) }
+/// The signature of a call of a row.
+fn boxed_signature(alloc: Global, row: &Row) -> Result<BoxedSignature, Memory>
+    ensures { IfOk result (λ g. g ≡ signature_of row.now) }
 {
-    let row = Row {
-        form: row.form,
-        params: row.params.copy(alloc)?,
-        takes: row.takes.copy(alloc)?,
-        answer: row.answer,
-    };
-    let shape = Shape {
-        row,
-        units_in: None,
-        units_out: None,
-        least: 0,
-        outputs: 0,
-    };
-    Ok(Box::new(alloc, shape)?)
+    BoxedSignature::new(alloc, signature_of(alloc, row)?)
 }
 
 /// A call of the API.
@@ -54,8 +42,13 @@ fn call_row<N: Lookup>(
     match names.row(name) {
         None => unreachable!(),
         Some(row) => {
-            let shape = shape_of(alloc, row)?;
-            Typed::new(alloc, pos, ValueNode::CalledRow(name, shape, args), kind)
+            let signature = boxed_signature(alloc, row)?;
+            Typed::new(
+                alloc,
+                pos,
+                ValueNode::CalledRow(name, signature, args),
+                kind,
+            )
         }
     }
 }

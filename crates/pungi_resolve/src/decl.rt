@@ -57,7 +57,7 @@ fn resolve_var<N: Lookup>(
     ensures after { OnOk result (site_of (N.env names.now) walk.new around.result
         ≡ with_var (site_of (N.env names.now) walk.old around.result) (spec_view spec.now) (var_decl_view var.now)) }
 {
-    let number = walk.next;
+    let number = walk.next.number();
     let at = var.declr.pos;
     let kind = declared_kind(names, spec, &var.declr);
     walk.declare(var.declr.name, kind)?;

@@ -16,7 +16,7 @@ use crate::stmt::resolve_stmt;
 use crate::walk::{Around, Walk};
 use pungi_base::{Memory, Pos, Seq};
 use pungi_resolved::{Action, ActionNode, Function};
-use pungi_scope::LocalNames;
+use pungi_scope::{LocalNames, NextLocal};
 use pungi_tree::{FunctionDef, Stmt, StmtNode};
 use pungi_types::Lookup;
 use std::alloc::Global;
@@ -58,7 +58,7 @@ fn resolve_body<N: Lookup>(
 }
 
 /// What a function does in which no rule holds, where the names of its file are in force. Each word and operator in it
-/// has a meaning.
+/// has a meaning, and each case a constant that a `long` has.
 pub fn resolve<N: Lookup>(alloc: Global, names: &N, f: &FunctionDef) -> Result<Function, Memory>
     requires { IsPassed (N.env names.now) (definition_view f.now) }
     ensures function { IfOk result (λ x. function_view x ≡ resolved_in (N.env names.now) (definition_view f.now)) }
@@ -71,7 +71,7 @@ pub fn resolve<N: Lookup>(alloc: Global, names: &N, f: &FunctionDef) -> Result<F
     };
     let mut walk = Walk {
         locals: LocalNames::new(alloc),
-        next: 0,
+        next: NextLocal::new(alloc),
     };
     let params = resolve_params(names, around, &mut walk, &f.params)?;
     let body = resolve_body(names, around, &mut walk, f.pos, &f.body)?;
@@ -79,7 +79,7 @@ pub fn resolve<N: Lookup>(alloc: Global, names: &N, f: &FunctionDef) -> Result<F
         name: f.name,
         pos: f.pos,
         params: Seq::new(params),
-        locals: walk.next,
+        locals: walk.next.number(),
         result: result_kind,
         body,
     })

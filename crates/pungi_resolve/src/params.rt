@@ -32,7 +32,7 @@ fn resolve_param<N: Lookup>(
             Ok(kind)
         }
         ParamDeclr::Bare(_) | ParamDeclr::Unused { .. } => {
-            walk.skip()?;
+            walk.skip(kind)?;
             Ok(kind)
         }
     }

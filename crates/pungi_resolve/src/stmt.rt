@@ -1,9 +1,9 @@
 //! What statements do (C11 6.8).
 ghost use Rattle.std.specs.Prelude.{◌≡◌, ◌+◌, ◌-◌, IfOk, OnOk, map, true, length, drop};
-ghost use Rattle.pungi_types.specs.Labels.{constant_of, stmt_locals, stmts_locals};
+ghost use Rattle.pungi_types.specs.Labels.{stmt_locals, stmts_locals};
 ghost use Rattle.pungi_resolved.specs.Actions as actions;
 ghost use Rattle.pungi_resolve.specs.Stmts.{action, actions as actions_in, site_after, with_start, start_declared};
-ghost use Rattle.pungi_resolve.specs.Stmts.{start_value, option_value, case_value};
+ghost use Rattle.pungi_resolve.specs.Stmts.{start_value, option_value};
 ghost use Rattle.pungi_resolve.specs.Sound.{is_sound_option};
 ghost use Rattle.pungi_resolve.specs.SoundActions.{AreSoundLocals, IsSoundAction, AreSoundActions};
 ghost use Rattle.pungi_scope.specs.ScopeEnv.{inner_env};
@@ -15,11 +15,10 @@ ghost use Rattle.pungi_resolved.specs.ActionView.{action_view, actions_of, decla
 ghost use Rattle.pungi_resolve.specs.Sites.{site_of, after_all};
 
 use crate::decl::resolve_vars;
-use crate::values::{optional_value, return_value, value};
+use crate::values::{case_value, optional_value, return_value, value};
 use crate::walk::{Around, Walk};
 use pungi_base::{Memory, Name, Pos};
 use pungi_resolved::{Action, ActionNode, DeclaredLocal, Value};
-use pungi_scope::constant;
 use pungi_tree::{Decl, Expr, ForStart, Stmt, StmtNode};
 use pungi_types::Lookup;
 
@@ -37,16 +36,6 @@ struct Head {
 struct Start {
     locals: Vec<DeclaredLocal>,
     first: Option<Box<Value>>,
-}
-
-/// The value of a `case`, which is that of an integer kind, and 0 where it has none.
-fn case_number(e: &Expr) -> Result<i64, Memory>
-    ensures { IfOk result (λ n. n ≡ case_value (constant_of (expr_view e.now))) }
-{
-    match constant(e) {
-        None => Ok(0),
-        Some(number) => i64::try_from(number).map_err(|_| Memory),
-    }
 }
 
 /// What begins a `for`.
@@ -385,7 +374,7 @@ fn resolve_case<N: Lookup>(
         ≡ site_after (site_of (N.env names.now) walk.old around.result) (plain.case pos (expr_view e.now)
         (stmt_view inner.now))) }
 {
-    let number = case_number(e)?;
+    let number = case_value(e);
     let inner = resolve_part(names, around, walk, inner)?;
     let node = ActionNode::Case(number, inner);
     Ok(Action { pos, node })

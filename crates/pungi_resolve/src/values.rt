@@ -1,9 +1,10 @@
 //! The values of a statement.
 ghost use Rattle.std.specs.Prelude.{◌≡◌, IfOk, true};
 ghost use Rattle.pungi_types.specs.Exprs.{kind_of};
+ghost use Rattle.pungi_types.specs.Labels.{constant_of};
 ghost use Rattle.pungi_resolve.specs.Exprs.{convert as convert_of, resolve};
-ghost use Rattle.pungi_resolve.specs.Stmts.{option_value, return_value};
-ghost use Rattle.pungi_resolve.specs.Sound.{is_sound, is_sound_option};
+ghost use Rattle.pungi_resolve.specs.Stmts.{option_value, return_value, case_value};
+ghost use Rattle.pungi_resolve.specs.Sound.{is_long, is_sound, is_sound_option};
 ghost use Rattle.pungi_scope.specs.ScopeEnv.{inner_env};
 ghost use Rattle.pungi_tree.specs.ExprView.{expr_view, optional_view as optional_expr_view};
 ghost use Rattle.pungi_resolved.specs.ValueView.{boxed_view, optional_view};
@@ -14,7 +15,7 @@ use crate::expr::resolve_expr;
 use crate::walk::{Around, Walk};
 use pungi_base::{Memory, Pos};
 use pungi_resolved::Value;
-use pungi_scope::Scope;
+use pungi_scope::{Scope, constant};
 use pungi_tree::Expr;
 use pungi_types::{Lookup, ValueKind};
 
@@ -100,5 +101,16 @@ pub(crate) fn return_value<N: Lookup>(
             let found = value_as(names, around, walk, pos, around.result, e)?;
             Ok(Some(found))
         }
+    }
+}
+
+/// The value of a `case`, which is that of an integer kind, and 0 where it has none.
+pub(crate) fn case_value(e: &Expr) -> i64
+    requires { is_long (case_value (constant_of (expr_view e.now))) ≡ true }
+    ensures { result ≡ case_value (constant_of (expr_view e.now)) }
+{
+    match constant(e) {
+        None => 0,
+        Some(number) => i64::try_from(number).unwrap_or(0),
     }
 }

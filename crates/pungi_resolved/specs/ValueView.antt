@@ -40,7 +40,7 @@ node_step (ValueNode-F.Converted k v) = λ p. plain.converted p k v.value
 node_step (ValueNode-F.Cast v) = λ p. plain.cast_of p v.value
 node_step (ValueNode-F.Dropped v) = λ p. plain.dropped p v.value
 node_step (ValueNode-F.Called n vs) = λ p. plain.called p n (values_of vs.items)
-node_step (ValueNode-F.CalledRow n shape vs) = λ p. plain.called_row p n shape.value.row (values_of vs.items)
+node_step (ValueNode-F.CalledRow n g vs) = λ p. plain.called_row p n g (values_of vs.items)
 
 abbrev pub place_step : Place-F plain.Place Node plain.Value → plain.Place
 place_step (Place-F.Local p x) = plain.local_place p x

@@ -8,7 +8,7 @@ use Rattle.pungi_base.specs.declared.kind.Kind.{Kind}
 use Rattle.pungi_base.specs.declared.names.Name.{Name}
 use Rattle.pungi_base.specs.declared.pos.Pos.{Pos}
 use Rattle.pungi_base.specs.declared.punct.Punct.{Punct}
-use Rattle.pungi_api.specs.declared.row.Row.{Row}
+use Rattle.pungi_api.specs.declared.signature.Signature.{Signature}
 use Rattle.pungi_types.specs.declared.kind.ValueKind.{ValueKind}
 
 mutual
@@ -34,7 +34,7 @@ mutual
     cast_of : Pos → Value → Value  -- a cast that converts nothing
     dropped : Pos → Value → Value  -- a cast to void
     called : Pos → Name → Values → Value  -- a function of the file
-    called_row : Pos → Name → Row → Values → Value
+    called_row : Pos → Name → Signature → Values → Value  -- a call of the API
     nonsense : Pos → Value  -- no checked function has this
 
   pub data Values : Type 0 where

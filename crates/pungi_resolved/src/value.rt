@@ -1,4 +1,4 @@
-use pungi_api::Shape;
+use pungi_api::BoxedSignature;
 use pungi_base::{Kind, Name, Pos, Punct};
 use pungi_types::ValueKind;
 
@@ -55,8 +55,8 @@ pub enum ValueNode {
     Dropped(Box<Value>),
     /// A call of a function of the file.
     Called(Name, Vec<Value>),
-    /// A call of the API.
-    CalledRow(Name, Box<Shape>, Vec<Value>),
+    /// A call of the API, with its signature.
+    CalledRow(Name, BoxedSignature, Vec<Value>),
 }
 
 /// What can be read and assigned to.

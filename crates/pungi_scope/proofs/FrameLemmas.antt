@@ -287,10 +287,10 @@ pub params_counted : (f : Frame) (ps : Params) → (params_frame f ps).next ≡ 
 params_counted f (params ds v dots) = param_counted f ds
 
 -- the frame in front of the first parameter
-pub begins : (env : Env) (d : Definition) (alloc : Global) (ls : List Local) (bs : List ℕ) (x : Option Finding)
+pub begins : (env : Env) (d : Definition) (alloc : Global) (ls : List Local) (n : ℕ) (bs : List ℕ) (x : Option Finding)
     (k : Option ValueKind)
-    → ls ≡ [] → bs ≡ [] → k ≡ result_kind env d
-    → frame_of env (record { locals = ls; next = 0; first = x }) bs (record {
+    → ls ≡ [] → n ≡ 0 → bs ≡ [] → k ≡ result_kind env d
+    → frame_of env (record { locals = ls; next = n; first = x }) bs (record {
       alloc = alloc;
       result = k;
       labels = Outside;
@@ -302,7 +302,8 @@ pub begins : (env : Env) (d : Definition) (alloc : Global) (ls : List Local) (bs
     })
     ≡ first_frame env d
 unfolding of_parts
-begins env d alloc ls bs x k none empty kind =
-    ap (λ vs. of_parts (inner_env env vs) bs 0 k [] false false false false) none
+begins env d alloc ls n bs x k none first empty kind =
+    ap (λ vs. of_parts (inner_env env vs) bs n k [] false false false false) none
+    ∙ ap (λ m. of_parts env bs m k [] false false false false) first
     ∙ ap (λ ws. of_parts env ws 0 k [] false false false false) empty
     ∙ ap (λ y. of_parts env [] 0 y [] false false false false) kind

@@ -10,12 +10,12 @@ ghost use Rattle.pungi_scope.specs.Frames.{frame_of};
 ghost use Rattle.pungi_tree.specs.ExprView.{params_view};
 ghost use Rattle.pungi_tree.specs.StmtView.{stmt_view, stmts_of};
 
-use crate::LocalNames;
 use crate::labels::{Labels, block_labels, note_repeated_labels};
 use crate::nodes::function_size;
 use crate::params::check_params;
 use crate::stmt::{check_list, in_block_with};
 use crate::walk::{Around, Walk};
+use crate::{LocalNames, NextLocal};
 use indexmap::IndexSet;
 use pungi_base::Memory;
 use pungi_tree::{FunctionDef, Stmt, StmtNode};
@@ -84,7 +84,7 @@ fn check_parts<N: Lookup>(
     check_params(names, around, walk, block, &f.params)?;
     note_repeated_labels(around.alloc, &mut walk.first, &f.body)?;
     check_body(names, around, walk, block, &f.body)?;
-    Ok(walk.next)
+    Ok(walk.next.number())
 }
 
 /// What holds at the type of a function's result, and its kind.
@@ -125,7 +125,7 @@ fn check_text<N: Lookup>(
     };
     let mut walk = Walk {
         locals: LocalNames::new(alloc),
-        next: 0,
+        next: NextLocal::new(alloc),
         first: *first,
     };
     let mut block = IndexSet::new(alloc);

@@ -69,7 +69,7 @@ fn declare_param<N: Lookup>(
             Ok(())
         }
         ParamDeclr::Bare(_) | ParamDeclr::Unused { .. } => {
-            walk.skip()?;
+            walk.skip(kind)?;
             Ok(())
         }
     }

@@ -1,7 +1,7 @@
 ghost use Rattle.std.specs.Prelude.{◌≡◌, ◌∷◌, ◌+◌, ◌-◌, length, drop, OnOk};
 
-use crate::LocalNames;
 use crate::labels::Labels;
+use crate::{LocalNames, NextLocal};
 use pungi_base::{Memory, Name};
 use pungi_types::{Finding, Local, ValueKind};
 use std::alloc::Global;
@@ -29,7 +29,7 @@ pub(crate) struct Walk {
     /// The locals in force.
     pub(crate) locals: LocalNames,
     /// The number of the next local.
-    pub(crate) next: usize,
+    pub(crate) next: NextLocal,
     /// The earliest of what holds so far.
     pub(crate) first: Option<Finding>,
 }
@@ -46,18 +46,16 @@ impl Walk {
           next = self.old.next + 1;
         }) }
     {
-        let number = self.next;
+        let number = self.next.number();
         self.locals.push(Local { name, number, kind })?;
-        self.next = number.checked_add(1).ok_or(Memory)?;
-        Ok(())
+        self.next.pass(kind)
     }
 
     /// A local without a name is counted.
-    pub(crate) fn skip(&mut self) -> Result<(), Memory>
+    pub(crate) fn skip(&mut self, kind: Option<ValueKind>) -> Result<(), Memory>
         ensures { OnOk result (self.new ≡ record self.old { next = self.old.next + 1 }) }
     {
-        self.next = self.next.checked_add(1).ok_or(Memory)?;
-        Ok(())
+        self.next.pass(kind)
     }
 
     /// The latest locals go out of force, until no more than so many are left.

@@ -5,7 +5,8 @@ use Rattle.pungi_base.specs.declared.pos.Pos.{Pos}
 use Rattle.pungi_api.specs.declared.answer.Answer.TheVariants as answer
 use Rattle.pungi_api.specs.declared.param.Param.{Param}
 use Rattle.pungi_api.specs.declared.param.Param.TheVariants as param
-use Rattle.pungi_api.specs.declared.row.Form.TheVariants as form
+use Rattle.pungi_api.specs.declared.call_answer.CallAnswer.TheVariants.{Of, Argument}
+use Rattle.pungi_api.specs.declared.own_effect.OwnEffect.TheVariants.{IncRef}
 use Rattle.pungi_api.specs.declared.take.Take.TheVariants as take
 use Rattle.pungi_meaning.specs.declared.cmp.Cmp.TheVariants as cmps
 use Rattle.pungi_code.specs.declared.atom.Atom.{Atom}
@@ -17,12 +18,12 @@ use Rattle.pungi_code.specs.declared.instr.Instr.{Instr}
 use Rattle.pungi_code.specs.declared.instr.Instr.TheVariants.{Compare, Store, Api, Return}
 use Rattle.pungi_code.specs.declared.place.Place.TheVariants as places
 use Rattle.pungi_symbol.specs.declared.answers.decision.Decision.{Decision}
-use Rattle.pungi_symbol.specs.declared.answers.decision.Decision.TheVariants.{Outcome, Same as IsSame}
+use Rattle.pungi_symbol.specs.declared.answers.decision.Decision.TheVariants.{Quiet, Outcome, Same as IsSame}
 use Rattle.pungi_symbol.specs.declared.states.mark.Mark.TheVariants as marks
 use Rattle.pungi_symbol.specs.declared.questions.question.Question.TheVariants.{Null as AsksNull, Overwrites, Answers}
-use Rattle.pungi_symbol.specs.declared.questions.question.Question.TheVariants.{Same, Returns}
+use Rattle.pungi_symbol.specs.declared.questions.question.Question.TheVariants.{Does, Same, Returns}
 use Rattle.pungi_symbol.specs.declared.states.state.State.{State}
-use Rattle.pungi_symbol.specs.declared.states.term.Term.TheVariants.{Token}
+use Rattle.pungi_symbol.specs.declared.states.term.Term.TheVariants.{Token, Unset}
 use Rattle.pungi_symbol.specs.questions.NextQuestion.{ask}
 use Rattle.pungi_symbol.specs.answers.SymbolicState.{apply, successors}
 use Rattle.pungi_symbol.specs.runs.Paths.{start_state, wanted}
@@ -100,17 +101,12 @@ statics_differ = refl
 -- an item is taken over also where the call fails
 abbrev Sets : Code
 Sets = One (Api (Some (At 2)) (record {
-  row = record {
-    form = form.Plain;
-    params = param.Object ∷ param.Object ∷ [];
-    takes = take.Never ∷ take.Always
-        ∷ [];
-    answer = answer.Status;
-  };
-  units_in = None;
-  units_out = None;
+  own = None;
+  params = param.Object ∷ param.Object ∷ [];
+  takes = take.Never ∷ take.Always ∷ [];
+  answer = Of answer.Status;
+  outputs = [];
   least = 0;
-  outputs = 0;
 }) (Var' 0 ∷ Var' 1 ∷ []) []) Two
 
 abbrev Asked2 : State
@@ -124,6 +120,32 @@ taken_on_failure = refl
 
 taken_on_success : (Next Sets.instrs (Outcome 0) Asked2).balances ≡ pos 0 ∷ negsuc 0 ∷ pos 0 ∷ []
 taken_on_success = refl
+
+-- Py_NewRef: its argument is counted and returned, and nothing is asked but whether it is NULL
+abbrev Shares : Code
+Shares = One (Api (Some (At 1)) (record {
+  own = Some IncRef;
+  params = param.Object ∷ [];
+  takes = take.Never ∷ [];
+  answer = Argument;
+  outputs = [];
+  least = 0;
+}) (Var' 0 ∷ []) []) Two
+
+abbrev Shared1 : State
+Shared1 = Next Shares.instrs (Outcome 1) (start_state 0 0 Shares)
+
+an_object_first : ask Shares.instrs (start_state 0 0 Shares).known ≡ AsksNull 0
+an_object_first = refl
+
+then_nothing : ask Shares.instrs Shared1.known ≡ Does Quiet
+then_nothing = refl
+
+counts_its_argument : (Next Shares.instrs Quiet Shared1).balances ≡ pos 1 ∷ pos 0 ∷ []
+counts_its_argument = refl
+
+returns_its_argument : (Next Shares.instrs Quiet Shared1).known.vars ≡ Token 0 ∷ Token 0 ∷ Unset ∷ []
+returns_its_argument = refl
 
 -- a field is written for the first time: what was there owes a reference no more
 abbrev Puts : Code

@@ -4,22 +4,18 @@ use crate::source::{SUM, codes_of, function_of};
 use pungi_base::words::WORDS;
 use pungi_base::{Entry, Memory, Name, Seq, Value};
 use pungi_code::{Code, Codes, code_run};
-use pungi_emit::lower_function;
 use pungi_meaning::{Outcome, run};
 use pungi_resolved::Function;
 use std::alloc::{AllocError, Global};
 use std::test::Fail;
 
-/// The heads of loops, the parameters and the locals of a function's code.
-fn sizes_of(alloc: Global, f: &Function) -> Result<(usize, u32, u32), Memory> {
-    let code = lower_function(alloc, f)?;
-    Ok((code.heads.len(), code.params, code.locals))
-}
-
-/// The same, of the function of a text.
+/// The heads of loops, the parameters and the locals of the code of a text's function.
 fn sizes(alloc: Global, text: &str) -> Result<(usize, u32, u32), Fail> {
-    let f = function_of(alloc, text)?;
-    Ok(sizes_of(alloc, &f)?)
+    let codes = codes_of(alloc, text)?;
+    match codes.codes.as_slice() {
+        [Some(code)] => Ok((code.heads.len(), code.params, code.locals)),
+        _ => Err(Fail::new("there is no code, or more than one")),
+    }
 }
 
 /// So many loops in one another.

@@ -1,6 +1,9 @@
 //! Files for the tests, from their texts.
-ghost use Rattle.std.specs.Prelude.{◌≡◌};
+ghost use Rattle.std.specs.Prelude.{◌≡◌, ◌≤◌, length, IfOk};
 ghost use Rattle.pungi_base.specs.Words.{builtin_words};
+ghost use Rattle.pungi_lex.specs.Limits.{token_limit};
+ghost use Rattle.pungi_tree.specs.UnitFlat.{items_flat};
+ghost use Rattle.pungi_tree.specs.UnitView.{unit_view};
 
 use pungi_api::Table;
 use pungi_base::Names;
@@ -20,6 +23,7 @@ pub(crate) const SUM: &str =
 
 fn unit_of(alloc: Global, names: &mut Names, text: &str) -> Result<Unit, Fail>
     requires { names.old ≡ builtin_words }
+    ensures { IfOk result (λ unit. length (items_flat (unit_view unit)) ≤ token_limit) }
 {
     if text.len() > TEXT_LIMIT {
         return Err(Fail::new("a text that is too long"));

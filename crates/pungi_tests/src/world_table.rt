@@ -1,8 +1,5 @@
 //! What calls of rows show, for tables of cases.
-ghost use Rattle.std.specs.Prelude.{◌≡◌};
-ghost use Rattle.pungi_world.specs.Calls.{is_defined_form};
-
-use pungi_api::{Form, Row, Shape, Special, Table};
+use pungi_api::{Row, Signature, Table, signature_of};
 use pungi_base::{Choice, Entry, Memory, Name, Seq, Value};
 use pungi_world::{Account, ApiCall, Effect, Halt, World};
 use std::alloc::Global;
@@ -54,38 +51,6 @@ pub(crate) const HANDED: Account = Account {
     made: false,
 };
 
-fn is_told(form: Form) -> bool
-    ensures { result ≡ is_defined_form form }
-{
-    match form {
-        Form::Plain => true,
-        Form::Special(special) => matches!(
-            special,
-            Special::IncRef
-                | Special::DecRef
-                | Special::XIncRef
-                | Special::XDecRef
-                | Special::NewRef
-                | Special::XNewRef
-        ),
-    }
-}
-
-fn shape_of(alloc: Global, row: &Row) -> Result<Shape, Memory> {
-    Ok(Shape {
-        row: Row {
-            form: row.form,
-            params: row.params.copy(alloc)?,
-            takes: row.takes.copy(alloc)?,
-            answer: row.answer,
-        },
-        units_in: None,
-        units_out: None,
-        least: 0,
-        outputs: 0,
-    })
-}
-
 /// Whether this account was touched, and no other one.
 fn is_touched(accounts: &[Account], touched: Option<(u32, Account)>) -> bool {
     for (k, account) in accounts.iter().enumerate() {
@@ -119,12 +84,12 @@ fn is_shown(world: &World, outcome: Result<Effect, Halt>, shown: Shown) -> bool 
 
 fn does(
     alloc: Global,
-    shape: &Shape,
+    signature: &Signature,
     args: &[Value],
     choices: &[Choice],
     shown: Shown,
 ) -> Result<bool, Memory> {
-    if !is_told(shape.row.form) || args.len() > 3 {
+    if args.len() > 3 {
         return Ok(false);
     }
     let entry = Entry {
@@ -132,28 +97,28 @@ fn does(
         args: Seq::new(Vec::new(alloc)),
     };
     let mut world = World::start(alloc, &entry)?;
-    let outcome = world.apply(alloc, &ApiCall { shape, args }, choices);
+    let outcome = world.apply(alloc, &ApiCall { signature, args }, choices);
     Ok(is_shown(&world, outcome, shown))
 }
 
 /// Whether the call shows this with a list of no choice or one.
 fn shows(
     alloc: Global,
-    shape: &Shape,
+    signature: &Signature,
     args: &[Value],
     choice: Option<Choice>,
     shown: Shown,
 ) -> Result<bool, Memory> {
     match choice {
-        None => does(alloc, shape, args, &[], shown),
-        Some(choice) => does(alloc, shape, args, &[choice], shown),
+        None => does(alloc, signature, args, &[], shown),
+        Some(choice) => does(alloc, signature, args, &[choice], shown),
     }
 }
 
 /// Whether `NULL` at a place of the arguments stops.
 fn null_stops(
     alloc: Global,
-    shape: &Shape,
+    signature: &Signature,
     args: &[Value],
     place: usize,
     choice: Option<Choice>,
@@ -163,7 +128,7 @@ fn null_stops(
         return Ok(false);
     }
     values[place] = Value::Null;
-    shows(alloc, shape, values.as_slice(), choice, STOPS)
+    shows(alloc, signature, values.as_slice(), choice, STOPS)
 }
 
 /// Whether a row shows what is stated by each of these choices, and stops where `NULL` stands at one of these places.
@@ -174,13 +139,13 @@ fn row_shows(
     needed: &[usize],
     ways: &[(Option<Choice>, Shown)],
 ) -> Result<bool, Memory> {
-    let shape = shape_of(alloc, row)?;
+    let signature = signature_of(alloc, row)?;
     for (choice, shown) in ways {
-        if !shows(alloc, &shape, args, *choice, *shown)? {
+        if !shows(alloc, &signature, args, *choice, *shown)? {
             return Ok(false);
         }
         for place in needed {
-            if !null_stops(alloc, &shape, args, *place, *choice)? {
+            if !null_stops(alloc, &signature, args, *place, *choice)? {
                 return Ok(false);
             }
         }

@@ -10,11 +10,11 @@ use Rattle.pungi_base.specs.declared.pos.Pos.{Pos}
 use Rattle.pungi_base.specs.declared.punct.Punct.{Punct}
 use Rattle.pungi_tree.specs.Syntax.{Expr}
 use Rattle.pungi_types.specs.Names.{Env, Meaning}
-use Rattle.pungi_types.specs.Findings.{Findings, ◌and◌, when}
+use Rattle.pungi_types.specs.Findings.{Findings, ◌and◌, when, when_some}
 use Rattle.pungi_types.specs.Operators.{is_bits, is_bits_assign, is_pointer, is_void, on_pointers, assigns_pointers}
-use Rattle.pungi_types.specs.Exprs.{void_call, operand, when_some, is_function_meaning, is_unknown, unary_wrong}
-use Rattle.pungi_types.specs.Exprs.{binary_wrong, assign_wrong, cond_wrong, is_word, callee, is_unknown_call}
-use Rattle.pungi_types.specs.Exprs.{is_value_called, takes_arguments}
+use Rattle.pungi_types.specs.Exprs.{void_call, operand, is_function_meaning, is_unknown, unary_wrong, binary_wrong}
+use Rattle.pungi_types.specs.Exprs.{assign_wrong, cond_wrong, is_word, callee, is_unknown_call, is_value_called}
+use Rattle.pungi_types.specs.Exprs.{takes_arguments}
 use Rattle.pungi_types.specs.declared.kind.ValueKind.{ValueKind}
 use Rattle.pungi_types.specs.declared.operator.Prefix.TheVariants as prefixes
 

@@ -11,8 +11,7 @@
 --   expression from those of its operands
 --   void_call e, operand k e    the place of a call, also in parentheses; what is required of a value that is used
 --   kind_of env e, are_met env ws es    the kind of an expression; as many arguments as are wanted, and each fits
---   when_some, void_use env e    the value of a Void call is used
---   type_name_pos t     where a type's name begins
+--   void_use env e      the value of a Void call is used
 --   n1 n2 n3 n4 n5 n9 n10 n12 n13 n14    where a rule holds in the expression's own node
 --   is_left_out, is_function_meaning, crosses, is_unknown, is_unknown_call, is_value_called, unary_wrong, binary_wrong,
 --   assign_wrong, cond_wrong, cast_wrong,
@@ -25,8 +24,8 @@ use Rattle.pungi_base.specs.declared.pos.Pos.{Pos}
 use Rattle.pungi_base.specs.declared.punct.Punct.{Punct}
 use Rattle.pungi_tree.specs.Syntax.{Expr, word, int, float, char, text, null, paren, unary, post, binary, assign}
 use Rattle.pungi_tree.specs.Syntax.{conditional, comma, cast, size_of_type, call, new, index, dot, arrow, Exprs}
-use Rattle.pungi_tree.specs.Syntax.{no_exprs, expr_and, TypeName, type_name, Spec, spec, Params, params, param_decl}
-use Rattle.pungi_tree.specs.Syntax.{ParamDecls, no_params, param_and, ParamDeclr, named, bare, unused, Item}
+use Rattle.pungi_tree.specs.Syntax.{no_exprs, expr_and, TypeName, Spec, Params, params, param_decl, ParamDecls}
+use Rattle.pungi_tree.specs.Syntax.{no_params, param_and, ParamDeclr, named, bare, unused, Item}
 use Rattle.pungi_api.specs.declared.param.Param.{Param}
 use Rattle.pungi_api.specs.declared.param.Param.TheVariants as takes
 use Rattle.pungi_api.specs.declared.answer.Answer.{Answer}
@@ -38,11 +37,12 @@ use Rattle.pungi_api.specs.declared.special.Special.TheVariants as specials
 use Rattle.pungi_api.specs.declared.row.Row.{Row}
 use Rattle.pungi_api.specs.Rows.{row_in}
 use Rattle.pungi_types.specs.Files.{Definition, definitions, definition_in}
-use Rattle.pungi_types.specs.Kinds.{type_kind, not_void, declared_kind, type_name_kind, field_kind, spec_base}
+use Rattle.pungi_types.specs.Kinds.{type_kind, not_void, declared_kind, type_name_kind, type_name_pos, field_kind}
+use Rattle.pungi_types.specs.Kinds.{spec_base}
 use Rattle.pungi_types.specs.Names.{Env, Meaning, a_local, a_function, a_global, a_static, unknown, meaning_of}
 use Rattle.pungi_types.specs.Names.{local_in, is_among, is_type_object, is_module, global_kind, is_own_static}
 use Rattle.pungi_types.specs.declared.local.Local.{Local}
-use Rattle.pungi_types.specs.Findings.{Findings, nothing_found, ◌and◌, when}
+use Rattle.pungi_types.specs.Findings.{Findings, nothing_found, ◌and◌, when, when_some}
 use Rattle.pungi_types.specs.Operators.{is_bits, is_arithmetic, is_order, is_equality, is_bits_assign}
 use Rattle.pungi_types.specs.Operators.{is_arithmetic_assign, prefix_of, on_pointers, assigns_pointers, is_integer}
 use Rattle.pungi_types.specs.Operators.{is_pointer, is_void, wider, fits, comparable, joinable, joined_kind, both_known}
@@ -298,16 +298,9 @@ abbrev mutual
       && are_met env (other_wants ws) es
 
 -- .. where the rules hold
-abbrev pub when_some : Bool → Option Pos → ℕ → Findings
-when_some b None n = nothing_found
-when_some b (Some p) n = when b p n
-
 -- N10: the value of a Void call is used
 abbrev pub void_use : Env → Expr → Findings
 void_use env e = when_some (is_void (kind_of env e)) (void_call e) 10
-
-abbrev pub type_name_pos : TypeName → Pos
-type_name_pos (type_name (spec p b c) stars) = p
 
 -- N1: a cast to a type of no kind
 abbrev pub n1 : Env → Expr → Findings

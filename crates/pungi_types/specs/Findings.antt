@@ -3,6 +3,7 @@
 --   Findings            all that is found in a part of the text: nothing, one finding, or what is found in two parts
 --                       (`and`)
 --   when holds p n      rule n holds at p, where the condition does
+--   when_some holds p n    the same, where there is a place
 --   is_before a b       a finding comes before another
 --   earlier first f     the earlier of one that may be there and a new one
 --   least_from first fs the earliest of one that may be there and of these
@@ -22,6 +23,10 @@ pub data Findings : Type 0 where
 abbrev pub when : Bool → Pos → ℕ → Findings
 when false p n = nothing_found
 when true p n = one_found (record { pos = p; rule = record { 0 = n } })
+
+abbrev pub when_some : Bool → Option Pos → ℕ → Findings
+when_some holds None n = nothing_found
+when_some holds (Some p) n = when holds p n
 
 abbrev pub is_before : Finding → Finding → Bool
 is_before a b =

@@ -19,6 +19,7 @@
 --   words_kind ks n, listed_kind w n, core_kind file c n, type_kind file b n    the kind of a type with n stars
 --   not_void k          only a result or a cast may be of kind Void
 --   declared_kind file s d, type_name_kind file t    the kind of what is declared, and of a type's name
+--   type_name_pos t     where a type's name begins
 --   declr_named, member_kind, field_in, field_in_some, field_kind file k w    the kind of a field, by the struct of a
 --                                                                             pointer
 use Rattle.std.specs.Prelude.{ℕ, zero, suc, ◌+◌, ◌==◌, nat_le, Bool, true, false, ◌&&◌, ◌||◌, not, List, [], ◌∷◌}
@@ -244,6 +245,9 @@ declared_kind file s d =
 
 abbrev pub type_name_kind : List Item → TypeName → Option ValueKind
 type_name_kind file (type_name s stars) = type_kind file (spec_base s) (length stars)
+
+abbrev pub type_name_pos : TypeName → Pos
+type_name_pos (type_name (spec p b c) stars) = p
 
 abbrev pub declr_named : Declrs → ℕ → Option Declr
 declr_named no_declrs w = None

@@ -1,7 +1,7 @@
 ghost use Rattle.std.specs.Prelude.{◌≡◌};
-ghost use Rattle.pungi_types.specs.Findings.{when, is_before, least_from};
+ghost use Rattle.pungi_types.specs.Findings.{when, is_before, least_from, when_some};
 ghost use Rattle.pungi_types.specs.Operators.{is_void};
-ghost use Rattle.pungi_types.specs.Exprs.{void_call, operand, when_some};
+ghost use Rattle.pungi_types.specs.Exprs.{void_call, operand};
 ghost use Rattle.pungi_tree.specs.ExprView.{expr_view};
 
 use crate::types::not_void;

@@ -5,5 +5,4 @@ pub mod Weighed
 pub mod Files
 pub mod Meaning
 pub mod Lines
-pub mod Whole
 pub mod Reportable

@@ -3,12 +3,12 @@ ghost use Rattle.std.specs.Prelude.{◌≡◌, ◌≤◌, None, length, take};
 ghost use Rattle.std.specs.List.{list_all};
 ghost use Rattle.pungi_code.specs.WellFormed.{place_kind};
 ghost use Rattle.pungi_symbol.specs.runs.ObjectForm.{atoms_in, atoms_of, is_there, is_pointer, is_pointer_param};
-ghost use Rattle.pungi_symbol.specs.runs.ObjectForm.{is_small, has_small, is_known_here, is_object_instr};
+ghost use Rattle.pungi_symbol.specs.runs.ObjectForm.{is_small, is_sure, has_small, is_known_here, is_object_instr};
 ghost use Rattle.pungi_symbol.specs.runs.ObjectForm.{has_object_form};
 ghost use Rattle.pungi_verdict.specs.ObjectForm.{is_minus, is_zero, constant_of, is_constant, is_signed, are_signed};
 ghost use Rattle.pungi_verdict.specs.ObjectForm.{is_object_code};
 
-use pungi_api::{Answer, Form, Param, Row};
+use pungi_api::{Answer, CallAnswer, OwnEffect, Param};
 use pungi_code::{Atom, Code, Instr, Line, Place};
 use pungi_meaning::Op;
 
@@ -90,12 +90,22 @@ fn is_small(answer: Answer) -> bool
     }
 }
 
-fn has_small(row: &Row) -> bool
-    ensures { result ≡ has_small row.now.form row.now }
+fn is_sure(answer: Answer) -> bool
+    ensures { result ≡ is_sure answer }
 {
-    match row.form {
-        Form::Plain => is_small(row.answer),
-        Form::Special(_) => true,
+    match answer {
+        Answer::Void | Answer::Null => true,
+        _ => false,
+    }
+}
+
+fn has_small(own: Option<OwnEffect>, answer: CallAnswer) -> bool
+    ensures { result ≡ has_small own answer }
+{
+    match (own, answer) {
+        (_, CallAnswer::Argument) => true,
+        (None, CallAnswer::Of(answer)) => is_small(answer),
+        (Some(_), CallAnswer::Of(answer)) => is_sure(answer),
     }
 }
 
@@ -105,7 +115,7 @@ fn is_known_here(instr: &Instr) -> bool
 {
     match instr {
         Instr::Load(_, place) | Instr::Store(place, _) => is_pointer_slot(place),
-        Instr::Api(_, shape, _, _) => has_small(&shape.row),
+        Instr::Api(_, signature, _, _) => has_small(signature.get().own, signature.get().answer),
         Instr::Call(_, _, _) => false,
         _ => true,
     }

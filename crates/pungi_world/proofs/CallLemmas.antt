@@ -1,22 +1,19 @@
 -- How far the world after a call is from the one before it.
 use Rattle.std.proofs.Common.{◌≡◌, ℕ, ◌+◌, ◌<◌, ◌≤◌, Bool, true, false, List, [], ◌∷◌, length, arith, Option, None}
 use Rattle.std.proofs.Common.{Some, Result, Ok, Err, refl, sym, subst, ap}
-use Rattle.std.specs.Prelude.{ℤ, pos, negsuc, if◌then◌else◌}
+use Rattle.std.specs.Prelude.{ℤ, pos, negsuc, ◌||◌, if◌then◌else◌}
 use Rattle.std.proofs.lemmas.Int.{ints}
 use Rattle.pungi_base.specs.declared.value.Value.{Value}
 use Rattle.pungi_base.specs.declared.value.Value.TheVariants as value
 use Rattle.pungi_base.specs.declared.choice.Choice.{Choice}
 use Rattle.pungi_api.specs.declared.answer.Answer.{Answer}
 use Rattle.pungi_api.specs.declared.answer.Answer.TheVariants as answer
-use Rattle.pungi_api.specs.declared.param.Param.{Param}
-use Rattle.pungi_api.specs.declared.param.Param.TheVariants as param
+use Rattle.pungi_api.specs.declared.call_answer.CallAnswer.{CallAnswer}
+use Rattle.pungi_api.specs.declared.call_answer.CallAnswer.TheVariants.{Of, Argument}
+use Rattle.pungi_api.specs.declared.own_effect.OwnEffect.{OwnEffect}
+use Rattle.pungi_api.specs.declared.own_effect.OwnEffect.TheVariants.{IncRef, DecRef, Undescribed}
 use Rattle.pungi_api.specs.declared.take.Take.{Take}
-use Rattle.pungi_api.specs.declared.special.Special.{Special}
-use Rattle.pungi_api.specs.declared.special.Special.TheVariants as special
-use Rattle.pungi_api.specs.declared.row.Form.{Form}
-use Rattle.pungi_api.specs.declared.row.Form.TheVariants as form
-use Rattle.pungi_api.specs.declared.row.Row.{Row}
-use Rattle.pungi_api.specs.declared.shape.Shape.{Shape}
+use Rattle.pungi_api.specs.declared.signature.Signature.{Signature}
 use Rattle.pungi_world.specs.declared.effect.Effect.{Effect}
 use Rattle.pungi_world.specs.declared.halt.Halt.{Halt}
 use Rattle.pungi_world.specs.declared.halt.Halt.TheVariants.{Stopped, NeedsChoice}
@@ -24,8 +21,8 @@ use Rattle.pungi_world.specs.declared.world.World.{World}
 use Rattle.pungi_world.specs.Counts.{with_value, count_value, hand_over, IsWithin, AreWithin}
 use Rattle.pungi_world.specs.Effects.{◌>>=◌, effect}
 use Rattle.pungi_world.specs.Choices.{choose, answer_of}
-use Rattle.pungi_world.specs.Calls.{lacks, stops, with_new_reference, is_taken, is_success, take_over, plain_world}
-use Rattle.pungi_world.specs.Calls.{plain_effect, first_of, change_count, special_effect, form_effect, call_effect}
+use Rattle.pungi_world.specs.Calls.{stops, first_of, with_new_reference, is_taken, take_over, call_answer, with_answer}
+use Rattle.pungi_world.specs.Calls.{is_call_success, described_world, own_world, is_undescribed, call_effect}
 use Rattle.pungi_world.specs.Follows.{Follows}
 use Rattle.pungi_world.proofs.FollowLemmas.{follows_then, follows_later, follows_self, follows_counted, follows_handed}
 use Rattle.pungi_world.proofs.FollowLemmas.{follows_there}
@@ -119,33 +116,57 @@ follows_answer answer.Null w n choices (Some value.Text) u e =
     let is : Some value.Null ≡ Some value.Text = first_answer (Some value.Null, 0) (Some value.Text, u) e in absurd
     cc
 
+follows_call_answer : (a : CallAnswer) (args : List Value) (w : World) (n : ℕ) (choices : List Choice)
+    (v : Option Value) (u : ℕ) → call_answer n a args choices ≡ answers v u → Follows w (with_answer a w v) u 0 1
+follows_call_answer (Of a) args w n choices v u e = follows_answer a w n choices v u e
+follows_call_answer Argument args w n choices v u e = still w u
+
 -- the counts alone, whatever the answer
-pub within_answered : (a : Answer) (w : World) (v : Option Value) (most : ℕ) → AreWithin most w
+within_row_answered : (a : Answer) (w : World) (v : Option Value) (most : ℕ) → AreWithin most w
     → AreWithin (most + 1) (with_new_reference a w v)
-within_answered a w None most within = (still w 0).within most within
-within_answered answer.New w (Some x) most within = (follows_new w x).within most within
-within_answered answer.Borrowed w (Some x) most within = (there w x 1 (omega arith)).within most within
-within_answered answer.BorrowedSure w (Some x) most within = (there w x 1 (omega arith)).within most within
-within_answered answer.Status w (Some x) most within = (there w x 1 (omega arith)).within most within
-within_answered answer.Truth w (Some x) most within = (there w x 1 (omega arith)).within most within
-within_answered answer.Size w (Some x) most within = (there w x 1 (omega arith)).within most within
-within_answered answer.Int w (Some x) most within = (there w x 1 (omega arith)).within most within
-within_answered answer.Long w (Some x) most within = (there w x 1 (omega arith)).within most within
-within_answered answer.Text w (Some x) most within = (there w x 1 (omega arith)).within most within
-within_answered answer.Void w (Some x) most within = (there w x 1 (omega arith)).within most within
-within_answered answer.Null w (Some x) most within = (there w x 1 (omega arith)).within most within
+within_row_answered a w None most within = (still w 0).within most within
+within_row_answered answer.New w (Some x) most within = (follows_new w x).within most within
+within_row_answered answer.Borrowed w (Some x) most within = (there w x 1 (omega arith)).within most within
+within_row_answered answer.BorrowedSure w (Some x) most within = (there w x 1 (omega arith)).within most within
+within_row_answered answer.Status w (Some x) most within = (there w x 1 (omega arith)).within most within
+within_row_answered answer.Truth w (Some x) most within = (there w x 1 (omega arith)).within most within
+within_row_answered answer.Size w (Some x) most within = (there w x 1 (omega arith)).within most within
+within_row_answered answer.Int w (Some x) most within = (there w x 1 (omega arith)).within most within
+within_row_answered answer.Long w (Some x) most within = (there w x 1 (omega arith)).within most within
+within_row_answered answer.Text w (Some x) most within = (there w x 1 (omega arith)).within most within
+within_row_answered answer.Void w (Some x) most within = (there w x 1 (omega arith)).within most within
+within_row_answered answer.Null w (Some x) most within = (there w x 1 (omega arith)).within most within
+
+pub within_answered : (a : CallAnswer) (w : World) (v : Option Value) (most : ℕ) → AreWithin most w
+    → AreWithin (most + 1) (with_answer a w v)
+within_answered (Of a) w v most within = within_row_answered a w v most within
+within_answered Argument w v most within = (still w 0).within most within
 
 -- ---- calls
 
-follows_plain_world : (row : Row) (args : List Value) (w : World) (v : Option Value) (u : ℕ)
-    → Follows w (with_new_reference row.answer w v) u 0 1
-    → Follows w (plain_world row args w v) u 0 (length args + 1)
-follows_plain_world row args w v u first =
-    let one : World = with_new_reference row.answer w v in
-    let all : World = plain_world row args w v in
+follows_described : (g : Signature) (args : List Value) (w : World) (v : Option Value) (u : ℕ)
+    → Follows w (with_answer g.answer w v) u 0 1 → Follows w (described_world g args w v) u 0 (length args + 1)
+follows_described g args w v u first =
+    let one : World = with_answer g.answer w v in
+    let all : World = described_world g args w v in
     follows_later w all (u + 0) u (0 + 0) 0 (1 + length args) (length args + 1) (omega arith) (omega arith)
     (omega arith)
-    (follows_then w one all u 0 0 0 1 (length args) first (follows_taken one (is_success row.answer v) row.takes args))
+    (follows_then w one all u 0 0 0 1 (length args) first (follows_taken one (is_call_success g.answer v) g.takes
+    args))
+
+follows_count : (w : World) (x : Value) (by : ℤ) (args : List Value) (u : ℕ) → IsWithin 1 by
+    → Follows w (count_value w x by) u 0 (length args + 1)
+follows_count w x by args u one =
+    follows_later w (count_value w x by) 0 u 0 0 1 (length args + 1) (omega arith) (omega arith) (omega arith)
+    (follows_counted w x by one)
+
+follows_own : (own : Option OwnEffect) (g : Signature) (args : List Value) (w : World) (v : Option Value) (u : ℕ)
+    → Follows w (with_answer g.answer w v) u 0 1 → Follows w (own_world own g args w v) u 0 (length args + 1)
+follows_own None g args w v u first = follows_described g args w v u first
+follows_own (Some IncRef) g args w v u first = follows_count w (first_of args) (pos 1) args u up
+follows_own (Some DecRef) g args w v u first = follows_count w (first_of args) (negsuc 0) args u down
+follows_own (Some Undescribed) g args w v u first =
+    follows_later w w 0 u 0 0 0 (length args + 1) (omega arith) (omega arith) (omega arith) (follows_self w)
 
 -- what is meant gives the world
 abbrev GoesOn : World → ℕ → World → Effect → Type 0
@@ -170,62 +191,22 @@ meant_world w by new new' e e' same follows =
     let With : Effect → Type 0 = λ f. GoesOn w by new' f in
     subst With used (subst After is follows)
 
-abbrev by_answer : Result (Option Value × ℕ) Halt → Row → List Value → World → Result (Effect × World) Halt
-by_answer r row args w = r >>= λ p. Ok (effect p.0 p.1, plain_world row args w p.0)
+abbrev by_answer : Result (Option Value × ℕ) Halt → Signature → List Value → World → Result (Effect × World) Halt
+by_answer r g args w = r >>= λ p. Ok (effect p.0 p.1, own_world g.own g args w p.0)
 
-follows_plain : (b : Bool) (r : Result (Option Value × ℕ) Halt) (row : Row) (args : List Value)
-    (choices : List Choice) (w w' : World) (e : Effect) → answer_of (length w.accounts) row.answer choices ≡ r
-    → (if b then Err Stopped else by_answer r row args w) ≡ ends e w' → GoesOn w (length args + 1) w' e
-follows_plain true r row args choices w w' e answers is = absurd cc
-follows_plain false (Err h) row args choices w w' e answers is = absurd cc
-follows_plain false (Ok p) row args choices w w' e answers is =
-    meant_world w (length args + 1) (plain_world row args w p.0) w' (effect p.0 p.1) e is
-    (follows_plain_world row args w p.0 p.1 (follows_answer row.answer w (length w.accounts) choices p.0 p.1
+follows_any : (b : Bool) (r : Result (Option Value × ℕ) Halt) (g : Signature) (args : List Value)
+    (choices : List Choice) (w w' : World) (e : Effect) → call_answer (length w.accounts) g.answer args choices ≡ r
+    → (if b then Err Stopped else by_answer r g args w) ≡ ends e w' → GoesOn w (length args + 1) w' e
+follows_any true r g args choices w w' e answers is = absurd cc
+follows_any false (Err h) g args choices w w' e answers is = absurd cc
+follows_any false (Ok p) g args choices w w' e answers is =
+    meant_world w (length args + 1) (own_world g.own g args w p.0) w' (effect p.0 p.1) e is
+    (follows_own g.own g args w p.0 p.1 (follows_call_answer g.answer args w (length w.accounts) choices p.0 p.1
     answers))
 
-follows_counting : (b : Bool) (args : List Value) (w w' : World) (by : ℤ) (x : Value) (answer : Option Value)
-    (e : Effect) → IsWithin 1 by → (if b then Err Stopped else ends (effect answer 0) (count_value w x by))
-    ≡ ends e w' → GoesOn w (length args + 1) w' e
-follows_counting true args w w' by x answer e one is = absurd cc
-follows_counting false args w w' by x answer e one is =
-    meant_world w (length args + 1) (count_value w x by) w' (effect answer 0) e is
-    (follows_later w (count_value w x by) 0 0 0 0 1 (length args + 1) (omega arith) (omega arith) (omega arith)
-    (follows_counted w x by one))
-
-follows_special : (s : Special) (args : List Value) (w w' : World) (e : Effect)
-    → special_effect s w args ≡ ends e w' → GoesOn w (length args + 1) w' e
-follows_special special.IncRef args w w' e is =
-    follows_counting (lacks param.Object (first_of args)) args w w' (pos 1) (first_of args) None e up is
-follows_special special.DecRef args w w' e is =
-    follows_counting (lacks param.Object (first_of args)) args w w' (negsuc 0) (first_of args) None e down is
-follows_special special.XIncRef args w w' e is =
-    follows_counting (lacks param.ObjectOrNull (first_of args)) args w w' (pos 1) (first_of args) None e up is
-follows_special special.XDecRef args w w' e is =
-    follows_counting (lacks param.ObjectOrNull (first_of args)) args w w' (negsuc 0) (first_of args) None e down is
-follows_special special.NewRef args w w' e is =
-    follows_counting (lacks param.Object (first_of args)) args w w' (pos 1) (first_of args) (Some (first_of args)) e
-    up is
-follows_special special.XNewRef args w w' e is =
-    follows_counting (lacks param.ObjectOrNull (first_of args)) args w w' (pos 1) (first_of args)
-    (Some (first_of args)) e up is
-follows_special special.Clear args w w' e is = absurd cc
-follows_special special.ObjectNew args w w' e is = absurd cc
-follows_special special.TuplePack args w w' e is = absurd cc
-follows_special special.CallFunctionObjArgs args w w' e is = absurd cc
-follows_special special.ErrFormat args w w' e is = absurd cc
-follows_special special.ParseTuple args w w' e is = absurd cc
-follows_special special.UnpackTuple args w w' e is = absurd cc
-follows_special special.DictNext args w w' e is = absurd cc
-follows_special special.BuildValue args w w' e is = absurd cc
-
-follows_form : (f : Form) (shape : Shape) (args : List Value) (choices : List Choice) (w w' : World) (e : Effect)
-    → form_effect f w shape args choices ≡ ends e w' → GoesOn w (length args + 1) w' e
-follows_form form.Plain shape args choices w w' e is =
-    follows_plain (stops shape.row.params args) (answer_of (length w.accounts) shape.row.answer choices) shape.row
-    args choices w w' e refl is
-follows_form (form.Special s) shape args choices w w' e is = follows_special s args w w' e is
-
 -- what a call keeps of a world
-pub follows_call : (shape : Shape) (args : List Value) (choices : List Choice) (w w' : World) (e : Effect)
-    → call_effect w shape args choices ≡ ends e w' → Follows w w' e.used 0 (length args + 1)
-follows_call shape args choices w w' e is = follows_form shape.row.form shape args choices w w' e is
+pub follows_call : (g : Signature) (args : List Value) (choices : List Choice) (w w' : World) (e : Effect)
+    → call_effect w g args choices ≡ ends e w' → Follows w w' e.used 0 (length args + 1)
+follows_call g args choices w w' e is =
+    follows_any (stops g.params args || is_undescribed g.own) (call_answer (length w.accounts) g.answer args choices)
+    g args choices w w' e refl is

@@ -1,10 +1,10 @@
-use pungi_api::Shape;
+use pungi_api::Signature;
 use pungi_base::Value;
 
-/// A call of the API: what it is a call of, and the values of its arguments in order. Arguments of which the shape says
+/// A call of the API: its signature, and the values of its arguments in order. Arguments of which the signature says
 /// all have no values.
 #[derive(Clone, Copy)]
 pub struct ApiCall<'a> {
-    pub shape: &'a Shape,
+    pub signature: &'a Signature,
     pub args: &'a [Value],
 }

@@ -1,16 +1,16 @@
 ghost use Rattle.std.specs.Prelude.{◌≡◌, ◌+◌, ◌^◌, ◌<◌, pos, if◌then◌else◌, length, OnOk, IsTrue};
 ghost use Rattle.pungi_world.specs.Counts.{by_one, hand_over, AreWithin};
 ghost use Rattle.pungi_world.specs.Choices.{answer_of};
-ghost use Rattle.pungi_world.specs.Effects.{effect, Gives};
+ghost use Rattle.pungi_world.specs.Effects.{Gives};
 ghost use Rattle.pungi_world.specs.Calls.{lacks, stops, with_new_reference, is_success, is_taken, is_taken_at};
-ghost use Rattle.pungi_world.specs.Calls.{take_over, plain_world, plain_effect, first_of, change_count};
-ghost use Rattle.pungi_world.specs.Calls.{is_defined_special, special_effect, form_effect, call_effect};
+ghost use Rattle.pungi_world.specs.Calls.{take_over, first_of, call_answer, with_answer, is_call_success};
+ghost use Rattle.pungi_world.specs.Calls.{described_world, own_world, is_undescribed, call_effect};
 
 use crate::choices::{answer_of, is_between};
 use crate::counts::{Way, add_value, count_value, hand_over};
-use crate::{ApiCall, Effect, Halt, World};
-use pungi_api::{Answer, Form, Param, Row, Special, Take};
-use pungi_base::{Choice, Memory, Seq, Value};
+use crate::{Effect, Halt, World};
+use pungi_api::{Answer, CallAnswer, OwnEffect, Param, Signature, Take};
+use pungi_base::{Choice, Memory, Value};
 use std::alloc::Global;
 
 /// Whether an argument is `NULL` where the parameter may not be.
@@ -107,38 +107,6 @@ fn take_over(world: &mut World, success: bool, takes: &[Take], args: &[Value])
     }
 }
 
-/// The world after a call of a plain row that returns this value.
-fn finish(world: &mut World, row: &Row, args: &[Value], value: Option<Value>) -> Result<(), Memory>
-    requires within { AreWithin (2 ^ 61) world.old }
-    requires few { length args.now < 2 ^ 60 }
-    ensures { OnOk result (world.new ≡ plain_world row.now args.now world.old value) }
-{
-    with_new_reference(world, row.answer, value)?;
-    let success = is_success(row.answer, value);
-    take_over(world, success, row.takes.as_slice(), args);
-    Ok(())
-}
-
-/// What a call of a plain row does.
-pub fn plain(
-    world: &mut World,
-    alloc: Global,
-    row: &Row,
-    args: &[Value],
-    choices: &[Choice],
-) -> Result<Effect, Halt>
-    requires within { AreWithin (2 ^ 61) world.old }
-    requires few { length args.now < 2 ^ 60 }
-    ensures { Gives result world.new (plain_effect world.old row.now args.now choices.now) }
-{
-    if stops(row.params.as_slice(), args) {
-        return Err(Halt::Stopped);
-    }
-    let (value, used) = answer_of(world.accounts.len(), row.answer, choices)?;
-    finish(world, row, args, value)?;
-    Ok(Effect::of(alloc, value, used))
-}
-
 /// The first argument.
 fn first_of(args: &[Value]) -> Value
     ensures { result ≡ first_of args.now }
@@ -149,44 +117,105 @@ fn first_of(args: &[Value]) -> Value
     }
 }
 
-/// The count of an argument changes, and this is the answer.
-fn change_count(
-    world: &mut World,
-    alloc: Global,
-    param: Param,
-    way: Way,
-    value: Value,
-    answer: Option<Value>,
-) -> Result<Effect, Halt>
-    requires { AreWithin (2 ^ 61) world.old }
-    ensures { Gives result world.new (change_count world.old param (by_one way) value answer) }
+/// What a call returns, and how many choices it uses.
+fn call_answer(
+    objects: usize,
+    answer: CallAnswer,
+    args: &[Value],
+    choices: &[Choice],
+) -> Result<(Option<Value>, usize), Halt>
+    ensures { result ≡ call_answer objects answer args.now choices.now }
 {
-    if lacks(param, value) {
-        return Err(Halt::Stopped);
+    match answer {
+        CallAnswer::Of(answer) => answer_of(objects, answer, choices),
+        CallAnswer::Argument => Ok((Some(first_of(args)), 0)),
     }
-    count_value(world, value, way);
-    Ok(Effect::of(alloc, answer, 0))
 }
 
-/// What a call of a special row does.
-pub fn special(
+/// The world after the answer of a call.
+fn with_answer(world: &mut World, answer: CallAnswer, value: Option<Value>) -> Result<(), Memory>
+    requires { AreWithin (2 ^ 61) world.old }
+    ensures { OnOk result (world.new ≡ with_answer answer world.old value) }
+{
+    match answer {
+        CallAnswer::Of(answer) => with_new_reference(world, answer, value),
+        CallAnswer::Argument => Ok(()),
+    }
+}
+
+/// Whether an answer says that the call succeeded.
+fn is_call_success(answer: CallAnswer, value: Option<Value>) -> bool
+    ensures { result ≡ is_call_success answer value }
+{
+    match answer {
+        CallAnswer::Of(answer) => is_success(answer, value),
+        CallAnswer::Argument => false,
+    }
+}
+
+/// The world after a call that returns this value, as far as its answer and what it takes over say.
+fn finish(
+    world: &mut World,
+    signature: &Signature,
+    args: &[Value],
+    value: Option<Value>,
+) -> Result<(), Memory>
+    requires within { AreWithin (2 ^ 61) world.old }
+    requires few { length args.now < 2 ^ 60 }
+    ensures { OnOk result (world.new ≡ described_world signature.now args.now world.old value) }
+{
+    with_answer(world, signature.answer, value)?;
+    let success = is_call_success(signature.answer, value);
+    take_over(world, success, signature.takes.as_slice(), args);
+    Ok(())
+}
+
+/// The world after a call that returns this value.
+fn finish_own(
+    world: &mut World,
+    signature: &Signature,
+    args: &[Value],
+    value: Option<Value>,
+) -> Result<(), Memory>
+    requires within { AreWithin (2 ^ 61) world.old }
+    requires few { length args.now < 2 ^ 60 }
+    ensures { OnOk result (world.new ≡ own_world signature.now.own signature.now args.now world.old value) }
+{
+    match signature.own {
+        None => finish(world, signature, args, value)?,
+        Some(OwnEffect::IncRef) => count_value(world, first_of(args), Way::Up),
+        Some(OwnEffect::DecRef) => count_value(world, first_of(args), Way::Down),
+        Some(OwnEffect::Undescribed) => {}
+    }
+    Ok(())
+}
+
+/// Whether the effect of a call isn't described.
+fn is_undescribed(own: Option<OwnEffect>) -> bool
+    ensures { result ≡ is_undescribed own }
+{
+    match own {
+        None | Some(OwnEffect::IncRef) | Some(OwnEffect::DecRef) => false,
+        Some(OwnEffect::Undescribed) => true,
+    }
+}
+
+/// What a call does.
+pub fn call(
     world: &mut World,
     alloc: Global,
-    special: Special,
+    signature: &Signature,
     args: &[Value],
+    choices: &[Choice],
 ) -> Result<Effect, Halt>
-    requires { AreWithin (2 ^ 61) world.old }
-    ensures { Gives result world.new (special_effect special world.old args.now) }
+    requires within { AreWithin (2 ^ 61) world.old }
+    requires few { length args.now < 2 ^ 60 }
+    ensures { Gives result world.new (call_effect world.old signature.now args.now choices.now) }
 {
-    let value = first_of(args);
-    let (param, way, answer) = match special {
-        Special::IncRef => (Param::Object, Way::Up, None),
-        Special::DecRef => (Param::Object, Way::Down, None),
-        Special::XIncRef => (Param::ObjectOrNull, Way::Up, None),
-        Special::XDecRef => (Param::ObjectOrNull, Way::Down, None),
-        Special::NewRef => (Param::Object, Way::Up, Some(value)),
-        Special::XNewRef => (Param::ObjectOrNull, Way::Up, Some(value)),
-        _ => return Err(Halt::Stopped),
-    };
-    change_count(world, alloc, param, way, value, answer)
+    if stops(signature.params.as_slice(), args) || is_undescribed(signature.own) {
+        return Err(Halt::Stopped);
+    }
+    let (value, used) = call_answer(world.accounts.len(), signature.answer, args, choices)?;
+    finish_own(world, signature, args, value)?;
+    Ok(Effect::of(alloc, value, used))
 }

@@ -1,22 +1,22 @@
 -- Instructions that are put one after another are those of the expression.
-use Rattle.std.proofs.Common.{◌≡◌, ℕ, zero, suc, ◌+◌, ◌*◌, List, [], ◌∷◌, ◌++◌, length, map, Option, Some, None, refl}
-use Rattle.std.proofs.Common.{sym, ap, ◌∙◌, subst, arith, append_assoc, append-nil, length-append, Bool, true, false}
+use Rattle.std.proofs.Common.{◌≡◌, ℕ, ◌+◌, List, [], ◌∷◌, ◌++◌, length, refl}
+use Rattle.std.proofs.Common.{sym, ap, ◌∙◌, arith, append_assoc, length-append, true, false}
 use Rattle.std.proofs.Common.{not, pos}
 use Rattle.std.specs.Prelude.{slice_set}
 use Rattle.pungi_base.specs.declared.kind.Kind.{Kind}
 use Rattle.pungi_base.specs.declared.pos.Pos.{Pos}
 use Rattle.pungi_base.specs.declared.punct.Punct.{Punct}
 use Rattle.pungi_api.specs.declared.param.Param.{Param}
-use Rattle.pungi_api.specs.declared.row.Row.{Row}
+use Rattle.pungi_api.specs.declared.signature.Signature.{Signature}
 use Rattle.pungi_types.specs.declared.kind.ValueKind.{ValueKind}
 use Rattle.pungi_resolved.specs.Values as expr
-use Rattle.pungi_meaning.specs.Values.{op_of, cmp_of, wide}
+use Rattle.pungi_meaning.specs.Values.{op_of, wide}
 use Rattle.pungi_resolved.specs.ValueView.{values_of}
 use Rattle.pungi_meaning.specs.Exprs.{is_and, step_op}
 use Rattle.pungi_meaning.specs.Todo.{listed_values}
 use Rattle.pungi_code.specs.declared.atom.Atom.TheVariants as atom
 use Rattle.pungi_code.specs.declared.code.Line.{Line}
-use Rattle.pungi_code.specs.declared.instr.Instr.TheVariants.{Set, Arith, Fit, Compare, Branch, Jump, Fall}
+use Rattle.pungi_code.specs.declared.instr.Instr.TheVariants.{Set, Arith, Branch, Jump}
 use Rattle.pungi_layout.specs.code.Sizes.{expr_size, place_size}
 use Rattle.pungi_layout.specs.code.Temporaries.{column, temp, temp_of, tail, arg_var}
 use Rattle.pungi_layout.specs.code.ExprCode.{line, to_var, var, at_label, bit, branch_on, fit_code, old_code}
@@ -56,9 +56,32 @@ pub as_listed : (vs : List expr.Value) → listed_values (values_of vs) ≡ vs
 as_listed [] = refl
 as_listed (v ∷ vs) = ap (λ l. v ∷ l) (as_listed vs)
 
+pub put_grown : (l : Line) (c0 c1 : List Line) → c1 ≡ c0 ++ l ∷ [] → length c1 ≡ length c0 + 1
+put_grown l c0 c1 e = grown c0 c1 (l ∷ []) 1 e refl
+
 -- ---- expressions
 
 module _ (nl : ℕ) where
+  pub value_grown : (d t : ℕ) (v : expr.Value) (c0 c1 : List Line) → c1 ≡ c0 ++ expr_code nl d t (length c0) v
+      → length c1 ≡ length c0 + expr_size v
+  value_grown d t v c0 c1 e = grown c0 c1 (expr_code nl d t (length c0) v) (expr_size v) e (expr_long v nl d t
+      (length c0))
+
+  pub base_grown : (d : ℕ) (place : expr.Place) (c0 c1 : List Line) → c1 ≡ c0 ++ base_code nl d (length c0) place
+      → length c1 ≡ length c0 + place_size place
+  base_grown d place c0 c1 e = grown c0 c1 (base_code nl d (length c0) place) (place_size place) e
+      (base_long place nl d (length c0))
+
+  pub held_grown : (d t b : ℕ) (kind : ValueKind) (place : expr.Place) (c0 c1 : List Line)
+      → c1 ≡ c0 ++ (base_code nl d (length c0) place ++ old_code kind place t b)
+      → length c1 ≡ length c0 + place_size place + 1
+  held_grown d t b kind place c0 c1 e =
+      let both : length (base_code nl d (length c0) place ++ old_code kind place t b) ≡ place_size place + 1 =
+      long_append (base_code nl d (length c0) place) (old_code kind place t b) (place_size place) 1
+      (base_long place nl d (length c0)) (old_long nl kind place t b) in
+      let n = grown c0 c1 (base_code nl d (length c0) place ++ old_code kind place t b) (place_size place + 1) e both in
+      omega (arith, n)
+
   pub held_emitted : (d t : ℕ) (kind : ValueKind) (place : expr.Place) (c0 c1 c2 : List Line)
       → c1 ≡ c0 ++ base_code nl d (length c0) place → c2 ≡ c1 ++ old_code kind place t (base_var nl place d)
       → c2 ≡ c0 ++ (base_code nl d (length c0) place ++ old_code kind place t (base_var nl place d))
@@ -291,12 +314,12 @@ module _ (nl : ℕ) where
       (λ m. args_code nl (d + 1) m (tail ps) vs) c1 (c1 ++ args_code nl (d + 1) (length c1) (tail ps) vs)
       (length c0 + expr_size v) n refl))
 
-  pub row_emitted : (d t : ℕ) (p : Pos) (row : Row) (vs : List expr.Value) (c0 c1 c2 : List Line) →
-      c1 ≡ c0 ++ args_code nl d (length c0) row.params (values_of vs) →
-      c2 ≡ c1 ++ row_code nl d t p row vs →
-      c2 ≡ c0 ++ (args_code nl d (length c0) row.params (values_of vs)
-      ++ row_code nl d t p row (listed_values (values_of vs)))
-  row_emitted d t p row vs c0 c1 c2 e f =
-      glued c0 c1 c2 (args_code nl d (length c0) row.params (values_of vs)) (row_code nl d t p row vs) e f
-      ∙ ap (λ l. c0 ++ (args_code nl d (length c0) row.params (values_of vs) ++ row_code nl d t p row l))
+  pub row_emitted : (d t : ℕ) (p : Pos) (sig : Signature) (vs : List expr.Value) (c0 c1 c2 : List Line) →
+      c1 ≡ c0 ++ args_code nl d (length c0) sig.params (values_of vs) →
+      c2 ≡ c1 ++ row_code nl d t p sig vs →
+      c2 ≡ c0 ++ (args_code nl d (length c0) sig.params (values_of vs)
+      ++ row_code nl d t p sig (listed_values (values_of vs)))
+  row_emitted d t p sig vs c0 c1 c2 e f =
+      glued c0 c1 c2 (args_code nl d (length c0) sig.params (values_of vs)) (row_code nl d t p sig vs) e f
+      ∙ ap (λ l. c0 ++ (args_code nl d (length c0) sig.params (values_of vs) ++ row_code nl d t p sig l))
       (sym (as_listed vs))

@@ -1,6 +1,7 @@
 -- The comparisons of a `switch`, one after another.
-use Rattle.std.proofs.Common.{◌≡◌, ℕ, ◌+◌, ◌*◌, ℤ, List, [], ◌∷◌, ◌++◌, length, Option, Some, None, Bool, true, false}
-use Rattle.std.proofs.Common.{if◌then◌else◌, refl, sym, ap, ◌∙◌, subst, arith}
+use Rattle.std.proofs.Common.{◌≡◌, ℕ, suc, ◌+◌, ◌*◌, ℤ, List, [], ◌∷◌, ◌++◌, length, Option, Some, Bool, true}
+use Rattle.std.proofs.Common.{false}
+use Rattle.std.proofs.Common.{if◌then◌else◌, refl, sym, ap, ◌∙◌, arith, length-append}
 use Rattle.pungi_base.specs.declared.pos.Pos.{Pos}
 use Rattle.pungi_resolved.specs.Actions as stmt
 use Rattle.pungi_meaning.specs.Stmts.{cases_of, is_default}
@@ -72,3 +73,23 @@ case_laid p x y next place here a c0 c1 c2 h k e f =
 
 pub not_default : (b : Bool) (n : ℕ) (o : Option ℕ) → b ≡ false → (if b then Some n else o) ≡ o
 not_default b n o e = ap (λ x. if x then Some n else o) e
+
+-- ---- how many
+
+pub own_cases_long : (n : ℕ) (cs : List ℤ) → length (placed_cases n cs) ≡ length cs
+own_cases_long n [] = refl
+own_cases_long n (c ∷ cs) = ap suc (own_cases_long n cs)
+
+pub cases_split : (n : ℕ) (a : stmt.Action) (list : List stmt.Action) (starts : List ℕ)
+    → length (cases_at (a ∷ list) (n ∷ starts))
+    ≡ length (placed_cases n (cases_of a)) + length (cases_at list starts)
+cases_split n a list starts = length-append (placed_cases n (cases_of a)) (cases_at list starts)
+
+pub cases_grown : (p : Pos) (x y : ℕ) (cs : List (ℤ × ℕ)) (c0 c1 : List Line)
+    → c1 ≡ c0 ++ case_code p x y (length c0) cs → length c1 ≡ length c0 + 2 * length cs
+cases_grown p x y cs c0 c1 e = grown c0 c1 (case_code p x y (length c0) cs) (2 * length cs) e
+    (case_long cs p x y (length c0))
+
+pub case_grown : (p : Pos) (x y n : ℕ) (a : Atom) (c0 c1 : List Line) → c1 ≡ c0 ++ case_lines p x y (length c0) a n
+    → length c1 ≡ length c0 + 2
+case_grown p x y n a c0 c1 e = grown c0 c1 (case_lines p x y (length c0) a n) 2 e refl

@@ -1,5 +1,5 @@
 -- Instructions of declared locals, one after another.
-use Rattle.std.proofs.Common.{◌≡◌, ℕ, ◌+◌, List, [], ◌∷◌, ◌++◌, length, Option, Some, None, refl, sym, ap, ◌∙◌, arith}
+use Rattle.std.proofs.Common.{◌≡◌, ℕ, ◌+◌, List, [], ◌∷◌, ◌++◌, length, refl, sym, ap, ◌∙◌, arith}
 use Rattle.std.proofs.Common.{append_assoc}
 use Rattle.pungi_base.specs.declared.pos.Pos.{Pos}
 use Rattle.pungi_resolved.specs.Values as expr
@@ -47,3 +47,14 @@ test_laid nl go place other p v c0 c1 c2 e f g h =
     let go' : go ≡ length c0 + expr_size v + 1 = omega (arith, n, f, g) in
     let branch = λ (i : ℕ). line p (Branch (var (temp_of nl 0 v)) (at_label i) (at_label other)) in
     glued c0 c1 c2 value (branch (length c0 + expr_size v + 1) ∷ []) e (h ∙ ap (λ i. c1 ++ branch i ∷ []) go')
+
+pub bind_grown : (nl : ℕ) (r : stmt.DeclaredLocal) (c0 c1 : List Line)
+    → c1 ≡ c0 ++ bind_code nl (length c0) r.at r.number r.kind r.value
+    → length c1 ≡ length c0 + (option_size r.value + 1)
+bind_grown nl r c0 c1 e =
+    grown c0 c1 (bind_code nl (length c0) r.at r.number r.kind r.value) (option_size r.value + 1) e
+    (bind_long r.value nl (length c0) r.number r.at r.kind)
+
+pub alone_grown : (nl : ℕ) (v : expr.Value) (c0 c1 : List Line) → c1 ≡ c0 ++ value_code nl (length c0) v
+    → length c1 ≡ length c0 + expr_size v
+alone_grown nl v c0 c1 e = grown c0 c1 (value_code nl (length c0) v) (expr_size v) e (value_long v nl (length c0))

@@ -6,7 +6,7 @@
 --   labels_of ls                where each `goto` leads
 --   env_of s                    where `break`, `continue` and each `goto` lead
 --   list_starts pc list         where each statement of a list begins
-use Rattle.std.specs.Prelude.{ℕ, ◌+◌, ◌==◌, List, [], ◌∷◌, ◌++◌, length, Option, Some, None, if◌then◌else◌}
+use Rattle.std.specs.Prelude.{ℕ, ◌+◌, ◌==◌, List, [], ◌∷◌, ◌++◌, Option, Some, None, if◌then◌else◌}
 use Rattle.pungi_base.specs.declared.names.Name.{Name}
 use Rattle.pungi_resolved.specs.Actions as stmt
 use Rattle.pungi_emit.specs.declared.planning.scope.Labels.{Labels}

@@ -1,5 +1,6 @@
 // Emitting instructions.
-ghost use Rattle.std.specs.Prelude.{◌≡◌, ◌+◌, ◌^◌, ◌<◌, ◌∷◌, ◌++◌, [], length, slice_set, IfOk, OnOk};
+ghost use Rattle.std.specs.Prelude.{◌≡◌, ◌≤◌, ◌∷◌, ◌++◌, [], length, slice_set, OnOk};
+ghost use Rattle.pungi_code.specs.Limits.{most_instructions};
 ghost use Rattle.pungi_layout.specs.code.ExprCode.{line as line_at};
 
 use pungi_base::{Memory, Pos, Seq};
@@ -10,7 +11,7 @@ use std::alloc::Global;
 #[derive(Clone, Copy)]
 pub struct Around {
     pub alloc: Global,
-    pub locals: u32,
+    pub locals: u16,
 }
 
 /// One more instruction.
@@ -20,17 +21,12 @@ pub fn put(code: &mut Seq<Line>, pos: Pos, instr: Instr) -> Result<(), Memory>
     code.push(Line { pos, instr })
 }
 
-/// The place of the next instruction. The two after it have numbers of 32 bits, too.
-pub fn next_place(code: &Seq<Line>) -> Result<u32, Memory>
-    ensures place { IfOk result (λ n. n ≡ length code.now) }
-    ensures room { IfOk result (λ n. n + 2 < 2 ^ 32) }
+/// The place of the next instruction.
+pub fn next_place(code: &Seq<Line>) -> u32
+    requires { length code.now ≤ most_instructions }
+    ensures { result ≡ length code.now }
 {
-    let place = code.len();
-    if place < u32::MAX as usize - 2 {
-        Ok(place as u32)
-    } else {
-        Err(Memory)
-    }
+    code.len() as u32
 }
 
 /// Another instruction at this place.

@@ -1,16 +1,16 @@
 // The variables after the locals.
 ghost use Rattle.std.specs.Prelude.{◌≡◌, ◌<◌};
 ghost use Rattle.pungi_resolved.specs.ValueView.{value_view};
-ghost use Rattle.pungi_layout.specs.code.Temporaries.{column as column_of, joined_column, answer_column, form_column};
+ghost use Rattle.pungi_layout.specs.code.Temporaries.{column as column_of, joined_column, answer_column, call_column};
 ghost use Rattle.pungi_layout.specs.code.Temporaries.{value_column};
 
-use pungi_api::{Answer, Form};
+use pungi_api::{Answer, CallAnswer};
 use pungi_meaning::fits;
 use pungi_resolved::{Value as Node, ValueNode};
 use pungi_types::ValueKind;
 
 /// Which of five variables a value of this kind has.
-pub fn column(kind: ValueKind) -> u32
+pub fn column(kind: ValueKind) -> u8
     ensures column { result ≡ column_of kind }
     ensures low { result < 5 }
 {
@@ -23,7 +23,7 @@ pub fn column(kind: ValueKind) -> u32
     }
 }
 
-fn joined_column(a: u32, b: u32) -> u32
+fn joined_column(a: u8, b: u8) -> u8
     requires left { a < 5 }
     requires right { b < 5 }
     ensures column { result ≡ joined_column a b }
@@ -38,7 +38,7 @@ fn joined_column(a: u32, b: u32) -> u32
     }
 }
 
-fn answer_column(answer: Answer) -> u32
+fn answer_column(answer: Answer) -> u8
     ensures column { result ≡ answer_column answer }
     ensures low { result < 5 }
 {
@@ -51,18 +51,18 @@ fn answer_column(answer: Answer) -> u32
     }
 }
 
-fn form_column(form: Form, answer: Answer) -> u32
-    ensures column { result ≡ form_column form answer }
+fn call_column(answer: CallAnswer) -> u8
+    ensures column { result ≡ call_column answer }
     ensures low { result < 5 }
 {
-    match form {
-        Form::Plain => answer_column(answer),
-        Form::Special(_) => 4,
+    match answer {
+        CallAnswer::Of(answer) => answer_column(answer),
+        CallAnswer::Argument => 4,
     }
 }
 
 /// Which of five variables the value of an expression has.
-pub fn value_column(node: &Node) -> u32
+pub fn value_column(node: &Node) -> u8
     ensures column { result ≡ value_column (value_view node.now) }
     ensures low { result < 5 }
 {
@@ -85,6 +85,6 @@ pub fn value_column(node: &Node) -> u32
         ValueNode::Cast(part) => value_column(part),
         ValueNode::Dropped(part) => value_column(part),
         ValueNode::Called(_, _) => 0,
-        ValueNode::CalledRow(_, shape, _) => form_column(shape.row.form, shape.row.answer),
+        ValueNode::CalledRow(_, signature, _) => call_column(signature.get().answer),
     }
 }

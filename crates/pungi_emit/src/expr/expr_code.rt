@@ -1,89 +1,43 @@
 // The instructions of expressions.
-ghost use Rattle.std.specs.Prelude.{◌≡◌, ◌+◌, ◌++◌, length, map, OnOk};
+ghost use Rattle.std.specs.Prelude.{◌≡◌, ◌+◌, ◌<◌, ◌≤◌, ◌^◌, ◌++◌, length, map, OnOk};
+ghost use Rattle.pungi_code.specs.Limits.{most_instructions};
 ghost use Rattle.pungi_resolved.specs.ValueView.{value_view, values_of, place_view};
 ghost use Rattle.pungi_resolved.specs.Values.{signed, negated, stepped, computed, compared, joined_by, stored, updated};
 ghost use Rattle.pungi_resolved.specs.Values.{chosen, converted, called_row};
-ghost use Rattle.pungi_layout.specs.code.Sizes.{expr_size};
-ghost use Rattle.pungi_layout.specs.code.ExprCode.{expr_code, base_code, args_code, old_code, sign_code, step_code};
+ghost use Rattle.pungi_layout.specs.code.Sizes.{expr_size, place_size, values_size};
+ghost use Rattle.pungi_layout.specs.code.Sound.{IsSound, IsPlaceSound, AreSound, expr_nodes, place_nodes, values_nodes};
+ghost use Rattle.pungi_layout.specs.code.ExprCode.{expr_code, base_code, args_code, old_code};
 ghost use Rattle.pungi_layout.specs.code.ExprCode.{base_var};
 
 use crate::code::instructions::{Around, next_place, put, replace};
-use crate::code::number::place_after;
 use crate::expr::column::value_column;
-use crate::expr::parts::{bit, branch_on, is_and, is_minus, step_op};
+use crate::expr::parts::{bit, branch_on, is_and, is_minus};
 use crate::expr::place::{emit_fit, emit_old, emit_store};
 use crate::expr::row::emit_row;
+use crate::expr::step::{emit_sign, emit_step};
 use crate::expr::temporary::{
     above, atom, base_var, counted_var, front_column, operand, sign_var, stored_var, tail, temp,
     temp_of,
 };
-use pungi_api::{Param, Shape};
+use pungi_api::{BoxedSignature, Param};
 use pungi_base::{Kind, Memory, Name, Pos, Punct, Seq};
 use pungi_code::{Atom, Instr, Label, Line, Var};
-use pungi_meaning::{Cmp, Op, wide};
+use pungi_meaning::{Cmp, Op};
 use pungi_resolved::{Place, Value as Node, ValueNode};
 use pungi_types::ValueKind;
 
-/// `++` and `--`, once the old content stands in its variable.
-fn emit_step(
-    code: &mut Seq<Line>,
-    around: Around,
-    depth: u32,
-    target: u32,
-    pos: Pos,
-    mark: Kind,
-    kind: ValueKind,
-    place: &Place,
-) -> Result<(), Memory>
-    ensures { OnOk result (code.new ≡ code.old ++ step_code around.locals depth target pos mark kind
-        (place_view place.now)) }
-{
-    let locals = around.locals;
-    let counted = wide(kind);
-    let base = base_var(locals, place, depth)?;
-    let value = stored_var(locals, place, depth, kind)?;
-    let outcome = counted_var(locals, place, depth, kind, counted)?;
-    let old = temp(locals, above(place, depth)?, kind)?;
-    let instr = Instr::Arith(
-        Var(outcome),
-        counted,
-        step_op(mark),
-        atom(old),
-        Atom::Int(1),
-    );
-    put(code, pos, instr)?;
-    emit_fit(code, pos, kind, counted, value, outcome)?;
-    emit_store(code, kind, place, target, base, value)
-}
-
-/// The sign of a value.
-fn emit_sign(
-    code: &mut Seq<Line>,
-    minus: bool,
-    pos: Pos,
-    kind: ValueKind,
-    target: u32,
-    value: u32,
-) -> Result<(), Memory>
-    ensures { OnOk result (code.new ≡ code.old ++ sign_code minus pos kind target value) }
-{
-    if minus {
-        let instr = Instr::Arith(Var(target), kind, Op::Sub, Atom::Int(0), atom(value));
-        put(code, pos, instr)
-    } else {
-        Ok(())
-    }
-}
-
 /// The base of a field, which waits where it is found again.
 #[cycle(emit)]
-fn emit_base(code: &mut Seq<Line>, around: Around, depth: u32, place: &Place) -> Result<(), Memory>
+fn emit_base(code: &mut Seq<Line>, around: Around, depth: u16, place: &Place) -> Result<(), Memory>
+    requires sound { IsPlaceSound around.locals (place_view place.now) }
+    requires deep { depth + place_nodes (place_view place.now) < 2 ^ 16 }
+    requires long { length code.old + place_size (place_view place.now) ≤ most_instructions }
     ensures { OnOk result (code.new ≡ code.old ++ base_code around.locals depth (length code.old)
         (place_view place.now)) }
 {
     match place {
         Place::Field(_, base, _, _) => {
-            let target = temp_of(around.locals, depth, base)?;
+            let target = temp_of(around.locals, depth, base);
             emit_value(code, around, depth, target, base)
         }
         _ => Ok(()),
@@ -95,18 +49,21 @@ fn emit_base(code: &mut Seq<Line>, around: Around, depth: u32, place: &Place) ->
 fn emit_held(
     code: &mut Seq<Line>,
     around: Around,
-    depth: u32,
+    depth: u16,
     kind: ValueKind,
     place: &Place,
     old: u32,
 ) -> Result<(), Memory>
+    requires sound { IsPlaceSound around.locals (place_view place.now) }
+    requires deep { depth + place_nodes (place_view place.now) < 2 ^ 16 }
+    requires long { length code.old + place_size (place_view place.now) ≤ most_instructions }
     ensures { OnOk result (code.new ≡ code.old ++ (base_code around.locals depth (length code.old)
         (place_view place.now) ++ old_code kind (place_view place.now) old (base_var around.locals
         (place_view place.now) depth))) }
 {
-    let base = base_var(around.locals, place, depth)?;
+    let base = base_var(around.locals, place, depth);
     emit_base(code, around, depth, place)?;
-    emit_old(code, kind, place, old, base)
+    emit_old(code, around.locals, kind, place, old, base)
 }
 
 /// `++` and `--`.
@@ -114,7 +71,7 @@ fn emit_held(
 fn emit_stepped(
     code: &mut Seq<Line>,
     around: Around,
-    depth: u32,
+    depth: u16,
     target: u32,
     pos: Pos,
     behind_it: bool,
@@ -122,19 +79,23 @@ fn emit_stepped(
     kind: ValueKind,
     place: &Place,
 ) -> Result<(), Memory>
+    requires sound { IsSound around.locals (stepped pos behind_it mark kind (place_view place.now)) }
+    requires deep { depth + expr_nodes (stepped pos behind_it mark kind (place_view place.now)) < 2 ^ 16 }
+    requires long { length code.old + expr_size (stepped pos behind_it mark kind (place_view place.now))
+        ≤ most_instructions }
     ensures { OnOk result (code.new ≡ code.old ++ expr_code around.locals depth target (length code.old)
         (stepped pos behind_it mark kind (place_view place.now))) }
 {
     if behind_it {
-        let level = place_after(depth, 1)?;
-        let value = temp(around.locals, level, kind)?;
-        let old = temp(around.locals, above(place, level)?, kind)?;
+        let level = depth + 1;
+        let value = temp(around.locals, level, kind);
+        let old = temp(around.locals, above(place, level), kind);
         put(code, pos, Instr::Set(Var(target), bit(false)))?;
         emit_held(code, around, level, kind, place, old)?;
         put(code, pos, Instr::Set(Var(target), atom(old)))?;
         emit_step(code, around, level, value, pos, mark, kind, place)
     } else {
-        let old = temp(around.locals, above(place, depth)?, kind)?;
+        let old = temp(around.locals, above(place, depth), kind);
         emit_held(code, around, depth, kind, place, old)?;
         emit_step(code, around, depth, target, pos, mark, kind, place)
     }
@@ -145,22 +106,26 @@ fn emit_stepped(
 fn emit_stored(
     code: &mut Seq<Line>,
     around: Around,
-    depth: u32,
+    depth: u16,
     target: u32,
     pos: Pos,
     kind: ValueKind,
     place: &Place,
     part: &Node,
 ) -> Result<(), Memory>
+    requires sound { IsSound around.locals (stored pos kind (place_view place.now) (value_view part.now)) }
+    requires deep { depth + expr_nodes (stored pos kind (place_view place.now) (value_view part.now)) < 2 ^ 16 }
+    requires long { length code.old + expr_size (stored pos kind (place_view place.now) (value_view part.now))
+        ≤ most_instructions }
     ensures { OnOk result (code.new ≡ code.old ++ expr_code around.locals depth target (length code.old)
         (stored pos kind (place_view place.now) (value_view part.now))) }
 {
-    let base = base_var(around.locals, place, depth)?;
-    let value = stored_var(around.locals, place, depth, kind)?;
-    let level = above(place, depth)?;
+    let base = base_var(around.locals, place, depth);
+    let value = stored_var(around.locals, place, depth, kind);
+    let level = above(place, depth);
     emit_base(code, around, depth, place)?;
     emit_value(code, around, level, value, part)?;
-    emit_store(code, kind, place, target, base, value)?;
+    emit_store(code, around.locals, kind, place, target, base, value)?;
     Ok(())
 }
 
@@ -169,7 +134,7 @@ fn emit_stored(
 fn emit_updated(
     code: &mut Seq<Line>,
     around: Around,
-    depth: u32,
+    depth: u16,
     target: u32,
     pos: Pos,
     mark: Punct,
@@ -178,23 +143,29 @@ fn emit_updated(
     place: &Place,
     part: &Node,
 ) -> Result<(), Memory>
+    requires sound { IsSound around.locals (updated pos mark counted kind (place_view place.now)
+        (value_view part.now)) }
+    requires deep { depth + expr_nodes (updated pos mark counted kind (place_view place.now) (value_view part.now))
+        < 2 ^ 16 }
+    requires long { length code.old + expr_size (updated pos mark counted kind (place_view place.now)
+        (value_view part.now)) ≤ most_instructions }
     ensures { OnOk result (code.new ≡ code.old ++ expr_code around.locals depth target (length code.old)
         (updated pos mark counted kind (place_view place.now) (value_view part.now))) }
 {
     let locals = around.locals;
-    let level = above(place, depth)?;
-    let next_level = place_after(level, 1)?;
-    let old = temp(locals, level, kind)?;
-    let right = temp_of(locals, next_level, part)?;
-    let base = base_var(locals, place, depth)?;
-    let value = stored_var(locals, place, depth, kind)?;
-    let outcome = counted_var(locals, place, depth, kind, counted)?;
+    let level = above(place, depth);
+    let next_level = level + 1;
+    let old = temp(locals, level, kind);
+    let right = temp_of(locals, next_level, part);
+    let base = base_var(locals, place, depth);
+    let value = stored_var(locals, place, depth, kind);
+    let outcome = counted_var(locals, place, depth, kind, counted);
     emit_held(code, around, depth, kind, place, old)?;
     emit_value(code, around, next_level, right, part)?;
     let instr = Instr::Arith(Var(outcome), counted, Op::of(mark), atom(old), atom(right));
     put(code, pos, instr)?;
     emit_fit(code, pos, kind, counted, value, outcome)?;
-    emit_store(code, kind, place, target, base, value)?;
+    emit_store(code, around.locals, kind, place, target, base, value)?;
     Ok(())
 }
 
@@ -203,17 +174,21 @@ fn emit_updated(
 fn emit_operands(
     code: &mut Seq<Line>,
     around: Around,
-    depth: u32,
+    depth: u16,
     left: u32,
     right: u32,
     a: &Node,
     b: &Node,
 ) -> Result<(), Memory>
+    requires sound { IsSound around.locals (value_view a.now) × IsSound around.locals (value_view b.now) }
+    requires deep { depth + (expr_nodes (value_view a.now) + expr_nodes (value_view b.now) + 1) < 2 ^ 16 }
+    requires long { length code.old + (expr_size (value_view a.now) + expr_size (value_view b.now))
+        ≤ most_instructions }
     ensures { OnOk result (code.new ≡ code.old ++ (expr_code around.locals depth left (length code.old)
         (value_view a.now) ++ expr_code around.locals (depth + 1) right (length code.old
         + expr_size (value_view a.now)) (value_view b.now))) }
 {
-    let level = place_after(depth, 1)?;
+    let level = depth + 1;
     emit_value(code, around, depth, left, a)?;
     emit_value(code, around, level, right, b)?;
     Ok(())
@@ -224,7 +199,7 @@ fn emit_operands(
 fn emit_computed(
     code: &mut Seq<Line>,
     around: Around,
-    depth: u32,
+    depth: u16,
     target: u32,
     pos: Pos,
     mark: Punct,
@@ -232,11 +207,15 @@ fn emit_computed(
     a: &Node,
     b: &Node,
 ) -> Result<(), Memory>
+    requires sound { IsSound around.locals (computed pos mark kind (value_view a.now) (value_view b.now)) }
+    requires deep { depth + expr_nodes (computed pos mark kind (value_view a.now) (value_view b.now)) < 2 ^ 16 }
+    requires long { length code.old + expr_size (computed pos mark kind (value_view a.now) (value_view b.now))
+        ≤ most_instructions }
     ensures { OnOk result (code.new ≡ code.old ++ expr_code around.locals depth target (length code.old)
         (computed pos mark kind (value_view a.now) (value_view b.now))) }
 {
-    let left = temp_of(around.locals, depth, a)?;
-    let right = temp_of(around.locals, place_after(depth, 1)?, b)?;
+    let left = temp_of(around.locals, depth, a);
+    let right = temp_of(around.locals, depth + 1, b);
     emit_operands(code, around, depth, left, right, a, b)?;
     let instr = Instr::Arith(Var(target), kind, Op::of(mark), atom(left), atom(right));
     put(code, pos, instr)
@@ -247,18 +226,22 @@ fn emit_computed(
 fn emit_compared(
     code: &mut Seq<Line>,
     around: Around,
-    depth: u32,
+    depth: u16,
     target: u32,
     pos: Pos,
     mark: Punct,
     a: &Node,
     b: &Node,
 ) -> Result<(), Memory>
+    requires sound { IsSound around.locals (compared pos mark (value_view a.now) (value_view b.now)) }
+    requires deep { depth + expr_nodes (compared pos mark (value_view a.now) (value_view b.now)) < 2 ^ 16 }
+    requires long { length code.old + expr_size (compared pos mark (value_view a.now) (value_view b.now))
+        ≤ most_instructions }
     ensures { OnOk result (code.new ≡ code.old ++ expr_code around.locals depth target (length code.old)
         (compared pos mark (value_view a.now) (value_view b.now))) }
 {
-    let left = operand(around.locals, depth, value_column(b), a)?;
-    let right = operand(around.locals, place_after(depth, 1)?, value_column(a), b)?;
+    let left = operand(around.locals, depth, value_column(b), a);
+    let right = operand(around.locals, depth + 1, value_column(a), b);
     emit_operands(code, around, depth, left, right, a, b)?;
     let instr = Instr::Compare(Var(target), Cmp::of(mark), atom(left), atom(right));
     put(code, pos, instr)
@@ -269,18 +252,21 @@ fn emit_compared(
 fn emit_signed(
     code: &mut Seq<Line>,
     around: Around,
-    depth: u32,
+    depth: u16,
     target: u32,
     pos: Pos,
     mark: Kind,
     kind: ValueKind,
     part: &Node,
 ) -> Result<(), Memory>
+    requires sound { IsSound around.locals (signed pos mark kind (value_view part.now)) }
+    requires deep { depth + expr_nodes (signed pos mark kind (value_view part.now)) < 2 ^ 16 }
+    requires long { length code.old + expr_size (signed pos mark kind (value_view part.now)) ≤ most_instructions }
     ensures { OnOk result (code.new ≡ code.old ++ expr_code around.locals depth target (length code.old)
         (signed pos mark kind (value_view part.now))) }
 {
     let minus = is_minus(mark);
-    let value = temp_of(around.locals, depth, part)?;
+    let value = temp_of(around.locals, depth, part);
     emit_value(code, around, depth, sign_var(minus, target, value), part)?;
     emit_sign(code, minus, pos, kind, target, value)
 }
@@ -290,16 +276,19 @@ fn emit_signed(
 fn emit_converted(
     code: &mut Seq<Line>,
     around: Around,
-    depth: u32,
+    depth: u16,
     target: u32,
     pos: Pos,
     kind: ValueKind,
     part: &Node,
 ) -> Result<(), Memory>
+    requires sound { IsSound around.locals (converted pos kind (value_view part.now)) }
+    requires deep { depth + expr_nodes (converted pos kind (value_view part.now)) < 2 ^ 16 }
+    requires long { length code.old + expr_size (converted pos kind (value_view part.now)) ≤ most_instructions }
     ensures { OnOk result (code.new ≡ code.old ++ expr_code around.locals depth target (length code.old)
         (converted pos kind (value_view part.now))) }
 {
-    let value = temp_of(around.locals, depth, part)?;
+    let value = temp_of(around.locals, depth, part);
     emit_value(code, around, depth, value, part)?;
     put(code, pos, Instr::Fit(Var(target), kind, atom(value)))
 }
@@ -309,19 +298,22 @@ fn emit_converted(
 fn emit_negated(
     code: &mut Seq<Line>,
     around: Around,
-    depth: u32,
+    depth: u16,
     target: u32,
     pos: Pos,
     part: &Node,
 ) -> Result<(), Memory>
+    requires sound { IsSound around.locals (negated pos (value_view part.now)) }
+    requires deep { depth + expr_nodes (negated pos (value_view part.now)) < 2 ^ 16 }
+    requires long { length code.old + expr_size (negated pos (value_view part.now)) ≤ most_instructions }
     ensures { OnOk result (code.new ≡ code.old ++ expr_code around.locals depth target (length code.old)
         (negated pos (value_view part.now))) }
 {
-    let level = place_after(depth, 1)?;
-    let value = temp_of(around.locals, level, part)?;
+    let level = depth + 1;
+    let value = temp_of(around.locals, level, part);
     put(code, pos, Instr::Set(Var(target), bit(true)))?;
     emit_value(code, around, level, value, part)?;
-    let test = next_place(code)?;
+    let test = next_place(code);
     let branch = branch_on(true, value, test + 1, test + 2);
     put(code, pos, branch)?;
     put(code, pos, Instr::Set(Var(target), bit(false)))?;
@@ -333,26 +325,30 @@ fn emit_negated(
 fn emit_joined(
     code: &mut Seq<Line>,
     around: Around,
-    depth: u32,
+    depth: u16,
     target: u32,
     pos: Pos,
     mark: Punct,
     a: &Node,
     b: &Node,
 ) -> Result<(), Memory>
+    requires sound { IsSound around.locals (joined_by pos mark (value_view a.now) (value_view b.now)) }
+    requires deep { depth + expr_nodes (joined_by pos mark (value_view a.now) (value_view b.now)) < 2 ^ 16 }
+    requires long { length code.old + expr_size (joined_by pos mark (value_view a.now) (value_view b.now))
+        ≤ most_instructions }
     ensures { OnOk result (code.new ≡ code.old ++ expr_code around.locals depth target (length code.old)
         (joined_by pos mark (value_view a.now) (value_view b.now))) }
 {
     let on = is_and(mark);
-    let level = place_after(depth, 1)?;
-    let left = temp_of(around.locals, level, a)?;
-    let right = temp_of(around.locals, level, b)?;
+    let level = depth + 1;
+    let left = temp_of(around.locals, level, a);
+    let right = temp_of(around.locals, level, b);
     put(code, pos, Instr::Set(Var(target), bit(!on)))?;
     emit_value(code, around, level, left, a)?;
-    let test = next_place(code)?;
+    let test = next_place(code);
     put(code, pos, Instr::Fall)?;
     emit_value(code, around, level, right, b)?;
-    let last = next_place(code)?;
+    let last = next_place(code);
     let end = last + 2;
     let first = branch_on(on, left, test + 1, end);
     let second = branch_on(on, right, last + 1, end);
@@ -367,25 +363,29 @@ fn emit_joined(
 fn emit_chosen(
     code: &mut Seq<Line>,
     around: Around,
-    depth: u32,
+    depth: u16,
     target: u32,
     pos: Pos,
     c: &Node,
     a: &Node,
     b: &Node,
 ) -> Result<(), Memory>
+    requires sound { IsSound around.locals (chosen pos (value_view c.now) (value_view a.now) (value_view b.now)) }
+    requires deep { depth + expr_nodes (chosen pos (value_view c.now) (value_view a.now) (value_view b.now)) < 2 ^ 16 }
+    requires long { length code.old + expr_size (chosen pos (value_view c.now) (value_view a.now)
+        (value_view b.now)) ≤ most_instructions }
     ensures { OnOk result (code.new ≡ code.old ++ expr_code around.locals depth target (length code.old)
         (chosen pos (value_view c.now) (value_view a.now) (value_view b.now))) }
 {
-    let value = temp_of(around.locals, depth, c)?;
+    let value = temp_of(around.locals, depth, c);
     emit_value(code, around, depth, value, c)?;
-    let test = next_place(code)?;
+    let test = next_place(code);
     put(code, pos, Instr::Fall)?;
     emit_value(code, around, depth, target, a)?;
-    let jump = next_place(code)?;
+    let jump = next_place(code);
     put(code, pos, Instr::Fall)?;
     emit_value(code, around, depth, target, b)?;
-    let end = next_place(code)?;
+    let end = next_place(code);
     let branch = branch_on(true, value, test + 1, jump + 1);
     replace(code, jump, pos, Instr::Jump(Label(end)));
     replace(code, test, pos, branch);
@@ -397,41 +397,49 @@ fn emit_chosen(
 fn emit_args(
     code: &mut Seq<Line>,
     around: Around,
-    depth: u32,
+    depth: u16,
     params: &[Param],
     args: &[Node],
 ) -> Result<(), Memory>
+    requires sound { AreSound around.locals (values_of (map value_view args.now)) }
+    requires deep { depth + values_nodes (values_of (map value_view args.now)) < 2 ^ 16 }
+    requires long { length code.old + values_size (values_of (map value_view args.now)) ≤ most_instructions }
     ensures { OnOk result (code.new ≡ code.old ++ args_code around.locals depth (length code.old) params.now
         (values_of (map value_view args.now))) }
 {
     let mut level = depth;
     let mut left = params;
     for arg in args {
-        let target = operand(around.locals, level, front_column(left), arg)?;
+        let target = operand(around.locals, level, front_column(left), arg);
         emit_value(code, around, level, target, arg)?;
-        level = place_after(level, 1)?;
+        level = level + 1;
         left = tail(left);
     }
     Ok(())
 }
 
-/// A call of a row, after its arguments.
+/// A call of the API, after its arguments.
 #[cycle(emit)]
 fn emit_called(
     code: &mut Seq<Line>,
     around: Around,
-    depth: u32,
+    depth: u16,
     target: u32,
     pos: Pos,
     name: Name,
-    shape: &Shape,
+    signature: &BoxedSignature,
     args: &[Node],
 ) -> Result<(), Memory>
+    requires sound { IsSound around.locals (called_row pos name signature.now (values_of (map value_view args.now))) }
+    requires deep { depth + expr_nodes (called_row pos name signature.now (values_of (map value_view args.now)))
+        < 2 ^ 16 }
+    requires long { length code.old + expr_size (called_row pos name signature.now
+        (values_of (map value_view args.now))) ≤ most_instructions }
     ensures { OnOk result (code.new ≡ code.old ++ expr_code around.locals depth target (length code.old)
-        (called_row pos name shape.now.row (values_of (map value_view args.now)))) }
+        (called_row pos name signature.now (values_of (map value_view args.now)))) }
 {
-    emit_args(code, around, depth, shape.row.params.as_slice(), args)?;
-    emit_row(code, around, depth, target, pos, shape, args)?;
+    emit_args(code, around, depth, signature.get().params.as_slice(), args)?;
+    emit_row(code, around, depth, target, pos, signature, args)?;
     Ok(())
 }
 
@@ -440,10 +448,13 @@ fn emit_called(
 pub fn emit_value(
     code: &mut Seq<Line>,
     around: Around,
-    depth: u32,
+    depth: u16,
     target: u32,
     node: &Node,
 ) -> Result<(), Memory>
+    requires sound { IsSound around.locals (value_view node.now) }
+    requires deep { depth + expr_nodes (value_view node.now) < 2 ^ 16 }
+    requires long { length code.old + expr_size (value_view node.now) ≤ most_instructions }
     ensures { OnOk result (code.new ≡ code.old ++ expr_code around.locals depth target (length code.old)
         (value_view node.now)) }
 {
@@ -498,8 +509,8 @@ pub fn emit_value(
                 Instr::Call(None, 0, Seq::new(Vec::new(around.alloc))),
             )
         }
-        ValueNode::CalledRow(name, shape, args) => {
-            emit_called(code, around, depth, target, pos, *name, shape, args)
+        ValueNode::CalledRow(name, signature, args) => {
+            emit_called(code, around, depth, target, pos, *name, signature, args)
         }
     }
 }

@@ -4,9 +4,9 @@ ghost use Rattle.pungi_types.specs.Operators.{is_same_kind};
 ghost use Rattle.pungi_meaning.specs.Exprs.{is_and, step_op};
 ghost use Rattle.pungi_meaning.specs.Values.{slot_kind};
 ghost use Rattle.pungi_layout.specs.code.ExprCode.{bit, branch_on};
-ghost use Rattle.pungi_layout.specs.code.Parts.{is_minus, has_value, has_own_value, gives_form};
+ghost use Rattle.pungi_layout.specs.code.Parts.{is_minus, has_value, has_call_value};
 
-use pungi_api::{Answer, Form, Param, Special};
+use pungi_api::{Answer, CallAnswer, Param};
 use pungi_base::{Kind, Punct};
 use pungi_code::{Atom, Instr, Label, Var};
 use pungi_meaning::Op;
@@ -95,21 +95,12 @@ fn has_value(answer: Answer) -> bool
     }
 }
 
-fn has_own_value(special: Special) -> bool
-    ensures { result ≡ has_own_value special }
+/// A call with this answer leaves a value.
+pub fn has_call_value(answer: CallAnswer) -> bool
+    ensures { result ≡ has_call_value answer }
 {
-    match special {
-        Special::NewRef | Special::XNewRef => true,
-        _ => false,
-    }
-}
-
-/// A call of a row of this form leaves a value.
-pub fn gives_answer(form: Form, answer: Answer) -> bool
-    ensures { result ≡ gives_form form answer }
-{
-    match form {
-        Form::Plain => has_value(answer),
-        Form::Special(special) => has_own_value(special),
+    match answer {
+        CallAnswer::Of(answer) => has_value(answer),
+        CallAnswer::Argument => true,
     }
 }

@@ -1,10 +1,10 @@
 // The instructions that read and write places.
 ghost use Rattle.std.specs.Prelude.{◌≡◌, ◌++◌, OnOk};
 ghost use Rattle.pungi_resolved.specs.ValueView.{place_view};
+ghost use Rattle.pungi_layout.specs.code.Sound.{IsPlaceSound};
 ghost use Rattle.pungi_layout.specs.code.ExprCode.{fit_code, old_code, store_code};
 
 use crate::code::instructions::put;
-use crate::code::number::small;
 use crate::expr::parts::{is_same_kind, slot_kind};
 use crate::expr::temporary::atom;
 use pungi_base::{Memory, Pos, Seq};
@@ -33,16 +33,18 @@ pub fn emit_fit(
 /// What a place holds. The base of a field stands in `base`.
 pub fn emit_old(
     code: &mut Seq<Line>,
+    locals: u16,
     kind: ValueKind,
     place: &Place,
     target: u32,
     base: u32,
 ) -> Result<(), Memory>
+    requires { IsPlaceSound locals (place_view place.now) }
     ensures { OnOk result (code.new ≡ code.old ++ old_code kind (place_view place.now) target base) }
 {
     match place {
         Place::Local(pos, local) => {
-            let local = small(*local as u64)?;
+            let local = *local as u32;
             put(code, *pos, Instr::Set(Var(target), atom(local)))
         }
         Place::Global(pos, name) => {
@@ -59,17 +61,19 @@ pub fn emit_old(
 /// A value is stored, and goes on in `target`.
 pub fn emit_store(
     code: &mut Seq<Line>,
+    locals: u16,
     kind: ValueKind,
     place: &Place,
     target: u32,
     base: u32,
     value: u32,
 ) -> Result<(), Memory>
+    requires { IsPlaceSound locals (place_view place.now) }
     ensures { OnOk result (code.new ≡ code.old ++ store_code kind (place_view place.now) target base value) }
 {
     match place {
         Place::Local(pos, local) => {
-            let local = small(*local as u64)?;
+            let local = *local as u32;
             put(code, *pos, Instr::Set(Var(local), atom(value)))?;
             put(code, *pos, Instr::Set(Var(target), atom(value)))
         }

@@ -1,15 +1,14 @@
 // Where values stand that wait.
-ghost use Rattle.std.specs.Prelude.{◌≡◌, ◌+◌, IfOk};
+ghost use Rattle.std.specs.Prelude.{◌≡◌, ◌+◌, ◌<◌, ◌≤◌, ◌^◌};
 ghost use Rattle.pungi_resolved.specs.ValueView.{value_view, place_view};
 ghost use Rattle.pungi_layout.specs.code.Temporaries.{column as column_of, temp, temp_of, fitting_column, operand};
 ghost use Rattle.pungi_layout.specs.code.Temporaries.{local_column, param_column, front_column, tail};
+ghost use Rattle.pungi_layout.specs.code.Sound.{place_nodes};
 ghost use Rattle.pungi_layout.specs.code.ExprCode.{above, base_var, stored_var, counted_var, sign_var, var as var_atom};
 
-use crate::code::number::{place_after, small};
 use crate::expr::column::{column, value_column};
 use crate::expr::parts::is_same_kind;
 use pungi_api::Param;
-use pungi_base::Memory;
 use pungi_code::{Atom, Var};
 use pungi_resolved::{Place, Value as Node};
 use pungi_types::ValueKind;
@@ -22,42 +21,42 @@ pub fn atom(var: u32) -> Atom
 }
 
 /// The variable of a level and a column.
-pub fn temp_in(locals: u32, depth: u32, column: u32) -> Result<u32, Memory>
-    ensures { IfOk result (λ x. x ≡ temp locals depth column) }
+pub fn temp_in(locals: u16, depth: u16, column: u8) -> u32
+    ensures { result ≡ temp locals depth column }
 {
-    small(locals as u64 + 5 * (depth as u64) + column as u64)
+    locals as u32 + 5 * (depth as u32) + column as u32
 }
 
 /// The variable of a value of this kind that has so many values below it.
-pub fn temp(locals: u32, depth: u32, kind: ValueKind) -> Result<u32, Memory>
-    ensures { IfOk result (λ x. x ≡ temp locals depth (column_of kind)) }
+pub fn temp(locals: u16, depth: u16, kind: ValueKind) -> u32
+    ensures { result ≡ temp locals depth (column_of kind) }
 {
     temp_in(locals, depth, column(kind))
 }
 
 /// The variable of the value of an expression.
-pub fn temp_of(locals: u32, depth: u32, node: &Node) -> Result<u32, Memory>
-    ensures { IfOk result (λ x. x ≡ temp_of locals depth (value_view node.now)) }
+pub fn temp_of(locals: u16, depth: u16, node: &Node) -> u32
+    ensures { result ≡ temp_of locals depth (value_view node.now) }
 {
     temp_in(locals, depth, value_column(node))
 }
 
 /// The column of an operand where one of the column `want` is wanted: `NULL` is a pointer of either kind.
-pub fn fitting_column(want: u32, own: u32) -> u32
+pub fn fitting_column(want: u8, own: u8) -> u8
     ensures { result ≡ fitting_column want own }
 {
     if want == 3 { 3 } else { own }
 }
 
 /// The variable of an operand where one of the column `want` is wanted.
-pub fn operand(locals: u32, depth: u32, want: u32, node: &Node) -> Result<u32, Memory>
-    ensures { IfOk result (λ x. x ≡ operand locals depth want (value_view node.now)) }
+pub fn operand(locals: u16, depth: u16, want: u8, node: &Node) -> u32
+    ensures { result ≡ operand locals depth want (value_view node.now) }
 {
     temp_in(locals, depth, fitting_column(want, value_column(node)))
 }
 
 /// The column that a local of this kind needs.
-pub fn local_column(kind: Option<ValueKind>) -> u32
+pub fn local_column(kind: Option<ValueKind>) -> u8
     ensures { result ≡ local_column kind }
 {
     match kind {
@@ -67,7 +66,7 @@ pub fn local_column(kind: Option<ValueKind>) -> u32
 }
 
 /// The column that a parameter needs.
-pub fn param_column(param: Param) -> u32
+pub fn param_column(param: Param) -> u8
     ensures { result ≡ param_column param }
 {
     match param {
@@ -77,7 +76,7 @@ pub fn param_column(param: Param) -> u32
 }
 
 /// The column that the first of these parameters needs.
-pub fn front_column(params: &[Param]) -> u32
+pub fn front_column(params: &[Param]) -> u8
     ensures { result ≡ front_column params.now }
 {
     match params {
@@ -97,46 +96,50 @@ pub fn tail(params: &[Param]) -> &[Param]
 }
 
 /// How many values wait below one that is stored to a place.
-pub fn above(place: &Place, depth: u32) -> Result<u32, Memory>
-    ensures { IfOk result (λ x. x ≡ above (place_view place.now) depth) }
+pub fn above(place: &Place, depth: u16) -> u16
+    requires { depth + place_nodes (place_view place.now) < 2 ^ 16 }
+    ensures above { result ≡ above (place_view place.now) depth }
+    ensures low { result ≤ depth + place_nodes (place_view place.now) }
 {
     match place {
-        Place::Field(_, _, _, _) => place_after(depth, 1),
-        _ => Ok(depth),
+        Place::Field(_, _, _, _) => depth + 1,
+        _ => depth,
     }
 }
 
 /// The variable of the base of a field.
-pub fn base_var(locals: u32, place: &Place, depth: u32) -> Result<u32, Memory>
-    ensures { IfOk result (λ x. x ≡ base_var locals (place_view place.now) depth) }
+pub fn base_var(locals: u16, place: &Place, depth: u16) -> u32
+    ensures { result ≡ base_var locals (place_view place.now) depth }
 {
     match place {
         Place::Field(_, base, _, _) => temp_of(locals, depth, base),
-        _ => Ok(0),
+        _ => 0,
     }
 }
 
 /// The variable that a value is stored from.
-pub fn stored_var(locals: u32, place: &Place, depth: u32, kind: ValueKind) -> Result<u32, Memory>
-    ensures { IfOk result (λ x. x ≡ stored_var locals (place_view place.now) depth kind) }
+pub fn stored_var(locals: u16, place: &Place, depth: u16, kind: ValueKind) -> u32
+    requires { depth + place_nodes (place_view place.now) < 2 ^ 16 }
+    ensures { result ≡ stored_var locals (place_view place.now) depth kind }
 {
-    temp(locals, above(place, depth)?, kind)
+    temp(locals, above(place, depth), kind)
 }
 
 /// The variable of a value before it is converted to the kind of its place.
 pub fn counted_var(
-    locals: u32,
+    locals: u16,
     place: &Place,
-    depth: u32,
+    depth: u16,
     kind: ValueKind,
     counted: ValueKind,
-) -> Result<u32, Memory>
-    ensures { IfOk result (λ x. x ≡ counted_var locals (place_view place.now) depth kind counted) }
+) -> u32
+    requires { depth + place_nodes (place_view place.now) < 2 ^ 16 }
+    ensures { result ≡ counted_var locals (place_view place.now) depth kind counted }
 {
     if is_same_kind(kind, counted) {
         stored_var(locals, place, depth, kind)
     } else {
-        temp(locals, above(place, depth)?, counted)
+        temp(locals, above(place, depth), counted)
     }
 }
 

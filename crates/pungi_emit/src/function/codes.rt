@@ -1,6 +1,8 @@
 // The codes of functions that may be refused.
 ghost use Rattle.std.specs.Prelude.{◌≡◌, map, option_map, IfOk};
+ghost use Rattle.std.specs.List.{All};
 ghost use Rattle.pungi_resolved.specs.ActionView.{function_view};
+ghost use Rattle.pungi_emit.specs.function.Limits.{IsWithinAny};
 ghost use Rattle.pungi_layout.specs.code.Codes.{code_for};
 
 use crate::function::calls::has_no_call;
@@ -12,6 +14,7 @@ use std::alloc::Global;
 
 /// The code of a function that may be refused.
 fn lower_one(alloc: Global, f: &Option<Function>) -> Result<Option<Code>, Memory>
+    requires { IsWithinAny (option_map function_view f.now) }
     ensures { IfOk result (λ code. code ≡ code_for (option_map function_view f.now)) }
 {
     match f {
@@ -33,6 +36,7 @@ pub fn lower_functions(
     alloc: Global,
     functions: &[Option<Function>],
 ) -> Result<Seq<Option<Code>>, Memory>
+    requires { All (λ f. IsWithinAny (option_map function_view f)) functions.now }
     ensures { IfOk result (λ codes. codes ≡ map code_for (map (option_map function_view) functions.now)) }
 {
     let mut codes = Seq::new(Vec::new(alloc));

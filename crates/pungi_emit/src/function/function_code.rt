@@ -4,13 +4,13 @@ ghost use Rattle.pungi_resolved.specs.ActionView.{function_view, action_view};
 ghost use Rattle.pungi_meaning.specs.Run.{closing_brace};
 ghost use Rattle.pungi_types.specs.Operators.{is_void};
 ghost use Rattle.pungi_layout.specs.code.Heads.{heads_of};
+ghost use Rattle.pungi_emit.specs.function.Limits.{IsWithinLimits};
 ghost use Rattle.pungi_emit.specs.planning.Plans.{Begins, plan_of};
 ghost use Rattle.pungi_layout.specs.code.StmtCode.{body_code, end_code};
 ghost use Rattle.pungi_layout.specs.code.Sizes.{stmt_size};
 ghost use Rattle.pungi_layout.specs.code.VarKinds.{var_kinds as kinds_of_vars};
 
 use crate::code::instructions::{Around, put};
-use crate::code::number::small;
 use crate::function::heads::heads;
 use crate::function::var_kinds::var_kinds;
 use crate::planning::plan::Plan;
@@ -71,8 +71,10 @@ fn emit_end(code: &mut Seq<Line>, pos: Pos, void: bool) -> Result<(), Memory>
 
 /// The instructions of a body, whose statements lead to these places and which takes so many instructions.
 fn emit_body(around: Around, places: &[u32], size: u32, f: &Function) -> Result<Seq<Line>, Memory>
-    requires { Begins (plan_of 0 (action_view f.now.body)) places.now }
-    ensures { IfOk result (λ code. size ≡ stmt_size (action_view f.now.body) → around.locals ≡ f.now.locals
+    requires within { IsWithinLimits (function_view f.now) }
+    requires locals { around.locals ≡ f.now.locals }
+    requires plan { Begins (plan_of 0 (action_view f.now.body)) places.now }
+    ensures { IfOk result (λ code. size ≡ stmt_size (action_view f.now.body)
         → code ≡ body_code (function_view f.now)) }
 {
     let labels = Labels::Nowhere(size);
@@ -90,14 +92,15 @@ fn emit_body(around: Around, places: &[u32], size: u32, f: &Function) -> Result<
 
 /// The code of a function: its instructions, what each of its variables holds, and the heads of its loops.
 pub fn lower_function(alloc: Global, f: &Function) -> Result<Code, Memory>
+    requires { IsWithinLimits (function_view f.now) }
     ensures instrs { IfOk result (λ code. code.instrs ≡ body_code (function_view f.now)) }
     ensures vars { IfOk result (λ code. code.vars ≡ kinds_of_vars (function_view f.now)) }
     ensures params { IfOk result (λ code. code.params ≡ length f.now.params) }
     ensures locals { IfOk result (λ code. code.locals ≡ f.now.locals) }
     ensures heads { IfOk result (λ code. code.heads ≡ heads_of (function_view f.now)) }
 {
-    let locals = small(f.locals as u64)?;
-    let params = small(f.params.len() as u64)?;
+    let locals = f.locals as u16;
+    let params = f.params.len() as u32;
     let vars = var_kinds(alloc, f)?;
     let mut marks = Seq::new(Vec::new(alloc));
     let mut places = Seq::new(Vec::new(alloc));
@@ -110,7 +113,7 @@ pub fn lower_function(alloc: Global, f: &Function) -> Result<Code, Memory>
         instrs,
         vars,
         params,
-        locals,
+        locals: f.locals as u32,
         heads,
     })
 }

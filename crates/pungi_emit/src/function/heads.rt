@@ -1,11 +1,12 @@
 // The heads of a function's loops.
-ghost use Rattle.std.specs.Prelude.{◌≡◌, ◌<◌, ◌||◌, ◌&&◌, ◌==◌, ◌∷◌, ◌++◌, [], ℕ, false, nat_le, if◌then◌else◌, length};
+ghost use Rattle.std.specs.Prelude.{◌≡◌, ◌<◌, ◌≤◌, ◌||◌, ◌&&◌, ◌==◌, ◌∷◌, ◌++◌, [], ℕ, false, nat_le, if◌then◌else◌};
+ghost use Rattle.std.specs.Prelude.{length};
 ghost use Rattle.std.specs.Prelude.{get_or, replicate, IfOk, OnOk, Some, None};
+ghost use Rattle.pungi_code.specs.Limits.{most_instructions};
 ghost use Rattle.pungi_code.specs.WellFormed.{targets};
 ghost use Rattle.pungi_layout.specs.code.Heads.{first_pos, loop_pos, label_pos, names, leads_back, back_pos};
 ghost use Rattle.pungi_layout.specs.code.Heads.{found_head, heads_below};
 
-use crate::code::number::small;
 use pungi_base::{Memory, Pos};
 use pungi_code::{Head, Instr, Label, Line};
 use pungi_layout::Mark;
@@ -151,12 +152,13 @@ fn head_place(of_loop: Option<Pos>, is_back: bool, of_label: Option<Pos>) -> Opt
 
 /// One more head, where there is one.
 fn put_head(heads: &mut Vec<Head>, place: usize, pos: Option<Pos>) -> Result<(), Memory>
+    requires { place ≤ most_instructions }
     ensures { OnOk result (heads.new.items ≡ heads.old.items ++ found_head place pos) }
 {
     match pos {
         None => Ok(()),
         Some(pos) => {
-            let label = Label(small(place as u64)?);
+            let label = Label(place as u32);
             heads.push(Head { label, pos })?;
             Ok(())
         }
@@ -165,6 +167,7 @@ fn put_head(heads: &mut Vec<Head>, place: usize, pos: Option<Pos>) -> Result<(),
 
 /// The heads of a code with these loops and labels, in the order of their places.
 pub fn heads(alloc: Global, marks: &[Mark], code: &[Line]) -> Result<Vec<Head>, Memory>
+    requires { length code.now ≤ most_instructions }
     ensures { IfOk result (λ v. v.items ≡ heads_below marks.now code.now (length code.now)) }
 {
     let loops = loop_places(alloc, marks, code.len())?;

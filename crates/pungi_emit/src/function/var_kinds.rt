@@ -1,5 +1,7 @@
 // What the variables of a code hold.
-ghost use Rattle.std.specs.Prelude.{◌≡◌, ◌++◌, map, IfOk, OnOk};
+ghost use Rattle.std.specs.Prelude.{◌≡◌, ◌≤◌, ◌++◌, map, IfOk, OnOk};
+ghost use Rattle.pungi_code.specs.Limits.{most_variables};
+ghost use Rattle.pungi_layout.specs.code.Sound.{stmt_nodes};
 ghost use Rattle.pungi_resolved.specs.ActionView.{declared_view, action_view, actions_of, function_view};
 ghost use Rattle.pungi_layout.specs.code.VarKinds.{held_kind, kind_held, stmt_declared, stmts_declared, temp_kinds};
 ghost use Rattle.pungi_layout.specs.code.VarKinds.{var_kinds as kinds_of_vars};
@@ -108,11 +110,12 @@ fn add_temps(kinds: &mut Seq<Param>, levels: u32) -> Result<(), Memory>
 
 /// All variables of the code of a function: the parameters, the other locals, the temporaries.
 pub fn var_kinds(alloc: Global, f: &Function) -> Result<Seq<Param>, Memory>
+    requires { stmt_nodes (function_view f.now).body ≤ most_variables }
     ensures { IfOk result (λ kinds. kinds ≡ kinds_of_vars (function_view f.now)) }
 {
     let mut kinds = Seq::new(Vec::new(alloc));
     add_params(&mut kinds, f.params.as_slice())?;
     add_stmt(&mut kinds, &f.body)?;
-    add_temps(&mut kinds, stmt_nodes(&f.body)?)?;
+    add_temps(&mut kinds, stmt_nodes(&f.body))?;
     Ok(kinds)
 }

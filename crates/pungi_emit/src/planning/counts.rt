@@ -1,39 +1,33 @@
 // How many locals a block declares, and how many cases it has.
-ghost use Rattle.std.specs.Prelude.{◌≡◌, length, map, IfOk};
+ghost use Rattle.std.specs.Prelude.{◌≡◌, ◌≤◌, length, map};
+ghost use Rattle.pungi_code.specs.Limits.{most_instructions};
 ghost use Rattle.pungi_resolved.specs.ActionView.{action_view};
 ghost use Rattle.pungi_meaning.specs.Stmts.{cases_of, block_cases};
 ghost use Rattle.pungi_meaning.specs.Work.{block_locals};
 
-use crate::code::number::{place_after, small};
-use pungi_base::Memory;
 use pungi_resolved::{Action, ActionNode};
 
-/// A number of things.
-pub fn count(n: usize) -> Result<u32, Memory>
-    ensures { IfOk result (λ m. m ≡ n) }
-{
-    small(n as u64)
-}
-
 /// How many locals the statements of a block declare.
-pub fn declared_count(list: &[Action]) -> Result<u32, Memory>
-    ensures { IfOk result (λ n. n ≡ length (block_locals (map action_view list.now))) }
+pub fn declared_count(list: &[Action]) -> u32
+    requires { length (block_locals (map action_view list.now)) ≤ most_instructions }
+    ensures { result ≡ length (block_locals (map action_view list.now)) }
 {
     let mut total = 0;
     for action in list {
         if let ActionNode::Declare(reached) = &action.node {
-            total = place_after(total, count(reached.len())?)?;
+            total += reached.len() as u32;
         }
     }
-    Ok(total)
+    total
 }
 
 /// How many cases a statement stands after.
-fn own_cases(action: &Action) -> Result<u32, Memory>
-    ensures { IfOk result (λ n. n ≡ length (cases_of (action_view action.now))) }
+fn own_cases(action: &Action) -> u32
+    requires { length (cases_of (action_view action.now)) ≤ most_instructions }
+    ensures { result ≡ length (cases_of (action_view action.now)) }
 {
     match &action.node {
-        ActionNode::Case(_, a) => place_after(own_cases(a)?, 1),
+        ActionNode::Case(_, a) => own_cases(a) + 1,
         ActionNode::Default(a) | ActionNode::Label(_, a) => own_cases(a),
         ActionNode::Block(_, _)
         | ActionNode::Declare(_)
@@ -47,17 +41,18 @@ fn own_cases(action: &Action) -> Result<u32, Memory>
         | ActionNode::Goto(_)
         | ActionNode::Break
         | ActionNode::Continue
-        | ActionNode::Return(_) => Ok(0),
+        | ActionNode::Return(_) => 0,
     }
 }
 
 /// How many cases the statements of a `switch` stand after.
-pub fn cases_count(list: &[Action]) -> Result<u32, Memory>
-    ensures { IfOk result (λ n. n ≡ length (block_cases (map action_view list.now))) }
+pub fn cases_count(list: &[Action]) -> u32
+    requires { length (block_cases (map action_view list.now)) ≤ most_instructions }
+    ensures { result ≡ length (block_cases (map action_view list.now)) }
 {
     let mut total = 0;
     for action in list {
-        total = place_after(total, own_cases(action)?)?;
+        total += own_cases(action);
     }
-    Ok(total)
+    total
 }

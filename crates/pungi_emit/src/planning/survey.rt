@@ -1,8 +1,9 @@
 // What is found out of a statement before its code is there: the places that it leads to, and its loops and labels.
-ghost use Rattle.std.specs.Prelude.{◌≡◌, ◌+◌, ◌++◌, [], map, IfOk};
+ghost use Rattle.std.specs.Prelude.{◌≡◌, ◌+◌, ◌≤◌, ◌++◌, [], map, IfOk};
+ghost use Rattle.pungi_code.specs.Limits.{most_instructions};
 ghost use Rattle.pungi_resolved.specs.ActionView.{declared_view, action_view, actions_of};
 ghost use Rattle.pungi_resolved.specs.ValueView.{value_view, optional_view};
-ghost use Rattle.pungi_layout.specs.code.Sizes.{option_size, declare_size};
+ghost use Rattle.pungi_layout.specs.code.Sizes.{option_size, declare_size, stmt_size, stmts_size, switch_size};
 ghost use Rattle.pungi_layout.specs.code.Scopes.{for_head};
 ghost use Rattle.pungi_layout.specs.code.Heads.{head_at};
 ghost use Rattle.pungi_emit.specs.planning.LabelPlaces.{list_labels};
@@ -11,9 +12,8 @@ ghost use Rattle.pungi_emit.specs.planning.Surveys.{SurveysStmt, SurveysSkipped,
 ghost use Rattle.pungi_resolved.specs.Actions.{block, if_only, if_else, while, do_while, for, switch, label};
 ghost use Rattle.pungi_meaning.specs.Run.{nowhere};
 
-use crate::code::number::place_after;
 use crate::expr::size::{after_option, after_test, after_tested, after_value};
-use crate::planning::counts::{cases_count, count, declared_count};
+use crate::planning::counts::{cases_count, declared_count};
 use crate::planning::labels::block_names;
 use crate::planning::reserved_places::{fill, hold};
 use pungi_base::{Memory, Name, Pos, Seq};
@@ -33,29 +33,32 @@ fn head(place: u32, pos: Pos) -> Head
 }
 
 /// The place after what declared locals hold at first.
-fn after_reached(from: u32, list: &[DeclaredLocal]) -> Result<u32, Memory>
-    ensures { IfOk result (λ n. n ≡ from + declare_size (map declared_view list.now)) }
+fn after_reached(from: u32, list: &[DeclaredLocal]) -> u32
+    requires { from + declare_size (map declared_view list.now) ≤ most_instructions }
+    ensures { result ≡ from + declare_size (map declared_view list.now) }
 {
     let mut place = from;
     for reached in list {
-        place = place_after(after_option(place, &reached.value)?, 1)?;
+        place = after_option(place, &reached.value) + 1;
     }
-    Ok(place)
+    place
 }
 
 /// The place after a `return` and its value.
-fn after_give(from: u32, node: &Option<Box<Node>>) -> Result<u32, Memory>
-    ensures { IfOk result (λ n. n ≡ from + (option_size (optional_view node.now) + 1)) }
+fn after_give(from: u32, node: &Option<Box<Node>>) -> u32
+    requires { from + (option_size (optional_view node.now) + 1) ≤ most_instructions }
+    ensures { result ≡ from + (option_size (optional_view node.now) + 1) }
 {
-    place_after(after_option(from, node)?, 1)
+    after_option(from, node) + 1
 }
 
 /// The place of the head of a `for`, after what it declares and does first.
-fn for_head(from: u32, reached: &[DeclaredLocal], first: &Option<Box<Node>>) -> Result<u32, Memory>
-    ensures { IfOk result (λ n. n ≡ for_head from (map declared_view reached.now) (optional_view first.now)) }
+fn for_head(from: u32, reached: &[DeclaredLocal], first: &Option<Box<Node>>) -> u32
+    requires { for_head from (map declared_view reached.now) (optional_view first.now) ≤ most_instructions }
+    ensures { result ≡ for_head from (map declared_view reached.now) (optional_view first.now) }
 {
-    let unset = place_after(from, count(reached.len())?)?;
-    let bound = after_reached(unset, reached)?;
+    let unset = from + reached.len() as u32;
+    let bound = after_reached(unset, reached);
     after_option(bound, first)
 }
 
@@ -70,6 +73,7 @@ fn survey_list(
     list: &[Action],
     from: u32,
 ) -> Result<u32, Memory>
+    requires { from + stmts_size (actions_of (map action_view list.now)) ≤ most_instructions }
     ensures { IfOk result (λ next. SurveysList from (map action_view list.now)
         (plans_of from (actions_of (map action_view list.now))) (places_of (list_labels from
         (map action_view list.now))) next marks.old marks.new places.old places.new labels.old labels.new starts.old
@@ -93,6 +97,7 @@ fn survey_inside(
     list: &[Action],
     from: u32,
 ) -> Result<u32, Memory>
+    requires { from + stmts_size (actions_of (map action_view list.now)) ≤ most_instructions }
     ensures { IfOk result (λ next. SurveysList from (map action_view list.now)
         (places_of (list_labels from (map action_view list.now))
         ++ plans_of from (actions_of (map action_view list.now))) [] next marks.old marks.new places.old places.new []
@@ -115,17 +120,18 @@ fn survey_switched(
     list: &[Action],
     place: u32,
 ) -> Result<u32, Memory>
+    requires { place + switch_size (block nowhere (actions_of (map action_view list.now)) nowhere) ≤ most_instructions }
     ensures { IfOk result (λ next. SurveysSwitch place (block nowhere (actions_of (map action_view list.now))
         nowhere) next marks.old marks.new places.old places.new [] []) }
 {
     let end = hold(places, 1)?;
     let begun = hold(places, list.len())?;
-    let own = declared_count(list)?;
-    let cases = cases_count(list)?;
-    let unset = place_after(place, own)?;
-    let compared = place_after(unset, cases)?;
-    let branched = place_after(compared, cases)?;
-    let from = place_after(branched, 1)?;
+    let own = declared_count(list);
+    let cases = cases_count(list);
+    let unset = place + own;
+    let compared = unset + cases;
+    let branched = compared + cases;
+    let from = branched + 1;
     let mut starts = Seq::new(Vec::new(alloc));
     let next = survey_inside(alloc, marks, places, &mut starts, list, from)?;
     fill(places, begun, starts.as_slice());
@@ -142,11 +148,12 @@ fn survey_inner(
     list: &[Action],
     pc: u32,
 ) -> Result<u32, Memory>
+    requires { pc + stmt_size (block nowhere (actions_of (map action_view list.now)) nowhere) ≤ most_instructions }
     ensures { IfOk result (λ next. SurveysStmt pc (block nowhere (actions_of (map action_view list.now)) nowhere)
         next marks.old marks.new places.old places.new [] []) }
 {
-    let own = declared_count(list)?;
-    let from = place_after(pc, own)?;
+    let own = declared_count(list);
+    let from = pc + own;
     let mut starts = Seq::new(Vec::new(alloc));
     let next = survey_inside(alloc, marks, places, &mut starts, list, from)?;
     Ok(next)
@@ -162,11 +169,12 @@ fn survey_skipped(
     body: &Action,
     place: u32,
 ) -> Result<u32, Memory>
+    requires { place + (1 + stmt_size (action_view body.now)) ≤ most_instructions }
     ensures { IfOk result (λ next. SurveysSkipped place (action_view body.now) next marks.old marks.new places.old
         places.new labels.old labels.new) }
 {
     let end = hold(places, 1)?;
-    let from = place_after(place, 1)?;
+    let from = place + 1;
     let next = survey_stmt(alloc, marks, places, labels, body, from)?;
     fill(places, end, &[next]);
     Ok(next)
@@ -183,6 +191,7 @@ fn survey_choice(
     body: &Action,
     place: u32,
 ) -> Result<u32, Memory>
+    requires { place + switch_size (action_view body.now) ≤ most_instructions }
     ensures { IfOk result (λ next. SurveysSwitch place (action_view body.now) next marks.old marks.new places.old
         places.new labels.old labels.new) }
 {
@@ -221,17 +230,19 @@ fn survey_for(
     test: &Option<Box<Node>>,
     last: &Option<Box<Node>>,
 ) -> Result<u32, Memory>
+    requires { pc + stmt_size (for pos (map declared_view reached.now) (optional_view first.now)
+        (optional_view test.now) (optional_view last.now) (action_view body.now)) ≤ most_instructions }
     ensures { IfOk result (λ next. SurveysStmt pc (for pos (map declared_view reached.now) (optional_view first.now)
         (optional_view test.now) (optional_view last.now) (action_view body.now)) next marks.old marks.new places.old
         places.new labels.old labels.new) }
 {
     let room = hold(places, 2)?;
-    let top = for_head(pc, reached, first)?;
+    let top = for_head(pc, reached, first);
     marks.push(Mark::OfLoop(head(top, pos)))?;
-    let go = after_tested(top, test)?;
+    let go = after_tested(top, test);
     let next = survey_stmt(alloc, marks, places, labels, body, go)?;
-    let turned = after_option(next, last)?;
-    let behind_it = place_after(turned, 1)?;
+    let turned = after_option(next, last);
+    let behind_it = turned + 1;
     fill(places, room, &[next, behind_it]);
     Ok(behind_it)
 }
@@ -249,14 +260,16 @@ fn survey_else(
     pos: Pos,
     c: &Node,
 ) -> Result<u32, Memory>
+    requires { pc + stmt_size (if_else pos (value_view c.now) (action_view a.now) (action_view b.now))
+        ≤ most_instructions }
     ensures { IfOk result (λ next. SurveysStmt pc (if_else pos (value_view c.now) (action_view a.now)
         (action_view b.now)) next marks.old marks.new places.old places.new labels.old labels.new) }
 {
     let _place = pos;
     let room = hold(places, 2)?;
-    let go = after_test(pc, c)?;
+    let go = after_test(pc, c);
     let last = survey_stmt(alloc, marks, places, labels, a, go)?;
-    let middle = place_after(last, 1)?;
+    let middle = last + 1;
     let next = survey_stmt(alloc, marks, places, labels, b, middle)?;
     fill(places, room, &[middle, next]);
     Ok(next)
@@ -274,12 +287,13 @@ fn survey_if(
     pos: Pos,
     c: &Node,
 ) -> Result<u32, Memory>
+    requires { pc + stmt_size (if_only pos (value_view c.now) (action_view body.now)) ≤ most_instructions }
     ensures { IfOk result (λ next. SurveysStmt pc (if_only pos (value_view c.now) (action_view body.now)) next
         marks.old marks.new places.old places.new labels.old labels.new) }
 {
     let _place = pos;
     let room = hold(places, 1)?;
-    let go = after_test(pc, c)?;
+    let go = after_test(pc, c);
     let next = survey_stmt(alloc, marks, places, labels, body, go)?;
     fill(places, room, &[next]);
     Ok(next)
@@ -297,14 +311,15 @@ fn survey_while(
     pos: Pos,
     c: &Node,
 ) -> Result<u32, Memory>
+    requires { pc + stmt_size (while pos (value_view c.now) (action_view body.now)) ≤ most_instructions }
     ensures { IfOk result (λ next. SurveysStmt pc (while pos (value_view c.now) (action_view body.now)) next
         marks.old marks.new places.old places.new labels.old labels.new) }
 {
     let room = hold(places, 1)?;
     marks.push(Mark::OfLoop(head(pc, pos)))?;
-    let go = after_test(pc, c)?;
+    let go = after_test(pc, c);
     let next = survey_stmt(alloc, marks, places, labels, body, go)?;
-    let behind_it = place_after(next, 1)?;
+    let behind_it = next + 1;
     fill(places, room, &[next]);
     Ok(behind_it)
 }
@@ -321,15 +336,16 @@ fn survey_until(
     pos: Pos,
     c: &Node,
 ) -> Result<u32, Memory>
+    requires { pc + stmt_size (do_while pos (action_view body.now) (value_view c.now)) ≤ most_instructions }
     ensures { IfOk result (λ next. SurveysStmt pc (do_while pos (action_view body.now) (value_view c.now)) next
         marks.old marks.new places.old places.new labels.old labels.new) }
 {
     let room = hold(places, 2)?;
-    let top = place_after(pc, 1)?;
+    let top = pc + 1;
     marks.push(Mark::OfLoop(head(top, pos)))?;
-    let go = after_test(top, c)?;
+    let go = after_test(top, c);
     let next = survey_stmt(alloc, marks, places, labels, body, go)?;
-    let behind_it = place_after(next, 1)?;
+    let behind_it = next + 1;
     fill(places, room, &[go, next]);
     Ok(behind_it)
 }
@@ -346,6 +362,7 @@ fn survey_label(
     pos: Pos,
     name: Name,
 ) -> Result<u32, Memory>
+    requires { pc + stmt_size (action_view body.now) ≤ most_instructions }
     ensures { IfOk result (λ next. SurveysStmt pc (label pos name (action_view body.now)) next marks.old marks.new
         places.old places.new labels.old labels.new) }
 {
@@ -368,11 +385,12 @@ fn survey_switch(
     pos: Pos,
     node: &Node,
 ) -> Result<u32, Memory>
+    requires { pc + stmt_size (switch pos (value_view node.now) (action_view body.now)) ≤ most_instructions }
     ensures { IfOk result (λ next. SurveysStmt pc (switch pos (value_view node.now) (action_view body.now)) next
         marks.old marks.new places.old places.new labels.old labels.new) }
 {
     let _place = pos;
-    let place = after_value(pc, node)?;
+    let place = after_value(pc, node);
     let next = survey_choice(alloc, marks, places, labels, body, place)?;
     Ok(next)
 }
@@ -389,14 +407,15 @@ pub fn survey_stmt(
     action: &Action,
     pc: u32,
 ) -> Result<u32, Memory>
+    requires { pc + stmt_size (action_view action.now) ≤ most_instructions }
     ensures { IfOk result (λ next. SurveysStmt pc (action_view action.now) next marks.old marks.new places.old
         places.new labels.old labels.new) }
 {
     let pos = action.pos;
     match &action.node {
         ActionNode::Block(list, _) => survey_inner(alloc, marks, places, list, pc),
-        ActionNode::Declare(list) => after_reached(pc, list),
-        ActionNode::Do(node) => after_option(pc, node),
+        ActionNode::Declare(list) => Ok(after_reached(pc, list)),
+        ActionNode::Do(node) => Ok(after_option(pc, node)),
         ActionNode::If(c, a) => survey_if(alloc, marks, places, labels, a, pc, pos, c),
         ActionNode::IfElse(c, a, b) => {
             survey_else(alloc, marks, places, labels, a, b, pc, pos, c)
@@ -415,7 +434,7 @@ pub fn survey_stmt(
         ActionNode::Label(name, a) => {
             survey_label(alloc, marks, places, labels, a, pc, pos, *name)
         }
-        ActionNode::Goto(_) | ActionNode::Break | ActionNode::Continue => place_after(pc, 1),
-        ActionNode::Return(node) => after_give(pc, node),
+        ActionNode::Goto(_) | ActionNode::Break | ActionNode::Continue => Ok(pc + 1),
+        ActionNode::Return(node) => Ok(after_give(pc, node)),
     }
 }

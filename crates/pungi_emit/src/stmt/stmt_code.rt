@@ -1,48 +1,32 @@
 // The instructions of statements.
-ghost use Rattle.std.specs.Prelude.{◌≡◌, ◌+◌, ◌++◌, length, map, OnOk};
+ghost use Rattle.std.specs.Prelude.{◌≡◌, ◌+◌, ◌<◌, ◌≤◌, ◌^◌, ◌++◌, true, length, map, OnOk};
+ghost use Rattle.pungi_code.specs.Limits.{most_instructions};
 ghost use Rattle.pungi_resolved.specs.ActionView.{declared_view, action_view, actions_of};
 ghost use Rattle.pungi_resolved.specs.ValueView.{value_view, optional_view};
 ghost use Rattle.pungi_resolved.specs.Actions.{block, if_only, if_else, while, do_while, for, switch};
-ghost use Rattle.pungi_emit.specs.stmt.Cases.{skipped_code};
+ghost use Rattle.pungi_emit.specs.stmt.Cases.{is_block, skipped_code};
 ghost use Rattle.pungi_emit.specs.stmt.Emits.{Emits, EmitsStmt, EmitsList};
-ghost use Rattle.pungi_layout.specs.code.Sizes.{expr_size, stmts_size};
+ghost use Rattle.pungi_layout.specs.code.Sizes.{expr_size, stmt_size, stmts_size};
+ghost use Rattle.pungi_layout.specs.code.Sound.{IsStmtSound, AreStmtsSound, stmt_nodes, stmts_nodes};
 ghost use Rattle.pungi_emit.specs.planning.LabelPlaces.{list_labels, list_starts, env_of};
 ghost use Rattle.pungi_emit.specs.planning.Plans.{Begins, switch_from, plan_of, plans_of, skipped_plan};
 ghost use Rattle.pungi_layout.specs.code.Scopes.{in_block};
-ghost use Rattle.pungi_layout.specs.code.StmtCode.{stmt_code, return_code};
+ghost use Rattle.pungi_layout.specs.code.StmtCode.{stmt_code};
 ghost use Rattle.pungi_meaning.specs.Run.{nowhere};
 
 use crate::code::instructions::{Around, next_place, put};
-use crate::code::number::place_after;
-use crate::expr::temporary::{atom, temp_in};
+use crate::expr::temporary::temp_in;
 use crate::planning::labels::plan_labels;
 use crate::planning::plan::{Plan, next_planned, planned_all};
 use crate::planning::scope::{Labels, Placed, Scope, goto_place};
 use crate::stmt::decl::{
-    emit_alone, emit_declared, emit_option, emit_test, emit_tested, emit_unset, emit_unsets,
+    emit_alone, emit_declared, emit_option, emit_return, emit_test, emit_tested, emit_unset,
+    emit_unsets,
 };
 use crate::stmt::switch::{default_or, emit_cases, is_block};
 use pungi_base::{Memory, Pos, Seq};
 use pungi_code::{Instr, Label, Line};
 use pungi_resolved::{Action, ActionNode, DeclaredLocal, Value as Node};
-
-/// `return`.
-fn emit_return(
-    code: &mut Seq<Line>,
-    around: Around,
-    pos: Pos,
-    node: &Option<Box<Node>>,
-) -> Result<(), Memory>
-    ensures { OnOk result (code.new ≡ code.old ++ return_code around.locals (length code.old) pos
-        (optional_view node.now)) }
-{
-    if let Some(node) = node {
-        let value = emit_alone(code, around, node)?;
-        put(code, pos, Instr::Return(Some(atom(value))))
-    } else {
-        put(code, pos, Instr::Return(None))
-    }
-}
 
 /// `if` without `else`.
 #[cycle(emit_stmts)]
@@ -57,6 +41,10 @@ fn emit_if(
 ) -> Result<(), Memory>
     requires plan { Begins (plan_of (length code.old) (if_only pos (value_view c.now) (action_view body.now)))
         plan.old.left.now }
+    requires sound { IsStmtSound around.locals (if_only pos (value_view c.now) (action_view body.now)) }
+    requires few { stmt_nodes (if_only pos (value_view c.now) (action_view body.now)) < 2 ^ 16 }
+    requires long { length code.old + stmt_size (if_only pos (value_view c.now) (action_view body.now))
+        ≤ most_instructions }
     ensures { OnOk result (EmitsStmt around.locals (env_of scope.now) (if_only pos (value_view c.now)
         (action_view body.now)) code.old code.new plan.old.left.now plan.new.left.now) }
 {
@@ -80,6 +68,11 @@ fn emit_else(
 ) -> Result<(), Memory>
     requires plan { Begins (plan_of (length code.old) (if_else pos (value_view c.now) (action_view a.now)
         (action_view b.now))) plan.old.left.now }
+    requires sound { IsStmtSound around.locals (if_else pos (value_view c.now) (action_view a.now)
+        (action_view b.now)) }
+    requires few { stmt_nodes (if_else pos (value_view c.now) (action_view a.now) (action_view b.now)) < 2 ^ 16 }
+    requires long { length code.old + stmt_size (if_else pos (value_view c.now) (action_view a.now)
+        (action_view b.now)) ≤ most_instructions }
     ensures { OnOk result (EmitsStmt around.locals (env_of scope.now) (if_else pos (value_view c.now)
         (action_view a.now) (action_view b.now)) code.old code.new plan.old.left.now plan.new.left.now) }
 {
@@ -105,12 +98,16 @@ fn emit_while(
 ) -> Result<(), Memory>
     requires plan { Begins (plan_of (length code.old) (while pos (value_view c.now) (action_view body.now)))
         plan.old.left.now }
+    requires sound { IsStmtSound around.locals (while pos (value_view c.now) (action_view body.now)) }
+    requires few { stmt_nodes (while pos (value_view c.now) (action_view body.now)) < 2 ^ 16 }
+    requires long { length code.old + stmt_size (while pos (value_view c.now) (action_view body.now))
+        ≤ most_instructions }
     ensures { OnOk result (EmitsStmt around.locals (env_of scope.now) (while pos (value_view c.now)
         (action_view body.now)) code.old code.new plan.old.left.now plan.new.left.now) }
 {
-    let head = next_place(code)?;
+    let head = next_place(code);
     let again = next_planned(plan);
-    let end = place_after(again, 1)?;
+    let end = again + 1;
     let inner = Scope {
         breaks: end,
         continues: again,
@@ -135,19 +132,23 @@ fn emit_until(
 ) -> Result<(), Memory>
     requires plan { Begins (plan_of (length code.old) (do_while pos (action_view body.now) (value_view c.now)))
         plan.old.left.now }
+    requires sound { IsStmtSound around.locals (do_while pos (action_view body.now) (value_view c.now)) }
+    requires few { stmt_nodes (do_while pos (action_view body.now) (value_view c.now)) < 2 ^ 16 }
+    requires long { length code.old + stmt_size (do_while pos (action_view body.now) (value_view c.now))
+        ≤ most_instructions }
     ensures { OnOk result (EmitsStmt around.locals (env_of scope.now) (do_while pos (action_view body.now)
         (value_view c.now)) code.old code.new plan.old.left.now plan.new.left.now) }
 {
     let go = next_planned(plan);
     let again = next_planned(plan);
-    let end = place_after(again, 1)?;
+    let end = again + 1;
     let inner = Scope {
         breaks: end,
         continues: again,
         labels: scope.labels,
     };
     put(code, pos, Instr::Jump(Label(go)))?;
-    let head = next_place(code)?;
+    let head = next_place(code);
     emit_test(code, around, pos, c, end)?;
     emit_stmt(code, around, &inner, plan, body)?;
     put(code, pos, Instr::Jump(Label(head)))?;
@@ -171,6 +172,12 @@ fn emit_for(
     requires plan { Begins (plan_of (length code.old) (for pos (map declared_view reached.now)
         (optional_view first.now) (optional_view c.now) (optional_view last.now) (action_view body.now)))
         plan.old.left.now }
+    requires sound { IsStmtSound around.locals (for pos (map declared_view reached.now) (optional_view first.now)
+        (optional_view c.now) (optional_view last.now) (action_view body.now)) }
+    requires few { stmt_nodes (for pos (map declared_view reached.now) (optional_view first.now)
+        (optional_view c.now) (optional_view last.now) (action_view body.now)) < 2 ^ 16 }
+    requires long { length code.old + stmt_size (for pos (map declared_view reached.now) (optional_view first.now)
+        (optional_view c.now) (optional_view last.now) (action_view body.now)) ≤ most_instructions }
     ensures { OnOk result (EmitsStmt around.locals (env_of scope.now) (for pos (map declared_view reached.now)
         (optional_view first.now) (optional_view c.now) (optional_view last.now) (action_view body.now)) code.old
         code.new plan.old.left.now plan.new.left.now) }
@@ -182,10 +189,10 @@ fn emit_for(
         continues: again,
         labels: scope.labels,
     };
-    emit_unset(code, pos, reached)?;
+    emit_unset(code, around.locals, pos, reached)?;
     emit_declared(code, around, reached)?;
     emit_option(code, around, first)?;
-    let head = next_place(code)?;
+    let head = next_place(code);
     emit_tested(code, around, pos, c, end)?;
     emit_stmt(code, around, &inner, plan, body)?;
     emit_option(code, around, last)?;
@@ -203,6 +210,9 @@ fn emit_list(
     plan: &mut Plan<'_>,
 ) -> Result<(), Memory>
     requires plan { Begins (plans_of (length code.old) (actions_of (map action_view list.now))) plan.old.left.now }
+    requires sound { AreStmtsSound around.locals (actions_of (map action_view list.now)) }
+    requires few { stmts_nodes (actions_of (map action_view list.now)) < 2 ^ 16 }
+    requires long { length code.old + stmts_size (actions_of (map action_view list.now)) ≤ most_instructions }
     ensures { OnOk result (EmitsList around.locals (env_of scope.now) (map action_view list.now) code.old code.new
         plan.old.left.now plan.new.left.now) }
 {
@@ -224,6 +234,9 @@ fn emit_inside(
 ) -> Result<(), Memory>
     requires plan { Begins (plans_of (length code.old) (actions_of (map action_view list.now))) plan.old.left.now }
     requires own { own.now ≡ list_labels (length code.old) (map action_view list.now) }
+    requires sound { AreStmtsSound around.locals (actions_of (map action_view list.now)) }
+    requires few { stmts_nodes (actions_of (map action_view list.now)) < 2 ^ 16 }
+    requires long { length code.old + stmts_size (actions_of (map action_view list.now)) ≤ most_instructions }
     ensures { OnOk result (EmitsList around.locals (in_block (env_of scope.now) (length code.old)
         (map action_view list.now)) (map action_view list.now) code.old code.new plan.old.left.now plan.new.left.now) }
 {
@@ -249,11 +262,15 @@ fn emit_block(
 ) -> Result<(), Memory>
     requires plan { Begins (plan_of (length code.old) (block pos (actions_of (map action_view list.now)) nowhere))
         plan.old.left.now }
+    requires sound { IsStmtSound around.locals (block pos (actions_of (map action_view list.now)) nowhere) }
+    requires few { stmt_nodes (block pos (actions_of (map action_view list.now)) nowhere) < 2 ^ 16 }
+    requires long { length code.old + stmt_size (block pos (actions_of (map action_view list.now)) nowhere)
+        ≤ most_instructions }
     ensures { OnOk result (EmitsStmt around.locals (env_of scope.now) (block pos
         (actions_of (map action_view list.now)) nowhere) code.old code.new plan.old.left.now plan.new.left.now) }
 {
     let own = plan_labels(around.alloc, plan, list)?;
-    emit_unsets(code, pos, list)?;
+    emit_unsets(code, around.locals, pos, list)?;
     emit_inside(code, around, list, scope, plan, own.as_slice())?;
     Ok(())
 }
@@ -281,6 +298,12 @@ fn emit_switched(
         (map action_view list.now)) (map action_view list.now) }
     requires end { end ≡ switch_from (length code.old + expr_size (value_view node.now)) (map action_view list.now)
         + stmts_size (actions_of (map action_view list.now)) }
+    requires sound { IsStmtSound around.locals (switch pos (value_view node.now)
+        (block nowhere (actions_of (map action_view list.now)) nowhere)) }
+    requires few { stmt_nodes (switch pos (value_view node.now) (block nowhere
+        (actions_of (map action_view list.now)) nowhere)) < 2 ^ 16 }
+    requires long { length code.old + stmt_size (switch pos (value_view node.now)
+        (block nowhere (actions_of (map action_view list.now)) nowhere)) ≤ most_instructions }
     ensures { OnOk result (Emits (stmt_code around.locals (env_of scope.now) (length code.old)
         (switch pos (value_view node.now) (block nowhere (actions_of (map action_view list.now)) nowhere)))
         (plans_of (switch_from (length code.old + expr_size (value_view node.now)) (map action_view list.now))
@@ -292,8 +315,8 @@ fn emit_switched(
         labels: scope.labels,
     };
     let value = emit_alone(code, around, node)?;
-    emit_unsets(code, pos, list)?;
-    let outcome = temp_in(around.locals, 1, 0)?;
+    emit_unsets(code, around.locals, pos, list)?;
+    let outcome = temp_in(around.locals, 1, 0);
     emit_cases(code, pos, value, outcome, list, starts)?;
     let other = default_or(list, starts, end);
     put(code, pos, Instr::Jump(Label(other)))?;
@@ -314,6 +337,12 @@ fn emit_switch(
 ) -> Result<(), Memory>
     requires plan { Begins (plan_of (length code.old) (switch pos (value_view node.now)
         (block nowhere (actions_of (map action_view list.now)) nowhere))) plan.old.left.now }
+    requires sound { IsStmtSound around.locals (switch pos (value_view node.now)
+        (block nowhere (actions_of (map action_view list.now)) nowhere)) }
+    requires few { stmt_nodes (switch pos (value_view node.now) (block nowhere
+        (actions_of (map action_view list.now)) nowhere)) < 2 ^ 16 }
+    requires long { length code.old + stmt_size (switch pos (value_view node.now)
+        (block nowhere (actions_of (map action_view list.now)) nowhere)) ≤ most_instructions }
     ensures { OnOk result (EmitsStmt around.locals (env_of scope.now) (switch pos (value_view node.now)
         (block nowhere (actions_of (map action_view list.now)) nowhere)) code.old code.new plan.old.left.now
         plan.new.left.now) }
@@ -341,6 +370,10 @@ fn emit_skipped(
 ) -> Result<(), Memory>
     requires plan { Begins (skipped_plan (length code.old + expr_size (value_view node.now)) (action_view body.now))
         plan.old.left.now }
+    requires sound { IsStmtSound around.locals (switch pos (value_view node.now) (action_view body.now)) }
+    requires few { stmt_nodes (switch pos (value_view node.now) (action_view body.now)) < 2 ^ 16 }
+    requires long { length code.old + (expr_size (value_view node.now) + (1 + stmt_size (action_view body.now)))
+        ≤ most_instructions }
     ensures { OnOk result (Emits (skipped_code around.locals (env_of scope.now) (length code.old) pos
         (value_view node.now) (action_view body.now)) (skipped_plan (length code.old
         + expr_size (value_view node.now)) (action_view body.now)) code.old code.new plan.old.left.now
@@ -371,6 +404,10 @@ fn emit_choice(
 ) -> Result<(), Memory>
     requires plan { Begins (plan_of (length code.old) (switch pos (value_view node.now) (action_view body.now)))
         plan.old.left.now }
+    requires sound { IsStmtSound around.locals (switch pos (value_view node.now) (action_view body.now)) }
+    requires few { stmt_nodes (switch pos (value_view node.now) (action_view body.now)) < 2 ^ 16 }
+    requires long { length code.old + stmt_size (switch pos (value_view node.now) (action_view body.now))
+        ≤ most_instructions }
     ensures { OnOk result (EmitsStmt around.locals (env_of scope.now) (switch pos (value_view node.now)
         (action_view body.now)) code.old code.new plan.old.left.now plan.new.left.now) }
 {
@@ -396,14 +433,34 @@ fn emit_body(
 ) -> Result<(), Memory>
     requires plan { Begins (plan_of (length code.old) (switch pos (value_view node.now) (action_view body.now)))
         plan.old.left.now }
+    requires sound { IsStmtSound around.locals (switch pos (value_view node.now) (action_view body.now)) }
+    requires few { stmt_nodes (switch pos (value_view node.now) (action_view body.now)) < 2 ^ 16 }
+    requires long { length code.old + stmt_size (switch pos (value_view node.now) (action_view body.now))
+        ≤ most_instructions }
+    requires block { is_block (action_view body.now) ≡ true }
     ensures { OnOk result (EmitsStmt around.locals (env_of scope.now) (switch pos (value_view node.now)
         (action_view body.now)) code.old code.new plan.old.left.now plan.new.left.now) }
 {
-    if let ActionNode::Block(list, _) = &body.node {
-        emit_switch(code, around, list, scope, plan, pos, node)?;
-        Ok(())
-    } else {
-        Err(Memory)
+    match &body.node {
+        ActionNode::Block(list, _) => {
+            emit_switch(code, around, list, scope, plan, pos, node)?;
+            Ok(())
+        }
+        ActionNode::Declare(_)
+        | ActionNode::Do(_)
+        | ActionNode::If(_, _)
+        | ActionNode::IfElse(_, _, _)
+        | ActionNode::While(_, _)
+        | ActionNode::DoWhile(_, _)
+        | ActionNode::For(_, _, _, _, _)
+        | ActionNode::Switch(_, _)
+        | ActionNode::Case(_, _)
+        | ActionNode::Default(_)
+        | ActionNode::Label(_, _)
+        | ActionNode::Goto(_)
+        | ActionNode::Break
+        | ActionNode::Continue
+        | ActionNode::Return(_) => unreachable!(),
     }
 }
 
@@ -418,6 +475,9 @@ pub fn emit_stmt(
     action: &Action,
 ) -> Result<(), Memory>
     requires plan { Begins (plan_of (length code.old) (action_view action.now)) plan.old.left.now }
+    requires sound { IsStmtSound around.locals (action_view action.now) }
+    requires few { stmt_nodes (action_view action.now) < 2 ^ 16 }
+    requires long { length code.old + stmt_size (action_view action.now) ≤ most_instructions }
     ensures { OnOk result (EmitsStmt around.locals (env_of scope.now) (action_view action.now) code.old code.new
         plan.old.left.now plan.new.left.now) }
 {

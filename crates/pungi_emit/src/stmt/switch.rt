@@ -1,5 +1,6 @@
 // The comparisons of a `switch`.
-ghost use Rattle.std.specs.Prelude.{◌≡◌, ◌++◌, length, map, OnOk};
+ghost use Rattle.std.specs.Prelude.{◌≡◌, ◌+◌, ◌*◌, ◌≤◌, ◌++◌, length, map, OnOk};
+ghost use Rattle.pungi_code.specs.Limits.{most_instructions};
 ghost use Rattle.pungi_resolved.specs.ActionView.{action_view};
 ghost use Rattle.pungi_meaning.specs.Stmts.{cases_of, is_default};
 ghost use Rattle.pungi_emit.specs.stmt.Cases.{case_lines, cases_at, default_at, is_block};
@@ -22,9 +23,10 @@ fn emit_case(
     number: Atom,
     place: u32,
 ) -> Result<(), Memory>
+    requires { length code.old + 2 ≤ most_instructions }
     ensures { OnOk result (code.new ≡ code.old ++ case_lines pos value outcome (length code.old) number place) }
 {
-    let here = next_place(code)?;
+    let here = next_place(code);
     let next = here + 2;
     let compare = Instr::Compare(Var(outcome), Cmp::Equal, atom(value), number);
     put(code, pos, compare)?;
@@ -46,6 +48,7 @@ fn emit_own_cases(
     place: u32,
     action: &Action,
 ) -> Result<(), Memory>
+    requires { length code.old + 2 * length (cases_of (action_view action.now)) ≤ most_instructions }
     ensures { OnOk result (code.new ≡ code.old ++ case_code pos value outcome (length code.old)
         (placed_cases place (cases_of (action_view action.now)))) }
 {
@@ -84,7 +87,8 @@ pub fn emit_cases(
     list: &[Action],
     starts: &[u32],
 ) -> Result<(), Memory>
-    requires { length list.now ≡ length starts.now }
+    requires starts { length list.now ≡ length starts.now }
+    requires long { length code.old + 2 * length (cases_at (map action_view list.now) starts.now) ≤ most_instructions }
     ensures { OnOk result (code.new ≡ code.old ++ case_code pos value outcome (length code.old)
         (cases_at (map action_view list.now) starts.now)) }
 {

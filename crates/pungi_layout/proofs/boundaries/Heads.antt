@@ -30,12 +30,13 @@ use Rattle.pungi_layout.specs.liveness.Liveness.{Among, following, AreDead}
 use Rattle.pungi_layout.specs.liveness.Boundaries.{own, parts, IsAmong, IsPart, IsHead, KeepsNothing}
 use Rattle.pungi_layout.proofs.code.StmtLengths.{unset_long, value_long, option_long, declare_long, test_long}
 use Rattle.pungi_layout.proofs.code.StmtLengths.{tested_long, case_long, cases_long, stmt_long}
-use Rattle.pungi_layout.proofs.relation.Relation.{switch_first}
-use Rattle.pungi_layout.proofs.relation.PlacedExprs.{HasAt, has_cut, has_all}
+use Rattle.pungi_layout.proofs.relation.Waiting.{switch_first}
+use Rattle.pungi_layout.proofs.relation.Standing.{HasAt, has_cut, has_all}
 use Rattle.pungi_layout.proofs.liveness.Paths.{by_line}
-use Rattle.pungi_layout.proofs.liveness.Stmts.{Dead, EnvBelow, switch_below, jump_dead, loop_dead, inside_dead}
-use Rattle.pungi_layout.proofs.liveness.Stmts.{inner_below, front, starts_dead, stmt_dead, list_label_dead}
-use Rattle.pungi_layout.proofs.boundaries.Exprs.{Fine, EachFine, AllFine, all_append}
+use Rattle.pungi_layout.proofs.liveness.Values.{Dead, EnvBelow, switch_below, jump_dead}
+use Rattle.pungi_layout.proofs.liveness.Stmts.{loop_dead, inside_dead, inner_below, front, starts_dead, stmt_dead}
+use Rattle.pungi_layout.proofs.liveness.Stmts.{list_label_dead}
+use Rattle.pungi_layout.proofs.boundaries.Places.{Fine, EachFine, AllFine, all_append}
 use Rattle.pungi_layout.proofs.boundaries.Stmts.{EnvAll, stmt_fine}
 
 module _ (code : List Line) (nl : ℕ) where

@@ -26,13 +26,14 @@ use Rattle.pungi_layout.specs.liveness.Boundaries.{parts_of, IsAmong, IsPart}
 use Rattle.pungi_layout.proofs.code.ExprLengths.{expr_long}
 use Rattle.pungi_layout.proofs.code.StmtLengths.{unset_long, value_long, option_long, bind_long, declare_long}
 use Rattle.pungi_layout.proofs.code.StmtLengths.{test_long, tested_long, case_long, cases_long, stmt_long}
-use Rattle.pungi_layout.proofs.relation.Relation.{switch_first}
-use Rattle.pungi_layout.proofs.relation.PlacedExprs.{HasAt, has_cut}
-use Rattle.pungi_layout.proofs.liveness.Stmts.{Dead, EnvBelow, switch_below, option_dead, jump_dead, declare_dead}
+use Rattle.pungi_layout.proofs.relation.Waiting.{switch_first}
+use Rattle.pungi_layout.proofs.relation.Standing.{HasAt, has_cut}
+use Rattle.pungi_layout.proofs.liveness.Values.{Dead, EnvBelow, switch_below, option_dead, jump_dead, declare_dead}
 use Rattle.pungi_layout.proofs.liveness.Stmts.{loop_dead, inside_dead, CasesDead, cases_dead, default_dead, inner_below}
 use Rattle.pungi_layout.proofs.liveness.Stmts.{front, starts_dead, stmt_dead, list_label_dead}
-use Rattle.pungi_layout.proofs.boundaries.Exprs.{Covers, covers_front, covers_back, AllFine, all_append, fine_at, Exit}
-use Rattle.pungi_layout.proofs.boundaries.Exprs.{exit_at, leap, step, here, one_fine, expr_fine}
+use Rattle.pungi_layout.proofs.boundaries.Places.{Covers, covers_front, covers_back, AllFine, all_append, fine_at, Exit}
+use Rattle.pungi_layout.proofs.boundaries.Places.{exit_at, leap, step, here}
+use Rattle.pungi_layout.proofs.boundaries.Exprs.{one_fine, expr_fine}
 
 part_front : (a : stmt.Action) (xs ys : List stmt.Action) → IsPart a xs → IsPart a (xs ++ ys)
 part_front a [] ys m = absurd m

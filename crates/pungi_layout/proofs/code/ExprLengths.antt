@@ -189,8 +189,8 @@ mutual
   expr_long (expr.cast_of p v) nl d t pc = expr_long v nl d t pc
   expr_long (expr.dropped p v) nl d t pc = expr_long v nl d t pc
   expr_long (expr.called p n vs) nl d t pc = refl
-  expr_long (expr.called_row p n row vs) nl d t pc = long_append (args_code nl d pc row.params vs) (_ ∷ [])
-      (values_size vs) 1 (args_long vs nl d pc row.params) refl
+  expr_long (expr.called_row p n sig vs) nl d t pc = long_append (args_code nl d pc sig.params vs) (_ ∷ [])
+      (values_size vs) 1 (args_long vs nl d pc sig.params) refl
   expr_long (expr.nonsense p) nl d t pc = refl
 
   pub base_long : (place : expr.Place) (nl d pc : ℕ) → length (base_code nl d pc place) ≡ place_size place

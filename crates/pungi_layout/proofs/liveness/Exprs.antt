@@ -5,18 +5,17 @@ use Rattle.std.specs.Prelude.{slice_get}
 use Rattle.pungi_base.specs.declared.kind.Kind.{Kind}
 use Rattle.pungi_base.specs.declared.pos.Pos.{Pos}
 use Rattle.pungi_api.specs.declared.param.Param.{Param}
-use Rattle.pungi_api.specs.declared.row.Row.{Row}
+use Rattle.pungi_api.specs.declared.signature.Signature.{Signature}
 use Rattle.pungi_types.specs.declared.kind.ValueKind.{ValueKind}
 use Rattle.pungi_resolved.specs.Values as expr
 use Rattle.pungi_meaning.specs.Values.{wide}
 use Rattle.pungi_meaning.specs.Exprs.{is_and}
 use Rattle.pungi_meaning.specs.Todo.{listed_values}
-use Rattle.pungi_meaning.specs.Work.{shape_of}
 use Rattle.pungi_code.specs.declared.atom.Atom.{Atom}
 use Rattle.pungi_code.specs.declared.atom.Atom.TheVariants as atom
 use Rattle.pungi_code.specs.declared.code.Line.{Line}
 use Rattle.pungi_code.specs.declared.instr.Instr.TheVariants.{Set, Fit, Api}
-use Rattle.pungi_layout.specs.code.Parts.{is_minus, gives, gives_answer}
+use Rattle.pungi_layout.specs.code.Parts.{is_minus, gives, has_call_value}
 use Rattle.pungi_layout.specs.code.Sizes.{expr_size, place_size, values_size, fit_size, store_size, sign_size}
 use Rattle.pungi_layout.specs.code.Temporaries.{column, temp, value_column, temp_of, operand, tail, arg_var, arg_vars}
 use Rattle.pungi_layout.specs.code.ExprCode.{line, to_var, var, bit, branch_on, fit_code, old_code, store_code, above}
@@ -24,9 +23,9 @@ use Rattle.pungi_layout.specs.code.ExprCode.{stored_var, counted_var, base_var, 
 use Rattle.pungi_layout.specs.code.ExprCode.{expr_code, base_code, args_code}
 use Rattle.pungi_layout.specs.code.Sound.{IsSound, IsPlaceSound, AreSound}
 use Rattle.pungi_layout.specs.liveness.Liveness.{atom_vars, atoms_vars, Among, AreKnown, WritesFirst}
-use Rattle.pungi_layout.proofs.relation.Relation.{is_same}
+use Rattle.pungi_layout.proofs.relation.Waiting.{is_same}
 use Rattle.pungi_layout.proofs.code.ExprLengths.{expr_long, base_long, args_long, old_long, fit_long}
-use Rattle.pungi_layout.proofs.relation.PlacedExprs.{HasAt, has_front, has_cut}
+use Rattle.pungi_layout.proofs.relation.Standing.{HasAt, has_front, has_cut}
 use Rattle.pungi_layout.proofs.liveness.Paths.{Within, within_all, within_more, within_both, more, by_line}
 
 -- what was written once a value stands in a variable, if there is one
@@ -218,11 +217,11 @@ module _ (code : List Line) (nl : ℕ) where
   branch_first false n pc ws p x go other here m this that = by_line code nl n pc ws _ here (inr m, tt)
       (that, (this, tt))
 
-  answer_first : (b : Bool) (n pc : ℕ) (ws : List ℕ) (p : Pos) (t : ℕ) (row : Row) (as' : List Atom)
-      → slice_get code pc ≡ Some (line p (Api (if b then Some (to_var t) else None) (shape_of row) as' []))
+  answer_first : (b : Bool) (n pc : ℕ) (ws : List ℕ) (p : Pos) (t : ℕ) (sig : Signature) (as' : List Atom)
+      → slice_get code pc ≡ Some (line p (Api (if b then Some (to_var t) else None) sig as' []))
       → AreKnown nl ws (atoms_vars as') → WritesFirst code nl n (pc + 1) (left b t ws) → WritesFirst code nl n pc ws
-  answer_first true n pc ws p t row as' here known next = by_line code nl n pc ws _ here known (next, tt)
-  answer_first false n pc ws p t row as' here known next = by_line code nl n pc ws _ here known (next, tt)
+  answer_first true n pc ws p t sig as' here known next = by_line code nl n pc ws _ here known (next, tt)
+  answer_first false n pc ws p t sig as' here known next = by_line code nl n pc ws _ here known (next, tt)
 
   sign_first : (minus : Bool) (p : Pos) (kind : ValueKind) (v : expr.Value) (d t pc n : ℕ) (ws : List ℕ)
       → ((t' : ℕ) → length (expr_code nl d t' pc v) ≡ expr_size v)
@@ -442,17 +441,17 @@ module _ (code : List Line) (nl : ℕ) where
     expr_first (expr.cast_of p v) d t pc n ws s h next = expr_first v d t pc n ws s h next
     expr_first (expr.dropped p v) d t pc n ws s h next = expr_first v d t pc n ws s h next
     expr_first (expr.called p m vs) d t pc n ws s h next = by_line code nl n pc ws _ h.0 tt tt
-    expr_first (expr.called_row p m row vs) d t pc n ws s h next =
+    expr_first (expr.called_row p m sig vs) d t pc n ws s h next =
         let q = pc + values_size vs in
-        let us = argued nl d row.params vs ws in
-        let g = has_cut code pc (values_size vs) (args_code nl d pc row.params vs) _
-        (args_long vs nl d pc row.params) h in
+        let us = argued nl d sig.params vs ws in
+        let g = has_cut code pc (values_size vs) (args_code nl d pc sig.params vs) _
+        (args_long vs nl d pc sig.params) h in
         let e : pc + (values_size vs + 1) ≡ q + 1 = omega arith in
-        let b = gives_answer row in
+        let b = has_call_value sig.answer in
         let next' = more code nl n _ (left b t ws) (left b t us) (within_left b t ws us
-        (within_argued nl d row.params vs ws)) (moved n _ _ (left b t ws) e next) in
-        args_first vs d pc n row.params ws s g.0 (answer_first b n q us p t row _ g.1.0
-        (args_known nl d row.params vs ws) next')
+        (within_argued nl d sig.params vs ws)) (moved n _ _ (left b t ws) e next) in
+        args_first vs d pc n sig.params ws s g.0 (answer_first b n q us p t sig _ g.1.0
+        (args_known nl d sig.params vs ws) next')
     expr_first (expr.nonsense p) d t pc n ws s h next = by_line code nl n pc ws _ h.0 tt tt
 
     base_first : (place : expr.Place) (d pc n : ℕ) (ws : List ℕ) → IsPlaceSound nl place

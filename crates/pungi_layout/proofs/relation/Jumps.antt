@@ -13,8 +13,8 @@ use Rattle.pungi_meaning.specs.Work.{or_else}
 use Rattle.pungi_code.specs.declared.code.Line.{Line}
 use Rattle.pungi_layout.specs.code.Sizes.{expr_size, option_size, declare_size, test_size, stmt_size}
 use Rattle.pungi_layout.specs.code.Scopes.{Env, label_or, stmt_label, list_label, in_loop, in_switch}
-use Rattle.pungi_layout.proofs.relation.Relation.{Waiting, StmtAt, LoopAt, loop_body, loop_again, end_of_loop, ListAt}
-use Rattle.pungi_layout.proofs.relation.Relation.{Inside, IsAt}
+use Rattle.pungi_layout.proofs.relation.Waiting.{Waiting, loop_body, loop_again, end_of_loop}
+use Rattle.pungi_layout.proofs.relation.Relation.{StmtAt, LoopAt, ListAt, Inside, IsAt}
 
 pub drop_next : {A : Type 0} (xs : List A) (i : ℕ) (x : A) (ys : List A) → drop i xs ≡ x ∷ ys → drop (suc i) xs ≡ ys
 drop_next [] zero x ys e = absurd (cc)
@@ -59,7 +59,7 @@ module _ (code : List Line) (nl room : ℕ) where
   break_leads (ToPick a b ∷ k) env pc ks h = break_leads k env _ _ h.11
   break_leads (ToStore kind place ∷ k) env pc ks h = break_leads k env _ _ h.5
   break_leads (ToPop ∷ k) env pc ks h = break_leads k env _ _ h.1
-  break_leads (ToArgs p row args i ∷ k) env pc ks h = break_leads k env _ _ h.7
+  break_leads (ToArgs p sig args i ∷ k) env pc ks h = break_leads k env _ _ h.7
   break_leads (ToExec a ∷ k) env pc ks h = break_leads k env _ _ h.2
   break_leads (ToForget ∷ k) env pc ks h = break_leads k env pc [] h
   break_leads (ToDeclare rs ∷ k) env pc ks h = break_leads k env _ _ h.2
@@ -102,7 +102,7 @@ module _ (code : List Line) (nl room : ℕ) where
   continue_leads (ToPick a b ∷ k) env pc ks h = continue_leads k env _ _ h.11
   continue_leads (ToStore kind place ∷ k) env pc ks h = continue_leads k env _ _ h.5
   continue_leads (ToPop ∷ k) env pc ks h = continue_leads k env _ _ h.1
-  continue_leads (ToArgs p row args i ∷ k) env pc ks h = continue_leads k env _ _ h.7
+  continue_leads (ToArgs p sig args i ∷ k) env pc ks h = continue_leads k env _ _ h.7
   continue_leads (ToExec a ∷ k) env pc ks h = continue_leads k env _ _ h.2
   continue_leads (ToForget ∷ k) env pc ks h = continue_leads k env pc [] h
   continue_leads (ToDeclare rs ∷ k) env pc ks h = continue_leads k env _ _ h.2
@@ -244,7 +244,7 @@ module _ (code : List Line) (nl room : ℕ) where
   goto_leads l (ToPick a b ∷ k) env pc ks h = goto_leads l k env _ _ h.11
   goto_leads l (ToStore kind place ∷ k) env pc ks h = goto_leads l k env _ _ h.5
   goto_leads l (ToPop ∷ k) env pc ks h = goto_leads l k env _ _ h.1
-  goto_leads l (ToArgs p row args i ∷ k) env pc ks h = goto_leads l k env _ _ h.7
+  goto_leads l (ToArgs p sig args i ∷ k) env pc ks h = goto_leads l k env _ _ h.7
   goto_leads l (ToExec a ∷ k) env pc ks h = goto_leads l k env _ _ h.2
   goto_leads l (ToForget ∷ k) env pc ks h = goto_leads l k env pc [] h
   goto_leads l (ToDeclare rs ∷ k) env pc ks h = goto_leads l k env _ _ h.2

@@ -1,155 +1,33 @@
 -- The instructions of an expression stand in the code as the relation says.
-use Rattle.std.proofs.Common.{◌≡◌, ℕ, suc, ◌+◌, ◌*◌, ◌<◌, ◌≤◌, List, [], ◌∷◌, ◌++◌, length, map, Some, None, refl, sym}
-use Rattle.std.proofs.Common.{ap, ◌∙◌, subst, arith, append_assoc, length-append, Bool, true, false, pos, if◌then◌else◌}
-use Rattle.std.specs.Prelude.{slice_get, eqb}
-use Rattle.std.proofs.Math.Seq.{get_or-append_seam}
-use Rattle.std.proofs.lemmas.Option.{slice_get-get_or}
+use Rattle.std.proofs.Common.{◌≡◌, ℕ, suc, ◌+◌, ◌*◌, ◌<◌, ◌≤◌, List, [], ◌∷◌, ◌++◌, length, map, refl, sym, subst}
+use Rattle.std.proofs.Common.{arith, Bool, true, false, pos, if◌then◌else◌}
+use Rattle.std.specs.Prelude.{eqb}
 use Rattle.pungi_base.specs.declared.kind.Kind.{Kind}
 use Rattle.pungi_base.specs.declared.pos.Pos.{Pos}
-use Rattle.pungi_api.specs.declared.answer.Answer.{Answer}
-use Rattle.pungi_api.specs.declared.answer.Answer.TheVariants as answer
-use Rattle.pungi_api.specs.declared.row.Form.{Form}
-use Rattle.pungi_api.specs.declared.row.Form.TheVariants as form
 use Rattle.pungi_api.specs.declared.param.Param.{Param}
 use Rattle.pungi_types.specs.declared.kind.ValueKind.{ValueKind}
-use Rattle.pungi_types.specs.declared.kind.ValueKind.TheVariants as kinds
 use Rattle.pungi_resolved.specs.Values as expr
 use Rattle.pungi_meaning.specs.declared.op.Op.TheVariants as ops
-use Rattle.pungi_meaning.specs.Values.{fits, wide}
+use Rattle.pungi_meaning.specs.Values.{wide}
 use Rattle.pungi_meaning.specs.Todo.{listed_values}
-use Rattle.pungi_meaning.specs.Work.{shape_of}
 use Rattle.pungi_code.specs.declared.atom.Atom.TheVariants as atom
 use Rattle.pungi_code.specs.declared.code.Line.{Line}
 use Rattle.pungi_code.specs.declared.instr.Instr.TheVariants.{Arith, Fit, Api}
-use Rattle.pungi_layout.specs.code.Parts.{is_minus, gives_answer}
+use Rattle.pungi_layout.specs.code.Parts.{is_minus, has_call_value}
 use Rattle.pungi_layout.specs.code.Sizes.{expr_size, place_size, values_size, fit_size}
-use Rattle.pungi_layout.specs.code.Temporaries.{column, temp, answer_column, form_column, value_column, temp_of}
-use Rattle.pungi_layout.specs.code.Temporaries.{operand, fitting_column, front_column, tail, arg_var, arg_vars}
+use Rattle.pungi_layout.specs.code.Temporaries.{column, temp, value_column, temp_of, operand, fitting_column}
+use Rattle.pungi_layout.specs.code.Temporaries.{front_column, tail, arg_var, arg_vars}
 use Rattle.pungi_layout.specs.code.ExprCode.{line, to_var, var, fit_code, old_code, store_code, above, stored_var}
 use Rattle.pungi_layout.specs.code.ExprCode.{counted_var, base_var, sign_code, sign_var, step_code, expr_code}
 use Rattle.pungi_layout.specs.code.ExprCode.{base_code, args_code}
 use Rattle.pungi_layout.specs.code.Sound.{IsSound, IsPlaceSound, AreSound, expr_nodes, place_nodes, values_nodes}
 use Rattle.pungi_layout.proofs.code.ExprLengths.{fit_long, old_long, expr_long, base_long, args_long}
-use Rattle.pungi_layout.proofs.relation.Relation.{answer_var, One, is_same, level, Stands, IsTemp, FitAt, OldAt}
-use Rattle.pungi_layout.proofs.relation.Relation.{StoreAt, PutAt, StepAt, ExprAt, BaseAt, ArgsAt}
-
--- ---- instructions that stand in the code
-
-abbrev pub HasAt : List Line → ℕ → List Line → Type 0
-HasAt code pc [] = Unit {0}
-HasAt code pc (i ∷ is) = (slice_get code pc ≡ Some i) × HasAt code (pc + 1) is
-
-pub has_front : (code : List Line) (pc : ℕ) (a b : List Line) → HasAt code pc (a ++ b) → HasAt code pc a
-has_front code pc [] b h = tt
-has_front code pc (i ∷ a) b h = (h.0, has_front code (pc + 1) a b h.1)
-
-pub has_back : (code : List Line) (pc n : ℕ) (a b : List Line) → pc + length a ≡ n → HasAt code pc (a ++ b)
-    → HasAt code n b
-has_back code pc n [] b e h = let f : pc ≡ n = omega (arith, e) in subst (λ x. HasAt code x b) f h
-has_back code pc n (i ∷ a) b e h = has_back code (pc + 1) n a b (omega (arith, e)) h.1
-
-pub has_all : (is before : List Line) → HasAt (before ++ is) (length before) is
-has_all [] before = tt
-has_all (i ∷ is) before =
-    let within : length before < length (before ++ i ∷ is) = omega (arith, length-append before (i ∷ is)) in
-    let here = slice_get-get_or (before ++ i ∷ is) (length before) i within
-    ∙ ap Some (get_or-append_seam before i is i) in
-    let n : length (before ++ i ∷ []) ≡ length before + 1 = omega (arith, length-append before (i ∷ [])) in
-    let rest = has_all is (before ++ i ∷ []) in
-    let rest' = subst (λ l. HasAt l (length (before ++ i ∷ [])) is) (append_assoc before (i ∷ []) is) rest in
-    (here, subst (λ m. HasAt (before ++ i ∷ is) m is) n rest')
-
--- ---- columns
-
-column_low : (k : ValueKind) → column k < 5
-column_low kinds.Int = omega arith
-column_low kinds.Long = omega arith
-column_low kinds.Size = omega arith
-column_low kinds.Text = omega arith
-column_low k = omega arith
-
-answer_low : (a : Answer) → answer_column a < 5
-answer_low answer.Status = omega arith
-answer_low answer.Truth = omega arith
-answer_low answer.Int = omega arith
-answer_low answer.Long = omega arith
-answer_low answer.Size = omega arith
-answer_low answer.Text = omega arith
-answer_low a = omega arith
-
-form_low : (f : Form) (a : Answer) → form_column f a < 5
-form_low form.Plain a = answer_low a
-form_low (form.Special s) a = omega arith
-
-if_low : (b : Bool) (m n : ℕ) → m < 5 → n < 5 → (if b then m else n) < 5
-if_low true m n h g = h
-if_low false m n h g = g
-
-joined_low : (b c d : Bool) (m n : ℕ) → m < 5 → n < 5 → (if b then (if c then 0 else 1) else (if d then m else n)) < 5
-joined_low b c d m n h g = if_low b _ _ (if_low c 0 1 (omega arith) (omega arith)) (if_low d m n h g)
-
-pub value_low : (v : expr.Value) → value_column v < 5
-value_low (expr.constant p n) = if_low (fits kinds.Int n) 0 1 (omega arith) (omega arith)
-value_low (expr.read p kind place) = column_low kind
-value_low (expr.inner p v) = value_low v
-value_low (expr.signed p m kind v) = column_low kind
-value_low (expr.stepped p is_postfix m kind place) = column_low kind
-value_low (expr.computed p m kind a b) = column_low kind
-value_low (expr.stored p kind place v) = column_low kind
-value_low (expr.updated p m counted kind place v) = column_low kind
-value_low (expr.chosen p c a b) = joined_low _ _ _ (value_column a) (value_column b) (value_low a) (value_low b)
-value_low (expr.converted p kind v) = column_low kind
-value_low (expr.cast_of p v) = value_low v
-value_low (expr.dropped p v) = value_low v
-value_low (expr.called_row p n row vs) = form_low row.form row.answer
-value_low v = omega arith
-
--- ---- where they stand
-
-pub has_cut : (code : List Line) (pc n : ℕ) (a b : List Line) → length a ≡ n → HasAt code pc (a ++ b)
-    → HasAt code pc a × HasAt code (pc + n) b
-has_cut code pc n a b e h = (has_front code pc a b h, has_back code pc (pc + n) a b (ap (λ x. pc + x) e) h)
-
-pub positive : (v : expr.Value) → 1 ≤ expr_nodes v
-positive (expr.read p kind place) = omega arith
-positive (expr.inner p v) = omega arith
-positive (expr.signed p m kind v) = omega arith
-positive (expr.negated p v) = omega arith
-positive (expr.stepped p is_postfix m kind place) = omega arith
-positive (expr.computed p m kind a b) = omega arith
-positive (expr.compared p m a b) = omega arith
-positive (expr.joined_by p m a b) = omega arith
-positive (expr.stored p kind place v) = omega arith
-positive (expr.updated p m counted kind place v) = omega arith
-positive (expr.chosen p c a b) = omega arith
-positive (expr.converted p kind v) = omega arith
-positive (expr.cast_of p v) = omega arith
-positive (expr.dropped p v) = omega arith
-positive (expr.called_row p n row vs) = omega arith
-positive v = omega arith
-
-above_is : (place : expr.Place) (d : ℕ) → above place d ≡ level place d
-above_is (expr.local_place p x) d = refl
-above_is (expr.global_place p n) d = refl
-above_is (expr.field_place p base tag field) d = omega arith
-above_is expr.no_place d = refl
-
--- how much higher the value of a place waits is within the place's nodes
-pub above_low : (place : expr.Place) (d : ℕ) → above place d + 1 ≤ d + place_nodes place
-above_low (expr.local_place p x) d = omega arith
-above_low (expr.global_place p n) d = omega arith
-above_low (expr.field_place p base tag field) d = omega (arith, positive base)
-above_low expr.no_place d = omega arith
-
-above_less : (place : expr.Place) (d : ℕ) → d ≤ above place d
-above_less (expr.local_place p x) d = omega arith
-above_less (expr.global_place p n) d = omega arith
-above_less (expr.field_place p base tag field) d = omega arith
-above_less expr.no_place d = omega arith
-
-answer_is : (b : Bool) (t : ℕ) → (if b then Some (to_var t) else None) ≡ answer_var b t
-answer_is true t = refl
-answer_is false t = refl
+use Rattle.pungi_layout.proofs.relation.Waiting.{One, is_same, level}
+use Rattle.pungi_layout.proofs.relation.Relation.{Stands, IsTemp, FitAt, OldAt, StoreAt, PutAt, StepAt, ExprAt, BaseAt}
+use Rattle.pungi_layout.proofs.relation.Relation.{ArgsAt}
+use Rattle.pungi_layout.proofs.relation.Standing.{HasAt, has_front, has_cut}
+use Rattle.pungi_layout.proofs.relation.Columns.{column_low, if_low, value_low, positive, above_is, above_low}
+use Rattle.pungi_layout.proofs.relation.Columns.{above_less, answer_is}
 
 module _ (code : List Line) (nl room : ℕ) where
   pub temp_at : (d c n : ℕ) → c < 5 → 1 ≤ n → nl + 5 * (d + n) ≤ room → IsTemp code nl room d (temp nl d c)
@@ -469,14 +347,14 @@ module _ (code : List Line) (nl room : ℕ) where
     expr_placed (expr.cast_of p v) d t pc le at s h = expr_placed v d t pc (omega (arith, le)) at s h
     expr_placed (expr.dropped p v) d t pc le at s h = expr_placed v d t pc (omega (arith, le)) at s h
     expr_placed (expr.called p n vs) d t pc le at s h = h.0
-    expr_placed (expr.called_row p n row vs) d t pc le at s h =
-        let ts = arg_vars nl d row.params (listed_values vs) in
-        let g = has_cut code pc (values_size vs) (args_code nl d pc row.params vs) _
-        (args_long vs nl d pc row.params) h in (
+    expr_placed (expr.called_row p n sig vs) d t pc le at s h =
+        let ts = arg_vars nl d sig.params (listed_values vs) in
+        let g = has_cut code pc (values_size vs) (args_code nl d pc sig.params vs) _
+        (args_long vs nl d pc sig.params) h in (
           ts,
-          args_placed vs d pc row.params (omega (arith, le)) s g.0,
+          args_placed vs d pc sig.params (omega (arith, le)) s g.0,
           subst (λ o. Stands code nl room
-              (pc + values_size vs) p (Api o (shape_of row) (map var ts) [])) (answer_is (gives_answer row) t) g.1.0,
+              (pc + values_size vs) p (Api o sig (map var ts) [])) (answer_is (has_call_value sig.answer) t) g.1.0,
         )
     expr_placed (expr.nonsense p) d t pc le at s h = h.0
 

@@ -23,10 +23,12 @@ use Rattle.pungi_layout.specs.code.Sound.{stmts_nodes}
 use Rattle.pungi_layout.proofs.code.ExprLengths.{expr_long}
 use Rattle.pungi_layout.proofs.code.StmtLengths.{unset_long, value_long, option_long, bind_long, declare_long}
 use Rattle.pungi_layout.proofs.code.StmtLengths.{test_long, tested_long, case_long, cases_long, stmt_long}
-use Rattle.pungi_layout.proofs.relation.Relation.{switch_first, Does, IsTemp, ExprAt, OptionAt, UnsetAt, BindAt}
-use Rattle.pungi_layout.proofs.relation.Relation.{ReachAt, TestAt, ComparedAt, StmtAt, StmtsAt}
-use Rattle.pungi_layout.proofs.relation.PlacedExprs.{HasAt, has_cut, expr_placed, operand_at, value_at, positive}
-use Rattle.pungi_layout.proofs.relation.PlacedExprs.{temp_at}
+use Rattle.pungi_layout.proofs.relation.Waiting.{switch_first}
+use Rattle.pungi_layout.proofs.relation.Relation.{Does, IsTemp, ExprAt, OptionAt, UnsetAt, BindAt, ReachAt, TestAt}
+use Rattle.pungi_layout.proofs.relation.Relation.{ComparedAt, StmtAt, StmtsAt}
+use Rattle.pungi_layout.proofs.relation.Standing.{HasAt, has_cut}
+use Rattle.pungi_layout.proofs.relation.Columns.{positive}
+use Rattle.pungi_layout.proofs.relation.PlacedExprs.{expr_placed, operand_at, value_at, temp_at}
 
 -- ---- where they stand
 

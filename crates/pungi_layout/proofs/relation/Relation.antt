@@ -8,118 +8,32 @@ use Rattle.pungi_base.specs.declared.names.Name.{Name}
 use Rattle.pungi_base.specs.declared.pos.Pos.{Pos}
 use Rattle.pungi_types.specs.declared.kind.ValueKind.{ValueKind}
 use Rattle.pungi_resolved.specs.Values as expr
-use Rattle.pungi_types.specs.Operators.{is_same_kind}
 use Rattle.pungi_resolved.specs.Actions as stmt
 use Rattle.pungi_meaning.specs.declared.op.Op.TheVariants as ops
 use Rattle.pungi_meaning.specs.Values.{op_of, cmp_of, wide, slot_kind}
 use Rattle.pungi_meaning.specs.declared.cmp.Cmp.TheVariants as cmps
-use Rattle.pungi_meaning.specs.Stmts.{block_cases}
 use Rattle.pungi_meaning.specs.Exprs.{step_op, is_and}
-use Rattle.pungi_meaning.specs.Work.{block_locals, shape_of}
+use Rattle.pungi_meaning.specs.Work.{block_locals}
 use Rattle.pungi_meaning.specs.Todo.{Loop, Todo, ToEval, ToLoad, ToOld, ToKeep, ToStep, ToMinus, ToCompute, ToFit}
 use Rattle.pungi_meaning.specs.Todo.{ToCompare, ToNot, ToRight, ToTruth, ToPick, ToStore, ToPop, ToArgs, ToExec}
 use Rattle.pungi_meaning.specs.Todo.{ToForget, ToDeclare, ToBind, ToChoose, ToJoin, ToRest, ToTest, ToTurn, ToAgain}
 use Rattle.pungi_meaning.specs.Todo.{ToBack, ToSwitch, ToSwitchEnd, ToReturn, ToEnd, listed}
 use Rattle.pungi_code.specs.declared.atom.Atom.TheVariants as atom
-use Rattle.pungi_code.specs.declared.atom.Var.{Var}
 use Rattle.pungi_code.specs.declared.code.Line.{Line}
 use Rattle.pungi_code.specs.declared.instr.Instr.{Instr}
 use Rattle.pungi_code.specs.declared.instr.Instr.TheVariants.{Set, Arith, Fit, Compare, Load, Store, Api, Call, Unset}
 use Rattle.pungi_code.specs.declared.instr.Instr.TheVariants.{Jump, Branch, Return, Fall}
 use Rattle.pungi_code.specs.declared.place.Place.TheVariants.{Global, Field}
-use Rattle.pungi_layout.specs.code.Parts.{is_minus, gives, gives_answer}
+use Rattle.pungi_layout.specs.code.Parts.{is_minus, gives, has_call_value}
 use Rattle.pungi_layout.specs.code.Sizes.{expr_size, place_size, values_size, args_size, fit_size, store_size}
-use Rattle.pungi_layout.specs.code.Sizes.{option_size, declare_size, test_size, switch_size, stmt_size, stmts_size}
+use Rattle.pungi_layout.specs.code.Sizes.{option_size, declare_size, switch_size, stmt_size, stmts_size}
 use Rattle.pungi_layout.specs.code.ExprCode.{line, to_var, var, at_label, bit, branch_on}
 use Rattle.pungi_layout.specs.code.Scopes.{Env, label_or, for_head, list_label, list_cases, list_default, in_block}
 use Rattle.pungi_layout.specs.code.Scopes.{in_loop, in_switch}
-
--- a value that waits: its variable, and its truth, where that is known beforehand
-pub record Waiting : Type 0 where
-  pub var : ℕ
-  pub known : Option Bool
-
-abbrev pub w : ℕ → Waiting
-w t = record { var = t; known = None }
-
-abbrev pub top_var : List Waiting → ℕ
-top_var [] = 0
-top_var (x ∷ ks) = x.var
-
-abbrev pub rest : List Waiting → List Waiting
-rest [] = []
-rest (x ∷ ks) = ks
-
-abbrev pub top_known : List Waiting → Option Bool
-top_known [] = None
-top_known (x ∷ ks) = x.known
-
-abbrev pub HasOne : List Waiting → Type 0
-HasOne [] = ⊥
-HasOne (x ∷ ks) = Unit {0}
-
-abbrev pub HasTwo : List Waiting → Type 0
-HasTwo [] = ⊥
-HasTwo (x ∷ ks) = HasOne ks
-
-abbrev pub HasThree : List Waiting → Type 0
-HasThree [] = ⊥
-HasThree (x ∷ ks) = HasTwo ks
-
-abbrev pub vars_of : List Waiting → List ℕ
-vars_of ks = map (λ (x : Waiting). x.var) ks
-
-abbrev pub answer_var : Bool → ℕ → Option Var
-answer_var true t = Some (to_var t)
-answer_var false t = None
-
-abbrev pub pushed_if : Bool → ℕ → List Waiting → List Waiting
-pushed_if true t ks = w t ∷ ks
-pushed_if false t ks = ks
-
--- the base of a field waits
-abbrev pub BaseWaits : expr.Place → List Waiting → Type 0
-BaseWaits (expr.field_place p base tag field) ks = HasOne ks
-BaseWaits place ks = Unit {0}
-
--- what waits below a value that is stored, besides the base of a field
-abbrev pub below_store : expr.Place → List Waiting → List Waiting
-below_store (expr.field_place p base tag field) ks = rest (rest ks)
-below_store place ks = rest ks
-
--- one of two
-abbrev pub One : Bool → Type 0 → Type 0 → Type 0
-One true A B = A
-One false A B = B
-
-abbrev pub is_same : ValueKind → ValueKind → Bool
-is_same to from = is_same_kind (Some to) (Some from)
-
--- how many values wait below one that is stored
-abbrev pub level : expr.Place → ℕ → ℕ
-level (expr.field_place p base tag field) d = suc d
-level place d = d
-
--- where a loop goes on, and where it ends, by the place of its head
-abbrev pub loop_body : ℕ → Option expr.Value → ℕ
-loop_body head test = head + test_size test
-
-abbrev pub loop_again : ℕ → Option expr.Value → stmt.Action → ℕ
-loop_again head test a = head + test_size test + stmt_size a
-
-abbrev pub loop_end : ℕ → Option expr.Value → stmt.Action → Option expr.Value → ℕ
-loop_end head test a behind = head + test_size test + stmt_size a + option_size behind + 1
-
--- where the statements of a `switch` begin, after its comparisons
-abbrev pub switch_first : ℕ → ℕ → stmt.Actions → ℕ
-switch_first pc count ss = pc + count + 2 * length (block_cases (listed ss)) + 1
-
-abbrev pub end_of_loop : ℕ → Loop → ℕ
-end_of_loop head loop = loop_end head loop.test loop.body loop.increment
-
-abbrev pub join_size : Option stmt.Action → ℕ
-join_size None = 0
-join_size (Some b) = 1
+use Rattle.pungi_layout.proofs.relation.Waiting.{Waiting, w, top_var, rest, top_known, HasOne, HasTwo, HasThree}
+use Rattle.pungi_layout.proofs.relation.Waiting.{vars_of, answer_var, pushed_if, BaseWaits, below_store, One, is_same}
+use Rattle.pungi_layout.proofs.relation.Waiting.{level, loop_body, loop_again, loop_end, switch_first, end_of_loop}
+use Rattle.pungi_layout.proofs.relation.Waiting.{join_size}
 
 module _ (code : List Line) (nl room : ℕ) where
   abbrev pub Stands : ℕ → Pos → Instr → Type 0
@@ -237,9 +151,10 @@ module _ (code : List Line) (nl room : ℕ) where
     ExprAt d t pc (expr.cast_of p v) = ExprAt d t pc v
     ExprAt d t pc (expr.dropped p v) = ExprAt d t pc v
     ExprAt d t pc (expr.called p n vs) = Stands pc p (Call None 0 [])
-    ExprAt d t pc (expr.called_row p n row vs) =
-        (ts : List ℕ) × ArgsAt d ts pc vs × Stands (pc + values_size vs) p (Api (answer_var (gives_answer row) t)
-        (shape_of row) (map var ts) [])
+    ExprAt d t pc (expr.called_row p n sig vs) =
+        (ts : List ℕ) × ArgsAt d ts pc vs × Stands (pc + values_size vs) p (Api
+        (answer_var (has_call_value sig.answer) t)
+        sig (map var ts) [])
     ExprAt d t pc (expr.nonsense p) = Stands pc p Fall
 
     pub BaseAt : ℕ → ℕ → ℕ → expr.Place → Type 0
@@ -476,11 +391,11 @@ module _ (code : List Line) (nl room : ℕ) where
       × StoreAt kind place t (top_var (rest ks)) (top_var ks) pc
       × IsAt env k (pc + store_size) (w t ∷ below_store place ks)
   IsAt env (ToPop ∷ k) pc ks = HasOne ks × IsAt env k pc (rest ks)
-  IsAt env (ToArgs p row args i ∷ k) pc ks =
+  IsAt env (ToArgs p sig args i ∷ k) pc ks =
       (ts : List ℕ) × (t : ℕ) × (i ≤ length args) × (i ≤ length ks) × ListArgsAt (length ks) ts pc (drop i args)
       × IsTemp (length (drop i ks)) t × Stands (pc + args_size (drop i args)) p
-      (Api (answer_var (gives_answer row) t) (shape_of row) (map var (reverse_aux (vars_of (take i ks)) ts)) [])
-      × IsAt env k (pc + args_size (drop i args) + 1) (pushed_if (gives_answer row) t (drop i ks))
+      (Api (answer_var (has_call_value sig.answer) t) sig (map var (reverse_aux (vars_of (take i ks)) ts)) [])
+      × IsAt env k (pc + args_size (drop i args) + 1) (pushed_if (has_call_value sig.answer) t (drop i ks))
   IsAt env (ToForget ∷ k) pc ks = IsAt env k pc []
   IsAt env (ToExec a ∷ k) pc ks = (ks ≡ []) × StmtAt env pc a × IsAt env k (pc + stmt_size a) []
   IsAt env (ToDeclare rs ∷ k) pc ks = (ks ≡ []) × ReachAt pc rs × IsAt env k (pc + declare_size rs) []

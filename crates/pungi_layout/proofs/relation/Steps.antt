@@ -29,7 +29,8 @@ use Rattle.pungi_code.specs.Run.{fetch, exec}
 use Rattle.pungi_code.proofs.Simulation.{GoesOn, Leads}
 use Rattle.pungi_layout.specs.code.ExprCode.{to_var, var, at_label, branch_on}
 use Rattle.pungi_layout.specs.code.Scopes.{Env}
-use Rattle.pungi_layout.proofs.relation.Relation.{Waiting, Stands, Does, IsAt}
+use Rattle.pungi_layout.proofs.relation.Waiting.{Waiting}
+use Rattle.pungi_layout.proofs.relation.Relation.{Stands, Does, IsAt}
 use Rattle.pungi_layout.proofs.relation.Values.{Match}
 
 -- a state, part by part

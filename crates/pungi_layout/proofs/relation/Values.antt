@@ -14,7 +14,8 @@ use Rattle.pungi_meaning.specs.Work.{content_at}
 use Rattle.pungi_code.specs.declared.code.Line.{Line}
 use Rattle.pungi_code.specs.Registers.{Regs, put}
 use Rattle.pungi_layout.specs.code.ExprCode.{to_var}
-use Rattle.pungi_layout.proofs.relation.Relation.{Waiting, w, IsTemp}
+use Rattle.pungi_layout.proofs.relation.Waiting.{Waiting, w}
+use Rattle.pungi_layout.proofs.relation.Relation.{IsTemp}
 
 -- ---- a variable after a write
 

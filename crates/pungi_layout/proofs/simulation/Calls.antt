@@ -6,7 +6,7 @@ use Rattle.std.specs.Prelude.{slice_get}
 use Rattle.pungi_base.specs.declared.choice.Choice.{Choice}
 use Rattle.pungi_base.specs.declared.pos.Pos.{Pos}
 use Rattle.pungi_base.specs.declared.value.Value.{Value}
-use Rattle.pungi_api.specs.declared.row.Row.{Row}
+use Rattle.pungi_api.specs.declared.signature.Signature.{Signature}
 use Rattle.pungi_resolved.specs.Values as expr
 use Rattle.pungi_world.specs.declared.content.Content.{Content}
 use Rattle.pungi_world.specs.declared.content.Content.TheVariants.{Holds}
@@ -15,21 +15,21 @@ use Rattle.pungi_world.specs.Calls.{call_effect}
 use Rattle.pungi_meaning.specs.Todo.{Operation, Called, Todo, ToEval, ToArgs, State}
 use Rattle.pungi_meaning.specs.Exprs.{after_call, call, next_arg}
 use Rattle.pungi_meaning.specs.Run.{with_operations, act}
-use Rattle.pungi_meaning.specs.Work.{newest, unused, with_result, shape_of}
+use Rattle.pungi_meaning.specs.Work.{newest, unused, with_result}
 use Rattle.pungi_code.specs.declared.code.Line.{Line}
 use Rattle.pungi_code.specs.declared.instr.Instr.TheVariants.{Api}
 use Rattle.pungi_code.specs.Registers.{Regs, put, both_values, all_values, with_values, after_effect, choices_left}
 use Rattle.pungi_code.specs.Registers.{put_answer}
 use Rattle.pungi_code.specs.Perform as does
 use Rattle.pungi_code.specs.Run.{exec}
-use Rattle.pungi_layout.specs.code.Parts.{gives_answer}
+use Rattle.pungi_layout.specs.code.Parts.{has_call_value}
 use Rattle.pungi_layout.specs.code.Sizes.{expr_size, args_size}
 use Rattle.pungi_layout.specs.code.ExprCode.{to_var, var}
 use Rattle.pungi_layout.specs.code.Scopes.{Env}
-use Rattle.pungi_layout.proofs.relation.Relation.{Waiting, w, vars_of, answer_var, pushed_if, Stands, IsTemp}
-use Rattle.pungi_layout.proofs.relation.Relation.{ListArgsAt, IsAt}
+use Rattle.pungi_layout.proofs.relation.Waiting.{Waiting, w, vars_of, answer_var, pushed_if}
+use Rattle.pungi_layout.proofs.relation.Relation.{Stands, IsTemp, ListArgsAt, IsAt}
 use Rattle.pungi_layout.proofs.relation.Values.{Stack, Match, pushed, popped, reacted}
-use Rattle.pungi_layout.proofs.simulation.WorldAnswers.{IsAnswer, call_answer}
+use Rattle.pungi_layout.proofs.simulation.WorldAnswers.{IsAnswer, effect_value}
 use Rattle.pungi_layout.proofs.relation.Steps.{Continues, IsDone, first, still, one, react_by}
 
 -- what a list goes on with at a place
@@ -101,69 +101,72 @@ module _ (choices : List Choice) (code : List Line) (nl room : ℕ) where
       (popped code nl room ls s q vs ks ma sk)
 
   -- a call with its arguments
-  call_sim : (p : Pos) (row : Row) (n t : ℕ) (k : List Todo) (s : State) (env : Env) (pc : ℕ) (ks : List Waiting)
-      (m : Regs) → n ≤ length ks → Stands code nl room pc p (Api (answer_var (gives_answer row) t) (shape_of row)
+  call_sim : (p : Pos) (sig : Signature) (n t : ℕ) (k : List Todo) (s : State) (env : Env) (pc : ℕ) (ks : List Waiting)
+      (m : Regs) → n ≤ length ks → Stands code nl room pc p (Api (answer_var (has_call_value sig.answer) t) sig
       (map var (reverse_aux (vars_of (take n ks)) [])) []) → IsTemp code nl room (length (drop n ks)) t
-      → IsAt code nl room env k (pc + 1) (pushed_if (gives_answer row) t (drop n ks)) → Match code nl room ks s m
-      → IsDone choices code nl room (call choices p row n k s) 0 pc m
-  call_sim p row n t k s env pc ks m le h at is ma =
-      let g = gives_answer row in
+      → IsAt code nl room env k (pc + 1) (pushed_if (has_call_value sig.answer) t (drop n ks))
+      → Match code nl room ks s m
+      → IsDone choices code nl room (call choices p sig n k s) 0 pc m
+  call_sim p sig n t k s env pc ks m le h at is ma =
+      let g = has_call_value sig.answer in
       let vals = newest n s.values in
-      let go = λ (j : ℕ) (x : Effect) (q : Regs). with_operations (Called p (shape_of row) vals x ∷ [])
+      let go = λ (j : ℕ) (x : Effect) (q : Regs). with_operations (Called p sig vals x ∷ [])
       (exec choices code j (pc + 1) (put_answer (answer_var g t) x.value q)) in
-      react_by choices code nl room (call_effect s.world (shape_of row) vals (unused choices s)) p s m pc
-      (after_call p row vals (drop n s.values) k) go
-      (λ j. first choices code nl room pc p (Api (answer_var g t) (shape_of row)
+      react_by choices code nl room (call_effect s.world sig vals (unused choices s)) p s m pc
+      (after_call p sig vals (drop n s.values) k) go
+      (λ j. first choices code nl room pc p (Api (answer_var g t) sig
       (map var (reverse_aux (vars_of (take n ks)) [])) []) m h j
-      ∙ ap (λ o. with_values o p (does.call choices (answer_var g t) (shape_of row) [] p (exec choices code j) pc
+      ∙ ap (λ o. with_values o p (does.call choices (answer_var g t) sig [] p (exec choices code j) pc
       m)) (newest_values n m.vars s.values ks le ma.stack)
-      ∙ ap (λ x. after_effect p (call_effect x (shape_of row) vals (choices_left choices m)) m (go j)) ma.world
-      ∙ ap (λ us. after_effect p (call_effect s.world (shape_of row) vals (drop (length us) choices)) m (go j)) ma.used)
-      (λ x is' step. answered_by g x.0.value (call_answer s.world (shape_of row) vals (unused choices s) x is')
-      (Called p (shape_of row) vals x.0) t k (record s { world = x.1; used = s.used ++ replicate x.0.used p }) env
+      ∙ ap (λ x. after_effect p (call_effect x sig vals (choices_left choices m)) m (go j)) ma.world
+      ∙ ap (λ us. after_effect p (call_effect s.world sig vals (drop (length us) choices)) m (go j)) ma.used)
+      (λ x is' step. answered_by g x.0.value (effect_value s.world sig vals (unused choices s) x is')
+      (Called p sig vals x.0) t k (record s { world = x.1; used = s.used ++ replicate x.0.used p }) env
       pc (drop n ks) ks (drop n s.values) m (record m { world = x.1; used = m.used ++ replicate x.0.used p }) step
       at is (reacted code nl room ks s m x.1 x.0.used p ma) (stack_drop n m.vars s.values ks ma.stack))
 
   -- the next argument stands in its variable
-  next_by : (o : Option expr.Value) (p : Pos) (row : Row) (args : List expr.Value) (i : ℕ)
+  next_by : (o : Option expr.Value) (p : Pos) (sig : Signature) (args : List expr.Value) (i : ℕ)
       (others : List expr.Value) (k : List Todo) (s : State) (env : Env) (pc : ℕ) (ks : List Waiting) (m : Regs)
       (ts : List ℕ) (t : ℕ) → IsNext args i o others → drop i args ≡ others → i ≤ length args → i ≤ length ks
       → ListArgsAt code nl room (length ks) ts pc others → IsTemp code nl room (length (drop i ks)) t
-      → Stands code nl room (pc + args_size others) p (Api (answer_var (gives_answer row) t) (shape_of row)
+      → Stands code nl room (pc + args_size others) p (Api (answer_var (has_call_value sig.answer) t) sig
       (map var (reverse_aux (vars_of (take i ks)) ts)) [])
-      → IsAt code nl room env k (pc + args_size others + 1) (pushed_if (gives_answer row) t (drop i ks))
-      → Match code nl room ks s m → IsDone choices code nl room (next_arg choices p row args i o k s) 0 pc m
-  next_by None p row args i others k s env pc ks m ts t ne same le le' at tmp h is ma =
+      → IsAt code nl room env k (pc + args_size others + 1) (pushed_if (has_call_value sig.answer) t (drop i ks))
+      → Match code nl room ks s m → IsDone choices code nl room (next_arg choices p sig args i o k s) 0 pc m
+  next_by None p sig args i others k s env pc ks m ts t ne same le le' at tmp h is ma =
       let e0 : i ≡ length args = all_dropped args i le (same ∙ ne) in
       let at' : ts ≡ [] = subst (λ xs. ListArgsAt code nl room (length ks) ts pc xs) ne at in
       let size : args_size others ≡ 0 = ap args_size ne in
       let q : pc + args_size others ≡ pc = omega (arith, size) in
-      let h' = subst (λ us. Stands code nl room pc p (Api (answer_var (gives_answer row) t) (shape_of row)
+      let h' = subst (λ us. Stands code nl room pc p (Api (answer_var (has_call_value sig.answer) t) sig
       (map var (reverse_aux (vars_of (take i ks)) us)) [])) at' (subst (λ x. Stands code nl room x p
-      (Api (answer_var (gives_answer row) t) (shape_of row) (map var (reverse_aux (vars_of (take i ks)) ts)) []))
+      (Api (answer_var (has_call_value sig.answer) t) sig (map var (reverse_aux (vars_of (take i ks)) ts)) []))
       q h) in
-      let is' = subst (λ x. IsAt code nl room env k (x + 1) (pushed_if (gives_answer row) t (drop i ks))) q is in
-      subst (λ n. IsDone choices code nl room (call choices p row n k s) 0 pc m) e0
-      (call_sim p row i t k s env pc ks m le' h' tmp is' ma)
-  next_by (Some v) p row args i others k s env pc ks m [] t ne same le le' at tmp h is ma =
+      let is' = subst (λ x. IsAt code nl room env k (x + 1) (pushed_if (has_call_value sig.answer) t (drop i ks))) q
+      is in
+      subst (λ n. IsDone choices code nl room (call choices p sig n k s) 0 pc m) e0
+      (call_sim p sig i t k s env pc ks m le' h' tmp is' ma)
+  next_by (Some v) p sig args i others k s env pc ks m [] t ne same le le' at tmp h is ma =
       absurd (subst (λ xs. ListArgsAt code nl room (length ks) [] pc xs) ne at)
-  next_by (Some v) p row args i others k s env pc ks m (t0 ∷ ts) t ne same le le' at tmp h is ma =
+  next_by (Some v) p sig args i others k s env pc ks m (t0 ∷ ts) t ne same le le' at tmp h is ma =
       let at' = subst (λ xs. ListArgsAt code nl room (length ks) (t0 ∷ ts) pc xs) ne at in
       let rest' = drop (suc i) args in
       let size : args_size others ≡ expr_size v + args_size rest' = ap args_size ne in
       let q : pc + args_size others ≡ pc + expr_size v + args_size rest' = omega (arith, size) in
       let ei : suc i ≡ i + 1 = omega arith in
       let le2 : suc i ≤ length args = next_within args i v (same ∙ ne) in
-      let h' = subst (λ x. Stands code nl room x p (Api (answer_var (gives_answer row) t) (shape_of row)
+      let h' = subst (λ x. Stands code nl room x p (Api (answer_var (has_call_value sig.answer) t) sig
       (map var (reverse_aux (vars_of (take i ks)) (t0 ∷ ts))) [])) q h in
-      let is' = subst (λ x. IsAt code nl room env k (x + 1) (pushed_if (gives_answer row) t (drop i ks))) q is in
-      still choices code nl room (ToEval v ∷ ToArgs p row args (i + 1) ∷ k) s pc m env ks (
+      let is' = subst (λ x. IsAt code nl room env k (x + 1) (pushed_if (has_call_value sig.answer) t (drop i ks))) q
+      is in
+      still choices code nl room (ToEval v ∷ ToArgs p sig args (i + 1) ∷ k) s pc m env ks (
         t0,
         at'.1,
         at'.2,
-        subst (λ b. IsAt code nl room env (ToArgs p row args (i + 1) ∷ k) (pc + expr_size v) (pushed_if b t0 ks))
+        subst (λ b. IsAt code nl room env (ToArgs p sig args (i + 1) ∷ k) (pc + expr_size v) (pushed_if b t0 ks))
             (sym at'.0)
-            (subst (λ n. IsAt code nl room env (ToArgs p row args n ∷ k) (pc + expr_size v) (w t0 ∷ ks)) ei
+            (subst (λ n. IsAt code nl room env (ToArgs p sig args n ∷ k) (pc + expr_size v) (w t0 ∷ ks)) ei
             (ts, t, le2, omega (arith, le'), at'.3, tmp, h', is')),
       ) ma
     where
@@ -173,9 +176,9 @@ module _ (choices : List Choice) (code : List Line) (nl room : ℕ) where
       next_within (y ∷ xs) zero x e = omega arith
       next_within (y ∷ xs) (suc i) x e = omega (arith, next_within xs i x e)
 
-  pub args_sim : (p : Pos) (row : Row) (args : List expr.Value) (i : ℕ) (k : List Todo) (s : State) (env : Env)
-      (pc : ℕ) (ks : List Waiting) (m : Regs) → IsAt code nl room env (ToArgs p row args i ∷ k) pc ks
-      → Match code nl room ks s m → IsDone choices code nl room (act choices (ToArgs p row args i ∷ k) s) 0 pc m
-  args_sim p row args i k s env pc ks m h ma =
-      next_by (slice_get args i) p row args i (drop i args) k s env pc ks m h.0 h.1 (is_next args i) refl h.2 h.3
+  pub args_sim : (p : Pos) (sig : Signature) (args : List expr.Value) (i : ℕ) (k : List Todo) (s : State) (env : Env)
+      (pc : ℕ) (ks : List Waiting) (m : Regs) → IsAt code nl room env (ToArgs p sig args i ∷ k) pc ks
+      → Match code nl room ks s m → IsDone choices code nl room (act choices (ToArgs p sig args i ∷ k) s) 0 pc m
+  args_sim p sig args i k s env pc ks m h ma =
+      next_by (slice_get args i) p sig args i (drop i args) k s env pc ks m h.0 h.1 (is_next args i) refl h.2 h.3
       h.4 h.5 h.6 h.7 ma

@@ -9,7 +9,8 @@ use Rattle.pungi_meaning.specs.Run.{act}
 use Rattle.pungi_code.specs.declared.code.Line.{Line}
 use Rattle.pungi_code.specs.Registers.{Regs}
 use Rattle.pungi_layout.specs.code.Scopes.{Env}
-use Rattle.pungi_layout.proofs.relation.Relation.{Waiting, IsAt}
+use Rattle.pungi_layout.proofs.relation.Waiting.{Waiting}
+use Rattle.pungi_layout.proofs.relation.Relation.{IsAt}
 use Rattle.pungi_layout.proofs.relation.Values.{Match}
 use Rattle.pungi_layout.proofs.relation.Steps.{At, IsDone}
 use Rattle.pungi_layout.proofs.simulation.Operators.{compute_sim, step_sim, minus_sim, fit_sim, compare_sim, truth_sim}
@@ -56,7 +57,7 @@ module _ (choices : List Choice) (code : List Line) (nl room : ℕ) where
       s.locals s.values env pc ks m h ma
   sim_at (ToPop ∷ k) s env pc ks m h ma = pop_sim choices code nl room k s.world s.used s.locals s.values env pc ks
       m h ma
-  sim_at (ToArgs p row args i ∷ k) s env pc ks m h ma = args_sim choices code nl room p row args i k s env pc ks m h ma
+  sim_at (ToArgs p sig args i ∷ k) s env pc ks m h ma = args_sim choices code nl room p sig args i k s env pc ks m h ma
   sim_at (ToExec a ∷ k) s env pc ks m h ma = execute_sim choices code nl room a k s env pc ks m h ma
   sim_at (ToForget ∷ k) s env pc ks m h ma = forget_sim choices code nl room k s env pc ks m h ma
   sim_at (ToDeclare rs ∷ k) s env pc ks m h ma = declare_sim choices code nl room rs k s env pc ks m h ma

@@ -17,21 +17,21 @@ use Rattle.pungi_meaning.specs.Values.{op_of, cmp_of, wide, slot_kind, truth}
 use Rattle.pungi_meaning.specs.Todo.{Todo, ToEval, ToLoad, ToOld, ToKeep, ToMinus, ToCompute, ToFit, ToCompare, ToNot}
 use Rattle.pungi_meaning.specs.Todo.{ToRight, ToPick, ToStore, ToPop, ToArgs, State, listed_values}
 use Rattle.pungi_meaning.specs.Exprs.{evaluate, base_first, convert, sign, step, is_and}
-use Rattle.pungi_meaning.specs.Work.{content_at, shape_of}
+use Rattle.pungi_meaning.specs.Work.{content_at}
 use Rattle.pungi_code.specs.declared.atom.Atom.{Atom}
 use Rattle.pungi_code.specs.declared.atom.Atom.TheVariants as atom
 use Rattle.pungi_code.specs.declared.code.Line.{Line}
 use Rattle.pungi_code.specs.declared.instr.Instr.TheVariants.{Set, Arith, Load, Api, Call, Fall}
 use Rattle.pungi_code.specs.declared.place.Place.TheVariants.{Global}
 use Rattle.pungi_code.specs.Registers.{Regs, put, content_of}
-use Rattle.pungi_layout.specs.code.Parts.{is_minus, gives, gives_answer}
+use Rattle.pungi_layout.specs.code.Parts.{is_minus, gives, has_call_value}
 use Rattle.pungi_layout.specs.code.Sizes.{expr_size, place_size, values_size, args_size, fit_size, store_size}
 use Rattle.pungi_layout.specs.code.Sizes.{sign_size}
 use Rattle.pungi_layout.specs.code.ExprCode.{to_var, var, bit}
 use Rattle.pungi_layout.specs.code.Scopes.{Env}
-use Rattle.pungi_layout.proofs.relation.Relation.{Waiting, w, answer_var, pushed_if, Stands, Does, One, is_same, IsTemp}
-use Rattle.pungi_layout.proofs.relation.Relation.{FitAt, OldAt, StoreAt, level, PutAt, StepAt, ExprAt, BaseAt, ArgsAt}
-use Rattle.pungi_layout.proofs.relation.Relation.{ListArgsAt, IsAt}
+use Rattle.pungi_layout.proofs.relation.Waiting.{Waiting, w, answer_var, pushed_if, One, is_same, level}
+use Rattle.pungi_layout.proofs.relation.Relation.{Stands, Does, IsTemp, FitAt, OldAt, StoreAt, PutAt, StepAt, ExprAt}
+use Rattle.pungi_layout.proofs.relation.Relation.{BaseAt, ArgsAt, ListArgsAt, IsAt}
 use Rattle.pungi_layout.proofs.relation.Values.{Match, pushed, pushed_known}
 use Rattle.pungi_layout.proofs.relation.Steps.{Continues, IsDone, first, set_step, still, one, moved}
 use Rattle.pungi_layout.proofs.simulation.Operators.{bit_is}
@@ -397,18 +397,18 @@ module _ (choices : List Choice) (code : List Line) (nl room : ℕ) where
   evaluate_sim (expr.cast_of p v) k s env pc ks m h ma = still choices code nl room (ToEval v ∷ k) s pc m env ks h ma
   evaluate_sim (expr.dropped p v) k s env pc ks m h ma = still choices code nl room (ToEval v ∷ k) s pc m env ks h ma
   evaluate_sim (expr.called p n vs) k s env pc ks m h ma = (1, first choices code nl room pc p (Call None 0 []) m h.2 0)
-  evaluate_sim (expr.called_row p n row vs) k s env pc ks m h ma =
+  evaluate_sim (expr.called_row p n sig vs) k s env pc ks m h ma =
       let q = args_long vs in
       let e : pc + (values_size vs + 1) ≡ pc + args_size (listed_values vs) + 1 = omega (arith, q) in
-      still choices code nl room (ToArgs p row (listed_values vs) 0 ∷ k) s pc m env ks (
+      still choices code nl room (ToArgs p sig (listed_values vs) 0 ∷ k) s pc m env ks (
         h.2.0,
         h.0,
         omega arith,
         omega arith,
         args_listed vs (length ks) h.2.0 pc h.2.1,
         h.1,
-        subst (λ x. Stands code nl room (pc + x) p (Api (answer_var (gives_answer row) h.0) (shape_of row)
+        subst (λ x. Stands code nl room (pc + x) p (Api (answer_var (has_call_value sig.answer) h.0) sig
             (map var h.2.0) [])) q h.2.2,
-        moved choices code nl room env k _ _ (pushed_if (gives_answer row) h.0 ks) e h.3,
+        moved choices code nl room env k _ _ (pushed_if (has_call_value sig.answer) h.0 ks) e h.3,
       ) ma
   evaluate_sim (expr.nonsense p) k s env pc ks m h ma = (1, first choices code nl room pc p Fall m h.2 0)

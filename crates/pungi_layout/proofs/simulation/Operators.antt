@@ -28,7 +28,8 @@ use Rattle.pungi_layout.specs.code.Parts.{gives}
 use Rattle.pungi_layout.specs.code.Sizes.{expr_size}
 use Rattle.pungi_layout.specs.code.ExprCode.{to_var, var, at_label, bit, branch_on}
 use Rattle.pungi_layout.specs.code.Scopes.{Env}
-use Rattle.pungi_layout.proofs.relation.Relation.{Waiting, w, pushed_if, Does, IsTemp, ExprAt, IsAt}
+use Rattle.pungi_layout.proofs.relation.Waiting.{Waiting, w, pushed_if}
+use Rattle.pungi_layout.proofs.relation.Relation.{Does, IsTemp, ExprAt, IsAt}
 use Rattle.pungi_layout.proofs.relation.Values.{Match, IsKnown, pushed, popped, forgot}
 use Rattle.pungi_layout.proofs.relation.Steps.{st, result_step, Continues, IsDone, set_step, jump_step, branch_step}
 use Rattle.pungi_layout.proofs.relation.Steps.{wanted_step, arith_step, compare_step, fit_step, still, one, two, moved}

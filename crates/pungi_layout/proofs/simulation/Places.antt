@@ -31,7 +31,8 @@ use Rattle.pungi_code.specs.Perform as does
 use Rattle.pungi_code.specs.Run.{exec}
 use Rattle.pungi_layout.specs.code.ExprCode.{to_var, var}
 use Rattle.pungi_layout.specs.code.Scopes.{Env}
-use Rattle.pungi_layout.proofs.relation.Relation.{Waiting, w, Stands, Does, IsTemp, IsAt}
+use Rattle.pungi_layout.proofs.relation.Waiting.{Waiting, w}
+use Rattle.pungi_layout.proofs.relation.Relation.{Stands, Does, IsTemp, IsAt}
 use Rattle.pungi_layout.proofs.relation.Values.{Stack, Match, pushed, popped, assigned, reacted, kept_below, kept_under}
 use Rattle.pungi_layout.proofs.simulation.WorldAnswers.{HasValue, load_value}
 use Rattle.pungi_layout.proofs.relation.Steps.{st, Continues, IsDone, first, with_it, set_step, one, two, moved}

@@ -27,9 +27,9 @@ use Rattle.pungi_code.proofs.Simulation.{ahead}
 use Rattle.pungi_layout.specs.code.Sizes.{expr_size, option_size, declare_size, test_size, stmt_size, stmts_size}
 use Rattle.pungi_layout.specs.code.ExprCode.{to_var, var, at_label}
 use Rattle.pungi_layout.specs.code.Scopes.{Env, in_block, in_loop}
-use Rattle.pungi_layout.proofs.relation.Relation.{Waiting, Does, OptionAt, UnsetAt, BindAt, GiveAt, StmtAt, StmtsAt}
-use Rattle.pungi_layout.proofs.relation.Relation.{LoopAt, loop_body, loop_again, loop_end, end_of_loop, ListAt, Inside}
-use Rattle.pungi_layout.proofs.relation.Relation.{OtherAt, JoinAt, join_size, IsAt}
+use Rattle.pungi_layout.proofs.relation.Waiting.{Waiting, loop_body, loop_again, loop_end, end_of_loop, join_size}
+use Rattle.pungi_layout.proofs.relation.Relation.{Does, OptionAt, UnsetAt, BindAt, GiveAt, StmtAt, StmtsAt, LoopAt}
+use Rattle.pungi_layout.proofs.relation.Relation.{ListAt, Inside, OtherAt, JoinAt, IsAt}
 use Rattle.pungi_layout.proofs.relation.Values.{Match, popped, assigned}
 use Rattle.pungi_layout.proofs.relation.Steps.{st, Continues, IsDone, first, with_it, set_step, jump_step, branch_step}
 use Rattle.pungi_layout.proofs.relation.Steps.{still, one, moved}

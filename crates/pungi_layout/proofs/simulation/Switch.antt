@@ -25,7 +25,8 @@ use Rattle.pungi_code.proofs.Simulation.{ahead, ahead_is}
 use Rattle.pungi_layout.specs.code.Sizes.{stmt_size, stmts_size}
 use Rattle.pungi_layout.specs.code.ExprCode.{to_var, var}
 use Rattle.pungi_layout.specs.code.Scopes.{Env, label_or, placed_cases, list_cases, list_default, in_block, in_switch}
-use Rattle.pungi_layout.proofs.relation.Relation.{Waiting, switch_first, IsTemp, ComparedAt, ListAt, IsAt}
+use Rattle.pungi_layout.proofs.relation.Waiting.{Waiting, switch_first}
+use Rattle.pungi_layout.proofs.relation.Relation.{IsTemp, ComparedAt, ListAt, IsAt}
 use Rattle.pungi_layout.proofs.relation.Values.{Stack, Match, popped, written_above, set_same}
 use Rattle.pungi_layout.proofs.relation.Steps.{st, IsDone, jump_step, branch_step, compare_step, moved}
 use Rattle.pungi_layout.proofs.relation.Jumps.{drop_next}

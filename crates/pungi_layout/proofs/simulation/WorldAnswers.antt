@@ -1,17 +1,15 @@
--- What the world returns: a load has a value, and a call of the API has one where its row says so.
-use Rattle.std.proofs.Common.{◌≡◌, ℕ, ℤ, pos, negsuc, List, length, Option, Some, None, Result, Ok, Err, refl, sym, ap}
+-- What the world returns: a load has a value, and a call of the API has one where its signature says so.
+use Rattle.std.proofs.Common.{◌≡◌, ℕ, List, length, Option, Some, None, Result, Ok, Err, refl, sym, ap}
 use Rattle.std.proofs.Common.{subst, Bool, true, false, if◌then◌else◌}
+use Rattle.std.specs.Prelude.{◌||◌}
 use Rattle.pungi_base.specs.declared.choice.Choice.{Choice}
 use Rattle.pungi_base.specs.declared.value.Value.{Value}
 use Rattle.pungi_api.specs.declared.answer.Answer.{Answer}
 use Rattle.pungi_api.specs.declared.answer.Answer.TheVariants as answer
 use Rattle.pungi_api.specs.declared.param.Param.{Param}
-use Rattle.pungi_api.specs.declared.param.Param.TheVariants as param
-use Rattle.pungi_api.specs.declared.row.Form.{Form}
-use Rattle.pungi_api.specs.declared.row.Form.TheVariants as form
-use Rattle.pungi_api.specs.declared.row.Row.{Row}
-use Rattle.pungi_api.specs.declared.special.Special.{Special}
-use Rattle.pungi_api.specs.declared.special.Special.TheVariants as special
+use Rattle.pungi_api.specs.declared.call_answer.CallAnswer.{CallAnswer}
+use Rattle.pungi_api.specs.declared.call_answer.CallAnswer.TheVariants.{Of, Argument}
+use Rattle.pungi_api.specs.declared.signature.Signature.{Signature}
 use Rattle.pungi_world.specs.declared.content.Content.{Content}
 use Rattle.pungi_world.specs.declared.content.Content.TheVariants as content
 use Rattle.pungi_world.specs.declared.effect.Effect.{Effect}
@@ -21,12 +19,9 @@ use Rattle.pungi_world.specs.declared.slot.Slot.{Slot}
 use Rattle.pungi_world.specs.declared.touch.Touch.{Touch}
 use Rattle.pungi_world.specs.declared.world.World.{World}
 use Rattle.pungi_world.specs.Effects.{◌>>=◌, effect}
-use Rattle.pungi_world.specs.Counts.{count_value}
 use Rattle.pungi_world.specs.Choices.{choose, answer_of}
-use Rattle.pungi_world.specs.Calls.{stops, plain_world, lacks, change_count, first_of, special_effect, form_effect}
-use Rattle.pungi_world.specs.Calls.{call_effect}
-use Rattle.pungi_api.specs.declared.shape.Shape.{Shape}
-use Rattle.pungi_layout.specs.code.Parts.{has_value, has_own_value, gives_form, gives_answer}
+use Rattle.pungi_world.specs.Calls.{stops, first_of, call_answer, own_world, is_undescribed, call_effect}
+use Rattle.pungi_layout.specs.code.Parts.{has_value, has_call_value}
 use Rattle.pungi_world.specs.Slots.{slot_at, touch, after_load, load_effect}
 
 -- a load has a value
@@ -80,57 +75,26 @@ answer_value answer.Int n choices r h = chosen_value (choose n answer.Int choice
 answer_value answer.Long n choices r h = chosen_value (choose n answer.Long choices) r h
 answer_value answer.Text n choices r h = chosen_value (choose n answer.Text choices) r h
 
-plain_by : (o : Result (Option Value × ℕ) Halt) (row : Row) (args : List Value) (x : World) (e : Effect × World)
-    → ((r : Option Value × ℕ) → o ≡ Ok r → IsAnswer (has_value row.answer) r.0)
-    → (o >>= λ r. Ok (effect r.0 r.1, plain_world row args x r.0)) ≡ Ok e
-    → IsAnswer (has_value row.answer) e.0.value
-plain_by (Err h) row args x e next q = absurd (cc)
-plain_by (Ok r) row args x e next q = subst (IsAnswer (has_value row.answer)) (ap value_in q) (next r refl)
+returned_by : (o : Result (Option Value × ℕ) Halt) (b : Bool) (go : Option Value × ℕ → World) (e : Effect × World)
+    → ((r : Option Value × ℕ) → o ≡ Ok r → IsAnswer b r.0)
+    → (o >>= λ r. Ok (effect r.0 r.1, go r)) ≡ Ok e → IsAnswer b e.0.value
+returned_by (Err h) b go e next q = absurd (cc)
+returned_by (Ok r) b go e next q = subst (IsAnswer b) (ap value_in q) (next r refl)
 
-plain_stops : (b : Bool) (o : Result (Effect × World) Halt) (e : Effect × World) (g : Bool)
+unless_stopped : (b : Bool) (o : Result (Effect × World) Halt) (e : Effect × World) (g : Bool)
     → (o ≡ Ok e → IsAnswer g e.0.value) → (if b then Err Stopped else o) ≡ Ok e → IsAnswer g e.0.value
-plain_stops true o e g next q = absurd (cc)
-plain_stops false o e g next q = next q
+unless_stopped true o e g next q = absurd (cc)
+unless_stopped false o e g next q = next q
 
-counted : (b : Bool) (o : Option Value) (x : World) (e : Effect × World)
-    → (if b then Err Stopped else Ok (effect o 0, x)) ≡ Ok e → e.0.value ≡ o
-counted true o x e q = absurd (cc)
-counted false o x e q = ap value_in (sym q)
+call_value : (a : CallAnswer) (n : ℕ) (args : List Value) (choices : List Choice) (r : Option Value × ℕ)
+    → call_answer n a args choices ≡ Ok r → IsAnswer (has_call_value a) r.0
+call_value (Of a) n args choices r h = answer_value a n choices r h
+call_value Argument n args choices r h = (first_of args, ap answer_in (sym h))
 
-counted_call : (x : World) (p : Param) (by : ℤ) (v : Value) (o : Option Value) (e : Effect × World)
-    → change_count x p by v o ≡ Ok e → e.0.value ≡ o
-counted_call x p by v o e q = counted (lacks p v) o (count_value x v by) e q
-
-special_answer : (s : Special) (x : World) (args : List Value) (e : Effect × World) → special_effect s x args ≡ Ok e
-    → IsAnswer (has_own_value s) e.0.value
-special_answer special.IncRef x args e q = counted_call x param.Object (pos 1) (first_of args) None e q
-special_answer special.DecRef x args e q = counted_call x param.Object (negsuc 0) (first_of args) None e q
-special_answer special.XIncRef x args e q = counted_call x param.ObjectOrNull (pos 1) (first_of args) None e q
-special_answer special.XDecRef x args e q = counted_call x param.ObjectOrNull (negsuc 0) (first_of args) None e q
-special_answer special.NewRef x args e q =
-    (first_of args, counted_call x param.Object (pos 1) (first_of args) (Some (first_of args)) e q)
-special_answer special.XNewRef x args e q =
-    (first_of args, counted_call x param.ObjectOrNull (pos 1) (first_of args) (Some (first_of args)) e q)
-special_answer special.Clear x args e q = absurd (cc)
-special_answer special.ObjectNew x args e q = absurd (cc)
-special_answer special.TuplePack x args e q = absurd (cc)
-special_answer special.CallFunctionObjArgs x args e q = absurd (cc)
-special_answer special.ErrFormat x args e q = absurd (cc)
-special_answer special.ParseTuple x args e q = absurd (cc)
-special_answer special.UnpackTuple x args e q = absurd (cc)
-special_answer special.DictNext x args e q = absurd (cc)
-special_answer special.BuildValue x args e q = absurd (cc)
-
-form_answer : (f : Form) (x : World) (shape : Shape) (args : List Value) (choices : List Choice)
-    (e : Effect × World) → form_effect f x shape args choices ≡ Ok e
-    → IsAnswer (gives_form f shape.row.answer) e.0.value
-form_answer form.Plain x shape args choices e q =
-    plain_stops (stops shape.row.params args) _ e (has_value shape.row.answer)
-    (λ p. plain_by (answer_of (length x.accounts) shape.row.answer choices) shape.row args x e
-    (λ r i. answer_value shape.row.answer (length x.accounts) choices r i) p) q
-form_answer (form.Special s) x shape args choices e q = special_answer s x args e q
-
--- a call has a value where its row says so
-pub call_answer : (x : World) (shape : Shape) (args : List Value) (choices : List Choice) (e : Effect × World)
-    → call_effect x shape args choices ≡ Ok e → IsAnswer (gives_answer shape.row) e.0.value
-call_answer x shape args choices e q = form_answer shape.row.form x shape args choices e q
+-- a call has a value where its signature says so
+pub effect_value : (x : World) (sig : Signature) (args : List Value) (choices : List Choice) (e : Effect × World)
+    → call_effect x sig args choices ≡ Ok e → IsAnswer (has_call_value sig.answer) e.0.value
+effect_value x sig args choices e q =
+    unless_stopped (stops sig.params args || is_undescribed sig.own) _ e (has_call_value sig.answer)
+    (λ p. returned_by (call_answer (length x.accounts) sig.answer args choices) (has_call_value sig.answer)
+    (λ r. own_world sig.own sig args x r.0) e (λ r i. call_value sig.answer (length x.accounts) args choices r i) p) q

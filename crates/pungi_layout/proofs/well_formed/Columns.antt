@@ -5,15 +5,15 @@ use Rattle.pungi_api.specs.declared.answer.Answer.{Answer}
 use Rattle.pungi_api.specs.declared.answer.Answer.TheVariants as answer
 use Rattle.pungi_api.specs.declared.param.Param.{Param}
 use Rattle.pungi_api.specs.declared.param.Param.TheVariants as param
-use Rattle.pungi_api.specs.declared.row.Form.{Form}
-use Rattle.pungi_api.specs.declared.row.Form.TheVariants as form
+use Rattle.pungi_api.specs.declared.call_answer.CallAnswer.{CallAnswer}
+use Rattle.pungi_api.specs.declared.call_answer.CallAnswer.TheVariants.{Of, Argument}
 use Rattle.pungi_types.specs.declared.kind.ValueKind.{ValueKind}
 use Rattle.pungi_types.specs.declared.kind.ValueKind.TheVariants as kinds
 use Rattle.pungi_resolved.specs.Values as expr
 use Rattle.pungi_meaning.specs.Values.{fits, wide, slot_kind}
-use Rattle.pungi_code.specs.WellFormed.{is_wide, form_answer}
+use Rattle.pungi_code.specs.WellFormed.{is_wide, returned_param}
 use Rattle.pungi_layout.proofs.well_formed.Both.{and_left, and_right}
-use Rattle.pungi_layout.specs.code.Temporaries.{joined_column, answer_column, form_column, value_column, fitting_column}
+use Rattle.pungi_layout.specs.code.Temporaries.{joined_column, answer_column, call_column, value_column, fitting_column}
 use Rattle.pungi_layout.specs.code.ExprCode.{above}
 use Rattle.pungi_layout.specs.code.Sound.{expr_nodes, place_nodes}
 use Rattle.pungi_layout.specs.kinds.Typed.{is_counted, is_null, IsNumber, IsText, IsObject, Goes, GoesIn, Alike}
@@ -38,9 +38,9 @@ answer_low answer.Size = omega arith
 answer_low answer.Text = omega arith
 answer_low _ = omega arith
 
-form_low : (f : Form) (a : Answer) → form_column f a ≤ 4
-form_low form.Plain a = answer_low a
-form_low (form.Special s) a = omega arith
+call_low : (a : CallAnswer) → call_column a ≤ 4
+call_low (Of a) = answer_low a
+call_low Argument = omega arith
 
 constant_low : (b : Bool) → (if b then 0 else 1) ≤ 4
 constant_low true = omega arith
@@ -59,7 +59,7 @@ value_low (expr.chosen p c a b) = joined_low (value_column a) (value_column b) (
 value_low (expr.converted p kind v) = column_low kind
 value_low (expr.cast_of p v) = value_low v
 value_low (expr.dropped p v) = value_low v
-value_low (expr.called_row p n row vs) = form_low row.form row.answer
+value_low (expr.called_row p n sig vs) = call_low sig.answer
 value_low _ = omega arith
 
 -- how many nodes there are at least
@@ -189,16 +189,15 @@ number_wide (suc zero) h = refl
 number_wide (suc (suc zero)) h = refl
 number_wide (suc (suc (suc c))) h = absurd (omega (arith, h))
 
-pub answer_goes : (f : Form) (a : Answer) (k : Param) → Goes k (form_column f a) false
-    → is_wide (form_answer f a) k ≡ true
-answer_goes form.Plain answer.Status k g = wide_goes kinds.Int k g
-answer_goes form.Plain answer.Truth k g = wide_goes kinds.Int k g
-answer_goes form.Plain answer.Int k g = wide_goes kinds.Int k g
-answer_goes form.Plain answer.Long k g = wide_goes kinds.Long k g
-answer_goes form.Plain answer.Size k g = wide_goes kinds.Size k g
-answer_goes form.Plain answer.Text k g = wide_goes kinds.Text k g
-answer_goes form.Plain _ k g = wide_goes (kinds.Object None) k g
-answer_goes (form.Special x) a k g = wide_goes (kinds.Object None) k g
+pub answer_goes : (a : CallAnswer) (k : Param) → Goes k (call_column a) false → is_wide (returned_param a) k ≡ true
+answer_goes (Of answer.Status) k g = wide_goes kinds.Int k g
+answer_goes (Of answer.Truth) k g = wide_goes kinds.Int k g
+answer_goes (Of answer.Int) k g = wide_goes kinds.Int k g
+answer_goes (Of answer.Long) k g = wide_goes kinds.Long k g
+answer_goes (Of answer.Size) k g = wide_goes kinds.Size k g
+answer_goes (Of answer.Text) k g = wide_goes kinds.Text k g
+answer_goes (Of _) k g = wide_goes (kinds.Object None) k g
+answer_goes Argument k g = wide_goes (kinds.Object None) k g
 
 -- what a sign stands before is a number
 pub slot_number : (kind : ValueKind) (c : ℕ) (b : Bool) → is_counted kind ≡ true → Goes (slot_kind kind) c b → c ≤ 2

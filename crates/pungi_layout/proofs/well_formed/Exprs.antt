@@ -1,282 +1,52 @@
 -- The instructions of an expression of the kinds that it needs name what is there, and of the kind that they need.
-use Rattle.std.proofs.Common.{◌≡◌, ℕ, ◌+◌, ◌<◌, ◌≤◌, inl, inr, pos, arith, Bool, true, false, List, [], ◌∷◌, length}
-use Rattle.std.proofs.Common.{map, Some, None, refl, sym, subst}
+use Rattle.std.proofs.Common.{◌≡◌, ℕ, ◌+◌, ◌<◌, ◌≤◌, inl, pos, arith, Bool, true, false, List, [], ◌∷◌, length, map}
+use Rattle.std.proofs.Common.{Some, None, refl, sym, subst}
 use Rattle.std.specs.Prelude.{◌&&◌, not, ◌^◌, if◌then◌else◌}
-use Rattle.pungi_base.specs.declared.kind.Kind.{Kind}
 use Rattle.pungi_base.specs.declared.pos.Pos.{Pos}
 use Rattle.pungi_tree.specs.Syntax.{Item}
-use Rattle.pungi_api.specs.Rows.{is_row, is_empty, fits_form}
+use Rattle.pungi_api.specs.Signatures.{is_signature}
+use Rattle.pungi_api.specs.declared.output.Output.{Output}
 use Rattle.pungi_api.specs.declared.param.Param.{Param}
 use Rattle.pungi_api.specs.declared.param.Param.TheVariants as param
-use Rattle.pungi_api.specs.declared.row.Form.{Form}
-use Rattle.pungi_api.specs.declared.row.Form.TheVariants as form
-use Rattle.pungi_api.specs.declared.row.Row.{Row}
+use Rattle.pungi_api.specs.declared.signature.Signature.{Signature}
 use Rattle.pungi_types.specs.declared.kind.ValueKind.{ValueKind}
 use Rattle.pungi_resolved.specs.Values as expr
-use Rattle.pungi_types.specs.Operators.{is_same_kind}
 use Rattle.pungi_meaning.specs.declared.op.Op.TheVariants as ops
-use Rattle.pungi_meaning.specs.Values.{op_of, cmp_of, wide, slot_kind}
-use Rattle.pungi_meaning.specs.Exprs.{step_op, is_and}
+use Rattle.pungi_meaning.specs.Values.{op_of, cmp_of, slot_kind}
+use Rattle.pungi_meaning.specs.Exprs.{is_and}
 use Rattle.pungi_meaning.specs.Todo.{listed_values}
 use Rattle.pungi_code.specs.declared.atom.Atom.TheVariants as atom
 use Rattle.pungi_code.specs.declared.code.Code.{Code}
 use Rattle.pungi_code.specs.declared.code.Line.{Line}
-use Rattle.pungi_code.specs.declared.instr.Instr.TheVariants.{Fit}
-use Rattle.pungi_code.specs.declared.place.Place.TheVariants.{Global, Field}
 use Rattle.pungi_code.specs.WellFormed.{is_wide, is_number, is_order, counts_in, is_argument, are_arguments}
-use Rattle.pungi_code.specs.WellFormed.{form_params, wanted_params, row_answer, is_answer, is_sound}
+use Rattle.pungi_code.specs.WellFormed.{returned_param, is_answer, are_outputs, is_sound}
 use Rattle.pungi_layout.proofs.well_formed.Both.{and_true, and_left, and_right}
-use Rattle.pungi_layout.specs.code.Parts.{is_minus, gives_answer}
+use Rattle.pungi_layout.specs.code.Parts.{is_minus, has_call_value}
 use Rattle.pungi_layout.specs.code.Sizes.{expr_size, place_size, values_size}
-use Rattle.pungi_layout.specs.code.Temporaries.{column, temp, form_column, value_column, temp_of, fitting_column}
-use Rattle.pungi_layout.specs.code.Temporaries.{operand, tail, arg_var, arg_vars}
-use Rattle.pungi_layout.specs.code.ExprCode.{line, to_var, var, bit, branch_on, fit_code, old_code, store_code, above}
-use Rattle.pungi_layout.specs.code.ExprCode.{stored_var, counted_var, base_var, sign_code, sign_var, step_code}
-use Rattle.pungi_layout.specs.code.ExprCode.{row_code, expr_code, base_code, args_code}
+use Rattle.pungi_layout.specs.code.Temporaries.{column, temp, call_column, value_column, temp_of, operand, tail}
+use Rattle.pungi_layout.specs.code.Temporaries.{arg_var, arg_vars}
+use Rattle.pungi_layout.specs.code.ExprCode.{to_var, var, bit, branch_on, fit_code, old_code, above, stored_var}
+use Rattle.pungi_layout.specs.code.ExprCode.{counted_var, base_var, sign_code, sign_var, row_code, expr_code, base_code}
+use Rattle.pungi_layout.specs.code.ExprCode.{args_code}
 use Rattle.pungi_layout.specs.code.Sound.{expr_nodes, place_nodes, values_nodes}
-use Rattle.pungi_layout.specs.kinds.Typed.{is_counted, is_null, IsNumber, IsText, IsObject, Goes, GoesIn, Alike}
-use Rattle.pungi_layout.specs.kinds.Typed.{are_numbers, are_objects, are_texts, AreComparable, IsHeld, IsArgument}
-use Rattle.pungi_layout.specs.kinds.Typed.{IsTyped, IsPlaceTyped, AreTyped}
+use Rattle.pungi_layout.specs.kinds.Typed.{is_counted, is_null, Goes, GoesIn, IsHeld, IsArgument, IsTyped, IsPlaceTyped}
+use Rattle.pungi_layout.specs.kinds.Typed.{AreTyped}
 use Rattle.pungi_layout.specs.code.Calls.{calls_none, is_free_place, call_none}
-use Rattle.pungi_layout.proofs.well_formed.Instructions.{column_kind, column_slot, column_low, counted_slot}
-use Rattle.pungi_layout.proofs.well_formed.Instructions.{counted_integer, counted_low, same_slot, slot_wide}
-use Rattle.pungi_layout.proofs.well_formed.Instructions.{number_kind, own_goes, wide_goes, counts_goes, integer_goes}
-use Rattle.pungi_layout.proofs.well_formed.Instructions.{bit_fits, constant_goes, text_goes, null_goes, static_goes}
-use Rattle.pungi_layout.proofs.well_formed.Instructions.{slot_goes, le_true, var_fine, var_atom, number_atom, set_fine}
-use Rattle.pungi_layout.proofs.well_formed.Instructions.{arith_fine, fit_fine, compare_fine, are_compared, load_fine}
-use Rattle.pungi_layout.proofs.well_formed.Instructions.{store_fine, global_fine, field_fine, label_fine, is_tested}
-use Rattle.pungi_layout.proofs.well_formed.Instructions.{branch_fine, tested_fine, numbers_compared, objects_compared}
-use Rattle.pungi_layout.proofs.well_formed.Instructions.{texts_compared, AreFine, fine_append}
-use Rattle.pungi_layout.proofs.well_formed.Columns.{wide_counted, place_some, level_of, beside_object, number_wide}
-use Rattle.pungi_layout.proofs.well_formed.Columns.{answer_goes, slot_number, value_low, some_nodes, null_column}
-use Rattle.pungi_layout.proofs.well_formed.Columns.{chosen_goes, low_fit}
+use Rattle.pungi_layout.proofs.well_formed.Instructions.{column_kind, counted_slot, counted_integer, counted_low}
+use Rattle.pungi_layout.proofs.well_formed.Instructions.{slot_wide, wide_goes, counts_goes, integer_goes, bit_fits}
+use Rattle.pungi_layout.proofs.well_formed.Instructions.{constant_goes, text_goes, null_goes, static_goes, slot_goes}
+use Rattle.pungi_layout.proofs.well_formed.Instructions.{le_true, var_fine, var_atom, number_atom, set_fine, arith_fine}
+use Rattle.pungi_layout.proofs.well_formed.Instructions.{fit_fine, compare_fine, label_fine, is_tested, branch_fine}
+use Rattle.pungi_layout.proofs.well_formed.Instructions.{tested_fine, AreFine, fine_append}
+use Rattle.pungi_layout.proofs.well_formed.Columns.{place_some, level_of, number_wide, answer_goes, slot_number}
+use Rattle.pungi_layout.proofs.well_formed.Columns.{value_low, some_nodes, chosen_goes}
+use Rattle.pungi_layout.proofs.well_formed.Operands.{kind_held, own_held, own_in, number_held, deep, object_held}
+use Rattle.pungi_layout.proofs.well_formed.Operands.{old_fine, put_fine, counted_held, converted_fine, step_fine}
+use Rattle.pungi_layout.proofs.well_formed.Operands.{known_held, operands}
 
 -- the places of the parts of an expression are in front of its end
 module _ (file : List Item) (code : Code) (nl n : ℕ) (temps : (d c : ℕ) → d < n → c ≤ 4
     → IsHeld code.vars (temp nl d c) (column_kind c)) (few : n ≤ 2 ^ 14) where
-  -- .. variables
-  -- the variable of a value of this kind
-  pub kind_held : (d : ℕ) (kind : ValueKind) → d < n → IsHeld code.vars (temp nl d (column kind)) (slot_kind kind)
-  kind_held d kind lt = subst (λ k. IsHeld code.vars (temp nl d (column kind)) k) (column_slot kind)
-      (temps d (column kind) lt (column_low kind))
-
-  pub own_held : (d : ℕ) (v : expr.Value) → d < n → IsHeld code.vars (temp_of nl d v) (column_kind (value_column v))
-  own_held d v lt = temps d (value_column v) lt (value_low v)
-
-  pub own_in : (v : expr.Value) → GoesIn (column_kind (value_column v)) v
-  own_in v = own_goes (value_column v) (is_null v) (value_low v)
-
-  pub number_held : (d : ℕ) (v : expr.Value) → d < n → IsNumber v → is_number code.vars (var (temp_of nl d v)) ≡ true
-  number_held d v lt h = number_atom code (temp_of nl d v) (column_kind (value_column v)) (own_held d v lt)
-      (number_kind (value_column v) h)
-
-  -- how deep a place's own variables stand
-  deep : (place : expr.Place) (d : ℕ) → d + place_nodes place ≤ n → above place d < n
-  deep (expr.local_place p x) d le = omega (arith, le)
-  deep (expr.global_place p w) d le = omega (arith, le)
-  deep (expr.field_place p base tag field) d le = let h = some_nodes base in omega (arith, le, h)
-  deep expr.no_place d le = omega (arith, le)
-
-  pub object_held : (d : ℕ) (v : expr.Value) → d < n → IsObject v → IsHeld code.vars (temp_of nl d v) param.ObjectOrNull
-  object_held d v lt e = subst (λ c. IsHeld code.vars (temp nl d c) param.ObjectOrNull) (sym e)
-      (temps d 4 lt (omega arith))
-
-  -- .. places
-  old_fine : (kind : ValueKind) (place : expr.Place) (t d : ℕ) (k : Param) → IsPlaceTyped file code.vars kind place
-      → d + place_nodes place ≤ n → IsHeld code.vars t k → is_wide (slot_kind kind) k ≡ true
-      → AreFine code (old_code kind place t (base_var nl place d))
-  old_fine kind (expr.local_place p x) t d k h le ht w = (
-    set_fine code t k (var x) ht
-        (var_atom code x (slot_kind kind) k h.1 w),
-    tt,
-  )
-  old_fine kind (expr.global_place p m) t d k h le ht w = (
-    load_fine code t k (Global m (slot_kind kind)) ht
-        (global_fine code m kind) w,
-    tt,
-  )
-  old_fine kind (expr.field_place p base tag field) t d k h le ht w =
-      let b = object_held d base (omega (arith, le)) h.2 in (
-        load_fine code t k (Field (var (temp_of nl d base)) tag field (slot_kind kind)) ht
-            (field_fine code (temp_of nl d base) tag field kind b) w,
-        tt,
-      )
-  old_fine kind expr.no_place t d k h le ht w = absurd h
-
-  put_fine : (kind : ValueKind) (place : expr.Place) (t d s : ℕ) (k : Param)
-      → IsPlaceTyped file code.vars kind place → d + place_nodes place ≤ n → IsHeld code.vars s (slot_kind kind)
-      → IsHeld code.vars t k
-      → is_wide (slot_kind kind) k ≡ true → AreFine code (store_code kind place t (base_var nl place d) s)
-  put_fine kind (expr.local_place p x) t d s k h le hs ht w = (
-    set_fine code x (slot_kind kind) (var s) h.1 (var_atom code s (slot_kind kind) (slot_kind kind) hs
-        (slot_wide kind)),
-    (set_fine code t k (var s) ht (var_atom code s (slot_kind kind) k hs w), tt),
-  )
-  put_fine kind (expr.global_place p m) t d s k h le hs ht w = (
-    store_fine code (Global m (slot_kind kind)) (var s) (global_fine code m kind)
-        (var_atom code s (slot_kind kind) (slot_kind kind) hs (slot_wide kind)),
-    (set_fine code t k (var s) ht (var_atom code s (slot_kind kind) k hs w), tt),
-  )
-  put_fine kind (expr.field_place p base tag field) t d s k h le hs ht w =
-      let b = object_held d base (omega (arith, le)) h.2 in (
-        store_fine code (Field (var (temp_of nl d base)) tag field (slot_kind kind)) (var s)
-            (field_fine code (temp_of nl d base) tag field kind b) (var_atom code s (slot_kind kind) (slot_kind kind)
-            hs (slot_wide kind)),
-        (set_fine code t k (var s) ht (var_atom code s (slot_kind kind) k hs w), tt),
-      )
-  put_fine kind expr.no_place t d s k h le hs ht w = absurd h
-
-  -- .. what is counted in another kind and converted
-  counted_held : (place : expr.Place) (d t : ℕ) (kind counted : ValueKind) → above place d < n
-      → IsHeld code.vars (counted_var nl place d kind counted) (slot_kind counted)
-  counted_held place d t kind counted lt =
-      elim (is_same_kind (Some kind) (Some counted)) as (λ b. (is_same_kind (Some kind) (Some counted) ≡ b)
-      → IsHeld code.vars (if b then stored_var nl place d kind else temp nl (above place d) (column counted))
-      (slot_kind counted)) [
-        | true ↦ λ e. subst (λ k. IsHeld code.vars (temp nl (above place d) (column kind)) k)
-            (same_slot kind counted e) (kind_held (above place d) kind lt)
-        | false ↦ λ e. kind_held (above place d) counted lt
-      ] refl
-
-  converted_fine : (p : Pos) (kind counted : ValueKind) (s c : ℕ) → is_counted kind ≡ true
-      → is_counted counted ≡ true → IsHeld code.vars s (slot_kind kind) → IsHeld code.vars c (slot_kind counted)
-      → AreFine code (fit_code p kind counted s c)
-  converted_fine p kind counted s c f g hs hc =
-      elim (is_same_kind (Some kind) (Some counted)) as (λ b. AreFine code (if b then [] else line p
-      (Fit (to_var s) kind (var c)) ∷ [])) [
-        | true ↦ tt
-        | false ↦ (
-          fit_fine code s (slot_kind kind) kind (var c) hs (counted_slot kind f)
-              (number_atom code c (slot_kind counted) hc (counted_integer counted g)),
-          tt,
-        )
-      ]
-
-  -- an operator in front of a place, whose old content stands in its variable
-  step_fine : (d t : ℕ) (k : Param) (p : Pos) (m : Kind) (kind : ValueKind) (place : expr.Place)
-      → is_counted kind ≡ true → IsPlaceTyped file code.vars kind place → d + place_nodes place ≤ n
-      → IsHeld code.vars t k
-      → is_wide (slot_kind kind) k ≡ true → AreFine code (step_code nl d t p m kind place)
-  step_fine d t k p m kind place c h le ht w =
-      let lt = deep place d le in
-      let wc = wide_counted kind c in
-      let hc = counted_held place d t kind (wide kind) lt in
-      let hs = kind_held (above place d) kind lt in (
-        arith_fine code (counted_var nl place d kind (wide kind)) (slot_kind (wide kind)) (wide kind) (step_op m)
-            (var (temp nl (above place d) (column kind))) (atom.Int (pos 1)) hc (counted_slot (wide kind) wc)
-            (number_atom code (temp nl (above place d) (column kind)) (slot_kind kind) hs (counted_integer kind c))
-            refl,
-        fine_append code (fit_code p kind (wide kind) (stored_var nl place d kind)
-            (counted_var nl place d kind (wide kind))) _ (converted_fine p kind (wide kind)
-            (stored_var nl place d kind) (counted_var nl place d kind (wide kind)) c wc hs hc)
-            (put_fine kind place t d (stored_var nl place d kind) k h le hs ht w),
-      )
-
-  -- .. operands of a comparison
-  record Operands (d e : ℕ) (a b : expr.Value) (order : Bool) : Type 0 where
-    left_kind : Param
-    left_held : IsHeld code.vars (operand nl d (value_column b) a) left_kind
-    left_goes : GoesIn left_kind a
-    right_kind : Param
-    right_held : IsHeld code.vars (operand nl e (value_column a) b) right_kind
-    right_goes : GoesIn right_kind b
-    fine : are_compared code order (var (operand nl d (value_column b) a)) (var (operand nl e (value_column a) b))
-        ≡ true
-
-  -- an operand in its own variable
-  same_held : (d w : ℕ) (v : expr.Value) (k : Param) → fitting_column w (value_column v) ≡ value_column v
-      → IsHeld code.vars (temp_of nl d v) k → IsHeld code.vars (operand nl d w v) k
-  same_held d w v k e h = subst (λ c. IsHeld code.vars (temp nl d c) k) (sym e) h
-
-  -- beside a text
-  pub text_held : (d w : ℕ) (v : expr.Value) → d < n → w ≡ 3 → IsHeld code.vars (operand nl d w v) param.TextOrNull
-  text_held d w v lt e = subst (λ (x : ℕ). IsHeld code.vars (temp nl d (fitting_column x (value_column v)))
-      param.TextOrNull) (sym e) (temps d 3 lt (omega arith))
-
-  operands_numbers : (d e : ℕ) (a b : expr.Value) (order : Bool) → d < n → e < n → IsNumber a → IsNumber b
-      → Operands d e a b order
-  operands_numbers d e a b order ld le x y =
-      let f = low_fit (value_column b) (value_column a) y in
-      let g = low_fit (value_column a) (value_column b) x in
-      let ha = same_held d (value_column b) a (column_kind (value_column a)) f (own_held d a ld) in
-      let hb = same_held e (value_column a) b (column_kind (value_column b)) g (own_held e b le) in
-      record {
-        left_kind = column_kind (value_column a);
-        left_held = ha;
-        left_goes = own_in a;
-        right_kind = column_kind (value_column b);
-        right_held = hb;
-        right_goes = own_in b;
-        fine = numbers_compared code order (var (operand nl d (value_column b) a))
-            (var (operand nl e (value_column a) b))
-            (number_atom code (operand nl d (value_column b) a) (column_kind (value_column a)) ha
-            (number_kind (value_column a) x))
-            (number_atom code (operand nl e (value_column a) b) (column_kind (value_column b)) hb
-            (number_kind (value_column b) y));
-      }
-
-  operands_objects : (d e : ℕ) (a b : expr.Value) → d < n → e < n → IsObject a → IsObject b → Operands d e a b false
-  operands_objects d e a b ld le x y =
-      let ha = same_held d (value_column b) a param.ObjectOrNull (beside_object (value_column b) (value_column a) y)
-      (object_held d a ld x) in
-      let hb = same_held e (value_column a) b param.ObjectOrNull (beside_object (value_column a) (value_column b) x)
-      (object_held e b le y) in
-      record {
-        left_kind = param.ObjectOrNull;
-        left_held = ha;
-        left_goes = x;
-        right_kind = param.ObjectOrNull;
-        right_held = hb;
-        right_goes = y;
-        fine = objects_compared code (var (operand nl d (value_column b) a)) (var (operand nl e (value_column a) b))
-            (var_atom code (operand nl d (value_column b) a) param.ObjectOrNull param.ObjectOrNull ha refl)
-            (var_atom code (operand nl e (value_column a) b) param.ObjectOrNull param.ObjectOrNull hb refl);
-      }
-
-  -- a value of a column that is known
-  pub known_held : (d : ℕ) (v : expr.Value) (c : ℕ) → d < n → value_column v ≡ c → c ≤ 4
-      → IsHeld code.vars (temp_of nl d v) (column_kind c)
-  known_held d v c lt e le = subst (λ (x : ℕ). IsHeld code.vars (temp nl d x) (column_kind c)) (sym e) (temps d c lt le)
-
-  two_texts : (d e : ℕ) (a b : expr.Value) → IsText a → IsText b
-      → IsHeld code.vars (operand nl d (value_column b) a) param.TextOrNull
-      → IsHeld code.vars (operand nl e (value_column a) b) param.TextOrNull → Operands d e a b false
-  two_texts d e a b x y ha hb = record {
-    left_kind = param.TextOrNull;
-    left_held = ha;
-    left_goes = x;
-    right_kind = param.TextOrNull;
-    right_held = hb;
-    right_goes = y;
-    fine = texts_compared code (var (operand nl d (value_column b) a)) (var (operand nl e (value_column a) b))
-        (var_atom code (operand nl d (value_column b) a) param.TextOrNull param.TextOrNull ha refl)
-        (var_atom code (operand nl e (value_column a) b) param.TextOrNull param.TextOrNull hb refl);
-  }
-
-  operands_texts : (d e : ℕ) (a b : expr.Value) → d < n → e < n → IsText a → IsText b → Operands d e a b false
-  operands_texts d e a b ld le (inl x) (inl y) =
-      two_texts d e a b (inl x) (inl y) (text_held d (value_column b) a ld y) (text_held e (value_column a) b le x)
-  operands_texts d e a b ld le (inl x) (inr y) =
-      two_texts d e a b (inl x) (inr y)
-      (same_held d (value_column b) a param.TextOrNull (beside_object (value_column b) (value_column a)
-      (null_column b y)) (known_held d a 3 ld x (omega arith)))
-      (text_held e (value_column a) b le x)
-  operands_texts d e a b ld le (inr x) (inl y) =
-      two_texts d e a b (inr x) (inl y) (text_held d (value_column b) a ld y)
-      (same_held e (value_column a) b param.TextOrNull (beside_object (value_column a) (value_column b)
-      (null_column a x)) (known_held e b 3 le y (omega arith)))
-  operands_texts d e a b ld le (inr x) (inr y) = operands_objects d e a b ld le (null_column a x) (null_column b y)
-
-  alike_operands : (d e : ℕ) (a b : expr.Value) → d < n → e < n → Alike a b → Operands d e a b false
-  alike_operands d e a b ld le (are_numbers x y) = operands_numbers d e a b false ld le x y
-  alike_operands d e a b ld le (are_objects x y) = operands_objects d e a b ld le x y
-  alike_operands d e a b ld le (are_texts x y) = operands_texts d e a b ld le x y
-
-  operands : (d e : ℕ) (a b : expr.Value) (order : Bool) → d < n → e < n → AreComparable order a b
-      → Operands d e a b order
-  operands d e a b true ld le h = operands_numbers d e a b true ld le h.0 h.1
-  operands d e a b false ld le h = alike_operands d e a b ld le h
-
   -- .. arguments
   record Argument (d : ℕ) (p : Param) (ps : List Param) (v : expr.Value) : Type 0 where
     kind : Param
@@ -286,17 +56,23 @@ module _ (file : List Item) (code : Code) (nl n : ℕ) (temps : (d c : ℕ) → 
 
   argument : (d : ℕ) (p : Param) (ps : List Param) (v : expr.Value) → d < n → IsArgument p v → Argument d p ps v
   argument d param.Int ps v lt h =
-      let g = known_held d v 0 lt h (omega arith) in
+      let g = known_held file code nl n temps few d v 0 lt h (omega arith) in
       record { kind = param.Int; held = g; goes = h; fine = var_atom code (temp_of nl d v) param.Int param.Int g refl }
   argument d param.Long ps v lt h =
-      let g = own_held d v lt in
-      record { kind = column_kind (value_column v); held = g; goes = own_in v; fine = number_held d v lt h }
-  argument d param.Size ps v lt h =
-      let g = own_held d v lt in
+      let g = own_held file code nl n temps few d v lt in
       record {
         kind = column_kind (value_column v);
         held = g;
-        goes = own_in v;
+        goes = own_in file code nl n temps few v;
+        fine =
+            number_held file code nl n temps few d v lt h;
+      }
+  argument d param.Size ps v lt h =
+      let g = own_held file code nl n temps few d v lt in
+      record {
+        kind = column_kind (value_column v);
+        held = g;
+        goes = own_in file code nl n temps few v;
         fine = var_atom code (temp_of nl d v)
             (column_kind (value_column v)) param.Size g (number_wide (value_column v) h);
       }
@@ -319,7 +95,7 @@ module _ (file : List Item) (code : Code) (nl n : ℕ) (temps : (d c : ℕ) → 
             param.TextOrNull g refl;
       }
   argument d param.ModuleDef ps v lt h =
-      let g = known_held d v 3 lt h (omega arith) in
+      let g = known_held file code nl n temps few d v 3 lt h (omega arith) in
       record {
         kind = param.TextOrNull;
         held = g;
@@ -328,7 +104,7 @@ module _ (file : List Item) (code : Code) (nl n : ℕ) (temps : (d c : ℕ) → 
             param.TextOrNull param.TextOrNull g refl;
       }
   argument d param.Object ps v lt h =
-      let g = object_held d v lt h in
+      let g = object_held file code nl n temps few d v lt h in
       record {
         kind = param.ObjectOrNull;
         held = g;
@@ -337,7 +113,7 @@ module _ (file : List Item) (code : Code) (nl n : ℕ) (temps : (d c : ℕ) → 
             param.ObjectOrNull param.ObjectOrNull g refl;
       }
   argument d param.ObjectOrNull ps v lt h =
-      let g = object_held d v lt h in
+      let g = object_held file code nl n temps few d v lt h in
       record {
         kind = param.ObjectOrNull;
         held = g;
@@ -363,41 +139,30 @@ module _ (file : List Item) (code : Code) (nl n : ℕ) (temps : (d c : ℕ) → 
   args_few (expr.value_and v vs) d ps = let o = some_nodes v in let h = args_few vs (d + 1) (tail ps) in omega
       (arith, o, h)
 
-  -- what a row lists, and what it takes
-  record SameArgs (ps qs : List Param) (vs : expr.Values) : Type 0 where
-    codes : (d pc : ℕ) → args_code nl d pc ps vs ≡ args_code nl d pc qs vs
-    vars : (d : ℕ) → arg_vars nl d ps (listed_values vs) ≡ arg_vars nl d qs (listed_values vs)
+  answer_fine : (b : Bool) (sig : Signature) (t : ℕ) (k : Param) → IsHeld code.vars t k
+      → Goes k (call_column sig.answer) false
+      → is_answer code.vars sig (if b then Some (to_var t) else None) ≡ true
+  answer_fine true sig t k h g = var_fine code t k h (λ q. is_wide (returned_param sig.answer) q)
+      (answer_goes sig.answer k g)
+  answer_fine false sig t k h g = refl
 
-  special_same : (ps : List Param) (vs : expr.Values) → is_empty ps ≡ true
-      → AreTyped file code.vars (param.ObjectOrNull ∷ []) vs → SameArgs ps (param.ObjectOrNull ∷ []) vs
-  special_same [] (expr.value_and v expr.no_values) e h = record { codes = λ d pc. refl; vars = λ d. refl }
-  special_same [] (expr.value_and v (expr.value_and w vs)) e h = absurd h.2
-  special_same [] expr.no_values e h = absurd h
-  special_same (p ∷ ps) vs e h = absurd (cc)
+  -- a call that writes no variable
+  outputs_fine : (os : List Output) → os ≡ [] → are_outputs code.vars os [] ≡ true
+  outputs_fine [] e = refl
+  outputs_fine (o ∷ os) e = absurd (cc)
 
-  row_same : (f : Form) (row : Row) (vs : expr.Values) → fits_form f row ≡ true
-      → AreTyped file code.vars (form_params f row.params) vs → SameArgs row.params (form_params f row.params) vs
-  row_same form.Plain row vs e h = record { codes = λ d pc. refl; vars = λ d. refl }
-  row_same (form.Special x) row vs e h = special_same row.params vs (and_left (is_empty row.params)
-      (is_empty row.takes) e) h
-
-  answer_fine : (b : Bool) (row : Row) (t : ℕ) (k : Param) → IsHeld code.vars t k
-      → Goes k (form_column row.form row.answer) false
-      → is_answer code.vars row (if b then Some (to_var t) else None) ≡ true
-  answer_fine true row t k h g = var_fine code t k h (λ q. is_wide (row_answer row) q)
-      (answer_goes row.form row.answer k g)
-  answer_fine false row t k h g = refl
-
-  api_fine : (row : Row) (vs : expr.Values) (d t : ℕ) (k : Param) (p : Pos) → is_row row ≡ true
-      → AreTyped file code.vars (wanted_params row) vs → d + values_nodes vs + 1 ≤ n → IsHeld code.vars t k
-      → Goes k (form_column row.form row.answer) false → AreFine code (row_code nl d t p row (listed_values vs))
-  api_fine row vs d t k p r h le ht g =
-      let e = (row_same row.form row vs r h).vars d in
-      let P : List ℕ → Type 0 = λ xs. are_arguments code.vars (wanted_params row) (map var xs) ≡ true in
-      let f = subst P (sym e) (args_fit vs d (wanted_params row) (omega (arith, le)) h) in
-      let c = args_few vs d row.params in
-      let l : length (map var (arg_vars nl d row.params (listed_values vs))) ≤ 2 ^ 14 = omega (arith, c, le, few) in
-      (and_true _ _ (answer_fine (gives_answer row) row t k ht g) (and_true _ _ f (le_true _ (2 ^ 14) l)), tt)
+  api_fine : (sig : Signature) (vs : expr.Values) (d t : ℕ) (k : Param) (p : Pos) → is_signature sig ≡ true
+      → sig.outputs ≡ [] → AreTyped file code.vars sig.params vs → d + values_nodes vs + 1 ≤ n
+      → IsHeld code.vars t k → Goes k (call_column sig.answer) false
+      → AreFine code (row_code nl d t p sig (listed_values vs))
+  api_fine sig vs d t k p r o h le ht g =
+      let f = args_fit vs d sig.params (omega (arith, le)) h in
+      let c = args_few vs d sig.params in
+      let l : length (map var (arg_vars nl d sig.params (listed_values vs))) ≤ 2 ^ 14 = omega (arith, c, le, few) in (
+        and_true _ _ (answer_fine (has_call_value sig.answer) sig t k ht g) (and_true _ _ f
+            (and_true _ _ (outputs_fine sig.outputs o) (and_true _ _ (le_true _ (2 ^ 14) l) r))),
+        tt,
+      )
 
   -- .. branches
   wanted_fine : (on : Bool) (x : ℕ) (k : Param) (l m : ℕ) → IsHeld code.vars x k → is_tested code k ≡ true
@@ -421,8 +186,8 @@ module _ (file : List Item) (code : Code) (nl n : ℕ) (temps : (d c : ℕ) → 
       → Signed minus d t v
   signed_var true d t kind k v lt ht c g s = record {
     kind = column_kind (value_column v);
-    held = own_held d v lt;
-    goes = own_in v;
+    held = own_held file code nl n temps few d v lt;
+    goes = own_in file code nl n temps few v;
   }
   signed_var false d t kind k v lt ht c g s =
       record {
@@ -461,7 +226,7 @@ module _ (file : List Item) (code : Code) (nl n : ℕ) (temps : (d c : ℕ) → 
     expr_fine (expr.read p kind place) d t pc k le at ht g h f =
         fine_append code (base_code nl d pc place) _ (base_fine place d pc kind (omega (arith, le))
         (omega (arith, at)) h f)
-        (old_fine kind place t d k h (omega (arith, le)) ht (wide_goes kind k g))
+        (old_fine file code nl n temps few kind place t d k h (omega (arith, le)) ht (wide_goes kind k g))
     expr_fine (expr.inner p v) d t pc k le at ht g h f = expr_fine v d t pc k (omega (arith, le)) at ht g h f
     expr_fine (expr.signed p m kind v) d t pc k le at ht g h f =
         let o = some_nodes v in
@@ -471,17 +236,17 @@ module _ (file : List Item) (code : Code) (nl n : ℕ) (temps : (d c : ℕ) → 
         fine_append code (expr_code nl d (sign_var (is_minus m) t (temp_of nl d v)) pc v) _
         (expr_fine v d (sign_var (is_minus m) t (temp_of nl d v)) pc x.kind (omega (arith, le)) (omega (arith, at))
         x.held x.goes h.2 f)
-        (sign_fine (is_minus m) p kind t (temp_of nl d v) k ht c (number_held d v lt
+        (sign_fine (is_minus m) p kind t (temp_of nl d v) k ht c (number_held file code nl n temps few d v lt
         (slot_number kind (value_column v) (is_null v) h.0 h.1)))
     expr_fine (expr.negated p v) d t pc k le at ht g h f =
         let o = some_nodes v in
         let lt : d + 1 < n = omega (arith, le, o) in
         let i = integer_goes k 0 (omega arith) g in
-        let hx = own_held (d + 1) v lt in (
+        let hx = own_held file code nl n temps few (d + 1) v lt in (
           set_fine code t k (bit true) ht (bit_fits code.vars k true i),
           fine_append code (expr_code nl (d + 1) (temp_of nl (d + 1) v) (pc + 1) v) _
               (expr_fine v (d + 1) (temp_of nl (d + 1) v) (pc + 1) (column_kind (value_column v))
-              (omega (arith, le)) (omega (arith, at)) hx (own_in v) h f) (
+              (omega (arith, le)) (omega (arith, at)) hx (own_in file code nl n temps few v) h f) (
                 branch_fine code (temp_of nl (d + 1) v) (column_kind (value_column v)) (pc + 1 + expr_size v + 1)
                     (pc + 1 + expr_size v + 2) hx (tested_fine code (value_column v) (value_low v))
                     (omega (arith, at)) (omega (arith, at)),
@@ -489,29 +254,32 @@ module _ (file : List Item) (code : Code) (nl n : ℕ) (temps : (d c : ℕ) → 
               ),
         )
     expr_fine (expr.stepped p false m kind place) d t pc k le at ht g h f =
-        let lt = deep place d (omega (arith, le)) in
+        let lt = deep file code nl n temps few place d (omega (arith, le)) in
         fine_append code (base_code nl d pc place) _ (base_fine place d pc kind (omega (arith, le))
         (omega (arith, at)) h.1 f)
         (fine_append code (old_code kind place (temp nl (above place d) (column kind)) (base_var nl place d)) _
-        (old_fine kind place (temp nl (above place d) (column kind)) d (slot_kind kind) h.1 (omega (arith, le))
-        (kind_held (above place d) kind lt) (slot_wide kind))
-        (step_fine d t k p m kind place h.0 h.1 (omega (arith, le)) ht (wide_goes kind k g)))
+        (old_fine file code nl n temps few kind place (temp nl (above place d) (column kind)) d (slot_kind kind) h.1
+        (omega (arith, le))
+        (kind_held file code nl n temps few (above place d) kind lt) (slot_wide kind))
+        (step_fine file code nl n temps few d t k p m kind place h.0 h.1 (omega (arith, le)) ht (wide_goes kind k g)))
     expr_fine (expr.stepped p true m kind place) d t pc k le at ht g h f =
         let e = d + 1 in
-        let lt = deep place e (omega (arith, le)) in
+        let lt = deep file code nl n temps few place e (omega (arith, le)) in
         let o = place_some place in
         let w = wide_goes kind k g in
         let i = integer_goes k (column kind) (counted_low kind h.0) g in
         let s = temp nl (above place e) (column kind) in
-        let hs = kind_held (above place e) kind lt in (
+        let hs = kind_held file code nl n temps few (above place e) kind lt in (
           set_fine code t k (bit false) ht (bit_fits code.vars k false i),
           fine_append code (base_code nl e (pc + 1) place) _ (base_fine place e (pc + 1) kind (omega (arith, le))
               (omega (arith, at)) h.1 f)
-              (fine_append code (old_code kind place s (base_var nl place e)) _ (old_fine kind place s e
+              (fine_append code (old_code kind place s (base_var nl place e)) _
+              (old_fine file code nl n temps few kind place s e
               (slot_kind kind) h.1 (omega (arith, le)) hs (slot_wide kind)) (
                 set_fine code t k (var s) ht (var_atom code s (slot_kind kind) k hs w),
-                step_fine e (temp nl e (column kind)) (slot_kind kind) p m kind place h.0 h.1 (omega (arith, le))
-                    (kind_held e kind (omega (arith, le, o))) (slot_wide kind),
+                step_fine file code nl n temps few e (temp nl e (column kind)) (slot_kind kind) p m kind place h.0 h.1
+                    (omega (arith, le))
+                    (kind_held file code nl n temps few e kind (omega (arith, le, o))) (slot_wide kind),
               )),
         )
     expr_fine (expr.computed p m kind a b) d t pc k le at ht g h f =
@@ -521,13 +289,16 @@ module _ (file : List Item) (code : Code) (nl n : ℕ) (temps : (d c : ℕ) → 
         let lb : d + 1 < n = omega (arith, le, oa, ob) in
         fine_append code (expr_code nl d (temp_of nl d a) pc a) _
         (expr_fine a d (temp_of nl d a) pc (column_kind (value_column a)) (omega (arith, le)) (omega (arith, at))
-        (own_held d a la) (own_in a) h.2 (and_left (calls_none a) (calls_none b) f))
+        (own_held file code nl n temps few d a la) (own_in file code nl n temps few a) h.2
+        (and_left (calls_none a) (calls_none b) f))
         (fine_append code (expr_code nl (d + 1) (temp_of nl (d + 1) b) (pc + expr_size a) b) _
         (expr_fine b (d + 1) (temp_of nl (d + 1) b) (pc + expr_size a) (column_kind (value_column b))
-        (omega (arith, le, oa)) (omega (arith, at)) (own_held (d + 1) b lb) (own_in b) h.4
+        (omega (arith, le, oa)) (omega (arith, at)) (own_held file code nl n temps few (d + 1) b lb)
+        (own_in file code nl n temps few b) h.4
         (and_right (calls_none a) (calls_none b) f)) (
           arith_fine code t k kind (op_of m) (var (temp_of nl d a)) (var (temp_of nl (d + 1) b)) ht
-              (counts_goes kind k h.0 g) (number_held d a la h.1) (number_held (d + 1) b lb h.3),
+              (counts_goes kind k h.0 g) (number_held file code nl n temps few d a la h.1)
+              (number_held file code nl n temps few (d + 1) b lb h.3),
           tt,
         ))
     expr_fine (expr.compared p m a b) d t pc k le at ht g h f =
@@ -535,7 +306,7 @@ module _ (file : List Item) (code : Code) (nl n : ℕ) (temps : (d c : ℕ) → 
         let ob = some_nodes b in
         let la : d < n = omega (arith, le, oa) in
         let lb : d + 1 < n = omega (arith, le, oa, ob) in
-        let x = operands d (d + 1) a b (is_order (cmp_of m)) la lb h.0 in
+        let x = operands file code nl n temps few d (d + 1) a b (is_order (cmp_of m)) la lb h.0 in
         fine_append code (expr_code nl d (operand nl d (value_column b) a) pc a) _
         (expr_fine a d (operand nl d (value_column b) a) pc x.left_kind (omega (arith, le)) (omega (arith, at))
         x.left_held x.left_goes h.1 (and_left (calls_none a) (calls_none b) f))
@@ -557,16 +328,20 @@ module _ (file : List Item) (code : Code) (nl n : ℕ) (temps : (d c : ℕ) → 
           set_fine code t k (bit (not (is_and m))) ht (bit_fits code.vars k (not (is_and m)) i),
           fine_append code (expr_code nl e (temp_of nl e a) (pc + 1) a) _
               (expr_fine a e (temp_of nl e a) (pc + 1) (column_kind (value_column a)) (omega (arith, le, ob))
-              (omega (arith, at)) (own_held e a la) (own_in a) h.0 (and_left (calls_none a) (calls_none b) f)) (
+              (omega (arith, at)) (own_held file code nl n temps few e a la) (own_in file code nl n temps few a) h.0
+              (and_left (calls_none a) (calls_none b) f)) (
                 wanted_fine (is_and m) (temp_of nl e a) (column_kind (value_column a)) (pc + 1 + expr_size a + 1)
-                    end (own_held e a la) (tested_fine code (value_column a) (value_low a)) (omega (arith, at))
+                    end (own_held file code nl n temps few e a la) (tested_fine code (value_column a) (value_low a))
+                    (omega (arith, at))
                     (omega (arith, at)),
                 fine_append code (expr_code nl e (temp_of nl e b) (pc + 1 + expr_size a + 1) b) _
                     (expr_fine b e (temp_of nl e b) (pc + 1 + expr_size a + 1) (column_kind (value_column b))
-                    (omega (arith, le, oa)) (omega (arith, at)) (own_held e b la) (own_in b) h.1
+                    (omega (arith, le, oa)) (omega (arith, at)) (own_held file code nl n temps few e b la)
+                    (own_in file code nl n temps few b) h.1
                     (and_right (calls_none a) (calls_none b) f)) (
                       wanted_fine (is_and m) (temp_of nl e b) (column_kind (value_column b))
-                          (pc + 1 + expr_size a + 1 + expr_size b + 1) end (own_held e b la) (tested_fine code
+                          (pc + 1 + expr_size a + 1 + expr_size b + 1) end (own_held file code nl n temps few e b la)
+                          (tested_fine code
                           (value_column b) (value_low b)) (omega (arith, at)) (omega (arith, at)),
                       (set_fine code t k (bit (is_and m)) ht (bit_fits code.vars k (is_and m) i), tt),
                     ),
@@ -574,8 +349,8 @@ module _ (file : List Item) (code : Code) (nl n : ℕ) (temps : (d c : ℕ) → 
         )
     expr_fine (expr.stored p kind place v) d t pc k le at ht g h f =
         let o = some_nodes v in
-        let lt = deep place d (omega (arith, le, o)) in
-        let hs = kind_held (above place d) kind lt in
+        let lt = deep file code nl n temps few place d (omega (arith, le, o)) in
+        let hs = kind_held file code nl n temps few (above place d) kind lt in
         let deeper = level_of place d in
         fine_append code (base_code nl d pc place) _ (base_fine place d pc kind (omega (arith, le))
         (omega (arith, at)) h.0 (and_left (is_free_place place) (calls_none v) f))
@@ -583,46 +358,51 @@ module _ (file : List Item) (code : Code) (nl n : ℕ) (temps : (d c : ℕ) → 
         (expr_fine v (above place d) (stored_var nl place d kind) (pc + place_size place) (slot_kind kind)
         (omega (arith, le, deeper)) (omega (arith, at)) hs h.1 h.2 (and_right (is_free_place place) (calls_none v)
         f))
-        (put_fine kind place t d (stored_var nl place d kind) k h.0 (omega (arith, le)) hs ht (wide_goes kind k g)))
+        (put_fine file code nl n temps few kind place t d (stored_var nl place d kind) k h.0 (omega (arith, le)) hs ht
+        (wide_goes kind k g)))
     expr_fine (expr.updated p m counted kind place v) d t pc k le at ht g h f =
         let o = some_nodes v in
         let deeper = level_of place d in
-        let lt = deep place d (omega (arith, le, o)) in
-        let hs = kind_held (above place d) kind lt in
+        let lt = deep file code nl n temps few place d (omega (arith, le, o)) in
+        let hs = kind_held file code nl n temps few (above place d) kind lt in
         let lv : above place d + 1 < n = omega (arith, le, o, deeper) in
-        let hc = counted_held place d t kind counted lt in
+        let hc = counted_held file code nl n temps few place d t kind counted lt in
         fine_append code (base_code nl d pc place) _ (base_fine place d pc kind (omega (arith, le))
         (omega (arith, at)) h.2 (and_left (is_free_place place) (calls_none v) f))
         (fine_append code (old_code kind place (temp nl (above place d) (column kind)) (base_var nl place d)) _
-        (old_fine kind place (temp nl (above place d) (column kind)) d (slot_kind kind) h.2 (omega (arith, le)) hs
+        (old_fine file code nl n temps few kind place (temp nl (above place d) (column kind)) d (slot_kind kind) h.2
+        (omega (arith, le)) hs
         (slot_wide kind))
         (fine_append code (expr_code nl (above place d + 1) (temp_of nl (above place d + 1) v)
         (pc + place_size place + 1) v) _
         (expr_fine v (above place d + 1) (temp_of nl (above place d + 1) v) (pc + place_size place + 1)
         (column_kind (value_column v)) (omega (arith, le, deeper)) (omega (arith, at))
-        (own_held (above place d + 1) v lv) (own_in v) h.4 (and_right (is_free_place place) (calls_none v) f)) (
+        (own_held file code nl n temps few (above place d + 1) v lv) (own_in file code nl n temps few v) h.4
+        (and_right (is_free_place place) (calls_none v) f)) (
           arith_fine code (counted_var nl place d kind counted) (slot_kind counted) counted (op_of m)
               (var (temp nl (above place d) (column kind))) (var (temp_of nl (above place d + 1) v)) hc
               (counted_slot counted h.0)
               (number_atom code (temp nl (above place d) (column kind)) (slot_kind kind) hs
-              (counted_integer kind h.1)) (number_held (above place d + 1) v lv h.3),
+              (counted_integer kind h.1)) (number_held file code nl n temps few (above place d + 1) v lv h.3),
           fine_append code (fit_code p kind counted (stored_var nl place d kind)
               (counted_var nl place d kind counted)) _
-              (converted_fine p kind counted (stored_var nl place d kind) (counted_var nl place d kind counted) h.1
+              (converted_fine file code nl n temps few p kind counted (stored_var nl place d kind)
+              (counted_var nl place d kind counted) h.1
               h.0 hs hc)
-              (put_fine kind place t d (stored_var nl place d kind) k h.2 (omega (arith, le)) hs ht
+              (put_fine file code nl n temps few kind place t d (stored_var nl place d kind) k h.2 (omega (arith, le))
+              hs ht
               (wide_goes kind k g)),
         )))
     expr_fine (expr.chosen p c a b) d t pc k le at ht g h f =
         let o = some_nodes c in
         let lc : d < n = omega (arith, le, o) in
-        let hc = own_held d c lc in
+        let hc = own_held file code nl n temps few d c lc in
         let x = chosen_goes k a b h.1 g in
         let fc = and_left (calls_none c) (calls_none a && calls_none b) f in
         let fr = and_right (calls_none c) (calls_none a && calls_none b) f in
         fine_append code (expr_code nl d (temp_of nl d c) pc c) _
         (expr_fine c d (temp_of nl d c) pc (column_kind (value_column c)) (omega (arith, le)) (omega (arith, at)) hc
-        (own_in c) h.0 fc) (
+        (own_in file code nl n temps few c) h.0 fc) (
           branch_fine code (temp_of nl d c) (column_kind (value_column c)) (pc + expr_size c + 1)
               (pc + expr_size c + 1 + expr_size a + 1) hc (tested_fine code (value_column c) (value_low c))
               (omega (arith, at)) (omega (arith, at)),
@@ -638,17 +418,18 @@ module _ (file : List Item) (code : Code) (nl n : ℕ) (temps : (d c : ℕ) → 
         let lt : d < n = omega (arith, le, o) in
         fine_append code (expr_code nl d (temp_of nl d v) pc v) _
         (expr_fine v d (temp_of nl d v) pc (column_kind (value_column v)) (omega (arith, le)) (omega (arith, at))
-        (own_held d v lt) (own_in v) h.2 f)
-        (fit_fine code t k kind (var (temp_of nl d v)) ht (counts_goes kind k h.0 g) (number_held d v lt h.1), tt)
+        (own_held file code nl n temps few d v lt) (own_in file code nl n temps few v) h.2 f) (
+          fit_fine code t k kind (var (temp_of nl d v)) ht (counts_goes kind k h.0 g)
+              (number_held file code nl n temps few d v lt h.1),
+          tt,
+        )
     expr_fine (expr.cast_of p v) d t pc k le at ht g h f = expr_fine v d t pc k (omega (arith, le)) at ht g h f
     expr_fine (expr.dropped p v) d t pc k le at ht g h f = expr_fine v d t pc k (omega (arith, le)) at ht g h f
     expr_fine (expr.called p w vs) d t pc k le at ht g h f = absurd (cc)
-    expr_fine (expr.called_row p w row vs) d t pc k le at ht g h f =
-        let e = (row_same row.form row vs h.0 h.1).codes d pc in
-        fine_append code (args_code nl d pc row.params vs) _
-        (subst (λ (ls : List Line). AreFine code ls) (sym e) (args_fine vs d pc (wanted_params row)
-        (omega (arith, le)) (omega (arith, at)) h.1 f))
-        (api_fine row vs d t k p h.0 h.1 (omega (arith, le)) ht g)
+    expr_fine (expr.called_row p w sig vs) d t pc k le at ht g h f = fine_append code
+        (args_code nl d pc sig.params vs) _
+        (args_fine vs d pc sig.params (omega (arith, le)) (omega (arith, at)) h.2 f)
+        (api_fine sig vs d t k p h.0 h.1 h.2 (omega (arith, le)) ht g)
     expr_fine (expr.nonsense p) d t pc k le at ht g h f = (refl, tt)
 
     base_fine : (place : expr.Place) (d pc : ℕ) (kind : ValueKind) → d + place_nodes place ≤ n
@@ -661,7 +442,7 @@ module _ (file : List Item) (code : Code) (nl n : ℕ) (temps : (d c : ℕ) → 
         let o = some_nodes base in
         let lt : d < n = omega (arith, le, o) in
         expr_fine base d (temp_of nl d base) pc (column_kind (value_column base)) (omega (arith, le)) at
-        (own_held d base lt) (own_in base) h.3 f
+        (own_held file code nl n temps few d base lt) (own_in file code nl n temps few base) h.3 f
     base_fine expr.no_place d pc kind le at h f = tt
 
     args_fine : (vs : expr.Values) (d pc : ℕ) (ps : List Param) → d + values_nodes vs ≤ n

@@ -25,7 +25,7 @@ use Rattle.pungi_code.specs.declared.code.Line.{Line}
 use Rattle.pungi_code.specs.declared.instr.Instr.TheVariants.{Fit}
 use Rattle.pungi_code.specs.declared.place.Place.{Place}
 use Rattle.pungi_code.specs.declared.place.Place.TheVariants.{Global, Field}
-use Rattle.pungi_code.specs.WellFormed.{wanted_params, place_kind, place_of, is_same_slot, HaveOneKind, AgreeOnKinds}
+use Rattle.pungi_code.specs.WellFormed.{place_kind, place_of, is_same_slot, HaveOneKind, AgreeOnKinds}
 use Rattle.pungi_layout.proofs.well_formed.Both.{and_left, and_right}
 use Rattle.pungi_layout.specs.code.Parts.{is_minus}
 use Rattle.pungi_layout.specs.code.Sizes.{expr_size, place_size, option_size, declare_size, test_size, stmt_size}
@@ -202,8 +202,8 @@ module _ (file : List Item) (vars : List Param) (nl : ℕ) where
     expr_slots (expr.cast_of p v) d t pc h = expr_slots v d t pc h
     expr_slots (expr.dropped p v) d t pc h = expr_slots v d t pc h
     expr_slots (expr.called p w vs) d t pc h = (tt, tt)
-    expr_slots (expr.called_row p w row vs) d t pc h = joins (args_code nl d pc row.params vs) _
-        (args_slots vs d pc row.params (wanted_params row) h.1) (tt, tt)
+    expr_slots (expr.called_row p w sig vs) d t pc h = joins (args_code nl d pc sig.params vs) _
+        (args_slots vs d pc sig.params sig.params h.2) (tt, tt)
     expr_slots (expr.nonsense p) d t pc h = (tt, tt)
 
     base_slots : (place : expr.Place) (d pc : ℕ) (kind : ValueKind) → IsPlaceTyped file vars kind place

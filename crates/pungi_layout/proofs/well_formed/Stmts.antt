@@ -37,7 +37,8 @@ use Rattle.pungi_layout.proofs.well_formed.Instructions.{number_atom, set_fine, 
 use Rattle.pungi_layout.proofs.well_formed.Instructions.{condition_fine, branch_fine, tested_fine, numbers_compared}
 use Rattle.pungi_layout.proofs.well_formed.Instructions.{AreFine, fine_append}
 use Rattle.pungi_layout.proofs.well_formed.Columns.{number_wide, value_low, some_nodes}
-use Rattle.pungi_layout.proofs.well_formed.Exprs.{own_held, own_in, known_held, expr_fine}
+use Rattle.pungi_layout.proofs.well_formed.Operands.{own_held, own_in, known_held}
+use Rattle.pungi_layout.proofs.well_formed.Exprs.{expr_fine}
 use Rattle.pungi_layout.proofs.code.StmtLengths.{cases_long}
 use Rattle.pungi_layout.proofs.well_formed.JumpPlaces.{label_in, default_in, EnvIn, block_in, CasesIn, list_cases_in}
 

@@ -22,7 +22,7 @@ use Rattle.pungi_layout.proofs.relation.Relation.{EndAt}
 use Rattle.pungi_layout.proofs.relation.Steps.{At}
 use Rattle.pungi_layout.proofs.whole_runs.WholeRuns.{alike}
 use Rattle.pungi_layout.proofs.whole_runs.WeightCounts.{stmt_light}
-use Rattle.pungi_layout.proofs.relation.PlacedExprs.{HasAt, has_all, has_cut}
+use Rattle.pungi_layout.proofs.relation.Standing.{HasAt, has_all, has_cut}
 use Rattle.pungi_layout.proofs.code.StmtLengths.{stmt_long}
 use Rattle.pungi_layout.proofs.relation.PlacedStmts.{stmt_placed}
 

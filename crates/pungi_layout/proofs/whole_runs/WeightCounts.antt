@@ -25,7 +25,7 @@ mutual
   expr_light (expr.converted p kind v) = let a = expr_light v in omega (arith, a)
   expr_light (expr.cast_of p v) = let a = expr_light v in omega (arith, a)
   expr_light (expr.dropped p v) = let a = expr_light v in omega (arith, a)
-  expr_light (expr.called_row p n row vs) = let a = values_light vs in omega (arith, a)
+  expr_light (expr.called_row p n sig vs) = let a = values_light vs in omega (arith, a)
   expr_light v = omega arith
 
   place_light : (place : expr.Place) → place_weight place + 5 ≤ 5 * place_nodes place

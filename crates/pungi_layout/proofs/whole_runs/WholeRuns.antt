@@ -12,7 +12,8 @@ use Rattle.pungi_layout.specs.alike.Weights.{weight}
 use Rattle.pungi_layout.proofs.relation.Steps.{At, IsDone}
 use Rattle.pungi_layout.proofs.simulation.EachStep.{sim}
 use Rattle.pungi_layout.proofs.simulation.Stmts.{jumps}
-use Rattle.pungi_layout.proofs.whole_runs.LessLeft.{AreLight, Leaves, step_light}
+use Rattle.pungi_layout.proofs.whole_runs.LessLeftExprs.{AreLight, Leaves}
+use Rattle.pungi_layout.proofs.whole_runs.LessLeft.{step_light}
 
 module _ (choices : List Choice) (code : List Line) (nl room most : ℕ) where
   -- what remains stands in the code, and what may come again is within the bound

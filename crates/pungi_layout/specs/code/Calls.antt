@@ -23,7 +23,7 @@ abbrev mutual
   calls_none (expr.cast_of p v) = calls_none v
   calls_none (expr.dropped p v) = calls_none v
   calls_none (expr.called p n vs) = false
-  calls_none (expr.called_row p n row vs) = call_none vs
+  calls_none (expr.called_row p n g vs) = call_none vs
   calls_none v = true
 
   pub is_free_place : expr.Place → Bool

@@ -18,14 +18,13 @@ use Rattle.std.specs.Prelude.{ℕ, ◌+◌, Bool, true, false, not, List, [], �
 use Rattle.pungi_base.specs.declared.kind.Kind.{Kind}
 use Rattle.pungi_base.specs.declared.pos.Pos.{Pos}
 use Rattle.pungi_api.specs.declared.param.Param.{Param}
-use Rattle.pungi_api.specs.declared.row.Row.{Row}
+use Rattle.pungi_api.specs.declared.signature.Signature.{Signature}
 use Rattle.pungi_types.specs.declared.kind.ValueKind.{ValueKind}
 use Rattle.pungi_resolved.specs.Values as expr
 use Rattle.pungi_types.specs.Operators.{is_same_kind}
 use Rattle.pungi_meaning.specs.declared.op.Op.TheVariants as ops
 use Rattle.pungi_meaning.specs.Values.{op_of, cmp_of, wide, slot_kind}
 use Rattle.pungi_meaning.specs.Exprs.{step_op, is_and}
-use Rattle.pungi_meaning.specs.Work.{shape_of}
 use Rattle.pungi_meaning.specs.Run.{nowhere}
 use Rattle.pungi_meaning.specs.Todo.{listed_values}
 use Rattle.pungi_code.specs.declared.atom.Atom.{Atom}
@@ -37,7 +36,7 @@ use Rattle.pungi_code.specs.declared.instr.Instr.TheVariants.{Set, Arith, Fit, C
 use Rattle.pungi_code.specs.declared.instr.Instr.TheVariants.{Jump, Fall}
 use Rattle.pungi_code.specs.declared.instr.Label.{Label}
 use Rattle.pungi_code.specs.declared.place.Place.TheVariants.{Global, Field}
-use Rattle.pungi_layout.specs.code.Parts.{is_minus, gives_answer}
+use Rattle.pungi_layout.specs.code.Parts.{is_minus, has_call_value}
 use Rattle.pungi_layout.specs.code.Sizes.{expr_size, place_size}
 use Rattle.pungi_layout.specs.code.Temporaries.{column, temp, value_column, temp_of, operand, tail, arg_var, arg_vars}
 
@@ -116,11 +115,11 @@ step_code nl d t p m kind place =
     ∷ (fit_code p kind (wide kind) (stored_var nl place d kind) (counted_var nl place d kind (wide kind))
     ++ store_code kind place t (base_var nl place d) (stored_var nl place d kind))
 
--- a call of a row, once its arguments stand in their variables
-abbrev pub row_code : ℕ → ℕ → ℕ → Pos → Row → List expr.Value → List Line
-row_code nl d t p row vs =
-    line p (Api (if gives_answer row then Some (to_var t) else None) (shape_of row)
-    (map var (arg_vars nl d row.params vs)) []) ∷ []
+-- a call of the API, once its arguments stand in their variables
+abbrev pub row_code : ℕ → ℕ → ℕ → Pos → Signature → List expr.Value → List Line
+row_code nl d t p g vs =
+    line p (Api (if has_call_value g.answer then Some (to_var t) else None) g
+    (map var (arg_vars nl d g.params vs)) []) ∷ []
 
 abbrev mutual
   pub expr_code : ℕ → ℕ → ℕ → ℕ → expr.Value → List Line
@@ -181,8 +180,8 @@ abbrev mutual
   expr_code nl d t pc (expr.cast_of p v) = expr_code nl d t pc v
   expr_code nl d t pc (expr.dropped p v) = expr_code nl d t pc v
   expr_code nl d t pc (expr.called p n vs) = line p (Call None 0 []) ∷ []
-  expr_code nl d t pc (expr.called_row p n row vs) =
-      args_code nl d pc row.params vs ++ row_code nl d t p row (listed_values vs)
+  expr_code nl d t pc (expr.called_row p n g vs) =
+      args_code nl d pc g.params vs ++ row_code nl d t p g (listed_values vs)
   expr_code nl d t pc (expr.nonsense p) = line p Fall ∷ []
 
   -- a field's base, which waits where it is found again

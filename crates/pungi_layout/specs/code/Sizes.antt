@@ -58,7 +58,7 @@ abbrev mutual
   expr_size (expr.cast_of p v) = expr_size v
   expr_size (expr.dropped p v) = expr_size v
   expr_size (expr.called p n vs) = 1
-  expr_size (expr.called_row p n row vs) = values_size vs + 1
+  expr_size (expr.called_row p n g vs) = values_size vs + 1
   expr_size (expr.nonsense p) = 1
 
   pub place_size : expr.Place → ℕ

@@ -28,7 +28,7 @@ abbrev mutual
   IsSound nl (expr.converted p kind v) = (gives v ≡ true) × IsSound nl v
   IsSound nl (expr.cast_of p v) = IsSound nl v
   IsSound nl (expr.dropped p v) = IsSound nl v
-  IsSound nl (expr.called_row p n row vs) = AreSound nl vs
+  IsSound nl (expr.called_row p n g vs) = AreSound nl vs
   IsSound nl v = Unit {0}
 
   pub IsPlaceSound : ℕ → expr.Place → Type 0
@@ -96,7 +96,7 @@ abbrev mutual
   expr_nodes (expr.converted p kind v) = expr_nodes v + 1
   expr_nodes (expr.cast_of p v) = expr_nodes v + 1
   expr_nodes (expr.dropped p v) = expr_nodes v + 1
-  expr_nodes (expr.called_row p n row vs) = values_nodes vs + 1
+  expr_nodes (expr.called_row p n g vs) = values_nodes vs + 1
   expr_nodes v = 1
 
   pub place_nodes : expr.Place → ℕ

@@ -3,7 +3,7 @@
 --   column kind             which of five a value of this kind has
 --   temp nl d c             the variable of a value that has d values below it
 --   joined_column a b       the column of `?:`
---   answer_column, form_column    of a call's answer
+--   answer_column, call_column    of the answer of a row, and of a call
 --   value_column v          of an expression
 --   temp_of nl d v          the variable of its value
 --   fitting_column want own    the column of an operand beside one of the column `want`: `NULL` beside a text is one
@@ -15,8 +15,8 @@
 use Rattle.std.specs.Prelude.{ℕ, ◌+◌, ◌*◌, ◌==◌, nat_le, ◌&&◌, List, [], ◌∷◌, Option, Some, None, if◌then◌else◌}
 use Rattle.pungi_api.specs.declared.answer.Answer.{Answer}
 use Rattle.pungi_api.specs.declared.answer.Answer.TheVariants as answer
-use Rattle.pungi_api.specs.declared.row.Form.{Form}
-use Rattle.pungi_api.specs.declared.row.Form.TheVariants as form
+use Rattle.pungi_api.specs.declared.call_answer.CallAnswer.{CallAnswer}
+use Rattle.pungi_api.specs.declared.call_answer.CallAnswer.TheVariants.{Of, Argument}
 use Rattle.pungi_api.specs.declared.param.Param.{Param}
 use Rattle.pungi_api.specs.declared.param.Param.TheVariants as param
 use Rattle.pungi_types.specs.declared.kind.ValueKind.{ValueKind}
@@ -47,9 +47,9 @@ answer_column answer.Size = 2
 answer_column answer.Text = 3
 answer_column a = 4
 
-abbrev pub form_column : Form → Answer → ℕ
-form_column form.Plain a = answer_column a
-form_column (form.Special s) a = 4
+abbrev pub call_column : CallAnswer → ℕ
+call_column (Of a) = answer_column a
+call_column Argument = 4
 
 abbrev pub value_column : expr.Value → ℕ
 value_column (expr.constant p n) = if fits kinds.Int n then 0 else 1
@@ -72,7 +72,7 @@ value_column (expr.converted p kind v) = column kind
 value_column (expr.cast_of p v) = value_column v
 value_column (expr.dropped p v) = value_column v
 value_column (expr.called p n vs) = 0
-value_column (expr.called_row p n row vs) = form_column row.form row.answer
+value_column (expr.called_row p n g vs) = call_column g.answer
 value_column (expr.nonsense p) = 0
 
 abbrev pub temp_of : ℕ → ℕ → expr.Value → ℕ

@@ -14,7 +14,7 @@
 --   IsStmtTyped file vars a, AreStmtsTyped         statements
 use Rattle.std.specs.Prelude.{◌≡◌, ℕ, ◌<◌, ◌≤◌, ◌⊎◌, Bool, true, false, ◌&&◌, List, [], ◌∷◌, length, Option, Some, None}
 use Rattle.pungi_tree.specs.Syntax.{Item}
-use Rattle.pungi_api.specs.Rows.{is_row}
+use Rattle.pungi_api.specs.Signatures.{is_signature}
 use Rattle.pungi_api.specs.declared.param.Param.{Param}
 use Rattle.pungi_api.specs.declared.param.Param.TheVariants as param
 use Rattle.pungi_types.specs.declared.kind.ValueKind.{ValueKind}
@@ -24,7 +24,7 @@ use Rattle.pungi_types.specs.Names.{global_kind}
 use Rattle.pungi_resolved.specs.Values as expr
 use Rattle.pungi_resolved.specs.Actions as stmt
 use Rattle.pungi_meaning.specs.Values.{fits, cmp_of, slot_kind}
-use Rattle.pungi_code.specs.WellFormed.{var_kind, is_order, wanted_params}
+use Rattle.pungi_code.specs.WellFormed.{var_kind, is_order}
 use Rattle.pungi_layout.specs.code.ExprCode.{to_var}
 use Rattle.pungi_layout.specs.code.Temporaries.{value_column}
 
@@ -113,7 +113,8 @@ abbrev mutual
   IsTyped file vars (expr.converted p kind v) = (is_counted kind ≡ true) × IsNumber v × IsTyped file vars v
   IsTyped file vars (expr.cast_of p v) = IsTyped file vars v
   IsTyped file vars (expr.dropped p v) = IsTyped file vars v
-  IsTyped file vars (expr.called_row p n row vs) = (is_row row ≡ true) × AreTyped file vars (wanted_params row) vs
+  IsTyped file vars (expr.called_row p n g vs) = (is_signature g ≡ true) × (g.outputs ≡ [])
+      × AreTyped file vars g.params vs
   IsTyped file vars v = Unit {0}
 
   -- a global has the kind of its first declaration, and a field that of the first of its name in the struct

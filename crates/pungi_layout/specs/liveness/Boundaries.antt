@@ -42,7 +42,7 @@ abbrev mutual
   expr_positions (expr.cast_of p v) = p ∷ expr_positions v
   expr_positions (expr.dropped p v) = p ∷ expr_positions v
   expr_positions (expr.called p n vs) = p ∷ values_positions vs
-  expr_positions (expr.called_row p n row vs) = p ∷ values_positions vs
+  expr_positions (expr.called_row p n g vs) = p ∷ values_positions vs
   expr_positions (expr.nonsense p) = p ∷ []
 
   pub place_positions : expr.Place → List Pos

@@ -1,12 +1,13 @@
 -- Casts, addresses and calls of the kinds that the rules know.
-use Rattle.std.proofs.Common.{◌≡◌, ℕ, inl, arith, Bool, true, false, List, ◌∷◌, map, Option, Some, None, refl, sym}
+use Rattle.std.proofs.Common.{◌≡◌, ℕ, inl, arith, Bool, true, false, List, [], ◌∷◌, map, Option, Some, None, refl, sym}
 use Rattle.std.proofs.Common.{subst}
 use Rattle.std.specs.Prelude.{◌&&◌, ◌||◌, not, is_some, is_none, if◌then◌else◌}
 use Rattle.pungi_base.specs.declared.kind.Kind.{Kind}
 use Rattle.pungi_base.specs.declared.names.Name.{Name}
 use Rattle.pungi_base.specs.declared.pos.Pos.{Pos}
 use Rattle.pungi_tree.specs.Syntax.{Expr, word, unary, Item}
-use Rattle.pungi_api.specs.Rows.{row_in, is_row}
+use Rattle.pungi_api.specs.Rows.{row_in, is_row, fits_form, may_take_all}
+use Rattle.pungi_api.specs.Signatures.{own_param, own_answer, form_signature, signature_of, is_signature}
 use Rattle.pungi_api.specs.declared.answer.Answer.{Answer}
 use Rattle.pungi_api.specs.declared.answer.Answer.TheVariants as answers
 use Rattle.pungi_api.specs.declared.param.Param.{Param}
@@ -14,6 +15,7 @@ use Rattle.pungi_api.specs.declared.param.Param.TheVariants as param
 use Rattle.pungi_api.specs.declared.row.Form.{Form}
 use Rattle.pungi_api.specs.declared.row.Form.TheVariants as forms
 use Rattle.pungi_api.specs.declared.row.Row.{Row}
+use Rattle.pungi_api.specs.declared.special.Special.{Special}
 use Rattle.pungi_api.specs.declared.special.Special.TheVariants as specials
 use Rattle.pungi_types.specs.declared.kind.ValueKind.{ValueKind}
 use Rattle.pungi_types.specs.declared.kind.ValueKind.TheVariants as kinds
@@ -28,9 +30,9 @@ use Rattle.pungi_types.specs.Exprs.{param_want, row_wants, row_kind, wants_modul
 use Rattle.pungi_resolve.specs.Exprs.{convert, convert_some, cast_value, static_address, module_address, resolve}
 use Rattle.pungi_resolve.specs.Exprs.{want_kind, expr_pos}
 use Rattle.pungi_resolved.specs.Values.{Value, Values, called_row, converted, cast_of, dropped}
-use Rattle.pungi_code.specs.WellFormed.{form_params, wanted_params}
 use Rattle.pungi_resolve.proofs.Clean.{and_right}
-use Rattle.pungi_layout.specs.code.Temporaries.{form_column, value_column}
+use Rattle.pungi_layout.specs.code.Temporaries.{answer_column, call_column, value_column}
+use Rattle.pungi_layout.proofs.well_formed.Both.{and_true}
 use Rattle.pungi_layout.specs.kinds.Typed.{IsArgument, IsTyped, AreTyped}
 use Rattle.pungi_layout.specs.code.Calls.{calls_none, call_none}
 use Rattle.pungi_lower.proofs.kinds.Parts.{Kin, kin_number, kin_column, kin_if, Typed, convert_going}
@@ -44,6 +46,15 @@ kin_void _ v h = absurd (cc)
 unless_void : (v s f : Bool) → v ≡ false → ((v && s) || f) ≡ true → f ≡ true
 unless_void false s f e h = h
 unless_void true s f e h = absurd (cc)
+
+-- a call of a row is well-formed where the row is, and writes no variable
+form_sound : (f : Form) (row : Row) → fits_form f row ≡ true → is_signature (form_signature f row) ≡ true
+form_sound forms.Plain row h = and_true (may_take_all row.answer row.params row.takes) true h refl
+form_sound (forms.Special s) row h = refl
+
+form_writes : (f : Form) (row : Row) → (form_signature f row).outputs ≡ []
+form_writes forms.Plain row = refl
+form_writes (forms.Special s) row = refl
 
 module _ (file : List Item) (vars : List Param) where
   to_number : (p : Pos) (to from : Option ValueKind) (v : Value) → is_integer to ≡ true → is_integer from ≡ true
@@ -107,26 +118,34 @@ module _ (file : List Item) (vars : List Param) where
   module_typed env _ h = absurd (cc)
 
   -- .. calls
-  row_kin : (f : Form) (a : Answer) (v : Value) → value_column v ≡ form_column f a → Kin (Some (row_kind f a)) v
-  row_kin forms.Plain answers.Status v e = e
-  row_kin forms.Plain answers.Truth v e = e
-  row_kin forms.Plain answers.Int v e = e
-  row_kin forms.Plain answers.Long v e = omega (arith, e)
-  row_kin forms.Plain answers.Size v e = e
-  row_kin forms.Plain answers.Text v e = inl e
-  row_kin forms.Plain answers.Void v e = tt
-  row_kin forms.Plain _ v e = e
-  row_kin (forms.Special specials.NewRef) a v e = e
-  row_kin (forms.Special specials.XNewRef) a v e = e
-  row_kin (forms.Special _) a v e = tt
+  plain_kin : (a : Answer) (v : Value) → value_column v ≡ answer_column a → Kin (Some (row_kind forms.Plain a)) v
+  plain_kin answers.Status v e = e
+  plain_kin answers.Truth v e = e
+  plain_kin answers.Int v e = e
+  plain_kin answers.Long v e = omega (arith, e)
+  plain_kin answers.Size v e = e
+  plain_kin answers.Text v e = inl e
+  plain_kin answers.Void v e = tt
+  plain_kin _ v e = e
+
+  special_kin : (s : Special) (a : Answer) (v : Value) → value_column v ≡ call_column (own_answer s)
+      → Kin (Some (row_kind (forms.Special s) a)) v
+  special_kin specials.NewRef a v e = e
+  special_kin specials.XNewRef a v e = e
+  special_kin _ a v e = tt
+
+  row_kin : (f : Form) (row : Row) (v : Value) → value_column v ≡ call_column (form_signature f row).answer
+      → Kin (Some (row_kind f row.answer)) v
+  row_kin forms.Plain row v e = plain_kin row.answer v e
+  row_kin (forms.Special s) row v e = special_kin s row.answer v e
 
   pub row_typed : (p : Pos) (w : Name) (row : Row) (vs : Values) → is_row row ≡ true
-      → (call_none vs ≡ true → AreTyped file vars (wanted_params row) vs)
-      → Typed file vars (Some (row_kind row.form row.answer)) (called_row p w row vs)
+      → (call_none vs ≡ true → AreTyped file vars (signature_of row).params vs)
+      → Typed file vars (Some (row_kind row.form row.answer)) (called_row p w (signature_of row) vs)
   row_typed p w row vs r h = record {
-    typed = λ n. (r, h n);
-    kin = λ n. row_kin row.form row.answer
-        (called_row p w row vs) refl;
+    typed = λ n. (form_sound row.form row r, form_writes row.form row, h n);
+    kin = λ n. row_kin row.form row
+        (called_row p w (signature_of row) vs) refl;
   }
 
   -- .. arguments
@@ -189,9 +208,15 @@ module _ (file : List Item) (vars : List Param) where
       (kind_of env e) (resolve env e))) (sym m) (record { typed = λ n. g.1; fits = λ n. g.0 })
 
   -- what the rules want is what a row takes
-  pub same_wants : (f : Form) (ps : List Param) → row_wants f ps ≡ map param_want (form_params f ps)
-  same_wants forms.Plain ps = refl
-  same_wants (forms.Special s) ps = refl
+  own_wants : (s : Special) → row_wants (forms.Special s) [] ≡ param_want (own_param s) ∷ []
+  own_wants specials.IncRef = refl
+  own_wants specials.DecRef = refl
+  own_wants specials.NewRef = refl
+  own_wants _ = refl
+
+  pub same_wants : (f : Form) (row : Row) → row_wants f row.params ≡ map param_want (form_signature f row).params
+  same_wants forms.Plain row = refl
+  same_wants (forms.Special s) row = own_wants s
 
 -- .. rows
 -- each row of a table is one

@@ -25,7 +25,7 @@ use Rattle.pungi_types.specs.Exprs.{assign_kind, void_use, expr_findings, args_f
 use Rattle.pungi_resolve.specs.Exprs.{post_kind, resolve, place_of, resolve_all, call_value, callee_name, unary_value}
 use Rattle.pungi_resolve.specs.Exprs.{convert, want_kind, expr_pos, module_address}
 use Rattle.pungi_resolved.specs.Values.{Value, Values, inner}
-use Rattle.pungi_code.specs.WellFormed.{wanted_params}
+use Rattle.pungi_api.specs.Signatures.{signature_of}
 use Rattle.pungi_resolve.proofs.Clean.{Clean, left, right, not_when, not_false, and_left, and_right}
 use Rattle.pungi_resolve.proofs.Known.{HasKinds}
 use Rattle.pungi_resolve.proofs.UsedValues.{argument-met}
@@ -70,7 +70,7 @@ none_found false k e h = cc
 
 -- the arguments of a row
 abbrev RowArgs : List Item → List Param → Callee → Values → Type 0
-RowArgs file vars (a_row r) vs = call_none vs ≡ true → AreTyped file vars (wanted_params r) vs
+RowArgs file vars (a_row r) vs = call_none vs ≡ true → AreTyped file vars (signature_of r).params vs
 RowArgs file vars c vs = Unit {0}
 
 abbrev ArgsFit : List Param → Env → List Param → List Want → Exprs → Type 0
@@ -83,8 +83,8 @@ row_args : (vars : List Param) (env : Env) (c : Callee) (es : Exprs)
     → are_met env (wants env c) es ≡ true
     → RowArgs env.file.items vars c (resolve_all env (wants env c) es)
 row_args vars env (a_row r) es f c m =
-    subst (λ (ws : List Want). ArgsFit vars env (wanted_params r) ws es) (sym
-    (same_wants env.file.items vars r.form r.params)) (f (wanted_params r)) c m
+    subst (λ (ws : List Want). ArgsFit vars env (signature_of r).params ws es) (sym
+    (same_wants env.file.items vars r.form r)) (f (signature_of r).params) c m
 row_args vars env (defined d) es f c m = tt
 row_args vars env no_word es f c m = tt
 row_args vars env a_value es f c m = tt

@@ -10,7 +10,10 @@ use Rattle.pungi_api.specs.declared.answer.Answer.{Answer}
 use Rattle.pungi_api.specs.declared.answer.Answer.TheVariants as answers
 use Rattle.pungi_api.specs.declared.row.Form.{Form}
 use Rattle.pungi_api.specs.declared.row.Form.TheVariants as forms
+use Rattle.pungi_api.specs.declared.row.Row.{Row}
+use Rattle.pungi_api.specs.declared.special.Special.{Special}
 use Rattle.pungi_api.specs.declared.special.Special.TheVariants as specials
+use Rattle.pungi_api.specs.Signatures.{own_answer, form_signature}
 use Rattle.pungi_types.specs.declared.kind.ValueKind.{ValueKind}
 use Rattle.pungi_types.specs.declared.kind.ValueKind.TheVariants as kinds
 use Rattle.pungi_types.specs.declared.local.Local.{Local}
@@ -35,7 +38,7 @@ use Rattle.pungi_resolved.specs.Values.{cast_of}
 use Rattle.pungi_resolve.proofs.Clean.{or_left, or_right}
 use Rattle.pungi_resolve.proofs.OperatorKinds.{step-kept}
 use Rattle.pungi_resolve.proofs.SoundExprs.{Good}
-use Rattle.pungi_layout.specs.code.Parts.{gives, gives_form}
+use Rattle.pungi_layout.specs.code.Parts.{has_value, has_call_value, gives}
 use Rattle.pungi_layout.specs.code.Sound.{IsSound, IsPlaceSound, AreSound}
 
 -- a local that a name stands for is one of the first n
@@ -209,17 +212,25 @@ field-works n p v None w e g s = absurd (cc)
 field-works n p v (Some t) w e g s = (g, s)
 
 -- .. calls
-row-gives : (f : Form) (a : Answer) → is_void (Some (row_kind f a)) ≡ false → gives_form f a ≡ true
-row-gives forms.Plain answers.Void h = absurd (cc)
-row-gives forms.Plain _ h = refl
-row-gives (forms.Special specials.NewRef) a h = refl
-row-gives (forms.Special specials.XNewRef) a h = refl
-row-gives (forms.Special _) a h = absurd (cc)
+plain-gives : (a : Answer) → is_void (Some (row_kind forms.Plain a)) ≡ false → has_value a ≡ true
+plain-gives answers.Void h = absurd (cc)
+plain-gives _ h = refl
+
+own-gives : (s : Special) (a : Answer) → is_void (Some (row_kind (forms.Special s) a)) ≡ false
+    → has_call_value (own_answer s) ≡ true
+own-gives specials.NewRef a h = refl
+own-gives specials.XNewRef a h = refl
+own-gives _ a h = absurd (cc)
+
+row-gives : (f : Form) (row : Row) → is_void (Some (row_kind f row.answer)) ≡ false
+    → has_call_value (form_signature f row).answer ≡ true
+row-gives forms.Plain row h = plain-gives row.answer h
+row-gives (forms.Special s) row h = own-gives s row.answer h
 
 pub callee-works : (n : ℕ) (env : Env) (c : Callee) (p : Pos) (w : Name) (vs : Values) → AreSound n vs
     → Given n (call_value p c w vs) (is_void (result_kind env c))
 callee-works n env (defined d) p w vs s = record { sound = tt; gives = λ x. refl }
-callee-works n env (a_row r) p w vs s = record { sound = s; gives = row-gives r.form r.answer }
+callee-works n env (a_row r) p w vs s = record { sound = s; gives = row-gives r.form r }
 callee-works n env no_word p w vs s = record { sound = tt; gives = λ x. refl }
 callee-works n env a_value p w vs s = record { sound = tt; gives = λ x. refl }
 callee-works n env no_function p w vs s = record { sound = tt; gives = λ x. refl }

@@ -18,7 +18,8 @@ use Rattle.pungi_base.specs.Numbers.{py_doc_strvar}
 use Rattle.pungi_parse.specs.item.UnitReader.{deepest}
 use Rattle.pungi_parse.specs.Units.{IsUnit, StopsAt}
 use Rattle.pungi_parse.proofs.twins.ExprTwins.{twin_spec, twin_params}
-use Rattle.pungi_parse.proofs.twins.StmtTwins.{twin_decl, twin_stmt}
+use Rattle.pungi_parse.proofs.twins.DeclTwins.{twin_decl}
+use Rattle.pungi_parse.proofs.twins.StmtTwins.{twin_stmt}
 use Rattle.pungi_parse.proofs.Tools.{and_true, and_join}
 use Rattle.pungi_parse.proofs.twins.Twin.{Twin, Alike, wider, first_of, two_of, again, ends_with, twin_keys, twin_stars}
 use Rattle.pungi_parse.proofs.twins.Twin.{twin_texts}

@@ -7,13 +7,13 @@ use Rattle.std.proofs.lemmas.Option.{slice_get_within}
 use Rattle.pungi_base.specs.declared.names.Name.{Name}
 use Rattle.pungi_api.specs.declared.answer.Answer.{Answer}
 use Rattle.pungi_api.specs.declared.answer.Answer.TheVariants as answer
+use Rattle.pungi_api.specs.declared.call_answer.CallAnswer.{CallAnswer}
+use Rattle.pungi_api.specs.declared.call_answer.CallAnswer.TheVariants.{Of, Argument}
+use Rattle.pungi_api.specs.declared.own_effect.OwnEffect.{OwnEffect}
+use Rattle.pungi_api.specs.declared.own_effect.OwnEffect.TheVariants.{IncRef, DecRef, Undescribed}
 use Rattle.pungi_api.specs.declared.param.Param.{Param}
 use Rattle.pungi_api.specs.declared.param.Param.TheVariants as param
-use Rattle.pungi_api.specs.declared.row.Form.{Form}
-use Rattle.pungi_api.specs.declared.row.Form.TheVariants as form
-use Rattle.pungi_api.specs.declared.shape.Shape.{Shape}
-use Rattle.pungi_api.specs.declared.special.Special.{Special}
-use Rattle.pungi_api.specs.declared.special.Special.TheVariants as special
+use Rattle.pungi_api.specs.declared.signature.Signature.{Signature}
 use Rattle.pungi_api.specs.declared.take.Take.{Take}
 use Rattle.pungi_api.specs.declared.take.Take.TheVariants as take
 use Rattle.pungi_meaning.specs.Values.{fits, arithmetic}
@@ -44,13 +44,15 @@ use Rattle.pungi_symbol.specs.declared.states.spot.Progress.TheVariants.{Looking
 use Rattle.pungi_symbol.specs.declared.states.spot.Touched.{Touched}
 use Rattle.pungi_symbol.specs.declared.states.term.Term.{Term}
 use Rattle.pungi_symbol.specs.declared.states.term.Term.TheVariants.{Unset, Null, Text, Number, Token}
-use Rattle.pungi_symbol.specs.states.Known.{mark_of, term_of, number, number_in, object_of, slot_note, no_slot, is_global}
+use Rattle.pungi_symbol.specs.states.Known.{mark_of, term_of, number, number_in, object_of, slot_note, no_slot}
+use Rattle.pungi_symbol.specs.states.Known.{is_global}
 use Rattle.pungi_symbol.specs.states.Known.{is_field, at_place, ask_base, seek, find_token, find_field, find}
 use Rattle.pungi_symbol.specs.questions.NextQuestion.{asks_set, knows_mark, asks_known, needs_mark, asks_thing}
 use Rattle.pungi_symbol.specs.questions.NextQuestion.{asks_order, asks_same, asks_range, content_mark, asks_load}
 use Rattle.pungi_symbol.specs.questions.NextQuestion.{asks_store, asks_dropped, asks_all_set, asks_param, asks_params}
-use Rattle.pungi_symbol.specs.questions.NextQuestion.{asks_take, asks_takes, asks_answer, asks_special, asks_form}
-use Rattle.pungi_symbol.specs.questions.NextQuestion.{first_term, terms_of, asks_return, asks_instr, asks_line}
+use Rattle.pungi_symbol.specs.questions.NextQuestion.{asks_take, asks_takes, asks_answer, asks_call_answer}
+use Rattle.pungi_symbol.specs.questions.NextQuestion.{first_term, asks_own, asks_signature, terms_of, asks_return}
+use Rattle.pungi_symbol.specs.questions.NextQuestion.{asks_instr, asks_line}
 use Rattle.pungi_symbol.specs.questions.NextQuestion.{ask_while, ask, IsPlaced}
 
 pub within_rest : {X : Type 0} (xs : List X) (c j : ℕ) → j < length (drop c xs) → c + j < length xs
@@ -176,27 +178,20 @@ module _ (code : List Line) (k : Known) (there : k.pc < length code) where
   asks_takes_placed (t ∷ ts) [] q h = h
   asks_takes_placed (t ∷ ts) (x ∷ xs) q h = knowing_for_placed t x (asks_takes k ts xs q) (asks_takes_placed ts xs q h)
 
-  special_placed : (sp : Special) (x : Term) → Placed (asks_special k sp x)
-  special_placed special.IncRef x = needing_placed x (Does Quiet) tt
-  special_placed special.DecRef x = needing_placed x (Does Quiet) tt
-  special_placed special.XIncRef x = knowing_placed x (Does Quiet) tt
-  special_placed special.XDecRef x = knowing_placed x (Does Quiet) tt
-  special_placed special.NewRef x = needing_placed x (Does Quiet) tt
-  special_placed special.XNewRef x = knowing_placed x (Does Quiet) tt
-  special_placed special.Clear x = tt
-  special_placed special.ObjectNew x = tt
-  special_placed special.TuplePack x = tt
-  special_placed special.CallFunctionObjArgs x = tt
-  special_placed special.ErrFormat x = tt
-  special_placed special.ParseTuple x = tt
-  special_placed special.UnpackTuple x = tt
-  special_placed special.DictNext x = tt
-  special_placed special.BuildValue x = tt
+  call_answering_placed : (a : CallAnswer) → Placed (asks_call_answer a)
+  call_answering_placed (Of a) = answering_placed a
+  call_answering_placed Argument = tt
 
-  form_placed : (f : Form) (shape : Shape) (xs : List Term) → Placed (asks_form k f shape xs)
-  form_placed form.Plain shape xs = needing_all_placed shape.row.params xs _
-      (asks_takes_placed shape.row.takes xs (asks_answer shape.row.answer) (answering_placed shape.row.answer))
-  form_placed (form.Special sp) shape xs = special_placed sp (first_term xs)
+  own_placed : (own : Option OwnEffect) (ts : List Take) (xs : List Term) (q : Question) → Placed q
+      → Placed (asks_own k own ts xs q)
+  own_placed None ts xs q h = asks_takes_placed ts xs q h
+  own_placed (Some IncRef) ts xs q h = knowing_placed (first_term xs) q h
+  own_placed (Some DecRef) ts xs q h = knowing_placed (first_term xs) q h
+  own_placed (Some Undescribed) ts xs q h = tt
+
+  signature_placed : (g : Signature) (xs : List Term) → Placed (asks_signature k g xs)
+  signature_placed g xs = needing_all_placed g.params xs _
+      (own_placed g.own g.takes xs (asks_call_answer g.answer) (call_answering_placed g.answer))
 
   -- ---- slots
 
@@ -261,8 +256,7 @@ module _ (code : List Line) (k : Known) (there : k.pc < length code) where
   instr_placed (Load x place) = loading_placed (content_mark (place_kind place)) (find k place) (find_placed place)
   instr_placed (Store place a) = knowing_placed (term_of k a) _ (storing_placed (content_mark (place_kind place))
       (find k place) (find_placed place))
-  instr_placed (Api x shape as' outs) = all_set_placed (terms_of k as') _
-      (form_placed shape.row.form shape (terms_of k as'))
+  instr_placed (Api x g as' outs) = all_set_placed (terms_of k as') _ (signature_placed g (terms_of k as'))
   instr_placed (Call x f as') = tt
   instr_placed (Forget x) = tt
   instr_placed (Jump to) = tt

@@ -1,8 +1,9 @@
 -- What a call of the API takes and returns, as a run and as a state have it.
-use Rattle.std.proofs.Common.{◌≡◌, ℕ, ◌+◌, ◌≤◌, ℤ, pos, ◌+ℤ◌, List, [], ◌∷◌, ◌++◌, length, map, Bool, true}
+use Rattle.std.proofs.Common.{◌≡◌, ℕ, ◌+◌, ◌≤◌, ℤ, pos, ◌+ℤ◌, List, [], ◌∷◌, length, map, Bool, true}
 use Rattle.std.proofs.Common.{false, refl, sym, ap, ◌∙◌, subst, arith, Option, None, Some}
-use Rattle.std.specs.Prelude.{◌<◌, slice_set}
+use Rattle.std.specs.Prelude.{◌<◌, slice_set, Ok}
 use Rattle.std.proofs.lemmas.List.{map-set}
+use Rattle.pungi_base.specs.declared.choice.Choice.{Choice}
 use Rattle.pungi_base.specs.declared.value.Value.{Value}
 use Rattle.pungi_base.specs.declared.value.Value.TheVariants as value
 use Rattle.pungi_world.specs.declared.content.Content.TheVariants as content
@@ -21,18 +22,24 @@ use Rattle.pungi_symbol.specs.runs.Fits.{IsBelow}
 use Rattle.std.proofs.lemmas.Int.{ints}
 use Rattle.pungi_api.specs.declared.answer.Answer.{Answer}
 use Rattle.pungi_api.specs.declared.answer.Answer.TheVariants as answer
+use Rattle.pungi_api.specs.declared.call_answer.CallAnswer.{CallAnswer}
+use Rattle.pungi_api.specs.declared.call_answer.CallAnswer.TheVariants.{Of, Argument}
+use Rattle.pungi_api.specs.declared.own_effect.OwnEffect.{OwnEffect}
 use Rattle.pungi_world.specs.declared.world.World.{World}
-use Rattle.pungi_world.specs.Calls.{with_new_reference as world_answered, first_of}
+use Rattle.pungi_world.specs.Calls.{with_new_reference as world_answered, first_of, call_answer}
 use Rattle.pungi_world.specs.Counts.{with_value}
 use Rattle.pungi_code.specs.Registers.{with_outputs}
-use Rattle.pungi_symbol.specs.questions.NextQuestion.{first_term}
-use Rattle.pungi_symbol.specs.answers.KnownAfter.{term_with}
+use Rattle.pungi_symbol.specs.declared.answers.decision.Decision.TheVariants.{Quiet}
+use Rattle.pungi_symbol.specs.declared.questions.question.Question.TheVariants.{Does}
+use Rattle.pungi_symbol.specs.questions.NextQuestion.{first_term, asks_call_answer}
+use Rattle.pungi_symbol.specs.answers.KnownAfter.{term_with, answer_of_call}
 use Rattle.pungi_symbol.specs.answers.SymbolicState.{owed_for_answer}
 use Rattle.pungi_symbol.specs.runs.Fits.{is_the}
+use Rattle.pungi_symbol.specs.runs.ObjectForm.{has_small}
 use Rattle.pungi_symbol.specs.runs.RunInState.{owed, IsOf, Lies}
 use Rattle.std.proofs.lemmas.Bool.Decides.{Decides-int_eq}
 use Rattle.pungi_symbol.proofs.steps.Worlds.{IsNear}
-use Rattle.pungi_symbol.proofs.states.Contents.{is_open, term_value}
+use Rattle.pungi_symbol.proofs.states.Contents.{is_open, term_value, holds_term}
 use Rattle.pungi_symbol.proofs.states.NamedObjects.{part}
 use Rattle.pungi_symbol.proofs.states.Owed.{AreUnmade}
 use Rattle.pungi_symbol.proofs.steps.Worlds.{counted_owed, counted_keeps, value_owed, value_slots, value_more}
@@ -52,7 +59,8 @@ pub no_outputs : (outs : List (Option Var)) (r : Regs) → with_outputs outs [] 
 no_outputs [] r = refl
 no_outputs (x ∷ outs) r = refl
 
-pub first_is : (table : Table) (xs : List Term) → first_of (map (term_value table) xs) ≡ term_value table (first_term xs)
+pub first_is : (table : Table) (xs : List Term)
+    → first_of (map (term_value table) xs) ≡ term_value table (first_term xs)
 first_is table [] = refl
 first_is table (x ∷ xs) = refl
 
@@ -63,6 +71,43 @@ first_set (x ∷ xs) h e = h.0 e
 pub first_below : (n : ℕ) (xs : List Term) → AllBelow n xs → IsBelow n (first_term xs)
 first_below n [] h = tt
 first_below n (x ∷ xs) h = h.0
+
+-- an answer of a call that no choice decides
+pub record Sure (table : Table) (n : ℕ) (xs : List Term) (a : CallAnswer) : Type 0 where
+  pub answer : Option Value
+  pub agrees : AnswerIs table answer (answer_of_call a (first_term xs))
+  pub returned : (cs : List Choice) → call_answer n a (map (term_value table) xs) cs ≡ Ok (answer, 0)
+  pub quiet : asks_call_answer a ≡ Does Quiet
+
+pub first_holds : (table : Table) (xs : List Term) → AllSet xs
+    → content_of table (first_term xs) ≡ content.Holds (first_of (map (term_value table) xs))
+first_holds table xs s = holds_term table (first_term xs) (first_set xs s) ∙ ap content.Holds (sym (first_is table xs))
+
+unsure : {X : Type 0} → false ≡ true → X
+unsure h = absurd (cc)
+
+pub sure_is : (table : Table) (n : ℕ) (xs : List Term) → AllSet xs → (o : OwnEffect) (a : CallAnswer)
+    → has_small (Some o) a ≡ true → Sure table n xs a
+sure_is table n xs s o (Of answer.Void) h =
+    record { answer = None; agrees = tt; returned = λ cs. refl; quiet = refl }
+sure_is table n xs s o (Of answer.Null) h =
+    record { answer = Some value.Null; agrees = refl; returned = λ cs. refl; quiet = refl }
+sure_is table n xs s o Argument h =
+    record {
+      answer = Some (first_of (map (term_value table) xs));
+      agrees = first_holds table xs s;
+      returned = λ cs. refl;
+      quiet = refl;
+    }
+sure_is table n xs s o (Of answer.New) h = unsure h
+sure_is table n xs s o (Of answer.Borrowed) h = unsure h
+sure_is table n xs s o (Of answer.BorrowedSure) h = unsure h
+sure_is table n xs s o (Of answer.Status) h = unsure h
+sure_is table n xs s o (Of answer.Truth) h = unsure h
+sure_is table n xs s o (Of answer.Size) h = unsure h
+sure_is table n xs s o (Of answer.Int) h = unsure h
+sure_is table n xs s o (Of answer.Long) h = unsure h
+sure_is table n xs s o (Of answer.Text) h = unsure h
 
 -- the term of an answer
 pub term_with_is : (table : Table) (r : Mark) (t : ℕ) → is_mark r (at table t) ≡ true → is_open r ≡ false

@@ -29,11 +29,11 @@ use Rattle.pungi_api.specs.declared.answer.Answer.{Answer}
 use Rattle.pungi_api.specs.declared.answer.Answer.TheVariants as answer
 use Rattle.pungi_api.specs.declared.param.Param.{Param}
 use Rattle.pungi_api.specs.declared.param.Param.TheVariants as param
-use Rattle.pungi_api.specs.declared.row.Form.{Form}
-use Rattle.pungi_api.specs.declared.row.Form.TheVariants as form
-use Rattle.pungi_api.specs.declared.shape.Shape.{Shape}
-use Rattle.pungi_api.specs.declared.special.Special.{Special}
-use Rattle.pungi_api.specs.declared.special.Special.TheVariants as special
+use Rattle.pungi_api.specs.declared.call_answer.CallAnswer.{CallAnswer}
+use Rattle.pungi_api.specs.declared.call_answer.CallAnswer.TheVariants.{Of, Argument}
+use Rattle.pungi_api.specs.declared.own_effect.OwnEffect.{OwnEffect}
+use Rattle.pungi_api.specs.declared.own_effect.OwnEffect.TheVariants.{IncRef, DecRef, Undescribed}
+use Rattle.pungi_api.specs.declared.signature.Signature.{Signature}
 use Rattle.pungi_api.specs.declared.take.Take.{Take}
 use Rattle.pungi_api.specs.declared.take.Take.TheVariants as take
 use Rattle.pungi_meaning.specs.Values.{fits, arithmetic}
@@ -51,7 +51,9 @@ use Rattle.pungi_symbol.specs.states.Known.{slot_note, spot_of, token_in}
 use Rattle.pungi_symbol.specs.questions.NextQuestion.{asks_set, asks_known, asks_thing, asks_order, asks_same}
 use Rattle.pungi_symbol.specs.questions.NextQuestion.{asks_range, content_mark, asks_load, asks_store, asks_dropped}
 use Rattle.pungi_symbol.specs.questions.NextQuestion.{asks_all_set, asks_param, asks_params, asks_take, asks_takes}
-use Rattle.pungi_symbol.specs.questions.NextQuestion.{asks_answer, asks_special, asks_form, first_term, terms_of}
+use Rattle.pungi_symbol.specs.questions.NextQuestion.{asks_answer, asks_call_answer, asks_own, asks_signature}
+use Rattle.pungi_symbol.specs.questions.NextQuestion.{first_term}
+use Rattle.pungi_symbol.specs.questions.NextQuestion.{terms_of}
 use Rattle.pungi_symbol.specs.questions.NextQuestion.{asks_return, asks_instr, asks_line}
 use Rattle.pungi_symbol.specs.answers.KnownAfter.{instr_of}
 use Rattle.pungi_symbol.specs.runs.ObjectForm.{atoms_of, atom_in}
@@ -179,27 +181,20 @@ module _ (i : Instr) (k : Known) where
   answering_asked answer.Long = tt
   answering_asked answer.Text = tt
 
-  special_asked : (sp : Special) (x : Term) → IsAsked i k (asks_special k sp x)
-  special_asked special.IncRef x = needing_asked x (Does Quiet) tt
-  special_asked special.DecRef x = needing_asked x (Does Quiet) tt
-  special_asked special.XIncRef x = knowing_asked x (Does Quiet) (λ _. tt)
-  special_asked special.XDecRef x = knowing_asked x (Does Quiet) (λ _. tt)
-  special_asked special.NewRef x = needing_asked x (Does Quiet) tt
-  special_asked special.XNewRef x = knowing_asked x (Does Quiet) (λ _. tt)
-  special_asked special.Clear x = tt
-  special_asked special.ObjectNew x = tt
-  special_asked special.TuplePack x = tt
-  special_asked special.CallFunctionObjArgs x = tt
-  special_asked special.ErrFormat x = tt
-  special_asked special.ParseTuple x = tt
-  special_asked special.UnpackTuple x = tt
-  special_asked special.DictNext x = tt
-  special_asked special.BuildValue x = tt
+  call_answering_asked : (a : CallAnswer) → IsAsked i k (asks_call_answer a)
+  call_answering_asked (Of a) = answering_asked a
+  call_answering_asked Argument = tt
 
-  form_asked : (f : Form) (shape : Shape) (xs : List Term) → IsAsked i k (asks_form k f shape xs)
-  form_asked form.Plain shape xs = needing_all_asked shape.row.params xs _
-      (asks_takes_asked shape.row.takes xs (asks_answer shape.row.answer) (answering_asked shape.row.answer))
-  form_asked (form.Special sp) shape xs = special_asked sp (first_term xs)
+  own_asked : (own : Option OwnEffect) (ts : List Take) (xs : List Term) (q : Question) → IsAsked i k q
+      → IsAsked i k (asks_own k own ts xs q)
+  own_asked None ts xs q h = asks_takes_asked ts xs q h
+  own_asked (Some IncRef) ts xs q h = knowing_asked (first_term xs) q (λ _. h)
+  own_asked (Some DecRef) ts xs q h = knowing_asked (first_term xs) q (λ _. h)
+  own_asked (Some Undescribed) ts xs q h = tt
+
+  signature_asked : (g : Signature) (xs : List Term) → IsAsked i k (asks_signature k g xs)
+  signature_asked g xs = needing_all_asked g.params xs _
+      (own_asked g.own g.takes xs (asks_call_answer g.answer) (call_answering_asked g.answer))
 
 -- ---- slots
 
@@ -316,8 +311,8 @@ module _ (s : State) (w : IsSound s) where
   asked (Load x place) h = loading_asked s.known w.terms.spots x place
   asked (Store place a) h = knowing_asked (Store place a) s.known (term_of s.known a) _
       (λ _. storing_asked s.known w.terms.spots place a)
-  asked (Api x shape as' outs) h = all_set_asked (Api x shape as' outs) s.known (terms_of s.known as') _
-      (form_asked (Api x shape as' outs) s.known shape.row.form shape (terms_of s.known as'))
+  asked (Api x g as' outs) h = all_set_asked (Api x g as' outs) s.known (terms_of s.known as') _
+      (signature_asked (Api x g as' outs) s.known g (terms_of s.known as'))
   asked (Call x f as') h = tt
   asked (Forget x) h = tt
   asked (Jump to) h = tt

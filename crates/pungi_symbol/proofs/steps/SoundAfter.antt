@@ -26,23 +26,23 @@ use Rattle.std.specs.List.{list_all}
 use Rattle.std.proofs.Common.{length-append}
 use Rattle.pungi_api.specs.declared.answer.Answer.{Answer}
 use Rattle.pungi_api.specs.declared.answer.Answer.TheVariants as answer
-use Rattle.pungi_api.specs.declared.row.Form.{Form}
-use Rattle.pungi_api.specs.declared.row.Form.TheVariants as form
-use Rattle.pungi_api.specs.declared.shape.Shape.{Shape}
-use Rattle.pungi_api.specs.declared.special.Special.{Special}
-use Rattle.pungi_api.specs.declared.special.Special.TheVariants as special
+use Rattle.pungi_api.specs.declared.call_answer.CallAnswer.{CallAnswer}
+use Rattle.pungi_api.specs.declared.call_answer.CallAnswer.TheVariants.{Of, Argument}
+use Rattle.pungi_api.specs.declared.own_effect.OwnEffect.{OwnEffect}
+use Rattle.pungi_api.specs.declared.own_effect.OwnEffect.TheVariants.{IncRef, DecRef, Undescribed}
+use Rattle.pungi_api.specs.declared.take.Take.{Take}
 use Rattle.pungi_world.specs.Calls.{is_success}
 use Rattle.pungi_code.specs.declared.instr.Instr.TheVariants.{Set, Arith, Fit, Compare, Load, Store, Api, Call}
 use Rattle.pungi_code.specs.declared.instr.Instr.TheVariants.{Unset as Forget, Jump, Branch, Return, Fall}
 use Rattle.pungi_symbol.specs.states.Known.{count, mark_of, term_of, object_of, find, found_at, held_in, spot_of}
 use Rattle.pungi_symbol.specs.states.Terms.{outcomes_of_mark, outcomes_of_answer, mark_at}
 use Rattle.pungi_symbol.specs.questions.NextQuestion.{first_term, terms_of}
-use Rattle.pungi_symbol.specs.answers.KnownAfter.{go_on, put as put_known, arrive, put_answer, answer_of_form}
-use Rattle.pungi_symbol.specs.answers.KnownAfter.{answer_of_row, answer_of_special, term_with, does, load_first}
+use Rattle.pungi_symbol.specs.answers.KnownAfter.{go_on, put as put_known, arrive, put_answer, answer_of_call}
+use Rattle.pungi_symbol.specs.answers.KnownAfter.{answer_of_row, term_with, does, load_first}
 use Rattle.pungi_symbol.specs.answers.KnownAfter.{store_first, touched_slot, comparison_var, comparison_term, instr_of}
 use Rattle.pungi_symbol.specs.answers.KnownAfter.{call_var, says_same, number_of_outcome}
-use Rattle.pungi_symbol.specs.answers.SymbolicState.{can, can_same, are_one, apply, apply_same, weigh, form_weigh}
-use Rattle.pungi_symbol.specs.answers.SymbolicState.{special_weigh, lower, taken_terms, terms_taken_by, add_term}
+use Rattle.pungi_symbol.specs.answers.SymbolicState.{can, can_same, are_one, apply, apply_same, weigh, own_weigh}
+use Rattle.pungi_symbol.specs.answers.SymbolicState.{lower, taken_terms, terms_taken_by, add_term}
 use Rattle.pungi_symbol.specs.answers.SymbolicState.{owed_for, owed_for_answer, stored_term, join, take_answer}
 use Rattle.pungi_symbol.specs.runs.ObjectForm.{atoms_of, atoms_in}
 use Rattle.pungi_symbol.specs.runs.Fits.{AreNotesSound, AreTermsSound}
@@ -83,26 +83,9 @@ row_below n answer.Int = tt
 row_below n answer.Long = tt
 row_below n answer.Text = tt
 
-special_below : (n : ℕ) (sp : Special) (x : Term) → IsBelow n x → OptionBelow n (answer_of_special sp x)
-special_below n special.IncRef x h = tt
-special_below n special.DecRef x h = tt
-special_below n special.XIncRef x h = tt
-special_below n special.XDecRef x h = tt
-special_below n special.NewRef x h = h
-special_below n special.XNewRef x h = h
-special_below n special.Clear x h = tt
-special_below n special.ObjectNew x h = tt
-special_below n special.TuplePack x h = tt
-special_below n special.CallFunctionObjArgs x h = tt
-special_below n special.ErrFormat x h = tt
-special_below n special.ParseTuple x h = tt
-special_below n special.UnpackTuple x h = tt
-special_below n special.DictNext x h = tt
-special_below n special.BuildValue x h = tt
-
-form_below : (n : ℕ) (f : Form) (a : Answer) (x : Term) → IsBelow n x → OptionBelow n (answer_of_form f a x)
-form_below n form.Plain a x h = row_below n a
-form_below n (form.Special sp) a x h = special_below n sp x h
+call_below : (n : ℕ) (a : CallAnswer) (x : Term) → IsBelow n x → OptionBelow n (answer_of_call a x)
+call_below n (Of a) x h = row_below n a
+call_below n Argument x h = h
 
 term_with_below : (r : Mark) (n : ℕ) → IsBelow (n + 1) (term_with r n)
 term_with_below Pointer n = omega arith
@@ -176,27 +159,12 @@ module _ (s : State) (w : IsSound s) where
   lowers [] bs h = h
   lowers (x ∷ xs) bs h = lowers xs (add_term s.classes s.known x (negsuc 0) bs) (added x (negsuc 0) bs h)
 
-  special_weighs : (sp : Special) (x : Term) → SoundBalances (special_weigh s.classes s.known sp x s.balances)
-  special_weighs special.IncRef x = added x (pos 1) s.balances w.notes
-  special_weighs special.DecRef x = added x (negsuc 0) s.balances w.notes
-  special_weighs special.XIncRef x = added x (pos 1) s.balances w.notes
-  special_weighs special.XDecRef x = added x (negsuc 0) s.balances w.notes
-  special_weighs special.NewRef x = added x (pos 1) s.balances w.notes
-  special_weighs special.XNewRef x = added x (pos 1) s.balances w.notes
-  special_weighs special.Clear x = w.notes
-  special_weighs special.ObjectNew x = w.notes
-  special_weighs special.TuplePack x = w.notes
-  special_weighs special.CallFunctionObjArgs x = w.notes
-  special_weighs special.ErrFormat x = w.notes
-  special_weighs special.ParseTuple x = w.notes
-  special_weighs special.UnpackTuple x = w.notes
-  special_weighs special.DictNext x = w.notes
-  special_weighs special.BuildValue x = w.notes
-
-  form_weighs : (f : Form) (shape : Shape) (xs : List Term)
-      → SoundBalances (form_weigh s.classes s.known f shape xs s.balances)
-  form_weighs form.Plain shape xs = lowers (taken_terms false shape.row.takes xs) s.balances w.notes
-  form_weighs (form.Special sp) shape xs = special_weighs sp (first_term xs)
+  own_weighs : (own : Option OwnEffect) (ts : List Take) (xs : List Term)
+      → SoundBalances (own_weigh s.classes s.known own ts xs s.balances)
+  own_weighs None ts xs = lowers (taken_terms false ts xs) s.balances w.notes
+  own_weighs (Some IncRef) ts xs = added (first_term xs) (pos 1) s.balances w.notes
+  own_weighs (Some DecRef) ts xs = added (first_term xs) (negsuc 0) s.balances w.notes
+  own_weighs (Some Undescribed) ts xs = w.notes
 
   atom_is_below : (a : Atom) → is_there s.statics a ≡ true → IsBelow (count s.known) (term_of s.known a)
   atom_is_below a h = atom_below s.known.marks s.known.vars s.known.slots T s.known s.statics a refl w.notes.statics h
@@ -222,14 +190,14 @@ module _ (s : State) (w : IsSound s) where
     notes = added (term_of s.known a) (negsuc 0) _ (added (held_in s.known (find s.known place)) (pos 1) s.balances
         w.notes);
   }
-  does_sound (Api x shape as' outs) h =
-      let o = answer_of_form shape.row.form shape.row.answer (first_term (terms_of s.known as')) in
+  does_sound (Api x g as' outs) h =
+      let o = answer_of_call g.answer (first_term (terms_of s.known as')) in
       record {
-        terms = answered_terms s.known x o T (form_below (count s.known) shape.row.form shape.row.answer
+        terms = answered_terms s.known x o T (call_below (count s.known) g.answer
             (first_term (terms_of s.known as')) (first_below s.statics s.known as' atom_is_below h));
-        notes = subst (λ ms. AreNotesSound s.statics ms s.classes (form_weigh s.classes s.known shape.row.form shape
+        notes = subst (λ ms. AreNotesSound s.statics ms s.classes (own_weigh s.classes s.known g.own g.takes
             (terms_of s.known as') s.balances) s.others) (sym (answered_marks s.known x o))
-            (form_weighs shape.row.form shape (terms_of s.known as'));
+            (own_weighs g.own g.takes (terms_of s.known as'));
       }
   does_sound (Call x f as') h = w
   does_sound (Forget x) h = put_sound x Unset tt

@@ -32,7 +32,7 @@ use Rattle.pungi_code.specs.declared.instr.Instr.TheVariants.{Unset as Forget, J
 use Rattle.pungi_symbol.specs.states.Terms.{outcomes_of_mark, outcomes_of_answer, mark_at, place_of}
 use Rattle.pungi_symbol.specs.states.Known.{count, mark_of}
 use Rattle.pungi_symbol.specs.questions.NextQuestion.{first_term, terms_of}
-use Rattle.pungi_symbol.specs.answers.KnownAfter.{arrive, answer_of_form, term_with, does, load_first, store_first}
+use Rattle.pungi_symbol.specs.answers.KnownAfter.{arrive, answer_of_call, term_with, does, load_first, store_first}
 use Rattle.pungi_symbol.specs.answers.KnownAfter.{perform_line, instr_of, call_var, says_same, number_of_outcome}
 use Rattle.pungi_symbol.specs.answers.SymbolicState.{can, can_same, are_one, apply, apply_same, is_decision, is_order}
 use Rattle.pungi_symbol.specs.answers.SymbolicState.{is_outcome}
@@ -214,8 +214,7 @@ does_marks k (Fit x kind a) = refl
 does_marks k (Compare x c a b) = refl
 does_marks k (Load x place) = refl
 does_marks k (Store place a) = refl
-does_marks k (Api x shape as' outs) =
-    answered_marks k x (answer_of_form shape.row.form shape.row.answer (first_term (terms_of k as')))
+does_marks k (Api x g as' outs) = answered_marks k x (answer_of_call g.answer (first_term (terms_of k as')))
 does_marks k (Call x f as') = refl
 does_marks k (Forget x) = refl
 does_marks k (Jump to) = refl

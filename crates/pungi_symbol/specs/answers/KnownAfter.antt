@@ -7,7 +7,8 @@
 --   number_there                 the result of arithmetic
 --   comparison_var, comparison_term    the variable of a comparison, and what it holds where two objects were compared
 --   put_answer x o k             a variable gets the answer of a call, where there is one
---   answer_of_row, answer_of_special, answer_of_form    the answer of a call that asks nothing
+--   answer_of_row, answer_of_call    the answer that a call which asks nothing has by its row; the answer of any such
+--                                call
 --   term_with m t                the answer of a call, of which this is known
 --   call_var                     the variable of a call
 --   store_at                     a slot holds something else
@@ -21,10 +22,8 @@ use Rattle.pungi_base.specs.declared.pos.Pos.{Pos}
 use Rattle.pungi_base.specs.declared.value.Value.TheVariants as value
 use Rattle.pungi_api.specs.declared.answer.Answer.{Answer}
 use Rattle.pungi_api.specs.declared.answer.Answer.TheVariants as answer
-use Rattle.pungi_api.specs.declared.row.Form.{Form}
-use Rattle.pungi_api.specs.declared.row.Form.TheVariants as form
-use Rattle.pungi_api.specs.declared.special.Special.{Special}
-use Rattle.pungi_api.specs.declared.special.Special.TheVariants as special
+use Rattle.pungi_api.specs.declared.call_answer.CallAnswer.{CallAnswer}
+use Rattle.pungi_api.specs.declared.call_answer.CallAnswer.TheVariants.{Of, Argument}
 use Rattle.pungi_meaning.specs.declared.cmp.Cmp.{Cmp}
 use Rattle.pungi_meaning.specs.Run.{nowhere}
 use Rattle.pungi_meaning.specs.Values.{is_true, truth, holds, arithmetic, number_of}
@@ -112,14 +111,9 @@ abbrev pub answer_of_row : Answer → Option Term
 answer_of_row answer.Void = None
 answer_of_row a = Some Null
 
-abbrev pub answer_of_special : Special → Term → Option Term
-answer_of_special special.NewRef x = Some x
-answer_of_special special.XNewRef x = Some x
-answer_of_special s x = None
-
-abbrev pub answer_of_form : Form → Answer → Term → Option Term
-answer_of_form form.Plain a x = answer_of_row a
-answer_of_form (form.Special s) a x = answer_of_special s x
+abbrev pub answer_of_call : CallAnswer → Term → Option Term
+answer_of_call (Of a) x = answer_of_row a
+answer_of_call Argument x = Some x
 
 abbrev pub term_with : Mark → ℕ → Term
 term_with Pointer t = Token t
@@ -130,7 +124,7 @@ term_with IsText t = Text
 term_with (IsNumber n) t = Number n
 
 abbrev pub call_var : Instr → Option Var
-call_var (Api x shape as' outs) = x
+call_var (Api x g as' outs) = x
 call_var i = None
 
 -- ---- slots
@@ -164,8 +158,7 @@ does k (Fit x kind a) = go_on (put x.0 (Number (number k (term_of k a))) k)
 does k (Compare x c a b) = go_on (put x.0 (truth_term (compares k c (term_of k a) (term_of k b))) k)
 does k (Load x place) = go_on (put x.0 (held_in k (find k place)) k)
 does k (Store place a) = go_on (store_at (found_at (find k place)) (term_of k a) k)
-does k (Api x shape as' outs) =
-    go_on (put_answer x (answer_of_form shape.row.form shape.row.answer (first_term (terms_of k as'))) k)
+does k (Api x g as' outs) = go_on (put_answer x (answer_of_call g.answer (first_term (terms_of k as'))) k)
 does k (Call x f as') = k
 does k (Forget x) = go_on (put x.0 Unset k)
 does k (Jump l) = go_to l.0 k

@@ -6,7 +6,7 @@
 --   add_to, add_term        a number is added to the balance of a token's object; of a term's
 --   lower                   it falls by 1 for each of these terms
 --   taken_terms, terms_taken_by    the arguments that a call takes over
---   special_weigh, form_weigh, weigh    the balances after a call of a special row, of any row, after an instruction
+--   own_weigh, weigh        the balances after a call with this effect of its own, or with none; after an instruction
 --   owed_for, owed_for_answer    the balance of a token that comes in
 --   stored_term             what a store writes
 --   redirect, gather, merge two tokens become one: their class, their balance, the state
@@ -23,11 +23,8 @@ use Rattle.std.specs.declared.cmp.Ordering.{Ordering}
 use Rattle.std.specs.declared.cmp.Ordering.TheVariants.{Less, Equal, Greater}
 use Rattle.pungi_api.specs.declared.answer.Answer.{Answer}
 use Rattle.pungi_api.specs.declared.answer.Answer.TheVariants as answer
-use Rattle.pungi_api.specs.declared.row.Form.{Form}
-use Rattle.pungi_api.specs.declared.row.Form.TheVariants as form
-use Rattle.pungi_api.specs.declared.special.Special.{Special}
-use Rattle.pungi_api.specs.declared.special.Special.TheVariants as special
-use Rattle.pungi_api.specs.declared.shape.Shape.{Shape}
+use Rattle.pungi_api.specs.declared.own_effect.OwnEffect.{OwnEffect}
+use Rattle.pungi_api.specs.declared.own_effect.OwnEffect.TheVariants.{IncRef, DecRef, Undescribed}
 use Rattle.pungi_api.specs.declared.take.Take.{Take}
 use Rattle.pungi_world.specs.Calls.{is_success, is_taken}
 use Rattle.pungi_code.specs.declared.code.Line.{Line}
@@ -138,26 +135,19 @@ taken_terms success (t ∷ ts) (x ∷ xs) =
     if is_taken success t then x ∷ taken_terms success ts xs else taken_terms success ts xs
 
 abbrev pub terms_taken_by : Bool → Instr → Known → List Term
-terms_taken_by success (Api x shape as' outs) k = taken_terms success shape.row.takes (terms_of k as')
+terms_taken_by success (Api x g as' outs) k = taken_terms success g.takes (terms_of k as')
 terms_taken_by success i k = []
 
-abbrev pub special_weigh : List ℕ → Known → Special → Term → List ℤ → List ℤ
-special_weigh classes k special.IncRef x balances = add_term classes k x (pos 1) balances
-special_weigh classes k special.DecRef x balances = add_term classes k x (negsuc 0) balances
-special_weigh classes k special.XIncRef x balances = add_term classes k x (pos 1) balances
-special_weigh classes k special.XDecRef x balances = add_term classes k x (negsuc 0) balances
-special_weigh classes k special.NewRef x balances = add_term classes k x (pos 1) balances
-special_weigh classes k special.XNewRef x balances = add_term classes k x (pos 1) balances
-special_weigh classes k s x balances = balances
-
-abbrev pub form_weigh : List ℕ → Known → Form → Shape → List Term → List ℤ → List ℤ
-form_weigh classes k form.Plain shape xs balances = lower classes k (taken_terms false shape.row.takes xs) balances
-form_weigh classes k (form.Special s) shape xs balances = special_weigh classes k s (first_term xs) balances
+abbrev pub own_weigh : List ℕ → Known → Option OwnEffect → List Take → List Term → List ℤ → List ℤ
+own_weigh classes k None ts xs balances = lower classes k (taken_terms false ts xs) balances
+own_weigh classes k (Some IncRef) ts xs balances = add_term classes k (first_term xs) (pos 1) balances
+own_weigh classes k (Some DecRef) ts xs balances = add_term classes k (first_term xs) (negsuc 0) balances
+own_weigh classes k (Some Undescribed) ts xs balances = balances
 
 abbrev pub weigh : List ℕ → Known → Instr → List ℤ → List ℤ
 weigh classes k (Store place a) balances =
     add_term classes k (term_of k a) (negsuc 0) (add_term classes k (held_in k (find k place)) (pos 1) balances)
-weigh classes k (Api x shape as' outs) balances = form_weigh classes k shape.row.form shape (terms_of k as') balances
+weigh classes k (Api x g as' outs) balances = own_weigh classes k g.own g.takes (terms_of k as') balances
 weigh classes k i balances = balances
 
 abbrev pub owed_for : Mark → ℤ

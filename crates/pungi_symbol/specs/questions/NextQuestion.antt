@@ -9,27 +9,30 @@
 --   asks_load, asks_store, asks_dropped    it reads a slot; it writes one; it needs to know whether what a slot held is
 --                                          NULL
 --   asks_all_set                   it is a call of set arguments
---   asks_param, asks_params        it is a call of a row with this parameter; with these
---   asks_take, asks_takes          of a row that takes over such an argument; some of its arguments
+--   asks_param, asks_params        it is a call with this parameter; with these
+--   asks_take, asks_takes          of a call that takes over such an argument; some of its arguments
 --   asks_answer a                  of a row with this answer
---   first_term, asks_special       its first argument; it is a call of a special row
---   asks_form, terms_of            it is a call of any row; the terms of its arguments
+--   asks_call_answer a             of a call with this answer
+--   first_term                     the first argument of a call
+--   asks_own own                   it is a call with this effect of its own, or with none
+--   asks_signature g, terms_of     it is a call of such a signature; the terms of its arguments
 --   asks_return                    it is a return
 --   asks_instr k i, asks_line      what an instruction asks; what the next one asks, if there is one
 --   ask_while, ask code k          what is asked next, where the run isn't over
 --   IsPlaced code k q              a question names a touched slot that is there, or is that of an instruction
-use Rattle.std.specs.Prelude.{ℕ, ◌<◌, length, ℤ, pos, Bool, ◌&&◌, not, int_lt, List, [], ◌∷◌, map, slice_get, Option, Some, None}
+use Rattle.std.specs.Prelude.{ℕ, ◌<◌, length, ℤ, pos, Bool, ◌&&◌, not, int_lt, List, [], ◌∷◌, map, slice_get, Option}
+use Rattle.std.specs.Prelude.{Some, None}
 use Rattle.std.specs.Prelude.{if◌then◌else◌}
 use Rattle.std.specs.Ordering.{int_cmp}
 use Rattle.pungi_api.specs.declared.answer.Answer.{Answer}
 use Rattle.pungi_api.specs.declared.answer.Answer.TheVariants as answer
+use Rattle.pungi_api.specs.declared.call_answer.CallAnswer.{CallAnswer}
+use Rattle.pungi_api.specs.declared.call_answer.CallAnswer.TheVariants.{Of, Argument}
+use Rattle.pungi_api.specs.declared.own_effect.OwnEffect.{OwnEffect}
+use Rattle.pungi_api.specs.declared.own_effect.OwnEffect.TheVariants.{IncRef, DecRef, Undescribed}
 use Rattle.pungi_api.specs.declared.param.Param.{Param}
 use Rattle.pungi_api.specs.declared.param.Param.TheVariants as param
-use Rattle.pungi_api.specs.declared.row.Form.{Form}
-use Rattle.pungi_api.specs.declared.row.Form.TheVariants as form
-use Rattle.pungi_api.specs.declared.shape.Shape.{Shape}
-use Rattle.pungi_api.specs.declared.special.Special.{Special}
-use Rattle.pungi_api.specs.declared.special.Special.TheVariants as special
+use Rattle.pungi_api.specs.declared.signature.Signature.{Signature}
 use Rattle.pungi_api.specs.declared.take.Take.{Take}
 use Rattle.pungi_api.specs.declared.take.Take.TheVariants as take
 use Rattle.pungi_types.specs.declared.kind.ValueKind.{ValueKind}
@@ -189,23 +192,23 @@ asks_answer answer.Void = Does Quiet
 asks_answer answer.Null = Does Quiet
 asks_answer a = Answers a
 
+abbrev pub asks_call_answer : CallAnswer → Question
+asks_call_answer (Of a) = asks_answer a
+asks_call_answer Argument = Does Quiet
+
 abbrev pub first_term : List Term → Term
 first_term [] = Null
 first_term (x ∷ xs) = x
 
-abbrev pub asks_special : Known → Special → Term → Question
-asks_special k special.IncRef x = asks_thing k x (Does Quiet)
-asks_special k special.DecRef x = asks_thing k x (Does Quiet)
-asks_special k special.XIncRef x = asks_known k x (Does Quiet)
-asks_special k special.XDecRef x = asks_known k x (Does Quiet)
-asks_special k special.NewRef x = asks_thing k x (Does Quiet)
-asks_special k special.XNewRef x = asks_known k x (Does Quiet)
-asks_special k s x = Stops Quiet
+-- a call without an effect of its own takes over arguments; else the count of its first argument changes, or it stops
+abbrev pub asks_own : Known → Option OwnEffect → List Take → List Term → Question → Question
+asks_own k None ts xs q = asks_takes k ts xs q
+asks_own k (Some IncRef) ts xs q = asks_known k (first_term xs) q
+asks_own k (Some DecRef) ts xs q = asks_known k (first_term xs) q
+asks_own k (Some Undescribed) ts xs q = Stops Quiet
 
-abbrev pub asks_form : Known → Form → Shape → List Term → Question
-asks_form k form.Plain shape xs =
-    asks_params k shape.row.params xs (asks_takes k shape.row.takes xs (asks_answer shape.row.answer))
-asks_form k (form.Special s) shape xs = asks_special k s (first_term xs)
+abbrev pub asks_signature : Known → Signature → List Term → Question
+asks_signature k g xs = asks_params k g.params xs (asks_own k g.own g.takes xs (asks_call_answer g.answer))
 
 abbrev pub terms_of : Known → List Atom → List Term
 terms_of k as' = map (term_of k) as'
@@ -226,7 +229,7 @@ asks_instr k (Compare x c a b) = asks_compare k (term_of k a) (term_of k b)
 asks_instr k (Load x place) = asks_load k (content_mark (place_kind place)) (find k place)
 asks_instr k (Store place a) =
     asks_known k (term_of k a) (asks_store k (content_mark (place_kind place)) (find k place))
-asks_instr k (Api x shape as' outs) = asks_all_set (terms_of k as') (asks_form k shape.row.form shape (terms_of k as'))
+asks_instr k (Api x g as' outs) = asks_all_set (terms_of k as') (asks_signature k g (terms_of k as'))
 asks_instr k (Call x f as') = Stops Quiet
 asks_instr k (Forget x) = Does Quiet
 asks_instr k (Jump to) = Does Quiet

@@ -5,7 +5,9 @@
 --   is_pointer kind             a kind of pointers
 --   is_pointer_param p          a parameter of such a kind
 --   is_small a                  a return value whose numbers traces distinguish
---   has_small s                 so is that of a call
+--   is_sure a                   a return value that no choice decides
+--   has_small own a             traces distinguish what a call returns; one with an effect of its own returns what no
+--                               choice decides
 --   is_known_here i             an instruction without unknown integers or calls of functions of the file
 --   is_object_instr n i         an instruction of the object form, where there are n static objects
 --   has_object_form n code      a code of the object form
@@ -15,9 +17,9 @@ use Rattle.pungi_api.specs.declared.answer.Answer.{Answer}
 use Rattle.pungi_api.specs.declared.answer.Answer.TheVariants as answer
 use Rattle.pungi_api.specs.declared.param.Param.{Param}
 use Rattle.pungi_api.specs.declared.param.Param.TheVariants as param
-use Rattle.pungi_api.specs.declared.row.Form.{Form}
-use Rattle.pungi_api.specs.declared.row.Form.TheVariants as form
-use Rattle.pungi_api.specs.declared.row.Row.{Row}
+use Rattle.pungi_api.specs.declared.call_answer.CallAnswer.{CallAnswer}
+use Rattle.pungi_api.specs.declared.call_answer.CallAnswer.TheVariants.{Of, Argument}
+use Rattle.pungi_api.specs.declared.own_effect.OwnEffect.{OwnEffect}
 use Rattle.pungi_code.specs.declared.atom.Atom.{Atom}
 use Rattle.pungi_code.specs.declared.atom.Atom.TheVariants as atom
 use Rattle.pungi_code.specs.declared.code.Code.{Code}
@@ -43,7 +45,7 @@ atoms_of (Fit x kind a) = a ∷ []
 atoms_of (Compare x c a b) = a ∷ b ∷ []
 atoms_of (Load x place) = atoms_in place
 atoms_of (Store place a) = a ∷ atoms_in place
-atoms_of (Api x shape as' outs) = as'
+atoms_of (Api x g as' outs) = as'
 atoms_of (Call x f as') = as'
 atoms_of (Unset x) = []
 atoms_of (Jump to) = []
@@ -87,14 +89,20 @@ is_small answer.Text = true
 is_small answer.Void = true
 is_small answer.Null = true
 
-abbrev pub has_small : Form → Row → Bool
-has_small form.Plain row = is_small row.answer
-has_small (form.Special s) row = true
+abbrev pub is_sure : Answer → Bool
+is_sure answer.Void = true
+is_sure answer.Null = true
+is_sure a = false
+
+abbrev pub has_small : Option OwnEffect → CallAnswer → Bool
+has_small own Argument = true
+has_small None (Of a) = is_small a
+has_small (Some o) (Of a) = is_sure a
 
 abbrev pub is_known_here : Instr → Bool
 is_known_here (Load x place) = is_pointer (place_kind place)
 is_known_here (Store place a) = is_pointer (place_kind place)
-is_known_here (Api x shape as' outs) = has_small shape.row.form shape.row
+is_known_here (Api x g as' outs) = has_small g.own g.answer
 is_known_here (Call x f as') = false
 is_known_here i = true
 

@@ -79,8 +79,8 @@ leads choices (Load x place) p pc m =
 leads choices (Store place a) p pc m =
     on_value (content_of a m.vars) p m (λ v. on_slot (slot_of place m.vars) p m
     (λ s kind. on_effect p (store_effect m.world s kind v (choices_left choices m)) m (λ e r. goes (pc + 1) r)))
-leads choices (Api x shape as' outs) p pc m =
-    on_values (all_values as' m.vars) p m (λ vs. on_effect p (call_effect m.world shape vs (choices_left choices m))
+leads choices (Api x g as' outs) p pc m =
+    on_values (all_values as' m.vars) p m (λ vs. on_effect p (call_effect m.world g vs (choices_left choices m))
     m (λ e r. goes (pc + 1) (with_outputs outs e.outputs (put_answer x e.value r))))
 leads choices (Call x f as') p pc m = (after.Stops p, m)
 leads choices (Unset x) p pc m = goes (pc + 1) (put x content.Unset m)

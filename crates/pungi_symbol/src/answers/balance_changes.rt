@@ -5,8 +5,8 @@ ghost use Rattle.pungi_world.specs.Calls.{is_success, is_taken};
 ghost use Rattle.pungi_symbol.specs.states.Terms.{value_of_mark};
 ghost use Rattle.pungi_symbol.specs.questions.NextQuestion.{terms_of};
 ghost use Rattle.pungi_symbol.specs.answers.KnownAfter.{instr_of};
-ghost use Rattle.pungi_symbol.specs.answers.SymbolicState.{add_term, lower, taken_terms, terms_taken_by, special_weigh};
-ghost use Rattle.pungi_symbol.specs.answers.SymbolicState.{form_weigh, weigh, stored_term};
+ghost use Rattle.pungi_symbol.specs.answers.SymbolicState.{add_term, lower, taken_terms, terms_taken_by, own_weigh};
+ghost use Rattle.pungi_symbol.specs.answers.SymbolicState.{weigh, stored_term};
 
 use crate::questions::call_questions::smaller_length;
 use crate::questions::next_question::line_at;
@@ -14,7 +14,7 @@ use crate::states::balances::add;
 use crate::states::mark::Mark;
 use crate::states::state::State;
 use crate::states::term::Term;
-use pungi_api::{Answer, Form, Shape, Special, Take};
+use pungi_api::{Answer, OwnEffect, Signature, Take};
 use pungi_base::Memory;
 use pungi_code::{Atom, Instr, Line, Place};
 
@@ -117,35 +117,23 @@ impl State {
         self.raise(c, -1)
     }
 
-    fn weigh_special(&mut self, special: Special, x: Term) -> Result<(), Memory>
+    fn weigh_call(&mut self, signature: &Signature, atoms: &[Atom]) -> Result<(), Memory>
         ensures { OnOk result (self.new ≡ record self.old {
-          balances = special_weigh self.old.classes self.old.known
-              special x self.old.balances;
+          balances = own_weigh self.old.classes self.old.known
+              signature.now.own signature.now.takes (terms_of self.old.known atoms.now) self.old.balances;
         }) }
     {
-        match special {
-            Special::IncRef => self.raise(x, 1),
-            Special::DecRef => self.raise(x, -1),
-            Special::XIncRef => self.raise(x, 1),
-            Special::XDecRef => self.raise(x, -1),
-            Special::NewRef => self.raise(x, 1),
-            Special::XNewRef => self.raise(x, 1),
-            _ => Ok(()),
-        }
-    }
-
-    fn weigh_call(&mut self, shape: &Shape, atoms: &[Atom]) -> Result<(), Memory>
-        ensures { OnOk result (self.new ≡ record self.old {
-          balances = form_weigh self.old.classes self.old.known
-              shape.now.row.form shape.now (terms_of self.old.known atoms.now) self.old.balances;
-        }) }
-    {
-        match shape.row.form {
-            Form::Plain => self.lower_taken(false, shape.row.takes.as_slice(), atoms),
-            Form::Special(special) => {
+        match signature.own {
+            None => self.lower_taken(false, signature.takes.as_slice(), atoms),
+            Some(OwnEffect::IncRef) => {
                 let x = self.known.first_of(atoms);
-                self.weigh_special(special, x)
+                self.raise(x, 1)
             }
+            Some(OwnEffect::DecRef) => {
+                let x = self.known.first_of(atoms);
+                self.raise(x, -1)
+            }
+            Some(OwnEffect::Undescribed) => Ok(()),
         }
     }
 
@@ -160,7 +148,9 @@ impl State {
             None => Ok(()),
             Some(line) => match &line.instr {
                 Instr::Store(place, a) => self.weigh_store(*place, *a),
-                Instr::Api(_, shape, args, _) => self.weigh_call(shape, args.as_slice()),
+                Instr::Api(_, signature, args, _) => {
+                    self.weigh_call(signature.get(), args.as_slice())
+                }
                 _ => Ok(()),
             },
         }
@@ -177,8 +167,8 @@ impl State {
         match line_at(code, self.known.pc) {
             None => Ok(()),
             Some(line) => match &line.instr {
-                Instr::Api(_, shape, args, _) => {
-                    self.lower_taken(success, shape.row.takes.as_slice(), args.as_slice())
+                Instr::Api(_, signature, args, _) => {
+                    self.lower_taken(success, signature.get().takes.as_slice(), args.as_slice())
                 }
                 _ => Ok(()),
             },

@@ -6,14 +6,13 @@ ghost use Rattle.pungi_code.specs.declared.instr.Instr.TheVariants.{Store as Sto
 ghost use Rattle.pungi_symbol.specs.states.Known.{find, found_at, term_of};
 ghost use Rattle.pungi_symbol.specs.questions.NextQuestion.{first_term, terms_of};
 ghost use Rattle.pungi_symbol.specs.answers.KnownAfter.{go_on, go_to, put, truth_term, compares, number_there};
-ghost use Rattle.pungi_symbol.specs.answers.KnownAfter.{put_answer, answer_of_row, answer_of_special, answer_of_form};
-ghost use Rattle.pungi_symbol.specs.answers.KnownAfter.{store_at, does};
+ghost use Rattle.pungi_symbol.specs.answers.KnownAfter.{put_answer, answer_of_row, answer_of_call, store_at, does};
 
 use crate::questions::slot_search::place_found;
 use crate::states::known::Known;
 use crate::states::spot::{Progress, Touched};
 use crate::states::term::Term;
-use pungi_api::{Answer, Form, Shape, Special};
+use pungi_api::{Answer, CallAnswer};
 use pungi_code::{Atom, Instr, Label, Place, Var};
 use pungi_meaning::{Cmp, Op, arithmetic, is_true, number_of, truth};
 use pungi_types::ValueKind;
@@ -43,22 +42,12 @@ fn answer_of_row(answer: Answer) -> Option<Term>
     }
 }
 
-fn answer_of_special(special: Special, x: Term) -> Option<Term>
-    ensures { result ≡ answer_of_special special x }
+fn answer_of_call(answer: CallAnswer, x: Term) -> Option<Term>
+    ensures { result ≡ answer_of_call answer x }
 {
-    match special {
-        Special::NewRef => Some(x),
-        Special::XNewRef => Some(x),
-        _ => None,
-    }
-}
-
-fn answer_of_form(form: Form, answer: Answer, x: Term) -> Option<Term>
-    ensures { result ≡ answer_of_form form answer x }
-{
-    match form {
-        Form::Plain => answer_of_row(answer),
-        Form::Special(special) => answer_of_special(special, x),
+    match answer {
+        CallAnswer::Of(answer) => answer_of_row(answer),
+        CallAnswer::Argument => Some(x),
     }
 }
 
@@ -175,14 +164,13 @@ impl Known {
         self.go_on();
     }
 
-    fn do_call(&mut self, x: Option<Var>, shape: &Shape, atoms: &[Atom])
+    fn do_call(&mut self, x: Option<Var>, answer: CallAnswer, atoms: &[Atom])
         requires room { self.old.pc + 1 < 2 ^ 64 }
-        ensures { self.new ≡ go_on (put_answer x (answer_of_form shape.now.row.form
-            shape.now.row.answer (first_term (terms_of self.old atoms.now))) self.old) }
+        ensures { self.new ≡ go_on (put_answer x
+            (answer_of_call answer (first_term (terms_of self.old atoms.now))) self.old) }
     {
         let first = self.first_of(atoms);
-        let answer = answer_of_form(shape.row.form, shape.row.answer, first);
-        self.put_answer(x, answer);
+        self.put_answer(x, answer_of_call(answer, first));
         self.go_on();
     }
 
@@ -211,7 +199,9 @@ impl Known {
             Instr::Compare(x, cmp, a, b) => self.do_compare(*x, *cmp, *a, *b),
             Instr::Load(x, place) => self.do_load(*x, *place),
             Instr::Store(place, a) => self.do_store(*place, *a),
-            Instr::Api(x, shape, args, _) => self.do_call(*x, shape, args.as_slice()),
+            Instr::Api(x, signature, args, _) => {
+                self.do_call(*x, signature.get().answer, args.as_slice())
+            }
             Instr::Call(_, _, _) => {}
             Instr::Unset(x) => self.assign(x.0, Term::Unset),
             Instr::Jump(to) => self.go_to(*to),

@@ -2,14 +2,15 @@
 ghost use Rattle.std.specs.Prelude.{◌≡◌, min};
 ghost use Rattle.pungi_symbol.specs.states.Known.{term_of};
 ghost use Rattle.pungi_symbol.specs.questions.NextQuestion.{asks_all_set, asks_param, asks_params, asks_take};
-ghost use Rattle.pungi_symbol.specs.questions.NextQuestion.{asks_takes, first_term, asks_special, asks_form, terms_of};
+ghost use Rattle.pungi_symbol.specs.questions.NextQuestion.{asks_takes, asks_call_answer, first_term, asks_own};
+ghost use Rattle.pungi_symbol.specs.questions.NextQuestion.{asks_signature, terms_of};
 
 use crate::answers::decision::Decision;
 use crate::questions::question::Question;
 use crate::questions::term_questions::{asks_answer, asks_set};
 use crate::states::known::Known;
 use crate::states::term::Term;
-use pungi_api::{Form, Param, Shape, Special, Take};
+use pungi_api::{CallAnswer, OwnEffect, Param, Signature, Take};
 use pungi_code::Atom;
 
 /// The smaller of two lengths.
@@ -17,6 +18,15 @@ pub fn smaller_length(m: usize, n: usize) -> usize
     ensures { result ≡ min m n }
 {
     if m < n { m } else { n }
+}
+
+fn asks_call_answer(answer: CallAnswer) -> Question
+    ensures { result ≡ asks_call_answer answer }
+{
+    match answer {
+        CallAnswer::Of(answer) => asks_answer(answer),
+        CallAnswer::Argument => Question::Does(Decision::Quiet),
+    }
 }
 
 impl Known {
@@ -95,39 +105,36 @@ impl Known {
         q
     }
 
-    fn asks_special(&self, special: Special, x: Term) -> Question
-        ensures { result ≡ asks_special self.now special x }
+    fn asks_own(
+        &self,
+        own: Option<OwnEffect>,
+        takes: &[Take],
+        atoms: &[Atom],
+        last: Question,
+    ) -> Question
+        ensures { result ≡ asks_own self.now own takes.now (terms_of self.now atoms.now) last }
     {
-        let done = Question::Does(Decision::Quiet);
-        match special {
-            Special::IncRef => self.asks_thing(x, done),
-            Special::DecRef => self.asks_thing(x, done),
-            Special::XIncRef => self.asks_known(x, done),
-            Special::XDecRef => self.asks_known(x, done),
-            Special::NewRef => self.asks_thing(x, done),
-            Special::XNewRef => self.asks_known(x, done),
-            _ => Question::Stops(Decision::Quiet),
+        match own {
+            None => self.asks_takes(takes, atoms, last),
+            Some(OwnEffect::IncRef) => self.asks_known(self.first_of(atoms), last),
+            Some(OwnEffect::DecRef) => self.asks_known(self.first_of(atoms), last),
+            Some(OwnEffect::Undescribed) => Question::Stops(Decision::Quiet),
         }
     }
 
-    fn asks_form(&self, shape: &Shape, atoms: &[Atom]) -> Question
-        ensures { result ≡ asks_form self.now shape.now.row.form shape.now (terms_of self.now atoms.now) }
+    fn asks_signature(&self, signature: &Signature, atoms: &[Atom]) -> Question
+        ensures { result ≡ asks_signature self.now signature.now (terms_of self.now atoms.now) }
     {
-        match shape.row.form {
-            Form::Plain => {
-                let answer = asks_answer(shape.row.answer);
-                let takes = self.asks_takes(shape.row.takes.as_slice(), atoms, answer);
-                self.asks_params(shape.row.params.as_slice(), atoms, takes)
-            }
-            Form::Special(special) => self.asks_special(special, self.first_of(atoms)),
-        }
+        let answer = asks_call_answer(signature.answer);
+        let own = self.asks_own(signature.own, signature.takes.as_slice(), atoms, answer);
+        self.asks_params(signature.params.as_slice(), atoms, own)
     }
 
     /// A call of the API.
-    pub fn asks_call(&self, shape: &Shape, atoms: &[Atom]) -> Question
-        ensures { result ≡ asks_all_set (terms_of self.now atoms.now) (asks_form self.now shape.now.row.form
-            shape.now (terms_of self.now atoms.now)) }
+    pub fn asks_call(&self, signature: &Signature, atoms: &[Atom]) -> Question
+        ensures { result ≡ asks_all_set (terms_of self.now atoms.now) (asks_signature self.now signature.now
+            (terms_of self.now atoms.now)) }
     {
-        self.asks_all_set(atoms, self.asks_form(shape, atoms))
+        self.asks_all_set(atoms, self.asks_signature(signature, atoms))
     }
 }

@@ -7,11 +7,11 @@ returns-clause-answer g c =
     IfOk-weaker c.answer_on.result _ _ (λ a h.
     file_answers _ _ _ _ _ c.args.file.now _ a.status a.text.items
     (api_of_manual c.in_ok-names.names c.in_ok-table.table c.in_ok-names.ensures c.in_ok-table.ensures) h.1 h.0)
-    (both c.answer_on.result _ _ c.answer_on.ensures.answer c.answer_on.ensures.given)
+    (both c.answer_on.result _ _ c.answer_on.ensures.answer c.answer_on.ensures.names_opened)
 
 pub returns-clause-asked : goal.returns-clause-asked
 returns-clause-asked g c =
-    IfOk-weaker c.answer_on.result _ _ (λ a h. opened_file c.args.file.now a.status _ _ h) c.answer_on.ensures.given
+    IfOk-weaker c.answer_on.result _ _ (λ a h. opened_file c.args.file.now a.status _ _ h) c.answer_on.ensures.names_opened
 
 pub returns-clause-unasked : goal.returns-clause-unasked
 returns-clause-unasked g c =

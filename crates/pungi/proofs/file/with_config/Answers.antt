@@ -15,7 +15,7 @@ returns-in-Ok-clause-answer g c =
           c.in-Ok.ensures.names refl,
       h.1,
       h.0,
-    )) (both c.with_rows.result _ _ c.with_rows.ensures.answer c.with_rows.ensures.given)
+    )) (both c.with_rows.result _ _ c.with_rows.ensures.answer c.with_rows.ensures.names_opened)
 
 pub returns-in-Err-clause-answer : goal.returns-in-Err-clause-answer
 returns-in-Err-clause-answer g c =

@@ -5,9 +5,9 @@ use Rattle.pungi.proofs.read.read_opened.Given as goal
 abbrev pub invariant-reads : goal.invariant-reads
 invariant-reads g l = record {
   left : Left (g.F.Shelf.texts l.fn.shelf) l.name (g.F.Shelf.rest l.shelf) l.bytes.items;
-  gave : l.bytes.items ≡ g.F.Shelf.gave l.shelf;
+  bytes_read : l.bytes.items ≡ g.F.Shelf.bytes_read l.shelf;
   texts : g.F.Shelf.texts l.shelf ≡ g.F.Shelf.texts l.fn.shelf;
-  given : g.F.Shelf.given l.shelf ≡ g.F.Shelf.given l.fn.shelf;
+  names_opened : g.F.Shelf.names_opened l.shelf ≡ g.F.Shelf.names_opened l.fn.shelf;
   room : 0 < vec_len l.piece;
   steady : g.F.Shelf.faults l.shelf ≡ g.F.Shelf.faults l.fn.shelf;
 }

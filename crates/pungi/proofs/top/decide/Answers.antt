@@ -15,9 +15,9 @@ returns-in-None-clause-answer g c =
     IfOk-weaker c.plain.result _ _ (λ a h. (
       c.args.shelf.now,
       answers_as
-          (stand_of g.F.Shelf.texts g.F.Shelf.rest g.F.Shelf.gave g.F.Shelf.given g.F.Shelf.faults c.args.shelf.now)
-          (stand_of g.F.Shelf.texts g.F.Shelf.rest g.F.Shelf.gave g.F.Shelf.given g.F.Shelf.faults c.args.shelf.now)
-          (stand_of g.F.Shelf.texts g.F.Shelf.rest g.F.Shelf.gave g.F.Shelf.given g.F.Shelf.faults c.plain.new.shelf)
+          (stand_of g.F.Shelf.texts g.F.Shelf.rest g.F.Shelf.bytes_read g.F.Shelf.names_opened g.F.Shelf.faults c.args.shelf.now)
+          (stand_of g.F.Shelf.texts g.F.Shelf.rest g.F.Shelf.bytes_read g.F.Shelf.names_opened g.F.Shelf.faults c.args.shelf.now)
+          (stand_of g.F.Shelf.texts g.F.Shelf.rest g.F.Shelf.bytes_read g.F.Shelf.names_opened g.F.Shelf.faults c.plain.new.shelf)
           (asked_of (map string_bytes c.args.words.now)) (asked_file c.as_str.result.now None) a.status a.text.items
           same h,
     )) c.plain.ensures.answer
@@ -29,4 +29,4 @@ returns-in-Ok-Trial-clause-asked g c =
     c.in-Ok-Trial.ensures c.in-Ok-Trial.field-0-is in
     IfOk-weaker c.trial.result _ _ (λ a h.
     trial_opened (asked_of (map string_bytes c.args.words.now)) c.in-Ok-Trial.n a.status a.text.items
-    (g.F.Shelf.given c.args.shelf.now) same h) c.trial.ensures
+    (g.F.Shelf.names_opened c.args.shelf.now) same h) c.trial.ensures

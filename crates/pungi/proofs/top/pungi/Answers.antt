@@ -31,13 +31,13 @@ returns-in-Ok-write_all-clause-sound g c = λ reported. (
   c.in-Ok.ensures.answer.0,
   c.in-Ok.answer.text.items,
   sound_answer
-      (stand_of g.F.Shelf.texts g.F.Shelf.rest g.F.Shelf.gave g.F.Shelf.given g.F.Shelf.faults c.args.shelf.now)
-      (stand_of g.F.Shelf.texts g.F.Shelf.rest g.F.Shelf.gave g.F.Shelf.given g.F.Shelf.faults
+      (stand_of g.F.Shelf.texts g.F.Shelf.rest g.F.Shelf.bytes_read g.F.Shelf.names_opened g.F.Shelf.faults c.args.shelf.now)
+      (stand_of g.F.Shelf.texts g.F.Shelf.rest g.F.Shelf.bytes_read g.F.Shelf.names_opened g.F.Shelf.faults
       c.in-Ok.ensures.answer.0)
-      (stand_of g.F.Shelf.texts g.F.Shelf.rest g.F.Shelf.gave g.F.Shelf.given g.F.Shelf.faults c.decide.new.shelf)
+      (stand_of g.F.Shelf.texts g.F.Shelf.rest g.F.Shelf.bytes_read g.F.Shelf.names_opened g.F.Shelf.faults c.decide.new.shelf)
       (asked_of (map string_bytes c.args.words.now)) c.in-Ok.answer.status
       c.in-Ok.answer.text.items (c.in-Ok.ensures.answer.1.report reported),
-  c.in-Ok-write_all.ensures.ok ∙ ap (λ (text : List ℕ). g.O.Sink.taken c.args.out.now ++ text) c.deref.ensures.value,
+  c.in-Ok-write_all.ensures.ok ∙ ap (λ (text : List ℕ). g.O.Sink.bytes_written c.args.out.now ++ text) c.deref.ensures.value,
 )
 
 pub returns-in-Ok-write_all-clause-answer : goal.returns-in-Ok-write_all-clause-answer
@@ -45,5 +45,5 @@ returns-in-Ok-write_all-clause-answer g c = λ cut memory. (
   c.in-Ok.ensures.answer.0,
   c.in-Ok.answer.text.items,
   c.in-Ok.ensures.answer.1,
-  c.in-Ok-write_all.ensures.ok ∙ ap (λ (text : List ℕ). g.O.Sink.taken c.args.out.now ++ text) c.deref.ensures.value,
+  c.in-Ok-write_all.ensures.ok ∙ ap (λ (text : List ℕ). g.O.Sink.bytes_written c.args.out.now ++ text) c.deref.ensures.value,
 )

@@ -4,7 +4,7 @@ use Rattle.pungi.proofs.write.write_all.Given as goal
 -- the bytes so far were taken
 abbrev pub invariant-pieces : goal.invariant-pieces
 invariant-pieces g l = record {
-  taken : (front : List ℕ) × (l.text ≡ front ++ l.rest) × (g.O.Sink.taken l.out ≡ g.O.Sink.taken l.fn.out ++ front);
+  bytes_written : (front : List ℕ) × (l.text ≡ front ++ l.rest) × (g.O.Sink.bytes_written l.out ≡ g.O.Sink.bytes_written l.fn.out ++ front);
   steady : g.O.Sink.faults l.out ≡ g.O.Sink.faults l.fn.out;
 }
 

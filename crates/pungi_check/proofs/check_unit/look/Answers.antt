@@ -24,6 +24,6 @@ returns-clause-found c =
       resolved_are = c.in_ok-found.ensures.resolved;
       sound = c.in_ok-found.ensures.sound;
       rows = c.requires.rows;
-      statics_are = c.in_ok-statics.ensures.counted;
-      few_statics = c.in_ok-statics.ensures.few;
+      statics_are = c.statics.ensures.counted;
+      few_statics = c.statics.ensures.few;
     }

@@ -11,7 +11,7 @@ look-requires-clause-unit c = sym (ap (λ (file : SourceFile). file.items) c.in_
 
 pub look-requires-clause-listed : goal.look-requires-clause-listed
 look-requires-clause-listed c =
-    c.requires ∙ ap (λ (file : SourceFile). definitions file.items) (sym c.in_ok-names.ensures)
+    c.requires.functions ∙ ap (λ (file : SourceFile). definitions file.items) (sym c.in_ok-names.ensures)
 
 pub look-requires-clause-rows : goal.look-requires-clause-rows
 look-requires-clause-rows c =

@@ -10,6 +10,6 @@ returns-in-Some c =
     let e : slice_get (map value_view c.args.args.now) c.args.i
     ≡ Some (value_view c.in-Some.arg.now) = mapped_get value_view c.args.args.now c.args.i
     ∙ ap (option_map value_view) c.in-Some.ensures.0 in
-    subst (λ o. IfOk c.go_on.result (λ halt. Matches (next_arg c.args.choices.now c.args.pos c.args.shape.now.row
+    subst (λ o. IfOk c.go_on.result (λ halt. Matches (next_arg c.args.choices.now c.args.pos c.args.signature.now
     (map value_view c.args.args.now) c.args.i o (todos c.args.m.now.tasks.items) (state_of c.args.m.now)) halt
     c.go_on.new.m)) (sym e) c.go_on.ensures

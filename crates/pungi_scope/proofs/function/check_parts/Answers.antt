@@ -9,7 +9,7 @@ use Rattle.pungi_scope.proofs.function.check_parts.Goals as goal
 
 pub returns-clause-next : goal.returns-clause-next
 returns-clause-next g c =
-    c.in_ok-check_body.ensures.next
+    c.number.ensures ∙ c.in_ok-check_body.ensures.next
     ∙ ap (λ n. n + body_locals (stmt_view c.args.f.now.body))
     (ap (λ (f : Frame). f.next) c.in_ok-check_params.ensures.frame
     ∙ params_counted (frame_of (g.N.Lookup.env c.args.names.now) c.args.walk.now c.args.block.now.keys

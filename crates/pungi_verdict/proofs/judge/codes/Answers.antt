@@ -7,6 +7,15 @@ use Rattle.pungi_layout.specs.code.Codes.{code_for}
 use Rattle.pungi_verdict.proofs.Files.{resolved-of, same-codes}
 use Rattle.pungi_verdict.proofs.judge.codes.Goals as goal
 
+pub lower-requires : goal.lower-requires
+lower-requires c =
+    let view = checked_view c.args.checked.now in
+    record {
+      file = view;
+      resolved = subst (λ (fs : List (Option Function)). IsResolved view (map resolution_view fs))
+          (sym c.deref.ensures.value) (resolved-of c.args.checked.now c.requires);
+    }
+
 pub returns-clause-codes : goal.returns-clause-codes
 returns-clause-codes c =
     let view = checked_view c.args.checked.now in

@@ -1,5 +1,8 @@
 -- An empty body. The borrow is opened, and closed with the lists that have one piece more.
-use Rattle.std.proofs.Common.{ℕ, List, [], ◌∷◌, ◌++◌, refl, MutBor, ◌<◌, ◌^◌, length}
+use Rattle.std.proofs.Common.{◌≡◌, ◌∙◌, ap, ℕ, List, [], ◌∷◌, ◌++◌, refl, MutBor, ◌<◌, ◌^◌, length}
+use Rattle.std.specs.List.{concat}
+use Rattle.std.proofs.lemmas.List.{append-nil}
+use Rattle.std.proofs.lemmas.List.Folds.{concat-append}
 use seplogic.Ra.Ura.{Ura}
 use mir.Syntax.{named}
 use mir.Val.{Val, vunit, vptr}
@@ -51,7 +54,10 @@ module _ {M : Type 1} {𝓤 : Ura M} (𝓛 : Logic 𝓤) (at_mem : Memory → SP
   x = (record { ref_ptr = (b, o); ghost_name = γ; now = h }, (s, tt))
 
   abbrev h' : History
-  h' = record { pieces = h.pieces ++ s.now ∷ []; bytes = h.bytes ++ s.now }
+  h' = record { pieces = h.pieces ++ s.now ∷ [] }
+
+  more : concat h'.pieces ≡ concat h.pieces ++ s.now
+  more = concat-append h.pieces (s.now ∷ []) ∙ ap (λ (bytes : List ℕ). concat h.pieces ++ bytes) (append-nil s.now)
 
   abbrev at : List Val × (List Val × Unit {0})
   at = (vptr b o ∷ [], (slice_val s.ref_ptr (length s.now) ∷ [], tt))
@@ -70,7 +76,7 @@ module _ {M : Type 1} {𝓤 : Ura M} (𝓛 : Logic 𝓤) (at_mem : Memory → SP
       suffices ! _ (ends_at 𝓛 it.ended stayed (it.clauses 𝓛 at_mem run) (
         ((κ, (κ', tt)), (q, (q', tt)), tt, x, at),
         tt,
-      ) vunit tt (h', (tt, tt)) (tt, (tt, tt))) $ says ! (refl, refl) $ move ! (2 ∷ 4 ∷ []) $ join ! $
+      ) vunit tt (h', (tt, tt)) (tt, (tt, tt))) $ says ! (refl, more) $ move ! (2 ∷ 4 ∷ []) $ join ! $
       frame ! $ feq_i ! (List Val) (vptr b o ∷ []) (vptr b o ∷ []) refl $ fjoin3 ! $ fjoin ! $
       feq_i ! (List Val) (vunit ∷ []) (vunit ∷ []) refl $ move ! (1 ∷ 0 ∷ []) $ done !
 

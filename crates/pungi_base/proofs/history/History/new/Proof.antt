@@ -29,7 +29,7 @@ use Rattle.pungi_base.proofs.history.History.new.Statement as stated
 use Rattle.pungi_base.proofs.history.History.new.Code as code
 
 abbrev nothing_yet : History
-nothing_yet = record { pieces = []; bytes = [] }
+nothing_yet = record { pieces = [] }
 
 abbrev stayed : Stays (f.ended).signature.params (f.ended).kept
 stayed = tt
@@ -48,7 +48,7 @@ module _ {M : Type 1} {𝓤 : Ura M} (𝓛 : Logic 𝓤) (mem : Memory → SProp
       alloc_all ! (λ l. pass_all ! refl tt $ sets ! (agg ! (no_more !)) refl (tt, tt) $
       returns ! (look_at ! 0 refl) $ free_all ! refl $
       suffices ! _ (ends_at 𝓛 f.ended stayed (f.clauses 𝓛 mem run) bound (vstruct vnil) nothing_yet tt tt) $
-      says ! (refl, refl) $ pure_i ! (made.the_row.own_val nothing_yet (vstruct vnil ∷ [])) ((λ vss. (tt, tt)), tt)
+      says ! refl $ pure_i ! (made.the_row.own_val nothing_yet (vstruct vnil ∷ [])) ((λ vss. (tt, tt)), tt)
       ((tt, (refl, tt)), tt) $
       move ! (1 ∷ 2 ∷ 0 ∷ []) $ done !)
 

@@ -1,82 +1,92 @@
-use Rattle.std.proofs.Common.{◌≡◌, ◌+◌, ◌<◌, ◌++◌, length, map, drop, get_or, sym, ap, ◌∙◌, arith}
+use Rattle.std.proofs.Common.{◌≡◌, ◌+◌, ◌<◌, ◌≤◌, ◌^◌, List, ◌∷◌, ◌++◌, length, map, drop, get_or, sym, ap, ◌∙◌, subst}
+use Rattle.std.proofs.Common.{arith}
+use Rattle.std.proofs.lemmas.List.{length-map}
+use denote.Param.Weighed.{at_most}
 use Rattle.pungi_resolved.specs.ValueView.{value_view, values_of, place_view}
+use Rattle.pungi_resolved.specs.declared.value.Value.{Value as Node, size-Value}
 use Rattle.pungi_code.specs.declared.instr.Instr.TheVariants.{Fall}
 use Rattle.pungi_layout.specs.code.ExprCode.{line, args_code}
+use Rattle.pungi_layout.specs.code.Sizes.{values_size}
+use Rattle.pungi_layout.specs.code.Sound.{AreSound, values_nodes}
+use Rattle.pungi_layout.specs.code.Temporaries.{operand, front_column}
+use Rattle.pungi_layout.proofs.relation.Columns.{positive}
 use Rattle.pungi_emit.proofs.expr.ExprCode.{operands_emitted, stored_emitted, updated_emitted, negated_emitted}
 use Rattle.pungi_emit.proofs.expr.ExprCode.{joined_emitted, chosen_emitted, row_emitted, arg_emitted}
+use Rattle.pungi_emit.proofs.expr.ExprCode.{put_grown, value_grown, base_grown, held_grown}
+use Rattle.pungi_emit.proofs.expr.Arguments.{args_few}
 use Rattle.pungi_emit.proofs.code.Lists.{next_one}
 use Rattle.pungi_emit.proofs.expr.expr_code.+emit.Goals as goal
 
 pub emit_chosen-returns : goal.emit_chosen-returns
 emit_chosen-returns t c =
     let hole = line c.args.pos Fall in
-    let e1 = rw c.in_ok-value.ensures at c.in_ok-emit_value.ensures in
-    let e10 = rw (c.branch_on-branch.ensures, c.in_ok-value.ensures) at c.replace-2.ensures in
-    chosen_emitted c.args.around.locals c.args.depth c.args.target c.in_ok-test.test c.in_ok-jump.jump
-    c.in_ok-end.end c.args.pos (value_view c.args.c.now) (value_view c.args.a.now) (value_view c.args.b.now) hole
+    let e1 = rw c.temp_of-value.ensures at c.in_ok-emit_value.ensures in
+    let e10 = rw (c.branch_on-branch.ensures, c.temp_of-value.ensures) at c.replace-2.ensures in
+    chosen_emitted c.args.around.locals c.args.depth c.args.target c.next_place-test.result c.next_place-jump.result
+    c.next_place-end.result c.args.pos (value_view c.args.c.now) (value_view c.args.a.now) (value_view c.args.b.now)
+    hole
     hole c.args.code.now c.emit_value.new.code c.put.new.code c.emit_value-2.new.code c.put-2.new.code
-    c.emit_value-3.new.code c.replace.new.code c.replace-2.new.code e1 c.in_ok-test.ensures.place
-    c.in_ok-put.ensures c.in_ok-emit_value-2.ensures c.in_ok-jump.ensures.place c.in_ok-put-2.ensures
-    c.in_ok-emit_value-3.ensures c.in_ok-end.ensures.place c.replace.ensures e10
+    c.emit_value-3.new.code c.replace.new.code c.replace-2.new.code e1 c.next_place-test.ensures
+    c.in_ok-put.ensures c.in_ok-emit_value-2.ensures c.next_place-jump.ensures c.in_ok-put-2.ensures
+    c.in_ok-emit_value-3.ensures c.next_place-end.ensures c.replace.ensures e10
 
 pub emit_joined-returns : goal.emit_joined-returns
 emit_joined-returns t c =
     let e1 = rw (c.bit.ensures, c.is_and-on.ensures) at c.in_ok-put.ensures in
-    let e2 = rw (c.in_ok-left.ensures, c.in_ok-level.ensures) at c.in_ok-emit_value.ensures in
-    let e5 = rw (c.in_ok-right.ensures, c.in_ok-level.ensures) at c.in_ok-emit_value-2.ensures in
-    let e7 = rw (c.branch_on-first.ensures, c.is_and-on.ensures, c.in_ok-left.ensures, c.in_ok-level.ensures) at
+    let e2 = rw c.temp_of-left.ensures at c.in_ok-emit_value.ensures in
+    let e5 = rw c.temp_of-right.ensures at c.in_ok-emit_value-2.ensures in
+    let e7 = rw (c.branch_on-first.ensures, c.is_and-on.ensures, c.temp_of-left.ensures) at
     c.replace.ensures in
-    let e8 = rw (c.branch_on-second.ensures, c.is_and-on.ensures, c.in_ok-right.ensures, c.in_ok-level.ensures) at
+    let e8 = rw (c.branch_on-second.ensures, c.is_and-on.ensures, c.temp_of-right.ensures) at
     c.in_ok-put-3.ensures in
     let e9 = rw (c.bit-2.ensures, c.is_and-on.ensures) at c.in_ok-put-4.ensures in
-    joined_emitted c.args.around.locals c.args.depth c.args.target c.in_ok-test.test c.in_ok-last.last c.args.pos
+    joined_emitted c.args.around.locals c.args.depth c.args.target c.next_place-test.result c.next_place-last.result
+    c.args.pos
     c.args.mark (value_view c.args.a.now) (value_view c.args.b.now) (line c.args.pos Fall) c.args.code.now
     c.put.new.code c.emit_value.new.code c.put-2.new.code c.emit_value-2.new.code c.replace.new.code
-    c.put-3.new.code c.put-4.new.code e1 e2 c.in_ok-test.ensures.place c.in_ok-put-2.ensures e5
-    c.in_ok-last.ensures.place e7 e8 e9
+    c.put-3.new.code c.put-4.new.code e1 e2 c.next_place-test.ensures c.in_ok-put-2.ensures e5
+    c.next_place-last.ensures e7 e8 e9
 
 pub emit_negated-returns : goal.emit_negated-returns
 emit_negated-returns t c =
     let e1 = rw c.bit.ensures at c.in_ok-put.ensures in
-    let e2 = rw (c.in_ok-value.ensures, c.in_ok-level.ensures) at c.in_ok-emit_value.ensures in
-    let e4 = rw (c.branch_on-branch.ensures, c.in_ok-value.ensures, c.in_ok-level.ensures) at c.in_ok-put-2.ensures in
+    let e2 = rw c.temp_of-value.ensures at c.in_ok-emit_value.ensures in
+    let e4 = rw (c.branch_on-branch.ensures, c.temp_of-value.ensures) at c.in_ok-put-2.ensures in
     let e5 = rw c.bit-2.ensures at c.in_ok-put-3.ensures in
-    negated_emitted c.args.around.locals c.args.depth c.args.target c.in_ok-test.test c.args.pos
+    negated_emitted c.args.around.locals c.args.depth c.args.target c.next_place-test.result c.args.pos
     (value_view c.args.part.now) c.args.code.now c.put.new.code c.emit_value.new.code c.put-2.new.code
-    c.put-3.new.code e1 e2 c.in_ok-test.ensures.place e4 e5
+    c.put-3.new.code e1 e2 c.next_place-test.ensures e4 e5
 
 pub emit_operands-returns : goal.emit_operands-returns
 emit_operands-returns t c =
-    let e2 = rw c.in_ok-level.ensures at c.in_ok-emit_value-2.ensures in
     operands_emitted c.args.around.locals c.args.depth c.args.left c.args.right (value_view c.args.a.now)
     (value_view c.args.b.now) c.args.code.now c.emit_value.new.code c.emit_value-2.new.code
-    c.in_ok-emit_value.ensures e2
+    c.in_ok-emit_value.ensures c.in_ok-emit_value-2.ensures
 
 pub emit_stored-returns : goal.emit_stored-returns
 emit_stored-returns t c =
-    let e2 = rw (c.in_ok-level.ensures, c.in_ok-value.ensures) at c.in_ok-emit_value.ensures in
-    let e3 = rw (c.in_ok-base.ensures, c.in_ok-value.ensures) at c.in_ok-emit_store.ensures in
+    let e2 = rw (c.above-level.ensures.above, c.stored_var-value.ensures) at c.in_ok-emit_value.ensures in
+    let e3 = rw (c.base_var-base.ensures, c.stored_var-value.ensures) at c.in_ok-emit_store.ensures in
     stored_emitted c.args.around.locals c.args.depth c.args.target c.args.pos c.args.kind
     (place_view c.args.place.now) (value_view c.args.part.now) c.args.code.now c.emit_base.new.code
     c.emit_value.new.code c.emit_store.new.code c.in_ok-emit_base.ensures e2 e3
 
 pub emit_updated-returns : goal.emit_updated-returns
 emit_updated-returns t c =
-    let e1 = rw (c.in_ok-old.ensures, c.in_ok-level.ensures) at c.in_ok-emit_held.ensures in
-    let e2 = rw (c.in_ok-right.ensures, c.in_ok-next_level.ensures, c.in_ok-level.ensures) at
+    let e1 = rw (c.temp-old.ensures, c.above-level.ensures.above) at c.in_ok-emit_held.ensures in
+    let e2 = rw (c.temp_of-right.ensures, c.above-level.ensures.above) at
     c.in_ok-emit_value.ensures in
     let e3 = rw (
-      c.in_ok-outcome.ensures,
+      c.counted_var-outcome.ensures,
       c.of.ensures,
       c.atom.ensures,
       c.atom-2.ensures,
-      c.in_ok-old.ensures,
-      c.in_ok-right.ensures,
-      c.in_ok-next_level.ensures,
-      c.in_ok-level.ensures,
+      c.temp-old.ensures,
+      c.temp_of-right.ensures,
+      c.above-level.ensures.above,
     ) at c.in_ok-put.ensures in
-    let e4 = rw (c.in_ok-value.ensures, c.in_ok-outcome.ensures) at c.in_ok-emit_fit.ensures in
-    let e5 = rw (c.in_ok-base.ensures, c.in_ok-value.ensures) at c.in_ok-emit_store.ensures in
+    let e4 = rw (c.stored_var-value.ensures, c.counted_var-outcome.ensures) at c.in_ok-emit_fit.ensures in
+    let e5 = rw (c.base_var-base.ensures, c.stored_var-value.ensures) at c.in_ok-emit_store.ensures in
     updated_emitted c.args.around.locals c.args.depth c.args.target c.args.pos c.args.mark c.args.counted
     c.args.kind (place_view c.args.place.now) (value_view c.args.part.now) c.args.code.now c.emit_held.new.code
     c.emit_value.new.code c.put.new.code c.emit_fit.new.code c.emit_store.new.code e1 e2 e3 e4 e5
@@ -84,7 +94,7 @@ emit_updated-returns t c =
 pub emit_called-returns : goal.emit_called-returns
 emit_called-returns t c =
     let e = rw c.as_slice.ensures at c.in_ok-emit_args.ensures in
-    row_emitted c.args.around.locals c.args.depth c.args.target c.args.pos c.args.shape.now.row
+    row_emitted c.args.around.locals c.args.depth c.args.target c.args.pos c.args.signature.now
     (map value_view c.args.args.now) c.args.code.now c.emit_args.new.code c.emit_row.new.code e
     c.in_ok-emit_row.ensures
 
@@ -99,9 +109,198 @@ emit_args-loop-arg-preserved t c =
     let so_far = c.loop-arg.code in
     let level = c.loop-arg.level in
     let left = c.loop-arg.left.now in
-    let e = rw (c.in_ok-target.ensures, c.front_column.ensures) at c.in_ok-emit_value.ensures in
+    let e = rw (c.operand-target.ensures, c.front_column.ensures) at c.in_ok-emit_value.ensures in
     let step = arg_emitted nl level left (value_view c.arg-item.result) (values_of
     (map value_view (drop (i + 1) xs))) so_far c.emit_value.new.code e in
-    rw (c.in_ok-level.ensures, c.tail-left.ensures) (sym step
-    ∙ ap (λ ys. so_far ++ args_code nl level (length so_far) left (values_of (map value_view ys))) (sym d)
-    ∙ c.loop-arg.invariant)
+    let S : List Node → Type 0 = λ ys. AreSound nl (values_of (map value_view ys)) in
+    let D : List Node → Type 0 = λ ys. level + values_nodes (values_of (map value_view ys)) < 2 ^ 16 in
+    let L : List Node → Type 0 = λ ys. length so_far + values_size (values_of (map value_view ys)) ≤ 2 ^ 14 in
+    let v = value_view c.arg-item.result in
+    let sound : S (c.arg-item.result ∷ drop (i + 1) xs) = subst S d c.loop-arg.invariant.sound in
+    let deep : D (c.arg-item.result ∷ drop (i + 1) xs) = subst D d c.loop-arg.invariant.deep in
+    let long : L (c.arg-item.result ∷ drop (i + 1) xs) = subst L d c.loop-arg.invariant.long in
+    let n = value_grown nl level (operand nl level (front_column left) v) v so_far c.emit_value.new.code e in
+    record {
+      code = rw c.tail-left.ensures (sym step ∙ ap (λ ys. so_far
+          ++ args_code nl level (length so_far) left (values_of (map value_view ys))) (sym d)
+          ∙ c.loop-arg.invariant.code);
+      sound = sound.2;
+      deep = omega (arith, deep, positive v);
+      long = omega (arith, long, n);
+    }
+
+pub emit_args-emit_value-requires : goal.emit_args-emit_value-requires
+emit_args-emit_value-requires t c =
+    let xs = c.args.args.now in
+    let i = c.loop-arg.arg-index in
+    let s : i < length xs = omega arith in
+    let d = next_one xs i c.arg-item.result s c.arg-item.is in
+    let nl = c.args.around.locals in
+    let S : List Node → Type 0 = λ ys. AreSound nl (values_of (map value_view ys)) in
+    let D : List Node → Type 0 = λ ys. c.loop-arg.level + values_nodes (values_of (map value_view ys)) < 2 ^ 16 in
+    let L : List Node → Type 0 = λ ys. length c.loop-arg.code + values_size (values_of (map value_view ys)) ≤ 2 ^ 14 in
+    let sound : S (c.arg-item.result ∷ drop (i + 1) xs) = subst S d c.loop-arg.invariant.sound in
+    let deep : D (c.arg-item.result ∷ drop (i + 1) xs) = subst D d c.loop-arg.invariant.deep in
+    let long : L (c.arg-item.result ∷ drop (i + 1) xs) = subst L d c.loop-arg.invariant.long in (
+      omega (arith, at_most size-Value xs i c.arg-item.result s, ap size-Value c.arg-item.is),
+      (sound.1, (omega (arith, deep), omega (arith, long))),
+    )
+
+-- .. the code stays within its limit
+
+pub emit_stepped-emit_held-requires : goal.emit_stepped-emit_held-requires
+emit_stepped-emit_held-requires t c =
+    let n = put_grown _ c.args.code.now c.put.new.code c.in_ok-put.ensures in
+    (omega arith, (c.requires.sound, (omega (arith, c.requires.deep), omega (arith, n, c.requires.long))))
+
+pub emit_stored-emit_value-requires : goal.emit_stored-emit_value-requires
+emit_stored-emit_value-requires t c =
+    let n = base_grown c.args.around.locals c.args.depth (place_view c.args.place.now) c.args.code.now
+    c.emit_base.new.code c.in_ok-emit_base.ensures in (
+      omega arith,
+      (
+        c.requires.sound.2,
+        (
+          omega (arith, c.above-level.ensures.low, c.requires.deep),
+          omega
+              (arith, n, c.requires.long),
+        ),
+      ),
+    )
+
+pub emit_updated-emit_value-requires : goal.emit_updated-emit_value-requires
+emit_updated-emit_value-requires t c =
+    let n = held_grown c.args.around.locals c.args.depth c.temp-old.result _ c.args.kind
+    (place_view c.args.place.now) c.args.code.now c.emit_held.new.code c.in_ok-emit_held.ensures in (
+      omega arith,
+      (
+        c.requires.sound.2,
+        (
+          omega (arith, c.above-level.ensures.low, c.requires.deep),
+          omega
+              (arith, n, c.requires.long),
+        ),
+      ),
+    )
+
+pub emit_operands-emit_value-requires-2 : goal.emit_operands-emit_value-requires-2
+emit_operands-emit_value-requires-2 t c =
+    let n = value_grown c.args.around.locals c.args.depth c.args.left (value_view c.args.a.now) c.args.code.now
+    c.emit_value.new.code c.in_ok-emit_value.ensures in
+    (omega arith, (c.requires.sound.1, (omega (arith, c.requires.deep), omega (arith, n, c.requires.long))))
+
+pub emit_negated-emit_value-requires : goal.emit_negated-emit_value-requires
+emit_negated-emit_value-requires t c =
+    let n = put_grown _ c.args.code.now c.put.new.code c.in_ok-put.ensures in
+    (omega arith, (c.requires.sound.1, (omega (arith, c.requires.deep), omega (arith, n, c.requires.long))))
+
+pub emit_negated-next_place-test-requires : goal.emit_negated-next_place-test-requires
+emit_negated-next_place-test-requires t c =
+    let n = put_grown _ c.args.code.now c.put.new.code c.in_ok-put.ensures in
+    let m = value_grown c.args.around.locals (c.args.depth + 1) c.temp_of-value.result (value_view c.args.part.now)
+    c.put.new.code c.emit_value.new.code c.in_ok-emit_value.ensures in
+    omega (arith, n, m, c.requires.long)
+
+pub emit_joined-emit_value-requires : goal.emit_joined-emit_value-requires
+emit_joined-emit_value-requires t c =
+    let n = put_grown _ c.args.code.now c.put.new.code c.in_ok-put.ensures in
+    (omega arith, (c.requires.sound.1, (omega (arith, c.requires.deep), omega (arith, n, c.requires.long))))
+
+pub emit_joined-next_place-test-requires : goal.emit_joined-next_place-test-requires
+emit_joined-next_place-test-requires t c =
+    let n = put_grown _ c.args.code.now c.put.new.code c.in_ok-put.ensures in
+    let m = value_grown c.args.around.locals (c.args.depth + 1) c.temp_of-left.result (value_view c.args.a.now)
+    c.put.new.code c.emit_value.new.code c.in_ok-emit_value.ensures in
+    omega (arith, n, m, c.requires.long)
+
+pub emit_joined-emit_value-requires-2 : goal.emit_joined-emit_value-requires-2
+emit_joined-emit_value-requires-2 t c =
+    let n = put_grown _ c.args.code.now c.put.new.code c.in_ok-put.ensures in
+    let m = value_grown c.args.around.locals (c.args.depth + 1) c.temp_of-left.result (value_view c.args.a.now)
+    c.put.new.code c.emit_value.new.code c.in_ok-emit_value.ensures in
+    let k = put_grown _ c.emit_value.new.code c.put-2.new.code c.in_ok-put-2.ensures in
+    (omega arith, (c.requires.sound.3, (omega (arith, c.requires.deep), omega (arith, n, m, k, c.requires.long))))
+
+pub emit_joined-next_place-last-requires : goal.emit_joined-next_place-last-requires
+emit_joined-next_place-last-requires t c =
+    let n = put_grown _ c.args.code.now c.put.new.code c.in_ok-put.ensures in
+    let m = value_grown c.args.around.locals (c.args.depth + 1) c.temp_of-left.result (value_view c.args.a.now)
+    c.put.new.code c.emit_value.new.code c.in_ok-emit_value.ensures in
+    let k = put_grown _ c.emit_value.new.code c.put-2.new.code c.in_ok-put-2.ensures in
+    let l = value_grown c.args.around.locals (c.args.depth + 1) c.temp_of-right.result (value_view c.args.b.now)
+    c.put-2.new.code c.emit_value-2.new.code c.in_ok-emit_value-2.ensures in
+    omega (arith, n, m, k, l, c.requires.long)
+
+pub emit_chosen-next_place-test-requires : goal.emit_chosen-next_place-test-requires
+emit_chosen-next_place-test-requires t c =
+    let n = value_grown c.args.around.locals c.args.depth c.temp_of-value.result (value_view c.args.c.now)
+    c.args.code.now c.emit_value.new.code c.in_ok-emit_value.ensures in
+    omega (arith, n, c.requires.long)
+
+pub emit_chosen-emit_value-requires-2 : goal.emit_chosen-emit_value-requires-2
+emit_chosen-emit_value-requires-2 t c =
+    let n = value_grown c.args.around.locals c.args.depth c.temp_of-value.result (value_view c.args.c.now)
+    c.args.code.now c.emit_value.new.code c.in_ok-emit_value.ensures in
+    let m = put_grown _ c.emit_value.new.code c.put.new.code c.in_ok-put.ensures in
+    (omega arith, (c.requires.sound.3, (omega (arith, c.requires.deep), omega (arith, n, m, c.requires.long))))
+
+pub emit_chosen-next_place-jump-requires : goal.emit_chosen-next_place-jump-requires
+emit_chosen-next_place-jump-requires t c =
+    let n = value_grown c.args.around.locals c.args.depth c.temp_of-value.result (value_view c.args.c.now)
+    c.args.code.now c.emit_value.new.code c.in_ok-emit_value.ensures in
+    let m = put_grown _ c.emit_value.new.code c.put.new.code c.in_ok-put.ensures in
+    let k = value_grown c.args.around.locals c.args.depth c.args.target (value_view c.args.a.now) c.put.new.code
+    c.emit_value-2.new.code c.in_ok-emit_value-2.ensures in
+    omega (arith, n, m, k, c.requires.long)
+
+pub emit_chosen-emit_value-requires-3 : goal.emit_chosen-emit_value-requires-3
+emit_chosen-emit_value-requires-3 t c =
+    let n = value_grown c.args.around.locals c.args.depth c.temp_of-value.result (value_view c.args.c.now)
+    c.args.code.now c.emit_value.new.code c.in_ok-emit_value.ensures in
+    let m = put_grown _ c.emit_value.new.code c.put.new.code c.in_ok-put.ensures in
+    let k = value_grown c.args.around.locals c.args.depth c.args.target (value_view c.args.a.now) c.put.new.code
+    c.emit_value-2.new.code c.in_ok-emit_value-2.ensures in
+    let l = put_grown _ c.emit_value-2.new.code c.put-2.new.code c.in_ok-put-2.ensures in
+    (omega arith, (c.requires.sound.5, (omega (arith, c.requires.deep), omega (arith, n, m, k, l, c.requires.long))))
+
+pub emit_chosen-next_place-end-requires : goal.emit_chosen-next_place-end-requires
+emit_chosen-next_place-end-requires t c =
+    let n = value_grown c.args.around.locals c.args.depth c.temp_of-value.result (value_view c.args.c.now)
+    c.args.code.now c.emit_value.new.code c.in_ok-emit_value.ensures in
+    let m = put_grown _ c.emit_value.new.code c.put.new.code c.in_ok-put.ensures in
+    let k = value_grown c.args.around.locals c.args.depth c.args.target (value_view c.args.a.now) c.put.new.code
+    c.emit_value-2.new.code c.in_ok-emit_value-2.ensures in
+    let l = put_grown _ c.emit_value-2.new.code c.put-2.new.code c.in_ok-put-2.ensures in
+    let o = value_grown c.args.around.locals c.args.depth c.args.target (value_view c.args.b.now) c.put-2.new.code
+    c.emit_value-3.new.code c.in_ok-emit_value-3.ensures in
+    omega (arith, n, m, k, l, o, c.requires.long)
+
+pub emit_called-emit_row-requires : goal.emit_called-emit_row-requires
+emit_called-emit_row-requires t c =
+    let n = args_few (map value_view c.args.args.now) in
+    let m = length-map c.args.args.now value_view in
+    omega (arith, n, m, c.requires.deep)
+
+pub emit_negated-overflow_add-test : goal.emit_negated-overflow_add-test
+emit_negated-overflow_add-test t c =
+    let n = put_grown _ c.args.code.now c.put.new.code c.in_ok-put.ensures in
+    let m = value_grown c.args.around.locals (c.args.depth + 1) c.temp_of-value.result (value_view c.args.part.now)
+    c.put.new.code c.emit_value.new.code c.in_ok-emit_value.ensures in
+    omega (arith, n, m, c.next_place-test.ensures, c.requires.long)
+
+pub emit_negated-overflow_add-test-2 : goal.emit_negated-overflow_add-test-2
+emit_negated-overflow_add-test-2 t c =
+    let n = put_grown _ c.args.code.now c.put.new.code c.in_ok-put.ensures in
+    let m = value_grown c.args.around.locals (c.args.depth + 1) c.temp_of-value.result (value_view c.args.part.now)
+    c.put.new.code c.emit_value.new.code c.in_ok-emit_value.ensures in
+    omega (arith, n, m, c.next_place-test.ensures, c.requires.long)
+
+pub emit_joined-overflow_add-end : goal.emit_joined-overflow_add-end
+emit_joined-overflow_add-end t c =
+    let n = put_grown _ c.args.code.now c.put.new.code c.in_ok-put.ensures in
+    let m = value_grown c.args.around.locals (c.args.depth + 1) c.temp_of-left.result (value_view c.args.a.now)
+    c.put.new.code c.emit_value.new.code c.in_ok-emit_value.ensures in
+    let k = put_grown _ c.emit_value.new.code c.put-2.new.code c.in_ok-put-2.ensures in
+    let l = value_grown c.args.around.locals (c.args.depth + 1) c.temp_of-right.result (value_view c.args.b.now)
+    c.put-2.new.code c.emit_value-2.new.code c.in_ok-emit_value-2.ensures in
+    omega (arith, n, m, k, l, c.next_place-last.ensures, c.requires.long)

@@ -1,8 +1,11 @@
-use Rattle.std.proofs.Common.{◌≡◌, ◌+◌, ◌*◌, ◌++◌, length, drop, map, max}
+use Rattle.std.proofs.Common.{◌≡◌, ◌+◌, ◌*◌, ◌<◌, ◌≤◌, ◌^◌, ◌++◌, length, drop, map, max}
 use Rattle.pungi_resolved.specs.ValueView.{value_view, values_of}
 use Rattle.pungi_resolved.specs.declared.value.Place.{size-Place}
 use Rattle.pungi_resolved.specs.declared.value.Value.{size-Value}
+use Rattle.pungi_code.specs.Limits.{most_instructions}
 use Rattle.pungi_layout.specs.code.ExprCode.{args_code}
+use Rattle.pungi_layout.specs.code.Sizes.{values_size}
+use Rattle.pungi_layout.specs.code.Sound.{AreSound, values_nodes}
 use Rattle.pungi_emit.proofs.expr.expr_code.+emit.Given as goal
 
 abbrev pub decreases-emit_value : goal.decreases-emit_value
@@ -54,8 +57,13 @@ abbrev pub decreases-emit_chosen : goal.decreases-emit_chosen
 decreases-emit_chosen l = 4 * max (size-Value l.c.now) (max (size-Value l.a.now) (size-Value l.b.now)) + 1
 
 abbrev pub invariant-emit_args-loop-arg : goal.invariant-emit_args-loop-arg
-invariant-emit_args-loop-arg l =
-    l.code ++ args_code l.around.locals l.level (length l.code) l.left (values_of
-    (map value_view (drop l.arg-index l.args)))
-    ≡ l.initial.code ++ args_code l.around.locals l.depth (length l.initial.code) l.params
-    (values_of (map value_view l.args))
+invariant-emit_args-loop-arg l = record {
+  code :
+      l.code ++ args_code l.around.locals l.level (length l.code) l.left (values_of
+      (map value_view (drop l.arg-index l.args)))
+      ≡ l.initial.code ++ args_code l.around.locals l.depth (length l.initial.code) l.params
+      (values_of (map value_view l.args));
+  sound : AreSound l.around.locals (values_of (map value_view (drop l.arg-index l.args)));
+  deep : l.level + values_nodes (values_of (map value_view (drop l.arg-index l.args))) < 2 ^ 16;
+  long : length l.code + values_size (values_of (map value_view (drop l.arg-index l.args))) ≤ most_instructions;
+}

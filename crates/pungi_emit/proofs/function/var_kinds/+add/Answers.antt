@@ -1,4 +1,4 @@
-use Rattle.std.proofs.Common.{◌≡◌, ◌+◌, ◌<◌, ◌++◌, length, map, drop, sym, ap, ◌∙◌, arith}
+use Rattle.std.proofs.Common.{◌+◌, ◌<◌, ◌++◌, length, map, drop, sym, ap, ◌∙◌, arith}
 use Rattle.pungi_resolved.specs.ActionView.{action_view, actions_of}
 use Rattle.pungi_layout.specs.code.VarKinds.{kind_held, stmt_declared, stmts_declared}
 use Rattle.pungi_emit.proofs.code.Lists.{next_one}

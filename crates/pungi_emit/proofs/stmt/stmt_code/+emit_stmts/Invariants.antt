@@ -1,8 +1,11 @@
-use Rattle.std.proofs.Common.{◌≡◌, ◌+◌, ◌*◌, ◌++◌, length, drop, map, max}
+use Rattle.std.proofs.Common.{◌≡◌, ◌+◌, ◌*◌, ◌<◌, ◌≤◌, ◌^◌, ◌++◌, length, drop, map, max}
 use Rattle.pungi_resolved.specs.ActionView.{action_view, actions_of}
 use Rattle.pungi_resolved.specs.declared.action.Action.{size-Action}
 use Rattle.pungi_emit.specs.planning.LabelPlaces.{env_of}
 use Rattle.pungi_emit.specs.planning.Plans.{plans_of}
+use Rattle.pungi_code.specs.Limits.{most_instructions}
+use Rattle.pungi_layout.specs.code.Sizes.{stmts_size}
+use Rattle.pungi_layout.specs.code.Sound.{AreStmtsSound, stmts_nodes}
 use Rattle.pungi_layout.specs.code.StmtCode.{stmts_code}
 use Rattle.pungi_emit.proofs.planning.PlanLists.{Left}
 use Rattle.pungi_emit.proofs.stmt.stmt_code.+emit_stmts.Given as goal
@@ -59,4 +62,7 @@ invariant-emit_list-loop-action l = record {
   plan :
       Left (plans_of (length l.code) (actions_of (map action_view (drop l.action-index l.list)))) l.plan.left.now
       (plans_of (length l.initial.code) (actions_of (map action_view l.list))) l.initial.plan.left.now;
+  sound : AreStmtsSound l.around.locals (actions_of (map action_view (drop l.action-index l.list)));
+  few : stmts_nodes (actions_of (map action_view (drop l.action-index l.list))) < 2 ^ 16;
+  long : length l.code + stmts_size (actions_of (map action_view (drop l.action-index l.list))) ≤ most_instructions;
 }

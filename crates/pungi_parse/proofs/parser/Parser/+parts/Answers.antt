@@ -27,21 +27,11 @@ use Rattle.pungi_parse.proofs.parser.Parser.+parts.Goals as goal
 
 pub expr-returns-then-self-eq0 : goal.expr-returns-then-self-eq0
 expr-returns-then-self-eq0 t c =
-    record {
-      tree = expr_none _ _ _ _ _ c.if-self-eq0.true;
-      deep = tt;
-      bound = tt;
-      shorter = tt;
-    }
+    record { tree = expr_none _ _ _ _ _ c.if-self-eq0.true; deep = tt; bound = tt; shorter = tt }
 
 pub expr-returns-then-self-eq0-2 : goal.expr-returns-then-self-eq0-2
 expr-returns-then-self-eq0-2 t c =
-    record {
-      tree = expr_flat _ _ _ _ _ c.if-self-eq0-2.true;
-      deep = tt;
-      bound = tt;
-      shorter = tt;
-    }
+    record { tree = expr_flat _ _ _ _ _ c.if-self-eq0-2.true; deep = tt; bound = tt; shorter = tt }
 
 pub expr-returns : goal.expr-returns
 expr-returns t c =
@@ -55,12 +45,7 @@ expr-returns t c =
 
 pub spec-returns-then-self-eq0 : goal.spec-returns-then-self-eq0
 spec-returns-then-self-eq0 t c =
-    record {
-      tree = spec_none _ _ _ _ c.if-self-eq0.true;
-      deep = tt;
-      bound = tt;
-      shorter = tt;
-    }
+    record { tree = spec_none _ _ _ _ c.if-self-eq0.true; deep = tt; bound = tt; shorter = tt }
 
 pub spec-returns : goal.spec-returns
 spec-returns t c =
@@ -74,12 +59,7 @@ spec-returns t c =
 
 pub params-returns-then-self-eq0 : goal.params-returns-then-self-eq0
 params-returns-then-self-eq0 t c =
-    record {
-      tree = params_none _ _ _ _ c.if-self-eq0.true;
-      deep = tt;
-      bound = tt;
-      shorter = tt;
-    }
+    record { tree = params_none _ _ _ _ c.if-self-eq0.true; deep = tt; bound = tt; shorter = tt }
 
 pub params-returns : goal.params-returns
 params-returns t c =
@@ -438,12 +418,7 @@ declrs-returns t c =
 pub function_rest-returns-in_default : goal.function_rest-returns-in_default
 function_rest-returns-in_default t c =
     let none : function_front c.args.self.now.types.now (placed c.args.tokens.now) ≡ None = search rules in
-    record {
-      tree = function_none _ _ _ _ none;
-      deep = tt;
-      bound = tt;
-      shorter = tt;
-    }
+    record { tree = function_none _ _ _ _ none; deep = tt; bound = tt; shorter = tt }
 
 pub function_rest-returns-in_err-params : goal.function_rest-returns-in_err-params
 function_rest-returns-in_err-params t c =

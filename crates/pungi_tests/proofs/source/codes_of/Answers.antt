@@ -1,0 +1,16 @@
+use Rattle.std.proofs.Common.{List, Option, map, sym, subst}
+use Rattle.pungi_resolved.specs.declared.function.Function.{Function}
+use Rattle.pungi_resolve.specs.Resolutions.{IsResolved, resolution_view}
+use Rattle.pungi_check.specs.Found.{checked_view}
+use Rattle.pungi_tests.proofs.source.codes_of.Goals as goal
+
+pub lower-requires : goal.lower-requires
+lower-requires c =
+    let h = c.in_ok-checked.ensures.checked in
+    let view = checked_view c.in_ok-checked.checked in
+    record {
+      file = view;
+      resolved = subst (λ (fs : List (Option Function)). IsResolved view (map resolution_view fs))
+          (sym c.deref.ensures.value)
+          (record { are = h.resolved_are; own = h.own; set = h.set; rows = h.rows; few = h.few });
+    }
