@@ -4,7 +4,7 @@ use Rattle.std.proofs.Common.{Option, Some, None, sym, subst, ap, ◌∙◌, app
 use Rattle.std.specs.Prelude.{Result, Ok, Err, IfOk, OnErr}
 use Rattle.pungi_api.specs.Rows.{builtin_rows}
 use Rattle.pungi_api.specs.declared.row.Row.{Row}
-use Rattle.pungi_base.specs.Shelf.{Rose}
+use Rattle.pungi_io.specs.Shelf.{Rose}
 use Rattle.pungi_base.specs.Words.{builtin_words}
 use Rattle.pungi_config.specs.Command.{Asked}
 use Rattle.pungi_config.specs.Limits.{config_limit}

@@ -29,7 +29,7 @@
 --                                refused, the configuration's where that is refused, at least one where a file can't
 --                                be read, and all where a report is written or the file is refused
 use Rattle.std.specs.Prelude.{◌≡◌, ◌≢◌, ◌⊎◌, ℕ, ◌≤◌, ◌<◌, List, [], ◌∷◌, ◌++◌, length, Option, None, Some, codes}
-use Rattle.pungi_base.specs.Shelf.{Rose}
+use Rattle.pungi_io.specs.Shelf.{Rose}
 use Rattle.pungi_base.specs.Witness.{line_end}
 use Rattle.pungi_base.specs.declared.names.Name.{Name}
 use Rattle.pungi_base.specs.declared.verdict.Verdict.{Verdict}

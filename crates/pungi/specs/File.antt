@@ -8,7 +8,7 @@
 --                                 the same over the API of a configuration with this text; or that it is refused, where
 --                                 nothing more was opened
 use Rattle.std.specs.Prelude.{◌≡◌, ◌⊎◌, ℕ, ◌≤◌, List, [], ◌∷◌, ◌++◌, length, Option}
-use Rattle.pungi_base.specs.Shelf.{Rose}
+use Rattle.pungi_io.specs.Shelf.{Rose}
 use Rattle.pungi.specs.Answer.{IsFileRefusal}
 use Rattle.pungi.specs.Api.{Api, IsConfigured, IsWrong, wrong_text}
 use Rattle.pungi.specs.Examine.{IsReport}

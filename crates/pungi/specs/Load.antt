@@ -5,7 +5,7 @@
 --                       over the limit; or the answer that goes with a call that failed. The counts are those of the
 --                       shelf's faults before and after
 use Rattle.std.specs.Prelude.{◌≡◌, ℕ, ◌≤◌, ◌<◌, List, ◌++◌, length, Option, codes}
-use Rattle.pungi_base.specs.Shelf.{Rose}
+use Rattle.pungi_io.specs.Shelf.{Rose}
 use Rattle.pungi_base.specs.Witness.{line_end}
 use Rattle.pungi.specs.Read.{IsFront, IsWhole}
 use Rattle.pungi.specs.Status.{file_unread}

@@ -23,8 +23,9 @@ use crate::load::{Loaded, load};
 use crate::refusal::refusal_answer;
 use crate::status::FILE_REFUSED;
 use pungi_api::{Row, Table};
-use pungi_base::{Memory, Name, Names, Shelf};
+use pungi_base::{Memory, Name, Names};
 use pungi_config::{CONFIG_LIMIT, limits_are_those_stated, rows};
+use pungi_io::Shelf;
 use std::alloc::Global;
 
 /// The answer to a text within the limit: the report on its functions, or why it is refused.

@@ -2,7 +2,7 @@ ghost use Rattle.std.specs.Prelude.{◌≡◌, [], None, Some};
 ghost use Rattle.std.specs.List.{concat};
 ghost use Rattle.pungi.specs.FolderShelf.{left_of};
 
-use pungi_base::{Failed, History, OpenFault, Shelf};
+use pungi_io::{Failed, History, OpenFault, Shelf};
 use std::alloc::Global;
 use std::fs::File;
 use std::io::Read;

@@ -3,7 +3,8 @@ ghost use Rattle.pungi.specs.Load.{IsLoaded};
 
 use crate::answer::{Answer, unread_answer};
 use crate::read::{Reading, read_opened};
-use pungi_base::{Memory, OpenFault, Shelf};
+use pungi_base::Memory;
+use pungi_io::{OpenFault, Shelf};
 use std::alloc::Global;
 
 /// What came of opening and reading a file.

@@ -1,7 +1,7 @@
 ghost use Rattle.std.specs.Prelude.{◌≡◌, []};
 ghost use Rattle.std.specs.List.{concat};
 
-use pungi_base::{Failed, History, Sink};
+use pungi_io::{Failed, History, Sink};
 use std::io::{Stdout, Write};
 
 /// The standard output. Of the bytes that the system took it keeps what clauses see.

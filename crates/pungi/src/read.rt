@@ -1,8 +1,8 @@
 ghost use Rattle.std.specs.Prelude.{◌≡◌, [], vec_len, IfOk, Err};
-ghost use Rattle.pungi_base.specs.Shelf.{Rose, Opens};
+ghost use Rattle.pungi_io.specs.Shelf.{Rose, Opens};
 ghost use Rattle.pungi.specs.Read.{IsReading};
 
-use pungi_base::{Failed, OpenFault, Shelf};
+use pungi_io::{Failed, OpenFault, Shelf};
 use std::alloc::{AllocError, Global};
 
 /// How many bytes are requested at a time.

@@ -1,5 +1,5 @@
 ghost use Rattle.std.specs.Prelude.{◌≡◌, ◌≢◌, ℕ, ◌≤◌, ◌<◌, ◌++◌, List, None, length, map, string_bytes, IfOk, OnErr};
-ghost use Rattle.pungi_base.specs.Shelf.{Rose};
+ghost use Rattle.pungi_io.specs.Shelf.{Rose};
 ghost use Rattle.pungi_config.specs.Command.{asked_of};
 ghost use Rattle.pungi_tree.specs.Syntax.{Item};
 ghost use Rattle.pungi_verdict.specs.Sound.{IsSound};
@@ -17,8 +17,9 @@ use crate::file::{configured, plain};
 use crate::status::{ANSWER_CUT, MEMORY_WANTED, WORDS_REFUSED};
 use crate::trial::trial;
 use crate::write::write_all;
-use pungi_base::{Memory, Shelf, Sink};
+use pungi_base::Memory;
 use pungi_config::{Settings, WordsFault, settings};
+use pungi_io::{Shelf, Sink};
 use std::alloc::Global;
 
 /// What the program returns.

@@ -1,7 +1,7 @@
 ghost use Rattle.std.specs.Prelude.{◌≡◌, ℕ, ◌<◌, ◌++◌, List, length, OnOk, OnErr};
-ghost use Rattle.pungi_base.specs.Shelf.{Rose};
+ghost use Rattle.pungi_io.specs.Shelf.{Rose};
 
-use pungi_base::{Failed, Sink};
+use pungi_io::{Failed, Sink};
 
 /// Writes all of a text. After a failed write a front of it was taken.
 pub fn write_all<O: Sink>(out: &mut O, text: &[u8]) -> Result<(), Failed>

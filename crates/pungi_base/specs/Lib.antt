@@ -1,7 +1,6 @@
 pub mod CWords
 pub mod Names
 pub mod Numbers
-pub mod Shelf
 pub mod Token
 pub mod Witness
 pub mod Words

@@ -1,12 +1,10 @@
-//! What all crates of Pungi speak of: names, tokens, values, runs, verdicts, and the outside as a shelf to read from
-//! and a sink to write to.
+//! What all crates of Pungi speak of: names, tokens, values, runs, and verdicts.
 #![tactic(auto)]
 
 mod builtin;
 mod choice;
 mod entry;
 mod fault;
-mod history;
 mod key;
 mod kind;
 mod memory;
@@ -15,8 +13,6 @@ mod pos;
 mod punct;
 mod rule;
 mod seq;
-mod shelf;
-mod sink;
 mod token;
 mod value;
 mod verdict;
@@ -27,7 +23,6 @@ pub mod words;
 pub use choice::Choice;
 pub use entry::Entry;
 pub use fault::Fault;
-pub use history::History;
 pub use key::Key;
 pub use kind::Kind;
 pub use memory::Memory;
@@ -36,8 +31,6 @@ pub use pos::Pos;
 pub use punct::Punct;
 pub use rule::Rule;
 pub use seq::Seq;
-pub use shelf::{Failed, OpenFault, Shelf};
-pub use sink::Sink;
 pub use token::Token;
 pub use value::Value;
 pub use verdict::Verdict;

@@ -3,12 +3,12 @@ ghost use Rattle.std.specs.Prelude.{IfErr, OnErr, OnOk, MatchOption, MatchResult
 ghost use Rattle.std.specs.Prelude.{slice_get};
 ghost use Rattle.std.specs.Io.KnownBytes.{ReadConsumes};
 ghost use Rattle.std.specs.Option.{option_map_or};
-ghost use Rattle.pungi_base.specs.Shelf.{Rose, Grew, Opens};
+ghost use Rattle.pungi_io.specs.Shelf.{Rose, Grew, Opens};
 ghost use Rattle.pungi_in_memory.specs.MemShelf.{ShelfState, text_named, pairs_of, left_at, open_fails, shelf_asked};
 ghost use Rattle.pungi_in_memory.specs.MemShelf.{shelf_failed, shelf_opened, shelf_read};
 ghost use Rattle.pungi_in_memory.specs.Calls.{is_failing};
 
-use pungi_base::{Failed, History, OpenFault, Shelf};
+use pungi_io::{Failed, History, OpenFault, Shelf};
 use std::alloc::Global;
 use std::marker::Model;
 

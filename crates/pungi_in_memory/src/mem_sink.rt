@@ -1,8 +1,9 @@
 ghost use Rattle.std.specs.Prelude.{◌≡◌, ◌≤◌, ◌<◌, ◌+◌, ℕ, [], List, length, take, IfOk, OnErr, OnOk, is_err};
-ghost use Rattle.pungi_base.specs.Shelf.{Rose, Grew};
+ghost use Rattle.pungi_io.specs.Shelf.{Rose, Grew};
 ghost use Rattle.pungi_in_memory.specs.MemSink.{SinkState, write_fails, write_count, sink_failed, sink_wrote};
 
-use pungi_base::{Failed, Memory, Sink};
+use pungi_base::Memory;
+use pungi_io::{Failed, Sink};
 use std::alloc::Global;
 use std::marker::Model;
 

@@ -1,12 +1,12 @@
 ghost use Rattle.std.specs.Prelude.{◌≡◌, ◌≤◌, ◌<◌, ◌∷◌, ◌++◌, [], List, ℕ, length, min, take, drop, Some, None, Ok};
 ghost use Rattle.std.specs.Prelude.{Err, OnOk, OnErr, IfOk, unwrap_or, true, false};
 ghost use Rattle.std.specs.Io.KnownBytes.{ReadConsumes};
-ghost use Rattle.pungi_base.specs.Shelf.{Rose, Grew, Opens};
+ghost use Rattle.pungi_io.specs.Shelf.{Rose, Grew, Opens};
 ghost use Rattle.pungi_in_memory.specs.SureShelf.{SureState, sure_text};
 ghost use Rattle.pungi_in_memory.specs.MemShelf.{text_named, pairs_of, left_at};
 
 use crate::mem_shelf::{copy_front, place_of, rest_of};
-use pungi_base::{Failed, History, OpenFault, Shelf};
+use pungi_io::{Failed, History, OpenFault, Shelf};
 use std::alloc::Global;
 use std::marker::Model;
 

@@ -1,8 +1,9 @@
 ghost use Rattle.std.specs.Prelude.{◌≡◌, ◌≤◌, ◌<◌, ℕ, [], List, length, IfOk, OnOk, OnErr, Ok};
-ghost use Rattle.pungi_base.specs.Shelf.{Rose, Grew};
+ghost use Rattle.pungi_io.specs.Shelf.{Rose, Grew};
 ghost use Rattle.pungi_in_memory.specs.SureSink.{KeptState, kept_wrote};
 
-use pungi_base::{Failed, History, Memory, Sink};
+use pungi_base::Memory;
+use pungi_io::{Failed, History, Sink};
 use std::alloc::Global;
 use std::marker::Model;
 

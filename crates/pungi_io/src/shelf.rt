@@ -1,7 +1,7 @@
 ghost use Rattle.std.specs.Prelude.{◌≡◌, ℕ, ◌≤◌, ◌<◌, ◌∷◌, [], ◌++◌, List, length, OnOk, OnErr, IfOk, Option, Some};
 ghost use Rattle.std.specs.Io.KnownBytes.{ReadConsumes};
-ghost use Rattle.pungi_base.specs.Shelf.{Rose, Grew, Opens};
-ghost use Rattle.pungi_base.specs.declared.shelf.OpenFault.TheVariants.{Memory as OpenMemory};
+ghost use Rattle.pungi_io.specs.Shelf.{Rose, Grew, Opens};
+ghost use Rattle.pungi_io.specs.declared.shelf.OpenFault.TheVariants.{Memory as OpenMemory};
 
 use std::alloc::{AllocError, AllocFailed, Global};
 

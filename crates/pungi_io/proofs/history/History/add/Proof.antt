@@ -33,12 +33,12 @@ use denote.Triple.Spec.{Meets, triple_of}
 use denote.Triple.Table.{entered}
 use denote.Triple.Walked.{says, Stays, stay_ref, stay_none_slice, walk_of, AllGo, Goes-ref, Goes-none_slice, Walks}
 use denote.Triple.Walked.{ends_at, walked, walk_Meets}
-use Rattle.pungi_base.specs.declared.history.History.{History}
-use Rattle.pungi_base.specs.contracts.history.History as T
-use Rattle.pungi_base.specs.contracts.history.History.add.Key.{name as key}
-use Rattle.pungi_base.specs.contracts.history.History.add as it
-use Rattle.pungi_base.proofs.history.History.add.Statement as stated
-use Rattle.pungi_base.proofs.history.History.add.Code as code
+use Rattle.pungi_io.specs.declared.history.History.{History}
+use Rattle.pungi_io.specs.contracts.history.History as T
+use Rattle.pungi_io.specs.contracts.history.History.add.Key.{name as key}
+use Rattle.pungi_io.specs.contracts.history.History.add as it
+use Rattle.pungi_io.proofs.history.History.add.Statement as stated
+use Rattle.pungi_io.proofs.history.History.add.Code as code
 
 abbrev Arg : Type 0
 Arg = MutBor History × (Bor (List ℕ) × Unit {0})

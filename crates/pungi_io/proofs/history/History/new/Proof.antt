@@ -21,12 +21,12 @@ use denote.Triple.Entry.{on_entry, alive}
 use denote.Triple.Spec.{Meets, triple_of}
 use denote.Triple.Table.{entered}
 use denote.Triple.Walked.{says, Stays, walk_of, Walks, ends_at, walked, walk_Meets}
-use Rattle.pungi_base.specs.declared.history.History.{History}
-use Rattle.pungi_base.specs.contracts.history.History as made
-use Rattle.pungi_base.specs.contracts.history.History.new.Key.{name as key}
-use Rattle.pungi_base.specs.contracts.history.History.new as f
-use Rattle.pungi_base.proofs.history.History.new.Statement as stated
-use Rattle.pungi_base.proofs.history.History.new.Code as code
+use Rattle.pungi_io.specs.declared.history.History.{History}
+use Rattle.pungi_io.specs.contracts.history.History as made
+use Rattle.pungi_io.specs.contracts.history.History.new.Key.{name as key}
+use Rattle.pungi_io.specs.contracts.history.History.new as f
+use Rattle.pungi_io.proofs.history.History.new.Statement as stated
+use Rattle.pungi_io.proofs.history.History.new.Code as code
 
 abbrev nothing_yet : History
 nothing_yet = record { pieces = [] }

@@ -1,5 +1,5 @@
 ghost use Rattle.std.specs.Prelude.{◌≡◌, ℕ, ◌≤◌, ◌<◌, List, length, OnOk, OnErr, IfOk};
-ghost use Rattle.pungi_base.specs.Shelf.{Rose, Grew};
+ghost use Rattle.pungi_io.specs.Shelf.{Rose, Grew};
 
 use crate::Failed;
 
