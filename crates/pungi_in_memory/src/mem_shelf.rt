@@ -3,12 +3,13 @@ ghost use Rattle.std.specs.Prelude.{IfErr, OnErr, OnOk, MatchOption, MatchResult
 ghost use Rattle.std.specs.Prelude.{slice_get};
 ghost use Rattle.std.specs.Io.KnownBytes.{ReadConsumes};
 ghost use Rattle.std.specs.Option.{option_map_or};
-ghost use Rattle.pungi_io.specs.Shelf.{Rose, Grew, Opens};
+ghost use Rattle.pungi_io.specs.OpenedText.{just_opened};
+ghost use Rattle.pungi_io.specs.Shelf.{Rose, Opens, Reads};
 ghost use Rattle.pungi_in_memory.specs.MemShelf.{ShelfState, text_named, pairs_of, left_at, open_fails, shelf_asked};
 ghost use Rattle.pungi_in_memory.specs.MemShelf.{shelf_failed, shelf_opened, shelf_read};
 ghost use Rattle.pungi_in_memory.specs.Calls.{is_failing};
 
-use pungi_io::{Failed, History, OpenFault, Shelf};
+use pungi_io::{Failed, OpenFault, OpenedText, Shelf, read_last};
 use std::alloc::Global;
 use std::marker::Model;
 
@@ -20,14 +21,13 @@ pub struct MemShelf {
     calls: u64,
     faults: u64,
     names_opened: Vec<Vec<u8>>,
-    opened: usize,
+    opened: Vec<OpenedText>,
+    place: usize,
     at: usize,
-    bytes_read: History,
 }
 
 impl Model for MemShelf {
     ghost use Rattle.std.specs.Prelude.{map};
-    ghost use Rattle.std.specs.List.{concat};
     ghost use Rattle.pungi_in_memory.specs.MemShelf.{ShelfState, pairs_of, left_at};
 
     ghost Value = { ShelfState };
@@ -36,12 +36,10 @@ impl Model for MemShelf {
       texts = pairs_of s.texts.items;
       failing = s.failing.items;
       calls = s.calls;
-      faults
-          = s.faults;
+      faults = s.faults;
       names_opened = map (λ n. n.items) s.names_opened.items;
-      rest = left_at s.texts.items s.opened s.at;
-      bytes_read
-          = concat s.bytes_read.pieces;
+      rest = left_at s.texts.items s.place s.at;
+      opened = s.opened.items;
     } };
 }
 
@@ -97,19 +95,19 @@ impl MemShelf {
           faults = 0;
           names_opened = [];
           rest = [];
-          bytes_read = [];
+          opened = [];
         } }
     {
-        let opened = texts.len();
+        let place = texts.len();
         MemShelf {
             texts,
             failing,
             calls: 0,
             faults: 0,
             names_opened: Vec::new(alloc),
-            opened,
+            opened: Vec::new(alloc),
+            place,
             at: 0,
-            bytes_read: History::new(),
         }
     }
 }
@@ -119,7 +117,7 @@ impl Shelf for MemShelf {
 
     ghost rest = { λ s. Some s.rest };
 
-    ghost bytes_read = { λ s. s.bytes_read };
+    ghost opened = { λ s. s.opened };
 
     ghost names_opened = { λ s. s.names_opened };
 
@@ -127,8 +125,8 @@ impl Shelf for MemShelf {
 
     fn open(&mut self, alloc: Global, name: &str) -> Result<(), OpenFault>
         ensures ok { OnOk result (Opens (Some (text_named self.old.texts)) name.now (Some self.new.rest)
-            × (self.new.bytes_read ≡ [])) }
-        ensures err { OnErr result ((Some self.new.rest ≡ Some self.old.rest) × (self.new.bytes_read ≡ self.old.bytes_read)) }
+            × (self.new.opened ≡ self.old.opened ++ just_opened name.now ∷ [])) }
+        ensures err { OnErr result ((Some self.new.rest ≡ Some self.old.rest) × (self.new.opened ≡ self.old.opened)) }
         ensures names_opened { (result ≡ Err OpenFault.Memory → ⊥) → self.new.names_opened ≡ self.old.names_opened ++ name.now ∷ [] }
         ensures memory { result ≡ Err OpenFault.Memory → self.new.names_opened ≡ self.old.names_opened }
         ensures texts { Some (text_named self.new.texts) ≡ Some (text_named self.old.texts) }
@@ -137,12 +135,13 @@ impl Shelf for MemShelf {
 
         ensures exact { OnOk result (open_fails self.old name.now ≡ false) }
         ensures fails { result ≡ Err OpenFault.Failed → open_fails self.old name.now ≡ true }
-        ensures opened { OnOk result (self.new ≡ shelf_opened (shelf_asked self.old name.now) self.new.rest) }
+        ensures next { OnOk result (self.new ≡ shelf_opened (shelf_asked self.old name.now) name.now self.new.rest) }
         ensures refused { result ≡ Err OpenFault.Failed → self.new ≡ shelf_failed (shelf_asked self.old name.now) }
         ensures unchanged { result ≡ Err OpenFault.Memory → self.new ≡ self.old }
     {
-        let names_opened = Vec::from_slice(alloc, name.as_bytes())?;
-        self.names_opened.push(names_opened)?;
+        let copy = Vec::from_slice(alloc, name.as_bytes())?;
+        self.opened.reserve(1)?;
+        self.names_opened.push(copy)?;
         self.calls = self.calls.saturating_add(1);
         if self.failing.contains(&self.calls) {
             self.faults = self.faults.saturating_add(1);
@@ -154,9 +153,9 @@ impl Shelf for MemShelf {
                 Err(OpenFault::Failed)
             }
             Some(place) => {
-                self.opened = place;
+                self.opened.push(OpenedText::new(name)).unwrap();
+                self.place = place;
                 self.at = 0;
-                self.bytes_read = History::new();
                 Ok(())
             }
         }
@@ -165,7 +164,7 @@ impl Shelf for MemShelf {
     fn read(&mut self, buf: &mut [u8]) -> Result<usize, Failed>
         ensures within { IfOk result (λ count. count ≤ length buf.new) }
         ensures bytes { ReadConsumes (Some self.old.rest) (Some self.new.rest) result buf.new }
-        ensures bytes_read { Grew self.old.bytes_read self.new.bytes_read result buf.new }
+        ensures opened { Reads self.old.opened self.new.opened result buf.new }
         ensures end { IfOk result (λ count. count ≡ 0 → 0 < length buf.new → Some self.new.rest ≡ Some []) }
         ensures names_opened { self.new.names_opened ≡ self.old.names_opened }
         ensures texts { Some (text_named self.new.texts) ≡ Some (text_named self.old.texts) }
@@ -175,16 +174,15 @@ impl Shelf for MemShelf {
         ensures fails { is_err result ≡ is_failing self.old.failing self.old.calls }
         ensures err { OnErr result (self.new ≡ shelf_failed self.old) }
         ensures count { IfOk result (λ count. count ≡ min (length buf.old) (length self.old.rest)) }
-        ensures left { IfOk result (λ count. self.new ≡ shelf_read self.old (take count buf.new)
-            (drop count self.old.rest)) }
+        ensures left { IfOk result (λ count. self.new ≡ shelf_read self.old count buf.new (drop count self.old.rest)) }
     {
         self.calls = self.calls.saturating_add(1);
         if self.failing.contains(&self.calls) {
             self.faults = self.faults.saturating_add(1);
             return Err(Failed);
         }
-        let count = copy_front(rest_of(&self.texts, self.opened, self.at), buf);
-        self.bytes_read.add(&buf[..count]);
+        let count = copy_front(rest_of(&self.texts, self.place, self.at), buf);
+        read_last(&mut self.opened, buf, count);
         self.at += count;
         Ok(count)
     }

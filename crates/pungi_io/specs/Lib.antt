@@ -1,1 +1,2 @@
+pub mod OpenedText
 pub mod Shelf

@@ -2,9 +2,11 @@
 #![tactic(auto)]
 
 mod history;
+mod opened_text;
 mod shelf;
 mod sink;
 
 pub use history::History;
+pub use opened_text::{OpenedText, read_last};
 pub use shelf::{Failed, OpenFault, Shelf};
 pub use sink::Sink;

@@ -1,6 +1,7 @@
 ghost use Rattle.std.specs.Prelude.{◌≡◌, ℕ, ◌≤◌, ◌<◌, ◌∷◌, [], ◌++◌, List, length, OnOk, OnErr, IfOk, Option, Some};
 ghost use Rattle.std.specs.Io.KnownBytes.{ReadConsumes};
-ghost use Rattle.pungi_io.specs.Shelf.{Rose, Grew, Opens};
+ghost use Rattle.pungi_io.specs.OpenedText.{Opened, just_opened};
+ghost use Rattle.pungi_io.specs.Shelf.{Rose, Opens, Reads};
 ghost use Rattle.pungi_io.specs.declared.shelf.OpenFault.TheVariants.{Memory as OpenMemory};
 
 use std::alloc::{AllocError, AllocFailed, Global};
@@ -42,10 +43,10 @@ pub trait Shelf {
     /// What is left of the opened text, where it is known.
     ghost rest: { Self → Option (List ℕ) };
 
-    /// The bytes that `read` gave since a text was opened last.
-    ghost bytes_read: { Self → List ℕ };
+    /// Each text that was opened so far, in order.
+    ghost opened: { Self → List Opened };
 
-    /// The names that `open` was given so far.
+    /// The names that `open` was given so far, also where it opened nothing.
     ghost names_opened: { Self → List (List ℕ) };
 
     /// How often a call failed. At most 2^64 - 1.
@@ -53,8 +54,9 @@ pub trait Shelf {
 
     /// Opens the text of a name.
     fn open(&mut self, alloc: Global, name: &str) -> Result<(), OpenFault>
-        ensures ok { OnOk result (Opens (texts self.old) name.now (rest self.new) × (bytes_read self.new ≡ [])) }
-        ensures err { OnErr result ((rest self.new ≡ rest self.old) × (bytes_read self.new ≡ bytes_read self.old)) }
+        ensures ok { OnOk result (Opens (texts self.old) name.now (rest self.new)
+            × (opened self.new ≡ opened self.old ++ just_opened name.now ∷ [])) }
+        ensures err { OnErr result ((rest self.new ≡ rest self.old) × (opened self.new ≡ opened self.old)) }
         ensures names_opened { (result ≡ Err OpenFault.Memory → ⊥) → names_opened self.new ≡ names_opened self.old ++ name.now ∷ [] }
         ensures memory { result ≡ Err OpenFault.Memory → names_opened self.new ≡ names_opened self.old }
         ensures texts { texts self.new ≡ texts self.old }
@@ -66,7 +68,7 @@ pub trait Shelf {
     fn read(&mut self, buf: &mut [u8]) -> Result<usize, Failed>
         ensures within { IfOk result (λ count. count ≤ length buf.new) }
         ensures bytes { ReadConsumes (rest self.old) (rest self.new) result buf.new }
-        ensures bytes_read { Grew (bytes_read self.old) (bytes_read self.new) result buf.new }
+        ensures opened { Reads (opened self.old) (opened self.new) result buf.new }
         ensures end { IfOk result (λ count. count ≡ 0 → 0 < length buf.new → rest self.new ≡ Some []) }
         ensures names_opened { names_opened self.new ≡ names_opened self.old }
         ensures texts { texts self.new ≡ texts self.old }
