@@ -93,7 +93,7 @@ emit_updated-returns t c =
 
 pub emit_called-returns : goal.emit_called-returns
 emit_called-returns t c =
-    let e = rw c.as_slice.ensures at c.in_ok-emit_args.ensures in
+    let e = rw (c.as_slice.ensures, c.get.ensures) at c.in_ok-emit_args.ensures in
     row_emitted c.args.around.locals c.args.depth c.args.target c.args.pos c.args.signature.now
     (map value_view c.args.args.now) c.args.code.now c.emit_args.new.code c.emit_row.new.code e
     c.in_ok-emit_row.ensures
