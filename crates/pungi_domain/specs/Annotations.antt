@@ -1,6 +1,6 @@
 -- Annotations of an affine program: sets of vectors at its places and exit classes that each step keeps. `calls f c` is
--- the set of vectors that the called function f leaves at its exit class c; `at k` and `exits k` are the sets of place k
--- and of exit class k of the program.
+-- the set of vectors that the called function f leaves at its exit class c; `at k` and `exits k` are the sets of place
+-- k and of exit class k of the program.
 --   MeetsAll es v          the vector meets each of these equations
 --   MeetsRows rows v       so it does with equations that are given by their coefficients alone, of any size
 --   Sends calls w z a v u  the action makes u of v, which has w coordinates; u has z, and those past them don't count.

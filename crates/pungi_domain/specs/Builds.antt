@@ -1,15 +1,15 @@
--- Builds of a program: spans that grow from turn to turn, each of which takes one edge. Spans are given as values of some
--- type, with their members, and `exit f c` is the value of the called function f at its exit class c, where there is
--- one. `least` says whether the values are least, as those of a domain of least values are.
---   Covers least w G T     T has the vectors of G, and where it is least, each equation that all of G meet is met by all
---                          of T: it is the span of G
+-- Builds of a program: spans that grow from turn to turn, each of which takes one edge. Spans are given as values of
+-- some type, with their members, and `exit f c` is the value of the called function f at its exit class c, where there
+-- is one. `least` says whether the values are least, as those of a domain of least values are.
+--   Covers least w G T     T has the vectors of G, and where it is least, each equation that all of G meet is met by
+--                          all of T: it is the span of G
 --   Stage                  the spans of the places and of the exit classes at a moment
 --   span_at st t, with_span st t s    the span of an edge's target; the moment after it became s
 --   IsFirst least member p st    every vector is at the entries, and the other spans are of no vectors
 --   IsMet least member w es s t  t is s after it met the equations in order
 --   source_rows w z, exit_rows w z    the maps that put a vector of w coordinates, and one of z - w after them, among z
---   Acts least member exit w z a s t  t is what the action makes of s; a call sets the source's span and the exit's side
---                          by side, by two maps and a union
+--   Acts least member exit w z a s t  t is what the action makes of s; a call sets the source's span and the exit's
+--                          side by side, by two maps and a union
 --   Turn least member p exit e old new    one turn, over this edge
 --   IsBuilt least member p exit st    the spans at a moment of some build
 --   LargeMet, LargeAct     where meeting the equations, and doing the action, is large

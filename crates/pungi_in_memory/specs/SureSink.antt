@@ -9,4 +9,5 @@ pub record KeptState : Type 0 where
   pub bytes_written : List ℕ
 
 abbrev pub kept_wrote : KeptState → List ℕ → KeptState
-kept_wrote s piece = record s { bytes = s.bytes ++ take (s.room - length s.bytes) piece; bytes_written = s.bytes_written ++ piece }
+kept_wrote s piece =
+    record s { bytes = s.bytes ++ take (s.room - length s.bytes) piece; bytes_written = s.bytes_written ++ piece }

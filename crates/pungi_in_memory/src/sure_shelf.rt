@@ -67,7 +67,8 @@ impl Shelf for SureShelf {
         ensures ok { OnOk result (Opens (Some (sure_text self.old.texts)) name.now (Some self.new.rest)
             × (self.new.opened ≡ self.old.opened ++ just_opened name.now ∷ [])) }
         ensures err { OnErr result ((Some self.new.rest ≡ Some self.old.rest) × (self.new.opened ≡ self.old.opened)) }
-        ensures names_opened { (result ≡ Err OpenFault.Memory → ⊥) → self.new.names_opened ≡ self.old.names_opened ++ name.now ∷ [] }
+        ensures names_opened { (result ≡ Err OpenFault.Memory → ⊥)
+            → self.new.names_opened ≡ self.old.names_opened ++ name.now ∷ [] }
         ensures memory { result ≡ Err OpenFault.Memory → self.new.names_opened ≡ self.old.names_opened }
         ensures texts { Some (sure_text self.new.texts) ≡ Some (sure_text self.old.texts) }
         ensures steady { (result ≡ Err OpenFault.Failed → ⊥) → (let none : ℕ = 0 in none ≡ none) }

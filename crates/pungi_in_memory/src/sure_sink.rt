@@ -22,7 +22,11 @@ impl Model for SureSink {
 
     ghost Value = { KeptState };
 
-    ghost view = { λ s. record { room = s.room; bytes = s.bytes.items; bytes_written = concat s.bytes_written.pieces } };
+    ghost view = { λ s. record {
+      room = s.room;
+      bytes = s.bytes.items;
+      bytes_written = concat s.bytes_written.pieces;
+    } };
 
     ghost invariant = { λ s. (vec_len s.bytes ≤ s.room) × (s.room ≤ vec_capacity s.bytes) };
 }

@@ -57,7 +57,8 @@ pub trait Shelf {
         ensures ok { OnOk result (Opens (texts self.old) name.now (rest self.new)
             × (opened self.new ≡ opened self.old ++ just_opened name.now ∷ [])) }
         ensures err { OnErr result ((rest self.new ≡ rest self.old) × (opened self.new ≡ opened self.old)) }
-        ensures names_opened { (result ≡ Err OpenFault.Memory → ⊥) → names_opened self.new ≡ names_opened self.old ++ name.now ∷ [] }
+        ensures names_opened { (result ≡ Err OpenFault.Memory → ⊥)
+            → names_opened self.new ≡ names_opened self.old ++ name.now ∷ [] }
         ensures memory { result ≡ Err OpenFault.Memory → names_opened self.new ≡ names_opened self.old }
         ensures texts { texts self.new ≡ texts self.old }
         ensures steady { (result ≡ Err OpenFault.Failed → ⊥) → faults self.new ≡ faults self.old }
