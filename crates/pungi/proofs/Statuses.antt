@@ -58,7 +58,7 @@ reported_one status r =
     ⊎_elim (λ (h : status ≡ some_faulty). inr (inl h)) (λ (h : status ≡ some_open). inr (inr (inl h))) r) r
 
 opened_over : (first last : Stand) (config : Option (List ℕ)) (api : Api) (t : Opened) (earlier : List Opened)
-    → last.opened ≡ first.opened ++ earlier ++ t ∷ [] → IsApiFor first.texts config earlier api
+    → last.opened ≡ first.opened ++ (earlier ++ t ∷ []) → IsApiFor first.texts config earlier api
     → IsOpenedOver first last config api t
 opened_over first last config api t earlier opened known = record {
   earlier = earlier;

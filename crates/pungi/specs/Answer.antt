@@ -66,7 +66,7 @@ IsApiFor texts (Some config) earlier api =
 
 pub record IsOpenedOver (first last : Stand) (config : Option (List ℕ)) (api : Api) (t : Opened) : Type 0 where
   pub earlier : List Opened
-  pub opened : last.opened ≡ first.opened ++ earlier ++ t ∷ []
+  pub opened : last.opened ≡ first.opened ++ (earlier ++ t ∷ [])
   pub known : IsApiFor first.texts config earlier api
 
 abbrev pub IsReportFor : (CheckedFile → Definition → Name × Verdict → Type 0) → Stand → Stand → Option Asked → ℕ
