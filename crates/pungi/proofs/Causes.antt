@@ -50,7 +50,7 @@ same_text name (Some config) (Some texts) opened earlier api t text limit all kn
     same_whole texts name text limit t told read
 same_text name None None opened earlier api t text limit all (none, known) (u, one, told) read =
     told ∙ ap (λ (x : Opened). x.bytes) (only_one earlier t u none (sym one ∙ all))
-same_text name (Some config) None opened earlier api t text limit all (d, one, known) (c, u, two, told) read =
+same_text name (Some config) None opened earlier api t text limit all (d, one, was, known) (c, u, two, told) read =
     told ∙ ap (λ (x : Opened). x.bytes) (second earlier c d t u one (sym two ∙ all))
 
 longer_front : (texts : List ℕ → Option (List ℕ)) (name text : List ℕ) (limit : ℕ) (t : Opened)
@@ -73,7 +73,7 @@ longer_text name (Some config) (Some texts) opened earlier api t text all known 
     longer_front texts name text file_limit t told is
 longer_text name None None opened earlier api t text all (none, known) (u, one, told) is =
     rw told (rw (only_one earlier t u none (sym one ∙ all)) is.long)
-longer_text name (Some config) None opened earlier api t text all (d, one, known) (c, u, two, told) is =
+longer_text name (Some config) None opened earlier api t text all (d, one, was, known) (c, u, two, told) is =
     rw told (rw (second earlier c d t u one (sym two ∙ all)) is.long)
 
 -- the text of the configuration is what was read of the one that was opened first

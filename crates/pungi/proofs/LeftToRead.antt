@@ -2,6 +2,7 @@
 use Rattle.std.proofs.Common.{◌≡◌, ℕ, ◌≤◌, ◌<◌, Bool, true, false, ◌&&◌, ◌==◌, nat_lt, List, [], ◌∷◌, ◌++◌, length, take}
 use Rattle.std.proofs.Common.{drop, Option, Some, None, refl, sym, subst, ap, ◌∙◌, append_assoc, append-nil, arith}
 use Rattle.std.proofs.Common.{take-append-drop, lt-ltb, eq-eqb, ne_eqb}
+use Rattle.std.specs.Io.KnownBytes.{Consumes}
 use Rattle.pungi_io.specs.OpenedText.{Opened, on_last, with_read}
 use Rattle.pungi.specs.Read.{IsFront, IsLong, IsRead, IsWhole}
 
@@ -10,6 +11,31 @@ abbrev pub Left : Option (List ℕ → Option (List ℕ)) → List ℕ → Optio
 Left None name rest bytes = Unit {0}
 Left (Some texts) name None bytes = ⊥
 Left (Some texts) name (Some rest) bytes = texts name ≡ Some (bytes ++ rest)
+
+pub read_left : (texts : Option (List ℕ → Option (List ℕ))) (name : List ℕ) (rest after : Option (List ℕ))
+    (bytes piece : List ℕ) → Left texts name rest bytes → Consumes rest after piece
+    → Left texts name after (bytes ++ piece)
+read_left None name rest after bytes piece left read = tt
+read_left (Some texts) name None after bytes piece left read = absurd left
+read_left (Some texts) name (Some rest) None bytes piece left read = absurd read
+read_left (Some texts) name (Some rest) (Some others) bytes piece left read =
+    left ∙ ap Some (ap (λ (l : List ℕ). bytes ++ l) read ∙ sym (append_assoc bytes piece others))
+
+pub still_left : (texts : Option (List ℕ → Option (List ℕ))) (name : List ℕ) (rest after : Option (List ℕ))
+    (bytes buf : List ℕ) (count : ℕ) → Left texts name rest bytes → Consumes rest after (take count buf) → count ≡ 0
+    → Left texts name after bytes
+still_left texts name rest after bytes buf count left read none =
+    subst (λ (b : List ℕ). Left texts name after b)
+    (ap (λ (n : ℕ). bytes ++ take n buf) none ∙ append-nil bytes)
+    (read_left texts name rest after bytes (take count buf) left read)
+
+take_front : (buf others : List ℕ) → take (length buf) (buf ++ others) ≡ buf
+take_front [] others = refl
+take_front (x ∷ buf) others = ap (λ (l : List ℕ). x ∷ l) (take_front buf others)
+
+-- a buffer of this length, written over the whole of another, stands there
+pub written_over : (buf others : List ℕ) (n : ℕ) → length buf ≡ n → take n (buf ++ others) ≡ buf
+written_over buf others n long = ap (λ (m : ℕ). take m (buf ++ others)) (sym long) ∙ take_front buf others
 
 -- a text of which these bytes were read
 abbrev pub so_far : List ℕ → List ℕ → Bool → Opened
