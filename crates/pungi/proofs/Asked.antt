@@ -28,10 +28,10 @@ pub trial_asked : (asked : Option Asked) (found : Settings) (n : ℕ) → asked 
     → asked ≡ Some (trial n)
 trial_asked asked found n is made = is ∙ ap (λ (s : Settings). Some (ask s)) made
 
-pub answers_as : (first middle last : Stand) (asked other : Option Asked) (status : ℕ) (answer : List ℕ)
-    → asked ≡ other → Answers first middle last other status answer → Answers first middle last asked status answer
-answers_as first middle last asked other status answer same is =
-    subst (λ (a : Option Asked). Answers first middle last a status answer) (sym same) is
+pub answers_as : (first last : Stand) (asked other : Option Asked) (status : ℕ) (answer : List ℕ)
+    → asked ≡ other → Answers first last other status answer → Answers first last asked status answer
+answers_as first last asked other status answer same is =
+    subst (λ (a : Option Asked). Answers first last a status answer) (sym same) is
 
 abbrev pub IsTrialAnswer : ℕ → ℕ → List ℕ → Type 0
 IsTrialAnswer n status answer =

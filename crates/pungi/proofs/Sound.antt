@@ -78,10 +78,9 @@ sound_trial n status line is = record {
   printed = is.printed;
 }
 
-pub sound_answer : (first middle last : Stand) (asked : Option Asked) (status : ℕ) (answer : List ℕ)
-    → IsReportFor IsJudged first middle last asked status answer
-    → IsReportFor IsSound first middle last asked status answer
-sound_answer first middle last None status answer is = absurd is
-sound_answer first middle last (Some (file name config)) status answer (api, known, whole, short, is) =
-    (api, known, whole, short, sound_report api last.bytes_read status answer is)
-sound_answer first middle last (Some (trial n)) status answer (short, is) = (short, sound_trial n status answer is)
+pub sound_answer : (first last : Stand) (asked : Option Asked) (status : ℕ) (answer : List ℕ)
+    → IsReportFor IsJudged first last asked status answer → IsReportFor IsSound first last asked status answer
+sound_answer first last None status answer is = absurd is
+sound_answer first last (Some (file name config)) status answer (api, t, over, read, is) =
+    (api, t, over, read, sound_report api t.bytes status answer is)
+sound_answer first last (Some (trial n)) status answer (short, is) = (short, sound_trial n status answer is)

@@ -4,19 +4,21 @@ use Rattle.std.proofs.Common.{Option, Some, None, sym, subst, ap, ◌∙◌, app
 use Rattle.std.specs.Prelude.{Result, Ok, Err, IfOk, OnErr}
 use Rattle.pungi_api.specs.Rows.{builtin_rows}
 use Rattle.pungi_api.specs.declared.row.Row.{Row}
+use Rattle.pungi_io.specs.OpenedText.{Opened}
 use Rattle.pungi_io.specs.Shelf.{Rose}
 use Rattle.pungi_base.specs.Words.{builtin_words}
 use Rattle.pungi_config.specs.Command.{Asked}
 use Rattle.pungi_config.specs.Limits.{config_limit}
 use Rattle.pungi_verdict.specs.Verdicts.{IsJudged}
-use Rattle.pungi.specs.Answer.{Answers, IsApiFor, IsFileRefusal, IsOpened, IsReported, IsReportFor}
-use Rattle.pungi.specs.Answer.{IsRefusalFor, asked_file, files, usage_text}
+use Rattle.pungi.specs.Answer.{Answers, IsApiFor, IsConfigRefusal, IsFileRefusal, IsOpened, IsOpenedOver, IsReported}
+use Rattle.pungi.specs.Answer.{IsRefusalFor, IsReportFor, asked_file, files, long_text, usage_text}
 use Rattle.pungi.specs.Api.{Api, IsConfigured, IsWrong, builtin_api, long_reason, wrong_text}
 use Rattle.pungi.specs.Examine.{IsReport}
-use Rattle.pungi.specs.File.{IsConfigAnswer, IsFileAnswer, IsGiven, IsUntouched}
+use Rattle.pungi.specs.Front.{IsRefusedAs}
+use Rattle.pungi.specs.File.{IsConfigAnswer, IsFileAnswer, IsGiven}
 use Rattle.pungi.specs.Limits.{file_limit}
 use Rattle.pungi.specs.Load.{unread_text}
-use Rattle.pungi.specs.Read.{IsFront, IsWhole}
+use Rattle.pungi.specs.Read.{IsLong, IsRead}
 use Rattle.pungi.specs.Shelves.{Stand}
 use Rattle.pungi.specs.Status.{all_clean, some_faulty, some_open, words_refused, file_unread, file_refused}
 use Rattle.pungi.specs.Status.{config_refused, memory_wanted}
@@ -55,10 +57,19 @@ reported_one status r =
     ⊎_elim (λ (h : status ≡ all_clean). inl h) (λ (r : (status ≡ some_faulty) ⊎ (status ≡ some_open)).
     ⊎_elim (λ (h : status ≡ some_faulty). inr (inl h)) (λ (h : status ≡ some_open). inr (inr (inl h))) r) r
 
-pub report_answers : (first middle last : Stand) (asked : Option Asked) (status : ℕ) (answer : List ℕ)
+opened_over : (first last : Stand) (config : Option (List ℕ)) (api : Api) (t : Opened) (earlier : List Opened)
+    → last.opened ≡ first.opened ++ (earlier ++ t ∷ []) → IsApiFor first.texts config earlier api
+    → IsOpenedOver first last config api t
+opened_over first last config api t earlier opened known = record {
+  earlier = earlier;
+  opened = opened;
+  known = known;
+}
+
+pub report_answers : (first last : Stand) (asked : Option Asked) (status : ℕ) (answer : List ℕ)
     → status ≤ some_open → last.faults ≡ first.faults
-    → IsReportFor IsJudged first middle last asked status answer → Answers first middle last asked status answer
-report_answers first middle last asked status answer low steady is = record {
+    → IsReportFor IsJudged first last asked status answer → Answers first last asked status answer
+report_answers first last asked status answer low steady is = record {
   one = reported_one status (low_reported status low);
   report = λ r. is;
   usage = λ h. absurd (omega (arith, low, h));
@@ -68,10 +79,10 @@ report_answers first middle last asked status answer low steady is = record {
   steady = λ h. steady;
 }
 
-pub usage_answers : (first middle last : Stand) (asked : Option Asked) (status : ℕ) (answer : List ℕ)
+pub usage_answers : (first last : Stand) (asked : Option Asked) (status : ℕ) (answer : List ℕ)
     → status ≡ words_refused → last.faults ≡ first.faults → asked ≡ None → answer ≡ usage_text
-    → Answers first middle last asked status answer
-usage_answers first middle last asked status answer is steady none said = record {
+    → Answers first last asked status answer
+usage_answers first last asked status answer is steady none said = record {
   one = inr (inr (inr (inl is)));
   report = λ r. let low = reported_low status r in absurd (omega (arith, low, is));
   usage = λ h. (none, said);
@@ -81,10 +92,10 @@ usage_answers first middle last asked status answer is steady none said = record
   steady = λ h. steady;
 }
 
-pub unread_answers : (first middle last : Stand) (asked : Option Asked) (status : ℕ) (answer name : List ℕ)
+pub unread_answers : (first last : Stand) (asked : Option Asked) (status : ℕ) (answer name : List ℕ)
     (earlier : List (List ℕ)) → status ≡ file_unread → Rose first.faults last.faults
-    → last.names_opened ≡ earlier ++ name ∷ [] → answer ≡ unread_text name → Answers first middle last asked status answer
-unread_answers first middle last asked status answer name earlier is rose names_opened said = record {
+    → last.names_opened ≡ earlier ++ name ∷ [] → answer ≡ unread_text name → Answers first last asked status answer
+unread_answers first last asked status answer name earlier is rose names_opened said = record {
   one = inr (inr (inr (inr (inl is))));
   report = λ r. let low = reported_low status r in absurd (omega (arith, low, is));
   usage = λ h. absurd (omega (arith, is, h));
@@ -94,10 +105,10 @@ unread_answers first middle last asked status answer name earlier is rose names_
   steady = λ h. absurd (h is);
 }
 
-pub refusal_answers : (first middle last : Stand) (asked : Option Asked) (status : ℕ) (answer : List ℕ)
-    → status ≡ file_refused → last.faults ≡ first.faults → IsRefusalFor first middle last asked answer
-    → Answers first middle last asked status answer
-refusal_answers first middle last asked status answer is steady refused = record {
+pub refusal_answers : (first last : Stand) (asked : Option Asked) (status : ℕ) (answer : List ℕ)
+    → status ≡ file_refused → last.faults ≡ first.faults → IsRefusalFor first last asked answer
+    → Answers first last asked status answer
+refusal_answers first last asked status answer is steady refused = record {
   one = inr (inr (inr (inr (inr (inl is)))));
   report = λ r. let low = reported_low status r in absurd (omega (arith, low, is));
   usage = λ h. absurd (omega (arith, is, h));
@@ -107,13 +118,10 @@ refusal_answers first middle last asked status answer is steady refused = record
   steady = λ h. steady;
 }
 
-wrong_answers : (first middle last : Stand) (name config : List ℕ) (status : ℕ) (answer : List ℕ)
-    → status ≡ config_refused → last.faults ≡ first.faults
-    → ((config_limit < length last.bytes_read) × IsFront first.texts config last.bytes_read × (answer ≡ wrong_text long_reason))
-    ⊎ ((length last.bytes_read ≤ config_limit) × IsWhole first.texts last.rest config last.bytes_read
-    × ((reason : List ℕ) × IsWrong last.bytes_read reason × (answer ≡ wrong_text reason)))
-    → Answers first middle last (asked_file name (Some config)) status answer
-wrong_answers first middle last name config status answer is steady wrong = record {
+pub wrong_answers : (first last : Stand) (name config : List ℕ) (status : ℕ) (answer : List ℕ)
+    → status ≡ config_refused → last.faults ≡ first.faults → IsConfigRefusal first last config answer
+    → Answers first last (asked_file name (Some config)) status answer
+wrong_answers first last name config status answer is steady wrong = record {
   one = inr (inr (inr (inr (inr (inr is)))));
   report = λ r. let low = reported_low status r in absurd (omega (arith, low, is));
   usage = λ h. absurd (omega (arith, is, h));
@@ -123,69 +131,69 @@ wrong_answers first middle last name config status answer is steady wrong = reco
   steady = λ h. steady;
 }
 
-pub long_answers : (first middle last : Stand) (name config : List ℕ) (status : ℕ) (answer : List ℕ)
-    → status ≡ config_refused → last.faults ≡ first.faults → IsFront first.texts config last.bytes_read
-    → config_limit < length last.bytes_read → answer ≡ wrong_text long_reason
-    → Answers first middle last (asked_file name (Some config)) status answer
-long_answers first middle last name config status answer is steady front long said =
-    wrong_answers first middle last name config status answer is steady (inl (long, front, said))
+pub long_answers : (first last : Stand) (name config : List ℕ) (status : ℕ) (answer : List ℕ)
+    → status ≡ config_refused
+    → (c : Opened) × (last.opened ≡ first.opened ++ c ∷ []) × IsLong first.texts config config_limit c
+    × (last.faults ≡ first.faults) → answer ≡ wrong_text long_reason
+    → Answers first last (asked_file name (Some config)) status answer
+long_answers first last name config status answer is (c, opened, long, steady) said =
+    wrong_answers first last name config status answer is steady (c, opened, inl (long, said))
 
--- the answer on a file, over what is known for it
+-- the answer on a file, over what is known for it by what was opened earlier
 pub file_answers : (first middle last : Stand) (config : Option (List ℕ)) (api : Api) (name : List ℕ)
-    (earlier : List (List ℕ)) (status : ℕ) (answer : List ℕ) → IsApiFor first middle config api
-    → last.names_opened ≡ earlier ++ name ∷ []
-    → IsFileAnswer api name first.texts last.rest last.bytes_read first.faults last.faults status answer
-    → Answers first middle last (asked_file name config) status answer
-file_answers first middle last config api name earlier status answer known names_opened is =
-    ⊎_elim (λ (r : (status ≤ some_open) × (last.faults ≡ first.faults)
-    × IsWhole first.texts last.rest name last.bytes_read × (length last.bytes_read ≤ file_limit)
-    × IsReport api last.bytes_read status answer).
-    report_answers first middle last (asked_file name config) status answer r.0 r.1 (api, known, r.2, r.3, r.4))
-    (λ (r : ((status ≡ file_unread) × Rose first.faults last.faults × (answer ≡ unread_text name))
-    ⊎ ((status ≡ file_refused) × (last.faults ≡ first.faults)
-    × IsFileRefusal first.texts last.rest last.bytes_read api name answer)).
-    ⊎_elim (λ (u : (status ≡ file_unread) × Rose first.faults last.faults × (answer ≡ unread_text name)).
-    unread_answers first middle last (asked_file name config) status answer name earlier u.0 u.1 names_opened u.2)
-    (λ (u : (status ≡ file_refused) × (last.faults ≡ first.faults)
-    × IsFileRefusal first.texts last.rest last.bytes_read api name answer).
-    refusal_answers first middle last (asked_file name config) status answer u.0 u.1 (api, known, u.2)) r) is
+    (earlier : List Opened) (given : List (List ℕ)) (status : ℕ) (answer : List ℕ)
+    → middle.opened ≡ first.opened ++ earlier → middle.texts ≡ first.texts → middle.faults ≡ first.faults
+    → IsApiFor first.texts config earlier api → last.names_opened ≡ given ++ name ∷ []
+    → IsFileAnswer api name middle last status answer → Answers first last (asked_file name config) status answer
+file_answers first middle last config api name earlier given status answer began same quiet known named found =
+    let is = subst (λ (ts : Option (List ℕ → Option (List ℕ))). IsFileAnswer api name (record middle { texts = ts })
+    last status answer) same found in
+    let over = λ (t : Opened) (opened : last.opened ≡ middle.opened ++ t ∷ []). opened_over first last config api t
+    earlier (opened ∙ ap (λ (ts : List Opened). ts ++ t ∷ []) began ∙ append_assoc first.opened earlier (t ∷ []))
+    known in
+    ⊎_elim (λ (r : (status ≤ some_open) × (last.faults ≡ middle.faults) × ((t : Opened)
+    × (last.opened ≡ middle.opened ++ t ∷ []) × IsRead first.texts name file_limit t
+    × IsReport api t.bytes status answer)).
+    report_answers first last (asked_file name config) status answer r.0 (r.1 ∙ quiet)
+    (api, r.2.0, over r.2.0 r.2.1, r.2.2, r.2.3))
+    (λ (r : ((status ≡ file_unread) × Rose middle.faults last.faults × (answer ≡ unread_text name))
+    ⊎ ((status ≡ file_refused) × (last.faults ≡ middle.faults) × ((t : Opened)
+    × (last.opened ≡ middle.opened ++ t ∷ []) × IsFileRefusal first.texts api name t answer))).
+    ⊎_elim (λ (u : (status ≡ file_unread) × Rose middle.faults last.faults × (answer ≡ unread_text name)).
+    unread_answers first last (asked_file name config) status answer name given u.0
+    (subst (λ (n : ℕ). Rose n last.faults) quiet u.1) named u.2)
+    (λ (u : (status ≡ file_refused) × (last.faults ≡ middle.faults) × ((t : Opened)
+    × (last.opened ≡ middle.opened ++ t ∷ []) × IsFileRefusal first.texts api name t answer)).
+    refusal_answers first last (asked_file name config) status answer u.0 (u.1 ∙ quiet)
+    (api, u.2.0, over u.2.0 u.2.1, u.2.2)) r) is
+
+-- the answer on a file over the API of the manual
+pub plain_answers : (first last : Stand) (api : Api) (name : List ℕ) (status : ℕ) (answer : List ℕ)
+    → api ≡ builtin_api → last.names_opened ≡ first.names_opened ++ name ∷ []
+    → IsFileAnswer api name first last status answer → Answers first last (asked_file name None) status answer
+plain_answers first last api name status answer known named is =
+    file_answers first first last None api name [] first.names_opened status answer (sym (append-nil first.opened))
+    refl refl (refl, known) named is
 
 -- the answer on a file, where the configuration is read and this is its text
 pub config_answers : (first middle last : Stand) (name config text : List ℕ) (status : ℕ) (answer : List ℕ)
-    → middle.texts ≡ first.texts → middle.names_opened ≡ first.names_opened ++ config ∷ [] → middle.faults ≡ first.faults
-    → IsWhole first.texts middle.rest config middle.bytes_read → length middle.bytes_read ≤ config_limit → text ≡ middle.bytes_read
-    → IsConfigAnswer text name middle.texts middle.rest last.rest middle.bytes_read last.bytes_read middle.names_opened last.names_opened
-    middle.faults last.faults status answer
-    → Answers first middle last (asked_file name (Some config)) status answer
-config_answers first middle last name config text status answer texts names_opened steady whole short same found =
-    let is = subst (λ (ts : Option (List ℕ → Option (List ℕ))). IsConfigAnswer text name ts middle.rest last.rest
-    middle.bytes_read last.bytes_read middle.names_opened last.names_opened middle.faults last.faults status answer) texts found in
-    ⊎_elim (λ (r : (status ≡ config_refused)
-    × IsUntouched middle.rest last.rest middle.bytes_read last.bytes_read middle.names_opened last.names_opened middle.faults last.faults
+    → middle.texts ≡ first.texts
+    → (c : Opened) × (middle.opened ≡ first.opened ++ c ∷ []) × IsRead first.texts config config_limit c
+    × (text ≡ c.bytes) × (middle.faults ≡ first.faults)
+    → IsConfigAnswer text name middle last status answer
+    → Answers first last (asked_file name (Some config)) status answer
+config_answers first middle last name config text status answer texts (c, opened, read, same, quiet) found =
+    ⊎_elim (λ (r : (status ≡ config_refused) × (last ≡ middle)
     × ((reason : List ℕ) × IsWrong text reason × (answer ≡ wrong_text reason))).
-    wrong_answers first middle last name config status answer r.0 (r.1.same_faults ∙ steady)
-    (inr (
-      subst (λ (g : List ℕ). length g ≤ config_limit) (sym r.1.same_gave) short,
-      subst (λ (g : List ℕ). IsWhole first.texts last.rest config g) (sym r.1.same_gave)
-          (subst (λ (rest : Option (List ℕ)). IsWhole first.texts rest config middle.bytes_read) (sym r.1.same_rest) whole),
-      (
-        r.2.0,
-        subst (λ (g : List ℕ). IsWrong g r.2.0) (same ∙ sym r.1.same_gave) r.2.1,
-        r.2.2,
-      ),
-    )))
+    wrong_answers first last name config status answer r.0 (ap (λ (s : Stand). s.faults) r.1 ∙ quiet) (
+      c,
+      ap (λ (s : Stand). s.opened) r.1 ∙ opened,
+      inr (read, (r.2.0, subst (λ (b : List ℕ). IsWrong b r.2.0) same r.2.1, r.2.2)),
+    ))
     (λ (r : (api : Api) × IsConfigured text api × (last.names_opened ≡ middle.names_opened ++ name ∷ [])
-    × IsFileAnswer api name first.texts last.rest last.bytes_read middle.faults last.faults status answer).
-    file_answers first middle last (Some config) r.0 name middle.names_opened status answer
-    (record {
-      texts = texts;
-      names_opened = names_opened;
-      whole = whole;
-      short = short;
-      rows = subst (λ (g : List ℕ). IsConfigured g r.0) same r.1;
-    }) r.2
-    (subst (λ (faults : ℕ). IsFileAnswer r.0 name first.texts last.rest last.bytes_read faults last.faults status answer)
-    steady r.3)) is
+    × IsFileAnswer api name middle last status answer).
+    file_answers first middle last (Some config) r.0 name (c ∷ []) middle.names_opened status answer opened texts quiet
+    (c, refl, read, subst (λ (b : List ℕ). IsConfigured b r.0) same r.1) r.2 r.3) found
 
 -- which names were opened
 pub opened_none : (asked : Option Asked) (status : ℕ) (before after : List (List ℕ)) → after ≡ before
@@ -248,36 +256,36 @@ opened_both name config status before middle after one two accepted = record {
   all = λ h. refl;
 }
 
-pub file_accepted : (api : Api) (name : List ℕ) (texts : Option (List ℕ → Option (List ℕ)))
-    (rest : Option (List ℕ)) (bytes_read : List ℕ) (before after status : ℕ) (answer : List ℕ)
-    → IsFileAnswer api name texts rest bytes_read before after status answer → status ≡ config_refused → ⊥
-file_accepted api name texts rest bytes_read before after status answer is h =
-    ⊎_elim (λ (r : (status ≤ some_open) × (after ≡ before) × IsWhole texts rest name bytes_read
-    × (length bytes_read ≤ file_limit) × IsReport api bytes_read status answer). let low = r.0 in omega (arith, low, h))
-    (λ (r : ((status ≡ file_unread) × Rose before after × (answer ≡ unread_text name))
-    ⊎ ((status ≡ file_refused) × (after ≡ before) × IsFileRefusal texts rest bytes_read api name answer)).
-    ⊎_elim (λ (u : (status ≡ file_unread) × Rose before after × (answer ≡ unread_text name)). let is = u.0 in
-    omega (arith, is, h))
-    (λ (u : (status ≡ file_refused) × (after ≡ before) × IsFileRefusal texts rest bytes_read api name answer).
+file_accepted : (api : Api) (name : List ℕ) (first last : Stand) (status : ℕ) (answer : List ℕ)
+    → IsFileAnswer api name first last status answer → status ≡ config_refused → ⊥
+file_accepted api name first last status answer is h =
+    ⊎_elim (λ (r : (status ≤ some_open) × (last.faults ≡ first.faults) × ((t : Opened)
+    × (last.opened ≡ first.opened ++ t ∷ []) × IsRead first.texts name file_limit t
+    × IsReport api t.bytes status answer)). let low = r.0 in omega (arith, low, h))
+    (λ (r : ((status ≡ file_unread) × Rose first.faults last.faults × (answer ≡ unread_text name))
+    ⊎ ((status ≡ file_refused) × (last.faults ≡ first.faults) × ((t : Opened)
+    × (last.opened ≡ first.opened ++ t ∷ []) × IsFileRefusal first.texts api name t answer))).
+    ⊎_elim (λ (u : (status ≡ file_unread) × Rose first.faults last.faults × (answer ≡ unread_text name)).
+    let is = u.0 in omega (arith, is, h))
+    (λ (u : (status ≡ file_refused) × (last.faults ≡ first.faults) × ((t : Opened)
+    × (last.opened ≡ first.opened ++ t ∷ []) × IsFileRefusal first.texts api name t answer)).
     let is = u.0 in omega (arith, is, h)) r) is
 
 -- both files, or the configuration alone where it is refused
-pub opened_for_config : (text name config : List ℕ) (texts : Option (List ℕ → Option (List ℕ)))
-    (rest rest' : Option (List ℕ)) (bytes_read bytes_read' : List ℕ) (start names_opened names_opened' : List (List ℕ))
-    (before after status : ℕ) (answer : List ℕ) → names_opened ≡ start ++ config ∷ []
-    → IsConfigAnswer text name texts rest rest' bytes_read bytes_read' names_opened names_opened' before after status answer
-    → IsOpened (asked_file name (Some config)) status start names_opened'
-opened_for_config text name config texts rest rest' bytes_read bytes_read' start names_opened names_opened' before after status answer one is =
-    ⊎_elim (λ (r : (status ≡ config_refused)
-    × IsUntouched rest rest' bytes_read bytes_read' names_opened names_opened' before after
+pub opened_for_config : (text name config : List ℕ) (first last : Stand) (start : List (List ℕ)) (status : ℕ)
+    (answer : List ℕ) → first.names_opened ≡ start ++ config ∷ []
+    → IsConfigAnswer text name first last status answer
+    → IsOpened (asked_file name (Some config)) status start last.names_opened
+opened_for_config text name config first last start status answer one found =
+    ⊎_elim (λ (r : (status ≡ config_refused) × (last ≡ first)
     × ((reason : List ℕ) × IsWrong text reason × (answer ≡ wrong_text reason))).
     let is = r.0 in
-    opened_config name config status start names_opened' (r.1.same_given ∙ one) (omega (arith, is))
-    (λ h. omega (arith, is, h)))
-    (λ (r : (api : Api) × IsConfigured text api × (names_opened' ≡ names_opened ++ name ∷ [])
-    × IsFileAnswer api name texts rest' bytes_read' before after status answer).
-    opened_both name config status start names_opened names_opened' one r.2
-    (λ h. file_accepted r.0 name texts rest' bytes_read' before after status answer r.3 h)) is
+    opened_config name config status start last.names_opened (ap (λ (s : Stand). s.names_opened) r.1 ∙ one)
+    (omega (arith, is)) (λ h. omega (arith, is, h)))
+    (λ (r : (api : Api) × IsConfigured text api × (last.names_opened ≡ first.names_opened ++ name ∷ [])
+    × IsFileAnswer api name first last status answer).
+    opened_both name config status start first.names_opened last.names_opened one r.2
+    (λ h. file_accepted r.0 name first last status answer r.3 h)) found
 
 pub opened_before : (name config : List ℕ) (start after : List (List ℕ)) → IsGiven start config after
     → IsOpened (asked_file name (Some config)) memory_wanted start after
@@ -299,3 +307,36 @@ pub opened_plain : (name : List ℕ) (start after : List (List ℕ)) → IsGiven
 opened_plain name start after is =
     ⊎_elim (λ (h : after ≡ start). opened_nothing (asked_file name None) start after h)
     (λ (h : after ≡ start ++ name ∷ []). opened_file name memory_wanted start after h) is
+
+-- the answer to the text of a file that was read
+pub text_answer : (api : Api) (name : List ℕ) (first last : Stand) (bytes text : List ℕ) (status : ℕ)
+    (answer : List ℕ)
+    → (t : Opened) × (last.opened ≡ first.opened ++ t ∷ []) × IsRead first.texts name file_limit t
+    × (bytes ≡ t.bytes) × (last.faults ≡ first.faults) → text ≡ bytes
+    → ((status ≤ some_open) × IsReport api text status answer)
+    ⊎ ((status ≡ file_refused) × IsRefusedAs api text answer) → IsFileAnswer api name first last status answer
+text_answer api name first last bytes text status answer (t, opened, read, whole, steady) same is =
+    ⊎_elim (λ (r : (status ≤ some_open) × IsReport api text status answer).
+    inl (r.0, steady, (t, opened, read, subst (λ (b : List ℕ). IsReport api b status answer) (same ∙ whole) r.1)))
+    (λ (r : (status ≡ file_refused) × IsRefusedAs api text answer).
+    inr (inr (
+      r.0,
+      steady,
+      (
+        t,
+        opened,
+        inr (
+          read,
+          subst (λ (b : List ℕ). IsRefusedAs api b answer) (same ∙ whole)
+              r.1,
+        ),
+      ),
+    ))) is
+
+-- the answer to a file that is over the limit
+pub long_answer : (api : Api) (name : List ℕ) (first last : Stand) (status : ℕ) (answer : List ℕ)
+    → (t : Opened) × (last.opened ≡ first.opened ++ t ∷ []) × IsLong first.texts name file_limit t
+    × (last.faults ≡ first.faults) → status ≡ file_refused → answer ≡ long_text
+    → IsFileAnswer api name first last status answer
+long_answer api name first last status answer (t, opened, long, steady) is said =
+    inr (inr (is, steady, (t, opened, inl (long, said))))

@@ -1,5 +1,5 @@
 -- What is known of the files of the system.
---   left_of opened  what is left to read: unknown of a file that is open, and nothing where none is, since a file is
+--   left_of file    what is left to read: unknown of a file that is open, and nothing where none is, since a file is
 --                   closed at its end
 use Rattle.std.specs.Prelude.{ℕ, List, [], Option, None, Some}
 

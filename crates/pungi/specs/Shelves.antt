@@ -1,22 +1,21 @@
 -- Where a shelf stands at a moment of a call.
---   Stand                  its texts by name, where they are known; what is left to read, where it is known; the bytes
---                          that it gave since a file was opened last; the names that it was given; its count of faults
---   stand_of texts rest gave given faults s    where this shelf stands, by these members of its kind
+--   Stand                  its texts by name, where they are known; the texts that were opened, in order, each with
+--                          what reads gave of it; the names that `open` was given; its count of faults
+--   stand_of texts opened names faults s    where this shelf stands, by these members of its kind
 use Rattle.std.specs.Prelude.{ℕ, List, Option}
+use Rattle.pungi_io.specs.OpenedText.{Opened}
 
 pub record Stand : Type 0 where
   pub texts : Option (List ℕ → Option (List ℕ))
-  pub rest : Option (List ℕ)
-  pub bytes_read : List ℕ
+  pub opened : List Opened
   pub names_opened : List (List ℕ)
   pub faults : ℕ
 
-abbrev pub stand_of : {S : Type 0} → (S → Option (List ℕ → Option (List ℕ))) → (S → Option (List ℕ)) → (S → List ℕ)
+abbrev pub stand_of : {S : Type 0} → (S → Option (List ℕ → Option (List ℕ))) → (S → List Opened)
     → (S → List (List ℕ)) → (S → ℕ) → S → Stand
-stand_of texts rest bytes_read names_opened faults s = record {
+stand_of texts opened names_opened faults s = record {
   texts = texts s;
-  rest = rest s;
-  bytes_read = bytes_read s;
+  opened = opened s;
   names_opened = names_opened s;
   faults = faults s;
 }

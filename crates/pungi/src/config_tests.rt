@@ -1,9 +1,8 @@
 //! Configurations: the rows that they add, and what is said of those that are refused.
 
-use crate::pungi;
-use crate::tests::words;
+use crate::tests::{judged, judged_failing, words};
 use pungi_base::Memory;
-use pungi_in_memory::{MemShelf, SureShelf, SureSink};
+use pungi_in_memory::{MemSink, SureSink};
 use std::alloc::Global;
 use std::test::Fail;
 
@@ -29,15 +28,6 @@ fn texts(alloc: Global, config: &[u8], text: &[u8]) -> Result<Vec<(String, Vec<u
     Ok(texts)
 }
 
-/// The status and the text on a file with a configuration, where each read and write succeeds.
-fn told(alloc: Global, config: &[u8], text: &str) -> Result<(u8, Vec<u8>), Memory> {
-    let words = words(alloc, &["pungi", "--config", "c.toml", "x.c"])?;
-    let mut shelf = SureShelf::new(alloc, texts(alloc, config, text.as_bytes())?);
-    let mut out = SureSink::new(alloc, 4096)?;
-    let status = pungi(alloc, &words, &mut shelf, &mut out);
-    Ok((status, Vec::from_slice(alloc, out.bytes())?))
-}
-
 fn is_told(
     alloc: Global,
     config: &[u8],
@@ -45,8 +35,11 @@ fn is_told(
     status: u8,
     lines: &str,
 ) -> Result<bool, Memory> {
-    let (found, report) = told(alloc, config, text)?;
-    Ok(found == status && report.as_slice() == lines.as_bytes())
+    let words = words(alloc, &["pungi", "--config", "c.toml", "x.c"])?;
+    let out = SureSink::new(alloc, 4096)?;
+    let texts = texts(alloc, config, text.as_bytes())?;
+    let (found, out) = judged(alloc, &words, texts, out);
+    Ok(found == status && out.bytes() == lines.as_bytes())
 }
 
 /// Configurations that are accepted, with a file and its report.
@@ -265,10 +258,10 @@ const UNREAD: &[(u64, &str)] = &[
 
 fn is_unread(alloc: Global, call: u64, line: &str) -> Result<bool, Memory> {
     let words = words(alloc, &["pungi", "--config", "c.toml", "x.c"])?;
+    let out = MemSink::new(alloc, 64, 64, Vec::new(alloc))?;
+    let calls = vec![in alloc; call]?;
     let texts = texts(alloc, EXCEPTION.as_bytes(), CALLER.as_bytes())?;
-    let mut shelf = MemShelf::new(alloc, texts, vec![in alloc; call]?);
-    let mut out = SureSink::new(alloc, 64)?;
-    let status = pungi(alloc, &words, &mut shelf, &mut out);
+    let (status, out) = judged_failing(alloc, &words, texts, calls, out);
     Ok(status == 4 && out.bytes() == line.as_bytes())
 }
 

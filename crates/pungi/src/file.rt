@@ -54,8 +54,8 @@ fn answer_on<F: Shelf>(
 ) -> Result<Answer, Memory>
     requires words { BeginWithWords names.old }
     requires room { length names.old < 2 ^ 31 }
-    ensures answer { IfOk result (λ a. IsFileAnswer (record { names = names.old; rows = rows.now }) file.now
-        (F.texts shelf.old) (F.rest shelf.new) (F.bytes_read shelf.new) (F.faults shelf.old) (F.faults shelf.new) a.status
+    ensures answer { IfOk result (λ a. let at = stand_of F.texts F.opened F.names_opened F.faults in
+        IsFileAnswer (record { names = names.old; rows = rows.now }) file.now (at shelf.old) (at shelf.new) a.status
         a.text.items) }
     ensures names_opened { OnOk result (F.names_opened shelf.new ≡ F.names_opened shelf.old ++ file.now ∷ []) }
     ensures memory { OnErr result (IsGiven (F.names_opened shelf.old) file.now (F.names_opened shelf.new)) }
@@ -71,8 +71,8 @@ fn answer_on<F: Shelf>(
 
 /// The answer on the file of a name, over the API of the manual.
 pub(crate) fn plain<F: Shelf>(alloc: Global, shelf: &mut F, file: &str) -> Result<Answer, Memory>
-    ensures answer { IfOk result (λ a. let at = stand_of F.texts F.rest F.bytes_read F.names_opened F.faults in
-        Answers (at shelf.old) (at shelf.old) (at shelf.new) (asked_file file.now None) a.status a.text.items) }
+    ensures answer { IfOk result (λ a. let at = stand_of F.texts F.opened F.names_opened F.faults in
+        Answers (at shelf.old) (at shelf.new) (asked_file file.now None) a.status a.text.items) }
     ensures asked { IfOk result (λ a. IsOpened (asked_file file.now None) a.status (F.names_opened shelf.old)
         (F.names_opened shelf.new)) }
     ensures unasked { OnErr result (IsOpened (asked_file file.now None) memory_wanted (F.names_opened shelf.old)
@@ -98,12 +98,9 @@ fn with_rows<F: Shelf>(
     requires room { length names.old < 2 ^ 31 }
     requires new { IsTrue (are_new table (map named_row more.items)) }
     requires rows { IsTrue (are_plain_rows (map named_row more.items)) }
-    ensures answer { IfOk result (λ a. IsFileAnswer (record {
-      names = names.old;
-      rows = table
-          ++ map named_row more.items;
-    }) file.now (F.texts shelf.old) (F.rest shelf.new) (F.bytes_read shelf.new)
-        (F.faults shelf.old) (F.faults shelf.new) a.status a.text.items) }
+    ensures answer { IfOk result (λ a. let at = stand_of F.texts F.opened F.names_opened F.faults in
+        IsFileAnswer (record { names = names.old; rows = table ++ map named_row more.items }) file.now (at shelf.old)
+        (at shelf.new) a.status a.text.items) }
     ensures names_opened { OnOk result (F.names_opened shelf.new ≡ F.names_opened shelf.old ++ file.now ∷ []) }
     ensures memory { OnErr result (IsGiven (F.names_opened shelf.old) file.now (F.names_opened shelf.new)) }
     ensures steady { OnErr result (F.faults shelf.new ≡ F.faults shelf.old) }
@@ -120,9 +117,8 @@ fn with_config<F: Shelf>(
     text: &[u8],
     file: &str,
 ) -> Result<Answer, Memory>
-    ensures answer { IfOk result (λ a. IsConfigAnswer text.now file.now (F.texts shelf.old) (F.rest shelf.old)
-        (F.rest shelf.new) (F.bytes_read shelf.old) (F.bytes_read shelf.new) (F.names_opened shelf.old) (F.names_opened shelf.new)
-        (F.faults shelf.old) (F.faults shelf.new) a.status a.text.items) }
+    ensures answer { IfOk result (λ a. let at = stand_of F.texts F.opened F.names_opened F.faults in
+        IsConfigAnswer text.now file.now (at shelf.old) (at shelf.new) a.status a.text.items) }
     ensures memory { OnErr result (IsGiven (F.names_opened shelf.old) file.now (F.names_opened shelf.new)) }
     ensures steady { OnErr result (F.faults shelf.new ≡ F.faults shelf.old) }
     ensures texts { F.texts shelf.new ≡ F.texts shelf.old }
@@ -142,9 +138,8 @@ pub(crate) fn configured<F: Shelf>(
     config: &str,
     file: &str,
 ) -> Result<Answer, Memory>
-    ensures answer { IfOk result (λ a. let at = stand_of F.texts F.rest F.bytes_read F.names_opened F.faults in
-        (middle : F) × Answers (at shelf.old) (at middle) (at shelf.new) (asked_file file.now (Some config.now))
-        a.status a.text.items) }
+    ensures answer { IfOk result (λ a. let at = stand_of F.texts F.opened F.names_opened F.faults in
+        Answers (at shelf.old) (at shelf.new) (asked_file file.now (Some config.now)) a.status a.text.items) }
     ensures asked { IfOk result (λ a. IsOpened (asked_file file.now (Some config.now)) a.status (F.names_opened shelf.old)
         (F.names_opened shelf.new)) }
     ensures unasked { OnErr result (IsOpened (asked_file file.now (Some config.now)) memory_wanted

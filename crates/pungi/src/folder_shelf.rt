@@ -1,8 +1,7 @@
 ghost use Rattle.std.specs.Prelude.{◌≡◌, [], None, Some};
-ghost use Rattle.std.specs.List.{concat};
 ghost use Rattle.pungi.specs.FolderShelf.{left_of};
 
-use pungi_io::{Failed, History, OpenFault, Shelf};
+use pungi_io::{Failed, History, OpenFault, OpenedText, Shelf, read_last};
 use std::alloc::Global;
 use std::fs::File;
 use std::io::Read;
@@ -12,8 +11,8 @@ use std::io::Read;
 #[derive(Drop)]
 pub struct FolderShelf<'a> {
     files: &'a HostRuntime,
-    opened: Option<File>,
-    bytes_read: History,
+    file: Option<File>,
+    opened: Vec<OpenedText>,
     names_opened: History,
     faults: u64,
 }
@@ -22,14 +21,14 @@ impl<'a> FolderShelf<'a> {
     /// A shelf that opened no file yet, so that nothing is left to read, and where no call failed.
     pub fn new(files: &'a HostRuntime) -> FolderShelf<'a>
         ensures rest { ⟦<FolderShelf<'a> as Shelf>⟧.rest result ≡ Some [] }
-        ensures bytes_read { ⟦<FolderShelf<'a> as Shelf>⟧.bytes_read result ≡ [] }
+        ensures opened { ⟦<FolderShelf<'a> as Shelf>⟧.opened result ≡ [] }
         ensures names_opened { ⟦<FolderShelf<'a> as Shelf>⟧.names_opened result ≡ [] }
         ensures faults { ⟦<FolderShelf<'a> as Shelf>⟧.faults result ≡ 0 }
     {
         FolderShelf {
             files,
-            opened: None,
-            bytes_read: History::new(),
+            file: None,
+            opened: Vec::new(files.alloc()),
             names_opened: History::new(),
             faults: 0,
         }
@@ -39,23 +38,24 @@ impl<'a> FolderShelf<'a> {
 impl Shelf for FolderShelf<'_> {
     ghost texts = { λ _. None };
 
-    ghost rest = { λ s. left_of s.opened };
+    ghost rest = { λ s. left_of s.file };
 
-    ghost bytes_read = { λ s. concat s.bytes_read.pieces };
+    ghost opened = { λ s. s.opened.items };
 
     ghost names_opened = { λ s. s.names_opened.pieces };
 
     ghost faults = { λ s. s.faults };
 
     fn open(&mut self, _alloc: Global, name: &str) -> Result<(), OpenFault> {
+        self.opened.push(OpenedText::new(name))?;
         self.names_opened.add(name.as_bytes());
         match File::open(self.files, name) {
             Ok(file) => {
-                self.opened = Some(file);
-                self.bytes_read = History::new();
+                self.file = Some(file);
                 Ok(())
             }
             Err(_) => {
+                self.opened.pop();
                 self.faults = self.faults.saturating_add(1);
                 Err(OpenFault::Failed)
             }
@@ -63,16 +63,16 @@ impl Shelf for FolderShelf<'_> {
     }
 
     fn read(&mut self, buf: &mut [u8]) -> Result<usize, Failed> {
-        let Some(file) = &mut self.opened else {
+        let Some(file) = &mut self.file else {
+            read_last(&mut self.opened, buf, 0);
             return Ok(0);
         };
         match file.read(buf) {
-            Ok(0) if !buf.is_empty() => {
-                self.opened = None;
-                Ok(0)
-            }
             Ok(count) => {
-                self.bytes_read.add(&buf[..count]);
+                read_last(&mut self.opened, buf, count);
+                if count == 0 && !buf.is_empty() {
+                    self.file = None;
+                }
                 Ok(count)
             }
             Err(_) => {

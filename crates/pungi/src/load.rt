@@ -1,5 +1,6 @@
 ghost use Rattle.std.specs.Prelude.{◌≡◌, ◌⊎◌, ◌∷◌, [], ◌++◌, IfOk, OnOk, OnErr};
 ghost use Rattle.pungi.specs.Load.{IsLoaded};
+ghost use Rattle.pungi.specs.Shelves.{stand_of};
 
 use crate::answer::{Answer, unread_answer};
 use crate::read::{Reading, read_opened};
@@ -25,8 +26,8 @@ pub fn load<F: Shelf>(
     name: &str,
     limit: usize,
 ) -> Result<Loaded, Memory>
-    ensures loaded { IfOk result (IsLoaded (F.texts shelf.old) (F.rest shelf.new) name.now (F.bytes_read shelf.new) limit
-        (F.faults shelf.old) (F.faults shelf.new)) }
+    ensures loaded { IfOk result (λ loaded. let at = stand_of F.texts F.opened F.names_opened F.faults in
+        IsLoaded (at shelf.old) (at shelf.new) name.now limit loaded) }
     ensures names_opened { OnOk result (F.names_opened shelf.new ≡ F.names_opened shelf.old ++ name.now ∷ []) }
     ensures memory { OnErr result ((F.names_opened shelf.new ≡ F.names_opened shelf.old)
         ⊎ (F.names_opened shelf.new ≡ F.names_opened shelf.old ++ name.now ∷ [])) }

@@ -1,4 +1,5 @@
-ghost use Rattle.std.specs.Prelude.{◌≡◌, [], vec_len, IfOk, Err};
+ghost use Rattle.std.specs.Prelude.{◌≡◌, ◌++◌, ◌∷◌, [], List, vec_len, IfOk, Err};
+ghost use Rattle.pungi_io.specs.OpenedText.{Opened, just_opened};
 ghost use Rattle.pungi_io.specs.Shelf.{Rose, Opens};
 ghost use Rattle.pungi.specs.Read.{IsReading};
 
@@ -32,8 +33,9 @@ pub fn read_opened<F: Shelf>(
     limit: usize,
 ) -> Result<Reading, OpenFault>
     requires opened { Opens (F.texts shelf.old) name.now (F.rest shelf.old) }
-    requires unread { F.bytes_read shelf.old ≡ [] }
-    ensures ok { IfOk result (IsReading (F.texts shelf.old) (F.rest shelf.new) name.now (F.bytes_read shelf.new) limit) }
+    ensures ok { IfOk result (λ reading. (before : List Opened)
+        → F.opened shelf.old ≡ before ++ just_opened name.now ∷ []
+        → IsReading (F.texts shelf.old) before (F.opened shelf.new) name.now limit reading) }
     ensures steady { (result ≡ Err OpenFault.Failed → ⊥) → F.faults shelf.new ≡ F.faults shelf.old }
     ensures failed { result ≡ Err OpenFault.Failed → Rose (F.faults shelf.old) (F.faults shelf.new) }
     ensures texts { F.texts shelf.new ≡ F.texts shelf.old }

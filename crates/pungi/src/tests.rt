@@ -29,33 +29,48 @@ fn named(alloc: Global, text: &[u8]) -> Result<Vec<(String, Vec<u8>)>, Memory> {
     Ok(texts)
 }
 
-/// Judges a file that is read without a fault.
-fn judge<O: Sink>(alloc: Global, text: &[u8], out: &mut O) -> Result<u8, Memory> {
+/// The status and what was written, for words and texts where each read and write succeeds.
+pub(crate) fn judged(
+    alloc: Global,
+    words: &[String],
+    texts: Vec<(String, Vec<u8>)>,
+    out: SureSink,
+) -> (u8, SureSink) {
+    let mut shelf = SureShelf::new(alloc, texts);
+    let mut out = out;
+    let status = pungi(alloc, words, &mut shelf, &mut out);
+    (status, out)
+}
+
+/// The status and what was written of a file where each read and write succeeds.
+fn told(alloc: Global, text: &[u8]) -> Result<(u8, SureSink), Memory> {
     let words = words(alloc, &["pungi", "x.c"])?;
-    let mut shelf = SureShelf::new(alloc, named(alloc, text)?);
-    Ok(pungi(alloc, &words, &mut shelf, out))
+    let out = SureSink::new(alloc, 4096)?;
+    let texts = named(alloc, text)?;
+    Ok(judged(alloc, &words, texts, out))
 }
 
-/// The status and the text on a file where each read and write succeeds.
-fn told(alloc: Global, text: &[u8]) -> Result<(u8, Vec<u8>), Memory> {
-    let mut out = SureSink::new(alloc, 4096)?;
-    let status = judge(alloc, text, &mut out)?;
-    Ok((status, Vec::from_slice(alloc, out.bytes())?))
+/// The status and what was written, where the shelf fails at a call, and the sink at those that it was made with.
+pub(crate) fn judged_failing(
+    alloc: Global,
+    words: &[String],
+    texts: Vec<(String, Vec<u8>)>,
+    read: Vec<u64>,
+    out: MemSink,
+) -> (u8, MemSink) {
+    let mut shelf = MemShelf::new(alloc, texts, read);
+    let mut out = out;
+    let status = pungi(alloc, words, &mut shelf, &mut out);
+    (status, out)
 }
 
-/// Judges a file where the shelf fails at a call.
-fn judge_failing(alloc: Global, text: &str, read: u64, out: &mut MemSink) -> Result<u8, Memory> {
+/// The status and what was written, where the shelf fails at a call, or the sink, which takes four bytes at a time.
+fn failing(alloc: Global, text: &str, read: u64, write: u64) -> Result<(u8, MemSink), Memory> {
     let words = words(alloc, &["pungi", "x.c"])?;
-    let faults = vec![in alloc; read]?;
-    let mut shelf = MemShelf::new(alloc, named(alloc, text.as_bytes())?, faults);
-    Ok(pungi(alloc, &words, &mut shelf, out))
-}
-
-/// The status and the text, where the shelf fails at a call, or the sink, which takes four bytes at a time.
-fn failing(alloc: Global, text: &str, read: u64, write: u64) -> Result<(u8, Vec<u8>), Memory> {
-    let mut out = MemSink::new(alloc, 64, 4, vec![in alloc; write]?)?;
-    let status = judge_failing(alloc, text, read, &mut out)?;
-    Ok((status, Vec::from_slice(alloc, out.bytes())?))
+    let out = MemSink::new(alloc, 64, 4, vec![in alloc; write]?)?;
+    let reads = vec![in alloc; read]?;
+    let texts = named(alloc, text.as_bytes())?;
+    Ok(judged_failing(alloc, &words, texts, reads, out))
 }
 
 /// What a report says of each function: the lines that don't begin with a blank, with K for the number of an object.
@@ -84,8 +99,8 @@ fn heads(alloc: Global, report: &[u8]) -> Result<Vec<u8>, Memory> {
 
 /// Whether a file has this status and these first lines of verdicts.
 pub(crate) fn is_told(alloc: Global, text: &str, status: u8, lines: &str) -> Result<bool, Memory> {
-    let (found, report) = told(alloc, text.as_bytes())?;
-    let heads = heads(alloc, &report)?;
+    let (found, out) = told(alloc, text.as_bytes())?;
+    let heads = heads(alloc, out.bytes())?;
     Ok(found == status && heads.as_slice() == lines.as_bytes())
 }
 
@@ -212,8 +227,8 @@ const WHOLE: &[(&str, u8, &str)] = &[
 ];
 
 fn is_whole(alloc: Global, text: &str, status: u8, lines: &str) -> Result<bool, Memory> {
-    let (found, report) = told(alloc, text.as_bytes())?;
-    Ok(found == status && report.as_slice() == lines.as_bytes())
+    let (found, out) = told(alloc, text.as_bytes())?;
+    Ok(found == status && out.bytes() == lines.as_bytes())
 }
 
 #[test]
@@ -300,20 +315,18 @@ fn refusals(rt: HostRuntime) -> Result<(), Fail> {
     Ok(())
 }
 
+/// Whether so many blanks have this status and these lines.
+fn are_told(alloc: Global, blanks: usize, status: u8, lines: &[u8]) -> Result<bool, Memory> {
+    let text = vec![in alloc; b' '; blanks]?;
+    let (found, out) = told(alloc, &text)?;
+    Ok(found == status && out.bytes() == lines)
+}
+
 /// 1,048,576 bytes are read, and one more is refused.
 #[test]
 fn limit_of_the_file(rt: HostRuntime) -> Result<(), Fail> {
-    let mut text = vec![in rt.alloc(); b' '; 1048576]?;
-    let (status, report) = told(rt.alloc(), &text)?;
-    assert_eq!(rt; status, 0);
-    assert!(rt; report.is_empty());
-    text.push(b' ')?;
-    let (status, line) = told(rt.alloc(), &text)?;
-    assert_eq!(rt; status, 6);
-    assert_eq!(rt;
-        line.as_slice(),
-        b"file refused over 1048576 bytes\n".as_slice()
-    );
+    assert!(rt; are_told(rt.alloc(), 1048576, 0, b"")?);
+    assert!(rt; are_told(rt.alloc(), 1048577, 6, b"file refused over 1048576 bytes\n")?);
     Ok(())
 }
 
@@ -334,8 +347,8 @@ fn is_failing(
     status: u8,
     text: &[u8],
 ) -> Result<bool, Memory> {
-    let (found, bytes) = failing(alloc, NUMBER, read, write)?;
-    Ok(found == status && bytes.as_slice() == text)
+    let (found, out) = failing(alloc, NUMBER, read, write)?;
+    Ok(found == status && out.bytes() == text)
 }
 
 /// Each call on the shelf and on the sink fails in turn.
@@ -354,11 +367,13 @@ fn failing_calls(rt: HostRuntime) -> Result<(), Fail> {
 /// A report without a line is not written.
 #[test]
 fn empty_report(rt: HostRuntime) -> Result<(), Fail> {
-    let (status, bytes) = failing(rt.alloc(), "int a;", 0, 1)?;
+    let (status, out) = failing(rt.alloc(), "int a;", 0, 1)?;
     assert_eq!(rt; status, 0);
-    assert!(rt; bytes.is_empty());
+    assert!(rt; out.bytes().is_empty());
     Ok(())
 }
+
+const USAGE: &[u8] = b"usage: pungi [--config FILE] FILE.c, or pungi --trial N\n";
 
 const REFUSED_WORDS: &[&[&str]] = &[
     &[],
@@ -381,19 +396,18 @@ const REFUSED_WORDS: &[&[&str]] = &[
     &["pungi", "--trial", "5", "--trial", "5"],
 ];
 
+fn are_refused(alloc: Global, list: &[&str]) -> Result<bool, Memory> {
+    let words = words(alloc, list)?;
+    let out = SureSink::new(alloc, 64)?;
+    let (status, out) = judged(alloc, &words, Vec::new(alloc), out);
+    Ok(status == 3 && out.bytes() == USAGE)
+}
+
 /// Words that ask for neither a file nor a trial give the usage line.
 #[test]
 fn refused_words(rt: HostRuntime) -> Result<(), Fail> {
-    let alloc = rt.alloc();
     for list in REFUSED_WORDS {
-        let mut shelf = SureShelf::new(alloc, Vec::new(alloc));
-        let mut out = SureSink::new(alloc, 64)?;
-        let status = pungi(alloc, &words(alloc, list)?, &mut shelf, &mut out);
-        assert_eq!(rt; status, 3);
-        assert_eq!(rt;
-            out.bytes(),
-            b"usage: pungi [--config FILE] FILE.c, or pungi --trial N\n".as_slice()
-        );
+        assert!(rt; are_refused(rt.alloc(), list)?);
     }
     Ok(())
 }

@@ -1,4 +1,5 @@
 ghost use Rattle.std.specs.Prelude.{◌≡◌, ◌≢◌, ℕ, ◌≤◌, ◌<◌, ◌++◌, List, None, length, map, string_bytes, IfOk, OnErr};
+ghost use Rattle.pungi_io.specs.OpenedText.{Opened};
 ghost use Rattle.pungi_io.specs.Shelf.{Rose};
 ghost use Rattle.pungi_config.specs.Command.{asked_of};
 ghost use Rattle.pungi_tree.specs.Syntax.{Item};
@@ -24,9 +25,8 @@ use std::alloc::Global;
 
 /// What the program returns.
 fn decide<F: Shelf>(alloc: Global, words: &[String], shelf: &mut F) -> Result<Answer, Memory>
-    ensures answer { IfOk result (λ a. let at = stand_of F.texts F.rest F.bytes_read F.names_opened F.faults in
-        (middle : F) × Answers (at shelf.old) (at middle) (at shelf.new) (asked_of (map string_bytes words.now))
-        a.status a.text.items) }
+    ensures answer { IfOk result (λ a. let at = stand_of F.texts F.opened F.names_opened F.faults in
+        Answers (at shelf.old) (at shelf.new) (asked_of (map string_bytes words.now)) a.status a.text.items) }
     ensures asked { IfOk result (λ a. IsOpened (asked_of (map string_bytes words.now)) a.status (F.names_opened shelf.old)
         (F.names_opened shelf.new)) }
     ensures unasked { OnErr result (IsOpened (asked_of (map string_bytes words.now)) memory_wanted
@@ -60,25 +60,22 @@ fn decide<F: Shelf>(alloc: Global, words: &[String], shelf: &mut F) -> Result<An
 /// those of the manual, and those of the configuration.
 pub fn pungi<F: Shelf, O: Sink>(alloc: Global, words: &[String], shelf: &mut F, out: &mut O) -> u8
     // Safety: of a function that the report calls clean or faulty it is true.
-    ensures sound { IsReported result → let at = stand_of F.texts F.rest F.bytes_read F.names_opened F.faults in
-        (middle : F) × (text : List ℕ)
-        × IsReportFor IsSound (at shelf.old) (at middle) (at shelf.new) (asked_of (map string_bytes words.now)) result
-        text
+    ensures sound { IsReported result → let at = stand_of F.texts F.opened F.names_opened F.faults in
+        (text : List ℕ)
+        × IsReportFor IsSound (at shelf.old) (at shelf.new) (asked_of (map string_bytes words.now)) result text
         × (O.bytes_written out.new ≡ O.bytes_written out.old ++ text) }
 
     // The status has its cause, and the text that goes with it was written whole.
     ensures answer { result ≢ answer_cut → result ≢ memory_wanted →
-        let at = stand_of F.texts F.rest F.bytes_read F.names_opened F.faults in
-        (middle : F) × (text : List ℕ)
-        × Answers (at shelf.old) (at middle) (at shelf.new) (asked_of (map string_bytes words.now)) result text
+        let at = stand_of F.texts F.opened F.names_opened F.faults in
+        (text : List ℕ) × Answers (at shelf.old) (at shelf.new) (asked_of (map string_bytes words.now)) result text
         × (O.bytes_written out.new ≡ O.bytes_written out.old ++ text) }
 
     // A write failed: the sink's count rose, and a front of the text was taken.
     ensures cut { result ≡ answer_cut → Rose (O.faults out.old) (O.faults out.new)
-        × (let at = stand_of F.texts F.rest F.bytes_read F.names_opened F.faults in
-        (middle : F) × (status : ℕ) × (front : List ℕ) × (rest : List ℕ)
-        × Answers (at shelf.old) (at middle) (at shelf.new) (asked_of (map string_bytes words.now)) status
-        (front ++ rest)
+        × (let at = stand_of F.texts F.opened F.names_opened F.faults in
+        (status : ℕ) × (front : List ℕ) × (rest : List ℕ)
+        × Answers (at shelf.old) (at shelf.new) (asked_of (map string_bytes words.now)) status (front ++ rest)
         × (0 < length rest) × (O.bytes_written out.new ≡ O.bytes_written out.old ++ front)) }
 
     // No write failed otherwise.
@@ -91,20 +88,21 @@ pub fn pungi<F: Shelf, O: Sink>(alloc: Global, words: &[String], shelf: &mut F, 
     // No file was opened but those that the words name, in their order, each once.
     ensures asked { IsOpened (asked_of (map string_bytes words.now)) result (F.names_opened shelf.old) (F.names_opened shelf.new) }
 
-    // Where a cause holds, its status comes, unless a call failed or memory ran out.
+    // Where a cause holds, its status comes, unless a call failed or memory ran out. The texts are those that the shelf
+    // shows, or else those that its reads gave of what was opened.
     ensures words { asked_of (map string_bytes words.now) ≡ None → result ≢ answer_cut → result ≢ memory_wanted
         → result ≡ words_refused }
-    ensures config { (text : List ℕ) → IsConfigText (asked_of (map string_bytes words.now)) (F.texts shelf.old) text
-        → IsRefusedConfig text
+    ensures config { (opened : List Opened) → F.opened shelf.new ≡ F.opened shelf.old ++ opened → (text : List ℕ)
+        → IsConfigText (asked_of (map string_bytes words.now)) (F.texts shelf.old) opened text → IsRefusedConfig text
         → result ≢ file_unread → result ≢ answer_cut → result ≢ memory_wanted → result ≡ config_refused }
-    ensures file { (api : Api) → IsApiText (asked_of (map string_bytes words.now)) (F.texts shelf.old) api
-        → (text : List ℕ) → IsFileText (asked_of (map string_bytes words.now)) (F.texts shelf.old)
-        (F.bytes_read shelf.new) text → IsRefusedText api text
+    ensures file { (opened : List Opened) → F.opened shelf.new ≡ F.opened shelf.old ++ opened → (api : Api)
+        → IsApiText (asked_of (map string_bytes words.now)) (F.texts shelf.old) opened api → (text : List ℕ)
+        → IsFileText (asked_of (map string_bytes words.now)) (F.texts shelf.old) opened text → IsRefusedText api text
         → result ≢ file_unread → result ≢ answer_cut → result ≢ memory_wanted → result ≡ file_refused }
-    ensures judged { (api : Api) → IsApiText (asked_of (map string_bytes words.now)) (F.texts shelf.old) api
-        → (text : List ℕ) → IsFileText (asked_of (map string_bytes words.now)) (F.texts shelf.old)
-        (F.bytes_read shelf.new) text → length text ≤ file_limit
-        → (names : List (List ℕ)) → (items : List Item) → IsFile api text names items
+    ensures judged { (opened : List Opened) → F.opened shelf.new ≡ F.opened shelf.old ++ opened → (api : Api)
+        → IsApiText (asked_of (map string_bytes words.now)) (F.texts shelf.old) opened api → (text : List ℕ)
+        → IsFileText (asked_of (map string_bytes words.now)) (F.texts shelf.old) opened text
+        → length text ≤ file_limit → (names : List (List ℕ)) → (items : List Item) → IsFile api text names items
         → result ≢ file_unread → result ≢ answer_cut → result ≢ memory_wanted → IsReported result }
 
     ensures texts { F.texts shelf.new ≡ F.texts shelf.old }

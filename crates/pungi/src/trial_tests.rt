@@ -2,10 +2,9 @@
 //! third and the fourth have loops and locals that are numbers, so they are not judged (rule 0), and the fifth calls
 //! through a field (rule 3).
 
-use crate::pungi;
-use crate::tests::words;
+use crate::tests::{judged, words};
 use pungi_base::Memory;
-use pungi_in_memory::{SureShelf, SureSink};
+use pungi_in_memory::SureSink;
 use std::alloc::Global;
 use std::test::Fail;
 
@@ -26,9 +25,8 @@ const TRIALS: &[(&str, u8, &str)] = &[
 
 fn is_told(alloc: Global, number: &str, status: u8, line: &str) -> Result<bool, Memory> {
     let words = words(alloc, &["pungi", "--trial", number])?;
-    let mut shelf = SureShelf::new(alloc, Vec::new(alloc));
-    let mut out = SureSink::new(alloc, 128)?;
-    let found = pungi(alloc, &words, &mut shelf, &mut out);
+    let out = SureSink::new(alloc, 128)?;
+    let (found, out) = judged(alloc, &words, Vec::new(alloc), out);
     Ok(found == status && out.bytes() == line.as_bytes())
 }
 

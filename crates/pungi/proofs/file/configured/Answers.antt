@@ -1,6 +1,6 @@
 use Rattle.std.proofs.Common.{arith, ◌∙◌}
 use Rattle.std.proofs.lemmas.Result.{IfOk-weaker}
-use Rattle.pungi.proofs.Statuses.{config_answers, on_err, opened_before, opened_config}
+use Rattle.pungi.proofs.Statuses.{config_answers, long_answers, on_err, opened_before, opened_config, opened_for_config}
 use Rattle.pungi.specs.Shelves.{stand_of}
 use Rattle.pungi.specs.Status.{memory_wanted}
 use Rattle.pungi.proofs.file.configured.Goals as goal
@@ -14,17 +14,29 @@ returns-in_err-text-clause-unasked g c =
 pub returns-in-Text-clause-answer : goal.returns-in-Text-clause-answer
 returns-in-Text-clause-answer g c =
     let loaded = rw c.in-Text.is at c.in_ok-text.ensures.loaded in
-    IfOk-weaker c.with_config.result _ _ (λ a h. (
-      c.load.new.shelf,
-      config_answers
-          (stand_of g.F.Shelf.texts g.F.Shelf.rest g.F.Shelf.bytes_read g.F.Shelf.names_opened g.F.Shelf.faults c.args.shelf.now)
-          (stand_of g.F.Shelf.texts g.F.Shelf.rest g.F.Shelf.bytes_read g.F.Shelf.names_opened g.F.Shelf.faults c.load.new.shelf)
-          (stand_of g.F.Shelf.texts g.F.Shelf.rest g.F.Shelf.bytes_read g.F.Shelf.names_opened g.F.Shelf.faults
-          c.with_config.new.shelf)
-          c.args.file.now c.args.config.now c.deref.result.now a.status a.text.items
-          c.in_ok-text.ensures.texts c.in_ok-text.ensures.names_opened loaded.3 loaded.1 loaded.2
-          (c.deref.ensures.value ∙ loaded.0) h,
-    )) c.with_config.ensures.answer
+    IfOk-weaker c.with_config.result _ _ (λ a h.
+    config_answers (stand_of g.F.Shelf.texts g.F.Shelf.opened g.F.Shelf.names_opened g.F.Shelf.faults c.args.shelf.now)
+    (stand_of g.F.Shelf.texts g.F.Shelf.opened g.F.Shelf.names_opened g.F.Shelf.faults c.load.new.shelf)
+    (stand_of g.F.Shelf.texts g.F.Shelf.opened g.F.Shelf.names_opened g.F.Shelf.faults c.with_config.new.shelf)
+    c.args.file.now c.args.config.now c.deref.result.now a.status a.text.items c.in_ok-text.ensures.texts
+    (loaded.0, loaded.1, loaded.2, c.deref.ensures.value ∙ loaded.3, loaded.4) h) c.with_config.ensures.answer
+
+pub returns-in-Text-clause-asked : goal.returns-in-Text-clause-asked
+returns-in-Text-clause-asked g c =
+    IfOk-weaker c.with_config.result _ _ (λ a h.
+    opened_for_config c.deref.result.now c.args.file.now c.args.config.now
+    (stand_of g.F.Shelf.texts g.F.Shelf.opened g.F.Shelf.names_opened g.F.Shelf.faults c.load.new.shelf)
+    (stand_of g.F.Shelf.texts g.F.Shelf.opened g.F.Shelf.names_opened g.F.Shelf.faults c.with_config.new.shelf)
+    (g.F.Shelf.names_opened c.args.shelf.now) a.status a.text.items c.in_ok-text.ensures.names_opened h)
+    c.with_config.ensures.answer
+
+pub returns-in-Long-clause-answer : goal.returns-in-Long-clause-answer
+returns-in-Long-clause-answer g c =
+    let loaded = rw c.in-Long.is at c.in_ok-text.ensures.loaded in
+    IfOk-weaker c.wrong_answer.result _ _ (λ a h.
+    long_answers (stand_of g.F.Shelf.texts g.F.Shelf.opened g.F.Shelf.names_opened g.F.Shelf.faults c.args.shelf.now)
+    (stand_of g.F.Shelf.texts g.F.Shelf.opened g.F.Shelf.names_opened g.F.Shelf.faults c.load.new.shelf)
+    c.args.file.now c.args.config.now a.status a.text.items h.0 loaded h.1) c.wrong_answer.ensures
 
 pub returns-in-Long-clause-asked : goal.returns-in-Long-clause-asked
 returns-in-Long-clause-asked g c =

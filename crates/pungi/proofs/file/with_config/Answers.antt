@@ -22,7 +22,7 @@ returns-in-Err-clause-answer g c =
     IfOk-weaker c.config_answer.result _ _ (λ a h.
     inl (
       h.0,
-      record { same_rest = refl; same_gave = refl; same_given = refl; same_faults = refl },
+      refl,
       (
         h.1.0,
         wrong_for c.args.text.now c.in_ok-names.names c.in_ok-table.table c.in-Err.fault h.1.0 c.in_ok-names.ensures

@@ -12,15 +12,11 @@ returns-in-None-clause-answer g c =
     plainly_asked (asked_of (map string_bytes c.args.words.now)) c.in-Ok-File.field-0 c.in-Ok-File.file
     c.in-Ok-File.config c.as_str.result.now c.in-Ok-File.ensures c.in-Ok-File.field-0-is c.in-None.is
     c.as_str.ensures.value in
-    IfOk-weaker c.plain.result _ _ (λ a h. (
-      c.args.shelf.now,
-      answers_as
-          (stand_of g.F.Shelf.texts g.F.Shelf.rest g.F.Shelf.bytes_read g.F.Shelf.names_opened g.F.Shelf.faults c.args.shelf.now)
-          (stand_of g.F.Shelf.texts g.F.Shelf.rest g.F.Shelf.bytes_read g.F.Shelf.names_opened g.F.Shelf.faults c.args.shelf.now)
-          (stand_of g.F.Shelf.texts g.F.Shelf.rest g.F.Shelf.bytes_read g.F.Shelf.names_opened g.F.Shelf.faults c.plain.new.shelf)
-          (asked_of (map string_bytes c.args.words.now)) (asked_file c.as_str.result.now None) a.status a.text.items
-          same h,
-    )) c.plain.ensures.answer
+    IfOk-weaker c.plain.result _ _ (λ a h.
+    answers_as (stand_of g.F.Shelf.texts g.F.Shelf.opened g.F.Shelf.names_opened g.F.Shelf.faults c.args.shelf.now)
+    (stand_of g.F.Shelf.texts g.F.Shelf.opened g.F.Shelf.names_opened g.F.Shelf.faults c.plain.new.shelf)
+    (asked_of (map string_bytes c.args.words.now)) (asked_file c.as_str.result.now None) a.status a.text.items same h)
+    c.plain.ensures.answer
 
 pub returns-in-Ok-Trial-clause-asked : goal.returns-in-Ok-Trial-clause-asked
 returns-in-Ok-Trial-clause-asked g c =
