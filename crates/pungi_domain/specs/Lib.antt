@@ -6,3 +6,5 @@ pub mod Flat
 pub mod FlatLaws
 pub mod Constants
 pub mod Programs
+pub mod Annotations
+pub mod Builds
