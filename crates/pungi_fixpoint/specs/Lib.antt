@@ -1,3 +1,4 @@
 pub mod Summaries
 pub mod Solver
 pub mod Turns
+pub mod Worklist

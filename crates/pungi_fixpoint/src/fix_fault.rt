@@ -1,7 +1,9 @@
-ghost use Rattle.std.specs.Prelude.{◌≡◌};
-ghost use Rattle.pungi_fixpoint.specs.declared.fix_fault.FixFault.TheVariants.{Memory as OutOfMemory};
+ghost use Rattle.std.specs.Prelude.{◌≡◌, ℕ, ℤ, List};
+ghost use Rattle.pungi_domain.specs.declared.domain_fault.DomainFault.TheVariants.{Range as LargeRow};
+ghost use Rattle.pungi_fixpoint.specs.declared.fix_fault.FixFault.TheVariants.{Memory as OutOfMemory, NotSafe, Range};
 
 use pungi_base::Seq;
+use pungi_domain::DomainFault;
 use std::alloc::{AllocError, AllocFailed};
 use thiserror::Error;
 
@@ -41,5 +43,16 @@ impl From<pungi_base::Memory> for FixFault {
 
     fn from(_: pungi_base::Memory) -> Self {
         FixFault::Memory
+    }
+}
+
+/// A fault of the domain at an edge from this place.
+pub(crate) fn fault_at(place: u32, fault: DomainFault) -> FixFault
+    ensures safe { (k : ℕ) → result ≡ NotSafe k → ⊥ }
+    ensures range { (k : ℕ) (row : List ℤ) → result ≡ Range k row → (k ≡ place) × (fault ≡ LargeRow row) }
+{
+    match fault {
+        DomainFault::Range(row) => FixFault::Range(place, row),
+        DomainFault::Memory => FixFault::Memory,
     }
 }

@@ -4,9 +4,11 @@
 
 mod action;
 mod annotation;
+mod check;
 mod duties;
 mod fix_fault;
 mod guard;
+mod settle;
 mod solver;
 mod sources;
 mod stage;

@@ -1,0 +1,6 @@
+mod Lists
+mod Sets
+mod Rows
+mod Below
+mod Grows
+mod Queue
