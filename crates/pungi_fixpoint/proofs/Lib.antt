@@ -4,3 +4,6 @@ mod Rows
 mod Below
 mod Grows
 mod Queue
+mod Steps
+mod Places
+mod Checks

@@ -4,13 +4,16 @@ use Rattle.std.proofs.Common.{subst, arith, All, slice_get, slice_index_or, slic
 use Rattle.std.proofs.lemmas.Option.{slice_get_within, get_or_from_slice_get, slice_get-get_or}
 use Rattle.std.proofs.lemmas.Bool.{cases_eq}
 
-pub get_there : {A : Type 0} (xs : List A) (k : ℕ) (d : A) → k < length xs → (x : A) × (slice_get xs k ≡ Some x)
-get_there xs k d lt = (slice_index_or xs k d, slice_get-get_or xs k d lt)
-
 pub get_within : {A : Type 0} (xs : List A) (k : ℕ) → k < length xs → (x : A) × (slice_get xs k ≡ Some x)
 get_within [] k lt = absurd (omega arith)
 get_within (x ∷ xs) zero lt = (x, refl)
 get_within (x ∷ xs) (suc k) lt = get_within xs k (omega (arith, lt))
+
+-- an element as indexing a slice of the list gives it
+pub read_at : {A : Type 0} (xs ys : List A) (k : ℕ) (x : A) → ys ≡ xs → k < length xs → x ≡ slice_index_or ys k x
+    → slice_get xs k ≡ Some x
+read_at {A} xs ys k x same lt is =
+    slice_get-get_or xs k x lt ∙ ap Some (sym (subst (λ (zs : List A). x ≡ slice_index_or zs k x) same is))
 
 pub all_at : {A : Type 0} (P : A → Type 0) (xs : List A) (k : ℕ) (x : A) → All P xs → slice_get xs k ≡ Some x → P x
 all_at P xs k x all e = subst P (get_or_from_slice_get xs k x x e) (all k x (slice_get_within xs k x e))

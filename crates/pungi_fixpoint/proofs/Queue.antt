@@ -1,6 +1,7 @@
 -- The queue of places: what is put stays, and which edges are still to be taken after a step.
-use Rattle.std.proofs.Common.{◌≡◌, ◌∙◌, ℕ, ◌+◌, ◌<◌, ◌≤◌, ◌⊎◌, inl, inr, Bool, true, false, List, [], ◌∷◌, ◌++◌, length, Option}
-use Rattle.std.proofs.Common.{Some, refl, sym, ap, subst, arith, slice_get, slice_index_or, length-append}
+use Rattle.std.proofs.Common.{◌≡◌, ◌∙◌, ℕ, zero, suc, ◌+◌, ◌<◌, ◌≤◌, ◌⊎◌, inl, inr, Bool, true, false, List, [], ◌∷◌, ◌++◌, length, Option}
+use Rattle.std.proofs.Common.{Some, refl, sym, ap, subst, arith, slice_get, slice_index_or, length-append, drop}
+use Rattle.std.proofs.lemmas.List.{drop_all, drop_more}
 use Rattle.pungi_domain.specs.Annotations.{set_to}
 use Rattle.pungi_domain.specs.Builds.{Stage}
 use Rattle.pungi_domain.specs.Vectors.{Vector, Vectors}
@@ -20,6 +21,11 @@ stands_more j (x ∷ xs) ys h = elim h [ inl here ↦ inl here | inr on ↦ inr 
 stands_last : (j : ℕ) (xs : List ℕ) → Stands j (xs ++ j ∷ [])
 stands_last j [] = inl refl
 stands_last j (x ∷ xs) = inr (stands_last j xs)
+
+pub stands_at : (xs : List ℕ) (k d : ℕ) → k < length xs → Stands (slice_index_or xs k d) xs
+stands_at [] k d lt = absurd (omega (arith, lt))
+stands_at (x ∷ xs) zero d lt = inl refl
+stands_at (x ∷ xs) (suc k) d lt = inr (stands_at xs k d (omega (arith, lt)))
 
 -- what `put` does, whatever it returns
 pub record IsPut (old : PendingState) (i : ℕ) (new : PendingState) : Type 0 where
@@ -96,4 +102,18 @@ module _ {D : Type 0} (p : AffineProgram) (calls : ℕ → ℕ → Vectors) (mem
           | inr on ↦ inr (inl on)
         ]
         | inr took ↦ inr (inr took)
+      ]
+
+  pub left_here : (st : Stage D) (list numbers : List ℕ) (k : ℕ) → k < length numbers
+      → AreLeft p calls member st list (drop k numbers)
+      → AreLeft p calls member st list (slice_index_or numbers k 0 ∷ drop (k + 1) numbers)
+  left_here st list numbers k lt left =
+      subst (λ (xs : List ℕ). AreLeft p calls member st list xs) (drop_more numbers k 0 lt) left
+
+  pub none_left : (st : Stage D) (list numbers : List ℕ) (k : ℕ) → length numbers ≤ k
+      → AreLeft p calls member st list (drop k numbers) → AreTaken p calls member st list
+  none_left st list numbers k le left i e e_is =
+      elim (left i e e_is) [
+        | inl there ↦ absurd (subst (λ (xs : List ℕ). Stands i xs) (drop_all k numbers le) there)
+        | inr done ↦ done
       ]

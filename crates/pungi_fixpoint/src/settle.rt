@@ -6,7 +6,7 @@ ghost use Rattle.pungi_domain.specs.declared.affine_edge.AffineEdge.{AffineEdge}
 ghost use Rattle.pungi_domain.specs.declared.target.Target.TheVariants.{Place};
 ghost use Rattle.pungi_fixpoint.specs.Solver.{FitsExits, FitsWidths, calls};
 ghost use Rattle.pungi_fixpoint.specs.Summaries.{exit_of};
-ghost use Rattle.pungi_fixpoint.specs.Turns.{RangeOnly, Takes};
+ghost use Rattle.pungi_fixpoint.specs.Turns.{IsIndex, RangeOnly, Takes};
 ghost use Rattle.pungi_fixpoint.specs.Worklist.{AreLeft, AreTaken, IsSearching, work};
 ghost use Rattle.pungi_fixpoint.specs.declared.fix_fault.FixFault.TheVariants.{NotSafe, Range};
 ghost use Rattle.pungi_links.specs.Pending.{IsPending};
@@ -17,7 +17,7 @@ use crate::sources::edges_by_source;
 use crate::stage::Stage;
 use crate::turn::turn;
 use crate::{FixFault, Summaries};
-use pungi_base::Memory;
+use pungi_base::{Memory, Seq};
 use pungi_domain::{AffineProgram, Domain, DomainFault, Target};
 use pungi_links::Pending;
 use std::alloc::Global;
@@ -111,6 +111,69 @@ fn take_edges<D: Domain>(
     Ok(())
 }
 
+/// Takes the edges of a place that was taken from the queue.
+fn take_place<D: Domain>(
+    alloc: Global,
+    program: &AffineProgram,
+    summaries: &Summaries<D>,
+    sources: &[Seq<usize>],
+    place: u32,
+    stage: &mut Stage<D>,
+    pending: &mut Pending,
+) -> Result<(), FixFault>
+    requires well_formed { IsWellFormed program.now }
+    requires fits { FitsExits D.width_of summaries.now.exits program.now }
+    requires index { IsIndex program.now.edges (length program.now.widths) sources.now }
+    requires place { place < length program.now.widths }
+    requires searching { IsSearching D.least D.member D.width_of program.now (exit_of summaries.now.exits) stage.old
+        pending.old }
+    requires taken { AreTaken program.now (calls D.member summaries.now.exits) D.member stage.old
+        (place ∷ pending.old.list) }
+    ensures searching { IsSearching D.least D.member D.width_of program.now (exit_of summaries.now.exits) stage.new
+        pending.new }
+    ensures work { work D.width_of D.rank stage.new pending.new ≤ work D.width_of D.rank stage.old pending.old }
+    ensures taken { OnOk result (AreTaken program.now (calls D.member summaries.now.exits) D.member stage.new
+        pending.new.list) }
+    ensures safe { (k : ℕ) → result ≡ Err (NotSafe k) → ⊥ }
+    ensures range { (k : ℕ) (row : List ℤ) → result ≡ Err (Range k row)
+        → IsLargeBuild D.least D.member program.now (exit_of summaries.now.exits) k row }
+{
+    let numbers = sources[place as usize].as_slice();
+    match take_edges(alloc, program, summaries, numbers, stage, pending) {
+        Ok(()) => Ok(()),
+        Err(fault) => Err(fault_at(place, fault)),
+    }
+}
+
+/// Takes the edges of the places in the queue, until it is empty.
+fn take_places<D: Domain>(
+    alloc: Global,
+    program: &AffineProgram,
+    summaries: &Summaries<D>,
+    sources: &[Seq<usize>],
+    stage: &mut Stage<D>,
+    pending: &mut Pending,
+) -> Result<(), FixFault>
+    requires well_formed { IsWellFormed program.now }
+    requires fits { FitsExits D.width_of summaries.now.exits program.now }
+    requires index { IsIndex program.now.edges (length program.now.widths) sources.now }
+    requires searching { IsSearching D.least D.member D.width_of program.now (exit_of summaries.now.exits) stage.old
+        pending.old }
+    requires taken { AreTaken program.now (calls D.member summaries.now.exits) D.member stage.old pending.old.list }
+    ensures searching { IsSearching D.least D.member D.width_of program.now (exit_of summaries.now.exits) stage.new
+        pending.new }
+    ensures settled { OnOk result (All (Takes program.now (calls D.member summaries.now.exits) D.member stage.new
+        stage.new) program.now.edges) }
+    ensures safe { (k : ℕ) → result ≡ Err (NotSafe k) → ⊥ }
+    ensures range { (k : ℕ) (row : List ℤ) → result ≡ Err (Range k row)
+        → IsLargeBuild D.least D.member program.now (exit_of summaries.now.exits) k row }
+{
+    'places: while let Some(k) = pending.take() {
+        take_place(alloc, program, summaries, sources, k, stage, pending)?;
+    }
+    Ok(())
+}
+
 /// Takes edges until none changes a value: those of each place, and again where its value grew.
 pub(crate) fn settle<D: Domain>(
     alloc: Global,
@@ -133,12 +196,5 @@ pub(crate) fn settle<D: Domain>(
     let places = program.widths.len();
     let sources = edges_by_source(alloc, program.edges.as_slice(), places)?;
     let mut pending = all_pending(alloc, places as u32)?;
-    'places: while let Some(k) = pending.take() {
-        let numbers = sources[k as usize].as_slice();
-        match take_edges(alloc, program, summaries, numbers, stage, &mut pending) {
-            Ok(()) => {}
-            Err(fault) => return Err(fault_at(k, fault)),
-        }
-    }
-    Ok(())
+    take_places(alloc, program, summaries, sources.as_slice(), stage, &mut pending)
 }

@@ -20,6 +20,7 @@ use std::alloc::Global;
 ///
 /// Over a domain of least values it is the least annotation, `NotSafe` means that none is safe, and `Range` comes only
 /// where some order of the edges leads to a large step.
+#[tactic(none)]
 pub fn solve<D: Domain>(
     alloc: Global,
     program: &AffineProgram,

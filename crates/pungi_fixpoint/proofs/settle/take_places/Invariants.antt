@@ -1,7 +1,7 @@
 use Rattle.pungi_fixpoint.specs.Solver.{calls}
 use Rattle.pungi_fixpoint.specs.Summaries.{exit_of}
 use Rattle.pungi_fixpoint.specs.Worklist.{AreTaken, IsSearching, work}
-use Rattle.pungi_fixpoint.proofs.settle.settle.Given as goal
+use Rattle.pungi_fixpoint.proofs.settle.take_places.Given as goal
 
 abbrev pub invariant-places : goal.invariant-places
 invariant-places g l = record {
