@@ -15,6 +15,11 @@ pub read_at : {A : Type 0} (xs ys : List A) (k : ℕ) (x : A) → ys ≡ xs → 
 read_at {A} xs ys k x same lt is =
     slice_get-get_or xs k x lt ∙ ap Some (sym (subst (λ (zs : List A). x ≡ slice_index_or zs k x) same is))
 
+pub read_under : {A : Type 0} (xs ys : List A) (k : ℕ) (x : A) → ys ≡ xs → k < length ys → x ≡ slice_index_or ys k x
+    → slice_get xs k ≡ Some x
+read_under {A} xs ys k x same lt is =
+    subst (λ (zs : List A). slice_get zs k ≡ Some x) same (slice_get-get_or ys k x lt ∙ ap Some (sym is))
+
 pub all_at : {A : Type 0} (P : A → Type 0) (xs : List A) (k : ℕ) (x : A) → All P xs → slice_get xs k ≡ Some x → P x
 all_at P xs k x all e = subst P (get_or_from_slice_get xs k x x e) (all k x (slice_get_within xs k x e))
 

@@ -115,7 +115,7 @@ module _ {D : Type 0} (least : Bool) (member : D → Vectors) (width : D → ℕ
   pub work_took : (rank : D → ℕ) (old new : Stage D) (q q' q'' : PendingState) (k : ℕ) → Takes_first q q' (Some k)
       → work width rank new q'' ≤ work width rank old q' → work width rank new q'' < work width rank old q
   work_took rank old new q q' q'' k e le =
-      let l : length q.list ≡ length q'.list + 1 = ap length (took_list q q' k e) in
+      let l : length q.list ≡ length (k ∷ q'.list) = ap length (took_list q q' k e) in
       omega (arith, l, le)
 
   pub settled : (st : Stage D) (q : PendingState) → q.list ≡ [] → AreTaken p calls member st q.list

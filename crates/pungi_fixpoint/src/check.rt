@@ -13,7 +13,6 @@ use pungi_domain::{AffineProgram, Domain};
 use std::alloc::Global;
 
 /// Whether each duty is met, or the first place from which an edge with one that fails leads.
-#[tactic(none)]
 pub(crate) fn check_duties<D: Domain>(
     alloc: Global,
     program: &AffineProgram,
