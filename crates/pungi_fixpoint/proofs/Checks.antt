@@ -15,7 +15,7 @@ use Rattle.std.proofs.lemmas.Bool.{cases_lt}
 use Rattle.std.proofs.lemmas.Option.{slice_get_within}
 use Rattle.pungi_fixpoint.proofs.Lists.{all_at, all_of}
 
-range_at : (A : Type 0) (P : List ℤ → Type 0) (fault : DomainFault) (r : List ℤ) → fault ≡ Range r
+pub range_at : (A : Type 0) (P : List ℤ → Type 0) (fault : DomainFault) (r : List ℤ) → fault ≡ Range r
     → RangeOnly {A = A} P (Err fault) → P r
 range_at A P fault r e h = subst (λ (f : DomainFault). RangeOnly {A = A} P (Err f)) e h
 

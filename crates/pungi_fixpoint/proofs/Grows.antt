@@ -2,7 +2,7 @@
 use Rattle.std.proofs.Common.{◌≡◌, ℕ, ◌<◌, ◌⊎◌, inl, inr, Bool, List, Option, Some, refl, sym, subst, arith, All}
 use Rattle.std.proofs.Common.{slice_get, slice_index_or}
 use Rattle.std.proofs.lemmas.Bool.{cases_eq}
-use Rattle.pungi_domain.specs.Annotations.{set_to}
+use Rattle.pungi_domain.specs.Annotations.{IsInductive, set_to}
 use Rattle.pungi_domain.specs.Builds.{IsBuilt, IsFirst, Stage, Turn, built_first, built_on, span_at, with_span}
 use Rattle.pungi_domain.specs.Programs.{IsWellFormed}
 use Rattle.pungi_domain.specs.Vectors.{Vector, Vectors}
@@ -11,6 +11,7 @@ use Rattle.pungi_domain.specs.declared.affine_program.AffineProgram.{AffineProgr
 use Rattle.pungi_domain.specs.declared.target.Target.{Target}
 use Rattle.pungi_domain.specs.declared.target.Target.TheVariants.{Place, Exit}
 use Rattle.pungi_fixpoint.specs.Solver.{sets}
+use Rattle.pungi_fixpoint.specs.Turns.{Takes}
 use Rattle.pungi_links.specs.Ring.{Stands}
 use Rattle.pungi_fixpoint.proofs.Lists.{get_set_other, get_within}
 use Rattle.pungi_fixpoint.proofs.Sets.{set_grows, set_there}
@@ -62,3 +63,13 @@ built_entries least member p exit st well (built_first _ first) = λ i d lt v.
 built_entries least member p exit st well (built_on old _ k e built e_is turn) = λ i d lt v.
     turn_grows least member p exit e old st turn (Place (slice_index_or p.entries i d)) v
     (built_entries least member p exit old well built i d lt v)
+
+-- values that no edge changes are an inductive annotation
+pub built_inductive : {D : Type 0} (least : Bool) (member : D → Vectors) (p : AffineProgram)
+    (exit : ℕ → ℕ → Option D) (calls : ℕ → ℕ → Vectors) (st : Stage D) → IsWellFormed p
+    → IsBuilt least member p exit st → All (Takes p calls member st st) p.edges
+    → IsInductive p calls (sets member st.at) (sets member st.exits)
+built_inductive least member p exit calls st well built settled = record {
+  entries = built_entries least member p exit st well built;
+  edges = settled;
+}

@@ -65,6 +65,12 @@ large_place {D} least member p exit places lists k numbers fault j r index same 
     let from : AffineEdge → ℕ = λ x. x.from in
     subst (λ n. IsLargeBuild least member p exit n r) (ap from this ∙ (e.2 ∙ sym here)) large.4
 
+pub index_same : (es es' : List AffineEdge) (n n' : ℕ) (ls ls' : List (List ℕ)) → es' ≡ es → n' ≡ n → ls ≡ ls'
+    → IsIndex es' n' ls' → IsIndex es n ls
+index_same es es' n n' ls ls' e_same n_same ls_same h =
+    subst (λ (xs : List AffineEdge). IsIndex xs n ls) e_same
+    (subst (λ m. IsIndex es' m ls) n_same (subst (λ (xs : List (List ℕ)). IsIndex es' n' xs) (sym ls_same) h))
+
 pub sources_within : (p : AffineProgram) (places : ℕ) → IsWellFormed p → places ≡ length p.widths
     → All (λ e. e.from < places) p.edges
 sources_within p places well same = λ k d lt.

@@ -15,12 +15,23 @@ use pungi_base::Seq;
 use pungi_domain::{AffineProgram, Domain};
 use std::alloc::Global;
 
+/// The values, as an annotation.
+fn annotation_of<D: Domain>(stage: Stage<D>) -> Annotation<D>
+    ensures at { result.at ≡ stage.at }
+    ensures exits { result.exits ≡ stage.exits }
+{
+    let Stage { at, exits } = stage;
+    Annotation {
+        at: Seq::new(at),
+        exits: Seq::new(exits),
+    }
+}
+
 /// An annotation of the program that is inductive and safe, where a call of a function finds at each exit class what
 /// the summaries have for it: no vector where nothing was put.
 ///
 /// Over a domain of least values it is the least annotation, `NotSafe` means that none is safe, and `Range` comes only
 /// where some order of the edges leads to a large step.
-#[tactic(none)]
 pub fn solve<D: Domain>(
     alloc: Global,
     program: &AffineProgram,
@@ -47,9 +58,5 @@ pub fn solve<D: Domain>(
     };
     settle(alloc, program, summaries, &mut stage)?;
     check_duties(alloc, program, &stage)?;
-    let Stage { at, exits } = stage;
-    Ok(Annotation {
-        at: Seq::new(at),
-        exits: Seq::new(exits),
-    })
+    Ok(annotation_of(stage))
 }

@@ -3,7 +3,7 @@ use Rattle.pungi_domain.specs.Builds.{built_first}
 use Rattle.pungi_domain.specs.declared.affine_edge.AffineEdge.{AffineEdge}
 use Rattle.pungi_fixpoint.specs.Solver.{calls}
 use Rattle.pungi_fixpoint.specs.Summaries.{exit_of}
-use Rattle.pungi_fixpoint.proofs.Places.{searching_first, sources_within, taken_first}
+use Rattle.pungi_fixpoint.proofs.Places.{index_same, searching_first, sources_within, taken_first}
 use Rattle.pungi_fixpoint.proofs.settle.settle.Goals as goal
 
 pub edges_by_source-requires : goal.edges_by_source-requires
@@ -19,9 +19,9 @@ returns-in_err-pending-clause-built g c = built_first c.args.stage.now c.require
 
 pub take_places-requires-clause-index : goal.take_places-requires-clause-index
 take_places-requires-clause-index g c =
-    let h = c.in_ok-sources.ensures in
-    let k = c.in_ok-pending.ensures in
-    ?
+    index_same c.args.program.now.edges c.as_slice.result.now (length c.args.program.now.widths) c.len-places.result
+    c.as_slice-2.result.now c.in_ok-sources.sources.items c.as_slice.ensures c.len-places.ensures
+    c.as_slice-2.ensures.value c.in_ok-sources.ensures
 
 pub take_places-requires-clause-searching : goal.take_places-requires-clause-searching
 take_places-requires-clause-searching g c =
