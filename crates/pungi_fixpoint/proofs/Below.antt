@@ -1,9 +1,8 @@
 -- The values of each build are below each inductive annotation, where the domain is one of least values.
-use Rattle.std.proofs.Common.{◌≡◌, ◌∙◌, ℕ, ◌<◌, ◌⊎◌, inl, inr, Bool, true, List, length, Option, Some, ℤ, pos, refl, sym, subst}
-use Rattle.std.proofs.Common.{arith, All, slice_get, slice_index_or, slice_set}
-use Rattle.std.proofs.lemmas.Bool.{cases_eq}
-use Rattle.std.proofs.lemmas.Option.{slice_get_within}
-use Rattle.pungi_domain.specs.Annotations.{IsInductive, IsKept, IsSafe, HaveWidths, MeetsAll, MeetsRows, Rows, Sends, met, set_to}
+use Rattle.std.proofs.Common.{◌≡◌, ℕ, inl, inr, Bool, true, List, length, Option, Some, ℤ, pos, sym, subst}
+use Rattle.std.proofs.Common.{All, slice_get, slice_index_or}
+use Rattle.pungi_domain.specs.Annotations.{IsInductive, IsKept, IsSafe, HaveWidths, MeetsAll, MeetsRows, Rows, met}
+use Rattle.pungi_domain.specs.Annotations.{set_to}
 use Rattle.pungi_domain.specs.Builds.{IsBuilt, IsFirst, IsMet, Stage, Turn, built_first, built_on, span_at, with_span}
 use Rattle.pungi_domain.specs.Programs.{FitsEdge, IsTarget, IsWellFormed, width_at, width_to}
 use Rattle.pungi_domain.specs.Spans.{Zero}
@@ -12,11 +11,11 @@ use Rattle.pungi_domain.specs.declared.affine_edge.AffineEdge.{AffineEdge}
 use Rattle.pungi_domain.specs.declared.affine_program.AffineProgram.{AffineProgram}
 use Rattle.pungi_domain.specs.declared.target.Target.{Target}
 use Rattle.pungi_domain.specs.declared.target.Target.TheVariants.{Place, Exit}
-use Rattle.pungi_fixpoint.specs.Solver.{IsBelow, calls, members, sets}
+use Rattle.pungi_fixpoint.specs.Solver.{IsBelow, calls, members}
 use Rattle.pungi_fixpoint.specs.Summaries.{exit_of}
 use Rattle.pungi_fixpoint.specs.Turns.{IsBroken}
 use Rattle.pungi_fixpoint.proofs.Lists.{all_at, find_number}
-use Rattle.pungi_fixpoint.proofs.Rows.{acts_rows, follows_rows, met_rows, zero_rows}
+use Rattle.pungi_fixpoint.proofs.Meets.{acts_rows, follows_rows, met_rows, zero_rows}
 use Rattle.pungi_fixpoint.proofs.Sets.{set_changes, set_of, set_there}
 
 rows_to : Rows → Target → List (List ℤ)
@@ -38,7 +37,6 @@ module _ {D : Type 0} (least : Bool) (l : least ≡ true) (member : D → Vector
     (zero : (s : D) → member s (λ _. pos 0)) (p : AffineProgram) (exits : List (List (Option D))) (a : Rows)
     (well : IsWellFormed p) (wide : HaveWidths p a)
     (inductive : IsInductive p (calls member exits) (met a.at) (met a.exits)) where
-
   target_rows : (st : Stage D) (t : Target) (x : D) → IsTarget p t → IsBelow member p a st.at st.exits
       → span_at st t ≡ Some x → (v : Vector) → member x v → MeetsRows (rows_to a t) v
   unfolding rows_to
@@ -98,17 +96,17 @@ module _ {D : Type 0} (least : Bool) (l : least ≡ true) (member : D → Vector
   first_below : (st : Stage D) → IsFirst least member p st → IsBelow member p a st.at st.exits
   first_below st first = record {
     places = λ k v lt m.
-      let x = set_of member st.at k v m in
-      elim (find_number k p.entries) [
-        | inl there ↦ all_at (λ j. (u : Vector) → met a.at j u) p.entries there.0 k inductive.entries there.1 v
-        | inr none ↦ follows_rows (width_at p k) (Zero (width_at p k)) (member x.0) (a.at k) (wide.at k lt)
-          ((first.others k x.0 none x.1).1 l) (zero_rows (width_at p k) (a.at k) (wide.at k lt)) v x.2
-      ];
+        let x = set_of member st.at k v m in
+        elim (find_number k p.entries) [
+          | inl there ↦ all_at (λ j. (u : Vector) → met a.at j u) p.entries there.0 k inductive.entries there.1 v
+          | inr none ↦ follows_rows (width_at p k) (Zero (width_at p k)) (member x.0) (a.at k) (wide.at k lt)
+              ((first.others k x.0 none x.1).1 l) (zero_rows (width_at p k) (a.at k) (wide.at k lt)) v x.2
+        ];
     classes = λ k v lt m.
-      let x = set_of member st.exits k v m in
-      let w = slice_index_or p.exits k 0 in
-      follows_rows w (Zero w) (member x.0) (a.exits k) (wide.exits k lt) ((first.exits k x.0 x.1).1 l)
-      (zero_rows w (a.exits k) (wide.exits k lt)) v x.2;
+        let x = set_of member st.exits k v m in
+        let w = slice_index_or p.exits k 0 in
+        follows_rows w (Zero w) (member x.0) (a.exits k) (wide.exits k lt) ((first.exits k x.0 x.1).1 l)
+        (zero_rows w (a.exits k) (wide.exits k lt)) v x.2;
   }
 
   pub built_below : (st : Stage D) → IsBuilt least member p (exit_of exits) st → IsBelow member p a st.at st.exits

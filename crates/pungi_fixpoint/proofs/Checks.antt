@@ -1,6 +1,7 @@
 -- What looking at the duties of an edge tells of the annotation.
-use Rattle.std.proofs.Common.{◌≡◌, ℕ, ◌+◌, ◌<◌, ◌≤◌, ℤ, inl, inr, Bool, List, length, Option, Some, refl, sym, ap, subst, slice_get, Result}
-use Rattle.std.proofs.Common.{Err, All, arith, slice_index_or}
+use Rattle.std.proofs.Common.{◌≡◌, ℕ, ◌+◌, ◌<◌, ◌≤◌, ℤ, inl, inr, Bool, List, length, Option, Some, sym, ap, subst}
+use Rattle.std.proofs.Common.{slice_get}
+use Rattle.std.proofs.Common.{Err, All, arith}
 use Rattle.pungi_domain.specs.Annotations.{MeetsAll}
 use Rattle.pungi_domain.specs.Builds.{IsBuilt, IsLargeBuild, IsMet, LargeMet, Stage}
 use Rattle.pungi_domain.specs.Programs.{FitsEdge, IsWellFormed, width_at}
@@ -22,7 +23,6 @@ range_at A P fault r e h = subst (λ (f : DomainFault). RangeOnly {A = A} P (Err
 module _ {D : Type 0} (least : Bool) (member : D → Vectors) (width : D → ℕ) (p : AffineProgram) (st : Stage D)
     (widths : FitsWidths width p st.at st.exits) (well : IsWellFormed p) (i : ℕ) (e : AffineEdge)
     (e_is : slice_get p.edges i ≡ Some e) where
-
   pub from_within : e.from < length st.at
   from_within =
       let fits : FitsEdge p e = all_at (FitsEdge p) p.edges i e well.edges e_is in
@@ -31,7 +31,6 @@ module _ {D : Type 0} (least : Bool) (member : D → Vectors) (width : D → ℕ
       omega (arith, from, places)
 
   module _ (source : D) (source_is : slice_get st.at e.from ≡ Some source) where
-
     pub source_width : width source ≡ width_at p e.from
     source_width = widths.at_widths e.from source source_is
 
@@ -87,12 +86,12 @@ module _ {D : Type 0} (least : Bool) (member : D → Vectors) (width : D → ℕ
         elim (cases_lt k i) [
           | inl less ↦ before k f less f_is
           | inr from ↦
-            let same : k ≡ i = omega arith in
-            let at : slice_get p.edges k ≡ slice_get p.edges i = ap (λ n. slice_get p.edges n) same in
-            let this : f ≡ e = cc in
-            subst (λ (x : AffineEdge). (v : Vector) → sets member st.at x.from v → MeetsAll x.guard v
-            → MeetsAll x.duties v) (sym this)
-            (λ v m. here v (subst (λ o. members member o v) source_is m))
+              let same : k ≡ i = omega arith in
+              let at : slice_get p.edges k ≡ slice_get p.edges i = ap (λ n. slice_get p.edges n) same in
+              let this : f ≡ e = cc in
+              subst (λ (x : AffineEdge). (v : Vector) → sets member st.at x.from v → MeetsAll x.guard v
+              → MeetsAll x.duties v) (sym this)
+              (λ v m. here v (subst (λ o. members member o v) source_is m))
         ]
 
 pub has_duty : (p : AffineProgram) (i : ℕ) (e : AffineEdge) (k : ℕ) → slice_get p.edges i ≡ Some e → e.from ≡ k

@@ -1,9 +1,9 @@
 -- What a turn keeps: all members stay, and only the target changes.
-use Rattle.std.proofs.Common.{◌≡◌, ℕ, ◌<◌, ◌⊎◌, inl, inr, Bool, List, Option, Some, refl, sym, subst, arith, All}
+use Rattle.std.proofs.Common.{◌≡◌, ℕ, ◌⊎◌, inl, inr, Bool, List, Option, Some, refl, sym, subst, arith, All}
 use Rattle.std.proofs.Common.{slice_get, slice_index_or}
 use Rattle.std.proofs.lemmas.Bool.{cases_eq}
 use Rattle.pungi_domain.specs.Annotations.{IsInductive, set_to}
-use Rattle.pungi_domain.specs.Builds.{IsBuilt, IsFirst, Stage, Turn, built_first, built_on, span_at, with_span}
+use Rattle.pungi_domain.specs.Builds.{IsBuilt, Stage, Turn, built_first, built_on, span_at, with_span}
 use Rattle.pungi_domain.specs.Programs.{IsWellFormed}
 use Rattle.pungi_domain.specs.Vectors.{Vector, Vectors}
 use Rattle.pungi_domain.specs.declared.affine_edge.AffineEdge.{AffineEdge}

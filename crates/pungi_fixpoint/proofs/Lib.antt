@@ -1,6 +1,6 @@
 mod Lists
 mod Sets
-mod Rows
+mod Meets
 mod Below
 mod Grows
 mod Queue

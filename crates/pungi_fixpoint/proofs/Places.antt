@@ -1,15 +1,15 @@
 -- The search as a whole: how it begins, a place that is taken from the queue, and its end.
-use Rattle.std.proofs.Common.{◌≡◌, ◌∙◌, ℕ, ◌+◌, ◌<◌, ◌≤◌, ◌⊎◌, inl, inr, Bool, List, [], ◌∷◌, length, Option, Some, None}
+use Rattle.std.proofs.Common.{◌≡◌, ◌∙◌, ℕ, ◌<◌, ◌≤◌, inl, inr, Bool, List, [], ◌∷◌, length, Option, Some}
 use Rattle.std.proofs.Common.{refl, sym, ap, subst, arith, All, slice_get, slice_index_or, ℤ, Err}
-use Rattle.pungi_domain.specs.Builds.{IsBuilt, IsFirst, IsLargeBuild, Stage, built_first}
+use Rattle.pungi_domain.specs.Builds.{IsFirst, IsLargeBuild, Stage, built_first}
 use Rattle.pungi_domain.specs.Programs.{FitsEdge, IsWellFormed}
-use Rattle.pungi_domain.specs.Vectors.{Vector, Vectors}
+use Rattle.pungi_domain.specs.Vectors.{Vectors}
 use Rattle.pungi_domain.specs.declared.affine_edge.AffineEdge.{AffineEdge}
 use Rattle.pungi_domain.specs.declared.affine_program.AffineProgram.{AffineProgram}
 use Rattle.pungi_domain.specs.declared.domain_fault.DomainFault.{DomainFault}
 use Rattle.pungi_domain.specs.declared.domain_fault.DomainFault.TheVariants.{Range}
 use Rattle.pungi_fixpoint.specs.Solver.{FitsWidths}
-use Rattle.pungi_fixpoint.specs.Turns.{IsIndex, RangeOnly, Takes, room}
+use Rattle.pungi_fixpoint.specs.Turns.{IsIndex, RangeOnly, Takes}
 use Rattle.pungi_fixpoint.specs.Worklist.{AreLeft, AreTaken, IsSearching, work}
 use Rattle.pungi_links.specs.Pending.{IsPending, PendingState, Takes as Takes_first}
 use Rattle.pungi_links.specs.Ring.{Stands}
@@ -79,7 +79,6 @@ sources_within p places well same = λ k d lt.
 
 module _ {D : Type 0} (least : Bool) (member : D → Vectors) (width : D → ℕ) (p : AffineProgram)
     (exit : ℕ → ℕ → Option D) (calls : ℕ → ℕ → Vectors) where
-
   pub searching_first : (st : Stage D) (q : PendingState) → FitsWidths width p st.at st.exits
       → IsFirst least member p st → IsPending q → q.limit ≡ length p.widths
       → IsSearching least member width p exit st q

@@ -1,5 +1,6 @@
 -- The queue of places: what is put stays, and which edges are still to be taken after a step.
-use Rattle.std.proofs.Common.{◌≡◌, ◌∙◌, ℕ, zero, suc, ◌+◌, ◌<◌, ◌≤◌, ◌⊎◌, inl, inr, Bool, true, false, List, [], ◌∷◌, ◌++◌, length, Option}
+use Rattle.std.proofs.Common.{◌≡◌, ℕ, zero, suc, ◌+◌, ◌<◌, ◌≤◌, ◌⊎◌, inl, inr, Bool, true, false, List, [], ◌∷◌}
+use Rattle.std.proofs.Common.{◌++◌, length}
 use Rattle.std.proofs.Common.{Some, refl, sym, ap, subst, arith, slice_get, slice_index_or, length-append, drop}
 use Rattle.std.proofs.lemmas.List.{drop_all, drop_more}
 use Rattle.pungi_domain.specs.Annotations.{set_to}
@@ -57,7 +58,6 @@ put old i new false h =
     }
 
 module _ {D : Type 0} (p : AffineProgram) (calls : ℕ → ℕ → Vectors) (member : D → Vectors) where
-
   -- an edge was taken: those from places that are not in the queue saw no change, and members only grew
   pub left_after : (old new : Stage D) (list list' rest : List ℕ) (i : ℕ) (e : AffineEdge)
       → slice_get p.edges i ≡ Some e → Takes p calls member old new e
@@ -71,9 +71,11 @@ module _ {D : Type 0} (p : AffineProgram) (calls : ℕ → ℕ → Vectors) (mem
       was : (k : ℕ) → slice_get new.at k ≡ slice_get old.at k → (v : Vector) → sets member new.at k v
           → sets member old.at k v
       was k eq v m = subst (λ o. members member o v) eq m
+
       this : (j : ℕ) (f : AffineEdge) → slice_get p.edges j ≡ Some f → j ≡ i → f ≡ e
       this j f f_is here =
           let at : slice_get p.edges j ≡ slice_get p.edges i = ap (λ n. slice_get p.edges n) here in cc
+
       go : AreLeft p calls member new list' rest
       go j f f_is =
           elim (same f.from) [
@@ -81,8 +83,8 @@ module _ {D : Type 0} (p : AffineProgram) (calls : ℕ → ℕ → Vectors) (mem
             | inr eq ↦ elim (left j f f_is) [
               | inl numbers ↦ elim numbers [
                 | inl here ↦ inr (inr (λ v u at guard sends.
-                  subst (λ (x : AffineEdge). Takes p calls member old new x) (sym (this j f f_is here)) taken v u
-                  (was f.from eq v at) guard sends))
+                    subst (λ (x : AffineEdge). Takes p calls member old new x) (sym (this j f f_is here)) taken v u
+                    (was f.from eq v at) guard sends))
                 | inr later ↦ inl later
               ]
               | inr done ↦ elim done [

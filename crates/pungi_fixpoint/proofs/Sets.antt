@@ -1,5 +1,5 @@
 -- The members of the values in a list, where one of them changes.
-use Rattle.std.proofs.Common.{◌≡◌, ◌∙◌, ℕ, ◌⊎◌, inl, inr, List, Option, Some, None, refl, sym, subst, slice_get, slice_set}
+use Rattle.std.proofs.Common.{◌≡◌, ℕ, ◌⊎◌, inl, inr, List, Option, Some, None, refl, sym, subst, slice_get, slice_set}
 use Rattle.std.proofs.lemmas.Bool.{cases_eq}
 use Rattle.pungi_domain.specs.Vectors.{Vector, Vectors}
 use Rattle.pungi_fixpoint.specs.Solver.{members, sets}
@@ -21,8 +21,11 @@ pub set_changes : {D : Type 0} (member : D → Vectors) (ds : List D) (k j : ℕ
     → (v : Vector) → sets member (slice_set ds k y) j v → ((j ≡ k) × member y v) ⊎ sets member ds j v
 set_changes member ds k j x y e v m =
     elim (cases_eq j k) [
-      | inl here ↦ inl (here, subst (λ o. members member o v) (get_set_same ds k x y e)
-        (subst (λ i. sets member (slice_set ds k y) i v) here m))
+      | inl here ↦ inl (
+        here,
+        subst (λ o. members member o v) (get_set_same ds k x y e)
+            (subst (λ i. sets member (slice_set ds k y) i v) here m),
+      )
       | inr other ↦ inr (subst (λ o. members member o v) (get_set_other ds k j y other) m)
     ]
 
@@ -32,7 +35,7 @@ pub set_grows : {D : Type 0} (member : D → Vectors) (ds : List D) (k j : ℕ) 
 set_grows member ds k j x y e grows v m =
     elim (cases_eq j k) [
       | inl here ↦ subst (λ i. sets member (slice_set ds k y) i v) (sym here)
-        (subst (λ o. members member o v) (sym (get_set_same ds k x y e))
-        (grows v (subst (λ o. members member o v) e (subst (λ i. sets member ds i v) here m))))
+          (subst (λ o. members member o v) (sym (get_set_same ds k x y e))
+          (grows v (subst (λ o. members member o v) e (subst (λ i. sets member ds i v) here m))))
       | inr other ↦ subst (λ o. members member o v) (sym (get_set_other ds k j y other)) m
     ]

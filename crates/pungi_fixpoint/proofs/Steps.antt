@@ -1,14 +1,13 @@
 -- One edge was taken: what the search keeps.
-use Rattle.std.proofs.Common.{◌≡◌, ◌∙◌, ℕ, ◌⊎◌, inl, inr, Bool, List, [], ◌∷◌, Option, Some, ℤ, refl, sym, ap, subst}
-use Rattle.std.proofs.Common.{slice_get, Result, Err}
+use Rattle.std.proofs.Common.{◌≡◌, ◌∙◌, ℕ, inr, Bool, List, ◌∷◌, Option, Some, ℤ, refl, sym, ap, subst}
+use Rattle.std.proofs.Common.{slice_get, Err}
 use Rattle.pungi_domain.specs.Annotations.{set_to}
-use Rattle.pungi_domain.specs.Builds.{IsBuilt, IsLargeBuild, LargeTurn, Stage, Turn, built_on}
-use Rattle.pungi_domain.specs.Vectors.{Vector, Vectors}
+use Rattle.pungi_domain.specs.Builds.{IsLargeBuild, LargeTurn, Stage, Turn, built_on}
+use Rattle.pungi_domain.specs.Vectors.{Vectors}
 use Rattle.pungi_domain.specs.declared.affine_edge.AffineEdge.{AffineEdge}
 use Rattle.pungi_domain.specs.declared.affine_program.AffineProgram.{AffineProgram}
 use Rattle.pungi_domain.specs.declared.domain_fault.DomainFault.{DomainFault}
 use Rattle.pungi_domain.specs.declared.domain_fault.DomainFault.TheVariants.{Range, Memory}
-use Rattle.pungi_domain.specs.declared.target.Target.{Target}
 use Rattle.pungi_domain.specs.declared.target.Target.TheVariants.{Place}
 use Rattle.pungi_fixpoint.specs.Solver.{FitsWidths, sets}
 use Rattle.pungi_fixpoint.specs.Turns.{RangeOnly, Takes}
@@ -26,7 +25,6 @@ range_err A B P Q Memory f h = tt
 
 module _ {D : Type 0} (least : Bool) (member : D → Vectors) (width : D → ℕ) (p : AffineProgram)
     (exit : ℕ → ℕ → Option D) (i : ℕ) (e : AffineEdge) (e_is : slice_get p.edges i ≡ Some e) where
-
   pub searching_turned : (old new : Stage D) (q q' : PendingState) → IsSearching least member width p exit old q
       → FitsWidths width p new.at new.exits → Turn least member p exit e old new → IsPending q'
       → q'.limit ≡ q.limit → IsSearching least member width p exit new q'

@@ -22,7 +22,8 @@ pub(crate) fn check_duties<D: Domain>(
     requires widths { FitsWidths D.width_of program.now stage.now.at stage.now.exits }
     ensures safe { OnOk result (IsSafe program.now (sets D.member stage.now.at)) }
     ensures place { (k : ℕ) → result ≡ Err (NotSafe k) → HasDuty program.now k }
-    ensures fails { D.least ≡ true → (k : ℕ) → result ≡ Err (NotSafe k) → IsBroken D.least D.member program.now stage.now }
+    ensures fails { D.least ≡ true → (k : ℕ) → result ≡ Err (NotSafe k)
+        → IsBroken D.least D.member program.now stage.now }
     ensures range { (k : ℕ) (row : List ℤ) → result ≡ Err (Range k row)
         → IsLargeCheck D.least D.member program.now stage.now k row }
 {
@@ -35,4 +36,3 @@ pub(crate) fn check_duties<D: Domain>(
     }
     Ok(())
 }
-

@@ -196,5 +196,12 @@ pub(crate) fn settle<D: Domain>(
     let places = program.widths.len();
     let sources = edges_by_source(alloc, program.edges.as_slice(), places)?;
     let mut pending = all_pending(alloc, places as u32)?;
-    take_places(alloc, program, summaries, sources.as_slice(), stage, &mut pending)
+    take_places(
+        alloc,
+        program,
+        summaries,
+        sources.as_slice(),
+        stage,
+        &mut pending,
+    )
 }

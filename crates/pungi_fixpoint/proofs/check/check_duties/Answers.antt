@@ -1,7 +1,6 @@
-use Rattle.std.proofs.Common.{◌≡◌, ◌∙◌, ◌<◌, ℕ, Bool, true, false, Ok, Some, List, length, slice_get, arith, ap}
+use Rattle.std.proofs.Common.{◌≡◌, true, false, Ok, Some, List, length, slice_get, arith, ap}
 use Rattle.pungi_domain.specs.Builds.{Stage}
 use Rattle.pungi_domain.specs.declared.affine_edge.AffineEdge.{AffineEdge}
-use Rattle.pungi_fixpoint.specs.declared.fix_fault.FixFault.TheVariants.{NotSafe, Range}
 use Rattle.pungi_fixpoint.proofs.Lists.{read_at, read_under}
 use Rattle.pungi_fixpoint.proofs.Checks.{all_safe, broken, duties_fit, from_within, guard_fits, has_duty, large_check}
 use Rattle.pungi_fixpoint.proofs.Checks.{safe_more}

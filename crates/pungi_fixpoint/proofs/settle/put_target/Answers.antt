@@ -1,4 +1,4 @@
-use Rattle.std.proofs.Common.{◌≡◌, ℕ, subst}
+use Rattle.std.proofs.Common.{◌≡◌, subst}
 use Rattle.pungi_links.specs.Ring.{Stands}
 use Rattle.pungi_fixpoint.proofs.Queue.{put}
 use Rattle.pungi_fixpoint.proofs.settle.put_target.Goals as goal

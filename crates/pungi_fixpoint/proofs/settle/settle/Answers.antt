@@ -1,6 +1,5 @@
-use Rattle.std.proofs.Common.{◌≡◌, ◌∙◌, ℕ, List, length, arith}
+use Rattle.std.proofs.Common.{◌∙◌, length}
 use Rattle.pungi_domain.specs.Builds.{built_first}
-use Rattle.pungi_domain.specs.declared.affine_edge.AffineEdge.{AffineEdge}
 use Rattle.pungi_fixpoint.specs.Solver.{calls}
 use Rattle.pungi_fixpoint.specs.Summaries.{exit_of}
 use Rattle.pungi_fixpoint.proofs.Places.{index_same, searching_first, sources_within, taken_first}

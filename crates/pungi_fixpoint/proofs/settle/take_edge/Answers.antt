@@ -1,4 +1,4 @@
-use Rattle.std.proofs.Common.{◌≡◌, ◌∙◌, ℕ, ℤ, Bool, true, false, Ok, Some, List, slice_get, ap}
+use Rattle.std.proofs.Common.{◌≡◌, ◌∙◌, ℤ, Bool, true, false, Ok, Some, List, slice_get, ap}
 use Rattle.std.proofs.lemmas.Result.{err_from_is_err_and}
 use Rattle.pungi_domain.specs.Builds.{IsLargeBuild, LargeTurn}
 use Rattle.pungi_domain.specs.declared.affine_edge.AffineEdge.{AffineEdge}
@@ -22,8 +22,12 @@ returns-in_err-turn-clause-range g c =
     (λ (r : List ℤ). (e : AffineEdge) × (slice_get program.edges c.args.number ≡ Some e)
     × IsLargeBuild g.D.Domain.least g.D.Domain.member program exit e.from r)
     c.in_err-turn.field-0.0
-    (λ r large. (edge, is, large_edge g.D.Domain.least g.D.Domain.member g.D.Domain.width_of program exit c.args.number
-    edge is c.args.stage.now c.args.pending.now r c.requires.searching large))
+    (λ r large. (
+      edge,
+      is,
+      large_edge g.D.Domain.least g.D.Domain.member g.D.Domain.width_of program exit c.args.number
+          edge is c.args.stage.now c.args.pending.now r c.requires.searching large,
+    ))
     c.in_err-turn.ensures.range)
 
 pub returns-clause-searching : goal.returns-clause-searching
@@ -35,16 +39,16 @@ returns-clause-searching g c =
     c.args.number edge c.as_slice.ensures c.requires.within c.index-as_slice-number.is in
     elim c.if-branch.branch [
       | then-branch w ↦
-        let grew : c.turn.result ≡ Ok true = c.in_ok-turn.was ∙ ap Ok w.if-branch.true in
-        rw w.pending-is (searching_turned g.D.Domain.least g.D.Domain.member g.D.Domain.width_of program exit
-        c.args.number edge is c.args.stage.now c.turn.new.stage c.args.pending.now w.put_target.new.pending
-        c.requires.searching c.turn.ensures.widths (c.turn.ensures.turned grew) w.put_target.ensures.pending
-        w.put_target.ensures.limit)
+          let grew : c.turn.result ≡ Ok true = c.in_ok-turn.was ∙ ap Ok w.if-branch.true in
+          rw w.pending-is (searching_turned g.D.Domain.least g.D.Domain.member g.D.Domain.width_of program exit
+          c.args.number edge is c.args.stage.now c.turn.new.stage c.args.pending.now w.put_target.new.pending
+          c.requires.searching c.turn.ensures.widths (c.turn.ensures.turned grew) w.put_target.ensures.pending
+          w.put_target.ensures.limit)
       | else-branch w ↦
-        let stayed : c.turn.result ≡ Ok false = c.in_ok-turn.was ∙ ap Ok w.if-branch.false in
-        searching_same g.D.Domain.least g.D.Domain.member g.D.Domain.width_of program exit c.args.stage.now
-        c.turn.new.stage c.args.pending.now c.if-branch.pending (c.turn.ensures.unchanged stayed) w.pending-is
-        c.requires.searching
+          let stayed : c.turn.result ≡ Ok false = c.in_ok-turn.was ∙ ap Ok w.if-branch.false in
+          searching_same g.D.Domain.least g.D.Domain.member g.D.Domain.width_of program exit c.args.stage.now
+          c.turn.new.stage c.args.pending.now c.if-branch.pending (c.turn.ensures.unchanged stayed) w.pending-is
+          c.requires.searching
     ]
 
 pub returns-clause-left : goal.returns-clause-left
@@ -57,14 +61,14 @@ returns-clause-left g c rest left =
     c.args.number edge c.as_slice.ensures c.requires.within c.index-as_slice-number.is in
     elim c.if-branch.branch [
       | then-branch w ↦
-        let grew : c.turn.result ≡ Ok true = c.in_ok-turn.was ∙ ap Ok w.if-branch.true in
-        rw w.pending-is (left_turned g.D.Domain.least g.D.Domain.member g.D.Domain.width_of program exit
-        c.args.number edge is found c.args.stage.now c.turn.new.stage c.args.pending.now.list
-        w.put_target.new.pending.list rest (c.turn.ensures.turned grew) c.in_ok-turn.ensures.taken
-        w.put_target.ensures.put w.put_target.ensures.kept left)
+          let grew : c.turn.result ≡ Ok true = c.in_ok-turn.was ∙ ap Ok w.if-branch.true in
+          rw w.pending-is (left_turned g.D.Domain.least g.D.Domain.member g.D.Domain.width_of program exit
+          c.args.number edge is found c.args.stage.now c.turn.new.stage c.args.pending.now.list
+          w.put_target.new.pending.list rest (c.turn.ensures.turned grew) c.in_ok-turn.ensures.taken
+          w.put_target.ensures.put w.put_target.ensures.kept left)
       | else-branch w ↦
-        let stayed : c.turn.result ≡ Ok false = c.in_ok-turn.was ∙ ap Ok w.if-branch.false in
-        rw w.pending-is (left_same g.D.Domain.least g.D.Domain.member g.D.Domain.width_of program exit c.args.number
-        edge is found c.args.stage.now c.turn.new.stage c.args.pending.now.list rest (c.turn.ensures.unchanged stayed)
-        c.in_ok-turn.ensures.taken left)
+          let stayed : c.turn.result ≡ Ok false = c.in_ok-turn.was ∙ ap Ok w.if-branch.false in
+          rw w.pending-is (left_same g.D.Domain.least g.D.Domain.member g.D.Domain.width_of program exit c.args.number
+          edge is found c.args.stage.now c.turn.new.stage c.args.pending.now.list rest (c.turn.ensures.unchanged stayed)
+          c.in_ok-turn.ensures.taken left)
     ]

@@ -1,4 +1,4 @@
-use Rattle.std.proofs.Common.{◌≡◌, ◌+◌, ◌<◌, ◌≤◌, ℕ, ℤ, Some, List, drop, length, slice_get, slice_index_or, arith, le_trans}
+use Rattle.std.proofs.Common.{◌≡◌, ◌+◌, ◌<◌, ℕ, ℤ, Some, List, drop, length, slice_get, slice_index_or, arith, le_trans}
 use Rattle.std.proofs.lemmas.Result.{err_from_is_err_and}
 use Rattle.pungi_domain.specs.Builds.{IsLargeBuild}
 use Rattle.pungi_domain.specs.declared.affine_edge.AffineEdge.{AffineEdge}
@@ -11,7 +11,8 @@ use Rattle.pungi_fixpoint.proofs.settle.take_edges.Goals as goal
 
 pub take_edge-requires-clause-within : goal.take_edge-requires-clause-within
 take_edge-requires-clause-within g c =
-    c.requires.within _ (stands_at c.args.numbers.now c.loop-number.number-index 0 (omega (arith, c.loop-number-test.true)))
+    c.requires.within _ (stands_at c.args.numbers.now c.loop-number.number-index 0
+    (omega (arith, c.loop-number-test.true)))
 
 pub returns-in_err-take_edge-clause-work : goal.returns-in_err-take_edge-clause-work
 returns-in_err-take_edge-clause-work g c = le_trans c.take_edge.ensures.work c.loop-number.invariant.work
@@ -29,8 +30,13 @@ returns-in_err-take_edge-clause-range g c =
     (λ (r : List ℤ). (i : ℕ) × (e : AffineEdge) × Stands i numbers × (slice_get program.edges i ≡ Some e)
     × IsLargeBuild g.D.Domain.least g.D.Domain.member program exit e.from r)
     c.in_err-take_edge.field-0.0
-    (λ r h. (number, h.0,
-    stands_at numbers c.loop-number.number-index 0 (omega (arith, c.loop-number-test.true)), h.1, h.2))
+    (λ r h. (
+      number,
+      h.0,
+      stands_at numbers c.loop-number.number-index 0 (omega (arith, c.loop-number-test.true)),
+      h.1,
+      h.2,
+    ))
     c.in_err-take_edge.ensures.range)
 
 pub loop-number-preserved : goal.loop-number-preserved
@@ -40,7 +46,7 @@ loop-number-preserved g c =
     let within : k < length numbers = omega (arith, c.loop-number-test.true) in
     record {
       searching = c.take_edge.ensures.searching;
-      work = le_trans c.take_edge.ensures.work c.loop-number.invariant.work;
+      work = (let one = c.take_edge.ensures.work in let before = c.loop-number.invariant.work in le_trans one before);
       left = c.in_ok-take_edge.ensures.left (drop (k + 1) numbers)
           (left_here c.args.program.now (calls g.D.Domain.member c.args.summaries.now.exits) g.D.Domain.member
           c.loop-number.stage c.loop-number.pending.list numbers k within c.loop-number.invariant.left);

@@ -1,15 +1,15 @@
-use Rattle.std.proofs.Common.{◌≡◌, ◌∙◌, ◌<◌, ℕ, ℤ, [], Ok, Err, Some, List, length, slice_get, slice_index_or, arith}
+use Rattle.std.proofs.Common.{◌≡◌, ◌∙◌, ◌<◌, [], length, slice_index_or, arith}
 use Rattle.std.proofs.lemmas.List.{get_or_read}
 use Rattle.pungi_fixpoint.specs.Solver.{calls}
 use Rattle.pungi_fixpoint.specs.Summaries.{exit_of}
-use Rattle.pungi_fixpoint.specs.declared.fix_fault.FixFault.TheVariants.{Range, NotSafe}
 use Rattle.pungi_fixpoint.proofs.Places.{index_within, large_place, left_took}
 use Rattle.pungi_fixpoint.proofs.settle.take_place.Goals as goal
 
 pub take_edges-requires-clause-within : goal.take_edges-requires-clause-within
 take_edges-requires-clause-within g c =
     let lists = c.args.sources.now in
-    let within : c.args.place < length lists = (let all = c.requires.index.all in omega (arith, all, c.requires.place)) in
+    let all = c.requires.index.all in
+    let within : c.args.place < length lists = omega (arith, all, c.requires.place) in
     let same : c.as_slice-numbers.result.now ≡ slice_index_or lists c.args.place [] = c.as_slice-numbers.ensures
     ∙ get_or_read lists c.args.place c.index-sources-place.result within c.index-sources-place.is [] in
     λ i s. index_within c.args.program.now.edges (length c.args.program.now.widths) lists c.args.place i
@@ -18,7 +18,8 @@ take_edges-requires-clause-within g c =
 pub take_edges-requires-clause-left : goal.take_edges-requires-clause-left
 take_edges-requires-clause-left g c =
     let lists = c.args.sources.now in
-    let within : c.args.place < length lists = (let all = c.requires.index.all in omega (arith, all, c.requires.place)) in
+    let all = c.requires.index.all in
+    let within : c.args.place < length lists = omega (arith, all, c.requires.place) in
     let same : c.as_slice-numbers.result.now ≡ slice_index_or lists c.args.place [] = c.as_slice-numbers.ensures
     ∙ get_or_read lists c.args.place c.index-sources-place.result within c.index-sources-place.is [] in
     left_took g.D.Domain.least g.D.Domain.member g.D.Domain.width_of c.args.program.now
@@ -32,7 +33,8 @@ returns-in-Err-clause-safe g c k e = c.fault_at.ensures.safe k (cc)
 pub returns-in-Err-clause-range : goal.returns-in-Err-clause-range
 returns-in-Err-clause-range g c k row e =
     let lists = c.args.sources.now in
-    let within : c.args.place < length lists = (let all = c.requires.index.all in omega (arith, all, c.requires.place)) in
+    let all = c.requires.index.all in
+    let within : c.args.place < length lists = omega (arith, all, c.requires.place) in
     let same : c.as_slice-numbers.result.now ≡ slice_index_or lists c.args.place [] = c.as_slice-numbers.ensures
     ∙ get_or_read lists c.args.place c.index-sources-place.result within c.index-sources-place.is [] in
     let f = c.fault_at.ensures.range k row (cc) in

@@ -1,9 +1,8 @@
-use Rattle.std.proofs.Common.{◌≡◌, ◌∙◌, ◌<◌, ℕ, ℤ, [], Ok, Err, Some, None, List, length, slice_get, refl, arith}
+use Rattle.std.proofs.Common.{Some, None, length, refl}
 use Rattle.std.proofs.lemmas.Result.{err_from_is_err_and}
 use Rattle.pungi_links.specs.Pending.{Takes}
 use Rattle.pungi_fixpoint.specs.Solver.{calls}
 use Rattle.pungi_fixpoint.specs.Summaries.{exit_of}
-use Rattle.pungi_fixpoint.specs.declared.fix_fault.FixFault.TheVariants.{Range, NotSafe}
 use Rattle.pungi_fixpoint.proofs.Places.{searching_took, settled, taken_took, took_place, work_took}
 use Rattle.pungi_fixpoint.proofs.Steps.{searching_same}
 use Rattle.pungi_fixpoint.proofs.settle.take_places.Goals as goal

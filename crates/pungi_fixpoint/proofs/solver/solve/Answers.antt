@@ -1,10 +1,8 @@
-use Rattle.std.proofs.Common.{◌≡◌, ℕ, ℤ, Ok, Err, List}
 use Rattle.std.proofs.lemmas.Result.{err_from_is_err_and}
 use Rattle.pungi_domain.specs.Builds.{Stage}
 use Rattle.pungi_domain.specs.Spans.{Never}
 use Rattle.pungi_fixpoint.specs.Solver.{calls}
 use Rattle.pungi_fixpoint.specs.Summaries.{exit_of}
-use Rattle.pungi_fixpoint.specs.declared.fix_fault.FixFault.TheVariants.{NotSafe, Range}
 use Rattle.pungi_fixpoint.proofs.Below.{built_below, not_broken}
 use Rattle.pungi_fixpoint.proofs.Checks.{large_build, range_at}
 use Rattle.pungi_fixpoint.proofs.Grows.{built_inductive}

@@ -1,16 +1,17 @@
 -- Rows that all vectors of a set meet: what a guard and an action make of them.
 use Rattle.std.proofs.Common.{◌≡◌, ◌∙◌, ℕ, suc, ◌+◌, ◌-◌, ◌<◌, ◌≤◌, inl, inr, Bool, true, cond, List, [], ◌∷◌, length}
-use Rattle.std.proofs.Common.{Option, Some, ℤ, pos, ◌+ℤ◌, ◌*ℤ◌, refl, sym, ap, subst, arith, All, slice_index_or, nat_lt}
+use Rattle.std.proofs.Common.{Option, Some, ℤ, pos, ◌*ℤ◌, refl, ap, subst, arith, All, slice_index_or, nat_lt}
 use Rattle.std.proofs.Common.{lt-ltb, le-ltb}
 use Rattle.std.proofs.lemmas.Int.{ints}
 use Rattle.std.proofs.lemmas.List.FromFn.{get_or-map-range_with_len}
 use Rattle.std.proofs.lemmas.Bool.{cond-true, cond-false}
 use Rattle.pungi_domain.specs.Annotations.{MeetsAll, MeetsRows, Sends}
-use Rattle.pungi_domain.specs.Builds.{Acts, Covers, IsMet, source_rows, exit_rows}
+use Rattle.pungi_domain.specs.Builds.{Acts, IsMet, source_rows, exit_rows}
 use Rattle.pungi_domain.specs.Programs.{FitsAction}
 use Rattle.pungi_domain.specs.Ring.{mul_zero}
 use Rattle.pungi_domain.specs.Spans.{Zero}
-use Rattle.pungi_domain.specs.Vectors.{Vector, Vectors, dot, image, row_sum, IsEquation, Image, Freed, Meeting, Either, Follows}
+use Rattle.pungi_domain.specs.Vectors.{Vector, Vectors, dot, image, row_sum, IsEquation, Image, Freed, Meeting}
+use Rattle.pungi_domain.specs.Vectors.{Either, Follows}
 use Rattle.pungi_domain.specs.declared.action.Action.{Action}
 use Rattle.pungi_domain.specs.declared.action.Action.TheVariants.{Map, Free, Call}
 use Rattle.pungi_domain.specs.declared.equation.Equation.{Equation}
@@ -50,10 +51,11 @@ met_rows least l member w (e ∷ es) s t rows widths eqs m h v tv =
     (member m.0) (c ∷ rows) wide (m.1.1 l)
     (λ u g. all_cons (λ (r : List ℤ). dot r u ≡ pos 0) c rows g.1 (h u g.0)) in
     let r = met_rows least l member w es m.0 t (c ∷ rows) wide
-    (all_tail (λ (e : Equation). IsEquation w e.coefficients) e es eqs) m.2 after v tv in
-    (all_tail (λ (r : List ℤ). dot r v ≡ pos 0) c rows r.0,
+    (all_tail (λ (e : Equation). IsEquation w e.coefficients) e es eqs) m.2 after v tv in (
+      all_tail (λ (r : List ℤ). dot r v ≡ pos 0) c rows r.0,
       all_cons (λ (e : Equation). dot e.coefficients v ≡ pos 0) e es
-      (all_head (λ (r : List ℤ). dot r v ≡ pos 0) c rows r.0) r.1)
+          (all_head (λ (r : List ℤ). dot r v ≡ pos 0) c rows r.0) r.1,
+    )
 
 -- ---- actions
 
@@ -109,24 +111,34 @@ exit_high w z i v lt high =
 sends_source : (calls : ℕ → ℕ → Vectors) (w z f class : ℕ) (onto : List ℕ) → FitsAction w z (Call f class onto)
     → calls f class (λ _. pos 0) → (v u : Vector) → u ≡ image (source_rows w z) v
     → Sends calls w z (Call f class onto) v u
-sends_source calls w z f class onto fits zero v u e =
-    (λ i lt. ap (λ (x : Vector). x i) e ∙ source_low w z i v (omega (arith, lt, fits.0)) lt,
-      (λ _. pos 0, zero, λ i lt.
-      let at = fits.2 i (omega (arith, lt, fits.1)) in
-      rw at (ap (λ (x : Vector). x (w + i)) e
-      ∙ source_high w z (w + i) v (omega (arith, lt, fits.0, fits.1)) (omega arith))))
+sends_source calls w z f class onto fits zero v u e = (
+  λ i lt. ap (λ (x : Vector). x i) e ∙ source_low w z i v (omega (arith, lt, fits.0)) lt,
+  (
+    λ _. pos 0,
+    zero,
+    λ i lt.
+        let at = fits.2 i (omega (arith, lt, fits.1)) in
+        rw at (ap (λ (x : Vector). x (w + i)) e
+        ∙ source_high w z (w + i) v (omega (arith, lt, fits.0, fits.1)) (omega arith)),
+  ),
+)
 
 -- and the vector 0 and one of the exit to the image of the latter
 sends_exit : (calls : ℕ → ℕ → Vectors) (w z f class : ℕ) (onto : List ℕ) → FitsAction w z (Call f class onto)
     → (x u : Vector) → calls f class x → u ≡ image (exit_rows w z) x
     → Sends calls w z (Call f class onto) (λ _. pos 0) u
-sends_exit calls w z f class onto fits x u there e =
-    (λ i lt. ap (λ (y : Vector). y i) e ∙ exit_low w z i x (omega (arith, lt, fits.0)) lt,
-      (x, there, λ i lt.
-      let at = fits.2 i (omega (arith, lt, fits.1)) in
-      let less : (w + i) - w ≡ i = omega arith in
-      rw at (ap (λ (y : Vector). y (w + i)) e
-      ∙ (exit_high w z (w + i) x (omega (arith, lt, fits.0, fits.1)) (omega arith) ∙ ap x less))))
+sends_exit calls w z f class onto fits x u there e = (
+  λ i lt. ap (λ (y : Vector). y i) e ∙ exit_low w z i x (omega (arith, lt, fits.0)) lt,
+  (
+    x,
+    there,
+    λ i lt.
+        let at = fits.2 i (omega (arith, lt, fits.1)) in
+        let less : (w + i) - w ≡ i = omega arith in
+        rw at (ap (λ (y : Vector). y (w + i)) e
+        ∙ (exit_high w z (w + i) x (omega (arith, lt, fits.0, fits.1)) (omega arith) ∙ ap x less)),
+  ),
+)
 
 -- what an action makes of a value meets the rows that all vectors meet to which it sends members
 pub acts_rows : {S : Type 0} (least : Bool) (l : least ≡ true) (member : S → Vectors)
