@@ -1,3 +1,6 @@
 pub mod Summaries
 pub mod Solver
+pub mod Calls
+pub mod Stages
 pub mod Turns
+pub mod Sent

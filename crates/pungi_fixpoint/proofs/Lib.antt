@@ -1,0 +1,9 @@
+mod Faults
+mod Guards
+mod Gets
+mod Rows
+mod Indices
+mod Stages
+mod Sends
+mod Turns
+mod Puts
