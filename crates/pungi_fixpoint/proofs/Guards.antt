@@ -3,7 +3,8 @@
 --   large_on     meeting the next equation is large
 --   met_step, large_step    the same for the first equations of a list
 --   covers_at    the same cover under an equal width
-use Rattle.std.proofs.Common.{◌≡◌, ◌⊎◌, inl, inr, ℕ, true, ◌+◌, ◌<◌, ℤ, Bool, List, [], ◌∷◌, ◌++◌, length, get_or, take, drop}
+use Rattle.std.proofs.Common.{◌≡◌, inl, inr, ℕ, true, ◌+◌, ◌<◌, ℤ, Bool, List, [], ◌∷◌, ◌++◌, length, get_or, take}
+use Rattle.std.proofs.Common.{drop}
 use Rattle.std.proofs.Common.{refl, sym, ap, subst, ◌∙◌, take-append-drop}
 use Rattle.std.proofs.lemmas.List.{take_more, drop_more}
 use Rattle.pungi_domain.specs.Builds.{Covers, IsMet, LargeMet}

@@ -3,7 +3,7 @@
 --   index_none       no edges
 --   index_more       one edge more
 use Rattle.std.proofs.Common.{◌≡◌, ◌⊎◌, inl, inr, ℕ, zero, suc, ◌+◌, ◌<◌, List, [], ◌∷◌, ◌++◌, length, get_or, take}
-use Rattle.std.proofs.Common.{refl, sym, ap, subst, ◌∙◌, arith, replicate, eqb}
+use Rattle.std.proofs.Common.{refl, sym, ap, subst, ◌∙◌, arith, replicate}
 use Rattle.std.specs.Prelude.{slice_get, slice_set, Some}
 use Rattle.std.specs.List.{slice_index_or}
 use Rattle.std.proofs.lemmas.List.{take_more, length-set, length-replicate, get_or-set_same, length-take-le}
@@ -55,7 +55,8 @@ added (l ∷ lists) (suc j) (suc k) n h = elim (added lists j k n (omega arith))
 ]
 
 at_place : (lists : List (List ℕ)) (j n : ℕ) → j < length lists
-    → slice_index_or (slice_set lists j (slice_index_or lists j [] ++ n ∷ [])) j [] ≡ slice_index_or lists j [] ++ n ∷ []
+    → slice_index_or (slice_set lists j (slice_index_or lists j [] ++ n ∷ [])) j []
+    ≡ slice_index_or lists j [] ++ n ∷ []
 at_place lists j n h = get_or-set_same lists j (slice_index_or lists j [] ++ n ∷ []) [] h
 
 kept : (lists : List (List ℕ)) (j k n x : ℕ) → j < length lists → Stands x (slice_index_or lists k [])
@@ -65,7 +66,8 @@ kept lists j k n x h s = elim (added lists j k n h) [
   | inr e ↦ subst (Stands x) (sym e) s
 ]
 
-push_there : {A : Type 0} (xs : List A) (x d : A) (i : ℕ) → slice_get xs i ≡ Some d → slice_get (xs ++ x ∷ []) i ≡ Some d
+push_there : {A : Type 0} (xs : List A) (x d : A) (i : ℕ) → slice_get xs i ≡ Some d
+    → slice_get (xs ++ x ∷ []) i ≡ Some d
 push_there [] x d i h = absurd (cc)
 push_there (y ∷ xs) x d zero h = h
 push_there (y ∷ xs) x d (suc i) h = push_there xs x d i h

@@ -3,10 +3,10 @@
 --   source_fits, exit_fits        their rows name coordinates of the source and of the exit
 --   covers_image, image_covers, covers_union    what a domain's calls give, as covers
 --   large_call                    a call that is large
-use Rattle.std.proofs.Common.{◌≡◌, ◌⊎◌, inl, inr, ℕ, ◌+◌, ◌-◌, ◌<◌, ◌≤◌, ℤ, pos, Bool, true, false, List, [], ◌∷◌, ◌++◌}
+use Rattle.std.proofs.Common.{◌≡◌, inl, inr, ℕ, ◌+◌, ◌-◌, ◌<◌, ◌≤◌, ℤ, pos, Bool, true, false, List, [], ◌∷◌, ◌++◌}
 use Rattle.std.proofs.Common.{length, get_or, eqb, refl, sym, subst, arith, cond, Option, Some, Result, Ok, Err}
-use Rattle.std.specs.Prelude.{nat_lt, map, IfOk}
-use Rattle.std.specs.List.{All, IsDistinct, range_with_len}
+use Rattle.std.specs.Prelude.{nat_lt, IfOk}
+use Rattle.std.specs.List.{IsDistinct, range_with_len}
 use Rattle.std.proofs.lemmas.Bool.Decides.{nat_tests}
 use Rattle.std.proofs.lemmas.List.Elements.{All-nil, All-cons, All-map}
 use Rattle.std.proofs.lemmas.List.FromFn.{map-range_with_len_more, get_or-range_with_len, length-range_with_len}

@@ -1,5 +1,5 @@
--- What a call makes at a target of z coordinates: of s, the value at its source, with w coordinates, and of x, the value
--- at the called function's exit, with z - w coordinates.
+-- What a call makes at a target of z coordinates: of s, the value at its source, with w coordinates, and of x, the
+-- value at the called function's exit, with z - w coordinates.
 --   source_row w i, exit_row w i    row i of the map that puts the source's vectors, and the exit's, into the target
 --   IsBeside least member w z s x t        t has them side by side, by two maps and a union
 --   LargeBeside least member w z s x r     making t is large

@@ -1,10 +1,11 @@
 -- Summaries of the functions of a file.
---   SummariesState         for each function its exit classes, with the value that was put, where one was; and its state
+--   SummariesState         for each function its exit classes, with the value that was put, where one was; and its
+--                          state
 --   exit_of exits f class  the value of an exit class
 --   SameExits old new      each exit class has the value that it had
 --   HasExit old f class exit new    this one has this value, and each other one the value that it had
 --   SameValues old new, HasValue old class exit new    the same of the exit classes of one function
-use Rattle.std.specs.Prelude.{◌≡◌, ◌⊎◌, ℕ, List, [], Option, None, Some, slice_get}
+use Rattle.std.specs.Prelude.{◌≡◌, ℕ, List, [], Option, None, Some, slice_get}
 use Rattle.std.specs.List.{slice_index_or}
 use Rattle.pungi_fixpoint.specs.declared.state.State.{State}
 

@@ -29,7 +29,8 @@ returns-clause-range g c =
     let s = c.args.exit.now in
     let rows = c.in_ok-matrix.matrix.rows in
     let named = exit_rows c.args.from c.args.width in
-    range_result d.least (LargeMap (d.width_of s) rows (d.member s)) (LargeMap (c.args.width - c.args.from) named (d.member s))
+    range_result d.least (LargeMap (d.width_of s) rows (d.member s)) (LargeMap (c.args.width - c.args.from) named
+    (d.member s))
     c.map.result
     (λ r h. subst (λ n. LargeMap n named (d.member s) r) c.requires.exit
     (subst (λ q. LargeMap (d.width_of s) q (d.member s) r) c.in_ok-matrix.ensures.rows h)) c.map.ensures.range

@@ -8,4 +8,5 @@ pub loop-equation-preserved : goal.loop-equation-preserved
 loop-equation-preserved g c = λ v m.
     All-more (λ (e : Equation). dot e.coefficients v ≡ pos 0) c.args.equations.now c.loop-equation.equation-index
     c.equation-item.result c.loop-equation-test.true (c.loop-equation.invariant v m)
-    (subst (λ (e : Equation). dot e.coefficients v ≡ pos 0) c.equation-item.is (c.holds.ensures.members c.if-not-holds.false v m))
+    (subst (λ (e : Equation). dot e.coefficients v ≡ pos 0) c.equation-item.is
+    (c.holds.ensures.members c.if-not-holds.false v m))

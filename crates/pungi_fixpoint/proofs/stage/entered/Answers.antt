@@ -7,5 +7,6 @@ loop-k-preserved g c =
     let d = g.D.Domain in
     enter_more d.least d.member d.width_of c.args.widths.now c.args.entries.now c.loop-k.k-index _
     c.loop-k.values.items c.in_ok-values-2.field-0 c.loop-k-test.true refl
-    (c.requires.entries c.loop-k.k-index 0 c.loop-k-test.true) c.in_ok-values-2.ensures.width c.in_ok-values-2.ensures.members
+    (c.requires.entries c.loop-k.k-index 0 c.loop-k-test.true) c.in_ok-values-2.ensures.width
+    c.in_ok-values-2.ensures.members
     c.loop-k.invariant
