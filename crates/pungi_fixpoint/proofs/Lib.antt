@@ -7,3 +7,12 @@ mod Queue
 mod Steps
 mod Places
 mod Checks
+mod Faults
+mod Guards
+mod Gets
+mod Rows
+mod Indices
+mod Stages
+mod Sends
+mod Turns
+mod Puts

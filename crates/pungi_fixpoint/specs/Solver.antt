@@ -7,7 +7,7 @@
 --   FitsWidths width p at exits    the values have as many coordinates as their places and exit classes
 --   IsBelow member p a at exits    all members meet the rows of an annotation
 --   HasDuty p k                an edge from this place has a duty
-use Rattle.std.specs.Prelude.{◌≡◌, ◌≢◌, ℕ, ◌<◌, List, [], Option, None, Some, length, slice_get}
+use Rattle.std.specs.Prelude.{◌≡◌, ℕ, ◌<◌, List, Option, None, Some, length, slice_get}
 use Rattle.std.specs.List.{All, slice_index_or}
 use Rattle.pungi_domain.specs.Annotations.{Rows, met}
 use Rattle.pungi_domain.specs.Vectors.{Vector, Vectors}

@@ -3,7 +3,7 @@
 --   exit_of exits f class  the value of an exit class
 --   SameExits old new      each exit class has the value that it had
 --   HasExit old f class exit new    this one has this value, and each other one the value that it had
-use Rattle.std.specs.Prelude.{◌≡◌, ◌⊎◌, ℕ, List, [], Option, None, Some, slice_get}
+use Rattle.std.specs.Prelude.{◌≡◌, ℕ, List, [], Option, None, Some, slice_get}
 use Rattle.std.specs.List.{slice_index_or}
 use Rattle.pungi_fixpoint.specs.declared.state.State.{State}
 

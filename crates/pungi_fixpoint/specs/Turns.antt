@@ -11,7 +11,7 @@
 --   IsIndex edges places lists for each place the numbers of the edges that leave it
 --   IsBroken least member p st    some vector stands at an edge's source, as it is after the guard, and breaks a duty
 --   IsLargeCheck least member p st k r    meeting the guard of an edge from place k is large
-use Rattle.std.specs.Prelude.{◌≡◌, ℕ, ◌+◌, ◌-◌, ◌<◌, ℤ, Bool, List, [], length, Option, None, Some}
+use Rattle.std.specs.Prelude.{◌≡◌, ℕ, ◌+◌, ◌-◌, ℤ, Bool, List, [], length, Option, None, Some}
 use Rattle.std.specs.Prelude.{Result, Ok, Err, slice_get}
 use Rattle.std.specs.List.{slice_index_or, sum_by}
 use Rattle.pungi_domain.specs.Annotations.{MeetsAll, Sends, set_to}

@@ -5,7 +5,7 @@ ghost use Rattle.pungi_domain.specs.Builds.{IsMet, LargeMet};
 ghost use Rattle.pungi_domain.specs.Vectors.{Vector, IsEquation};
 ghost use Rattle.pungi_fixpoint.specs.Turns.{RangeOnly};
 
-use crate::guard::met;
+use crate::guard::{met, or_source};
 use pungi_domain::{AffineEdge, Domain, DomainFault, Equation};
 use std::alloc::Global;
 
@@ -44,9 +44,7 @@ pub(crate) fn fails<D: Domain>(
     if edge.duties.is_empty() {
         return Ok(false);
     }
-    let holds = match met(alloc, source, edge.guard.as_slice())? {
-        None => all_hold(source, edge.duties.as_slice()),
-        Some(value) => all_hold(&value, edge.duties.as_slice()),
-    };
+    let met = met(alloc, source, edge.guard.as_slice())?;
+    let holds = all_hold(or_source(&met, source), edge.duties.as_slice());
     Ok(!holds)
 }

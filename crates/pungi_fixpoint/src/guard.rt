@@ -28,3 +28,13 @@ pub(crate) fn met<D: Domain>(
     }
     Ok(value)
 }
+
+/// What met the equations, or the source where there are none.
+pub(crate) fn or_source<'a, D>(met: &'a Option<D>, source: &'a D) -> &'a D
+    ensures { result.now ≡ or_else met.now source.now }
+{
+    match met {
+        None => source,
+        Some(value) => value,
+    }
+}

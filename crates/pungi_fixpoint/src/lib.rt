@@ -1,5 +1,5 @@
-//! From an affine program to its least annotation: a fixpoint over any domain, found by a queue of places (Kildall 1973;
-//! Karr 1976).
+//! From an affine program to its least annotation: a fixpoint over any domain, found by a queue of places (Kildall
+//! 1973; Karr 1976).
 #![tactic(auto)]
 
 mod action;

@@ -1,8 +1,11 @@
-ghost use Rattle.std.specs.Prelude.{◌≡◌, ◌<◌, Ok, Some, true, false, IfOk, OnOk, OnErr};
+ghost use Rattle.std.specs.Prelude.{◌≡◌, ◌+◌, ◌-◌, ◌<◌, ◌≤◌, Ok, Some, true, false, length, slice_get, IfOk, OnOk};
+ghost use Rattle.std.specs.Prelude.{OnErr};
+ghost use Rattle.std.specs.List.{All, sum_by};
 ghost use Rattle.pungi_domain.specs.Builds.{IsFirst, span_at};
 ghost use Rattle.pungi_domain.specs.Programs.{IsWellFormed};
 ghost use Rattle.pungi_domain.specs.Spans.{LargeGrow, Never};
 ghost use Rattle.pungi_fixpoint.specs.Solver.{FitsWidths};
+ghost use Rattle.pungi_fixpoint.specs.Stages.{AreEntered, AreNothing, IsGrownAt};
 ghost use Rattle.pungi_fixpoint.specs.Turns.{IsGrown, RangeOnly, room};
 
 use pungi_domain::{AffineProgram, Domain, DomainFault, Target};
@@ -25,12 +28,49 @@ impl<D: Drop> Model for Stage<D> {
 }
 
 /// The values of no vectors, with these widths.
-fn nothing<D: Domain>(alloc: Global, widths: &[u32]) -> Result<Vec<D>, DomainFault> {
+fn nothing<D: Domain>(alloc: Global, widths: &[u32]) -> Result<Vec<D>, DomainFault>
+    requires { All (λ w. w ≤ 256) widths.now }
+    ensures values { IfOk result (λ v. AreNothing D.least D.member D.width_of widths.now v.items) }
+    ensures range { RangeOnly Never result }
+{
     let mut values = Vec::new(alloc);
     for width in widths {
         values.push(D::none(alloc, *width)?)?;
     }
     Ok(values)
+}
+
+/// The values of no vectors, but at the entries of every vector.
+fn entered<D: Domain>(alloc: Global, widths: &[u32], entries: &[u32]) -> Result<Vec<D>, DomainFault>
+    requires widths { All (λ w. w ≤ 256) widths.now }
+    requires entries { All (λ k. k < length widths.now) entries.now }
+    ensures values { IfOk result (λ v. AreEntered D.least D.member D.width_of widths.now entries.now v.items) }
+    ensures range { RangeOnly Never result }
+{
+    let mut values = nothing(alloc, widths)?;
+    for k in entries {
+        values[*k as usize] = D::any(alloc, widths[*k as usize])?;
+    }
+    Ok(values)
+}
+
+/// Takes a value in at a number of the list, and returns whether that changed anything.
+fn grow_at<D: Domain>(
+    values: &mut Vec<D>,
+    alloc: Global,
+    k: usize,
+    value: &D,
+) -> Result<bool, DomainFault>
+    requires within { (t : D) × (slice_get values.old.items k ≡ Some t) × (D.width_of t ≡ D.width_of value.now) }
+    ensures grown { OnOk result (IsGrownAt D.least D.member D.width_of values.old.items k value.now values.new.items) }
+    ensures rose { result ≡ Ok true → sum_by (λ d. D.width_of d + 1 - D.rank d) values.new.items
+        < sum_by (λ d. D.width_of d + 1 - D.rank d) values.old.items }
+    ensures unchanged { result ≡ Ok false → values.new.items ≡ values.old.items }
+    ensures err { OnErr result (values.new.items ≡ values.old.items) }
+    ensures range { RangeOnly (λ r. (t : D) × (slice_get values.old.items k ≡ Some t)
+        × LargeGrow (D.width_of t) (D.member t) (D.member value.now) r) result }
+{
+    values[k].grow(alloc, value)
 }
 
 impl<D: Domain> Stage<D> {
@@ -41,13 +81,17 @@ impl<D: Domain> Stage<D> {
         ensures widths { IfOk result (λ s. FitsWidths D.width_of program.now s.at s.exits) }
         ensures range { RangeOnly Never result }
     {
-        let mut at = nothing(alloc, program.widths.as_slice())?;
-        for k in program.entries.as_slice() {
-            let width = program.widths.as_slice()[*k as usize];
-            at[*k as usize] = D::any(alloc, width)?;
-        }
+        let at = entered(alloc, program.widths.as_slice(), program.entries.as_slice())?;
         let exits = nothing(alloc, program.exits.as_slice())?;
         Ok(Stage { at, exits })
+    }
+
+    /// The value of a place.
+    pub(crate) fn place(&self, k: u32) -> &D
+        requires { k < length self.now.at }
+        ensures { slice_get self.now.at k ≡ Some result.now }
+    {
+        &self.at[k as usize]
     }
 
     /// Takes a value in at the target, and returns whether that changed anything.
@@ -61,8 +105,8 @@ impl<D: Domain> Stage<D> {
             × LargeGrow (D.width_of t) (D.member t) (D.member value.now) r) result }
     {
         match to {
-            Target::Place(k) => self.at[k as usize].grow(alloc, value),
-            Target::Exit(k) => self.exits[k as usize].grow(alloc, value),
+            Target::Place(k) => grow_at(&mut self.at, alloc, k as usize, value),
+            Target::Exit(k) => grow_at(&mut self.exits, alloc, k as usize, value),
         }
     }
 }

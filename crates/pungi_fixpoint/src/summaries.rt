@@ -1,6 +1,6 @@
 ghost use Rattle.std.specs.Prelude.{◌≡◌, ◌<◌, [], None, length, replicate, slice_get, slice_set, IfOk, OnOk, OnErr};
 ghost use Rattle.std.specs.Prelude.{Some, MatchOption};
-ghost use Rattle.pungi_fixpoint.specs.Summaries.{exit_of, HasExit, SameExits};
+ghost use Rattle.pungi_fixpoint.specs.Summaries.{exit_of, HasExit, HasValue, SameExits, SameValues};
 ghost use Rattle.pungi_fixpoint.specs.declared.state.State.TheVariants.{NotSafe};
 
 use crate::State;
@@ -21,6 +21,27 @@ impl<D: Drop> Model for Summaries<D> {
     ghost Value = { SummariesState D };
 
     ghost view = { λ s. record { exits = s.exits.items; states = s.states.items } };
+}
+
+/// Makes room for an exit class.
+fn fill<D: Drop>(exits: &mut Seq<Option<D>>, class: usize) -> Result<(), Memory>
+    ensures room { OnOk result (class < length exits.new) }
+    ensures same { SameValues exits.old exits.new }
+{
+    'filling: while exits.len() <= class {
+        exits.push(None)?;
+    }
+    Ok(())
+}
+
+/// Puts a value for an exit class of one function.
+fn put_value<D: Drop>(exits: &mut Seq<Option<D>>, class: usize, exit: D) -> Result<(), Memory>
+    ensures ok { OnOk result (HasValue exits.old class exit exits.new) }
+    ensures err { OnErr result (SameValues exits.old exits.new) }
+{
+    fill(exits, class)?;
+    exits.set(class, Some(exit));
+    Ok(())
 }
 
 impl<D: Drop> Summaries<D> {
@@ -57,13 +78,7 @@ impl<D: Drop> Summaries<D> {
         ensures count { length self.new.exits ≡ length self.old.exits }
         ensures states { self.new.states ≡ self.old.states }
     {
-        let exits = &mut self.exits[f as usize];
-        let class = class as usize;
-        while exits.len() <= class {
-            exits.push(None)?;
-        }
-        exits.set(class, Some(exit));
-        Ok(())
+        put_value(&mut self.exits[f as usize], class as usize, exit)
     }
 
     /// Sets the state of a function.
