@@ -13,7 +13,8 @@ use Rattle.pungi_domain.specs.declared.target.Target.TheVariants.{Place, Exit}
 use Rattle.pungi_fixpoint.specs.Solver.{sets}
 use Rattle.pungi_fixpoint.specs.Turns.{Takes}
 use Rattle.pungi_links.specs.Ring.{Stands}
-use Rattle.pungi_fixpoint.proofs.Lists.{get_set_other, get_within}
+use Rattle.pungi_fixpoint.proofs.Gets.{set_other}
+use Rattle.pungi_fixpoint.proofs.Lists.{get_within}
 use Rattle.pungi_fixpoint.proofs.Sets.{set_grows, set_there}
 
 with_grows : {D : Type 0} (member : D → Vectors) (st : Stage D) (to : Target) (x y : D) → span_at st to ≡ Some x
@@ -39,7 +40,7 @@ with_places : {D : Type 0} (st : Stage D) (to : Target) (y : D) (list : List ℕ
 with_places st (Place j) y list put k =
     elim (cases_eq k j) [
       | inl here ↦ inl (subst (λ i. Stands i list) (sym here) (put j refl))
-      | inr other ↦ inr (get_set_other st.at j k y other)
+      | inr other ↦ inr (set_other st.at j k y other)
     ]
 with_places st (Exit j) y list put k = inr refl
 

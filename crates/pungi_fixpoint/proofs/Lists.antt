@@ -39,20 +39,6 @@ all_cons {A} P x xs p all = go
     go zero d lt = p
     go (suc k) d lt = all k d (omega (arith, lt))
 
-pub get_set_same : {A : Type 0} (xs : List A) (k : ℕ) (x y : A) → slice_get xs k ≡ Some x
-    → slice_get (slice_set xs k y) k ≡ Some y
-get_set_same [] k x y e = (cc)
-get_set_same (z ∷ xs) zero x y e = refl
-get_set_same (z ∷ xs) (suc k) x y e = get_set_same xs k x y e
-
-pub get_set_other : {A : Type 0} (xs : List A) (k j : ℕ) (y : A) → (j ≡ k → ⊥)
-    → slice_get (slice_set xs k y) j ≡ slice_get xs j
-get_set_other [] k j y ne = refl
-get_set_other (z ∷ xs) zero zero y ne = absurd (ne refl)
-get_set_other (z ∷ xs) zero (suc j) y ne = refl
-get_set_other (z ∷ xs) (suc k) zero y ne = refl
-get_set_other (z ∷ xs) (suc k) (suc j) y ne = get_set_other xs k j y (λ e. ne (ap suc e))
-
 -- a number is in the list, or no element is that number
 pub find_number : (k : ℕ) (xs : List ℕ) → ((i : ℕ) × (slice_get xs i ≡ Some k)) ⊎ All (λ x. x ≡ k → ⊥) xs
 find_number k [] = inr (λ i d lt. absurd (omega (arith, lt)))

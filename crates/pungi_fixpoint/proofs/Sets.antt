@@ -1,9 +1,10 @@
 -- The members of the values in a list, where one of them changes.
 use Rattle.std.proofs.Common.{◌≡◌, ℕ, ◌⊎◌, inl, inr, List, Option, Some, None, refl, sym, subst, slice_get, slice_set}
 use Rattle.std.proofs.lemmas.Bool.{cases_eq}
+use Rattle.std.proofs.lemmas.Option.{slice_get_within}
 use Rattle.pungi_domain.specs.Vectors.{Vector, Vectors}
 use Rattle.pungi_fixpoint.specs.Solver.{members, sets}
-use Rattle.pungi_fixpoint.proofs.Lists.{get_set_other, get_set_same}
+use Rattle.pungi_fixpoint.proofs.Gets.{set_other, set_same}
 
 pub set_there : {D : Type 0} (member : D → Vectors) (ds : List D) (k : ℕ) (x : D) → slice_get ds k ≡ Some x
     → (v : Vector) → member x v → sets member ds k v
@@ -23,10 +24,10 @@ set_changes member ds k j x y e v m =
     elim (cases_eq j k) [
       | inl here ↦ inl (
         here,
-        subst (λ o. members member o v) (get_set_same ds k x y e)
+        subst (λ o. members member o v) (set_same ds k y (slice_get_within ds k x e))
             (subst (λ i. sets member (slice_set ds k y) i v) here m),
       )
-      | inr other ↦ inr (subst (λ o. members member o v) (get_set_other ds k j y other) m)
+      | inr other ↦ inr (subst (λ o. members member o v) (set_other ds k j y other) m)
     ]
 
 pub set_grows : {D : Type 0} (member : D → Vectors) (ds : List D) (k j : ℕ) (x y : D) → slice_get ds k ≡ Some x
@@ -35,7 +36,7 @@ pub set_grows : {D : Type 0} (member : D → Vectors) (ds : List D) (k j : ℕ) 
 set_grows member ds k j x y e grows v m =
     elim (cases_eq j k) [
       | inl here ↦ subst (λ i. sets member (slice_set ds k y) i v) (sym here)
-          (subst (λ o. members member o v) (sym (get_set_same ds k x y e))
+          (subst (λ o. members member o v) (sym (set_same ds k y (slice_get_within ds k x e)))
           (grows v (subst (λ o. members member o v) e (subst (λ i. sets member ds i v) here m))))
-      | inr other ↦ subst (λ o. members member o v) (sym (get_set_other ds k j y other)) m
+      | inr other ↦ subst (λ o. members member o v) (sym (set_other ds k j y other)) m
     ]
