@@ -1,0 +1,7 @@
+pub mod Summaries
+pub mod Solver
+pub mod Calls
+pub mod Stages
+pub mod Turns
+pub mod Worklist
+pub mod Sent
