@@ -71,7 +71,7 @@ impl<D: Drop> Summaries<D> {
     }
 
     /// Puts a value for an exit class of a function, in the place of an earlier one.
-    pub fn put(&mut self, alloc: Global, f: u32, class: u32, exit: D) -> Result<(), Memory>
+    pub fn put(&mut self, f: u32, class: u32, exit: D) -> Result<(), Memory>
         requires { f < length self.old.exits }
         ensures ok { OnOk result (HasExit self.old.exits f class exit self.new.exits) }
         ensures err { OnErr result (SameExits self.old.exits self.new.exits) }
