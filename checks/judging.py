@@ -1,6 +1,6 @@
 #!/usr/bin/env python3
 """judging.py [PROGRAM]: times whole runs of the program, out/pungi of the crate pungi unless it is named, beside clang on the
-same files: a thousand functions, 3,131 ordinary functions over integers (644 KB; none of them is judged yet), functions with
+same files: a thousand functions, 3,131 ordinary functions over integers (644 KB), functions with
 16,384 traces, and functions of 4,000 nodes that are nested 200 deep. It prints the least milliseconds of some runs of each, and
 the most memory that the program took, in MB. clang gets declarations of the calls in front of each file."""
 import os

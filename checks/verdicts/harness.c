@@ -2,25 +2,28 @@
    a plan, in which 1 is a failure, or by the answers of a run that is given. A call that goes on is Python's own, and so is one that
    answers a status and fails: a list is given an index that it doesn't have, a call on a module something that is none. One that
    fails to answer an object or a truth is not made, nor is one whose given answer is an object that is there, a borrowed one, or a
-   truth. Each object has many references more, so that one too few is seen and not met. */
+   truth. A call that answers a number isn't made where its answer is given, and fails with -1. An overflow stops a run. Each object
+   has many references more, so that one too few is seen and not met. */
 #define PY_SSIZE_T_CLEAN
 #include <Python.h>
 #include <setjmp.h>
+#include <signal.h>
 #define MORE 1000
 #define MANY 512
 
-typedef struct { PyObject_HEAD PyObject *first; } Box;
+typedef struct { PyObject_HEAD PyObject *first; long size; } Box;
 static PyObject *kept;
+static int mode;
 static PyTypeObject BoxType = { PyVarObject_HEAD_INIT(NULL, 0) .tp_name = "Box", .tp_basicsize = sizeof(Box), .tp_new = PyType_GenericNew };
 
 typedef struct { PyObject *it; Py_ssize_t wanted; long number; } Seen;
 static Seen seen[MANY];
 static int count_seen;
-static jmp_buf stopped;
-static long answers[MANY];
+static sigjmp_buf stopped;
+static long answers[MANY], numbers[MANY], number_given;
 static int count_answers, used, replays, strayed;
 
-enum { NOTHING = -1, NUMBERS = -1000 };
+enum { NOTHING = -1, NUMBER = -2 };
 
 static PyObject *numbered(long number) {
     for (int i = 0; i < count_seen; i++) if (seen[i].number == number) return seen[i].it;
@@ -42,12 +45,14 @@ static PyObject *see(PyObject *it, long number, int owned) {
     return it;
 }
 
-static void stray(void) { strayed = 1; longjmp(stopped, 1); }
-static void stop(void) { longjmp(stopped, 1); }
+static void stray(void) { strayed = 1; siglongjmp(stopped, 1); }
+static void stop(void) { siglongjmp(stopped, 1); }
+static void overflow(int number) { siglongjmp(stopped, number); }
 
 static long next(void) {
     if (used == MANY) stray();
     if (replays && used >= count_answers) stray();
+    number_given = used < count_answers ? numbers[used] : 0;
     return used < count_answers ? answers[used++] : (used++, 0);
 }
 
@@ -78,8 +83,8 @@ static PyObject *failed(void) { PyErr_NoMemory(); return NULL; }
 #define STATUS(GOES, FAILS) \
     long a = next(); \
     if (!replays) return a ? (FAILS) : (GOES); \
-    if (a == NUMBERS) { int r = (GOES); if (r) stray(); return r; } \
-    if (a == NUMBERS - 1) { int r = (FAILS); if (r != -1) stray(); return r; } \
+    if (a == NUMBER && number_given == 0) { int r = (GOES); if (r) stray(); return r; } \
+    if (a == NUMBER && number_given == -1) { int r = (FAILS); if (r != -1) stray(); return r; } \
     stray(); \
     return 0;
 
@@ -138,8 +143,18 @@ static int my_PyModule_AddIntConstant(PyObject *x, const char *t, long n) { some
 #define TRUTH(CALL) \
     long a = next(); \
     if (!replays) return a ? -1 : (CALL); \
-    if (a < NUMBERS - 1 || a > NUMBERS + 1) stray(); \
-    return (int)(a - NUMBERS);
+    if (a != NUMBER || number_given < -1 || number_given > 1) stray(); \
+    return (int)number_given;
+
+#define COUNT(CALL) \
+    long a = next(); \
+    if (!replays) return a ? -1 : (CALL); \
+    if (a != NUMBER) stray(); \
+    return number_given;
+
+static Py_ssize_t my_PyObject_Size(PyObject *x) { some(x); COUNT(PyObject_Size(x)) }
+static Py_ssize_t my_PySequence_Size(PyObject *x) { some(x); COUNT(PySequence_Size(x)) }
+static long my_PyLong_AsLong(PyObject *x) { some(x); COUNT(PyLong_AsLong(x)) }
 
 static int my_PyObject_IsTrue(PyObject *x) { some(x); TRUTH(PyObject_IsTrue(x)) }
 static int my_PyObject_RichCompareBool(PyObject *x, PyObject *y, int by) { some(x), some(y); TRUTH(PyObject_RichCompareBool(x, y, by)) }
@@ -166,7 +181,7 @@ static PyObject *my_Py_XNewRef(void *x) { Py_IncRef(x); return x; }
 #define Py_XNewRef my_Py_XNewRef
 #define Py_RETURN_NONE return Py_NewRef(Py_None)
 #include "functions.c"
-typedef PyObject *Function(Box *, PyObject *, PyObject *, PyObject *, PyObject *, PyObject *);
+typedef PyObject *Function(Box *, PyObject *, PyObject *, PyObject *, PyObject *, PyObject *, int, long);
 static Function *const functions[] = {
 #include "names.h"
 };
@@ -218,14 +233,15 @@ static void emptied(PyObject *it) {
     else if (PyModule_CheckExact(it)) PyDict_Clear(PyModule_GetDict(it));
 }
 
-/* run(function, is by answers, arguments by number or -1, contents of the field and the global, answers): how many answers were used,
-   and how far the count of each object is off, by its number, or None where the run stopped; None alone where it isn't the run of the
+/* run(function, is by answers, arguments by number or -1, the two numbers, contents of the fields and the globals, answers, their
+   numbers): how many answers were used, and how far the count of each object is off, by its number, or None where the run stopped; None alone where it isn't the run of the
    answers. */
 static PyObject *run(PyObject *self, PyObject *args) {
-    int which, by;
-    long held, global;
-    PyObject *given, *told, *six[6];
-    if (!PyArg_ParseTuple(args, "iiO!llO!", &which, &by, &PyList_Type, &given, &held, &global, &PyList_Type, &told)) return NULL;
+    int which, by, n, mode_held;
+    long k, held, size_held, global;
+    PyObject *given, *told, *counts, *six[6];
+    if (!PyArg_ParseTuple(args, "iiO!illlliO!O!", &which, &by, &PyList_Type, &given, &n, &k, &held, &size_held, &global, &mode_held,
+                          &PyList_Type, &told, &PyList_Type, &counts)) return NULL;
     count_seen = 0, used = 0, strayed = 0, replays = by;
     see(Py_None, 0, 0), see(Py_True, 1, 0), see(Py_False, 2, 0);
     int statics = count_seen;
@@ -234,8 +250,9 @@ static PyObject *run(PyObject *self, PyObject *args) {
         six[i] = number < 0 ? NULL : numbered(number);
         if (number >= 0 && !six[i]) { six[i] = argument(i); see(six[i], number, 0); }
     }
-    if (six[0]) hold(&((Box *)six[0])->first, held);
+    if (six[0]) { hold(&((Box *)six[0])->first, held); ((Box *)six[0])->size = size_held; }
     hold(&kept, global);
+    mode = mode_held;
     if (six[2] && six[4] && PyDict_CheckExact(six[2])) {
         PyObject *it = PyLong_FromLong(7000003);
         see(it, NOTHING, 1);
@@ -245,10 +262,13 @@ static PyObject *run(PyObject *self, PyObject *args) {
     }
     count_answers = (int)PyList_GET_SIZE(told);
     if (count_answers > MANY) count_answers = MANY;
-    for (int i = 0; i < count_answers; i++) answers[i] = PyLong_AsLong(PyList_GetItem(told, i));
-    int has_stopped = setjmp(stopped);
+    for (int i = 0; i < count_answers; i++) {
+        answers[i] = PyLong_AsLong(PyList_GetItem(told, i));
+        numbers[i] = i < PyList_GET_SIZE(counts) ? PyLong_AsLong(PyList_GetItem(counts, i)) : 0;
+    }
+    int has_stopped = sigsetjmp(stopped, 1);
     if (!has_stopped) {
-        PyObject *result = functions[which]((Box *)six[0], six[1], six[2], six[3], six[4], six[5]);
+        PyObject *result = functions[which]((Box *)six[0], six[1], six[2], six[3], six[4], six[5], n, k);
         Py_DecRef(result);
     }
     PyErr_Clear();
@@ -270,4 +290,7 @@ static PyObject *run(PyObject *self, PyObject *args) {
 
 static PyMethodDef methods[] = { { "run", run, METH_VARARGS, NULL }, { NULL, NULL, 0, NULL } };
 static struct PyModuleDef definition = { PyModuleDef_HEAD_INIT, "verdict_runs", NULL, -1, methods, NULL, NULL, NULL, NULL };
-PyMODINIT_FUNC PyInit_verdict_runs(void) { return PyType_Ready(&BoxType) < 0 ? NULL : PyModule_Create(&definition); }
+PyMODINIT_FUNC PyInit_verdict_runs(void) {
+    signal(SIGILL, overflow), signal(SIGTRAP, overflow), signal(SIGFPE, overflow);
+    return PyType_Ready(&BoxType) < 0 ? NULL : PyModule_Create(&definition);
+}

@@ -3,10 +3,11 @@
 crate pungi, unless it is named) judge them, and runs them in this Python, whose headers and a C compiler it needs.
 
 A clean function is run with each way in which its calls of the API can go on and fail, over arguments that are different, the same,
-or NULL: each object must have its count again once the result is given back and the field, the global, the lists, the dicts and the
+or NULL, and over some numbers: each object must have its count again once the result is given back and the field, the global, the lists, the dicts and the
 module are emptied. (All but None, True and False, which the interpreter's own tables hold.) Of a faulty function the printed run is
 run: the count of the printed object must be off by as much as is printed; and it is counted whether the runs of clean functions
-would have met the fault too. A run that passes NULL where the manual forbids it stops, and owes nothing."""
+would have met the fault too. A run that passes NULL where the manual forbids it stops, and owes nothing, and so does one in which
+a number overflows."""
 import importlib.util
 import os
 import random
@@ -19,9 +20,9 @@ from collections import Counter
 
 HERE = os.path.dirname(os.path.abspath(__file__))
 
-DECLARED = "typedef struct { PyObject_HEAD PyObject *first; } Box; static PyObject *kept;"
+DECLARED = "typedef struct { PyObject_HEAD PyObject *first; long size; } Box; static PyObject *kept; static int mode;"
 
-HEAD = "PyObject *{name}(Box *b, PyObject *l, PyObject *d, PyObject *m, PyObject *x, PyObject *y)"
+HEAD = "PyObject *{name}(Box *b, PyObject *l, PyObject *d, PyObject *m, PyObject *x, PyObject *y, int n, long k)"
 
 # What gives a new reference, what gives a borrowed one, what keeps a value V and what takes its reference over, and what does neither.
 NEW = [
@@ -40,6 +41,10 @@ KEEPS = [
     'PyModule_AddObjectRef(m, "name", V)',
 ]
 TAKES = ["PyList_SetItem(l, 0, V)", "PyList_SetItem(l, 2, V)", "PyTuple_SetItem(l, 0, V)"]
+# Numbers, how they are compared, and what becomes of them. Constants are such that few overflow.
+NUMBERS = ["n", "k", "b->size", "mode", "PyObject_Size(l)", "PySequence_Size(l)", "PyLong_AsLong(x)"]
+COMPARISONS = ["<", "<=", ">", ">=", "==", "!="]
+CHANGES = ["n = n + 1;", "k -= 2;", "k++;", "b->size = b->size + 1;", "mode = 3;", "b->size = n;", "k = n;"]
 OTHERS = ["PyDict_DelItem(d, x)", 'PyModule_AddIntConstant(m, "number", 7)', "PyObject_IsTrue(x)", "PyObject_RichCompareBool(x, y, 2)"]
 
 
@@ -50,6 +55,34 @@ def released(owned, rng):
 
 def leave(owned, rng):
     return released(owned, rng) + [rng.choice(["return NULL;"] * 4 + ["return PyErr_NoMemory();"])]
+
+
+def condition(numbers, rng):
+    """A comparison of numbers: of locals, parameters, fields and globals, and constants."""
+    left = rng.choice([*numbers, "n", "k", "b->size", "mode"])
+    right = rng.choice([*numbers, "n", "k", "0", "1", "5", "-3", "100"])
+    if rng.random() < 0.3:
+        left += rng.choice([" + 1", " - 1", " + 7"])
+    if rng.random() < 0.03:
+        left += rng.choice([" * k", " / 2", " % 3", " + mode"])
+    text = f"{left} {rng.choice(COMPARISONS)} {right}"
+    return rng.choice([text, text, f"!({text})", f"{left}"])
+
+
+def count(number, made, owned, numbers, rng):
+    """Adds statements that compute with numbers, or go a way by them."""
+    kind = rng.random()
+    if kind < 0.3:
+        v = f"n{number}"
+        made.append(f"long {v} = {rng.choice(NUMBERS)};")
+        numbers.append(v)
+        if rng.random() < 0.5:
+            made.append((f"{v} < 0", leave(owned, rng)))
+    elif kind < 0.5:
+        made.append(rng.choice(CHANGES))
+    else:
+        way = rng.choice([leave(owned, rng), ["Py_INCREF(x);", "Py_DECREF(x);"], [rng.choice(CHANGES)]])
+        made.append((condition(numbers, rng), way))
 
 
 def begin(v, made, owned, borrowed, rng):
@@ -107,8 +140,11 @@ def use(made, owned, borrowed, rng):
 
 def statements(rng):
     """Statements that keep the rules: each is a text, or a condition with the statements after it."""
-    made, owned, borrowed = [], [], []
+    made, owned, borrowed, numbers = [], [], [], []
+    has_numbers = rng.random() < 0.6
     for number in range(rng.randint(1, 4)):
+        if has_numbers:
+            count(number, made, owned, numbers, rng)
         begin(f"v{number}", made, owned, borrowed, rng)
         for _ in range(rng.randint(0, 2)):
             use(made, owned, borrowed, rng)
@@ -163,7 +199,7 @@ def built(texts, room):
         with open(f"{room}/{name}", "w") as it:
             it.write(text + "\n")
     include = sysconfig.get_paths()["include"]
-    words = ["cc", "-O1", "-w", "-shared", "-fPIC", f"-I{include}", f"-I{room}", f"{HERE}/harness.c", "-o", f"{room}/verdict_runs.so"]
+    words = ["cc", "-O1", "-w", "-fsanitize=signed-integer-overflow", "-fsanitize-undefined-trap-on-error", "-shared", "-fPIC", f"-I{include}", f"-I{room}", f"{HERE}/harness.c", "-o", f"{room}/verdict_runs.so"]
     subprocess.run(words, check=True)
     spec = importlib.util.spec_from_file_location("verdict_runs", f"{room}/verdict_runs.so")
     found = importlib.util.module_from_spec(spec)
@@ -188,11 +224,11 @@ def verdicts(program, texts, room):
     return found
 
 
-def plans(run, which, given, held, kept):
+def plans(run, which, given, numbers, held, kept):
     """What becomes of the function in each way that its calls can go on and fail, and that way."""
     plan = []
     while True:
-        used, off = run(which, 0, given, held, kept, plan)
+        used, off = run(which, 0, given, *numbers[:2], held, numbers[2], kept, numbers[3], plan, [])
         plan = plan[:used] + [0] * (used - len(plan))
         yield off, plan
         while plan and plan[-1]:
@@ -209,26 +245,39 @@ ARGUMENTS = [
 ]
 
 
+# The numbers that n, k, b's field and the global are.
+NUMBERS_GIVEN = [(0, 0, 0, 0), (1, -1, 5, 3), (5, 7, 100, -3), (-3, 100, 1, 5), (2147483646, 5, -2, 0), (6, 4, 4, 1)]
+
+
 def code_of(words):
-    """A printed value as harness.c has it."""
-    return -1 if words == ["null"] else int(words[1]) - 1000 * (words[0] == "int")
+    """A printed value as harness.c has it: an object's number, -1 for NULL, or -2 for a number."""
+    return -1 if words == ["null"] else -2 if words[0] == "int" else int(words[1])
+
+
+def number_of(words):
+    return int(words[1]) if words[0] == "int" else 0
 
 
 def off_in_runs(run, which):
     """How many runs of the function returned, and those after which some count is off."""
-    ends = [(off, given, plan) for given in ARGUMENTS for off, plan in plans(run, which, *given) if off is not None]
+    ways = [(given, numbers, held, kept) for given, held, kept in ARGUMENTS for numbers in NUMBERS_GIVEN]
+    ends = [(off, way, plan) for way in ways for off, plan in plans(run, which, *way) if off is not None]
     return len(ends), [it for it in ends if it[0]]
 
 
 def is_shown(run, which, text, line, lines):
     """Whether the printed run leaves the printed object off by what is printed, or None where it has answers that these
     objects can't give."""
-    given = [code_of(it[1:]) for it in lines if it[0] == "argument"]
-    used = [(text[int(it[0].split(":")[1]) - 1 :], code_of(it[1:])) for it in lines if ":" in it[0]]
-    # (what stands at an arrow or at the global's name is what was held there)
-    held, kept = ([value for at, value in used if at.startswith(word)] for word in ("->", "kept"))
-    answers = [value for at, value in used if not at.startswith(("->", "kept"))]
-    end = run(which, 1, given, *[it[0] if it else -1 for it in (held, kept)], answers)
+    arguments = [it[1:] for it in lines if it[0] == "argument"]
+    given, numbers = [code_of(it) for it in arguments[:6]], [number_of(it) for it in arguments[6:]]
+    used = [(text[int(it[0].split(":")[1]) - 1 :], it[1:]) for it in lines if ":" in it[0]]
+    # (what stands at an arrow or at a global's name is what was held there)
+    first, size, kept, mode = ([it for at, it in used if at.startswith(word)] for word in ("->first", "->size", "kept", "mode"))
+    answers = [it for at, it in used if not at.startswith(("->", "kept", "mode"))]
+    objects = [code_of(it[0]) if it else -1 for it in (first, kept)]
+    counts = [number_of(it[0]) if it else 0 for it in (size, mode)]
+    told = [code_of(it) for it in answers], [number_of(it) for it in answers]
+    end = run(which, 1, given, *numbers, objects[0], counts[0], objects[1], counts[1], *told)
     change, escaped = int(line[6]), int(line[8])
     return end and end[1] is not None and (int(line[4]), change - escaped) in end[1]
 

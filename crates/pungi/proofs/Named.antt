@@ -6,6 +6,7 @@ use Rattle.pungi_base.specs.CWords.{IsCWord}
 use Rattle.pungi_base.specs.declared.kind.Kind.{Kind}
 use Rattle.pungi_base.specs.declared.names.Name.{Name}
 use Rattle.pungi_base.specs.declared.why.Why.{Why}
+use Rattle.pungi_base.specs.declared.why.Why.TheVariants as why
 use Rattle.pungi_base.specs.declared.verdict.Verdict.{Verdict}
 use Rattle.pungi_base.specs.declared.verdict.Verdict.TheVariants as verdict
 use Rattle.pungi_lex.specs.Known.{IsKnown}
@@ -14,11 +15,11 @@ use Rattle.pungi_tree.specs.StmtFlat.{stmt_flat}
 use Rattle.pungi_tree.specs.Syntax.{head, Item, nothing, doc, typedef, tag, variables, prototype, function_def}
 use Rattle.pungi_tree.specs.Tokens.{keys_flat, stars_flat}
 use Rattle.pungi_tree.specs.UnitFlat.{signature_flat, item_flat, items_flat}
-use Rattle.pungi_report.specs.Text.{IsLine, IsPrintable}
+use Rattle.pungi_report.specs.Text.{IsNamedWhy, IsLine, IsPrintable}
 use Rattle.pungi_types.specs.Files.{Definition, definitions}
 use Rattle.pungi_types.specs.Refused.{CheckedFile}
 use Rattle.pungi_verdict.specs.Sound.{IsSound}
-use Rattle.pungi_verdict.specs.Verdicts.{IsReportable}
+use Rattle.pungi_verdict.specs.Verdicts.{IsReason, IsReportable}
 use Rattle.pungi.specs.Front.{AreKnownKinds}
 
 -- the words of tokens, one after another
@@ -67,11 +68,18 @@ all_named names (function_def (head qs s stars m p ps) b ∷ items) a =
     (all_named names items (known_behind names (item_flat f) (items_flat items) a))
 
 -- the lines of judged functions may be printed
+reason_named : (names : List (List ℕ)) (because : Why) → IsReason because → IsNamedWhy names because
+reason_named names why.Traces h = tt
+reason_named names why.Shapes h = tt
+reason_named names (why.Range at vector) h = tt
+reason_named names (why.Number at) h = tt
+reason_named names (why.Loop at) h = tt
+reason_named names (why.Call at n) h = absurd h
+
 verdict_printable : (names : List (List ℕ)) (v : Verdict) → IsReportable v → IsPrintable names v
 verdict_printable names verdict.Clean h = tt
 verdict_printable names (verdict.Faulty fault) h = h
-verdict_printable names (verdict.Unknown because) h =
-    subst (λ (w : Why). IsPrintable names (verdict.Unknown w)) (sym h) tt
+verdict_printable names (verdict.Unknown because) h = reason_named names because h
 verdict_printable names (verdict.Refused at rule) h = tt
 
 printable : (names : List (List ℕ)) (c : CheckedFile) (d : Definition) (line : Name × Verdict)

@@ -62,8 +62,8 @@ const ACCEPTED: &[(&str, &str, u8, &str)] = &[
     (
         "[function.size]\nparams = [\"object\"]\nresult = \"size\"\n",
         "void f(PyObject *x) { size(x); }",
-        2,
-        "refused f 1:6 N0\n",
+        0,
+        "clean f\n",
     ),
     (
         EXCEPTION,

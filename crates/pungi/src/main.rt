@@ -31,6 +31,8 @@ use std::process::ExitCode;
 #[cfg(test)]
 mod config_tests;
 #[cfg(test)]
+mod number_tests;
+#[cfg(test)]
 mod rule_tests;
 #[cfg(test)]
 mod size_tests;

@@ -17,10 +17,7 @@ const RULE_1: &[(&str, &str)] = &[
         "int fb(int n, unsigned u) { return n; }\n",
         "refused fb 3:15 N1\n",
     ),
-    (
-        "long int fc(long int n) { return n; }\n",
-        "refused fc 4:10 N0\n",
-    ),
+    ("long int fc(long int n) { return n; }\n", "clean fc\n"),
     (
         "int fd(int n, ...) { return n & 1; }\n",
         "refused fd 5:15 N1\n",
@@ -49,7 +46,7 @@ const RULE_2: &[(&str, &str)] = &[
         "int fb(int n) { n = 1; return ~n; }\n",
         "refused fb 3:31 N2\n",
     ),
-    ("int fc(int n) { return !n && 1; }\n", "refused fc 4:5 N0\n"),
+    ("int fc(int n) { return !n && 1; }\n", "clean fc\n"),
     (
         "int fd(int n) { n <<= 1; return m; }\n",
         "refused fd 5:19 N2\n",
@@ -105,10 +102,7 @@ const RULE_4: &[(&str, &str)] = &[
         "long fb(char *s, long n) { n = 1; return (long)s; }\n",
         "refused fb 3:42 N4\n",
     ),
-    (
-        "long fc(int n) { return (long)n; }\n",
-        "refused fc 4:6 N0\n",
-    ),
+    ("long fc(int n) { return (long)n; }\n", "clean fc\n"),
     (
         "char *fd(int n) { return (char *)n + m; }\n",
         "refused fd 5:26 N4\n",
@@ -159,7 +153,7 @@ const RULE_6: &[(&str, &str)] = &[
     ),
     (
         "int fc(int n) { { goto out; } out: return n; }\n",
-        "refused fc 4:5 N0\n",
+        "clean fc\n",
     ),
     (
         "int fd(int n) { goto out; return n & 1; }\n",
@@ -200,7 +194,7 @@ const RULE_7: &[(&str, &str)] = &[
     ),
     (
         "int fi(int n) { switch (n) { case 1: case -2: default: return n; } }\n",
-        "refused fi 10:5 N0\n",
+        "clean fi\n",
     ),
     (
         "int fj(int n) { switch (n) { case 'c': case 99: return n; } }\n",
@@ -226,10 +220,7 @@ const RULE_8: &[(&str, &str)] = &[
         "int fb(int n) { int m = 1; { int k = 1; int k; } return m; }\n",
         "refused fb 3:45 N8\n",
     ),
-    (
-        "int fc(int n) { { int n = 1; } return n; }\n",
-        "refused fc 4:5 N0\n",
-    ),
+    ("int fc(int n) { { int n = 1; } return n; }\n", "clean fc\n"),
     (
         "int fd(int n) { int fd = n & 1; return n; }\n",
         "refused fd 5:21 N8\n",
@@ -259,7 +250,7 @@ const RULE_9: &[(&str, &str)] = &[
         "int fb(int n) { n = 1; return gone(n); }\n",
         "refused fb 3:31 N9\n",
     ),
-    ("int fc(void) { return total; }\n", "refused fc 4:5 N0\n"),
+    ("int fc(void) { return total; }\n", "clean fc\n"),
     (
         "int fd(int n) { return m + (n & 1); }\n",
         "refused fd 5:24 N9\n",
@@ -302,7 +293,7 @@ const RULE_10: &[(&str, &str)] = &[
         "PyObject *fb(PyObject *x) { x = NULL; return Py_NewRef(x, x); }\n",
         "refused fb 3:46 N10\n",
     ),
-    ("void fc(int n) { return; }\n", "refused fc 4:6 N0\n"),
+    ("void fc(int n) { return; }\n", "clean fc\n"),
     (
         "int fd(PyObject *x) { return x < 1 & 1; }\n",
         "refused fd 5:32 N10\n",
@@ -360,10 +351,7 @@ const RULE_10: &[(&str, &str)] = &[
         "PyObject *fs(void) { return total - 1; }\n",
         "refused fs 19:22 N10\n",
     ),
-    (
-        "int ft(void) { return total - 1; }\n",
-        "refused ft 20:5 N0\n",
-    ),
+    ("int ft(void) { return total - 1; }\n", "clean ft\n"),
     (
         "int fu(void) { return Py_None; }\n",
         "refused fu 21:16 N10\n",
@@ -380,10 +368,7 @@ const RULE_12: &[(&str, &str)] = &[
         "long fb(Box *b) { b->hits = 1; return b->misses; }\n",
         "refused fb 3:40 N12\n",
     ),
-    (
-        "long fc(Box *b) { return b->hits; }\n",
-        "refused fc 4:6 N0\n",
-    ),
+    ("long fc(Box *b) { return b->hits; }\n", "clean fc\n"),
     (
         "long fd(Box *b) { return b->misses & 1; }\n",
         "refused fd 5:27 N12\n",
@@ -410,7 +395,7 @@ const RULE_13: &[(&str, &str)] = &[
     ),
     (
         "int fc(int n) { n++; return -n % 2; }\n",
-        "refused fc 4:5 N0\n",
+        "unknown fc number 4:29\n",
     ),
     (
         "int fd(char *s) { return -s & 1; }\n",

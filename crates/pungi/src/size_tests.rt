@@ -32,25 +32,25 @@ const OVER: &str =
 
 /// The sizes of a function: at most 32 locals with its parameters, and at most 4,096 nodes. A statement here has four;
 /// a declared variable is one.
-const SIZES: &[(&str, usize, &str, &str)] = &[
-    (SOME, 0, "return n;", "refused f 1:5 N0\n"),
-    (MOST, 0, "return n;", "refused f 1:5 N0\n"),
-    (OVER, 0, "return n;", "refused f 1:5 N15\n"),
-    (OVER, 0, "return n & 1;", "refused f 1:133 N2\n"),
-    (SOME, 1000, "return n;", "refused f 1:5 N0\n"),
-    ("", 1023, "return n;", "refused f 1:5 N0\n"),
-    ("int a; ", 1023, "return n;", "refused f 1:5 N16\n"),
-    (SOME, 1100, "return n;", "refused f 1:5 N16\n"),
-    (OVER, 1100, "return n;", "refused f 1:5 N15\n"),
-    ("", 1100, "return n & 1;", "refused f 1:7725 N2\n"),
+const SIZES: &[(&str, usize, &str, u8, &str)] = &[
+    (SOME, 0, "return n;", 0, "clean f\n"),
+    (MOST, 0, "return n;", 0, "clean f\n"),
+    (OVER, 0, "return n;", 2, "refused f 1:5 N15\n"),
+    (OVER, 0, "return n & 1;", 2, "refused f 1:133 N2\n"),
+    (SOME, 1000, "return n;", 0, "clean f\n"),
+    ("", 1023, "return n;", 0, "clean f\n"),
+    ("int a; ", 1023, "return n;", 2, "refused f 1:5 N16\n"),
+    (SOME, 1100, "return n;", 2, "refused f 1:5 N16\n"),
+    (OVER, 1100, "return n;", 2, "refused f 1:5 N15\n"),
+    ("", 1100, "return n & 1;", 2, "refused f 1:7725 N2\n"),
 ];
 
 #[test]
 fn sizes(rt: HostRuntime) -> Result<(), Fail> {
-    for (declared, statements, last, line) in SIZES {
+    for (declared, statements, last, status, line) in SIZES {
         let text = long_function(rt.alloc(), declared, *statements, last)?;
         assert!(rt;
-            is_told(rt.alloc(), &text, 2, line)?,
+            is_told(rt.alloc(), &text, *status, line)?,
             "{statements} statements, {line}"
         );
     }

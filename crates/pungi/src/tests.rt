@@ -137,12 +137,12 @@ const REPORTS: &[(&str, u8, &str)] = &[
     (
         "int f(int a, int b, int c) { return a - b - c; }",
         2,
-        "refused f 1:5 N0\n",
+        "unknown f number 1:39\n",
     ),
     (
         "int f(int a) { if (a) if (a) return 1; else return 2; return 3; }",
-        2,
-        "refused f 1:5 N0\n",
+        0,
+        "clean f\n",
     ),
     (
         "typedef struct { int a; } Box; static int n; int g(int a); ; void f(void) { }",
@@ -157,7 +157,7 @@ const REPORTS: &[(&str, u8, &str)] = &[
     (
         PAIR,
         2,
-        "refused Pair_first 13:1 N0\nrefused Pair_put 25:10 N9\nclean Pair_twice\nrefused Pair_new 47:12 N3\nclean PyInit_pair\n",
+        "clean Pair_first\nrefused Pair_put 25:10 N9\nclean Pair_twice\nrefused Pair_new 47:12 N3\nclean PyInit_pair\n",
     ),
     (
         POOL,
@@ -222,6 +222,16 @@ const WHOLE: &[(&str, u8, &str)] = &[
             "faulty c 3:37 object 24 change 1 escaped 0\n",
             "  objects 25\n",
             "  argument object 24\n",
+        ),
+    ),
+    (
+        "PyObject *f(PyObject *x, int n) { if (n == 7) return x; return NULL; }\n",
+        1,
+        concat!(
+            "faulty f 1:47 object 24 change 0 escaped 1\n",
+            "  objects 26\n",
+            "  argument object 24\n",
+            "  argument int 7\n",
         ),
     ),
 ];

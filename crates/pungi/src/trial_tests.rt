@@ -1,5 +1,5 @@
 //! Trials. The kinds of their functions come by turns. Of five in a row the first is clean and the second leaks. The
-//! third and the fourth have loops and locals that are numbers, so they are not judged (rule 0), and the fifth calls
+//! third and the fourth have loops, so they are not judged (rule 0), and the fifth calls
 //! through a field (rule 3).
 
 use crate::tests::{judged, words};

@@ -141,8 +141,8 @@ const VERDICTS: &[(&str, u8, &str)] = &[
     ),
     (
         "int f(PyObject *x, int n) { return n; }\nint g(PyObject *x) { int i = 0; return i; }",
-        2,
-        "refused f 1:5 N0\nrefused g 2:5 N0\n",
+        0,
+        "clean f\nclean g\n",
     ),
     (
         "void f(PyObject *x) { while (x) Py_INCREF(x); }\nvoid g(PyObject *x) { again: if (x) goto again; }\nvoid h(PyObject *x) { if (x) goto end; end: ; }",
@@ -156,13 +156,13 @@ const VERDICTS: &[(&str, u8, &str)] = &[
     ),
     (
         "static long hits; void f(void) { hits = 1; }\nlong g(PyObject *x) { return PyObject_Size(x); }",
-        2,
-        "refused f 1:24 N0\nrefused g 2:6 N0\n",
+        0,
+        "clean f\nclean g\n",
     ),
     (
         "int f(void) { return 1 + 1; }\nint g(void) { return -1; }\nint h(PyObject *a, PyObject *b) { return a == b; }",
-        2,
-        "refused f 1:5 N0\nclean g\nclean h\n",
+        0,
+        "clean f\nclean g\nclean h\n",
     ),
 ];
 

@@ -2,10 +2,11 @@
 --   Path u ks w              the constraints lead from u to w, each from where the one before it ended
 --   total ks                 the sum of their bounds
 --   GoesRound held new ks    the new one, alone or with some held, goes round with a sum below 0
+--   HasNoSolution ks         no values meet the constraints
 --   Walked held .. ks u      the constraints that a search wrote, walked from the y of the new one as far as a node
 --                            that is lowered
 use Rattle.std.specs.Prelude.{◌≡◌, ◌⊎◌, ◌+◌, ◌<◌, ◌≤◌, length, slice_index, ℕ, ℤ, pos, ◌+ℤ◌, ◌<ℤ◌, List, [], ◌∷◌, ◌++◌}
-use Rattle.pungi_diff.specs.Constraint.{at}
+use Rattle.pungi_diff.specs.Constraint.{at, Solves}
 use Rattle.pungi_diff.specs.Search.{lowered}
 use Rattle.std.specs.List.{All, Contains}
 use Rattle.pungi_diff.specs.declared.constraint.Constraint.{Constraint}
@@ -23,6 +24,9 @@ pub record GoesRound (held : List Constraint) (new : Constraint) (ks : List Cons
   pub among : All (λ k. Contains (held ++ new ∷ []) k) ks
   pub with_new : Contains ks new
   pub below : total ks <ℤ pos 0
+
+abbrev pub HasNoSolution : List Constraint → Type 0
+HasNoSolution ks = (v : ℕ → ℤ) → Solves v ks → ⊥
 
 pub record Walked (held : List Constraint) (value : List ℤ) (rank : List ℕ) (gap : List ℤ) (new : Constraint)
     (ks : List Constraint) (u : ℕ) : Type 0 where

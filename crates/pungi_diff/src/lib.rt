@@ -6,9 +6,11 @@ mod bounds;
 mod constraint;
 mod cycle;
 mod held;
+mod laws;
 mod round;
 mod search;
 
 pub use bounds::Bounds;
 pub use constraint::Constraint;
 pub use cycle::Cycle;
+pub use laws::rounds_forbid_solutions;

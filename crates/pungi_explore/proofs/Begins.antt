@@ -13,11 +13,12 @@ use Rattle.pungi_symbol.specs.declared.states.state.State.{State}
 use Rattle.pungi_symbol.specs.declared.states.term.Term.{Term}
 use Rattle.pungi_symbol.specs.questions.NextQuestion.{ask, asks_line, ask_while}
 use Rattle.pungi_symbol.specs.answers.SymbolicState.{can, apply}
-use Rattle.pungi_symbol.specs.runs.Paths.{Path, path_here, path_on}
+use Rattle.pungi_symbol.specs.runs.Paths.{table_of, Path, path_here, path_on, HasNoTable}
 use Rattle.pungi_symbol.specs.Promises.{AllLevel}
 use Rattle.pungi_explore.specs.Traces.{HasEnded, states_after}
 use Rattle.pungi_explore.proofs.Each.{Each}
 use Rattle.pungi_explore.proofs.Listed.{after_each}
+use Rattle.pungi_explore.proofs.Trees.{IsGone}
 
 -- the decisions of a path, the newest first, with Quiet
 abbrev pub Told : Type 0
@@ -51,12 +52,22 @@ pub asked_going : (s : State) (q : Question) (d : Decision) (z : Status) → can
 asked_going s q d status.Going c ended = ended refl
 asked_going s q d (status.Returned p x) c ended = let bad : false ≡ true = c in cc
 asked_going s q d (status.Stopped p) c ended = let bad : false ≡ true = c in cc
+asked_going s q d (status.NumberSeen p) c ended = let bad : false ≡ true = c in cc
 
 module _ (code : List Line) (s : State) where
   ended_begins : HasEnded s → (ds : Told) (last : State) → Begins code s ds last → ds ≡ []
   ended_begins ended _ _ stays = refl
   ended_begins ended _ _ (answers d ds last c p) = absurd (asked_going s
       (asks_line s.known (slice_get code s.known.pc)) d s.known.status c ended)
+
+  -- no run is in a state that has ended and has no values of its tokens
+  gone_begins : HasEnded s → HasNoTable s → (ds : Told) (last : State) → Begins code s ds last → HasNoTable last
+  gone_begins ended none _ _ stays = none
+  gone_begins ended none _ _ (answers d ds last c p) = absurd (asked_going s
+      (asks_line s.known (slice_get code s.known.pc)) d s.known.status c ended)
+
+  pub ended_gone : HasEnded s → HasNoTable s → IsGone code s
+  ended_gone ended none ds last p = gone_begins ended none ds last (begins code s ds last p)
 
   -- where a state has ended, no answer leads on
   pub ended_here : HasEnded s → (ds : Told) (last : State) → Path code s ds last → ds ≡ []
@@ -70,6 +81,11 @@ module _ (codes : Codes) (code : List Line) (s : State) where
   ended_last ended level _ _ stays = level
   ended_last ended level _ _ (answers d ds last c p) = absurd (asked_going s
       (asks_line s.known (slice_get code s.known.pc)) d s.known.status c ended)
+
+  -- where no run is in it, each is level
+  pub gone_level : IsGone code s → AreLevelFrom codes code s
+  gone_level gone ds last path code' entry choices n es p x has h r = absurd (gone ds last path
+      (table_of codes.statics entry choices) r.lies.fits)
 
   -- where a state has ended, no path leads on
   pub ended_level : HasEnded s → AllLevel codes s → AreLevelFrom codes code s

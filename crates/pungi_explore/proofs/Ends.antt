@@ -15,9 +15,9 @@ use Rattle.pungi_symbol.specs.declared.states.known.Status.{Status}
 use Rattle.pungi_symbol.specs.declared.states.known.Status.TheVariants as status
 use Rattle.pungi_symbol.specs.declared.states.state.State.{State}
 use Rattle.pungi_symbol.specs.declared.states.term.Term.{Term}
-use Rattle.pungi_symbol.specs.runs.Paths.{start_state, table_of, Path, run_for, IsAt, Meets, returned_value}
+use Rattle.pungi_symbol.specs.runs.Paths.{start_state, table_of, Path, run_for, IsAt, Meets, SeesNumber, returned_value}
 use Rattle.pungi_symbol.specs.Promises.{HasForm, Covers, IsReached}
-use Rattle.pungi_explore.specs.Explored.{Returns, AreBalanced, IsFaultRun}
+use Rattle.pungi_explore.specs.Explored.{Returns, ArePlainBalanced, IsFaultRun}
 use Rattle.pungi_explore.specs.Visits.{ShowsFault}
 use Rattle.pungi_explore.proofs.SameFunction.{path_function}
 use Rattle.pungi_explore.proofs.Begins.{AreLevelFrom}
@@ -64,6 +64,7 @@ module _ (codes : Codes) (f : ℕ) (code : Code) (has : HasForm codes f code) wh
           → IsAt code entry choices r.steps (table_of codes.statics entry choices) m.m s.known.pc z
           → IsBalanced world value
       at_end status.Going e h = absurd (unfinished_return world value r.pos r.used (sym (h.ends 0) ∙ ends))
+      at_end (status.NumberSeen p) e h = absurd (unfinished_return world value r.pos r.used (sym (h.ends 0) ∙ ends))
       at_end (status.Stopped p) e h = absurd (stopped_return world value r.pos p r.used (sym (h.ends 0) ∙ ends))
       at_end (status.Returned p x) e h =
           let same = same_return m.m.world world (returned_value (table_of codes.statics entry choices) x) value p
@@ -72,12 +73,13 @@ module _ (codes : Codes) (f : ℕ) (code : Code) (has : HasForm codes f code) wh
           let balanced = level ds s path code entry choices r.steps ds p x reached.0 e m in
           subst (λ w. IsBalanced w value) same.0 (subst (λ v. IsBalanced m.m.world v) same.1 balanced)
 
-    covered : AreLevelFrom codes code.instrs First
+    covered : AreLevelFrom codes code.instrs First → (SeesNumber codes.statics f code entry choices → ⊥)
         → (run_for code entry choices r.steps ≡ run.NeedsChoice)
-        ⊎ ((ds : List Decision) × ((s : State) × Meets codes.statics f code entry choices r.steps ds s))
-        → IsBalanced world value
-    covered level (inl e) = absurd (wanting_return world value r.pos r.used (sym e ∙ r.is))
-    covered level (inr c) =
+        ⊎ (((ds : List Decision) × ((s : State) × Meets codes.statics f code entry choices r.steps ds s))
+        ⊎ SeesNumber codes.statics f code entry choices) → IsBalanced world value
+    covered level plain (inl e) = absurd (wanting_return world value r.pos r.used (sym e ∙ r.is))
+    covered level plain (inr (inr n)) = absurd (plain n)
+    covered level plain (inr (inl c)) =
         let ds = c.0 in
         let s = c.1.0 in
         let path = c.1.1.path in
@@ -85,9 +87,9 @@ module _ (codes : Codes) (f : ℕ) (code : Code) (has : HasForm codes f code) wh
         c.1.1 in
         at_end ds s level m path s.known.status refl m.is_at
 
-  -- where all that paths lead to is level, each run is balanced
-  pub all_balanced : Covers codes f → AreLevelFrom codes code.instrs First → AreBalanced codes.statics code
-  all_balanced covers level entry choices world value r = covered entry choices world value r level
+  -- where all that paths lead to is level, each run that comes to no number is balanced
+  pub all_balanced : Covers codes f → AreLevelFrom codes code.instrs First → ArePlainBalanced codes.statics f code
+  all_balanced covers level entry choices world value r plain = covered entry choices world value r level plain
       (covers code has entry choices r.steps r.fits)
 
 -- ---- the run of a fault
@@ -114,7 +116,8 @@ module _ (codes : Codes) (code : Code) (s : State) (w : Witness) (ds : List Deci
       let x = shows.returned.1.0 in
       let e = shows.returned.1.1 in
       let table = table_of codes.statics w.input w.choices in
-      let u = shows.uneven code w.input w.choices N ds p x reached.0 e (shows.run_at.own code ds reached) M in
+      let own = shows.run_at.own code ds reached in
+      let u = shows.uneven code w.input w.choices N ds p x own.0 reached.0 e own.1.0 own.1.1 M in
       let returns : Returns codes.statics code w.input w.choices M.m.world (returned_value table x) = record {
         fits = (shows.run_at.run code ds reached).0;
         steps = N + 0;

@@ -3,8 +3,10 @@ pub mod Trees
 pub mod Different
 pub mod Listed
 pub mod Nexts
+pub mod Endings
 pub mod SameFunction
 pub mod Begins
+pub mod Numbers
 pub mod Ends
 pub mod Few
 pub mod Many

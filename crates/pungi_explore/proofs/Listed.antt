@@ -1,26 +1,31 @@
 -- Each answer that a question still has is among those that stand for next states.
 use Rattle.std.proofs.Common.{◌≡◌, ℕ, zero, suc, ◌+◌, ◌≤◌, ◌<◌, List, [], ◌∷◌, length, map, Bool, true, false, refl}
-use Rattle.std.proofs.Common.{ap, arith, inl, inr}
+use Rattle.std.proofs.Common.{sym, ap, subst, arith, inl, inr, cond}
+use Rattle.std.specs.Prelude.{◌==◌, int_lt, pos}
+use Rattle.std.specs.Ordering.{int_cmp}
 use Rattle.std.specs.Prelude.{slice_get}
 use Rattle.std.specs.List.{range_with_len}
 use Rattle.std.specs.declared.cmp.Ordering.{Ordering}
 use Rattle.std.specs.declared.cmp.Ordering.TheVariants.{Less, Equal, Greater}
 use Rattle.std.proofs.lemmas.Bool.Decides.{nat_tests}
+use Rattle.pungi_meaning.specs.Values.{fits}
 use Rattle.pungi_code.specs.declared.code.Line.{Line}
 use Rattle.pungi_symbol.specs.declared.answers.decision.Decision.{Decision}
 use Rattle.pungi_symbol.specs.declared.answers.decision.Decision.TheVariants.{Quiet, Outcome, Order, Same as IsSame}
 use Rattle.pungi_symbol.specs.declared.states.mark.Mark.{Mark}
 use Rattle.pungi_symbol.specs.declared.states.mark.Mark.TheVariants.{Pointer, TextPointer, IsNull, IsObject, IsText}
-use Rattle.pungi_symbol.specs.declared.states.mark.Mark.TheVariants.{IsNumber}
+use Rattle.pungi_symbol.specs.declared.states.mark.Mark.TheVariants.{IsNumber, Integer}
 use Rattle.pungi_symbol.specs.declared.questions.question.Question.{Question}
 use Rattle.pungi_symbol.specs.declared.questions.question.Question.TheVariants.{Does, Touches, Overwrites}
 use Rattle.pungi_symbol.specs.declared.questions.question.Question.TheVariants.{Null as AsksNull, Base, Answers, Same}
-use Rattle.pungi_symbol.specs.declared.questions.question.Question.TheVariants.{Returns, Stops, Over}
+use Rattle.pungi_symbol.specs.declared.questions.question.Question.TheVariants.{Orders, Range, Unplain, Returns}
+use Rattle.pungi_symbol.specs.declared.questions.question.Question.TheVariants.{Stops, Over}
 use Rattle.pungi_symbol.specs.declared.states.state.State.{State}
 use Rattle.pungi_symbol.specs.states.Terms.{outcomes_of_mark, outcomes_of_answer}
 use Rattle.pungi_symbol.specs.states.Known.{mark_of}
 use Rattle.pungi_symbol.specs.questions.NextQuestion.{ask}
 use Rattle.pungi_symbol.specs.answers.SymbolicState.{is_order, is_decision, is_outcome, can_be, are_one, are_other}
+use Rattle.pungi_symbol.specs.answers.SymbolicState.{is_any_order}
 use Rattle.pungi_symbol.specs.answers.SymbolicState.{can, apply, numbered, answers_of, after_if, successors}
 use Rattle.pungi_explore.specs.Traces.{IsIn, states_after}
 use Rattle.pungi_explore.proofs.Each.{Each, each_mapped, each_flat, each_if}
@@ -99,6 +104,37 @@ few_of_mark IsNull = omega arith
 few_of_mark IsObject = omega arith
 few_of_mark IsText = omega arith
 few_of_mark (IsNumber n) = omega arith
+few_of_mark (Integer r) = omega arith
+
+-- one of the ways in which two numbers compare
+any_order : (d : Decision) → is_any_order d ≡ true → IsIn d (Order Less ∷ Order Equal ∷ Order Greater ∷ [])
+any_order (Order Less) e = inl refl
+any_order (Order Equal) e = inr (inl refl)
+any_order (Order Greater) e = inr (inr (inl refl))
+any_order Quiet e = untrue e
+any_order (Outcome k) e = untrue e
+any_order (IsSame b) e = untrue e
+
+order_in : (same : Bool) (o : Ordering) (d : Decision) → cond same (is_decision (Order o) d) (is_any_order d) ≡ true
+    → IsIn d (Order Less ∷ Order Equal ∷ Order Greater ∷ [])
+order_in true o d e = subst (λ x. IsIn x (Order Less ∷ Order Equal ∷ Order Greater ∷ [])) (sym
+    (same_decision (Order o) d e)) (any_order (Order o) refl)
+order_in false o d e = any_order d e
+
+-- a number is below a range, within it or above it
+place_few : (within below : Bool) → cond within 1 (cond below 0 2) < 3
+place_few true below = omega arith
+place_few false true = omega arith
+place_few false false = omega arith
+
+place_in : (zero_node within below : Bool) (d : Decision)
+    → cond zero_node (is_decision (Outcome (cond within 1 (cond below 0 2))) d) (is_outcome 3 d) ≡ true
+    → IsIn d (numbered 3)
+place_in true within below d e =
+    let k = cond within 1 (cond below 0 2) in
+    subst (λ x. IsIn x (numbered 3)) (sym (same_decision (Outcome k) d e)) (numbered_from 0 3 k k (omega arith)
+    (place_few within below))
+place_in false within below d e = one_of 3 3 d (omega arith) e
 
 in_answers : (s : State) (q : Question) (d : Decision) → can s q d ≡ true → IsIn d (answers_of q)
 in_answers s (Does d') d e = only_one d' d e
@@ -110,6 +146,9 @@ in_answers s (Base t u i) d e = same_or_other (are_one s.classes t u) (are_other
 in_answers s (Answers a) d e =
     let n = length (outcomes_of_answer a) in let le : n ≤ n = omega arith in one_of n n d le e
 in_answers s (Same t u) d e = same_or_other (are_one s.classes t u) (are_other s.statics s.classes s.others t u) d e
+in_answers s (Orders a b) d e = order_in (a.node == b.node) (int_cmp a.plus b.plus) d e
+in_answers s (Range kind a) d e = place_in (a.node == 0) (fits kind a.plus) (int_lt a.plus (pos 0)) d e
+in_answers s Unplain d e = only_one Quiet d e
 in_answers s (Returns x) d e = only_one Quiet d e
 in_answers s (Stops d') d e = only_one d' d e
 in_answers s Over d e = untrue e

@@ -15,7 +15,8 @@ use Rattle.pungi_symbol.specs.declared.answers.decision.Decision.TheVariants.{Qu
 use Rattle.pungi_symbol.specs.declared.questions.question.Question.{Question}
 use Rattle.pungi_symbol.specs.declared.questions.question.Question.TheVariants.{Does, Touches, Overwrites}
 use Rattle.pungi_symbol.specs.declared.questions.question.Question.TheVariants.{Null as AsksNull, Base, Answers, Same}
-use Rattle.pungi_symbol.specs.declared.questions.question.Question.TheVariants.{Returns, Stops, Over}
+use Rattle.pungi_symbol.specs.declared.questions.question.Question.TheVariants.{Orders, Range, Unplain, Returns}
+use Rattle.pungi_symbol.specs.declared.questions.question.Question.TheVariants.{Stops, Over}
 use Rattle.pungi_symbol.specs.declared.states.known.Status.TheVariants as status
 use Rattle.pungi_symbol.specs.declared.states.state.State.{State}
 use Rattle.pungi_symbol.specs.questions.NextQuestion.{ask}
@@ -78,6 +79,9 @@ one_rises d = (omega arith, tt)
 same_rise : AnswersRise 0 (IsSame false ∷ IsSame true ∷ [])
 same_rise = (omega arith, (omega arith, tt))
 
+orders_rise : AnswersRise 0 (Order Less ∷ Order Equal ∷ Order Greater ∷ [])
+orders_rise = (omega arith, (omega arith, (omega arith, tt)))
+
 all_rise : (q : Question) → AnswersRise 0 (answers_of q)
 all_rise (Does d) = one_rises d
 all_rise (Touches m) = one_rises Quiet
@@ -86,6 +90,9 @@ all_rise (AsksNull t) = numbered_rise 0 2 0 (omega arith)
 all_rise (Base t u i) = same_rise
 all_rise (Answers a) = numbered_rise 0 (length (outcomes_of_answer a)) 0 (omega arith)
 all_rise (Same t u) = same_rise
+all_rise (Orders a b) = orders_rise
+all_rise (Range kind a) = numbered_rise 0 3 0 (omega arith)
+all_rise Unplain = one_rises Quiet
 all_rise (Returns x) = one_rises Quiet
 all_rise (Stops d) = one_rises d
 all_rise Over = tt

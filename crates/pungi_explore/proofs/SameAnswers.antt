@@ -1,7 +1,9 @@
 -- Quiet adds nothing to a trace: paths to ends that have the same answers are the same.
 use Rattle.std.proofs.Common.{◌≡◌, ℕ, zero, suc, ◌+◌, ◌≤◌, List, [], ◌∷◌, ◌++◌, length, true, false, refl, sym, ap, ◌∙◌}
-use Rattle.std.proofs.Common.{subst, arith, ◌⊎◌, inl, inr}
-use Rattle.std.specs.Prelude.{slice_get}
+use Rattle.std.proofs.Common.{subst, arith, ◌⊎◌, inl, inr, cond, Bool}
+use Rattle.std.specs.Prelude.{◌==◌, slice_get}
+use Rattle.std.specs.Ordering.{int_cmp}
+use Rattle.std.specs.declared.cmp.Ordering.{Ordering}
 use Rattle.std.proofs.Common.{length-append}
 use Rattle.std.proofs.lemmas.List.{append_cancel_right}
 use Rattle.pungi_code.specs.declared.code.Line.{Line}
@@ -10,10 +12,11 @@ use Rattle.pungi_symbol.specs.declared.answers.decision.Decision.TheVariants.{Qu
 use Rattle.pungi_symbol.specs.declared.questions.question.Question.{Question}
 use Rattle.pungi_symbol.specs.declared.questions.question.Question.TheVariants.{Does, Touches, Overwrites}
 use Rattle.pungi_symbol.specs.declared.questions.question.Question.TheVariants.{Null as AsksNull, Base, Answers, Same}
-use Rattle.pungi_symbol.specs.declared.questions.question.Question.TheVariants.{Returns, Stops, Over}
+use Rattle.pungi_symbol.specs.declared.questions.question.Question.TheVariants.{Orders, Range, Unplain, Returns}
+use Rattle.pungi_symbol.specs.declared.questions.question.Question.TheVariants.{Stops, Over}
 use Rattle.pungi_symbol.specs.declared.states.state.State.{State}
 use Rattle.pungi_symbol.specs.questions.NextQuestion.{ask, asks_line}
-use Rattle.pungi_symbol.specs.answers.SymbolicState.{is_decision, can, apply}
+use Rattle.pungi_symbol.specs.answers.SymbolicState.{is_decision, is_any_order, is_outcome, range_place, can, apply}
 use Rattle.pungi_symbol.specs.runs.Paths.{Path}
 use Rattle.pungi_explore.specs.Traces.{trace_in, HasEnded}
 use Rattle.pungi_explore.proofs.Begins.{Told, Begins, stays, answers, begins, asked_going}
@@ -37,6 +40,16 @@ does_only (Order o) d h e = untrue h
 does_only (IsSame true) d h e = untrue h
 does_only (IsSame false) d h e = untrue h
 
+order_quiet : (same : Bool) (o : Ordering) (d : Decision)
+    → cond same (is_decision (Order o) Quiet) (is_any_order Quiet) ≡ true → d ≡ Quiet
+order_quiet true o d h = untrue h
+order_quiet false o d h = untrue h
+
+range_quiet : (zero_node : Bool) (k : ℕ) (d : Decision)
+    → cond zero_node (is_decision (Outcome k) Quiet) (is_outcome 3 Quiet) ≡ true → d ≡ Quiet
+range_quiet true k d h = untrue h
+range_quiet false k d h = untrue h
+
 quiet_only : (s : State) (q : Question) (d : Decision) → can s q Quiet ≡ true → can s q d ≡ true → d ≡ Quiet
 quiet_only s (Does d') d h e = does_only d' d h e
 quiet_only s (Touches m) d h e = quiet_is d e
@@ -45,6 +58,9 @@ quiet_only s (AsksNull t) d h e = untrue h
 quiet_only s (Base t u i) d h e = untrue h
 quiet_only s (Answers a) d h e = untrue h
 quiet_only s (Same t u) d h e = untrue h
+quiet_only s (Orders a b) d h e = order_quiet (a.node == b.node) (int_cmp a.plus b.plus) d h
+quiet_only s (Range kind a) d h e = range_quiet (a.node == 0) (range_place kind a.plus) d h
+quiet_only s Unplain d h e = quiet_is d e
 quiet_only s (Returns x) d h e = quiet_is d e
 quiet_only s (Stops d') d h e = does_only d' d h e
 quiet_only s Over d h e = untrue h

@@ -1,6 +1,8 @@
 -- All states of a path are of one function.
-use Rattle.std.proofs.Common.{◌≡◌, List, refl, ◌∙◌, Option, None, Some}
-use Rattle.std.specs.Prelude.{slice_get}
+use Rattle.std.proofs.Common.{◌≡◌, List, refl, ◌∙◌, Option, None, Some, Bool, true, false, cond}
+use Rattle.std.specs.Prelude.{◌==◌, slice_get}
+use Rattle.std.specs.declared.cmp.Ordering.{Ordering}
+use Rattle.pungi_base.specs.declared.pos.Pos.{Pos}
 use Rattle.pungi_code.specs.declared.atom.Var.{Var}
 use Rattle.pungi_code.specs.declared.code.Line.{Line}
 use Rattle.pungi_code.specs.declared.instr.Instr.{Instr}
@@ -12,12 +14,16 @@ use Rattle.pungi_symbol.specs.declared.states.mark.Mark.{Mark}
 use Rattle.pungi_symbol.specs.declared.questions.question.Question.{Question}
 use Rattle.pungi_symbol.specs.declared.questions.question.Question.TheVariants.{Does, Touches, Overwrites}
 use Rattle.pungi_symbol.specs.declared.questions.question.Question.TheVariants.{Null as AsksNull, Base, Answers, Same}
-use Rattle.pungi_symbol.specs.declared.questions.question.Question.TheVariants.{Returns, Stops, Over}
+use Rattle.pungi_symbol.specs.declared.questions.question.Question.TheVariants.{Orders, Range, Unplain, Returns}
+use Rattle.pungi_symbol.specs.declared.questions.question.Question.TheVariants.{Stops, Over}
+use Rattle.pungi_symbol.specs.declared.states.known.Status.TheVariants as status
 use Rattle.pungi_symbol.specs.declared.states.state.State.{State}
+use Rattle.pungi_symbol.specs.declared.states.sum.Sum.{Sum}
 use Rattle.pungi_symbol.specs.declared.states.term.Term.{Term}
 use Rattle.pungi_symbol.specs.questions.NextQuestion.{ask}
 use Rattle.pungi_symbol.specs.answers.KnownAfter.{put_answer, arrive, call_var, does, instr_of, load_first, go_on}
-use Rattle.pungi_symbol.specs.answers.KnownAfter.{store_first, perform_line, go}
+use Rattle.pungi_symbol.specs.answers.KnownAfter.{store_first, perform_line, ordered, computed, says_order, go}
+use Rattle.pungi_symbol.specs.answers.KnownAfter.{number_of_outcome, place_of_line}
 use Rattle.pungi_symbol.specs.runs.Paths.{Path, path_here, path_on}
 
 answered_function : (k : Known) (x : Option Var) (o : Option Term) → (go_on (put_answer x o k)).function ≡ k.function
@@ -74,6 +80,41 @@ store_function (Branch a this other) m k = refl
 store_function (Return o) m k = refl
 store_function Fall m k = refl
 
+ordered_function : (i : Instr) (o : Ordering) (k : Known) → (ordered i o k).function ≡ k.function
+ordered_function (Set x a) o k = refl
+ordered_function (Arith x kind op a b) o k = refl
+ordered_function (Fit x kind a) o k = refl
+ordered_function (Compare x c a b) o k = refl
+ordered_function (Load x place) o k = refl
+ordered_function (Store place a) o k = refl
+ordered_function (Api x shape as' outs) o k = refl
+ordered_function (Call x f as') o k = refl
+ordered_function (Forget x) o k = refl
+ordered_function (Jump to) o k = refl
+ordered_function (Branch a this other) o k = refl
+ordered_function (Return a) o k = refl
+ordered_function Fall o k = refl
+
+computed_function : (i : Instr) (s : Sum) (k : Known) → (computed i s k).function ≡ k.function
+computed_function (Set x a) s k = refl
+computed_function (Arith x kind op a b) s k = refl
+computed_function (Fit x kind a) s k = refl
+computed_function (Compare x c a b) s k = refl
+computed_function (Load x place) s k = refl
+computed_function (Store place a) s k = refl
+computed_function (Api x shape as' outs) s k = refl
+computed_function (Call x f as') s k = refl
+computed_function (Forget x) s k = refl
+computed_function (Jump to) s k = refl
+computed_function (Branch a this other) s k = refl
+computed_function (Return a) s k = refl
+computed_function Fall s k = refl
+
+ranged_function : (within : Bool) (i : Instr) (s : Sum) (k : Known) (p : Pos)
+    → (cond within (computed i s k) (record k { status = status.Stopped p })).function ≡ k.function
+ranged_function true i s k p = computed_function i s k
+ranged_function false i s k p = refl
+
 go_function : (o : Option Line) (k : Known) (q : Question) (d : Decision) → (go o k q d).function ≡ k.function
 go_function o k (Does d') d = line_function k o
 go_function o k (Touches m) d = load_function (instr_of o) m k
@@ -82,6 +123,9 @@ go_function o k (AsksNull t) d = refl
 go_function o k (Base t u i) d = refl
 go_function o k (Answers a) d = answered_function (arrive _ k) (call_var (instr_of o)) _
 go_function o k (Same t u) d = refl
+go_function o k (Orders a b) d = ordered_function (instr_of o) (says_order d) k
+go_function o k (Range kind a) d = ranged_function (number_of_outcome d == 1) (instr_of o) a k (place_of_line o)
+go_function o k Unplain d = refl
 go_function o k (Returns x) d = refl
 go_function o k (Stops d') d = refl
 go_function o k Over d = refl

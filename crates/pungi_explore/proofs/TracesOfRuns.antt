@@ -1,20 +1,22 @@
--- Traces of runs, and paths of states to their ends: each is the other, so the code has as many traces as there are
--- leaves below its first state.
+-- Traces of runs, and paths of states to ends that a run is in: each is the other, so the code has as many traces as
+-- there are leaves below its first state.
 use Rattle.std.proofs.Common.{◌≡◌, ℕ, ◌+◌, ◌<◌, ◌≤◌, List, [], ◌∷◌, length, map, true, refl, sym, ap, ◌∙◌, subst, arith}
-use Rattle.std.proofs.Common.{◌⊎◌, inl, inr}
+use Rattle.std.proofs.Common.{◌⊎◌, inl, inr, Option}
 use Rattle.std.proofs.Math.ListN.{length-map}
 use Rattle.pungi_base.specs.declared.choice.Choice.{Choice}
 use Rattle.pungi_base.specs.declared.entry.Entry.{Entry}
+use Rattle.pungi_base.specs.declared.pos.Pos.{Pos}
 use Rattle.pungi_meaning.specs.Run as run
 use Rattle.pungi_code.specs.Alike.{IsOver}
 use Rattle.pungi_code.specs.Entries.{code_fits}
-use Rattle.pungi_code.specs.Registers.{Regs}
 use Rattle.pungi_code.specs.declared.code.Code.{Code}
 use Rattle.pungi_code.specs.declared.code.Codes.{Codes}
 use Rattle.pungi_symbol.specs.declared.states.known.Status.{Status}
 use Rattle.pungi_symbol.specs.declared.states.known.Status.TheVariants as status
 use Rattle.pungi_symbol.specs.declared.states.state.State.{State}
+use Rattle.pungi_symbol.specs.declared.states.term.Term.{Term}
 use Rattle.pungi_symbol.specs.runs.Paths.{start_state, known_at, table_of, Path, run_for, IsAt, Meets}
+use Rattle.pungi_symbol.specs.runs.Paths.{SeesNumber}
 use Rattle.pungi_symbol.specs.Promises.{HasForm, Covers, HasRun}
 use Rattle.pungi_explore.specs.Explored.{most_traces, HasFew, HasMany, ExcludeEachOther}
 use Rattle.pungi_explore.specs.Traces.{Trace, trace_in, IsIn, IsDone, IsTrace, HasEnded}
@@ -27,17 +29,29 @@ use Rattle.pungi_explore.proofs.Many.{many_from}
 use Rattle.pungi_explore.proofs.OneTrace.{one_trace}
 use Rattle.pungi_explore.proofs.Trees.{HaveTraces, HaveAtLeast}
 
+returned_going : (p : Pos) (x : Option Term) → status.Returned p x ≡ status.Going → ⊥
+returned_going p x e = cc
+
+stopped_going : (p : Pos) → status.Stopped p ≡ status.Going → ⊥
+stopped_going p e = cc
+
+pub seen_going : (p : Pos) → status.NumberSeen p ≡ status.Going → ⊥
+seen_going p e = cc
+
 module _ (code : Code) (statics f : ℕ) (entry : Entry) (choices : List Choice) (n : ℕ) where
   none_added : n ≡ n + 0
   none_added = omega arith
 
-  -- a run is where its state says that it has ended
-  done_at : (m : Regs) (pc : ℕ) (z : Status) → (z ≡ status.Going → ⊥)
-      → IsAt code entry choices n (table_of statics entry choices) m pc z
-      → IsDone (run_for code entry choices (n + 0))
-  done_at m pc status.Going over at = absurd (over refl)
-  done_at m pc (status.Returned p x) over at = subst IsDone (sym (at.ends 0)) tt
-  done_at m pc (status.Stopped p) over at = subst IsDone (sym (at.ends 0)) tt
+  -- a run is where its state says that it has ended, or came to a number that isn't followed
+  done_at : (ds : Told) (s : State) (m : Meets statics f code entry choices n ds s) (z : Status)
+      → s.known.status ≡ z → (z ≡ status.Going → ⊥)
+      → IsAt code entry choices n (table_of statics entry choices) m.m s.known.pc z
+      → IsDone (run_for code entry choices (n + 0)) ⊎ SeesNumber statics f code entry choices
+  done_at ds s m status.Going e over at = absurd (over refl)
+  done_at ds s m (status.Returned p x) e over at = inl (subst IsDone (sym (at.ends 0)) tt)
+  done_at ds s m (status.Stopped p) e over at = inl (subst IsDone (sym (at.ends 0)) tt)
+  done_at ds s m (status.NumberSeen p) e over at = inr
+      (record { steps = n; decisions = ds; s = s; place = p; meets = m; seen = e })
 
   -- the state of a run that has ended has ended
   ended_at : (ds : Told) (s : State) → Meets statics f code entry choices n ds s
@@ -46,16 +60,24 @@ module _ (code : Code) (statics f : ℕ) (entry : Entry) (choices : List Choice)
       let at = subst (IsAt code entry choices n (table_of statics entry choices) m.m s.known.pc) going m.is_at in
       subst IsDone (ap (run_for code entry choices) none_added ∙ at.ends 0) done
 
-  -- a run to which no path leads on is over
-  over_at : (ds : Told) (m : Regs) (pc : ℕ) (z : Status) → (z ≡ status.Going → n ≤ length ds)
-      → (z ≡ status.Going → length ds < n) → IsAt code entry choices n (table_of statics entry choices) m pc z
+  -- a run to which no path leads on is over, where it comes to no number that isn't followed
+  over_at : (ds : Told) (s : State) (m : Meets statics f code entry choices n ds s) (z : Status)
+      → s.known.status ≡ z → (SeesNumber statics f code entry choices → ⊥) → (z ≡ status.Going → n ≤ length ds)
+      → (z ≡ status.Going → length ds < n)
+      → IsAt code entry choices n (table_of statics entry choices) m.m s.known.pc z
       → IsOver (run_for code entry choices n)
-  over_at ds m pc status.Going enough short at = absurd (let a = enough refl in let b = short refl in omega
+  over_at ds s m status.Going e plain enough short at = absurd (let a = enough refl in let b = short refl in omega
       (arith, a, b))
-  over_at ds m pc (status.Returned p x) enough short at = subst IsOver (sym
+  over_at ds s m (status.Returned p x) e plain enough short at = subst IsOver (sym
       (ap (run_for code entry choices) none_added ∙ at.ends 0)) tt
-  over_at ds m pc (status.Stopped p) enough short at = subst IsOver (sym
+  over_at ds s m (status.Stopped p) e plain enough short at = subst IsOver (sym
       (ap (run_for code entry choices) none_added ∙ at.ends 0)) tt
+  over_at ds s m (status.NumberSeen p) e plain enough short at = absurd (plain
+      (record { steps = n; decisions = ds; s = s; place = p; meets = m; seen = e }))
+
+  -- a state before a number that isn't followed has ended
+  number_ended : (s : State) (p : Pos) → s.known.status ≡ status.NumberSeen p → HasEnded s
+  number_ended s p seen going = seen_going p (sym seen ∙ going)
 
 module _ (codes : Codes) (f : ℕ) (code : Code) (has : HasForm codes f code) where
   abbrev First : State
@@ -75,7 +97,7 @@ module _ (codes : Codes) (f : ℕ) (code : Code) (has : HasForm codes f code) wh
         fits = is.0;
         has = record {
           steps = is.1.0 + 0;
-          done = done_at code codes.statics f w.input w.choices is.1.0 m.m s.known.pc s.known.status over m.is_at;
+          done = done_at code codes.statics f w.input w.choices is.1.0 ds s m s.known.status refl over m.is_at;
           decisions = ds;
           last = s.known;
           asked = m.asked;
@@ -88,37 +110,52 @@ module _ (codes : Codes) (f : ℕ) (code : Code) (has : HasForm codes f code) wh
     -- the trace of a run is a path to an end
     in_list : (ts : List Told) → AreIn code.instrs ts First → (ds : Trace) → IsTrace codes.statics f code ds
         → IsIn ds (map trace_in ts)
-    in_list ts all ds t = by (covers code has t.entry t.choices t.has.steps t.fits)
+    in_list ts all ds t = by t.has.done
       where
-        by : (run_for code t.entry t.choices t.has.steps ≡ run.NeedsChoice)
-            ⊎ ((es : Told) × ((s : State) × Meets codes.statics f code t.entry t.choices t.has.steps es s))
+        -- the run is in this state, which has ended
+        here : (n : ℕ) (es : Told) (s : State) → Meets codes.statics f code t.entry t.choices n es s → HasEnded s
             → IsIn ds (map trace_in ts)
-        by (inl e) = absurd (subst IsDone e t.has.done)
-        by (inr c) =
-            let es = c.0 in
-            let s = c.1.0 in
-            let m = c.1.1 in
-            let over = ended_at code codes.statics f t.entry t.choices t.has.steps es s m t.has.done in
+        here n es s m over =
             let same = one_trace code.instrs (table_of codes.statics t.entry t.choices)
             (known_at codes.statics f code) t.has.decisions es t.has.last s.known t.has.asked m.asked t.has.over
             over in
-            subst (λ l. IsIn l (map trace_in ts)) (sym (t.has.is ∙ ap trace_in same))
-            (in_map trace_in es ts (all es s m.path over))
+            subst (λ l. IsIn l (map trace_in ts)) (sym (t.has.is ∙ ap trace_in same)) (in_map trace_in es ts
+            (all es s m.path over (table_of codes.statics t.entry t.choices) m.lies.fits))
+
+        at_number : SeesNumber codes.statics f code t.entry t.choices → IsIn ds (map trace_in ts)
+        at_number c = here c.steps c.decisions c.s c.meets
+            (number_ended code codes.statics f t.entry t.choices c.steps c.s c.place c.seen)
+
+        at_done : IsDone (run_for code t.entry t.choices t.has.steps)
+            → (run_for code t.entry t.choices t.has.steps ≡ run.NeedsChoice)
+            ⊎ (((es : Told) × ((s : State) × Meets codes.statics f code t.entry t.choices t.has.steps es s))
+            ⊎ SeesNumber codes.statics f code t.entry t.choices) → IsIn ds (map trace_in ts)
+        at_done done (inl e) = absurd (subst IsDone e done)
+        at_done done (inr (inl c)) = here t.has.steps c.0 c.1.0 c.1.1
+            (ended_at code codes.statics f t.entry t.choices t.has.steps c.0 c.1.0 c.1.1 done)
+        at_done done (inr (inr c)) = at_number c
+
+        by : IsDone (run_for code t.entry t.choices t.has.steps) ⊎ SeesNumber codes.statics f code t.entry t.choices
+            → IsIn ds (map trace_in ts)
+        by (inl done) = at_done done (covers code has t.entry t.choices t.has.steps t.fits)
+        by (inr c) = at_number c
 
     all_end : (n : ℕ) → IsShort code.instrs n First → (entry : Entry) (choices : List Choice)
-        → code_fits codes.statics code entry ≡ true → IsOver (run_for code entry choices n)
-    all_end n short entry choices fits = by (covers code has entry choices n fits)
+        → code_fits codes.statics code entry ≡ true → (SeesNumber codes.statics f code entry choices → ⊥)
+        → IsOver (run_for code entry choices n)
+    all_end n short entry choices fits plain = by (covers code has entry choices n fits)
       where
         by : (run_for code entry choices n ≡ run.NeedsChoice)
-            ⊎ ((es : Told) × ((s : State) × Meets codes.statics f code entry choices n es s))
-            → IsOver (run_for code entry choices n)
+            ⊎ (((es : Told) × ((s : State) × Meets codes.statics f code entry choices n es s))
+            ⊎ SeesNumber codes.statics f code entry choices) → IsOver (run_for code entry choices n)
         by (inl e) = subst IsOver (sym e) tt
-        by (inr c) =
+        by (inr (inl c)) =
             let es = c.0 in
             let s = c.1.0 in
             let m = c.1.1 in
-            over_at code codes.statics f entry choices n es m.m s.known.pc s.known.status m.enough
-            (λ g. short es s m.path g) m.is_at
+            over_at code codes.statics f entry choices n es s m s.known.status refl plain m.enough
+            (λ g. short es s m.path g (table_of codes.statics entry choices) m.lies.fits) m.is_at
+        by (inr (inr c)) = absurd (plain c)
 
     pub has_few : (n : ℕ) → n ≤ most_traces → HaveTraces code.instrs (First ∷ []) n → HasFew codes f code
     has_few n le h =

@@ -1,18 +1,25 @@
--- The trees below states: each has the states after it as branches, and those that have ended as leaves. Leaves of two
--- lists together, and of the parts of a list.
+-- The trees below states: each has the states after it as branches, and those that have ended as leaves. Those that no
+-- run is in are left out. Leaves of two lists together, and of the parts of a list.
 use Rattle.std.proofs.Common.{◌≡◌, ℕ, suc, ◌+◌, List, [], ◌∷◌, ◌++◌, subst, arith}
 use Rattle.pungi_code.specs.declared.code.Line.{Line}
 use Rattle.pungi_symbol.specs.declared.states.known.Status.TheVariants as status
+use Rattle.pungi_symbol.specs.declared.answers.decision.Decision.{Decision}
 use Rattle.pungi_symbol.specs.declared.states.state.State.{State}
+use Rattle.pungi_symbol.specs.runs.Paths.{Path, HasNoTable}
 use Rattle.pungi_explore.specs.Traces.{HasEnded, states_after}
 
--- These states have exactly so many leaves.
+-- no run is in a state, nor in one that its paths lead to
+abbrev pub IsGone : List Line → State → Type 0
+IsGone code s = (ds : List Decision) (last : State) → Path code s ds last → HasNoTable last
+
+-- These states have exactly so many leaves, without those that no run is in.
 pub data HaveTraces (code : List Line) : List State → ℕ → Type 0 where
   no_state : HaveTraces code [] 0
   has_ended : (s : State) (ss : List State) (n : ℕ) → HasEnded s → HaveTraces code ss n
       → HaveTraces code (s ∷ ss) (suc n)
   goes_on : (s : State) (ss : List State) (m n : ℕ) → s.known.status ≡ status.Going
       → HaveTraces code (states_after code s) m → HaveTraces code ss n → HaveTraces code (s ∷ ss) (m + n)
+  has_gone : (s : State) (ss : List State) (n : ℕ) → IsGone code s → HaveTraces code ss n → HaveTraces code (s ∷ ss) n
 
 -- They have so many leaves or more, of each of which something holds. Leaves may be left out.
 pub data HaveAtLeast (code : List Line) (P : State → Type 0) : List State → ℕ → Type 0 where
@@ -33,6 +40,7 @@ module _ (code : List Line) where
       (has_ended s (ss ++ ys) (m + n) e (joined ss ys m n t h))
   joined _ ys _ n (goes_on s ss k m g a t) h = subst (HaveTraces code (s ∷ (ss ++ ys))) (omega arith)
       (goes_on s (ss ++ ys) k (m + n) g a (joined ss ys m n t h))
+  joined _ ys _ n (has_gone s ss m g t) h = has_gone s (ss ++ ys) (m + n) g (joined ss ys m n t h)
 
   -- what the parts of a list have
   pub record HaveApart (xs ys : List State) (m : ℕ) : Type 0 where
@@ -63,6 +71,15 @@ module _ (code : List Line) where
         of_right
             = r.of_right;
         sum = omega (arith, r.sum);
+      }
+  parted (x ∷ xs) ys _ (has_gone s ss n g t) =
+      let r = parted xs ys n t in
+      record {
+        left = r.left;
+        right = r.right;
+        of_left = has_gone x xs r.left g r.of_left;
+        of_right = r.of_right;
+        sum = r.sum;
       }
 
 module _ (code : List Line) (P : State → Type 0) where

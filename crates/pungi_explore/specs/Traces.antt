@@ -7,10 +7,9 @@
 --   AreDifferent xs          no two elements of a list are equal
 --   IsDone e                 a run has returned or stopped; one that needs a choice that isn't there hasn't
 --   IsTraceOf statics f code entry choices ds    the trace of the run of a code from an entry, with these choices, to
---                                                its
---                            end
---   IsTrace statics f code ds    the trace of some run of a code to its end
---   HasEnded s               a symbolic state has returned or stopped
+--                                                its end, or to the first number that isn't followed
+--   IsTrace statics f code ds    the trace of some run of a code
+--   HasEnded s               a symbolic state has returned or stopped, or is before a number that isn't followed
 --   states_after code s      the states after the answers that its next question still has
 use Rattle.std.specs.Prelude.{◌≡◌, ℕ, ◌⊎◌, true, List, [], ◌∷◌, map}
 use Rattle.pungi_base.specs.declared.choice.Choice.{Choice}
@@ -25,7 +24,7 @@ use Rattle.pungi_symbol.specs.declared.states.known.Known.{Known}
 use Rattle.pungi_symbol.specs.declared.states.known.Status.TheVariants as status
 use Rattle.pungi_symbol.specs.declared.states.state.State.{State}
 use Rattle.pungi_symbol.specs.answers.SymbolicState.{successors}
-use Rattle.pungi_symbol.specs.runs.Paths.{table_of, known_at, Asked, run_for}
+use Rattle.pungi_symbol.specs.runs.Paths.{table_of, known_at, Asked, run_for, SeesNumber}
 
 abbrev pub Trace : Type 0
 Trace = List Decision
@@ -58,7 +57,7 @@ IsDone run.OutOfFuel = ⊥
 
 pub record IsTraceOf (statics f : ℕ) (code : Code) (entry : Entry) (choices : List Choice) (ds : Trace) : Type 0 where
   pub steps : ℕ
-  pub done : IsDone (run_for code entry choices steps)
+  pub done : IsDone (run_for code entry choices steps) ⊎ SeesNumber statics f code entry choices
   pub decisions : List Decision
   pub last : Known
   pub asked : Asked code.instrs (table_of statics entry choices) (known_at statics f code) decisions last

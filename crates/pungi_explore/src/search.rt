@@ -3,12 +3,13 @@ ghost use Rattle.std.specs.Prelude.{◌≡◌, map, IfOk};
 ghost use Rattle.pungi_code.specs.Run.{code_at};
 ghost use Rattle.pungi_symbol.specs.runs.Paths.{start_states};
 ghost use Rattle.pungi_symbol.specs.Promises.{Covers};
-ghost use Rattle.pungi_explore.specs.Explored.{IsExplored, FindsFault};
+ghost use Rattle.pungi_explore.specs.Explored.{is_earlier, IsExplored, FindsFault};
+ghost use Rattle.pungi_explore.specs.Visits.{earliest, shown};
 
 use crate::explored::Explored;
 use crate::visit::{put_states, visit};
 use crate::visited::Visited;
-use pungi_base::{Memory, Seq};
+use pungi_base::{Memory, Pos, Seq};
 use pungi_code::Codes;
 use pungi_symbol::{Sym, start};
 use std::alloc::Global;
@@ -27,6 +28,32 @@ fn first(alloc: Global, codes: &Codes, f: usize) -> Result<Seq<Sym>, Memory>
     Ok(pending)
 }
 
+fn is_earlier(p: Pos, q: Pos) -> bool
+    ensures { result ≡ is_earlier p q }
+{
+    p.line < q.line || (p.line == q.line && p.col < q.col)
+}
+
+/// The earlier one of a place that was seen, and this one.
+fn earliest(seen: Option<Pos>, pos: Pos) -> Pos
+    ensures { result ≡ earliest seen pos }
+{
+    match seen {
+        None => pos,
+        Some(first) => { if is_earlier(pos, first) { pos } else { first } }
+    }
+}
+
+/// What is found where no state is pending.
+fn shown(seen: Option<Pos>) -> Explored
+    ensures { result ≡ shown seen }
+{
+    match seen {
+        None => Explored::AllBalanced,
+        Some(pos) => Explored::NumberSeen(pos),
+    }
+}
+
 /// What all states show. The states whose paths are still to be walked are pending, and the last of them is walked
 /// first.
 fn search(alloc: Global, codes: &Codes, f: usize) -> Result<Explored, Memory>
@@ -34,17 +61,26 @@ fn search(alloc: Global, codes: &Codes, f: usize) -> Result<Explored, Memory>
 {
     let mut pending = first(alloc, codes, f)?;
     let mut ended = 0;
+    let mut seen = None;
     'states: for _ in 0..u64::MAX {
         let Some(state) = pending.pop() else {
-            return Ok(Explored::AllBalanced);
+            return Ok(shown(seen));
         };
         match visit(alloc, codes, state, &mut pending)? {
             Visited::Goes => {}
+            Visited::Gone => {}
             Visited::Ends => {
                 if ended == MOST_TRACES {
                     return Ok(Explored::TooMany);
                 }
                 ended += 1;
+            }
+            Visited::Sees(pos) => {
+                if ended == MOST_TRACES {
+                    return Ok(Explored::TooMany);
+                }
+                ended += 1;
+                seen = Some(earliest(seen, pos));
             }
             Visited::Unbalanced(witness) => return Ok(Explored::Fault(witness)),
         }
@@ -52,10 +88,11 @@ fn search(alloc: Global, codes: &Codes, f: usize) -> Result<Explored, Memory>
     Err(Memory)
 }
 
-/// What the runs of a function show whose code has the object form: that each run that returns is balanced, or one that
-/// isn't (Li and Tan, ECOOP 2014, for when a return is balanced). A run that isn't balanced is found wherever there is
-/// one, if the function has at most 16,384 traces. `TooMany` comes only where it has more. Of a function whose code
-/// hasn't the form, no result says anything.
+/// What the runs of a function show whose code has the judged form: that each run that returns is balanced, or one that
+/// isn't (Li and Tan, ECOOP 2014, for when a return is balanced). A run that isn't balanced and comes to no number that
+/// isn't followed is found wherever there is one, if the function has at most 16,384 traces. `TooMany` comes only where
+/// it has more, and `NumberSeen` only where some run comes to such a number, first at that place. Of a function whose
+/// code hasn't the form, no result says anything.
 ///
 /// `Memory` is want of memory. A walk of 2^64 - 1 states is reported as it, too, and so are a balance that leaves 64
 /// bits and a state that has ended with 2^31 tokens or more, since no entry has so many objects.

@@ -1,10 +1,11 @@
 // One state, with what it adds to the pending states.
-ghost use Rattle.std.specs.Prelude.{◌≡◌, ◌++◌, map, IfOk, OnOk};
+ghost use Rattle.std.specs.Prelude.{◌≡◌, ◌++◌, ◌∷◌, [], ◌⊎◌, map, false, IfOk, OnOk};
+ghost use Rattle.pungi_symbol.specs.declared.states.known.Status.TheVariants.{NumberSeen};
 ghost use Rattle.pungi_symbol.specs.Promises.{next_states, HasRun};
-ghost use Rattle.pungi_explore.specs.Visits.{IsRunAt, IsEnd, Visits};
+ghost use Rattle.pungi_explore.specs.Visits.{IsEnd, IsAtNumber, LeadsNowhere, Puts, Visits};
 
 use crate::visited::Visited;
-use pungi_base::{Memory, Seq, Witness};
+use pungi_base::{Memory, Pos, Seq};
 use pungi_code::Codes;
 use pungi_symbol::{Decision, Sym, SymEnd, end, has_run, is_balanced, solve, step_from};
 use std::alloc::Global;
@@ -19,42 +20,94 @@ pub fn put_states(states: Vec<(Decision, Sym)>, pending: &mut Seq<Sym>) -> Resul
     Ok(())
 }
 
-fn put_next(alloc: Global, codes: &Codes, state: Sym, pending: &mut Seq<Sym>) -> Result<(), Memory>
-    ensures { OnOk result (pending.new ≡ pending.old ++ map (λ p. p.1) (next_states codes.now state)) }
+/// Whether a run may be in a state, or in one that it leads to. It is looked into where there were several answers and
+/// this one may be of numbers.
+fn may_run(alloc: Global, several: bool, decision: Decision, state: &Sym) -> Result<bool, Memory>
+    ensures { IfOk result (λ b. b ≡ false → LeadsNowhere state.now) }
 {
-    let next = step_from(alloc, codes, state)?;
-    put_states(next, pending)?;
+    if !several {
+        return Ok(true);
+    }
+    match decision {
+        Decision::Order(_) | Decision::Outcome(_) => has_run(alloc, state),
+        Decision::Quiet | Decision::Same(_) => Ok(true),
+    }
+}
+
+/// Adds a state, unless no run is in it.
+fn put_possible(
+    alloc: Global,
+    several: bool,
+    decision: Decision,
+    state: Sym,
+    pending: &mut Seq<Sym>,
+) -> Result<(), Memory>
+    ensures { OnOk result ((pending.new ≡ pending.old ++ state ∷ [])
+        ⊎ (LeadsNowhere state × (pending.new ≡ pending.old))) }
+{
+    if may_run(alloc, several, decision, &state)? {
+        pending.push(state)?;
+    }
     Ok(())
 }
 
-/// The run of a state.
-fn run_at(alloc: Global, codes: &Codes, state: &Sym) -> Result<Witness, Memory>
-    ensures { IfOk result (IsRunAt codes.now state.now) }
+/// Adds these states, without some that no run is in.
+fn put_all_possible(
+    alloc: Global,
+    states: Vec<(Decision, Sym)>,
+    pending: &mut Seq<Sym>,
+) -> Result<(), Memory>
+    ensures { OnOk result (Puts (map (λ p. p.1) states.items) pending.old pending.new) }
 {
-    let solved = solve(alloc, codes, state)?;
-    Ok(solved.unwrap())
-}
-
-/// A state has a run.
-fn run_there(codes: &Codes, state: &Sym) -> Result<(), Memory>
-    ensures { OnOk result (HasRun codes.now state.now) }
-{
-    if has_run(state) {
-        return Ok(());
+    let several = states.len() > 1;
+    for (decision, state) in states {
+        put_possible(alloc, several, decision, state, pending)?;
     }
-    Err(Memory)
+    Ok(())
 }
 
-/// What is seen at a state that has ended.
-fn at_end(alloc: Global, codes: &Codes, state: &Sym) -> Result<Visited, Memory>
+fn put_next(alloc: Global, codes: &Codes, state: Sym, pending: &mut Seq<Sym>) -> Result<(), Memory>
+    ensures { OnOk result (Puts (map (λ p. p.1) (next_states codes.now state)) pending.old pending.new) }
+{
+    let next = step_from(alloc, codes, state)?;
+    put_all_possible(alloc, next, pending)?;
+    Ok(())
+}
+
+/// What is seen at a state that has returned or stopped and has a run.
+fn at_run(alloc: Global, codes: &Codes, state: &Sym) -> Result<Visited, Memory>
+    requires { HasRun codes.now state.now }
     ensures { IfOk result (IsEnd codes.now state.now) }
 {
-    run_there(codes, state)?;
     if is_balanced(state) {
         return Ok(Visited::Ends);
     }
-    let witness = run_at(alloc, codes, state)?;
-    Ok(Visited::Unbalanced(witness))
+    match solve(alloc, codes, state)? {
+        Some(witness) => Ok(Visited::Unbalanced(witness)),
+        None => Ok(Visited::Gone),
+    }
+}
+
+/// What is seen at a state that has returned or stopped.
+fn at_end(alloc: Global, codes: &Codes, state: &Sym) -> Result<Visited, Memory>
+    ensures { IfOk result (IsEnd codes.now state.now) }
+{
+    if has_run(alloc, state)? {
+        return at_run(alloc, codes, state);
+    }
+    Ok(Visited::Gone)
+}
+
+/// What is seen at a state that is before a number at this place.
+fn at_number(alloc: Global, codes: &Codes, state: &Sym, pos: Pos) -> Result<Visited, Memory>
+    requires { state.now.known.status ≡ NumberSeen pos }
+    ensures { IfOk result (IsAtNumber codes.now state.now) }
+{
+    let there = has_run(alloc, state)?;
+    if there {
+        return Ok(Visited::Sees(pos));
+    }
+    Ok(Visited::Gone)
 }
 
 /// What is seen at a state. Where it goes on, its next states are added to the pending ones.
@@ -76,8 +129,12 @@ pub fn visit(
             Ok(seen)
         }
         SymEnd::Stopped(_) => {
-            run_there(codes, &state)?;
-            Ok(Visited::Ends)
+            let seen = at_end(alloc, codes, &state)?;
+            Ok(seen)
+        }
+        SymEnd::NumberSeen(pos) => {
+            let seen = at_number(alloc, codes, &state, pos)?;
+            Ok(seen)
         }
     }
 }

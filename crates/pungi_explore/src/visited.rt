@@ -1,4 +1,4 @@
-use pungi_base::Witness;
+use pungi_base::{Pos, Witness};
 
 /// What is seen at one state.
 #[derive(Drop)]
@@ -7,6 +7,10 @@ pub enum Visited {
     Goes,
     /// It ends one trace. Where it returned it is balanced.
     Ends,
+    /// It ends one trace at a number that isn't followed, at this place.
+    Sees(Pos),
+    /// It has ended, and no run is in it.
+    Gone,
     /// It returned, and this run of it is unbalanced.
     Unbalanced(Witness),
 }

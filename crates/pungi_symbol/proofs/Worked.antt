@@ -8,22 +8,26 @@ use Rattle.pungi_api.specs.declared.param.Param.TheVariants as param
 use Rattle.pungi_api.specs.declared.call_answer.CallAnswer.TheVariants.{Of, Argument}
 use Rattle.pungi_api.specs.declared.own_effect.OwnEffect.TheVariants.{IncRef}
 use Rattle.pungi_api.specs.declared.take.Take.TheVariants as take
+use Rattle.std.specs.declared.cmp.Ordering.TheVariants.{Less, Equal, Greater}
+use Rattle.pungi_types.specs.declared.kind.ValueKind.TheVariants as kinds
 use Rattle.pungi_meaning.specs.declared.cmp.Cmp.TheVariants as cmps
+use Rattle.pungi_meaning.specs.declared.op.Op.TheVariants as ops
 use Rattle.pungi_code.specs.declared.atom.Atom.{Atom}
 use Rattle.pungi_code.specs.declared.atom.Atom.TheVariants as atom
 use Rattle.pungi_code.specs.declared.atom.Var.{Var}
 use Rattle.pungi_code.specs.declared.code.Code.{Code}
 use Rattle.pungi_code.specs.declared.code.Line.{Line}
 use Rattle.pungi_code.specs.declared.instr.Instr.{Instr}
-use Rattle.pungi_code.specs.declared.instr.Instr.TheVariants.{Compare, Store, Api, Return}
+use Rattle.pungi_code.specs.declared.instr.Instr.TheVariants.{Arith, Compare, Store, Api, Return}
 use Rattle.pungi_code.specs.declared.place.Place.TheVariants as places
 use Rattle.pungi_symbol.specs.declared.answers.decision.Decision.{Decision}
-use Rattle.pungi_symbol.specs.declared.answers.decision.Decision.TheVariants.{Quiet, Outcome, Same as IsSame}
+use Rattle.pungi_symbol.specs.declared.answers.decision.Decision.TheVariants.{Quiet, Outcome, Order, Same as IsSame}
 use Rattle.pungi_symbol.specs.declared.states.mark.Mark.TheVariants as marks
 use Rattle.pungi_symbol.specs.declared.questions.question.Question.TheVariants.{Null as AsksNull, Overwrites, Answers}
-use Rattle.pungi_symbol.specs.declared.questions.question.Question.TheVariants.{Does, Same, Returns}
+use Rattle.pungi_symbol.specs.declared.questions.question.Question.TheVariants.{Does, Same, Orders, Range, Returns}
+use Rattle.pungi_symbol.specs.declared.states.known.Status.TheVariants as status
 use Rattle.pungi_symbol.specs.declared.states.state.State.{State}
-use Rattle.pungi_symbol.specs.declared.states.term.Term.TheVariants.{Token, Unset}
+use Rattle.pungi_symbol.specs.declared.states.term.Term.TheVariants.{Token, Sum, Unset}
 use Rattle.pungi_symbol.specs.questions.NextQuestion.{ask}
 use Rattle.pungi_symbol.specs.answers.SymbolicState.{apply, successors}
 use Rattle.pungi_symbol.specs.runs.Paths.{start_state, wanted}
@@ -165,3 +169,48 @@ counts_what_was_there = refl
 
 null_owes_nothing : (Next Puts.instrs (Outcome 0) Put2).balances ≡ pos 0 ∷ negsuc 0 ∷ pos 0 ∷ []
 null_owes_nothing = refl
+
+-- two integer arguments are compared: three answers, and each says how far they are apart
+abbrev Integers : List Param
+Integers = param.Int ∷ param.Int ∷ param.Int ∷ []
+
+abbrev Less' : Code
+Less' = One (Compare (At 2) cmps.Less (Var' 0) (Var' 1)) Integers
+
+abbrev N0 : State
+N0 = start_state 0 0 Less'
+
+how_they_compare : ask Less'.instrs N0.known ≡ Orders (record { node = 1; plus = pos 0 })
+    (record { node = 2; plus = pos 0 })
+how_they_compare = refl
+
+three_orders : Answers' Less'.instrs N0 ≡ Order Less ∷ Order Equal ∷ Order Greater ∷ []
+three_orders = refl
+
+less_by_one : (Next Less'.instrs (Order Less) N0).limits ≡ (record { x = 1; y = 2; c = negsuc 0 }) ∷ []
+less_by_one = refl
+
+equal_both_ways : (Next Less'.instrs (Order Equal) N0).limits
+    ≡ (record { x = 1; y = 2; c = pos 0 }) ∷ (record { x = 2; y = 1; c = pos 0 }) ∷ []
+equal_both_ways = refl
+
+-- a number and a constant: below the range, within it or above it
+abbrev Adds : Code
+Adds = One (Arith (At 2) kinds.Int ops.Add (Var' 0) (atom.Int (pos 1))) Integers
+
+where_it_lies : ask Adds.instrs (start_state 0 0 Adds).known ≡ Range kinds.Int (record { node = 1; plus = pos 1 })
+where_it_lies = refl
+
+sum_within : (Next Adds.instrs (Outcome 1) (start_state 0 0 Adds)).known.vars
+    ≡ Token 0 ∷ Token 1 ∷ Sum (record { node = 1; plus = pos 1 }) ∷ []
+sum_within = refl
+
+too_great_stops : (Next Adds.instrs (Outcome 2) (start_state 0 0 Adds)).known.status ≡ status.Stopped Here
+too_great_stops = refl
+
+-- a product isn't followed
+abbrev Times : Code
+Times = One (Arith (At 2) kinds.Int ops.Mul (Var' 0) (Var' 1)) Integers
+
+not_followed : (Next Times.instrs Quiet (start_state 0 0 Times)).known.status ≡ status.NumberSeen Here
+not_followed = refl

@@ -3,6 +3,7 @@ pub mod EachAnswer
 pub mod LaterMarks
 pub mod TakenOver
 pub mod Fits
+pub mod LimitsMet
 pub mod NextStates
 pub mod Reached
 pub mod SoundNotes

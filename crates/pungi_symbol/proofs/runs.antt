@@ -5,3 +5,4 @@ pub mod Starts
 pub mod Paths
 pub mod RunsOfPaths
 pub mod Returns
+pub mod Models

@@ -3,12 +3,14 @@ pub mod OneInstruction
 pub mod Worlds
 pub mod ChoicesForAnswers
 pub mod RunInState
+pub mod Numbers
 pub mod PlainInstructions
 pub mod Comparisons
 pub mod SlotSearch
 pub mod Loads
 pub mod Stores
 pub mod Rows
+pub mod AnswersOfChoices
 pub mod CallAnswers
 pub mod Calls
 pub mod StepForward

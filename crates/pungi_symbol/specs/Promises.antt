@@ -1,19 +1,21 @@
--- What the public calls promise, where a code has the object form.
+-- What the public calls promise, where a code has the judged form.
 --   code_of codes f        the code of a function
 --   lines_in, lines_of     its instructions, none where there is no code
 --   next_states            the states after the next answer
---   HasForm codes f code   this is the code of a function, and it has the object form
+--   HasForm codes f code   this is the code of a function, and it has the judged form
 --   Covers                 each run of a function is on a path from its first state, with the trace of the path
 --   IsReached              a state is on a path from the first state of its function
 --   IsRunOf                a witness is a run to a state, with the trace of each path to it
 --   HasRun                 a state has a run
---   IsOwn                  its tokens have the values by which all tokens differ that weren't merged
+--   HasNoRun               no values of the tokens fit a state, nor one that its paths lead to
+--   IsOwn                  its tokens have the values by which all tokens differ that weren't merged, and numbers that
+--                          meet what the state notes of them
 --   HasEachChoice          it has a choice for each token that came with a choice, and no more
 --   LevelBy, OffBy         the balances of a state that returned are all level; the one of a token isn't
 --   HasReturned            a state has returned
 --   AllLevel               each run to a state that returned is balanced
 --   IsUneven, OwnUneven    an object whose change isn't what escaped; the state's own run has one
-use Rattle.std.specs.Prelude.{◌≡◌, ℕ, ◌+◌, ◌<◌, true, List, [], length, Option, Some, None}
+use Rattle.std.specs.Prelude.{◌≡◌, ℕ, ◌+◌, ◌<◌, ℤ, true, List, [], length, Option, Some, None}
 use Rattle.pungi_base.specs.declared.choice.Choice.{Choice}
 use Rattle.pungi_base.specs.declared.entry.Entry.{Entry}
 use Rattle.pungi_base.specs.declared.pos.Pos.{Pos}
@@ -31,9 +33,10 @@ use Rattle.pungi_symbol.specs.declared.states.state.State.{State}
 use Rattle.pungi_symbol.specs.declared.states.term.Term.{Term}
 use Rattle.pungi_symbol.specs.states.Known.{count}
 use Rattle.pungi_symbol.specs.answers.SymbolicState.{balance_at, successors}
-use Rattle.pungi_symbol.specs.runs.ObjectForm.{has_object_form}
-use Rattle.pungi_symbol.specs.runs.Paths.{argument_count, start_state, Path, Meets, IsCovered, canon, table_of}
-use Rattle.pungi_symbol.specs.runs.Paths.{returned_value, wanted, IsLevelState}
+use Rattle.pungi_symbol.specs.runs.JudgedForm.{has_judged_form}
+use Rattle.pungi_symbol.specs.runs.Paths.{argument_count, start_state, Path, Meets, IsCovered, IsModel, HasNoTable}
+use Rattle.pungi_symbol.specs.runs.Paths.{canon}
+use Rattle.pungi_symbol.specs.runs.Paths.{table_of, returned_value, wanted, IsLevelState}
 
 abbrev pub lines_in : Option Code → List Line
 lines_in None = []
@@ -47,7 +50,7 @@ next_states codes s = successors (lines_of codes s.known.function) s
 
 pub record HasForm (codes : Codes) (f : ℕ) (code : Code) : Type 0 where
   pub is : code_at codes f ≡ Some code
-  pub form : has_object_form codes.statics code ≡ true
+  pub form : has_judged_form codes.statics code ≡ true
 
 abbrev pub Covers : Codes → ℕ → Type 0
 Covers codes f = (code : Code) → HasForm codes f code → IsCovered codes.statics f code
@@ -64,10 +67,15 @@ IsRunOf codes s w = (code : Code) (ds : List Decision) → IsReached codes s ds 
 abbrev pub HasRun : Codes → State → Type 0
 HasRun codes s = (w : Witness) × IsRunOf codes s w
 
+abbrev pub HasNoRun : Codes → State → Type 0
+HasNoRun codes s =
+    (code : Code) (ds es : List Decision) (last : State) → IsReached codes s ds code → Path code.instrs s es last
+    → HasNoTable last
+
 abbrev pub IsOwn : Codes → State → Witness → Type 0
 IsOwn codes s w =
     (code : Code) (ds : List Decision) → IsReached codes s ds code
-    → table_of codes.statics w.input w.choices ≡ canon s
+    → (ns : List ℤ) × (IsModel s ns × (table_of codes.statics w.input w.choices ≡ canon s ns))
 
 abbrev pub HasEachChoice : Codes → State → Witness → Type 0
 HasEachChoice codes s w =
@@ -78,11 +86,13 @@ abbrev pub LevelBy : State → Status → Type 0
 LevelBy s status.Going = Unit {0}
 LevelBy s (status.Returned p x) = IsLevelState s x
 LevelBy s (status.Stopped p) = Unit {0}
+LevelBy s (status.NumberSeen p) = Unit {0}
 
 abbrev pub OffBy : State → Status → ℕ → Type 0
 OffBy s status.Going t = ⊥
 OffBy s (status.Returned p x) t = (t < count s.known) × (balance_at s.balances t ≡ wanted s x t → ⊥)
 OffBy s (status.Stopped p) t = ⊥
+OffBy s (status.NumberSeen p) t = ⊥
 
 abbrev pub HasReturned : State → Type 0
 HasReturned s = (p : Pos) × ((x : Option Term) × (s.known.status ≡ status.Returned p x))
@@ -105,7 +115,7 @@ pub record IsUneven (codes : Codes) (s : State) (code : Code) (entry : Entry) (c
 abbrev pub OwnUneven : Codes → State → Type 0
 OwnUneven codes s =
     (code : Code) (entry : Entry) (choices : List Choice) (n : ℕ) (ds : List Decision) (p : Pos) (x : Option Term)
-    → HasForm codes s.known.function code → s.known.status ≡ status.Returned p x
-    → table_of codes.statics entry choices ≡ canon s
+    (ns : List ℤ) → HasForm codes s.known.function code → s.known.status ≡ status.Returned p x → IsModel s ns
+    → table_of codes.statics entry choices ≡ canon s ns
     → (r : Meets codes.statics s.known.function code entry choices n ds s)
     → IsUneven codes s code entry choices n ds x r

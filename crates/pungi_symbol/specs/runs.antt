@@ -2,5 +2,6 @@
 pub mod Fits
 pub mod OneInstruction
 pub mod RunInState
-pub mod ObjectForm
+pub mod JudgedForm
 pub mod Paths
+pub mod Numbers

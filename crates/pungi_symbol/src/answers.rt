@@ -4,6 +4,7 @@ pub(crate) mod answers_left;
 pub(crate) mod balance_changes;
 pub(crate) mod decision;
 pub(crate) mod known_after;
+pub(crate) mod limits;
 pub(crate) mod outcomes;
 pub(crate) mod perform;
 pub(crate) mod successors;

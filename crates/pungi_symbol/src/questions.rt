@@ -3,6 +3,7 @@
 pub(crate) mod call_questions;
 pub(crate) mod found_slot;
 pub(crate) mod next_question;
+pub(crate) mod number_questions;
 pub(crate) mod question;
 pub(crate) mod slot_search;
 pub(crate) mod term_questions;

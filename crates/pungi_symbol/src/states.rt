@@ -1,11 +1,14 @@
-//! What a symbolic state is: terms, marks, slots and balances.
+//! What a symbolic state is: terms, marks, slots, balances and bounds of numbers.
 
 pub(crate) mod balances;
 pub(crate) mod code_lines;
+pub(crate) mod integer_range;
 pub(crate) mod known;
+pub(crate) mod limit;
 pub(crate) mod mark;
 pub(crate) mod spot;
 pub(crate) mod state;
+pub(crate) mod sum;
 pub(crate) mod sym;
 pub(crate) mod sym_end;
 pub(crate) mod term;

@@ -7,12 +7,14 @@ use pungi_explore::{Explored, explore};
 use std::alloc::Global;
 use std::test::Fail;
 
-/// What is found: nothing, a fault, or one whose run has an argument of its own as its object and a call that fails.
+/// What is found: nothing, a fault, one whose run has an argument of its own as its object and a call that fails, or a
+/// number that isn't followed, in this column.
 #[derive(Clone, Copy, Debug, PartialEq, Eq)]
 enum Kind {
     AllBalanced,
     Leak,
     Fault,
+    Number(u32),
     TooMany,
 }
 
@@ -33,6 +35,7 @@ fn kind_of(explored: &Explored) -> Kind {
                 Kind::Fault
             }
         }
+        Explored::NumberSeen(pos) => Kind::Number(pos.col),
         Explored::TooMany => Kind::TooMany,
     }
 }
@@ -56,6 +59,18 @@ const FOUND: &[(&str, Kind)] = &[
     (
         "PyObject *f(PyObject *x) { PyObject *y = PyDict_New(); if (y == NULL) { Py_XINCREF(x); return NULL; } return y; }",
         Kind::Leak,
+    ),
+    (
+        "int f(PyObject *x, int n) { if (n < 0) return n * n; return n / 3; }",
+        Kind::Number(49),
+    ),
+    (
+        "int f(PyObject *x, int n) { if (n < 0) { if (n > 0) return n * n; } return n; }",
+        Kind::AllBalanced,
+    ),
+    (
+        "void f(PyObject *x, int n) { if (n < 0) { n = n * n; } else { Py_XINCREF(x); } }",
+        Kind::Fault,
     ),
 ];
 

@@ -28,7 +28,7 @@ fn with_end(shown: Shown, state: &Sym) -> Shown {
         stopped,
     } = shown;
     match end(state) {
-        SymEnd::Going => shown,
+        SymEnd::Going | SymEnd::NumberSeen(_) => shown,
         SymEnd::Stopped(_) => Shown {
             even,
             uneven,

@@ -10,6 +10,8 @@ use Rattle.pungi_base.specs.declared.names.Name.{Name}
 use Rattle.pungi_base.specs.declared.pos.Pos.{Pos}
 use Rattle.pungi_base.specs.declared.verdict.Verdict.{Verdict}
 use Rattle.pungi_base.specs.declared.verdict.Verdict.TheVariants as verdict
+use Rattle.pungi_base.specs.declared.why.Why.{Why}
+use Rattle.pungi_base.specs.declared.why.Why.TheVariants as why
 use Rattle.pungi_check.specs.Found.{checked_view, is_sound_function, IsChecked}
 use Rattle.pungi_check.specs.declared.checked.Checked.{Checked}
 use Rattle.pungi_types.specs.declared.finding.Finding.{Finding}
@@ -29,10 +31,10 @@ use Rattle.pungi_code.specs.Run.{code_at, flatten}
 use Rattle.pungi_code.specs.WellFormed.{AreWellFormed}
 use Rattle.pungi_layout.specs.code.Codes.{code_for}
 use Rattle.pungi_lower.specs.Lowered.{codes_of, names_of, IsLowered, AreLowered}
-use Rattle.pungi_explore.specs.Explored.{IsFew, IsMany}
+use Rattle.pungi_explore.specs.Explored.{IsFew, IsPlain, IsMany, IsFirst}
 use Rattle.pungi_verdict.specs.Replays.{IsGiven}
-use Rattle.pungi_verdict.specs.Causes.{file_codes, object_code, HasFewTraces, HasManyTraces, IsDecided, IsCausedBy}
-use Rattle.pungi_verdict.specs.Causes.{IsCausedIn}
+use Rattle.pungi_verdict.specs.Causes.{file_codes, judged_code, HasFewTraces, HasManyTraces, IsDecided, IsCausedBy}
+use Rattle.pungi_verdict.specs.Causes.{HasFirstNumber, IsUnknown, IsCausedIn}
 use Rattle.pungi_verdict.specs.Refusals.{IsRefusedAt}
 use Rattle.pungi_verdict.specs.Sound.{statics_of, IsTrueOf}
 use Rattle.pungi_verdict.specs.Verdicts.{IsJudged}
@@ -150,7 +152,7 @@ joined-is (Some o) code e = ap (λ (x : Option Code). Some x) e
 pub given : (c : CheckedFile) (codes : Codes) (i : ℕ) (d : Definition) (f : ResolvedFunction)
     → AreLowered c codes.codes → AreWellFormed codes → slice_get (definitions c.file.items) i ≡ Some d
     → f ≡ resolved c.file c.refused d → is_sound_action f.body ≡ true → codes.statics ≤ 2 ^ 30 + 24
-    → (code : Code) → object_code codes.statics (code_at codes i) ≡ Some code → IsGiven codes.statics f code
+    → (code : Code) → judged_code codes.statics (code_at codes i) ≡ Some code → IsGiven codes.statics f code
 given c codes i d f lowered formed at is words few code e =
     let h = object-is codes.statics (code_at codes i) code e in
     let there : slice_get codes.codes i ≡ Some (Some code) = joined-is (slice_get codes.codes i) code h.0 in
@@ -166,30 +168,41 @@ given c codes i d f lowered formed at is words few code e =
 
 -- ---- verdicts
 
-decided-more : (few less many more : Type 0) (v : Verdict) → (few → less) → (many → more) → IsDecided few many v
-    → IsDecided less more v
-decided-more few less many more verdict.Clean g k h = g h
-decided-more few less many more (verdict.Faulty fault) g k h = tt
-decided-more few less many more (verdict.Unknown because) g k h = (h.0, k h.1)
-decided-more few less many more (verdict.Refused at rule) g k h = h
+-- what makes up a verdict may be said in other words
+module _ (few less many more : Type 0) (first one : Pos → Type 0) (g : few → less) (k : many → more)
+    (l : (p : Pos) → first p → one p) where
+  unknown-more : (because : Why) → IsUnknown many first because → IsUnknown more one because
+  unknown-more why.Traces h = k h
+  unknown-more why.Shapes h = h
+  unknown-more (why.Range at vector) h = h
+  unknown-more (why.Number at) h = l at h
+  unknown-more (why.Loop at) h = h
+  unknown-more (why.Call at n) h = h
 
-caused-more : (few less many more : Type 0) (o : Option Code) (v : Verdict) → (few → less) → (many → more)
-    → IsCausedBy few many o v → IsCausedBy less more o v
-caused-more few less many more None v g k h = h
-caused-more few less many more (Some code) v g k h = decided-more few less many more v g k h
+  decided-more : (v : Verdict) → IsDecided few many first v → IsDecided less more one v
+  decided-more verdict.Clean h = g h
+  decided-more (verdict.Faulty fault) h = tt
+  decided-more (verdict.Unknown because) h = unknown-more because h
+  decided-more (verdict.Refused at rule) h = h
+
+  caused-more : (o : Option Code) (v : Verdict) → IsCausedBy few many first o v → IsCausedBy less more one o v
+  caused-more None v h = h
+  caused-more (Some code) v h = decided-more v h
 
 -- what is decided is not refused
-pub decided-stands : (few many : Type 0) (name : Pos) (v : Verdict) → IsDecided few many v → IsRefusedAt name None v
-decided-stands few many name verdict.Clean h = tt
-decided-stands few many name (verdict.Faulty fault) h = tt
-decided-stands few many name (verdict.Unknown because) h = tt
-decided-stands few many name (verdict.Refused at rule) h = absurd h
+pub decided-stands : (few many : Type 0) (first : Pos → Type 0) (name : Pos) (v : Verdict)
+    → IsDecided few many first v → IsRefusedAt name None v
+decided-stands few many first name verdict.Clean h = tt
+decided-stands few many first name (verdict.Faulty fault) h = tt
+decided-stands few many first name (verdict.Unknown because) h = tt
+decided-stands few many first name (verdict.Refused at rule) h = absurd h
 
 pub judged-verdict : (c : CheckedFile) (codes : Codes) (i : ℕ) (d : Definition) (f : ResolvedFunction) (v : Verdict)
     → codes ≡ file_codes c → slice_get (definitions c.file.items) i ≡ Some d
     → refusal c.file c.refused d ≡ None → f ≡ resolved c.file c.refused d → IsTrueOf codes.statics f v
     → IsRefusedAt f.pos None v
-    → IsCausedBy (IsFew codes i) (IsMany codes i) (object_code codes.statics (code_at codes i)) v
+    → IsCausedBy (IsFew codes i × IsPlain codes i) (IsMany codes i) (IsFirst codes i) (judged_code codes.statics
+    (code_at codes i)) v
     → IsJudged c d (d.name, v)
 judged-verdict c codes i d f v same at none is true_of refused caused =
     let g = resolved c.file c.refused d in
@@ -197,18 +210,25 @@ judged-verdict c codes i d f v same at none is true_of refused caused =
     let in_file : IsTrueOf n f v = subst (λ (cs : Codes). IsTrueOf cs.statics f v) same true_of in
     let sound : IsTrueOf n g v = subst (λ (x : ResolvedFunction). IsTrueOf n x v) is in_file in
     let at_name : IsRefusedAt d.pos None v = subst (λ (x : ResolvedFunction). IsRefusedAt x.pos None v) is refused in
-    let by_codes : IsCausedBy (IsFew (file_codes c) i) (IsMany (file_codes c) i)
-    (object_code n (code_at (file_codes c) i)) v =
-    subst (λ (cs : Codes). IsCausedBy (IsFew cs i) (IsMany cs i) (object_code cs.statics (code_at cs i)) v) same
-    caused in
+    let by_codes : IsCausedBy (IsFew (file_codes c) i × IsPlain (file_codes c) i) (IsMany (file_codes c) i) (IsFirst
+    (file_codes c) i)
+    (judged_code n (code_at (file_codes c) i)) v =
+    subst (λ (cs : Codes). IsCausedBy (IsFew cs i × IsPlain cs i) (IsMany cs i) (IsFirst cs i) (judged_code cs.statics
+    (code_at cs i))
+    v) same caused in
     let its_code : code_at (file_codes c) i ≡ code_for (Some g) = ap flatten (code-here c i d at none) in
-    let by_code : IsCausedBy (IsFew (file_codes c) i) (IsMany (file_codes c) i) (object_code n (code_for (Some g))) v =
-    subst (λ (o : Option Code). IsCausedBy (IsFew (file_codes c) i) (IsMany (file_codes c) i) (object_code n o) v)
-    its_code by_codes in
+    let by_code : IsCausedBy (IsFew (file_codes c) i × IsPlain (file_codes c) i) (IsMany (file_codes c) i) (IsFirst
+    (file_codes c) i)
+    (judged_code n (code_for (Some g))) v =
+    subst (λ (o : Option Code). IsCausedBy (IsFew (file_codes c) i × IsPlain (file_codes c) i) (IsMany
+    (file_codes c) i) (IsFirst (file_codes c) i)
+    (judged_code n o) v) its_code by_codes in
     let in_it : IsCausedIn c d None v =
-    caused-more (IsFew (file_codes c) i) (HasFewTraces c d) (IsMany (file_codes c) i) (HasManyTraces c d)
-    (object_code n (code_for (Some g))) v
-    (λ few. record { place = i; is = at; few = few }) (λ many. record { place = i; is = at; many = many }) by_code in
+    caused-more (IsFew (file_codes c) i × IsPlain (file_codes c) i) (HasFewTraces c d) (IsMany (file_codes c) i)
+    (HasManyTraces c d)
+    (IsFirst (file_codes c) i) (HasFirstNumber c d) (λ few. record { place = i; is = at; few = few.0; plain = few.1 })
+    (λ many. record { place = i; is = at; many = many }) (λ p first. record { place = i; is = at; first = first })
+    (judged_code n (code_for (Some g))) v by_code in
     record {
       sound = (refl, sound);
       refused = subst (λ (o : Option Finding). IsRefusedAt d.pos o v) (sym none) at_name;

@@ -1,8 +1,9 @@
 -- Verdicts that are right can be reported.
-use Rattle.std.proofs.Common.{◌≡◌, ℕ, List, [], ◌∷◌, Option, Some, None}
+use Rattle.std.proofs.Common.{ℕ, List, [], ◌∷◌, Option, Some, None}
 use Rattle.std.specs.List.{All, AllZip}
 use Rattle.std.proofs.lemmas.List.Elements.{All-cons, All-nil}
 use Rattle.pungi_base.specs.declared.names.Name.{Name}
+use Rattle.pungi_base.specs.declared.pos.Pos.{Pos}
 use Rattle.pungi_base.specs.declared.verdict.Verdict.{Verdict}
 use Rattle.pungi_base.specs.declared.verdict.Verdict.TheVariants as verdict
 use Rattle.pungi_base.specs.declared.why.Why.{Why}
@@ -15,29 +16,37 @@ use Rattle.pungi_resolve.specs.Functions.{resolved}
 use Rattle.pungi_resolved.specs.Functions.{ResolvedFunction}
 use Rattle.pungi_code.specs.declared.code.Code.{Code}
 use Rattle.pungi_layout.specs.code.Codes.{code_for}
-use Rattle.pungi_verdict.specs.Causes.{object_code, HasFewTraces, HasManyTraces, IsCausedBy, IsCausedIn}
+use Rattle.pungi_verdict.specs.Causes.{judged_code, HasFewTraces, HasManyTraces, HasFirstNumber, IsUnknown, IsCausedBy}
+use Rattle.pungi_verdict.specs.Causes.{IsCausedIn}
 use Rattle.pungi_verdict.specs.Refusals.{IsRefusedAt}
 use Rattle.pungi_verdict.specs.Sound.{statics_of, IsTrueOf}
-use Rattle.pungi_verdict.specs.Verdicts.{IsJudged, IsReportable}
+use Rattle.pungi_verdict.specs.Verdicts.{IsJudged, IsReason, IsReportable}
 
-by-code : (few many : Type 0) (o : Option Code) (because : Why) → IsCausedBy few many o (verdict.Unknown because)
-    → because ≡ why.Traces
-by-code few many None because h = absurd h
-by-code few many (Some code) because h = h.0
+by-reason : (many : Type 0) (first : Pos → Type 0) (because : Why) → IsUnknown many first because → IsReason because
+by-reason many first why.Traces h = tt
+by-reason many first why.Shapes h = h
+by-reason many first (why.Range at vector) h = h
+by-reason many first (why.Number at) h = tt
+by-reason many first (why.Loop at) h = h
+by-reason many first (why.Call at n) h = h
 
-by-traces : (c : CheckedFile) (d : Definition) (o : Option Finding) (because : Why)
-    → IsRefusedAt d.pos o (verdict.Unknown because) → IsCausedIn c d o (verdict.Unknown because)
-    → because ≡ why.Traces
-by-traces c d (Some e) because refused caused = absurd (cc)
-by-traces c d None because refused caused =
-    by-code (HasFewTraces c d) (HasManyTraces c d) (object_code (statics_of c)
+by-code : (few many : Type 0) (first : Pos → Type 0) (o : Option Code) (because : Why)
+    → IsCausedBy few many first o (verdict.Unknown because) → IsReason because
+by-code few many first None because h = absurd h
+by-code few many first (Some code) because h = by-reason many first because h
+
+by-cause : (c : CheckedFile) (d : Definition) (o : Option Finding) (because : Why)
+    → IsRefusedAt d.pos o (verdict.Unknown because) → IsCausedIn c d o (verdict.Unknown because) → IsReason because
+by-cause c d (Some e) because refused caused = absurd (cc)
+by-cause c d None because refused caused =
+    by-code (HasFewTraces c d) (HasManyTraces c d) (HasFirstNumber c d) (judged_code (statics_of c)
     (code_for (Some (resolved c.file c.refused d)))) because caused
 
 right-reportable : (c : CheckedFile) (d : Definition) (n : ℕ) (f : ResolvedFunction) (o : Option Finding)
     (v : Verdict) → IsTrueOf n f v → IsRefusedAt d.pos o v → IsCausedIn c d o v → IsReportable v
 right-reportable c d n f o verdict.Clean true_of refused caused = tt
 right-reportable c d n f o (verdict.Faulty fault) true_of refused caused = true_of.1.returns.all_used
-right-reportable c d n f o (verdict.Unknown because) true_of refused caused = by-traces c d o because refused caused
+right-reportable c d n f o (verdict.Unknown because) true_of refused caused = by-cause c d o because refused caused
 right-reportable c d n f o (verdict.Refused at rule) true_of refused caused = tt
 
 pub reportable : (c : CheckedFile) (ds : List Definition) (lines : List (Name × Verdict))

@@ -2,5 +2,5 @@ pub mod Sound
 pub mod Refusals
 pub mod Causes
 pub mod Verdicts
-pub mod ObjectForm
+pub mod JudgedForm
 pub mod Replays

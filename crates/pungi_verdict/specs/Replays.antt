@@ -1,5 +1,5 @@
 -- What is known where the run of a witness is done again by the function.
---   IsGiven n f code            a function that has a meaning, and its code, which has the object form
+--   IsGiven n f code            a function that has a meaning, and its code, which has the judged form
 --   IsUneven code w             the run of a code by a witness returns, and is not balanced
 use Rattle.std.specs.Prelude.{◌≡◌, ℕ, true, List, length, Option}
 use Rattle.pungi_base.specs.declared.pos.Pos.{Pos}
@@ -13,7 +13,7 @@ use Rattle.pungi_code.specs.declared.code.Code.{Code}
 use Rattle.pungi_code.specs.WellFormed.{IsWellFormed}
 use Rattle.pungi_layout.specs.alike.Correct.{target}
 use Rattle.pungi_lower.specs.Lowered.{IsLowered}
-use Rattle.pungi_verdict.specs.ObjectForm.{is_object_code}
+use Rattle.pungi_verdict.specs.JudgedForm.{is_judged_code}
 use Rattle.pungi_verdict.specs.Sound.{HasMeaning}
 
 pub record IsGiven (n : ℕ) (f : ResolvedFunction) (code : Code) : Type 0 where
@@ -21,7 +21,7 @@ pub record IsGiven (n : ℕ) (f : ResolvedFunction) (code : Code) : Type 0 where
   pub nodes : ℕ
   pub lowered : IsLowered f nodes code
   pub formed : IsWellFormed code
-  pub object : is_object_code n code ≡ true
+  pub object : is_judged_code n code ≡ true
 
 pub record IsUneven (code : Code) (w : Witness) : Type 0 where
   pub steps : ℕ

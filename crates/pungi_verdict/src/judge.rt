@@ -8,14 +8,14 @@ ghost use Rattle.pungi_code.specs.WellFormed.{AreWellFormed};
 ghost use Rattle.pungi_lower.specs.Lowered.{AreLowered};
 ghost use Rattle.pungi_resolved.specs.ActionView.{function_view};
 ghost use Rattle.pungi_types.specs.Files.{Definition, definitions};
-ghost use Rattle.pungi_explore.specs.Explored.{IsFew, IsMany};
+ghost use Rattle.pungi_explore.specs.Explored.{IsFew, IsPlain, IsMany, IsFirst};
 ghost use Rattle.pungi_verdict.specs.Replays.{IsGiven};
-ghost use Rattle.pungi_verdict.specs.Causes.{IsCaused, IsCausedBy, IsDecided, object_code, file_codes};
+ghost use Rattle.pungi_verdict.specs.Causes.{IsCaused, IsCausedBy, IsDecided, judged_code, file_codes};
 ghost use Rattle.pungi_verdict.specs.Refusals.{IsRefused, IsRefusedAt};
 ghost use Rattle.pungi_verdict.specs.Sound.{IsSound, IsTrueOf};
 ghost use Rattle.pungi_verdict.specs.Verdicts.{IsJudged, IsReportable};
 
-use crate::object_form::is_object_code;
+use crate::judged_form::is_judged_code;
 use crate::replay::replay;
 use pungi_base::{Memory, Name, Rule, Seq, Verdict, Why};
 use pungi_check::Checked;
@@ -25,7 +25,7 @@ use pungi_lower::lower;
 use pungi_resolved::Function;
 use std::alloc::Global;
 
-/// The verdict on a function whose code has the object form.
+/// The verdict on a function whose code has the judged form.
 fn judge_code(
     alloc: Global,
     codes: &Codes,
@@ -36,7 +36,8 @@ fn judge_code(
     requires code { code_at codes.now i ≡ Some code.now }
     requires given { IsGiven codes.now.statics (function_view f.now) code.now }
     ensures sound { IfOk result (λ v. IsTrueOf codes.now.statics (function_view f.now) v) }
-    ensures decided { IfOk result (λ v. IsDecided (IsFew codes.now i) (IsMany codes.now i) v) }
+    ensures decided { IfOk result (λ v. IsDecided (IsFew codes.now i × IsPlain codes.now i) (IsMany codes.now i)
+        (IsFirst codes.now i) v) }
 {
     let explored = explore(alloc, codes, i)?;
     match explored {
@@ -45,23 +46,24 @@ fn judge_code(
             let fault = replay(alloc, f, code, witness)?;
             Ok(Verdict::Faulty(fault))
         }
+        Explored::NumberSeen(pos) => Ok(Verdict::Unknown(Why::Number { pos })),
         Explored::TooMany => Ok(Verdict::Unknown(Why::Traces)),
     }
 }
 
-/// The verdict on a function in which no rule holds. One whose code doesn't have the object form is refused by rule 0,
+/// The verdict on a function in which no rule holds. One whose code doesn't have the judged form is refused by rule 0,
 /// which says that its form isn't judged yet.
 fn judge(alloc: Global, codes: &Codes, i: usize, f: &Function) -> Result<Verdict, Memory>
     requires there { i < length codes.now.codes }
-    requires given { (code : CodeOf) → object_code codes.now.statics (code_at codes.now i) ≡ Some code
+    requires given { (code : CodeOf) → judged_code codes.now.statics (code_at codes.now i) ≡ Some code
         → IsGiven codes.now.statics (function_view f.now) code }
     ensures sound { IfOk result (λ v. IsTrueOf codes.now.statics (function_view f.now) v) }
     ensures refused { IfOk result (λ v. IsRefusedAt (function_view f.now).pos None v) }
-    ensures caused { IfOk result (λ v. IsCausedBy (IsFew codes.now i) (IsMany codes.now i)
-        (object_code codes.now.statics (code_at codes.now i)) v) }
+    ensures caused { IfOk result (λ v. IsCausedBy (IsFew codes.now i × IsPlain codes.now i) (IsMany codes.now i)
+        (IsFirst codes.now i) (judged_code codes.now.statics (code_at codes.now i)) v) }
 {
     if let Some(code) = &codes.codes.as_slice()[i] {
-        if is_object_code(codes.statics, code) {
+        if is_judged_code(codes.statics, code) {
             return judge_code(alloc, codes, i, code, f);
         }
     }
@@ -143,8 +145,9 @@ pub fn judge_all(alloc: Global, checked: &Checked<'_>) -> Result<Vec<(Name, Verd
     ensures refused { IfOk result (λ lines. AllZip (IsRefused (checked_view checked.now))
         (definitions (checked_view checked.now).file.items) lines.items) }
 
-    // Of those in which no rule holds exactly the ones are judged whose code has the object form. Such a function is
-    // unknown only where it has more than 16,384 traces, and clean only where it has at most so many.
+    // Of those in which no rule holds exactly the ones are judged whose code has the judged form. Such a function is
+    // clean only where it has at most 16,384 traces and no run comes to a number that isn't followed, and unknown only
+    // where it has more or where a run comes to such a number, first at the place that is reported.
     ensures caused { IfOk result (λ lines. AllZip (IsCaused (checked_view checked.now))
         (definitions (checked_view checked.now).file.items) lines.items) }
 

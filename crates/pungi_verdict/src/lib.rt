@@ -1,9 +1,9 @@
-//! The verdict on each function of a checked file. A function whose code has the object form and no loop is judged by
+//! The verdict on each function of a checked file. A function whose code has the judged form and no loop is judged by
 //! exploring its code; a fault that is found there is run again by the meaning of the function itself.
 #![tactic(auto)]
 
 mod judge;
-mod object_form;
+mod judged_form;
 mod replay;
 
 pub use judge::judge_all;

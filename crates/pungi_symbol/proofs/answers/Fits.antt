@@ -19,6 +19,20 @@ pub one_all : {X : Type 0} (P : X → Type 0) (x : X) → P x → All P (x ∷ [
 one_all P x p zero d h = p
 one_all P x p (suc k) d h = absurd (omega (arith, h))
 
+pub two_all : {X : Type 0} (P : X → Type 0) (x y : X) → P x → P y → All P (x ∷ y ∷ [])
+two_all P x y p q zero d h = p
+two_all P x y p q (suc zero) d h = q
+two_all P x y p q (suc (suc k)) d h = absurd (omega (arith, h))
+
+pub all_before : {X : Type 0} (P : X → Type 0) (xs ys : List X) → All P (xs ++ ys) → All P xs
+all_before P xs ys all k d h =
+    let len : length (xs ++ ys) ≡ length xs + length ys = length-append xs ys in
+    subst P (get_or-append xs ys d k h) (all k d (omega (arith, len, h)))
+
+pub all_after : {X : Type 0} (P : X → Type 0) (xs ys : List X) → All P (xs ++ ys) → All P ys
+all_after P [] ys all k d h = all k d h
+all_after P (x ∷ xs) ys all k d h = all_after P xs ys (λ j e lt. all (suc j) e (omega (arith, lt))) k d h
+
 pub all_split : {X : Type 0} (P : X → Type 0) (xs : List X) (x : X) → All P (xs ++ x ∷ []) → All P xs × P x
 all_split P xs x all =
     let len : length (xs ++ x ∷ []) ≡ length xs + 1 = length-append xs (x ∷ []) in (
@@ -134,7 +148,8 @@ module _ (table : Table) (first : ℕ) (ms : List Mark) (cs : List ℕ) (ps : Li
       let moved : (w : ℕ) → w < length ms → at table (redirect c d (class_of cs w)) ≡ at table w =
       λ w h. let there : w < length cs = omega (arith, h, long) in
       sym (ap (at table) (get_or-map (redirect c d) cs w 0 0 there)) ∙ f.classes w h in
-      let cd : at table c ≡ at table d = ap (at table) (sym (redirect_from c d (class_of cs d) stands)) ∙ moved d lt in (
+      let cd : at table c ≡ at table d = ap (at table) (sym (redirect_from c d (class_of cs d) stands))
+      ∙ moved d lt in (
         record {
           statics = f.statics;
           marks = f.marks;

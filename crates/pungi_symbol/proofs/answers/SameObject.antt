@@ -185,13 +185,16 @@ module _ (s : State) (t u : ℕ) where
 
   module _ (table : Table) (w : IsSound s) (mt : mark_of s.known t ≡ IsObject) (mu : mark_of s.known u ≡ IsObject)
       (lt : t < count s.known) (lu : u < count s.known) where
-    class_value : FitsState table s → (x : ℕ) → x < count s.known → at table (class_of s.classes x) ≡ at table x
+    abbrev Notes : Type 0
+    Notes = Fits table s.statics s.known.marks s.classes s.others
+
+    class_value : Notes → (x : ℕ) → x < count s.known → at table (class_of s.classes x) ≡ at table x
     class_value f x h = f.classes x h
 
-    is_object_t : FitsState table s → is_mark IsObject (at table t) ≡ true
+    is_object_t : Notes → is_mark IsObject (at table t) ≡ true
     is_object_t f = subst (λ k. is_mark k (at table t) ≡ true) mt (f.marks t lt)
 
-    static_class : FitsState table s → (x : ℕ) → x < count s.known → class_of s.classes x < s.statics
+    static_class : Notes → (x : ℕ) → x < count s.known → class_of s.classes x < s.statics
         → at table x ≡ value.Object (class_of s.classes x)
     static_class f x h lt = sym (f.classes x h) ∙ f.statics (class_of s.classes x) lt
 
@@ -199,13 +202,15 @@ module _ (s : State) (t u : ℕ) where
     objects_one a b e = cc
 
     -- different static objects, or a pair
-    other_class : FitsState table s → are_one s.classes t u ≡ false
+    other_class : Notes → are_one s.classes t u ≡ false
         → are_other s.statics s.classes s.others t u ≡ true → at table t ≡ at table u → ⊥
     other_class f one e same = elim (or_case (nat_lt C s.statics && nat_lt D s.statics)
         (list_any (is_part s.classes C D) s.others) e) [
           | inl h ↦
-              let ct = static_class f t lt (lt_says C s.statics (and_left (nat_lt C s.statics) (nat_lt D s.statics) h)) in
-              let cu = static_class f u lu (lt_says D s.statics (and_right (nat_lt C s.statics) (nat_lt D s.statics) h)) in
+              let ct = static_class f t lt (lt_says C s.statics (and_left (nat_lt C s.statics)
+              (nat_lt D s.statics) h)) in
+              let cu = static_class f u lu (lt_says D s.statics (and_right (nat_lt C s.statics)
+              (nat_lt D s.statics) h)) in
               not_one one (objects_one C D (sym ct ∙ same ∙ cu))
           | inr h ↦
               let hit = Any-from_list_any (is_part s.classes C D) s.others h in
@@ -225,7 +230,7 @@ module _ (s : State) (t u : ℕ) where
         ]
 
     can_by : (b one other : Bool) → are_one s.classes t u ≡ one → are_other s.statics s.classes s.others t u ≡ other
-        → FitsState table s → is_equal (at table t) (at table u) ≡ b → can_be one other (IsSame b) ≡ true
+        → Notes → is_equal (at table t) (at table u) ≡ b → can_be one other (IsSame b) ≡ true
     can_by true true other e g f v = refl
     can_by true false true e g f v = absurd (other_class f e g (same_is (at table t) (at table u) (is_object_t f) v))
     can_by true false false e g f v = refl
@@ -236,9 +241,9 @@ module _ (s : State) (t u : ℕ) where
 
     pub same_can : FitsState table s → can_same s t u (IsSame (is_equal (at table t) (at table u))) ≡ true
     same_can f = can_by (is_equal (at table t) (at table u)) (are_one s.classes t u)
-        (are_other s.statics s.classes s.others t u) refl refl f refl
+        (are_other s.statics s.classes s.others t u) refl refl f.notes refl
 
-    one_value : FitsState table s → (c d : ℕ) → ((c ≡ C) × (d ≡ D)) ⊎ ((c ≡ D) × (d ≡ C)) → at table t ≡ at table u
+    one_value : Notes → (c d : ℕ) → ((c ≡ C) × (d ≡ D)) ⊎ ((c ≡ D) × (d ≡ C)) → at table t ≡ at table u
         → at table c ≡ at table d
     one_value f c d (inl h) e = ap (at table) h.0 ∙ f.classes t lt ∙ e ∙ sym (f.classes u lu) ∙ sym (ap (at table) h.1)
     one_value f c d (inr h) e = ap (at table) h.0 ∙ f.classes u lu ∙ sym e ∙ sym (f.classes t lt)
@@ -255,21 +260,21 @@ module _ (s : State) (t u : ℕ) where
     stands c d (inr h) = ap (class_of s.classes) h.1 ∙ w.notes.class_stands t lt ∙ sym h.1
 
     -- the values fit, and the balances of each object are as they were
-    pub way_fits : (b : Bool) (s' : State) → FitsState table s → is_equal (at table t) (at table u) ≡ b
+    notes_fit : (b : Bool) (s' : State) → Notes → is_equal (at table t) (at table u) ≡ b
         → Way s t u b s' → Fits table s.statics s.known.marks s'.classes s'.others
-    way_fits b s' f v (kept same e z) = subst (λ r. Fits table s.statics s.known.marks r.classes r.others) (sym z) f
-    way_fits b s' f v (merged c d which older no_static no_pair e z) = subst
+    notes_fit b s' f v (kept same e z) = subst (λ r. Fits table s.statics s.known.marks r.classes r.others) (sym z) f
+    notes_fit b s' f v (merged c d which older no_static no_pair e z) = subst
         (λ r. Fits table s.statics s.known.marks r.classes r.others) (sym z)
         (merges table s.statics s.known.marks s.classes s.others c d w.notes.classes_long
         (one_value f c d which (same_is (at table t) (at table u) (is_object_t f) (v ∙ e))) f)
-    way_fits b s' f v (parted ne e z) = subst (λ r. Fits table s.statics s.known.marks r.classes r.others) (sym z)
+    notes_fit b s' f v (parted ne e z) = subst (λ r. Fits table s.statics s.known.marks r.classes r.others) (sym z)
         (parts_fit table s.statics s.known.marks s.classes s.others t u (λ h. let bad : true
         ≡ false = sym (is_same (at table t) (at table u) (is_object_t f) h) ∙ v ∙ e in cc) f)
 
-    pub way_named : (b : Bool) (s' : State) → FitsState table s → is_equal (at table t) (at table u) ≡ b
+    named_by : (b : Bool) (s' : State) → Notes → is_equal (at table t) (at table u) ≡ b
         → Way s t u b s' → (o : ℕ) → named o table s'.balances ≡ named o table s.balances
-    way_named b s' f v (kept same e z) o = ap (λ r. named o table r.balances) z
-    way_named b s' f v (merged c d which older no_static no_pair e z) o =
+    named_by b s' f v (kept same e z) o = ap (λ r. named o table r.balances) z
+    named_by b s' f v (merged c d which older no_static no_pair e z) o =
         let bl = w.notes.balances_long in
         let both = within c d which in
         let bc = both.0 in
@@ -278,7 +283,15 @@ module _ (s : State) (t u : ℕ) where
         ∙ named_gather o table s.balances c d (omega (arith, bc, bl)) (omega (arith, bd, bl))
         (λ h. absurd (omega (arith, older, h))) (one_value f c d which (same_is (at table t) (at table u)
         (is_object_t f) (v ∙ e)))
-    way_named b s' f v (parted ne e z) o = ap (λ r. named o table r.balances) z
+    named_by b s' f v (parted ne e z) o = ap (λ r. named o table r.balances) z
+
+    pub way_fits : (b : Bool) (s' : State) → FitsState table s → is_equal (at table t) (at table u) ≡ b
+        → Way s t u b s' → Fits table s.statics s.known.marks s'.classes s'.others
+    way_fits b s' f v way = notes_fit b s' f.notes v way
+
+    pub way_named : (b : Bool) (s' : State) → FitsState table s → is_equal (at table t) (at table u) ≡ b
+        → Way s t u b s' → (o : ℕ) → named o table s'.balances ≡ named o table s.balances
+    way_named b s' f v way o = named_by b s' f.notes v way o
 
     -- back
     equal_or : (v x : Value) → is_mark IsObject v ≡ true → (v ≡ x → ⊥) → (b : Bool) → is_equal v x ≡ b → b ≡ false
@@ -287,9 +300,9 @@ module _ (s : State) (t u : ℕ) where
 
     pub way_back : (b : Bool) (s' : State) → Way s t u b s'
         → Fits table s.statics s.known.marks s'.classes s'.others
-        → FitsState table s × (is_equal (at table t) (at table u) ≡ b)
+        → Notes × (is_equal (at table t) (at table u) ≡ b)
     way_back b s' (kept same e z) f' =
-        let f : FitsState table s = subst (λ r. Fits table s.statics s.known.marks r.classes r.others) z f' in (
+        let f : Notes = subst (λ r. Fits table s.statics s.known.marks r.classes r.others) z f' in (
           f,
           is_same (at table t) (at table u) (is_object_t f) (sym (f.classes t lt) ∙ ap (at table) same
               ∙ f.classes u lu) ∙ sym e,
@@ -302,7 +315,7 @@ module _ (s : State) (t u : ℕ) where
         let f = r.0 in
         (f, is_same (at table t) (at table u) (is_object_t f) (back f c d which r.1) ∙ sym e)
       where
-        back : FitsState table s → (c d : ℕ) → ((c ≡ C) × (d ≡ D)) ⊎ ((c ≡ D) × (d ≡ C)) → at table c ≡ at table d
+        back : Notes → (c d : ℕ) → ((c ≡ C) × (d ≡ D)) ⊎ ((c ≡ D) × (d ≡ C)) → at table c ≡ at table d
             → at table t ≡ at table u
         back f c d (inl h) e = sym (f.classes t lt) ∙ ap (at table) (sym h.0) ∙ e ∙ ap (at table) h.1 ∙ f.classes u lu
         back f c d (inr h) e = sym (f.classes t lt) ∙ ap (at table) (sym h.1) ∙ sym e ∙ ap (at table) h.0

@@ -1,5 +1,5 @@
 -- A question names a touched slot that is there, and is that of an instruction of the code.
-use Rattle.std.proofs.Common.{◌≡◌, ℕ, ◌+◌, ◌<◌, ℤ, pos, List, [], ◌∷◌, length, drop, Bool, true, false, refl, sym, ap}
+use Rattle.std.proofs.Common.{◌≡◌, ℕ, ◌+◌, ◌<◌, ℤ, pos, List, [], ◌∷◌, length, drop, Bool, true, false, refl, sym}
 use Rattle.std.proofs.Common.{subst, arith, length-drop, Option, None, Some, cond}
 use Rattle.std.specs.Prelude.{slice_get, position}
 use Rattle.std.proofs.lemmas.List.Quantifiers.{position-Some}
@@ -16,6 +16,8 @@ use Rattle.pungi_api.specs.declared.param.Param.TheVariants as param
 use Rattle.pungi_api.specs.declared.signature.Signature.{Signature}
 use Rattle.pungi_api.specs.declared.take.Take.{Take}
 use Rattle.pungi_api.specs.declared.take.Take.TheVariants as take
+use Rattle.pungi_types.specs.declared.kind.ValueKind.{ValueKind}
+use Rattle.pungi_meaning.specs.declared.op.Op.{Op}
 use Rattle.pungi_meaning.specs.Values.{fits, arithmetic}
 use Rattle.pungi_code.specs.declared.atom.Atom.{Atom}
 use Rattle.pungi_code.specs.declared.code.Line.{Line}
@@ -25,8 +27,7 @@ use Rattle.pungi_code.specs.declared.instr.Instr.TheVariants.{Unset as Forget, J
 use Rattle.pungi_code.specs.declared.place.Place.{Place}
 use Rattle.pungi_code.specs.declared.place.Place.TheVariants as places
 use Rattle.pungi_code.specs.WellFormed.{place_kind}
-use Rattle.pungi_symbol.specs.declared.answers.decision.Decision.{Decision}
-use Rattle.pungi_symbol.specs.declared.answers.decision.Decision.TheVariants.{Quiet, Outcome, Order, Same as IsSame}
+use Rattle.pungi_symbol.specs.declared.answers.decision.Decision.TheVariants.{Quiet, Outcome}
 use Rattle.pungi_symbol.specs.declared.questions.found_slot.Finding.{Finding}
 use Rattle.pungi_symbol.specs.declared.questions.found_slot.Finding.TheVariants.{Waits, At, Nowhere}
 use Rattle.pungi_symbol.specs.declared.states.known.Known.{Known}
@@ -34,21 +35,22 @@ use Rattle.pungi_symbol.specs.declared.states.known.Status.{Status}
 use Rattle.pungi_symbol.specs.declared.states.known.Status.TheVariants as status
 use Rattle.pungi_symbol.specs.declared.states.mark.Mark.{Mark}
 use Rattle.pungi_symbol.specs.declared.states.mark.Mark.TheVariants.{Pointer, TextPointer, IsNull, IsObject, IsText}
-use Rattle.pungi_symbol.specs.declared.states.mark.Mark.TheVariants.{IsNumber}
+use Rattle.pungi_symbol.specs.declared.states.mark.Mark.TheVariants.{IsNumber, Integer}
 use Rattle.pungi_symbol.specs.declared.questions.question.Question.{Question}
-use Rattle.pungi_symbol.specs.declared.questions.question.Question.TheVariants.{Does, Touches, Overwrites}
-use Rattle.pungi_symbol.specs.declared.questions.question.Question.TheVariants.{Null as AsksNull, Base, Answers, Same}
-use Rattle.pungi_symbol.specs.declared.questions.question.Question.TheVariants.{Returns, Stops, Over}
+use Rattle.pungi_symbol.specs.declared.questions.question.Question.TheVariants.{Does}
+use Rattle.pungi_symbol.specs.declared.questions.question.Question.TheVariants.{Returns, Stops}
 use Rattle.pungi_symbol.specs.declared.states.spot.Progress.{Progress}
 use Rattle.pungi_symbol.specs.declared.states.spot.Progress.TheVariants.{Looking, Found}
-use Rattle.pungi_symbol.specs.declared.states.spot.Touched.{Touched}
+use Rattle.pungi_symbol.specs.declared.states.sum.Sum.{Sum as SumOf}
 use Rattle.pungi_symbol.specs.declared.states.term.Term.{Term}
-use Rattle.pungi_symbol.specs.declared.states.term.Term.TheVariants.{Unset, Null, Text, Number, Token}
-use Rattle.pungi_symbol.specs.states.Known.{mark_of, term_of, number, number_in, object_of, slot_note, no_slot}
+use Rattle.pungi_symbol.specs.declared.states.term.Term.TheVariants.{Unset, Null, Text, Number, Token, Sum}
+use Rattle.pungi_symbol.specs.states.Known.{mark_of, term_of, number_in, sum_in, object_of, slot_note, no_slot}
 use Rattle.pungi_symbol.specs.states.Known.{is_global}
 use Rattle.pungi_symbol.specs.states.Known.{is_field, at_place, ask_base, seek, find_token, find_field, find}
 use Rattle.pungi_symbol.specs.questions.NextQuestion.{asks_set, knows_mark, asks_known, needs_mark, asks_thing}
 use Rattle.pungi_symbol.specs.questions.NextQuestion.{asks_order, asks_same, asks_range, content_mark, asks_load}
+use Rattle.pungi_symbol.specs.questions.NextQuestion.{sum_of_two, asks_result, asks_arith, asks_conversion, asks_orders}
+use Rattle.pungi_symbol.specs.questions.NextQuestion.{asks_pointers, asks_sign}
 use Rattle.pungi_symbol.specs.questions.NextQuestion.{asks_store, asks_dropped, asks_all_set, asks_param, asks_params}
 use Rattle.pungi_symbol.specs.questions.NextQuestion.{asks_take, asks_takes, asks_answer, asks_call_answer}
 use Rattle.pungi_symbol.specs.questions.NextQuestion.{first_term, asks_own, asks_signature, terms_of, asks_return}
@@ -75,6 +77,7 @@ module _ (code : List Line) (k : Known) (there : k.pc < length code) where
   setting_placed Text q h = h
   setting_placed (Number n) q h = h
   setting_placed (Token t) q h = h
+  setting_placed (Sum s) q h = h
 
   knowing_mark_placed : (m : Mark) (t : ℕ) (q : Question) → Placed q → Placed (knows_mark m t q)
   knowing_mark_placed Pointer t q h = tt
@@ -83,6 +86,7 @@ module _ (code : List Line) (k : Known) (there : k.pc < length code) where
   knowing_mark_placed IsObject t q h = h
   knowing_mark_placed IsText t q h = h
   knowing_mark_placed (IsNumber n) t q h = h
+  knowing_mark_placed (Integer r) t q h = h
 
   needing_mark_placed : (m : Mark) (t : ℕ) (q : Question) → Placed q → Placed (needs_mark m t q)
   needing_mark_placed Pointer t q h = tt
@@ -91,11 +95,30 @@ module _ (code : List Line) (k : Known) (there : k.pc < length code) where
   needing_mark_placed IsObject t q h = h
   needing_mark_placed IsText t q h = h
   needing_mark_placed (IsNumber n) t q h = h
+  needing_mark_placed (Integer r) t q h = h
 
   ordering_placed : (a b : Option ℤ) (q : Question) → Placed q → Placed (asks_order a b q)
   ordering_placed None b q h = h
   ordering_placed (Some m) None q h = h
   ordering_placed (Some m) (Some n) q h = tt
+
+  orders_placed : (x y : Option SumOf) (q : Question) → Placed q → Placed (asks_orders x y q)
+  orders_placed None y q h = h
+  orders_placed (Some a) None q h = h
+  orders_placed (Some a) (Some b) q h = tt
+
+  pointers_placed : (x y : Option SumOf) (q : Question) → Placed q → Placed (asks_pointers x y q)
+  pointers_placed None None q h = h
+  pointers_placed None (Some b) q h = tt
+  pointers_placed (Some a) y q h = tt
+
+  sign_placed : (x : Option SumOf) (q : Question) → Placed q → Placed (asks_sign x q)
+  sign_placed None q h = h
+  sign_placed (Some a) q h = tt
+
+  result_placed : (kind : ValueKind) (x : Option SumOf) → Placed (asks_result kind x)
+  result_placed kind None = tt
+  result_placed kind (Some a) = tt
 
   comparing_placed : (a b : Option ℕ) → Placed (asks_same a b)
   comparing_placed None b = tt
@@ -111,6 +134,16 @@ module _ (code : List Line) (k : Known) (there : k.pc < length code) where
   fitting_placed true c = tt
   fitting_placed false true = tt
   fitting_placed false false = tt
+
+  arith_placed : (o : Op) (kind : ValueKind) (x y : Option ℤ) (q : Question) → Placed q
+      → Placed (asks_arith o kind x y q)
+  arith_placed o kind None y q h = h
+  arith_placed o kind (Some m) None q h = h
+  arith_placed o kind (Some m) (Some n) q h = ranged_placed (arithmetic o kind m n) _
+
+  conversion_placed : (kind : ValueKind) (x : Option ℤ) (q : Question) → Placed q → Placed (asks_conversion kind x q)
+  conversion_placed kind None q h = h
+  conversion_placed kind (Some n) q h = fitting_placed (fits kind n) _
 
   answering_placed : (a : Answer) → Placed (asks_answer a)
   answering_placed answer.Void = tt
@@ -135,6 +168,7 @@ module _ (code : List Line) (k : Known) (there : k.pc < length code) where
   knowing_placed Text q h = h
   knowing_placed (Number n) q h = h
   knowing_placed (Token t) q h = knowing_mark_placed (mark_of k t) t q h
+  knowing_placed (Sum s) q h = h
 
   needing_placed : (x : Term) (q : Question) → Placed q → Placed (asks_thing k x q)
   needing_placed Unset q h = tt
@@ -142,6 +176,7 @@ module _ (code : List Line) (k : Known) (there : k.pc < length code) where
   needing_placed Text q h = h
   needing_placed (Number n) q h = h
   needing_placed (Token t) q h = needing_mark_placed (mark_of k t) t q h
+  needing_placed (Sum s) q h = h
 
   dropping_placed : (x : Term) → Placed (asks_dropped k x)
   dropping_placed Unset = tt
@@ -149,6 +184,7 @@ module _ (code : List Line) (k : Known) (there : k.pc < length code) where
   dropping_placed Text = tt
   dropping_placed (Number n) = tt
   dropping_placed (Token t) = knowing_mark_placed (mark_of k t) t (Does Quiet) tt
+  dropping_placed (Sum s) = tt
 
   needing_for_placed : (p : Param) (x : Term) (q : Question) → Placed q → Placed (asks_param k p x q)
   needing_for_placed param.Object x q h = needing_placed x q h
@@ -217,6 +253,7 @@ module _ (code : List Line) (k : Known) (there : k.pc < length code) where
   find_token_placed t IsObject tag field = seek_placed k.progress t tag field
   find_token_placed t IsText tag field = tt
   find_token_placed t (IsNumber n) tag field = tt
+  find_token_placed t (Integer r) tag field = tt
 
   find_field_placed : (x : Term) (tag field : Name) → FindsPlaced (find_field k x tag field)
   find_field_placed Unset tag field = tt
@@ -224,6 +261,7 @@ module _ (code : List Line) (k : Known) (there : k.pc < length code) where
   find_field_placed Text tag field = tt
   find_field_placed (Number n) tag field = tt
   find_field_placed (Token t) tag field = find_token_placed t (mark_of k t) tag field
+  find_field_placed (Sum s) tag field = tt
 
   find_placed : (place : Place) → FindsPlaced (find k place)
   find_placed (places.Global n kind) = at_place_placed (position (λ s. is_global n s.spot) k.slots)
@@ -248,11 +286,14 @@ module _ (code : List Line) (k : Known) (there : k.pc < length code) where
   instr_placed : (i : Instr) → Placed (asks_instr k i)
   instr_placed (Set x a) = setting_placed (term_of k a) (Does Quiet) tt
   instr_placed (Arith x kind o a b) = setting_placed (term_of k a) _ (setting_placed (term_of k b) _
-      (ranged_placed (arithmetic o kind (number k (term_of k a)) (number k (term_of k b))) _))
-  instr_placed (Fit x kind a) = setting_placed (term_of k a) _ (fitting_placed (fits kind (number k (term_of k a))) _)
+      (arith_placed o kind (number_in (term_of k a)) (number_in (term_of k b)) _
+      (result_placed kind (sum_of_two o (sum_in k (term_of k a)) (sum_in k (term_of k b))))))
+  instr_placed (Fit x kind a) = setting_placed (term_of k a) _ (conversion_placed kind (number_in (term_of k a)) _
+      (result_placed kind (sum_in k (term_of k a))))
   instr_placed (Compare x c a b) = ordering_placed (number_in (term_of k a)) (number_in (term_of k b)) _
-      (knowing_placed (term_of k a) _ (knowing_placed (term_of k b) _ (comparing_placed (object_of k (term_of k a))
-      (object_of k (term_of k b)))))
+      (orders_placed (sum_in k (term_of k a)) (sum_in k (term_of k b)) _ (knowing_placed (term_of k a) _
+      (knowing_placed (term_of k b) _ (pointers_placed (sum_in k (term_of k a)) (sum_in k (term_of k b)) _
+      (comparing_placed (object_of k (term_of k a)) (object_of k (term_of k b)))))))
   instr_placed (Load x place) = loading_placed (content_mark (place_kind place)) (find k place) (find_placed place)
   instr_placed (Store place a) = knowing_placed (term_of k a) _ (storing_placed (content_mark (place_kind place))
       (find k place) (find_placed place))
@@ -261,7 +302,7 @@ module _ (code : List Line) (k : Known) (there : k.pc < length code) where
   instr_placed (Forget x) = tt
   instr_placed (Jump to) = tt
   instr_placed (Branch a this other) = ordering_placed (number_in (term_of k a)) (Some (pos 0)) _
-      (knowing_placed (term_of k a) (Does Quiet) tt)
+      (sign_placed (sum_in k (term_of k a)) _ (knowing_placed (term_of k a) (Does Quiet) tt))
   instr_placed (Return o) = return_placed o
   instr_placed Fall = tt
 
@@ -275,6 +316,7 @@ while_placed : (code : List Line) (k : Known) (z : Status) (q : Question) → Is
 while_placed code k status.Going q h = h
 while_placed code k (status.Returned p x) q h = tt
 while_placed code k (status.Stopped p) q h = tt
+while_placed code k (status.NumberSeen p) q h = tt
 
 pub ask_placed : (code : List Line) (k : Known) → IsPlaced code k (ask code k)
 ask_placed code k = while_placed code k k.status (asks_line k (slice_get code k.pc))

@@ -1,9 +1,9 @@
 -- The values of the tokens of a state where all that may differ differs, and the run that has them.
 use Rattle.std.proofs.Common.{◌≡◌, ℕ, zero, suc, ◌+◌, ◌<◌, ◌≤◌, List, [], ◌∷◌, ◌++◌, length, get_or, refl, sym, ap, ◌∙◌}
-use Rattle.std.proofs.Common.{arith, map, min}
+use Rattle.std.proofs.Common.{arith, map, min, ℤ}
 use Rattle.std.specs.Prelude.{drop, take}
 use Rattle.std.specs.List.{range_with_len}
-use Rattle.std.proofs.lemmas.List.{append_assoc, append-nil}
+use Rattle.std.proofs.lemmas.List.{append_assoc, append-nil, length-drop}
 use Rattle.pungi_base.specs.declared.choice.Choice.{Choice}
 use Rattle.pungi_base.specs.declared.entry.Entry.{Entry}
 use Rattle.pungi_base.specs.declared.value.Value.{Value}
@@ -11,34 +11,44 @@ use Rattle.pungi_base.specs.declared.value.Value.TheVariants as value
 use Rattle.pungi_world.specs.Choices.{value_of}
 use Rattle.pungi_symbol.specs.declared.states.mark.Mark.{Mark}
 use Rattle.pungi_symbol.specs.declared.states.mark.Mark.TheVariants.{Pointer, TextPointer, IsNull, IsObject, IsText}
-use Rattle.pungi_symbol.specs.declared.states.mark.Mark.TheVariants.{IsNumber}
+use Rattle.pungi_symbol.specs.declared.states.mark.Mark.TheVariants.{IsNumber, Integer}
 use Rattle.pungi_symbol.specs.declared.states.state.State.{State}
 use Rattle.pungi_symbol.specs.states.Terms.{Table, at}
+use Rattle.pungi_symbol.specs.states.Known.{count}
 use Rattle.pungi_symbol.specs.answers.SymbolicState.{class_of}
 use Rattle.pungi_symbol.specs.runs.Fits.{IsSound}
 use Rattle.pungi_symbol.specs.runs.Paths.{own_value, own_values, canon, choice_of, table_of, AreApart}
-use Rattle.pungi_symbol.proofs.questions.Arguments.{drop_here, none_left}
+use Rattle.pungi_symbol.proofs.questions.Arguments.{drop_here}
 
 -- ---- one token after another
 
-module _ (ms : List Mark) (cs : List ℕ) where
-  pub own_step : (so_far : Table) (i : ℕ) (m : Mark) (c : ℕ) → i < length ms → i < length cs
-      → (so_far ++ own_value (get_or ms i m) (get_or cs i c) ∷ []) ++ own_values (drop (i + 1) ms) (drop (i + 1) cs)
-      ≡ so_far ++ own_values (drop i ms) (drop i cs)
-  own_step so_far i m c h g =
-      append_assoc so_far (own_value (get_or ms i m) (get_or cs i c)
-      ∷ []) (own_values (drop (i + 1) ms) (drop (i + 1) cs))
-      ∙ sym (ap (λ l. so_far ++ own_values l (drop i cs)) (drop_here ms i m h)
-      ∙ ap (λ l. so_far ++ own_values (get_or ms i m ∷ drop (i + 1) ms) l) (drop_here cs i c g))
+module _ (ms : List Mark) (cs : List ℕ) (ns : List ℤ) where
+  abbrev Left : ℕ → Table
+  Left i = own_values (drop i ms) (drop i cs) (drop i ns)
 
-  none_own : (ms : List Mark) (cs : List ℕ) → min (length ms) (length cs) ≡ 0 → own_values ms cs ≡ []
-  none_own [] cs e = refl
-  none_own (m ∷ ms) [] e = refl
-  none_own (m ∷ ms) (c ∷ cs) e = absurd (omega (arith, e))
+  pub own_step : (so_far : Table) (i : ℕ) (m : Mark) (c : ℕ) (z : ℤ) → i < length ms → i < length cs → i < length ns
+      → (so_far ++ own_value (get_or ms i m) (get_or cs i c) (get_or ns i z) ∷ []) ++ Left (i + 1) ≡ so_far ++ Left i
+  own_step so_far i m c z h g f =
+      append_assoc so_far (own_value (get_or ms i m) (get_or cs i c) (get_or ns i z) ∷ []) (Left (i + 1))
+      ∙ sym (ap (λ l. so_far ++ own_values l (drop i cs) (drop i ns)) (drop_here ms i m h)
+      ∙ ap (λ l. so_far ++ own_values (get_or ms i m ∷ drop (i + 1) ms) l (drop i ns)) (drop_here cs i c g)
+      ∙ ap (λ l. so_far ++ own_values (get_or ms i m ∷ drop (i + 1) ms) (get_or cs i c ∷ drop (i + 1) cs) l)
+      (drop_here ns i z f))
 
-  pub own_end : (so_far : Table) (n : ℕ) → n ≡ min (length ms) (length cs)
-      → so_far ++ own_values (drop n ms) (drop n cs) ≡ so_far
-  own_end so_far n e = ap (λ l. so_far ++ l) (none_own (drop n ms) (drop n cs) (none_left ms cs n e))
+  none_own : (ms : List Mark) (cs : List ℕ) (ns : List ℤ) → min (min (length ms) (length cs)) (length ns) ≡ 0
+      → own_values ms cs ns ≡ []
+  none_own [] cs ns e = refl
+  none_own (m ∷ ms) [] ns e = refl
+  none_own (m ∷ ms) (c ∷ cs) [] e = refl
+  none_own (m ∷ ms) (c ∷ cs) (n ∷ ns) e = absurd (omega (arith, e))
+
+  pub own_end : (so_far : Table) (n : ℕ) → n ≡ min (min (length ms) (length cs)) (length ns)
+      → so_far ++ Left n ≡ so_far
+  own_end so_far n e =
+      let a = length-drop n ms in
+      let b = length-drop n cs in
+      let c = length-drop n ns in
+      ap (λ l. so_far ++ l) (none_own (drop n ms) (drop n cs) (drop n ns) (omega (arith, a, b, c, e)))
       ∙ append-nil so_far
 
 -- ---- the run of these values
@@ -60,64 +70,67 @@ parts (suc n) [] = refl
 parts (suc n) (x ∷ xs) = ap (λ l. x ∷ l) (parts n xs)
 
 -- the static objects come first, by their numbers
-statics_first : (ms : List Mark) (cs : List ℕ) (a n : ℕ) → n ≤ length ms → n ≤ length cs
+statics_first : (ms : List Mark) (cs : List ℕ) (ns : List ℤ) (a n : ℕ) → n ≤ length ms → n ≤ length cs → n ≤ length ns
     → ((t : ℕ) → t < n → get_or ms t IsNull ≡ IsObject) → ((t : ℕ) → t < n → get_or cs t 0 ≡ a + t)
-    → take n (own_values ms cs) ≡ map value.Object (range_with_len a n)
-statics_first ms cs a zero h g objects own = refl
-statics_first [] cs a (suc n) h g objects own = absurd (omega (arith, h))
-statics_first (m ∷ ms) [] a (suc n) h g objects own = absurd (omega (arith, g))
-statics_first (m ∷ ms) (c ∷ cs) a (suc n) h g objects own =
+    → take n (own_values ms cs ns) ≡ map value.Object (range_with_len a n)
+statics_first ms cs ns a zero h g f objects own = refl
+statics_first [] cs ns a (suc n) h g f objects own = absurd (omega (arith, h))
+statics_first (m ∷ ms) [] ns a (suc n) h g f objects own = absurd (omega (arith, g))
+statics_first (m ∷ ms) (c ∷ cs) [] a (suc n) h g f objects own = absurd (omega (arith, f))
+statics_first (m ∷ ms) (c ∷ cs) (i ∷ ns) a (suc n) h g f objects own =
     let first : c ≡ a = let e : c ≡ a + 0 = own zero (omega arith) in omega (arith, e) in
-    let here : own_value m c ≡ value.Object a = ap (λ k. own_value k c) (objects zero (omega arith))
+    let here : own_value m c i ≡ value.Object a = ap (λ k. own_value k c i) (objects zero (omega arith))
     ∙ ap value.Object first in
-    let rest = statics_first ms cs (a + 1) n (omega (arith, h)) (omega (arith, g))
+    let rest = statics_first ms cs ns (a + 1) n (omega (arith, h)) (omega (arith, g)) (omega (arith, f))
     (λ t l. objects (suc t) (omega (arith, l))) (λ t l. let e : get_or cs t 0
     ≡ a + suc t = own (suc t) (omega (arith, l)) in omega (arith, e)) in
-    ap (λ v. v ∷ take n (own_values ms cs)) here ∙ ap (λ l. value.Object a ∷ l) rest
+    ap (λ v. v ∷ take n (own_values ms cs ns)) here ∙ ap (λ l. value.Object a ∷ l) rest
 
-module _ (s : State) (sound : IsSound s) where
-  own_statics : take s.statics (canon s) ≡ map value.Object (range_with_len 0 s.statics)
-  own_statics = statics_first s.known.marks s.classes 0 s.statics sound.notes.statics
+module _ (s : State) (sound : IsSound s) (ns : List ℤ) (long : length ns ≡ count s.known) where
+  own_statics : take s.statics (canon s ns) ≡ map value.Object (range_with_len 0 s.statics)
+  own_statics = statics_first s.known.marks s.classes ns 0 s.statics sound.notes.statics
       (let e = sound.notes.classes_long in let h = sound.notes.statics in omega (arith, e, h))
+      (let h = sound.notes.statics in omega (arith, long, h))
       sound.notes.static_objects
       (λ t l. let e : class_of s.classes t ≡ t = sound.notes.class_static t l in omega (arith, e))
 
   -- the run that is made of these values has them
-  pub own_table : (entry : Entry) (choices : List Choice) (n : ℕ) → entry.args ≡ take n (drop s.statics (canon s))
-      → choices ≡ map choice_of (drop n (drop s.statics (canon s)))
-      → table_of s.statics entry choices ≡ canon s
+  pub own_table : (entry : Entry) (choices : List Choice) (n : ℕ)
+      → entry.args ≡ take n (drop s.statics (canon s ns))
+      → choices ≡ map choice_of (drop n (drop s.statics (canon s ns)))
+      → table_of s.statics entry choices ≡ canon s ns
   own_table entry choices n args chosen =
-      let came = drop s.statics (canon s) in
+      let came = drop s.statics (canon s ns) in
       ap (λ l. map value.Object (range_with_len 0 s.statics) ++ (l ++ map value_of choices)) args
       ∙ ap (λ l. map value.Object (range_with_len 0 s.statics) ++ (take n came ++ map value_of l)) chosen
       ∙ ap (λ l. map value.Object (range_with_len 0 s.statics) ++ (take n came ++ l)) (choices_back (drop n came))
       ∙ ap (λ l. map value.Object (range_with_len 0 s.statics) ++ l) (parts n came)
       ∙ ap (λ l. l ++ came) (sym own_statics)
-      ∙ parts s.statics (canon s)
+      ∙ parts s.statics (canon s ns)
 
 -- ---- tokens that weren't merged are different objects
 
-own_class : (m : Mark) (c o : ℕ) → own_value m c ≡ value.Object o → o ≡ c
-own_class Pointer c o e = let same : value.Object c ≡ value.Object o = e in cc
-own_class TextPointer c o e = absurd (let bad : value.Text ≡ value.Object o = e in cc)
-own_class IsNull c o e = absurd (let bad : value.Null ≡ value.Object o = e in cc)
-own_class IsObject c o e = let same : value.Object c ≡ value.Object o = e in cc
-own_class IsText c o e = absurd (let bad : value.Text ≡ value.Object o = e in cc)
-own_class (IsNumber n) c o e = absurd (let bad : value.Int n ≡ value.Object o = e in cc)
+own_class : (m : Mark) (c : ℕ) (n : ℤ) (o : ℕ) → own_value m c n ≡ value.Object o → o ≡ c
+own_class Pointer c n o e = let same : value.Object c ≡ value.Object o = e in cc
+own_class TextPointer c n o e = absurd (let bad : value.Text ≡ value.Object o = e in cc)
+own_class IsNull c n o e = absurd (let bad : value.Null ≡ value.Object o = e in cc)
+own_class IsObject c n o e = let same : value.Object c ≡ value.Object o = e in cc
+own_class IsText c n o e = absurd (let bad : value.Text ≡ value.Object o = e in cc)
+own_class (IsNumber m) c n o e = absurd (let bad : value.Int m ≡ value.Object o = e in cc)
+own_class (Integer r) c n o e = absurd (let bad : value.Int n ≡ value.Object o = e in cc)
 
-own_at : (ms : List Mark) (cs : List ℕ) (t o : ℕ) → at (own_values ms cs) t ≡ value.Object o → o ≡ class_of cs t
-own_at [] cs t o e = absurd (past t e)
-  where
-    past : (t : ℕ) → at [] t ≡ value.Object o → ⊥
-    past zero e = let bad : value.Null ≡ value.Object o = e in cc
-    past (suc t) e = let bad : value.Null ≡ value.Object o = e in cc
-own_at (m ∷ ms) [] t o e = absurd (past t e)
-  where
-    past : (t : ℕ) → at [] t ≡ value.Object o → ⊥
-    past zero e = let bad : value.Null ≡ value.Object o = e in cc
-    past (suc t) e = let bad : value.Null ≡ value.Object o = e in cc
-own_at (m ∷ ms) (c ∷ cs) zero o e = own_class m c o e
-own_at (m ∷ ms) (c ∷ cs) (suc t) o e = own_at ms cs t o e
+own_past : (t o : ℕ) → at [] t ≡ value.Object o → ⊥
+own_past zero o e = let bad : value.Null ≡ value.Object o = e in cc
+own_past (suc t) o e = let bad : value.Null ≡ value.Object o = e in cc
 
-pub own_apart : (s : State) → AreApart s (canon s)
-own_apart s t u o h g e d = sym (own_at s.known.marks s.classes t o e) ∙ own_at s.known.marks s.classes u o d
+own_at : (ms : List Mark) (cs : List ℕ) (ns : List ℤ) (t o : ℕ) → at (own_values ms cs ns) t ≡ value.Object o
+    → o ≡ class_of cs t
+own_at [] cs ns t o e = absurd (own_past t o e)
+own_at (m ∷ ms) [] ns t o e = absurd (own_past t o e)
+own_at (m ∷ ms) (c ∷ cs) [] t o e = absurd (own_past t o e)
+own_at (m ∷ ms) (c ∷ cs) (n ∷ ns) zero o e = own_class m c n o e
+own_at (m ∷ ms) (c ∷ cs) (n ∷ ns) (suc t) o e = own_at ms cs ns t o e
+
+pub own_apart : (s : State) (ns : List ℤ) → AreApart s (canon s ns)
+own_apart s ns t u o h g e d = sym (own_at s.known.marks s.classes ns t o e)
+    ∙ own_at s.known.marks s.classes ns u o d

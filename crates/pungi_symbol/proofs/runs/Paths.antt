@@ -12,12 +12,13 @@ use Rattle.pungi_symbol.specs.declared.states.known.Status.TheVariants as status
 use Rattle.pungi_symbol.specs.declared.questions.question.Question.{Question}
 use Rattle.pungi_symbol.specs.declared.questions.question.Question.TheVariants.{Does, Touches, Overwrites}
 use Rattle.pungi_symbol.specs.declared.questions.question.Question.TheVariants.{Null as AsksNull, Base, Answers, Same}
-use Rattle.pungi_symbol.specs.declared.questions.question.Question.TheVariants.{Returns, Stops, Over}
+use Rattle.pungi_symbol.specs.declared.questions.question.Question.TheVariants.{Orders, Range, Unplain, Returns}
+use Rattle.pungi_symbol.specs.declared.questions.question.Question.TheVariants.{Stops, Over}
 use Rattle.pungi_symbol.specs.declared.states.state.State.{State}
 use Rattle.pungi_symbol.specs.declared.states.term.Term.{Term}
 use Rattle.pungi_symbol.specs.states.Terms.{Table}
 use Rattle.pungi_symbol.specs.runs.Fits.{FitsState, IsSound}
-use Rattle.pungi_symbol.specs.runs.ObjectForm.{is_there}
+use Rattle.pungi_symbol.specs.runs.JudgedForm.{is_there}
 use Rattle.pungi_symbol.specs.runs.RunInState.{answer, Lies}
 use Rattle.std.specs.Prelude.{nat_lt}
 use Rattle.std.specs.List.{list_all}
@@ -30,13 +31,13 @@ use Rattle.pungi_symbol.specs.declared.states.known.Status.{Status}
 use Rattle.pungi_symbol.specs.questions.NextQuestion.{ask, asks_line, ask_while}
 use Rattle.pungi_symbol.specs.answers.KnownAfter.{go, instr_of}
 use Rattle.pungi_symbol.specs.answers.SymbolicState.{can, apply, apply_same, are_one, merge_classes, class_of}
-use Rattle.pungi_symbol.specs.runs.ObjectForm.{is_known_here, atoms_of}
+use Rattle.pungi_symbol.specs.runs.JudgedForm.{is_held_here, atoms_of}
 use Rattle.pungi_symbol.specs.runs.Paths.{table_of, argument_count, known_at, start_state, Asked, asked_here, asked_on}
 use Rattle.pungi_symbol.specs.runs.Paths.{Path, path_here, path_on, run_for, led_of, EndsFrom, IsAt, Meets}
-use Rattle.pungi_symbol.specs.runs.Paths.{returned_value}
+use Rattle.pungi_symbol.specs.runs.Paths.{SeesNumber, returned_value}
 use Rattle.pungi_symbol.specs.runs.OneInstruction.{Led, leads_at, led_on, machine_at}
 use Rattle.pungi_symbol.proofs.steps.OneInstruction.{exec_step}
-use Rattle.pungi_symbol.proofs.steps.RunInState.{stays, goes_on, leaves, halts, effort, Linked}
+use Rattle.pungi_symbol.proofs.steps.RunInState.{stays, goes_on, leaves, sees, halts, effort, Linked}
 use Rattle.pungi_symbol.proofs.steps.StepForward.{AreObjectLines, going_ask, moves, two_true}
 use Rattle.pungi_symbol.proofs.steps.Questions.{IsAsked, asked_line}
 use Rattle.pungi_symbol.proofs.steps.SoundAfter.{apply_sound}
@@ -46,6 +47,7 @@ going_by : (s : State) (q : Question) (d : Decision) (z : Status) → can s (ask
 going_by s q d status.Going c = refl
 going_by s q d (status.Returned p x) c = absurd (let bad : false ≡ true = c in cc)
 going_by s q d (status.Stopped p) c = absurd (let bad : false ≡ true = c in cc)
+going_by s q d (status.NumberSeen p) c = absurd (let bad : false ≡ true = c in cc)
 
 pub can_going : (code : List Line) (s : State) (d : Decision) → can s (ask code s.known) d ≡ true
     → s.known.status ≡ status.Going
@@ -72,6 +74,9 @@ apply_statics o (AsksNull t) d s = refl
 apply_statics o (Base t u j) d s = same_statics (are_one s.classes t u) _ t u s
 apply_statics o (Answers a) d s = refl
 apply_statics o (Same t u) d s = same_statics (are_one s.classes t u) _ t u s
+apply_statics o (Orders a b) d s = refl
+apply_statics o (Range kind a) d s = refl
+apply_statics o Unplain d s = refl
 apply_statics o (Returns x) d s = refl
 apply_statics o (Stops d') d s = refl
 apply_statics o Over d s = refl
@@ -79,7 +84,7 @@ apply_statics o Over d s = refl
 module _ (code : List Line) (n : ℕ) (form : AreObjectLines n code) where
   line_form : (pc : ℕ) (line : Line) → slice_get code pc ≡ Some line
       → list_all (is_there n) (atoms_of line.instr) ≡ true
-  line_form pc line e = (two_true (is_known_here line.instr) (list_all (is_there n) (atoms_of line.instr))
+  line_form pc line e = (two_true (is_held_here line.instr) (list_all (is_there n) (atoms_of line.instr))
       (form pc line e)).1
 
   instr_form : (o : Option Line) → ((line : Line) → o ≡ Some line
@@ -138,6 +143,7 @@ pub data Arrived (code : Code) (statics f : ℕ) (entry : Entry) (choices : List
       → Arrived code statics f entry choices n
   meets_one : (ds : List Decision) (s : State) → Meets statics f code entry choices n ds s
       → Arrived code statics f entry choices n
+  sees_one : SeesNumber statics f code entry choices → Arrived code statics f entry choices n
 
 module _ (code : Code) (statics f : ℕ) (form : AreObjectLines statics code.instrs) (entry : Entry)
     (choices : List Choice) (sound : IsSound (start_state statics f code))
@@ -183,6 +189,16 @@ module _ (code : Code) (statics f : ℕ) (form : AreObjectLines statics code.ins
   pub at_status : (n : ℕ) (m : Regs) (pc : ℕ) (z z' : Status) → z ≡ z' → At n m pc z' → At n m pc z
   at_status n m pc z z' e h = subst (At n m pc) (sym e) h
 
+  -- where a number is computed that isn't followed, the run stands still
+  pub at_number : (n : ℕ) (m : Regs) (pc pc' : ℕ) (z : Status) (p0 : Pos) → pc' ≡ pc → z ≡ status.NumberSeen p0
+      → Going n m pc → At n m pc' z
+  at_number n m pc pc' z p0 same e g =
+      let h : Going n m pc' = subst (Going n m) (sym same) g in
+      at_status n m pc' z (status.NumberSeen p0) e (record { machine = h.machine; ends = h.ends })
+
+  seen_ended : (p0 : Pos) → status.NumberSeen p0 ≡ status.Going → ⊥
+  seen_ended p0 e = cc
+
   -- the questions of an instruction are asked until it is done
   settle : (e n : ℕ) (ds : List Decision) (s : State) (m : Regs) → effort s.known < e
       → Path code.instrs (start_state statics f code) ds s → Asked code.instrs T (known_at statics f code) ds s.known
@@ -223,6 +239,21 @@ module _ (code : Code) (statics f : ℕ) (form : AreObjectLines statics code.ins
                 enough = λ h. longer;
                 is_at = at_status (n + 1) m s'.known.pc s'.known.status (status.Returned p0 x)
                     e0 (at_later n m m s.known.pc s'.known.pc (status.Returned p0 x) g e');
+              })
+              | sees p0 pc e0 l' ↦ sees_one (record {
+                steps = n;
+                decisions = d ∷ ds;
+                s = s';
+                place = p0;
+                meets = record {
+                  path = p';
+                  asked = a';
+                  m = m;
+                  lies = l';
+                  enough = λ h. absurd (seen_ended p0 (sym e0 ∙ h));
+                  is_at = at_number n m s.known.pc s'.known.pc s'.known.status p0 pc e0 g;
+                };
+                seen = e0;
               })
               | halts p0 e0 e' l' ↦ meets_one (d ∷ ds) s' (record {
                 path = p';
@@ -278,6 +309,8 @@ module _ (code : Code) (statics f : ℕ) (form : AreObjectLines statics code.ins
         is_at = at_status (n + 1) r.m s.known.pc s.known.status (status.Returned p0 x) e
             (stays_at n r.m s.known.pc p0 x h);
       })
+  one_more n ds s (status.NumberSeen p0) e r =
+      sees_one (record { steps = n; decisions = ds; s = s; place = p0; meets = r; seen = e })
   one_more n ds s (status.Stopped p0) e r =
       let h : At n r.m s.known.pc (status.Stopped p0) = subst (At n r.m s.known.pc) e r.is_at in
       meets_one ds s (record {
@@ -304,6 +337,7 @@ module _ (code : Code) (statics f : ℕ) (form : AreObjectLines statics code.ins
   })
   arrives_at (suc n) = elim (arrives_at n) [
     | wants_one h ↦ wants_one (λ fuel. ap (run_for code entry choices) (omega arith) ∙ h (suc fuel))
+    | sees_one r ↦ sees_one r
     | meets_one ds s r ↦ subst (Arrived code statics f entry choices) (omega arith)
         (one_more n ds s s.known.status refl r)
   ]

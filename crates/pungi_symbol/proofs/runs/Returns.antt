@@ -6,11 +6,11 @@ use Rattle.pungi_code.specs.declared.code.Line.{Line}
 use Rattle.pungi_code.specs.Registers.{Regs}
 use Rattle.pungi_symbol.specs.declared.states.mark.Mark.{Mark}
 use Rattle.pungi_symbol.specs.declared.states.mark.Mark.TheVariants.{Pointer, TextPointer, IsNull, IsObject, IsText}
-use Rattle.pungi_symbol.specs.declared.states.mark.Mark.TheVariants.{IsNumber}
+use Rattle.pungi_symbol.specs.declared.states.mark.Mark.TheVariants.{IsNumber, Integer}
 use Rattle.pungi_symbol.specs.declared.states.state.State.{State}
 use Rattle.pungi_symbol.specs.declared.states.term.Term.{Term}
-use Rattle.pungi_symbol.specs.declared.states.term.Term.TheVariants.{Unset, Null, Text, Number, Token}
-use Rattle.pungi_symbol.specs.states.Terms.{Table, at, is_mark}
+use Rattle.pungi_symbol.specs.declared.states.term.Term.TheVariants.{Unset, Null, Text, Number, Token, Sum}
+use Rattle.pungi_symbol.specs.states.Terms.{Table, at, is_mark, node_value}
 use Rattle.pungi_symbol.specs.runs.Fits.{FitsState, IsBelow, IsSound}
 use Rattle.pungi_symbol.specs.runs.RunInState.{Lies}
 use Rattle.std.specs.Prelude.{if◌then◌else◌}
@@ -19,12 +19,13 @@ use Rattle.std.proofs.lemmas.Bool.{cases_eq, eqb-true, eq-eqb}
 use Rattle.std.proofs.lemmas.Bool.Decides.{eqb_tells, Decides-int_eq}
 use Rattle.std.specs.Ordering.{int_eq}
 use Rattle.pungi_world.specs.Escapes.{is_returned, IsLevel, IsBalanced}
+use Rattle.pungi_meaning.specs.Values.{number_of}
 use Rattle.pungi_symbol.specs.states.Known.{count, mark_of, object_of, object_mark}
 use Rattle.pungi_symbol.specs.answers.SymbolicState.{class_of, balance_at}
 use Rattle.pungi_symbol.specs.runs.Fits.{is_the, named}
 use Rattle.pungi_symbol.specs.runs.RunInState.{IsOf}
 use Rattle.pungi_symbol.specs.runs.Paths.{value_in, returned_value, own_value, own_values, canon, returned_object}
-use Rattle.pungi_symbol.specs.runs.Paths.{is_class, wanted, IsLevelState}
+use Rattle.pungi_symbol.specs.runs.Paths.{is_class, wanted, IsLevelState, IsModel, IsInMark, node_at}
 use Rattle.pungi_symbol.proofs.states.NamedObjects.{part}
 use Rattle.pungi_symbol.proofs.states.Contents.{IsKnown, is_open, term_value, holds_term, known_set}
 use Rattle.pungi_symbol.proofs.states.Claims.{not_the}
@@ -93,7 +94,7 @@ module _ (code : List Line) (table : Table) (base : ℕ) (m : Regs) (s : State) 
   token_not : (t o : ℕ) (r : Mark) → mark_of s.known t ≡ r → is_open r ≡ false → (r ≡ IsObject → ⊥)
       → t < count s.known → is_the o (at table t) ≡ false
   token_not t o r e c ne lt = not_the o r (at table t) (subst (λ z. is_mark z (at table t) ≡ true) e
-      (l.fits.marks t lt)) c ne
+      (l.fits.notes.marks t lt)) c ne
 
   not_returned : (y : Term) (o : ℕ) → IsKnown s.known y → IsBelow (count s.known) y → object_of s.known y ≡ None
       → is_the o (term_value table y) ≡ false
@@ -101,6 +102,7 @@ module _ (code : List Line) (table : Table) (base : ℕ) (m : Regs) (s : State) 
   not_returned Null o k b e = refl
   not_returned Text o k b e = refl
   not_returned (Number n) o k b e = refl
+  not_returned (Sum u) o k b e = refl
   not_returned (Token t) o k b e = token_not t o (mark_of s.known t) refl k
       (λ z. let bad : Some t ≡ None = sym (ap (λ r. object_mark r t) z) ∙ e in cc) b
 
@@ -148,7 +150,7 @@ module _ (code : List Line) (table : Table) (base : ℕ) (m : Regs) (s : State) 
         | inr z ↦ ap
             (λ b. part b (pos 1)) z.0
       ])
-      ∙ ap (λ v. part (is_the o v) (pos 1)) (l.fits.classes u lu) ∙ sym (ap (λ b. part b (pos 1)) (r.1 o))
+      ∙ ap (λ v. part (is_the o v) (pos 1)) (l.fits.notes.classes u lu) ∙ sym (ap (λ b. part b (pos 1)) (r.1 o))
 
   wanted_part : (b : Bool) → (if b then pos 1 else pos 0) ≡ part b (pos 1)
   wanted_part true = refl
@@ -166,66 +168,137 @@ module _ (code : List Line) (table : Table) (base : ℕ) (m : Regs) (s : State) 
 
 -- ---- the state's own values
 
-at_own_of : (ms : List Mark) (cs : List ℕ) (t : ℕ) → t < length ms → length cs ≡ length ms
-    → at (own_values ms cs) t ≡ own_value (get_or ms t IsNull) (get_or cs t 0)
-at_own_of [] cs t h e = absurd (omega (arith, h))
-at_own_of (m ∷ ms) [] t h e = absurd (let bad : 0 ≡ suc (length ms) = e in omega (arith, bad))
-at_own_of (m ∷ ms) (c ∷ cs) zero h e = refl
-at_own_of (m ∷ ms) (c ∷ cs) (suc t) h e = at_own_of ms cs t (omega (arith, h)) (omega (arith, e))
+own_past : (t : ℕ) → at [] t ≡ value.Null
+own_past zero = refl
+own_past (suc t) = refl
+
+none_past : (t : ℕ) → get_or [] t (pos 0) ≡ pos 0
+none_past zero = refl
+none_past (suc t) = refl
+
+pub own_long : (ms : List Mark) (cs : List ℕ) (ns : List ℤ) → length cs ≡ length ms → length ns ≡ length ms
+    → length (own_values ms cs ns) ≡ length ms
+own_long [] cs ns e f = refl
+own_long (m ∷ ms) [] ns e f = absurd (let bad : 0 ≡ suc (length ms) = e in omega (arith, bad))
+own_long (m ∷ ms) (c ∷ cs) [] e f = absurd (let bad : 0 ≡ suc (length ms) = f in omega (arith, bad))
+own_long (m ∷ ms) (c ∷ cs) (n ∷ ns) e f = ap suc (own_long ms cs ns (omega (arith, e)) (omega (arith, f)))
+
+at_own_of : (ms : List Mark) (cs : List ℕ) (ns : List ℤ) (t : ℕ) → t < length ms → length cs ≡ length ms
+    → length ns ≡ length ms
+    → at (own_values ms cs ns) t ≡ own_value (get_or ms t IsNull) (get_or cs t 0) (get_or ns t (pos 0))
+at_own_of [] cs ns t h e f = absurd (omega (arith, h))
+at_own_of (m ∷ ms) [] ns t h e f = absurd (let bad : 0 ≡ suc (length ms) = e in omega (arith, bad))
+at_own_of (m ∷ ms) (c ∷ cs) [] t h e f = absurd (let bad : 0 ≡ suc (length ms) = f in omega (arith, bad))
+at_own_of (m ∷ ms) (c ∷ cs) (n ∷ ns) zero h e f = refl
+at_own_of (m ∷ ms) (c ∷ cs) (n ∷ ns) (suc t) h e f =
+    at_own_of ms cs ns t (omega (arith, h)) (omega (arith, e)) (omega (arith, f))
 
 int_eq_self : (n : ℤ) → int_eq n n ≡ true
 int_eq_self n = (Decides-int_eq n n).1 refl
 
-own_is : (r : Mark) (c : ℕ) → is_mark r (own_value r c) ≡ true
-own_is Pointer c = refl
-own_is TextPointer c = refl
-own_is IsNull c = refl
-own_is IsObject c = refl
-own_is IsText c = refl
-own_is (IsNumber n) c = int_eq_self n
+own_is : (r : Mark) (c : ℕ) (n : ℤ) → IsInMark r n → is_mark r (own_value r c n) ≡ true
+own_is Pointer c n h = refl
+own_is TextPointer c n h = refl
+own_is IsNull c n h = refl
+own_is IsObject c n h = refl
+own_is IsText c n h = refl
+own_is (IsNumber m) c n h = int_eq_self m
+own_is (Integer r) c n h = h
 
-own_below : (n : ℕ) (r : Mark) (c : ℕ) → c < n → IsOf n (own_value r c)
-own_below n Pointer c h = h
-own_below n TextPointer c h = tt
-own_below n IsNull c h = tt
-own_below n IsObject c h = h
-own_below n IsText c h = tt
-own_below n (IsNumber i) c h = tt
+-- a token that is no number counts as 0
+own_number : (r : Mark) (c : ℕ) (n : ℤ) → IsInMark r n → number_of (own_value r c n) ≡ n
+own_number Pointer c n h = sym h
+own_number TextPointer c n h = sym h
+own_number IsNull c n h = sym h
+own_number IsObject c n h = sym h
+own_number IsText c n h = sym h
+own_number (IsNumber m) c n h = sym h
+own_number (Integer r) c n h = refl
+
+numbers_own : (ms : List Mark) (cs : List ℕ) (ns : List ℤ) (t : ℕ) → length cs ≡ length ms → length ns ≡ length ms
+    → ((u : ℕ) → u < length ms → IsInMark (get_or ms u IsNull) (get_or ns u (pos 0)))
+    → number_of (at (own_values ms cs ns) t) ≡ get_or ns t (pos 0)
+numbers_own [] cs [] t e f h = ap number_of (own_past t) ∙ sym (none_past t)
+numbers_own [] cs (n ∷ ns) t e f h = absurd (let bad : suc (length ns) ≡ 0 = f in omega (arith, bad))
+numbers_own (m ∷ ms) [] ns t e f h = absurd (let bad : 0 ≡ suc (length ms) = e in omega (arith, bad))
+numbers_own (m ∷ ms) (c ∷ cs) [] t e f h = absurd (let bad : 0 ≡ suc (length ms) = f in omega (arith, bad))
+numbers_own (m ∷ ms) (c ∷ cs) (n ∷ ns) zero e f h = own_number m c n (h 0 (omega arith))
+numbers_own (m ∷ ms) (c ∷ cs) (n ∷ ns) (suc t) e f h =
+    numbers_own ms cs ns t (omega (arith, e)) (omega (arith, f)) (λ u lt. h (suc u) (omega (arith, lt)))
+
+own_below : (n : ℕ) (r : Mark) (c : ℕ) (i : ℤ) → c < n → IsOf n (own_value r c i)
+own_below n Pointer c i h = h
+own_below n TextPointer c i h = tt
+own_below n IsNull c i h = tt
+own_below n IsObject c i h = h
+own_below n IsText c i h = tt
+own_below n (IsNumber m) c i h = tt
+own_below n (Integer r) c i h = tt
 
 objects_apart : (a b : ℕ) → (a ≡ b → ⊥) → value.Object a ≡ value.Object b → ⊥
 objects_apart a b ne e = ne (cc)
 
-module _ (s : State) (w : IsSound s) where
-  pub at_canon : (t : ℕ) → t < count s.known → at (canon s) t ≡ own_value (mark_of s.known t) (class_of s.classes t)
-  at_canon t h = at_own_of s.known.marks s.classes t h w.notes.classes_long
+module _ (s : State) (w : IsSound s) (ns : List ℤ) (model : IsModel s ns) where
+  abbrev Own : Table
+  Own = canon s ns
 
-  pub at_object : (t : ℕ) → mark_of s.known t ≡ IsObject → at (canon s) t ≡ value.Object (class_of s.classes t)
-  at_object t e = at_canon t (object_is_below s.known.marks t e) ∙ ap (λ r. own_value r (class_of s.classes t)) e
+  pub at_canon : (t : ℕ) → t < count s.known
+      → at Own t ≡ own_value (mark_of s.known t) (class_of s.classes t) (get_or ns t (pos 0))
+  at_canon t h = at_own_of s.known.marks s.classes ns t h w.notes.classes_long model.all
 
-  pub canon_fits : FitsState (canon s) s
+  pub at_object : (t : ℕ) → mark_of s.known t ≡ IsObject → at Own t ≡ value.Object (class_of s.classes t)
+  at_object t e = at_canon t (object_is_below s.known.marks t e)
+      ∙ ap (λ r. own_value r (class_of s.classes t) (get_or ns t (pos 0))) e
+
+  class_same : (t : ℕ) → t < count s.known → at Own (class_of s.classes t) ≡ at Own t
+  class_same t h = by (mark_of s.known t) refl
+    where
+      alone : (mark_of s.known t ≡ IsObject → ⊥) → at Own (class_of s.classes t) ≡ at Own t
+      alone ne = ap (at Own) (w.notes.alone t h ne)
+
+      by : (r : Mark) → mark_of s.known t ≡ r → at Own (class_of s.classes t) ≡ at Own t
+      by Pointer e = alone (λ z. let bad : Pointer ≡ IsObject = sym e ∙ z in cc)
+      by TextPointer e = alone (λ z. let bad : TextPointer ≡ IsObject = sym e ∙ z in cc)
+      by IsNull e = alone (λ z. let bad : IsNull ≡ IsObject = sym e ∙ z in cc)
+      by IsObject e = at_object (class_of s.classes t) (w.notes.class_mark t h ∙ e)
+          ∙ ap value.Object (w.notes.class_stands t h) ∙ sym (at_object t e)
+      by IsText e = alone (λ z. let bad : IsText ≡ IsObject = sym e ∙ z in cc)
+      by (IsNumber n) e = alone (λ z. let bad : IsNumber n ≡ IsObject = sym e ∙ z in cc)
+      by (Integer r) e = alone (λ z. let bad : Integer r ≡ IsObject = sym e ∙ z in cc)
+
+  node_same : (n : ℕ) → node_value Own n ≡ node_at ns n
+  node_same zero = refl
+  node_same (suc t) = numbers_own s.known.marks s.classes ns t w.notes.classes_long model.all model.marks
+
+  pub canon_fits : FitsState Own s
   canon_fits = record {
-    statics = λ t h. at_object t (w.notes.static_objects t h) ∙ ap value.Object (w.notes.class_static t h);
-    marks = λ t h. ap (is_mark (mark_of s.known t)) (at_canon t h) ∙ own_is (mark_of s.known t) (class_of s.classes t);
-    classes = λ t h.
-        let o = w.notes.class_older t h in
-        at_canon (class_of s.classes t) (omega (arith, o, h))
-        ∙ ap (λ r. own_value r (class_of s.classes (class_of s.classes t))) (w.notes.class_mark t h)
-        ∙ ap (own_value (mark_of s.known t)) (w.notes.class_stands t h) ∙ sym (at_canon t h);
-    others = λ k d h e.
-        let o = w.notes.others_objects k d h in
-        let p = get_or s.others k d in
-        objects_apart (class_of s.classes p.a) (class_of s.classes p.b) (w.notes.others_part k d h)
-        (sym (at_object p.a o.0) ∙ e ∙ at_object p.b o.1);
+    notes = record {
+      statics = λ t h. at_object t (w.notes.static_objects t h) ∙ ap value.Object (w.notes.class_static t h);
+      marks = λ t h. ap (is_mark (mark_of s.known t)) (at_canon t h)
+          ∙ own_is (mark_of s.known t) (class_of s.classes t) (get_or ns t (pos 0)) (model.marks t h);
+      classes = class_same;
+      others = λ k d h e.
+          let o = w.notes.others_objects k d h in
+          let p = get_or s.others k d in
+          objects_apart (class_of s.classes p.a) (class_of s.classes p.b) (w.notes.others_part k d h)
+          (sym (at_object p.a o.0) ∙ e ∙ at_object p.b o.1);
+    };
+    limits = λ k d h.
+        let l = get_or s.limits k d in
+        let a = node_same l.x in
+        let b = node_same l.y in
+        let met = model.limits k d h in
+        omega (arith, ints, a, b, met);
   }
 
-  pub canon_below : (n : ℕ) → count s.known ≤ n → (t : ℕ) → t < count s.known → IsOf n (at (canon s) t)
+  pub canon_below : (n : ℕ) → count s.known ≤ n → (t : ℕ) → t < count s.known → IsOf n (at Own t)
   canon_below n le t h =
       let o = w.notes.class_older t h in
       subst (IsOf n) (sym (at_canon t h)) (own_below n (mark_of s.known t) (class_of s.classes t)
-      (omega (arith, o, h, le)))
+      (get_or ns t (pos 0)) (omega (arith, o, h, le)))
 
   -- a balance that isn't level
-  module _ (code : List Line) (base : ℕ) (m : Regs) (l : Lies code (canon s) base m s) where
+  module _ (code : List Line) (base : ℕ) (m : Regs) (l : Lies code Own base m s) where
     is_object_mark : (t : ℕ) → t < count s.known → (balance_at s.balances t ≡ pos 0 → ⊥) → mark_of s.known t ≡ IsObject
     is_object_mark t h ne = by (mark_of s.known t) refl
       where
@@ -236,6 +309,7 @@ module _ (s : State) (w : IsSound s) where
         by IsObject e = e
         by IsText e = absurd (ne (w.notes.no_object t h (λ z. let bad : IsText ≡ IsObject = sym e ∙ z in cc)))
         by (IsNumber n) e = absurd (ne (w.notes.no_object t h (λ z. let bad : IsNumber n ≡ IsObject = sym e ∙ z in cc)))
+        by (Integer r) e = absurd (ne (w.notes.no_object t h (λ z. let bad : Integer r ≡ IsObject = sym e ∙ z in cc)))
 
     stands_alone : (t : ℕ) → t < count s.known → (balance_at s.balances t ≡ pos 0 → ⊥) → class_of s.classes t ≡ t
     stands_alone t h ne = elim (cases_eq (class_of s.classes t) t) [
@@ -244,16 +318,18 @@ module _ (s : State) (w : IsSound s) where
           (ne (w.notes.merged t h other))
     ]
 
-    the_class : (o t : ℕ) → t < count s.known → is_the o (at (canon s) t) ≡ true → class_of s.classes t ≡ o
+    the_class : (o t : ℕ) → t < count s.known → is_the o (at Own t) ≡ true → class_of s.classes t ≡ o
     the_class o t h e = by (mark_of s.known t) (sym (ap (is_the o) (at_canon t h)) ∙ e)
       where
-        by : (r : Mark) → is_the o (own_value r (class_of s.classes t)) ≡ true → class_of s.classes t ≡ o
+        by : (r : Mark) → is_the o (own_value r (class_of s.classes t) (get_or ns t (pos 0))) ≡ true
+            → class_of s.classes t ≡ o
         by Pointer z = eqb-true (class_of s.classes t) o z
         by TextPointer z = absurd (let bad : false ≡ true = z in cc)
         by IsNull z = absurd (let bad : false ≡ true = z in cc)
         by IsObject z = eqb-true (class_of s.classes t) o z
         by IsText z = absurd (let bad : false ≡ true = z in cc)
         by (IsNumber n) z = absurd (let bad : false ≡ true = z in cc)
+        by (Integer r) z = absurd (let bad : false ≡ true = z in cc)
 
     one_or : (b : Bool) (x : ℤ) → (x ≡ (if b then pos 1 else pos 0) → ⊥) → (x ≡ pos 0 → ⊥) ⊎ (b ≡ true)
     one_or true x ne = inr refl
@@ -263,7 +339,7 @@ module _ (s : State) (w : IsSound s) where
         → is_class s.classes r t ≡ true → (mark_of s.known t ≡ IsObject) × (class_of s.classes t ≡ t)
     wanted_object x t None e g z = absurd (let bad : false ≡ true = z in cc)
     wanted_object x t (Some u) e g z =
-        let r = returned_some code (canon s) base m s w l x u g e in
+        let r = returned_some code Own base m s w l x u g e in
         let lu = object_is_below s.known.marks u r.0 in
         let same : class_of s.classes u ≡ t = eqb-true (class_of s.classes u) t z in (
           ap (mark_of s.known) (sym same) ∙ w.notes.class_mark u lu ∙ r.0,
@@ -272,15 +348,15 @@ module _ (s : State) (w : IsSound s) where
         )
 
     names_wanted : (x : Option Term) (t : ℕ) (r : Option ℕ) → returned_object s.known x ≡ r → IsGiven s.known x
-        → is_returned (returned_value (canon s) x) t ≡ is_class s.classes r t
-    names_wanted x t None e g = returned_none code (canon s) base m s w l x g e t
+        → is_returned (returned_value Own x) t ≡ is_class s.classes r t
+    names_wanted x t None e g = returned_none code Own base m s w l x g e t
     names_wanted x t (Some u) e g =
-        let r = returned_some code (canon s) base m s w l x u g e in
+        let r = returned_some code Own base m s w l x u g e in
         r.1 t ∙ ap (is_the t) (at_object u r.0)
 
     pub uneven : (x : Option Term) (t : ℕ) → IsGiven s.known x → t < count s.known
         → (balance_at s.balances t ≡ wanted s x t → ⊥)
-        → (t < length m.world.accounts) × (IsLevel m.world (returned_value (canon s) x) t → ⊥)
+        → (t < length m.world.accounts) × (IsLevel m.world (returned_value Own x) t → ⊥)
     uneven x t g lt ne =
         let c = returned_object s.known x in
         let own : (mark_of s.known t ≡ IsObject)
@@ -288,9 +364,9 @@ module _ (s : State) (w : IsSound s) where
           | inl z ↦ (is_object_mark t lt z, stands_alone t lt z)
           | inr z ↦ wanted_object x t c refl g z
         ] in
-        let at_t : at (canon s) t ≡ value.Object t = at_object t own.0 ∙ ap value.Object own.1 in
+        let at_t : at Own t ≡ value.Object t = at_object t own.0 ∙ ap value.Object own.1 in
         let bl = w.notes.balances_long in
-        let alone = named_alone t (canon s) s.balances t (omega (arith, lt, bl)) (ap (is_the t) at_t ∙ eq-eqb t t refl)
+        let alone = named_alone t Own s.balances t (omega (arith, lt, bl)) (ap (is_the t) at_t ∙ eq-eqb t t refl)
         (λ y h other e. w.notes.merged y (omega (arith, h, bl)) (λ z. other (sym z
         ∙ the_class t y (omega (arith, h, bl)) e))) in
         let was = l.claims t in

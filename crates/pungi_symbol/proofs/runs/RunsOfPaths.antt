@@ -1,5 +1,6 @@
 -- Back: values of the tokens that fit a state at the end of a path give a run to it.
-use Rattle.std.proofs.Common.{◌≡◌, ℕ, suc, ◌+◌, ◌<◌, ◌≤◌, List, [], ◌∷◌, length, refl, sym, ap, ◌∙◌, subst, arith, inl}
+use Rattle.std.proofs.Common.{◌≡◌, ◌==◌, ℕ, suc, ◌+◌, ◌<◌, ◌≤◌, List, [], ◌∷◌, length, refl, sym, ap, ◌∙◌, subst}
+use Rattle.std.proofs.Common.{arith, inl}
 use Rattle.std.proofs.Common.{inr, Option, Some}
 use Rattle.std.specs.Prelude.{slice_get}
 use Rattle.pungi_base.specs.declared.choice.Choice.{Choice}
@@ -10,7 +11,8 @@ use Rattle.pungi_symbol.specs.declared.states.known.Status.TheVariants as status
 use Rattle.pungi_symbol.specs.declared.questions.question.Question.{Question}
 use Rattle.pungi_symbol.specs.declared.questions.question.Question.TheVariants.{Does, Touches, Overwrites}
 use Rattle.pungi_symbol.specs.declared.questions.question.Question.TheVariants.{Null as AsksNull, Base, Answers, Same}
-use Rattle.pungi_symbol.specs.declared.questions.question.Question.TheVariants.{Returns, Stops, Over}
+use Rattle.pungi_symbol.specs.declared.questions.question.Question.TheVariants.{Orders, Range, Unplain, Returns}
+use Rattle.pungi_symbol.specs.declared.questions.question.Question.TheVariants.{Stops, Over}
 use Rattle.pungi_symbol.specs.declared.states.state.State.{State}
 use Rattle.pungi_symbol.specs.states.Terms.{Table, at}
 use Rattle.pungi_symbol.specs.runs.Fits.{FitsState, IsSound}
@@ -27,17 +29,19 @@ use Rattle.pungi_symbol.specs.runs.Paths.{table_of, argument_count, start_state,
 use Rattle.pungi_symbol.specs.runs.Paths.{IsAt, choice_of}
 use Rattle.pungi_symbol.specs.runs.RunInState.{IsOf}
 use Rattle.pungi_symbol.proofs.steps.ChoicesForAnswers.{comes, not_lacking}
-use Rattle.pungi_symbol.proofs.runs.Paths.{can_going, asked_at, step_back, path_sound, at_later, at_status}
+use Rattle.pungi_symbol.proofs.runs.Paths.{can_going, asked_at, step_back, path_sound, at_later, at_status, at_number}
 use Rattle.std.proofs.Common.{length-append}
 use Rattle.std.proofs.Math.ListN.{length-set}
 use Rattle.std.proofs.lemmas.List.{length-replicate}
 use Rattle.pungi_world.specs.World.{fresh_account}
 use Rattle.pungi_symbol.specs.states.Terms.{outcomes_of_mark, outcomes_of_answer, mark_at}
-use Rattle.pungi_symbol.specs.answers.KnownAfter.{arrive, call_var, term_with, number_of_outcome}
+use Rattle.pungi_symbol.specs.answers.KnownAfter.{arrive, call_var, term_with, number_of_outcome, says_order}
+use Rattle.pungi_symbol.specs.answers.KnownAfter.{place_of_line}
 use Rattle.pungi_symbol.proofs.steps.SoundAfter.{answered_marks}
-use Rattle.pungi_symbol.proofs.steps.RunInState.{Moved, stays, goes_on, leaves, halts, effort, Linked}
+use Rattle.pungi_symbol.proofs.steps.RunInState.{Moved, stays, goes_on, leaves, sees, halts, effort, Linked}
 use Rattle.pungi_symbol.proofs.steps.StepForward.{AreObjectLines, moves}
-use Rattle.pungi_symbol.proofs.steps.StepBack.{came_in, line_marks, load_marks, store_marks}
+use Rattle.pungi_symbol.proofs.steps.StepBack.{came_in, line_marks, load_marks, store_marks, ordered_marks}
+use Rattle.pungi_symbol.proofs.steps.StepBack.{ranged_marks}
 
 pub count_by : (o : Option Line) (q : Question) (d : Decision) (s : State)
     → count (apply o q d s).known ≡ count s.known + comes q
@@ -53,6 +57,10 @@ count_by o (Answers a) d s =
     ap length (answered_marks (arrive r s.known) (call_var (instr_of o)) (Some (term_with r (count s.known))))
     ∙ length-append s.known.marks (r ∷ [])
 count_by o (Same t u) d s = omega arith
+count_by o (Orders a b) d s = ap length (ordered_marks (instr_of o) (says_order d) s.known) ∙ (omega arith)
+count_by o (Range kind a) d s =
+    ap length (ranged_marks (instr_of o) a (place_of_line o) (number_of_outcome d == 1) s.known) ∙ (omega arith)
+count_by o Unplain d s = omega arith
 count_by o (Returns x) d s = omega arith
 count_by o (Stops d') d s = omega arith
 count_by o Over d s = omega arith
@@ -120,6 +128,17 @@ module _ (code : Code) (statics f : ℕ) (form : AreObjectLines statics code.ins
         is_at = at_status code statics f form entry choices sound linked started
             (n + 1) m s'.known.pc s'.known.status (status.Returned p0 x) e0 (at_later code statics f form entry
             choices sound linked started n m m s.known.pc s'.known.pc (status.Returned p0 x) g e);
+        many = many;
+        in_time = omega (arith, le);
+      },
+    )
+    after_move n long s s' m g many le (sees p0 pc e0 l) = (
+      n,
+      record {
+        m = m;
+        lies = l;
+        is_at = at_number code statics f form entry choices sound linked started n m
+            s.known.pc s'.known.pc s'.known.status p0 pc e0 g;
         many = many;
         in_time = omega (arith, le);
       },

@@ -33,7 +33,7 @@ use Rattle.pungi_code.specs.Entries.{holds_value, hold_values, code_fits}
 use Rattle.pungi_code.specs.Run.{start}
 use Rattle.pungi_symbol.specs.questions.NextQuestion.{content_mark}
 use Rattle.pungi_symbol.specs.answers.SymbolicState.{class_of, balance_at}
-use Rattle.pungi_symbol.specs.runs.ObjectForm.{is_pointer_param, is_object_instr, has_object_form}
+use Rattle.pungi_symbol.specs.runs.JudgedForm.{is_held_param, is_judged_instr, has_judged_form}
 use Rattle.pungi_symbol.specs.runs.Fits.{named, is_the}
 use Rattle.pungi_symbol.proofs.states.NamedObjects.{part}
 use Rattle.pungi_base.specs.declared.choice.Choice.TheVariants as choice
@@ -67,15 +67,15 @@ each_same P k d h z = elim (below_or z k) [
   | inr ge ↦ subst P (sym (get_or_past (replicate k d) z d (let e = length-replicate k d in omega (arith, e, ge)))) h
 ]
 
-pub form_lines : (n : ℕ) (code : Code) → has_object_form n code ≡ true → AreObjectLines n code.instrs
+pub form_lines : (n : ℕ) (code : Code) → has_judged_form n code ≡ true → AreObjectLines n code.instrs
 form_lines n code h pc line e =
-    all_at (λ l. is_object_instr n l.instr) code.instrs pc line (two_true (list_all is_pointer_param
-    (take code.params code.vars)) (list_all (λ l. is_object_instr n l.instr) code.instrs) h).1 e
+    all_at (λ l. is_judged_instr n l.instr) code.instrs pc line (two_true (list_all is_held_param
+    (take code.params code.vars)) (list_all (λ l. is_judged_instr n l.instr) code.instrs) h).1 e
 
-pub form_params : (n : ℕ) (code : Code) → has_object_form n code ≡ true
-    → list_all is_pointer_param (take code.params code.vars) ≡ true
+pub form_params : (n : ℕ) (code : Code) → has_judged_form n code ≡ true
+    → list_all is_held_param (take code.params code.vars) ≡ true
 form_params n code h =
-    (two_true (list_all is_pointer_param (take code.params code.vars)) (list_all (λ l. is_object_instr n l.instr)
+    (two_true (list_all is_held_param (take code.params code.vars)) (list_all (λ l. is_judged_instr n l.instr)
     code.instrs) h).0
 
 -- ---- the first state
@@ -146,7 +146,7 @@ module _ (statics f : ℕ) (code : Code) where
 
   -- ---- entries
 
-  held_mark : (n : ℕ) (k : Param) (v : Value) → is_pointer_param k ≡ true → holds_value n k v ≡ true
+  held_mark : (n : ℕ) (k : Param) (v : Value) → is_held_param k ≡ true → holds_value n k v ≡ true
       → (is_mark (content_mark k) v ≡ true) × IsOf n v
   held_mark n param.ObjectOrNull value.Null p h = (refl, tt)
   held_mark n param.ObjectOrNull (value.Object o) p h = (refl, lt_says o n h)
@@ -161,9 +161,18 @@ module _ (statics f : ℕ) (code : Code) where
   held_mark n param.TextOrNull value.Text p h = (refl, tt)
   held_mark n param.Object v p h = absurd (let bad : false ≡ true = p in cc)
   held_mark n param.Text v p h = absurd (let bad : false ≡ true = p in cc)
-  held_mark n param.Int v p h = absurd (let bad : false ≡ true = p in cc)
-  held_mark n param.Long v p h = absurd (let bad : false ≡ true = p in cc)
-  held_mark n param.Size v p h = absurd (let bad : false ≡ true = p in cc)
+  held_mark n param.Int value.Null p h = absurd (let bad : false ≡ true = h in cc)
+  held_mark n param.Int (value.Object o) p h = absurd (let bad : false ≡ true = h in cc)
+  held_mark n param.Int (value.Int i) p h = (h, tt)
+  held_mark n param.Int value.Text p h = absurd (let bad : false ≡ true = h in cc)
+  held_mark n param.Long value.Null p h = absurd (let bad : false ≡ true = h in cc)
+  held_mark n param.Long (value.Object o) p h = absurd (let bad : false ≡ true = h in cc)
+  held_mark n param.Long (value.Int i) p h = (h, tt)
+  held_mark n param.Long value.Text p h = absurd (let bad : false ≡ true = h in cc)
+  held_mark n param.Size value.Null p h = absurd (let bad : false ≡ true = h in cc)
+  held_mark n param.Size (value.Object o) p h = absurd (let bad : false ≡ true = h in cc)
+  held_mark n param.Size (value.Int i) p h = (h, tt)
+  held_mark n param.Size value.Text p h = absurd (let bad : false ≡ true = h in cc)
   held_mark n param.ModuleDef v p h = absurd (let bad : false ≡ true = p in cc)
 
   pub held_long : (n : ℕ) (ks : List Param) (vs : List Value) → hold_values n ks vs ≡ true → length vs ≡ length ks
@@ -172,16 +181,16 @@ module _ (statics f : ℕ) (code : Code) where
   held_long n (k ∷ ks) [] h = absurd (let bad : false ≡ true = h in cc)
   held_long n (k ∷ ks) (v ∷ vs) h = ap suc (held_long n ks vs (two_true (holds_value n k v) (hold_values n ks vs) h).1)
 
-  held_at : (n : ℕ) (ks : List Param) (vs : List Value) (j : ℕ) → list_all is_pointer_param ks ≡ true
+  held_at : (n : ℕ) (ks : List Param) (vs : List Value) (j : ℕ) → list_all is_held_param ks ≡ true
       → hold_values n ks vs ≡ true → j < length ks
       → (is_mark (get_or (map content_mark ks) j IsNull) (get_or vs j value.Null) ≡ true)
       × IsOf n (get_or vs j value.Null)
   held_at n [] vs j p h lt = absurd (omega (arith, lt))
   held_at n (k ∷ ks) [] j p h lt = absurd (let bad : false ≡ true = h in cc)
-  held_at n (k ∷ ks) (v ∷ vs) zero p h lt = held_mark n k v (two_true (is_pointer_param k)
-      (list_all is_pointer_param ks) p).0 (two_true (holds_value n k v) (hold_values n ks vs) h).0
-  held_at n (k ∷ ks) (v ∷ vs) (suc j) p h lt = held_at n ks vs j (two_true (is_pointer_param k)
-      (list_all is_pointer_param ks) p).1 (two_true (holds_value n k v) (hold_values n ks vs) h).1 (omega (arith, lt))
+  held_at n (k ∷ ks) (v ∷ vs) zero p h lt = held_mark n k v (two_true (is_held_param k)
+      (list_all is_held_param ks) p).0 (two_true (holds_value n k v) (hold_values n ks vs) h).0
+  held_at n (k ∷ ks) (v ∷ vs) (suc j) p h lt = held_at n ks vs j (two_true (is_held_param k)
+      (list_all is_held_param ks) p).1 (two_true (holds_value n k v) (hold_values n ks vs) h).1 (omega (arith, lt))
 
   module _ (entry : Entry) (choices : List Choice) (args : length entry.args ≡ N) where
     abbrev pub Tab : Table
@@ -210,7 +219,7 @@ module _ (statics f : ℕ) (code : Code) where
         ∙ get_or-append-add entry.args (map value_of choices) j value.Null
         ∙ get_or-map value_of choices j (choice.Null) ∙ ap value_of (get_or_from_slice_get choices j c choice.Null e)
 
-    module _ (few : statics ≤ entry.objects) (kinds : list_all is_pointer_param Ks ≡ true)
+    module _ (few : statics ≤ entry.objects) (kinds : list_all is_held_param Ks ≡ true)
         (held : hold_values entry.objects Ks entry.args ≡ true) where
       fit_marks : (t : ℕ) → t < length Ms → is_mark (get_or Ms t IsNull) (at Tab t) ≡ true
       fit_marks t lt = elim (below_or t statics) [
@@ -290,10 +299,13 @@ module _ (statics f : ℕ) (code : Code) where
       pub start_lies : Lies code.instrs Tab (statics + N) (start code entry) (start_state statics f code)
       start_lies = record {
         fits = record {
-          statics = at_static;
-          marks = fit_marks;
-          classes = λ t lt. ap (at Tab) (class_is t lt);
-          others = λ k d h. absurd (omega (arith, h));
+          notes = record {
+            statics = at_static;
+            marks = fit_marks;
+            classes = λ t lt. ap (at Tab) (class_is t lt);
+            others = λ k d h. absurd (omega (arith, h));
+          };
+          limits = λ k d h. absurd (omega (arith, h));
         };
         vars = ap (λ n. map content.Holds entry.args ++ replicate (length code.vars - n) content.Unset) args
             ∙ ap (λ y. y ++ replicate (length code.vars - N) content.Unset) argument_terms

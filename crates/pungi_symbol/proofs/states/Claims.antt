@@ -9,10 +9,10 @@ use Rattle.pungi_base.specs.declared.value.Value.TheVariants as value
 use Rattle.pungi_symbol.specs.declared.states.known.Known.{Known}
 use Rattle.pungi_symbol.specs.declared.states.mark.Mark.{Mark}
 use Rattle.pungi_symbol.specs.declared.states.mark.Mark.TheVariants.{Pointer, TextPointer, IsNull, IsObject, IsText}
-use Rattle.pungi_symbol.specs.declared.states.mark.Mark.TheVariants.{IsNumber}
+use Rattle.pungi_symbol.specs.declared.states.mark.Mark.TheVariants.{IsNumber, Integer}
 use Rattle.pungi_symbol.specs.declared.states.state.State.{State}
 use Rattle.pungi_symbol.specs.declared.states.term.Term.{Term}
-use Rattle.pungi_symbol.specs.declared.states.term.Term.TheVariants.{Unset, Null, Text, Number, Token}
+use Rattle.pungi_symbol.specs.declared.states.term.Term.TheVariants.{Unset, Null, Text, Number, Token, Sum}
 use Rattle.pungi_symbol.specs.states.Terms.{Table, at, is_mark}
 use Rattle.pungi_symbol.specs.states.Known.{count, mark_of, object_of, object_mark}
 use Rattle.pungi_symbol.specs.answers.SymbolicState.{class_of, balance_at, add_to, add_term, lower}
@@ -29,6 +29,7 @@ not_the o IsNull (value.Object k) h e ne = absurd (let bad : false ≡ true = h 
 not_the o IsObject (value.Object k) h e ne = absurd (ne refl)
 not_the o IsText (value.Object k) h e ne = absurd (let bad : false ≡ true = h in cc)
 not_the o (IsNumber n) (value.Object k) h e ne = absurd (let bad : false ≡ true = h in cc)
+not_the o (Integer r) (value.Object k) h e ne = absurd (let bad : false ≡ true = h in cc)
 not_the o m (value.Int n) h e ne = refl
 not_the o m value.Text h e ne = refl
 
@@ -50,14 +51,14 @@ module _ (table : Table) (s : State) (fits : FitsState table s) (sound : IsSound
       let older = sound.notes.class_older t lt in
       let below : class_of s.classes t < length balances = omega (arith, older, lt, long) in
       named_set o table balances (class_of s.classes t) d below
-      ∙ ap (λ v. named o table balances +ℤ part (is_the o v) d) (fits.classes t lt)
+      ∙ ap (λ v. named o table balances +ℤ part (is_the o v) d) (fits.notes.classes t lt)
 
   off_mark : (o t : ℕ) (d : ℤ) (balances : List ℤ) (m : Mark) → mark_of s.known t ≡ m → (m ≡ IsObject → ⊥)
       → object_mark m t ≡ None → is_open m ≡ false → t < count s.known
       → named o table (add_to s.classes (object_mark m t) d balances)
       ≡ named o table balances +ℤ part (is_the o (at table t)) d
   off_mark o t d balances m e ne none closed lt =
-      let is : is_mark m (at table t) ≡ true = subst (λ m. is_mark m (at table t) ≡ true) e (fits.marks t lt) in
+      let is : is_mark m (at table t) ≡ true = subst (λ m. is_mark m (at table t) ≡ true) e (fits.notes.marks t lt) in
       let off : is_the o (at table t) ≡ false = not_the o m (at table t) is closed ne in
       ap (λ r. named o table (add_to s.classes r d balances)) none
       ∙ sym (ap (λ b. named o table balances +ℤ part b d) off ∙ (omega (arith, ints)))
@@ -72,6 +73,7 @@ module _ (table : Table) (s : State) (fits : FitsState table s) (sound : IsSound
   by_mark o t d balances IsObject e closed lt long = at_class o t d balances lt long
   by_mark o t d balances IsText e closed lt long = off_mark o t d balances IsText e (λ h. cc) refl refl lt
   by_mark o t d balances (IsNumber n) e closed lt long = off_mark o t d balances (IsNumber n) e (λ h. cc) refl refl lt
+  by_mark o t d balances (Integer r) e closed lt long = off_mark o t d balances (Integer r) e (λ h. cc) refl refl lt
 
   -- a number at a term
   pub at_term : (o : ℕ) (x : Term) (d : ℤ) (balances : List ℤ) → IsKnown s.known x → IsBelow (count s.known) x
@@ -83,6 +85,7 @@ module _ (table : Table) (s : State) (fits : FitsState table s) (sound : IsSound
   at_term o Text d balances known below long = omega (arith, ints)
   at_term o (Number n) d balances known below long = omega (arith, ints)
   at_term o (Token t) d balances known below long = by_mark o t d balances (mark_of s.known t) refl known below long
+  at_term o (Sum u) d balances known below long = omega (arith, ints)
 
   pub add_to_long : (r : Option ℕ) (d : ℤ) (balances : List ℤ)
       → length (add_to s.classes r d balances) ≡ length balances

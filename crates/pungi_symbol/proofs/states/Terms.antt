@@ -13,9 +13,9 @@ use Rattle.pungi_symbol.specs.declared.states.spot.Spot.{Spot}
 use Rattle.pungi_symbol.specs.declared.states.spot.Spot.TheVariants.{Global, Field}
 use Rattle.pungi_symbol.specs.declared.states.spot.Touched.{Touched}
 use Rattle.pungi_symbol.specs.declared.states.term.Term.{Term}
-use Rattle.pungi_symbol.specs.declared.states.term.Term.TheVariants.{Unset, Null, Text, Number, Token}
+use Rattle.pungi_symbol.specs.declared.states.term.Term.TheVariants.{Unset, Null, Text, Number, Token, Sum}
 use Rattle.pungi_symbol.specs.states.Known.{no_slot, slot_note, term_of}
-use Rattle.pungi_symbol.specs.runs.ObjectForm.{is_there}
+use Rattle.pungi_symbol.specs.runs.JudgedForm.{is_there}
 use Rattle.pungi_symbol.specs.runs.Fits.{IsBelow, IsObjectSpot, AreTermsSound}
 use Rattle.pungi_symbol.proofs.states.Contents.{is_open, static_below}
 
@@ -25,6 +25,7 @@ below_more n m Null le h = tt
 below_more n m Text le h = tt
 below_more n m (Number k) le h = tt
 below_more n m (Token t) le h = omega (arith, h, le)
+below_more n m (Sum s) le h = tt
 
 -- what is true of each element stays so where one is replaced
 pub set_each : {X : Type 0} (P : X → Type 0) (xs : List X) (i : ℕ) (x d : X) → ((z : ℕ) → P (get_or xs z d)) → P x

@@ -12,9 +12,9 @@ use Rattle.pungi_code.specs.declared.code.Line.{Line}
 use Rattle.pungi_code.specs.Registers.{Regs, put}
 use Rattle.pungi_symbol.specs.declared.states.mark.Mark.{Mark}
 use Rattle.pungi_symbol.specs.declared.states.mark.Mark.TheVariants.{Pointer, TextPointer, IsNull, IsObject, IsText}
-use Rattle.pungi_symbol.specs.declared.states.mark.Mark.TheVariants.{IsNumber}
+use Rattle.pungi_symbol.specs.declared.states.mark.Mark.TheVariants.{IsNumber, Integer}
 use Rattle.pungi_symbol.specs.declared.states.term.Term.{Term}
-use Rattle.pungi_symbol.specs.declared.states.term.Term.TheVariants.{Unset, Null, Text, Number, Token}
+use Rattle.pungi_symbol.specs.declared.states.term.Term.TheVariants.{Unset, Null, Text, Number, Token, Sum}
 use Rattle.pungi_symbol.specs.declared.states.spot.Progress.TheVariants.{Looking}
 use Rattle.pungi_symbol.specs.declared.states.state.State.{State}
 use Rattle.pungi_symbol.specs.states.Terms.{Table, at, content_of, is_mark}
@@ -35,7 +35,7 @@ use Rattle.pungi_symbol.specs.questions.NextQuestion.{first_term, asks_call_answ
 use Rattle.pungi_symbol.specs.answers.KnownAfter.{term_with, answer_of_call}
 use Rattle.pungi_symbol.specs.answers.SymbolicState.{owed_for_answer}
 use Rattle.pungi_symbol.specs.runs.Fits.{is_the}
-use Rattle.pungi_symbol.specs.runs.ObjectForm.{has_small}
+use Rattle.pungi_symbol.specs.runs.JudgedForm.{has_outcomes}
 use Rattle.pungi_symbol.specs.runs.RunInState.{owed, IsOf, Lies}
 use Rattle.std.proofs.lemmas.Bool.Decides.{Decides-int_eq}
 use Rattle.pungi_symbol.proofs.steps.Worlds.{IsNear}
@@ -87,7 +87,7 @@ unsure : {X : Type 0} → false ≡ true → X
 unsure h = absurd (cc)
 
 pub sure_is : (table : Table) (n : ℕ) (xs : List Term) → AllSet xs → (o : OwnEffect) (a : CallAnswer)
-    → has_small (Some o) a ≡ true → Sure table n xs a
+    → has_outcomes (Some o) a ≡ true → Sure table n xs a
 sure_is table n xs s o (Of answer.Void) h =
     record { answer = None; agrees = tt; returned = λ cs. refl; quiet = refl }
 sure_is table n xs s o (Of answer.Null) h =
@@ -136,6 +136,7 @@ term_with_is table (IsNumber i) t h o = by (at table t) h
     by (value.Object k) z = absurd (let bad : false ≡ true = z in cc)
     by (value.Int n) z = ap (λ y. content.Holds (value.Int y)) (sym ((Decides-int_eq n i).0 z))
     by value.Text z = absurd (let bad : false ≡ true = z in cc)
+term_with_is table (Integer r) t h o = refl
 
 -- the world after an answer
 part_none : (b : Bool) → part b (pos 0) ≡ pos 0
@@ -195,6 +196,7 @@ module _ (table : Table) (n c : ℕ) (there : (t : ℕ) → t < c → IsOf n (at
   of_term Text b = tt
   of_term (Number i) b = tt
   of_term (Token t) b = there t b
+  of_term (Sum s) b = tt
 
   pub of_terms : (k : ℕ) → n ≤ k → (xs : List Term) → AllBelow c xs → AreOf k table xs
   of_terms k le [] b = tt
@@ -210,7 +212,7 @@ module _ (code : List Line) (table : Table) (base : ℕ) (s : State) where
             { pc = s.known.pc + 1; vars = slice_set s.known.vars x.0 c; progress = Looking 0 };
       })
   after_put m1 bs x c v e h = record {
-    fits = h.fits;
+    fits = record { notes = h.fits.notes; limits = h.fits.limits };
     vars = ap (λ vs. slice_set vs x.0 (content.Holds v)) h.vars
         ∙ ap (slice_set (map (content_of table) s.known.vars) x.0) (sym e)
         ∙ sym (map-set (content_of table) s.known.vars x.0 c);
@@ -229,7 +231,7 @@ module _ (code : List Line) (table : Table) (base : ℕ) (s : State) where
             { pc = s.known.pc + 1; progress = Looking 0 };
       })
   after_none m1 bs h = record {
-    fits = h.fits;
+    fits = record { notes = h.fits.notes; limits = h.fits.limits };
     vars = h.vars;
     slots = h.slots;
     used = h.used;

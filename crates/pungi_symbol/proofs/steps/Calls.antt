@@ -20,7 +20,7 @@ use Rattle.pungi_symbol.specs.declared.states.state.State.{State}
 use Rattle.pungi_symbol.specs.declared.states.term.Term.{Term}
 use Rattle.pungi_symbol.specs.states.Terms.{Table, at, content_of, is_mark, value_of_mark}
 use Rattle.pungi_symbol.specs.runs.Fits.{IsSound}
-use Rattle.pungi_symbol.specs.runs.ObjectForm.{is_there}
+use Rattle.pungi_symbol.specs.runs.JudgedForm.{is_there}
 use Rattle.pungi_symbol.specs.runs.RunInState.{Lies}
 use Rattle.std.specs.Prelude.{replicate, ◌||◌, Result as Res, Ok, Err}
 use Rattle.std.specs.List.{list_all}
@@ -51,7 +51,7 @@ use Rattle.pungi_symbol.specs.questions.NextQuestion.{asks_all_set, asks_known, 
 use Rattle.pungi_symbol.specs.questions.NextQuestion.{asks_own, asks_signature, first_term, terms_of}
 use Rattle.pungi_symbol.specs.answers.KnownAfter.{go_on, put_answer, answer_of_call, term_with, arrive}
 use Rattle.pungi_symbol.specs.answers.SymbolicState.{join, lower, add_term, taken_terms, own_weigh, owed_for_answer}
-use Rattle.pungi_symbol.specs.runs.ObjectForm.{has_small, is_small}
+use Rattle.pungi_symbol.specs.runs.JudgedForm.{has_outcomes}
 use Rattle.pungi_symbol.specs.runs.Fits.{named, is_the}
 use Rattle.pungi_symbol.specs.runs.RunInState.{owed, IsOf, IsWalked, state_in, slot_at_place, place_in}
 use Rattle.pungi_symbol.specs.answers.KnownAfter.{instr_of}
@@ -62,7 +62,6 @@ use Rattle.pungi_symbol.proofs.steps.ChoicesForAnswers.{not_refused}
 use Rattle.pungi_symbol.proofs.steps.RunInState.{effort}
 use Rattle.pungi_symbol.specs.runs.OneInstruction.{Led, on_values, on_effect, goes, leads, leads_at}
 use Rattle.pungi_symbol.proofs.states.Contents.{unset, asks, passes, knowing_is, IsKnown, is_open, term_value}
-use Rattle.pungi_symbol.proofs.states.Contents.{mark_agrees}
 use Rattle.pungi_symbol.proofs.states.NamedObjects.{part, named_end}
 use Rattle.pungi_symbol.proofs.states.Claims.{at_term, at_terms, lowered_long, owing}
 use Rattle.pungi_symbol.proofs.states.Owed.{AreUnmade}
@@ -74,8 +73,8 @@ use Rattle.pungi_symbol.proofs.steps.Loads.{arrive_lies, next_value}
 use Rattle.pungi_symbol.proofs.steps.Rows.{AllSet, AllBelow, not_set, are_set, set_is, all_below, need_stops, need_asks}
 use Rattle.pungi_symbol.proofs.steps.Rows.{need_passes, needs_is, take_asks, take_passes}
 use Rattle.pungi_symbol.proofs.steps.Rows.{takes_is, KnownTaken, taken_known, taken_over_is, Answering, a_void}
-use Rattle.pungi_symbol.proofs.steps.Rows.{a_null, a_choice, answering_is, chose, chose_none, chosen_is, known_is}
-use Rattle.pungi_symbol.proofs.steps.Rows.{success_agrees}
+use Rattle.pungi_symbol.proofs.steps.Rows.{a_null, a_choice, answering_is, chose, chose_none, chosen_is}
+use Rattle.pungi_symbol.proofs.steps.AnswersOfChoices.{known_is}
 use Rattle.pungi_symbol.proofs.steps.CallAnswers.{AnswerIs, Sure, sure_is, first_holds, no_outputs, first_is, first_set}
 use Rattle.pungi_symbol.proofs.steps.CallAnswers.{first_below, term_with_is, answer_world, of_term, of_terms, after_put}
 use Rattle.pungi_symbol.proofs.steps.CallAnswers.{after_none}
@@ -168,11 +167,12 @@ module _ (choices : List Choice) (code : List Line) (table : Table) (base : ℕ)
           let kept = counted_keeps m.world Vf by in
           let b = first_below (count s.known) Ts below in
           record {
-            fits = l.fits;
+            fits = record { notes = l.fits.notes; limits = l.fits.limits };
             vars = l.vars;
             slots = kept.slots ∙ l.slots;
             used = let a = length-append m.used (replicate 0 p) in let c = l.used in omega (arith, a, c);
-            claims = λ o. (let a = counted_owed m.world Vf by o (of_term table (length m.world.accounts) (count s.known) l.below Tf b) in let c = at_term table s l.fits w o
+            claims = λ o. (let a = counted_owed m.world Vf by o (of_term table (length m.world.accounts)
+                (count s.known) l.below Tf b) in let c = at_term table s l.fits w o
                 Tf by s.balances kn b w.notes.balances_long in let d = l.claims o in let f = ap (named o table) e in
                 omega (arith, ints, a, c, d, f));
             below = λ t lt. subst (λ n. IsOf n (at table t)) (sym kept.accounts) (l.below t lt);
@@ -229,11 +229,12 @@ module _ (choices : List Choice) (code : List Line) (table : Table) (base : ℕ)
       quiet_lies : KnownTaken s.known g.takes Ts → g.own ≡ None
           → Lies code table base (Used 0 (take_over m.world false g.takes Vs)) (record s { balances = B1 })
       quiet_lies kt e =
-          let over = taken_over_is table m.world false g.takes Ts (of_terms table (length m.world.accounts) (count s.known) l.below (length m.world.accounts)
+          let over = taken_over_is table m.world false g.takes Ts (of_terms table (length m.world.accounts)
+          (count s.known) l.below (length m.world.accounts)
           (omega arith) Ts below) in
           let kept = over.0 in
           record {
-            fits = l.fits;
+            fits = record { notes = l.fits.notes; limits = l.fits.limits };
             vars = l.vars;
             slots = kept.slots ∙ l.slots;
             used = let a = length-append m.used (replicate 0 p) in let c = l.used in omega (arith, a, c);
@@ -272,14 +273,15 @@ module _ (choices : List Choice) (code : List Line) (table : Table) (base : ℕ)
         Bs r = lower s.classes s.known (taken_terms (is_success a (Some (value_of_mark r))) g.takes Ts) s.balances
 
         answer_moved : (z : Option Var) (v : Value) (r : Mark) → at table (count s.known) ≡ v → is_mark r v ≡ true
-            → is_open r ≡ false → IsNear m.world v → KnownTaken s.known g.takes Ts
+            → is_open r ≡ false → IsNear m.world v
+            → is_success a (Some v) ≡ is_success a (Some (value_of_mark r)) → KnownTaken s.known g.takes Ts
             → leads_at choices code s.known.pc m ≡ goes (s.known.pc + 1) (regs_answered z (Some v) (Used 1 (Gone v)))
             → Moved choices code table base s.known.pc (effort s.known) m (record (join
             (owed_for_answer a r) (Bs r) s) {
               known = go_on (put_answer z
                   (Some (term_with r (count s.known))) (arrive r s.known));
             })
-        answer_moved z v r vn marked shut near kt e =
+        answer_moved z v r vn marked shut near success kt e =
             let n = count s.known in
             let aw = answer_world m.world a v r near l.unmade marked shut in
             let w2 = world_answered a m.world (Some v) in
@@ -287,8 +289,6 @@ module _ (choices : List Choice) (code : List Line) (table : Table) (base : ℕ)
             (of_terms table (length m.world.accounts) (count s.known) l.below (length w2.accounts) aw.more Ts below) in
             let kept = over.0 in
             let ka = kept.accounts in
-            let success : is_success a (Some v) ≡ is_success a (Some (value_of_mark r)) = success_agrees a v
-            (value_of_mark r) (mark_agrees r v marked shut) in
             let known = taken_known s.known (is_success a (Some (value_of_mark r))) g.takes Ts kt below in
             let claim : (o : ℕ) → owed (Gone v) o ≡ named o table (Bs r ++ owed_for_answer a r ∷ []) = λ o.
             let c1 = over.1 o in
@@ -339,12 +339,12 @@ module _ (choices : List Choice) (code : List Line) (table : Table) (base : ℕ)
                 marked shut)) ∙ sym (map-set (content_of table) s.known.vars y.0 (term_with r (count s.known))))
                 slots claim)
 
-        choice_result : Linked table base choices → is_small a ≡ true → g.answer ≡ Of a → g.own ≡ None
+        choice_result : Linked table base choices → g.answer ≡ Of a → g.own ≡ None
             → stops g.params Vs ≡ false → KnownTaken s.known g.takes Ts
             → ((n : ℕ) (cs : List Choice) → answer_of n a cs
             ≡ (choose n a cs >>= λ y. Ok (Some y, 1)))
             → Result choices code table base m s going w l p I (Answers a)
-        choice_result linked small h e f kt ans =
+        choice_result linked h e f kt ans =
             let n = length m.world.accounts in
             let go : leads choices I p s.known.pc m ≡ CallGo (choose n a (choices_left choices m) >>=
             (λ y. Ok (Some y, 1)) >>= Answered (Of a)) = plain_led (Of a) h e f
@@ -356,13 +356,13 @@ module _ (choices : List Choice) (code : List Line) (table : Table) (base : ℕ)
                     ∙ ap (λ r. CallGo (r >>= (λ y. Ok (Some y, 1)) >>= Answered (Of a))) q,
                 λ c at h.
                     let d = head_drop choices (length m.used) c at in
-                    not_refused m.world a c d.0 small h (ap (choose n a) (sym d.1) ∙ q),
+                    not_refused m.world a c d.0 h (ap (choose n a) (sym d.1) ∙ q),
               )
               | chose c rest ec ok q ↦
                   let v = value_of c in
                   let vn : at table (count s.known) ≡ v = next_value choices code table base m s going w l p c rest
                   linked ec in
-                  let told = known_is a n c small ok in
+                  let told = known_is a n c ok in
                   let same : place_of (outcomes_of_answer a) (at table (count s.known))
                   ≡ place_of (outcomes_of_answer a) v = ap (place_of (outcomes_of_answer a)) vn in
                   inr (
@@ -371,7 +371,9 @@ module _ (choices : List Choice) (code : List Line) (table : Table) (base : ℕ)
                         (at table (count s.known)))) vn
                         (subst (λ y. is_mark (mark_at (outcomes_of_answer a) y) v ≡ true) (sym same) told.marked)
                         (subst (λ y. is_open (mark_at (outcomes_of_answer a) y) ≡ false) (sym same) told.shut)
-                        (told.near m.world refl) kt
+                        (told.near m.world refl)
+                        (subst (λ y. is_success a (Some v) ≡ is_success a (Some (value_of_mark (mark_at
+                        (outcomes_of_answer a) y)))) (sym same) told.success) kt
                         (led_is choices code table base m s going w l p I is ∙ go
                         ∙ ap (λ r. CallGo (r >>= (λ y. Ok (Some y, 1)) >>= Answered (Of a))) q
                         ∙ ap (goes (s.known.pc + 1)) (no_outputs outs (regs_answered x (Some v)
@@ -379,29 +381,29 @@ module _ (choices : List Choice) (code : List Line) (table : Table) (base : ℕ)
                   )
             ]
 
-      answering_result : (a : Answer) → Linked table base choices → is_small a ≡ true → g.answer ≡ Of a
+      answering_result : (a : Answer) → Linked table base choices → g.answer ≡ Of a
           → g.own ≡ None → stops g.params Vs ≡ false → KnownTaken s.known g.takes Ts → Answering a
           → Result choices code table base m s going w l p I (asks_answer a)
-      answering_result a linked small h e f kt (a_void q) = subst (Result choices code table base m s going w l p I)
+      answering_result a linked h e f kt (a_void q) = subst (Result choices code table base m s going w l p I)
           (sym (ap asks_answer q)) (quiet_result (Of answer.Void) None (h ∙ ap Of q) e f kt tt refl)
-      answering_result a linked small h e f kt (a_null q) = subst (Result choices code table base m s going w l p I)
+      answering_result a linked h e f kt (a_null q) = subst (Result choices code table base m s going w l p I)
           (sym (ap asks_answer q)) (quiet_result (Of answer.Null) (Some value.Null) (h ∙ ap Of q) e f kt refl refl)
-      answering_result a linked small h e f kt (a_choice q ans) = subst (Result choices code table base m s going w l
-          p I) (sym q) (choice_result a linked small h e f kt ans)
+      answering_result a linked h e f kt (a_choice q ans) = subst (Result choices code table base m s going w l
+          p I) (sym q) (choice_result a linked h e f kt ans)
 
-      call_answering_result : (a : CallAnswer) → Linked table base choices → has_small None a ≡ true → g.answer ≡ a
+      call_answering_result : (a : CallAnswer) → Linked table base choices → g.answer ≡ a
           → g.own ≡ None → stops g.params Vs ≡ false → KnownTaken s.known g.takes Ts
           → Result choices code table base m s going w l p I (asks_call_answer a)
-      call_answering_result (Of a) linked small h e f kt = answering_result a linked small h e f kt (answering_is a)
-      call_answering_result Argument linked small h e f kt =
+      call_answering_result (Of a) linked h e f kt = answering_result a linked h e f kt (answering_is a)
+      call_answering_result Argument linked h e f kt =
           quiet_result Argument (Some (first_of Vs)) h e f kt (first_holds table Ts set) refl
 
       -- ---- all calls
 
-      sures : (o : OwnEffect) → has_small (Some o) g.answer ≡ true → Sures
+      sures : (o : OwnEffect) → has_outcomes (Some o) g.answer ≡ true → Sures
       sures o small = sure_is table (length m.world.accounts) Ts set o g.answer small
 
-      own_result : (own : Option OwnEffect) → Linked table base choices → has_small own g.answer ≡ true
+      own_result : (own : Option OwnEffect) → Linked table base choices → has_outcomes own g.answer ≡ true
           → g.own ≡ own → stops g.params Vs ≡ false
           → Result choices code table base m s going w l p I (asks_own s.known own g.takes Ts
           (asks_call_answer g.answer))
@@ -409,14 +411,14 @@ module _ (choices : List Choice) (code : List Line) (table : Table) (base : ℕ)
         | take_asks t r o ↦ subst (Result choices code table base m s going w l p I) (sym r)
             (null_result choices code table base m s going w l p I t (open_below s.known.marks t o) o)
         | take_passes r kt ↦ subst (Result choices code table base m s going w l p I) (sym r)
-            (call_answering_result g.answer linked small refl e f kt)
+            (call_answering_result g.answer linked refl e f kt)
       ]
       own_result (Some IncRef) linked small e f = know_result IncRef (pos 1) e f (sures IncRef small) refl refl
       own_result (Some DecRef) linked small e f = know_result DecRef (negsuc 0) e f (sures DecRef small) refl refl
       own_result (Some Undescribed) linked small e f = stops_result choices code table base m s going w l p I Quiet is
           (passing_led (Some Undescribed) e f)
 
-      signature_result : Linked table base choices → has_small g.own g.answer ≡ true
+      signature_result : Linked table base choices → has_outcomes g.own g.answer ≡ true
           → Result choices code table base m s going w l p I (asks_signature s.known g Ts)
       signature_result linked small = elim (needs_is s.known table (marks choices code table base m s going w l p)
           g.params Ts (asks_own s.known g.own g.takes Ts (asks_call_answer g.answer)) set below) [
@@ -429,7 +431,7 @@ module _ (choices : List Choice) (code : List Line) (table : Table) (base : ℕ)
                 (own_result g.own linked small refl f)
           ]
 
-    pub call_result : Linked table base choices → has_small g.own g.answer ≡ true
+    pub call_result : Linked table base choices → has_outcomes g.own g.answer ≡ true
         → list_all (is_there s.statics) as' ≡ true → IsLine choices code table base m s going w l p I
         → Result choices code table base m s going w l p I (asks_all_set Ts (asks_signature s.known g Ts))
     call_result linked small h is = elim (set_is table s.known s.statics m.vars

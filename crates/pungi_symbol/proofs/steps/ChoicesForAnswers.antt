@@ -8,12 +8,15 @@ use Rattle.pungi_base.specs.declared.value.Value.TheVariants as value
 use Rattle.pungi_world.specs.declared.content.Content.TheVariants as content
 use Rattle.pungi_symbol.specs.declared.states.mark.Mark.{Mark}
 use Rattle.pungi_symbol.specs.declared.states.mark.Mark.TheVariants.{Pointer, TextPointer, IsNull, IsObject, IsText}
-use Rattle.pungi_symbol.specs.declared.states.mark.Mark.TheVariants.{IsNumber}
+use Rattle.pungi_symbol.specs.declared.states.mark.Mark.TheVariants.{IsNumber, Integer}
 use Rattle.pungi_symbol.specs.declared.questions.question.Question.{Question}
 use Rattle.pungi_symbol.specs.declared.questions.question.Question.TheVariants.{Does, Touches, Overwrites}
 use Rattle.pungi_symbol.specs.declared.questions.question.Question.TheVariants.{Null as AsksNull, Base, Answers, Same}
-use Rattle.pungi_symbol.specs.declared.questions.question.Question.TheVariants.{Returns, Stops, Over}
-use Rattle.pungi_symbol.specs.states.Terms.{is_mark}
+use Rattle.pungi_symbol.specs.declared.questions.question.Question.TheVariants.{Orders, Range, Unplain, Returns}
+use Rattle.pungi_symbol.specs.declared.questions.question.Question.TheVariants.{Stops, Over}
+use Rattle.pungi_symbol.specs.declared.states.integer_range.IntegerRange.{IntegerRange}
+use Rattle.pungi_symbol.specs.declared.states.integer_range.IntegerRange.TheVariants as ranges
+use Rattle.pungi_symbol.specs.states.Terms.{is_mark, low_of, high_of}
 use Rattle.std.specs.Prelude.{◌||◌, ◌&&◌, not, nat_le, Result as Res, Ok, Err}
 use Rattle.std.proofs.lemmas.Bool.Decides.{nat_tests, Decides-int_eq}
 use Rattle.pungi_base.specs.declared.choice.Choice.TheVariants as choice
@@ -24,11 +27,11 @@ use Rattle.pungi_api.specs.declared.param.Param.TheVariants as param
 use Rattle.pungi_world.specs.declared.halt.Halt.{Halt}
 use Rattle.pungi_world.specs.declared.halt.Halt.TheVariants as halt
 use Rattle.pungi_world.specs.declared.world.World.{World}
-use Rattle.pungi_world.specs.Choices.{value_of, is_null, is_text, is_object_choice, is_accepted, choose}
+use Rattle.pungi_world.specs.Choices.{value_of, is_null, is_text, is_number, is_object_choice, is_accepted, choose}
 use Rattle.pungi_world.specs.Slots.{is_made, is_old, is_content, find_content}
 use Rattle.pungi_symbol.specs.states.Terms.{outcomes_of_answer, mark_at}
 use Rattle.pungi_symbol.specs.questions.NextQuestion.{content_mark}
-use Rattle.pungi_symbol.specs.runs.ObjectForm.{is_pointer, is_small}
+use Rattle.pungi_symbol.specs.runs.JudgedForm.{is_held}
 use Rattle.pungi_symbol.specs.runs.RunInState.{IsOf}
 use Rattle.pungi_symbol.specs.runs.Paths.{choice_of}
 use Rattle.pungi_symbol.proofs.states.Owed.{AreUnmade}
@@ -70,6 +73,9 @@ not_lacking w choices n (Does d) h f = h
 not_lacking w choices n (AsksNull t) h f = h
 not_lacking w choices n (Base t u j) h f = h
 not_lacking w choices n (Same t u) h f = h
+not_lacking w choices n (Orders a b) h f = h
+not_lacking w choices n (Range kind a) h f = h
+not_lacking w choices n Unplain h f = h
 not_lacking w choices n (Returns x) h f = h
 not_lacking w choices n (Stops d) h f = h
 not_lacking w choices n Over h f = h
@@ -97,22 +103,29 @@ text_true (value.Object k) m = absurd (let bad : false ≡ true = m in cc)
 text_true (value.Int n) m = absurd (let bad : false ≡ true = m in cc)
 text_true value.Text m = refl
 
-content_true : (w : World) (kind : Param) (v : Value) → is_pointer kind ≡ true → AreUnmade w
+pub integer_true : (r : IntegerRange) (v : Value) → is_mark (Integer r) v ≡ true
+    → is_number (low_of r) (high_of r) (choice_of v) ≡ true
+integer_true r value.Null m = absurd (let bad : false ≡ true = m in cc)
+integer_true r (value.Object k) m = absurd (let bad : false ≡ true = m in cc)
+integer_true r (value.Int n) m = m
+integer_true r value.Text m = absurd (let bad : false ≡ true = m in cc)
+
+content_true : (w : World) (kind : Param) (v : Value) → is_held kind ≡ true → AreUnmade w
     → is_mark (content_mark kind) v ≡ true → IsOf (length w.accounts) v → is_content w kind (choice_of v) ≡ true
 content_true w param.Object v p u m h = pointer_true w v u m h
 content_true w param.ObjectOrNull v p u m h = pointer_true w v u m h
 content_true w param.Text v p u m h = text_true v m
 content_true w param.TextOrNull v p u m h = text_true v m
-content_true w param.Int v p u m h = absurd (let bad : false ≡ true = p in cc)
-content_true w param.Long v p u m h = absurd (let bad : false ≡ true = p in cc)
-content_true w param.Size v p u m h = absurd (let bad : false ≡ true = p in cc)
+content_true w param.Int v p u m h = integer_true ranges.Int v m
+content_true w param.Long v p u m h = integer_true ranges.Long v m
+content_true w param.Size v p u m h = integer_true ranges.Long v m
 content_true w param.ModuleDef v p u m h = absurd (let bad : false ≡ true = p in cc)
 
 no_error : {X : Type 0} (r : Res X Halt) (x : X) (h : Halt) → r ≡ Ok x → r ≡ Err h → ⊥
 no_error r x h e f = cc
 
 -- such a choice isn't missing
-pub not_missing : (w : World) (kind : Param) (c : Choice) (rest : List Choice) → is_pointer kind ≡ true
+pub not_missing : (w : World) (kind : Param) (c : Choice) (rest : List Choice) → is_held kind ≡ true
     → AreUnmade w → (is_mark (content_mark kind) (value_of c) ≡ true) × IsOf (length w.accounts) (value_of c)
     × (c ≡ choice_of (value_of c))
     → find_content w kind (c ∷ rest) ≡ Err halt.NeedsChoice → ⊥
@@ -178,26 +191,31 @@ truth_number n v (suc zero, lt, o) = ap (λ z. is_accepted n answer.Truth (choic
 truth_number n v (suc (suc zero), lt, o) = ap (λ z. is_accepted n answer.Truth (choice_of z)) (is_value (negsuc 0) v o)
 truth_number n v (suc (suc (suc k)), lt, o) = past (suc (suc (suc k))) 3 lt (omega arith)
 
-accepted_true : (n : ℕ) (a : Answer) (v : Value) → is_small a ≡ true → IsOutcome (outcomes_of_answer a) v → IsOf n v
-    → is_accepted n a (choice_of v) ≡ true
-accepted_true n answer.New v s o h = two_pointers n v o h
-accepted_true n answer.Borrowed v s o h = two_pointers n v o h
-accepted_true n answer.BorrowedSure v s o h = sure_pointer n v o h
-accepted_true n answer.Status v s o h = status_number n v o
-accepted_true n answer.Truth v s o h = truth_number n v o
-accepted_true n answer.Text v s o h = two_texts v o
-accepted_true n answer.Size v s o h = no_way s
-accepted_true n answer.Int v s o h = no_way s
-accepted_true n answer.Long v s o h = no_way s
-accepted_true n answer.Void v s o h = past o.0 0 o.1 (omega arith)
-accepted_true n answer.Null v s o h = past o.0 0 o.1 (omega arith)
+one_integer : (r : IntegerRange) (v : Value) → IsOutcome (Integer r ∷ []) v
+    → is_number (low_of r) (high_of r) (choice_of v) ≡ true
+one_integer r v (zero, lt, o) = integer_true r v o
+one_integer r v (suc k, lt, o) = past (suc k) 1 lt (omega arith)
 
-pub not_refused : (w : World) (a : Answer) (c : Choice) (rest : List Choice) → is_small a ≡ true
+accepted_true : (n : ℕ) (a : Answer) (v : Value) → IsOutcome (outcomes_of_answer a) v → IsOf n v
+    → is_accepted n a (choice_of v) ≡ true
+accepted_true n answer.New v o h = two_pointers n v o h
+accepted_true n answer.Borrowed v o h = two_pointers n v o h
+accepted_true n answer.BorrowedSure v o h = sure_pointer n v o h
+accepted_true n answer.Status v o h = status_number n v o
+accepted_true n answer.Truth v o h = truth_number n v o
+accepted_true n answer.Text v o h = two_texts v o
+accepted_true n answer.Size v o h = one_integer ranges.SizeOrError v o
+accepted_true n answer.Int v o h = one_integer ranges.Int v o
+accepted_true n answer.Long v o h = one_integer ranges.Long v o
+accepted_true n answer.Void v o h = past o.0 0 o.1 (omega arith)
+accepted_true n answer.Null v o h = past o.0 0 o.1 (omega arith)
+
+pub not_refused : (w : World) (a : Answer) (c : Choice) (rest : List Choice)
     → IsOutcome (outcomes_of_answer a) (value_of c) × IsOf (length w.accounts) (value_of c)
     × (c ≡ choice_of (value_of c))
     → choose (length w.accounts) a (c ∷ rest) ≡ Err halt.NeedsChoice → ⊥
-not_refused w a c rest s h e =
+not_refused w a c rest h e =
     let ok : is_accepted (length w.accounts) a c ≡ true = ap (is_accepted (length w.accounts) a) h.2
-    ∙ accepted_true (length w.accounts) a (value_of c) s h.0 h.1 in
+    ∙ accepted_true (length w.accounts) a (value_of c) h.0 h.1 in
     no_error (choose (length w.accounts) a (c ∷ rest)) (value_of c) halt.NeedsChoice
     (ap (λ b. cond b (Ok (value_of c)) (Err halt.NeedsChoice)) ok) e

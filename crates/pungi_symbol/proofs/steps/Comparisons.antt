@@ -17,15 +17,16 @@ use Rattle.pungi_symbol.specs.declared.states.known.Known.{Known}
 use Rattle.pungi_symbol.specs.declared.states.known.Status.TheVariants as status
 use Rattle.pungi_symbol.specs.declared.states.mark.Mark.{Mark}
 use Rattle.pungi_symbol.specs.declared.states.mark.Mark.TheVariants.{Pointer, TextPointer, IsNull, IsObject, IsText}
-use Rattle.pungi_symbol.specs.declared.states.mark.Mark.TheVariants.{IsNumber}
+use Rattle.pungi_symbol.specs.declared.states.mark.Mark.TheVariants.{IsNumber, Integer}
 use Rattle.pungi_symbol.specs.declared.questions.question.Question.{Question}
-use Rattle.pungi_symbol.specs.declared.questions.question.Question.TheVariants.{Does, Same}
+use Rattle.pungi_symbol.specs.declared.questions.question.Question.TheVariants.{Does, Same, Orders}
 use Rattle.pungi_symbol.specs.declared.states.state.State.{State}
+use Rattle.pungi_symbol.specs.declared.states.sum.Sum.{Sum as SumOf}
 use Rattle.pungi_symbol.specs.declared.states.term.Term.{Term}
-use Rattle.pungi_symbol.specs.declared.states.term.Term.TheVariants.{Unset, Null, Text, Number, Token}
-use Rattle.pungi_symbol.specs.states.Terms.{Table, at, content_of, is_mark, value_of_mark}
+use Rattle.pungi_symbol.specs.declared.states.term.Term.TheVariants.{Unset, Null, Text, Number, Token, Sum}
+use Rattle.pungi_symbol.specs.states.Terms.{Table, at, content_of, is_mark, value_of_mark, sum_value}
 use Rattle.pungi_symbol.specs.runs.Fits.{IsSound}
-use Rattle.pungi_symbol.specs.runs.ObjectForm.{is_there}
+use Rattle.pungi_symbol.specs.runs.JudgedForm.{is_there}
 use Rattle.pungi_symbol.specs.runs.RunInState.{Lies}
 use Rattle.std.specs.Prelude.{int_lt, int_le, not}
 use Rattle.std.specs.Ordering.{int_cmp}
@@ -34,14 +35,18 @@ use Rattle.pungi_meaning.specs.declared.cmp.Cmp.{Cmp}
 use Rattle.pungi_meaning.specs.declared.cmp.Cmp.TheVariants as cmps
 use Rattle.pungi_meaning.specs.Values.{number_of, truth, holds, is_equal}
 use Rattle.pungi_code.specs.declared.instr.Instr.TheVariants.{Compare}
-use Rattle.pungi_symbol.specs.states.Known.{mark_of, term_of, known_value, number_in, object_of, object_mark}
-use Rattle.pungi_symbol.specs.questions.NextQuestion.{asks_known, asks_order, asks_same, asks_compare}
-use Rattle.pungi_symbol.specs.answers.KnownAfter.{truth_term, compares, compares_same}
+use Rattle.pungi_symbol.specs.states.Known.{mark_of, term_of, known_value, number_in, sum_in, object_of, object_mark}
+use Rattle.pungi_symbol.specs.questions.NextQuestion.{asks_known, asks_order, asks_orders, asks_pointers, asks_same}
+use Rattle.pungi_symbol.specs.questions.NextQuestion.{asks_compare}
+use Rattle.pungi_symbol.specs.answers.KnownAfter.{truth_term, compares, compares_same, holds_order, ordered}
 use Rattle.pungi_symbol.specs.answers.SymbolicState.{are_one, apply_same}
-use Rattle.pungi_symbol.specs.runs.Fits.{Fits}
+use Rattle.pungi_symbol.specs.runs.Fits.{Fits, AreMet}
 use Rattle.pungi_symbol.specs.runs.OneInstruction.{Led, goes, leads}
 use Rattle.pungi_symbol.proofs.states.Contents.{unset, asks, passes, knowing_is, term_value, known_set, known_agrees}
-use Rattle.pungi_symbol.proofs.states.Contents.{Agrees, one, objects, agrees_number, IsKnown}
+use Rattle.pungi_symbol.proofs.states.Contents.{Agrees, one, objects, agrees_number, IsKnown, sum_is}
+use Rattle.pungi_symbol.proofs.states.Contents.{Numbered, a_number, no_number, numbered}
+use Rattle.pungi_symbol.proofs.answers.LimitsMet.{holds_by_order}
+use Rattle.pungi_symbol.proofs.steps.Numbers.{unplain_result, orders_result}
 use Rattle.pungi_symbol.proofs.states.Terms.{open_below, object_is_below}
 use Rattle.pungi_symbol.proofs.answers.SameObject.{Way, kept, merged, parted, way_is, same_can, way_fits, way_named}
 use Rattle.pungi_symbol.proofs.answers.SameObject.{object_value}
@@ -140,6 +145,7 @@ object_by k t IsNull e = no_object (ap (λ z. object_mark z t) e) (λ h. ap (λ 
 object_by k t IsObject e = an_object t refl e (ap (λ z. object_mark z t) e)
 object_by k t IsText e = no_object (ap (λ z. object_mark z t) e) (λ h. ap (λ z. is_object (value_of_mark z)) e)
 object_by k t (IsNumber n) e = no_object (ap (λ z. object_mark z t) e) (λ h. ap (λ z. is_object (value_of_mark z)) e)
+object_by k t (Integer r) e = no_object (ap (λ z. object_mark z t) e) (λ h. ap (λ z. is_object (value_of_mark z)) e)
 
 pub objected : (k : Known) (x : Term) → Objected k x
 objected k Unset = no_object refl (λ h. refl)
@@ -147,17 +153,7 @@ objected k Null = no_object refl (λ h. refl)
 objected k Text = no_object refl (λ h. refl)
 objected k (Number n) = no_object refl (λ h. refl)
 objected k (Token t) = object_by k t (mark_of k t) refl
-
-pub data Numbered (x : Term) : Type 0 where
-  a_number : (n : ℤ) → x ≡ Number n → Numbered x
-  no_number : number_in x ≡ None → Numbered x
-
-numbered : (x : Term) → Numbered x
-numbered Unset = no_number refl
-numbered Null = no_number refl
-numbered Text = no_number refl
-numbered (Number n) = a_number n refl
-numbered (Token t) = no_number refl
+objected k (Sum s) = no_object refl (λ h. refl)
 
 ordering_left : (o n : Option ℤ) (q : Question) → o ≡ None → asks_order o n q ≡ q
 ordering_left None n q e = refl
@@ -172,6 +168,11 @@ pub way_statics : (s : State) (t u : ℕ) (b : Bool) (s' : State) → Way s t u 
 way_statics s t u b s' (kept same e z) = ap (λ r. r.statics) z
 way_statics s t u b s' (merged c d which older no_static no_pair e z) = ap (λ r. r.statics) z
 way_statics s t u b s' (parted ne e z) = ap (λ r. r.statics) z
+
+pub way_limits : (s : State) (t u : ℕ) (b : Bool) (s' : State) → Way s t u b s' → s'.limits ≡ s.limits
+way_limits s t u b s' (kept same e z) = ap (λ r. r.limits) z
+way_limits s t u b s' (merged c d which older no_static no_pair e z) = ap (λ r. r.limits) z
+way_limits s t u b s' (parted ne e z) = ap (λ r. r.limits) z
 
 module _ (choices : List Choice) (code : List Line) (table : Table) (base : ℕ) (m : Regs) (s : State)
     (going : s.known.status ≡ status.Going) (w : IsSound s) (l : Lies code table base m s) (p : Pos) where
@@ -188,8 +189,11 @@ module _ (choices : List Choice) (code : List Line) (table : Table) (base : ℕ)
       let way = way_is s t u b (same_can s t u table w mt mu lt lu l.fits) in
       let fits = way_fits s t u table w mt mu lt lu b s' l.fits refl way in
       record {
-        fits = subst (λ n. Fits table n k'.marks s'.classes s'.others) (sym (way_statics s t u b s' way))
-            (subst (λ z. Fits table s.statics z s'.classes s'.others) (sym e) fits);
+        fits = record {
+          notes = subst (λ n. Fits table n k'.marks s'.classes s'.others) (sym (way_statics s t u b s' way))
+              (subst (λ z. Fits table s.statics z s'.classes s'.others) (sym e) fits);
+          limits = subst (AreMet table) (sym (way_limits s t u b s' way)) l.fits.limits;
+        };
         vars = h.vars;
         slots = h.slots;
         used = h.used;
@@ -258,57 +262,118 @@ module _ (choices : List Choice) (code : List Line) (table : Table) (base : ℕ)
   Comparing a b = asks_same (object_of s.known (term_of s.known a)) (object_of s.known (term_of s.known b))
 
   agrees : (a : Atom) → is_there s.statics a ≡ true → IsKnown s.known (term_of s.known a)
+      → sum_in s.known (term_of s.known a) ≡ None
       → Agrees (term_value table (term_of s.known a)) (known_value s.known (term_of s.known a))
-  agrees a h k = known_agrees table s.known (marks choices code table base m s going w l p) (term_of s.known a)
-      (below_is choices code table base m s going w l p a h) k
+  agrees a h k e = known_agrees table s.known (marks choices code table base m s going w l p) (term_of s.known a)
+      (below_is choices code table base m s going w l p a h) k e
 
   compare_known : (x : Var) (c : Cmp) (a b : Atom)
       → IsLine choices code table base m s going w l p (Compare x c a b) → is_there s.statics a ≡ true
       → is_there s.statics b ≡ true → IsKnown s.known (term_of s.known a) → IsKnown s.known (term_of s.known b)
+      → sum_in s.known (term_of s.known a) ≡ None → sum_in s.known (term_of s.known b) ≡ None
       → Objected s.known (term_of s.known a) → Objected s.known (term_of s.known b)
       → Result choices code table base m s going w l p (Compare x c a b) (Comparing a b)
-  compare_known x c a b is h g ka kb (an_object t ea mt ot) (an_object u eb mu ou) =
+  compare_known x c a b is h g ka kb ua ub (an_object t ea mt ot) (an_object u eb mu ou) =
       subst (Result choices code table base m s going w l p (Compare x c a b))
       (sym (ap (λ z. asks_same z (object_of s.known (term_of s.known b))) ot ∙ ap (asks_same (Some t)) ou))
       (compare_tokens x c a b t u is h g ea eb mt mu)
-  compare_known x c a b is h g ka kb (no_object oa na) rb =
+  compare_known x c a b is h g ka kb ua ub (no_object oa na) rb =
       subst (Result choices code table base m s going w l p (Compare x c a b))
       (sym (ap (λ z. asks_same z (object_of s.known (term_of s.known b))) oa))
       (compare_goes x c a b Quiet is h g (known_set s.known (term_of s.known a) ka)
       (known_set s.known (term_of s.known b) kb)
-      (holds_agrees c _ _ _ _ (agrees a h ka) (agrees b g kb) (λ e f. let bad : true ≡ false = sym e ∙ na ka in cc)))
-  compare_known x c a b is h g ka kb (an_object t ea mt ot) (no_object ob nb) =
+      (holds_agrees c _ _ _ _ (agrees a h ka ua) (agrees b g kb ub) (λ e f. let bad : true ≡ false = sym e
+      ∙ na ka in cc)))
+  compare_known x c a b is h g ka kb ua ub (an_object t ea mt ot) (no_object ob nb) =
       subst (Result choices code table base m s going w l p (Compare x c a b))
       (sym (ap (λ z. asks_same z (object_of s.known (term_of s.known b))) ot ∙ ap (asks_same (Some t)) ob))
       (compare_goes x c a b Quiet is h g (known_set s.known (term_of s.known a) ka)
       (known_set s.known (term_of s.known b) kb)
-      (holds_agrees c _ _ _ _ (agrees a h ka) (agrees b g kb) (λ e f. let bad : true ≡ false = sym f ∙ nb kb in cc)))
+      (holds_agrees c _ _ _ _ (agrees a h ka ua) (agrees b g kb ub) (λ e f. let bad : true ≡ false = sym f
+      ∙ nb kb in cc)))
+
+  abbrev Sa : Atom → Option SumOf
+  Sa a = sum_in s.known (term_of s.known a)
+
+  -- what isn't two numbers or two pointers isn't followed
+  known_by : (x : Var) (c : Cmp) (a b : Atom) (u v : Option SumOf) → Sa a ≡ u → Sa b ≡ v
+      → IsLine choices code table base m s going w l p (Compare x c a b) → is_there s.statics a ≡ true
+      → is_there s.statics b ≡ true → IsKnown s.known (term_of s.known a) → IsKnown s.known (term_of s.known b)
+      → Result choices code table base m s going w l p (Compare x c a b) (asks_pointers u v (Comparing a b))
+  known_by x c a b None None ua ub is h g ka kb = compare_known x c a b is h g ka kb ua ub
+      (objected s.known (term_of s.known a)) (objected s.known (term_of s.known b))
+  known_by x c a b None (Some v) ua ub is h g ka kb =
+      unplain_result choices code table base m s going w l p (Compare x c a b)
+  known_by x c a b (Some u) v ua ub is h g ka kb =
+      unplain_result choices code table base m s going w l p (Compare x c a b)
+
+  abbrev Known2 : Atom → Atom → Question
+  Known2 a b = asks_pointers (Sa a) (Sa b) (Comparing a b)
+
+  abbrev Pointers : Atom → Atom → Question
+  Pointers a b = asks_known s.known (term_of s.known a) (asks_known s.known (term_of s.known b) (Known2 a b))
 
   compare_pointers : (x : Var) (c : Cmp) (a b : Atom)
       → IsLine choices code table base m s going w l p (Compare x c a b) → is_there s.statics a ≡ true
       → is_there s.statics b ≡ true
-      → Result choices code table base m s going w l p (Compare x c a b) (asks_known s.known (term_of s.known a)
-      (asks_known s.known (term_of s.known b) (Comparing a b)))
+      → Result choices code table base m s going w l p (Compare x c a b) (Pointers a b)
   compare_pointers x c a b is h g = elim (knowing_is s.known (term_of s.known a)
-      (asks_known s.known (term_of s.known b) (Comparing a b))) [
+      (asks_known s.known (term_of s.known b) (Known2 a b))) [
         | unset e q ↦ subst (Result choices code table base m s going w l p (Compare x c a b)) (sym q)
             (stops_result choices code table base m s going w l p (Compare x c a b) Quiet is
             (unset_led choices code table base m s going w l p a _ h e))
         | asks t e o q ↦ subst (Result choices code table base m s going w l p (Compare x c a b)) (sym q)
             (null_result choices code table base m s going w l p (Compare x c a b) t (open_below s.known.marks t o) o)
         | passes ka q ↦ subst (Result choices code table base m s going w l p (Compare x c a b)) (sym q)
-            (elim (knowing_is s.known (term_of s.known b) (Comparing a b)) [
+            (elim (knowing_is s.known (term_of s.known b) (Known2 a b)) [
               | unset e r ↦ subst (Result choices code table base m s going w l p (Compare x c a b)) (sym r)
                   (stops_result choices code table base m s going w l p (Compare x c a b) Quiet is
                   (set_led choices code table base m s going w l p a _ h (known_set s.known (term_of s.known a) ka)
                   ∙ unset_led choices code table base m s going w l p b _ g e))
               | asks t e o r ↦ subst (Result choices code table base m s going w l p (Compare x c a b)) (sym r)
-                  (null_result choices code table base m s going w l p (Compare x c a b) t (open_below s.known.marks t o) o)
+                  (null_result choices code table base m s going w l p (Compare x c a b) t
+                  (open_below s.known.marks t o) o)
               | passes kb r ↦ subst (Result choices code table base m s going w l p (Compare x c a b)) (sym r)
-                  (compare_known x c a b is h g ka kb (objected s.known (term_of s.known a))
-                  (objected s.known (term_of s.known b)))
+                  (known_by x c a b (Sa a) (Sa b) refl refl is h g ka kb)
             ])
       ]
+
+  -- two numbers that aren't both known
+  sum_set : (a : Atom) (u : SumOf) → Sa a ≡ Some u → term_of s.known a ≡ Unset → ⊥
+  sum_set a u e z = let bad : None ≡ Some u = sym (ap (sum_in s.known) z) ∙ e in cc
+
+  sum_number : (a : Atom) (u : SumOf) → is_there s.statics a ≡ true → Sa a ≡ Some u
+      → term_value table (term_of s.known a) ≡ value.Int (sum_value table u)
+  sum_number a u h e = sum_is table s.known (marks choices code table base m s going w l p) (term_of s.known a) u
+      (below_is choices code table base m s going w l p a h) e
+
+  compare_sums : (x : Var) (c : Cmp) (a b : Atom) (u v : SumOf)
+      → IsLine choices code table base m s going w l p (Compare x c a b) → is_there s.statics a ≡ true
+      → is_there s.statics b ≡ true → Sa a ≡ Some u → Sa b ≡ Some v
+      → Result choices code table base m s going w l p (Compare x c a b) (Orders u v)
+  compare_sums x c a b u v is h g ea eb =
+      let r = holds_order c (int_cmp (sum_value table u) (sum_value table v)) in
+      orders_result choices code table base m s going w l p (Compare x c a b) u v
+      (put x (content.Holds (truth r)) m)
+      (ordered (Compare x c a b) (int_cmp (sum_value table u) (sum_value table v)) s.known) refl is refl
+      (compare_led x c a b h g (sum_set a u ea) (sum_set b v eb)
+      ∙ ap (λ z. CompareLed x c z (term_value table (term_of s.known b))) (sum_number a u h ea)
+      ∙ ap (CompareLed x c (value.Int (sum_value table u))) (sum_number b v g eb)
+      ∙ ap (λ z. goes (s.known.pc + 1) (put x (content.Holds (truth z)) m))
+      (holds_by_order c (sum_value table u) (sum_value table v))) going
+      (put_lies choices code table base m s going w l p x (truth_term r) (content.Holds (truth r)) (s.known.pc + 1)
+      (truth_content table r))
+
+  sums_by : (x : Var) (c : Cmp) (a b : Atom) (u v : Option SumOf) → Sa a ≡ u → Sa b ≡ v
+      → IsLine choices code table base m s going w l p (Compare x c a b) → is_there s.statics a ≡ true
+      → is_there s.statics b ≡ true
+      → Result choices code table base m s going w l p (Compare x c a b) (asks_orders u v (Pointers a b))
+  sums_by x c a b None v ea eb is h g = compare_pointers x c a b is h g
+  sums_by x c a b (Some u) None ea eb is h g = compare_pointers x c a b is h g
+  sums_by x c a b (Some u) (Some v) ea eb is h g = compare_sums x c a b u v is h g ea eb
+
+  abbrev Sums : Atom → Atom → Question
+  Sums a b = asks_orders (Sa a) (Sa b) (Pointers a b)
 
   compare_by : (x : Var) (c : Cmp) (a b : Atom) → IsLine choices code table base m s going w l p (Compare x c a b)
       → is_there s.statics a ≡ true → is_there s.statics b ≡ true → Numbered (term_of s.known a)
@@ -316,24 +381,21 @@ module _ (choices : List Choice) (code : List Line) (table : Table) (base : ℕ)
       → Result choices code table base m s going w l p (Compare x c a b) (asks_compare s.known (term_of s.known a)
       (term_of s.known b))
   compare_by x c a b is h g (no_number ea) rb = subst (Result choices code table base m s going w l p
-      (Compare x c a b)) (sym (ordering_left (number_in (term_of s.known a)) (number_in (term_of s.known b)) _ ea))
-      (compare_pointers x c a b is h g)
+      (Compare x c a b)) (sym (ordering_left (number_in (term_of s.known a)) (number_in (term_of s.known b)) (Sums a b)
+      ea)) (sums_by x c a b (Sa a) (Sa b) refl refl is h g)
   compare_by x c a b is h g (a_number i ea) (no_number eb) = subst (Result choices code table base m s going w l p
-      (Compare x c a b)) (sym (ordering_right (number_in (term_of s.known a)) (number_in (term_of s.known b)) _ eb))
-      (compare_pointers x c a b is h g)
+      (Compare x c a b)) (sym (ordering_right (number_in (term_of s.known a)) (number_in (term_of s.known b))
+      (Sums a b) eb)) (sums_by x c a b (Sa a) (Sa b) refl refl is h g)
   compare_by x c a b is h g (a_number i ea) (a_number j eb) =
       subst (Result choices code table base m s going w l p (Compare x c a b))
-      (sym (ap (λ z. asks_order (number_in z) (number_in (term_of s.known b)) (Pointers a b)) ea
-      ∙ ap (λ z. asks_order (Some i) (number_in z) (Pointers a b)) eb))
+      (sym (ap (λ z. asks_order (number_in z) (number_in (term_of s.known b)) (Sums a b)) ea
+      ∙ ap (λ z. asks_order (Some i) (number_in z) (Sums a b)) eb))
       (compare_goes x c a b (Order (int_cmp i j)) is h g (λ z. let bad : Number i ≡ Unset = sym ea ∙ z in cc)
       (λ z. let bad : Number j ≡ Unset = sym eb ∙ z in cc)
       (ap (λ z. holds c (term_value table z) (term_value table (term_of s.known b))) ea
       ∙ ap (λ z. holds c (value.Int i) (term_value table z)) eb
       ∙ sym (ap (λ z. holds c (known_value s.known z) (known_value s.known (term_of s.known b))) ea
       ∙ ap (λ z. holds c (value.Int i) (known_value s.known z)) eb)))
-    where
-      Pointers : Atom → Atom → Question
-      Pointers a b = asks_known s.known (term_of s.known a) (asks_known s.known (term_of s.known b) (Comparing a b))
 
   pub compare_result : (x : Var) (c : Cmp) (a b : Atom)
       → IsLine choices code table base m s going w l p (Compare x c a b) → is_there s.statics a ≡ true

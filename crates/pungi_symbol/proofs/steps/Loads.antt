@@ -18,7 +18,7 @@ use Rattle.pungi_symbol.specs.declared.states.term.Term.{Term}
 use Rattle.pungi_symbol.specs.declared.states.term.Term.TheVariants.{Token}
 use Rattle.pungi_symbol.specs.states.Terms.{Table, at, content_of, is_mark}
 use Rattle.pungi_symbol.specs.runs.Fits.{IsSound}
-use Rattle.pungi_symbol.specs.runs.ObjectForm.{is_there}
+use Rattle.pungi_symbol.specs.runs.JudgedForm.{is_there}
 use Rattle.pungi_symbol.specs.runs.RunInState.{Lies}
 use Rattle.std.specs.Prelude.{replicate, Result as Res, Ok}
 use Rattle.std.specs.List.{list_all}
@@ -49,7 +49,7 @@ use Rattle.pungi_symbol.specs.declared.questions.found_slot.Finding.TheVariants.
 use Rattle.pungi_symbol.specs.states.Known.{count, find, held_in, no_slot, slot_note, spot_of}
 use Rattle.pungi_symbol.specs.questions.NextQuestion.{asks_load, content_mark, asks_set}
 use Rattle.pungi_symbol.specs.answers.SymbolicState.{join}
-use Rattle.pungi_symbol.specs.runs.ObjectForm.{atoms_in, is_pointer}
+use Rattle.pungi_symbol.specs.runs.JudgedForm.{atoms_in, is_held}
 use Rattle.pungi_symbol.specs.runs.Fits.{named, is_the}
 use Rattle.pungi_symbol.specs.runs.RunInState.{slot_in, state_in, owed, IsOf}
 use Rattle.pungi_symbol.specs.runs.OneInstruction.{Led, on_slot, on_effect, goes, leads}
@@ -108,7 +108,10 @@ module _ (choices : List Choice) (code : List Line) (table : Table) (base : ℕ)
       let len : length (s.known.marks ++ r ∷ []) ≡ length s.known.marks + 1 = length-append s.known.marks (r ∷ []) in
       let lu = l.used in
       record {
-        fits = arrives table s.statics s.known.marks s.classes s.others r w.notes.classes_long er l.fits;
+        fits = record {
+          notes = arrives table s.statics s.known.marks s.classes s.others r w.notes.classes_long er l.fits.notes;
+          limits = l.fits.limits;
+        };
         vars = ev;
         slots = es;
         used = omega (arith, eu, lu, len);
@@ -203,7 +206,7 @@ module _ (choices : List Choice) (code : List Line) (table : Table) (base : ℕ)
       ∙ linked (length m.used) c (drop_head choices rest (length m.used) c e)
 
   touch_result : (x : Var) (place : Place) (z : Slot) → Linked table base choices
-      → is_pointer (place_kind place) ≡ true → IsLine choices code table base m s going w l p (Load x place)
+      → is_held (place_kind place) ≡ true → IsLine choices code table base m s going w l p (Load x place)
       → slot_of place m.vars ≡ Some (z, place_kind place) → slot_place m.world.slots z ≡ None
       → z ≡ slot_in table (spot_of s.known place)
       → Result choices code table base m s going w l p (Load x place) (Touches (content_mark (place_kind place)))
@@ -261,7 +264,7 @@ module _ (choices : List Choice) (code : List Line) (table : Table) (base : ℕ)
   abbrev Wm : Place → Mark
   Wm place = content_mark (place_kind place)
 
-  load_by : (x : Var) (place : Place) → Linked table base choices → is_pointer (place_kind place) ≡ true
+  load_by : (x : Var) (place : Place) → Linked table base choices → is_held (place_kind place) ≡ true
       → IsLine choices code table base m s going w l p (Load x place)
       → Sought choices code table base m s going w l p place
       → Result choices code table base m s going w l p (Load x place) (asks_load s.known (Wm place)
@@ -281,7 +284,7 @@ module _ (choices : List Choice) (code : List Line) (table : Table) (base : ℕ)
   load_by x place linked kind is (seeks_new z e f g zs os) = subst (Result choices code table base m s going w l p
       (Load x place)) (sym (ap (asks_load s.known (Wm place)) e)) (touch_result x place z linked kind is f g zs)
 
-  pub load_result : (x : Var) (place : Place) → Linked table base choices → is_pointer (place_kind place) ≡ true
+  pub load_result : (x : Var) (place : Place) → Linked table base choices → is_held (place_kind place) ≡ true
       → list_all (is_there s.statics) (atoms_in place) ≡ true
       → IsLine choices code table base m s going w l p (Load x place)
       → Result choices code table base m s going w l p (Load x place) (asks_load s.known (Wm place)

@@ -15,13 +15,15 @@ use Rattle.pungi_symbol.specs.declared.answers.decision.Decision.{Decision}
 use Rattle.pungi_symbol.specs.declared.answers.decision.Decision.TheVariants.{Quiet, Outcome, Order}
 use Rattle.pungi_symbol.specs.declared.states.known.Status.TheVariants as status
 use Rattle.pungi_symbol.specs.declared.questions.question.Question.{Question}
-use Rattle.pungi_symbol.specs.declared.questions.question.Question.TheVariants.{Does, Returns, Stops}
+use Rattle.pungi_symbol.specs.declared.questions.question.Question.TheVariants.{Does, Orders, Returns, Stops}
+use Rattle.pungi_symbol.specs.declared.states.spot.Progress.TheVariants.{Looking}
 use Rattle.pungi_symbol.specs.declared.states.state.State.{State}
+use Rattle.pungi_symbol.specs.declared.states.sum.Sum.{Sum as SumOf}
 use Rattle.pungi_symbol.specs.declared.states.term.Term.{Term}
-use Rattle.pungi_symbol.specs.declared.states.term.Term.TheVariants.{Unset, Null, Text, Number, Token}
-use Rattle.pungi_symbol.specs.states.Terms.{Table, content_of}
+use Rattle.pungi_symbol.specs.declared.states.term.Term.TheVariants.{Unset, Number}
+use Rattle.pungi_symbol.specs.states.Terms.{Table, content_of, sum_value}
 use Rattle.pungi_symbol.specs.runs.Fits.{IsSound}
-use Rattle.pungi_symbol.specs.runs.ObjectForm.{is_there}
+use Rattle.pungi_symbol.specs.runs.JudgedForm.{is_there}
 use Rattle.pungi_symbol.specs.runs.RunInState.{Lies}
 use Rattle.std.specs.Prelude.{int_lt, ◌&&◌}
 use Rattle.std.specs.List.{list_all}
@@ -29,22 +31,26 @@ use Rattle.pungi_symbol.specs.runs.Paths.{value_in}
 use Rattle.std.specs.Ordering.{int_cmp}
 use Rattle.pungi_types.specs.declared.kind.ValueKind.{ValueKind}
 use Rattle.pungi_meaning.specs.declared.op.Op.{Op}
-use Rattle.pungi_meaning.specs.Values.{fits, arithmetic, number_of, is_true}
+use Rattle.pungi_meaning.specs.Values.{fits, arithmetic, in_range, number_of, is_true}
 use Rattle.pungi_code.specs.declared.instr.Instr.TheVariants.{Set, Arith, Fit, Unset as Forget, Jump, Branch, Return}
 use Rattle.pungi_code.specs.declared.instr.Instr.TheVariants.{Fall}
 use Rattle.pungi_code.specs.declared.instr.Label.{Label}
-use Rattle.pungi_symbol.specs.states.Known.{term_of, known_value, number, number_in}
-use Rattle.pungi_symbol.specs.questions.NextQuestion.{asks_set, asks_known, asks_order, asks_range, is_below, asks_fit}
-use Rattle.pungi_symbol.specs.questions.NextQuestion.{asks_return}
-use Rattle.pungi_symbol.specs.answers.KnownAfter.{number_there}
-use Rattle.pungi_symbol.specs.runs.ObjectForm.{atom_in}
+use Rattle.pungi_symbol.specs.states.Known.{term_of, known_value, number, number_in, sum_in}
+use Rattle.pungi_symbol.specs.questions.NextQuestion.{asks_set, asks_known, asks_order, asks_range, is_below}
+use Rattle.pungi_symbol.specs.questions.NextQuestion.{asks_return, asks_arith, asks_result, asks_conversion, asks_sign}
+use Rattle.pungi_symbol.specs.questions.NextQuestion.{sum_of_two, zero_sum}
+use Rattle.pungi_symbol.specs.answers.KnownAfter.{number_there, order_number}
+use Rattle.pungi_symbol.specs.runs.JudgedForm.{atom_in}
 use Rattle.pungi_symbol.specs.runs.OneInstruction.{Led, on_value, on_number, goes, leads}
 use Rattle.pungi_symbol.proofs.states.Contents.{unset_s, set_s, setting_is, unset, asks, passes, knowing_is, term_value}
-use Rattle.pungi_symbol.proofs.states.Contents.{holds_term, known_set, known_agrees, agrees_true, term_number, IsKnown}
+use Rattle.pungi_symbol.proofs.states.Contents.{holds_term, known_set, known_agrees, agrees_true, sum_is}
+use Rattle.pungi_symbol.proofs.states.Contents.{Numbered, a_number, no_number, numbered}
 use Rattle.pungi_symbol.proofs.states.Terms.{open_below}
 use Rattle.pungi_symbol.proofs.steps.RunInState.{goes_on, as_many, Result, IsLine, same_decision, atom_is, below_is}
 use Rattle.pungi_symbol.proofs.steps.RunInState.{led_is, null_result, stops_result, returns_result, put_lies, jump_lies}
 use Rattle.pungi_symbol.proofs.steps.RunInState.{marks}
+use Rattle.pungi_symbol.proofs.answers.LimitsMet.{two_sums, summed, sum_arithmetic, true_by_order}
+use Rattle.pungi_symbol.proofs.steps.Numbers.{unplain_result, orders_result, range_result}
 
 module _ (choices : List Choice) (code : List Line) (table : Table) (base : ℕ) (m : Regs) (s : State)
     (going : s.known.status ≡ status.Going) (w : IsSound s) (l : Lies code table base m s) (p : Pos) where
@@ -74,45 +80,104 @@ module _ (choices : List Choice) (code : List Line) (table : Table) (base : ℕ)
     ))
   ]
 
-  value_number : (a : Atom) → is_there s.statics a ≡ true
-      → number_of (term_value table (term_of s.known a)) ≡ number s.known (term_of s.known a)
-  value_number a h = term_number table s.known (marks choices code table base m s going w l p) (term_of s.known a)
-      (below_is choices code table base m s going w l p a h)
+  -- ---- arithmetic
 
-  arith_led : (x : Var) (kind : ValueKind) (o : Op) (a b : Atom) → is_there s.statics a ≡ true
+  abbrev Ar : Op → ValueKind → Atom → Atom → Option ℤ
+  Ar o kind a b = arithmetic o kind (number s.known (term_of s.known a)) (number s.known (term_of s.known b))
+
+  abbrev ArithGo : Var → Option ℤ → Led
+  ArithGo x r = on_number r p m (λ n. goes (s.known.pc + 1) (put x (content.Holds (value.Int n)) m))
+
+  arith_led : (x : Var) (kind : ValueKind) (o : Op) (a b : Atom) (i j : ℤ) → is_there s.statics a ≡ true
       → is_there s.statics b ≡ true → (term_of s.known a ≡ Unset → ⊥) → (term_of s.known b ≡ Unset → ⊥)
-      → leads choices (Arith x kind o a b) p s.known.pc m
-      ≡ on_number (arithmetic o kind (number s.known (term_of s.known a)) (number s.known (term_of s.known b))) p
-      m (λ n. goes (s.known.pc + 1) (put x (content.Holds (value.Int n)) m))
-  arith_led x kind o a b h g ne nf =
+      → number_of (term_value table (term_of s.known a)) ≡ i → number_of (term_value table (term_of s.known b)) ≡ j
+      → leads choices (Arith x kind o a b) p s.known.pc m ≡ ArithGo x (arithmetic o kind i j)
+  arith_led x kind o a b i j h g ne nf ei ej =
       set_led a _ h ne ∙ set_led b _ g nf
-      ∙ ap (λ z. on_number (arithmetic o kind z (number_of (term_value table (term_of s.known b)))) p m
-      (λ n. goes (s.known.pc + 1) (put x (content.Holds (value.Int n)) m))) (value_number a h)
-      ∙ ap (λ z. on_number (arithmetic o kind (number s.known (term_of s.known a)) z) p m
-      (λ n. goes (s.known.pc + 1) (put x (content.Holds (value.Int n)) m))) (value_number b g)
+      ∙ ap (λ z. ArithGo x (arithmetic o kind z (number_of (term_value table (term_of s.known b))))) ei
+      ∙ ap (λ z. ArithGo x (arithmetic o kind i z)) ej
 
-  arith_by : (x : Var) (kind : ValueKind) (o : Op) (a b : Atom) (r : Option ℤ) (below : Bool)
+  arith_known : (x : Var) (kind : ValueKind) (o : Op) (a b : Atom) (i j : ℤ) (r : Option ℤ)
+      → IsLine choices code table base m s going w l p (Arith x kind o a b) → is_there s.statics a ≡ true
+      → is_there s.statics b ≡ true → term_of s.known a ≡ Number i → term_of s.known b ≡ Number j
+      → arithmetic o kind i j ≡ r
+      → Result choices code table base m s going w l p (Arith x kind o a b) (asks_range r (is_below o i j))
+  arith_known x kind o a b i j r is h g ea eb e = by r e
+    where
+      goes_as : leads choices (Arith x kind o a b) p s.known.pc m ≡ ArithGo x (arithmetic o kind i j)
+      goes_as = arith_led x kind o a b i j h g (λ z. let bad : Number i ≡ Unset = sym ea ∙ z in cc)
+          (λ z. let bad : Number j ≡ Unset = sym eb ∙ z in cc) (ap (λ z. number_of (term_value table z)) ea)
+          (ap (λ z. number_of (term_value table z)) eb)
+
+      same : Ar o kind a b ≡ arithmetic o kind i j
+      same = ap (λ z. arithmetic o kind (number s.known z) (number s.known (term_of s.known b))) ea
+          ∙ ap (λ z. arithmetic o kind i (number s.known z)) eb
+
+      by : (r : Option ℤ) → arithmetic o kind i j ≡ r
+          → Result choices code table base m s going w l p (Arith x kind o a b) (asks_range r (is_below o i j))
+      by (Some n) e = inr (
+        refl,
+        goes_on _ (as_many m) (led_is choices code table base m s going w l p (Arith x kind o a b) is ∙ goes_as
+            ∙ ap (ArithGo x) e) going (put_lies choices code table base m s going w l p x
+            (Number (number_there (Ar o kind a b))) (content.Holds (value.Int n)) (s.known.pc + 1)
+            (ap (λ z. content.Holds (value.Int (number_there z))) (same ∙ e))),
+      )
+      by None e = stops_result choices code table base m s going w l p (Arith x kind o a b)
+          (Outcome (cond (is_below o i j) 0 2)) is (goes_as ∙ ap (ArithGo x) e)
+
+  -- a term that is a number has the value of its sum
+  sum_number : (a : Atom) (u : SumOf) → is_there s.statics a ≡ true → sum_in s.known (term_of s.known a) ≡ Some u
+      → term_value table (term_of s.known a) ≡ value.Int (sum_value table u)
+  sum_number a u h e = sum_is table s.known (marks choices code table base m s going w l p) (term_of s.known a) u
+      (below_is choices code table base m s going w l p a h) e
+
+  ranged : (x : Var) (kind : ValueKind) (n : ℤ) (b : Bool) → fits kind n ≡ b
+      → ArithGo x (in_range kind n)
+      ≡ cond b (goes (s.known.pc + 1) (put x (content.Holds (value.Int n)) m)) (after.Stops p, m)
+  ranged x kind n true e = ap (λ z. ArithGo x (cond z (Some n) None)) e
+  ranged x kind n false e = ap (λ z. ArithGo x (cond z (Some n) None)) e
+
+  abbrev Two : Op → Atom → Atom → Option SumOf
+  Two o a b = sum_of_two o (sum_in s.known (term_of s.known a)) (sum_in s.known (term_of s.known b))
+
+  arith_sum : (x : Var) (kind : ValueKind) (o : Op) (a b : Atom) (r : Option SumOf) → Two o a b ≡ r
       → IsLine choices code table base m s going w l p (Arith x kind o a b) → is_there s.statics a ≡ true
       → is_there s.statics b ≡ true → (term_of s.known a ≡ Unset → ⊥) → (term_of s.known b ≡ Unset → ⊥)
-      → arithmetic o kind (number s.known (term_of s.known a)) (number s.known (term_of s.known b)) ≡ r
-      → Result choices code table base m s going w l p (Arith x kind o a b) (asks_range r below)
-  arith_by x kind o a b (Some n) below is h g ne nf e = inr (
-    refl,
-    goes_on _ (as_many m) (led_is choices code table base m s going w l p (Arith x kind o a b) is
-        ∙ arith_led x kind o a b h g ne nf ∙ ap (λ z. on_number z p m (λ n. goes (s.known.pc + 1)
-        (put x (content.Holds (value.Int n)) m))) e) going
-        (put_lies choices code table base m s going w l p x (Number (number_there
-        (arithmetic o kind (number s.known (term_of s.known a)) (number s.known (term_of s.known b)))))
-        (content.Holds (value.Int n)) (s.known.pc + 1) (ap (λ z. content.Holds (value.Int (number_there z))) e)),
-  )
-  arith_by x kind o a b None below is h g ne nf e = stops_result choices code table base m s going w l p
-      (Arith x kind o a b) (Outcome (cond below 0 2)) is (arith_led x kind o a b h g ne nf
-      ∙ ap (λ z. on_number z p m (λ n. goes (s.known.pc + 1) (put x (content.Holds (value.Int n)) m))) e)
+      → Result choices code table base m s going w l p (Arith x kind o a b) (asks_result kind r)
+  arith_sum x kind o a b None e is h g ne nf =
+      unplain_result choices code table base m s going w l p (Arith x kind o a b)
+  arith_sum x kind o a b (Some u) e is h g ne nf = elim (two_sums o (sum_in s.known (term_of s.known a))
+      (sum_in s.known (term_of s.known b)) u e) [
+        | summed c d ec ed f ↦ range_result choices code table base m s going w l p (Arith x kind o a b) kind u x refl
+            is (arith_led x kind o a b (sum_value table c) (sum_value table d) h g ne nf
+            (ap number_of (sum_number a c h ec)) (ap number_of (sum_number b d g ed))
+            ∙ ap (ArithGo x) (sum_arithmetic table c d u o kind f)
+            ∙ ranged x kind (sum_value table u) (fits kind (sum_value table u)) refl)
+      ]
 
   abbrev Ranged : ValueKind → Op → Atom → Atom → Question
-  Ranged kind o a b = asks_range (arithmetic o kind (number s.known (term_of s.known a))
-      (number s.known (term_of s.known b))) (is_below o (number s.known (term_of s.known a))
-      (number s.known (term_of s.known b)))
+  Ranged kind o a b = asks_arith o kind (number_in (term_of s.known a)) (number_in (term_of s.known b))
+      (asks_result kind (Two o a b))
+
+  arith_by : (x : Var) (kind : ValueKind) (o : Op) (a b : Atom) → Numbered (term_of s.known a)
+      → Numbered (term_of s.known b)
+      → IsLine choices code table base m s going w l p (Arith x kind o a b) → is_there s.statics a ≡ true
+      → is_there s.statics b ≡ true → (term_of s.known a ≡ Unset → ⊥) → (term_of s.known b ≡ Unset → ⊥)
+      → Result choices code table base m s going w l p (Arith x kind o a b) (Ranged kind o a b)
+  arith_by x kind o a b (no_number ea) rb is h g ne nf =
+      subst (Result choices code table base m s going w l p (Arith x kind o a b))
+      (sym (ap (λ z. asks_arith o kind z (number_in (term_of s.known b)) (asks_result kind (Two o a b))) ea))
+      (arith_sum x kind o a b (Two o a b) refl is h g ne nf)
+  arith_by x kind o a b (a_number i ea) (no_number eb) is h g ne nf =
+      subst (Result choices code table base m s going w l p (Arith x kind o a b))
+      (sym (ap (λ z. asks_arith o kind (number_in z) (number_in (term_of s.known b)) (asks_result kind (Two o a b))) ea
+      ∙ ap (λ z. asks_arith o kind (Some i) z (asks_result kind (Two o a b))) eb))
+      (arith_sum x kind o a b (Two o a b) refl is h g ne nf)
+  arith_by x kind o a b (a_number i ea) (a_number j eb) is h g ne nf =
+      subst (Result choices code table base m s going w l p (Arith x kind o a b))
+      (sym (ap (λ z. asks_arith o kind (number_in z) (number_in (term_of s.known b)) (asks_result kind (Two o a b))) ea
+      ∙ ap (λ z. asks_arith o kind (Some i) (number_in z) (asks_result kind (Two o a b))) eb))
+      (arith_known x kind o a b i j (arithmetic o kind i j) is h g ea eb refl)
 
   pub arith_result : (x : Var) (kind : ValueKind) (o : Op) (a b : Atom)
       → IsLine choices code table base m s going w l p (Arith x kind o a b) → is_there s.statics a ≡ true
@@ -129,44 +194,82 @@ module _ (choices : List Choice) (code : List Line) (table : Table) (base : ℕ)
                   (stops_result choices code table base m s going w l p (Arith x kind o a b) Quiet is
                   (set_led a _ h ne ∙ unset_led b _ g e))
               | set_s nf r ↦ subst (Result choices code table base m s going w l p (Arith x kind o a b)) (sym r)
-                  (arith_by x kind o a b (arithmetic o kind (number s.known (term_of s.known a))
-                  (number s.known (term_of s.known b))) _ is h g ne nf refl)
+                  (arith_by x kind o a b (numbered (term_of s.known a)) (numbered (term_of s.known b)) is h g ne nf)
             ])
       ]
+
+  -- ---- conversions
 
   abbrev FitGo : Var → ValueKind → ℤ → Led
   FitGo x kind n = cond (fits kind n) (goes (s.known.pc + 1) (put x (content.Holds (value.Int n)) m)) (after.Stops p, m)
 
-  fit_by : (x : Var) (kind : ValueKind) (a : Atom) (b : Bool)
+  fit_led : (x : Var) (kind : ValueKind) (a : Atom) (n : ℤ) → is_there s.statics a ≡ true
+      → (term_of s.known a ≡ Unset → ⊥) → number_of (term_value table (term_of s.known a)) ≡ n
+      → leads choices (Fit x kind a) p s.known.pc m ≡ FitGo x kind n
+  fit_led x kind a n h ne e = set_led a _ h ne ∙ ap (FitGo x kind) e
+
+  fit_known : (x : Var) (kind : ValueKind) (a : Atom) (n : ℤ) (b : Bool)
       → IsLine choices code table base m s going w l p (Fit x kind a) → is_there s.statics a ≡ true
-      → (term_of s.known a ≡ Unset → ⊥) → fits kind (number s.known (term_of s.known a)) ≡ b
+      → term_of s.known a ≡ Number n → fits kind n ≡ b
       → Result choices code table base m s going w l p (Fit x kind a) (cond b (Does (Outcome 1))
-      (Stops (Outcome (cond (int_lt (number s.known (term_of s.known a)) (pos 0)) 0 2))))
-  fit_by x kind a true is h ne e = inr (
-    refl,
-    goes_on _ (as_many m) (led_is choices code table base m s going w l p (Fit x kind a) is ∙ set_led a _ h ne
-        ∙ ap (FitGo x kind) (value_number a h) ∙ ap (λ z. cond z (goes (s.known.pc + 1)
-        (put x (content.Holds (value.Int (number s.known (term_of s.known a)))) m)) (after.Stops p, m)) e) going
-        (put_lies choices code table base m s going w l p x (Number (number s.known (term_of s.known a)))
-        (content.Holds (value.Int (number s.known (term_of s.known a)))) (s.known.pc + 1) refl),
-  )
-  fit_by x kind a false is h ne e = stops_result choices code table base m s going w l p (Fit x kind a)
-      (Outcome (cond (int_lt (number s.known (term_of s.known a)) (pos 0)) 0 2)) is
-      (set_led a _ h ne ∙ ap (FitGo x kind) (value_number a h)
-      ∙ ap (λ z. cond z (goes (s.known.pc + 1) (put x (content.Holds (value.Int (number s.known (term_of s.known a))))
-      m)) (after.Stops p, m)) e)
+      (Stops (Outcome (cond (int_lt n (pos 0)) 0 2))))
+  fit_known x kind a n b is h ea e = by b e
+    where
+      goes_as : leads choices (Fit x kind a) p s.known.pc m ≡ FitGo x kind n
+      goes_as = fit_led x kind a n h (λ z. let bad : Number n ≡ Unset = sym ea ∙ z in cc)
+          (ap (λ z. number_of (term_value table z)) ea)
+
+      by : (b : Bool) → fits kind n ≡ b
+          → Result choices code table base m s going w l p (Fit x kind a) (cond b (Does (Outcome 1))
+          (Stops (Outcome (cond (int_lt n (pos 0)) 0 2))))
+      by true e = inr (
+        refl,
+        goes_on _ (as_many m) (led_is choices code table base m s going w l p (Fit x kind a) is ∙ goes_as
+            ∙ ap (λ z. cond z (goes (s.known.pc + 1) (put x (content.Holds (value.Int n)) m)) (after.Stops p, m)) e)
+            going (put_lies choices code table base m s going w l p x (Number (number s.known (term_of s.known a)))
+            (content.Holds (value.Int n)) (s.known.pc + 1)
+            (ap (λ z. content.Holds (value.Int (number s.known z))) ea)),
+      )
+      by false e = stops_result choices code table base m s going w l p (Fit x kind a)
+          (Outcome (cond (int_lt n (pos 0)) 0 2)) is (goes_as
+          ∙ ap (λ z. cond z (goes (s.known.pc + 1) (put x (content.Holds (value.Int n)) m)) (after.Stops p, m)) e)
+
+  abbrev One : Atom → Option SumOf
+  One a = sum_in s.known (term_of s.known a)
+
+  fit_sum : (x : Var) (kind : ValueKind) (a : Atom) (r : Option SumOf) → One a ≡ r
+      → IsLine choices code table base m s going w l p (Fit x kind a) → is_there s.statics a ≡ true
+      → (term_of s.known a ≡ Unset → ⊥)
+      → Result choices code table base m s going w l p (Fit x kind a) (asks_result kind r)
+  fit_sum x kind a None e is h ne = unplain_result choices code table base m s going w l p (Fit x kind a)
+  fit_sum x kind a (Some u) e is h ne = range_result choices code table base m s going w l p (Fit x kind a) kind u x
+      refl is (fit_led x kind a (sum_value table u) h ne (ap number_of (sum_number a u h e)))
+
+  abbrev Converted : ValueKind → Atom → Question
+  Converted kind a = asks_conversion kind (number_in (term_of s.known a)) (asks_result kind (One a))
+
+  fit_by : (x : Var) (kind : ValueKind) (a : Atom) → Numbered (term_of s.known a)
+      → IsLine choices code table base m s going w l p (Fit x kind a) → is_there s.statics a ≡ true
+      → (term_of s.known a ≡ Unset → ⊥)
+      → Result choices code table base m s going w l p (Fit x kind a) (Converted kind a)
+  fit_by x kind a (no_number ea) is h ne =
+      subst (Result choices code table base m s going w l p (Fit x kind a))
+      (sym (ap (λ z. asks_conversion kind z (asks_result kind (One a))) ea)) (fit_sum x kind a (One a) refl is h ne)
+  fit_by x kind a (a_number n ea) is h ne =
+      subst (Result choices code table base m s going w l p (Fit x kind a))
+      (sym (ap (λ z. asks_conversion kind (number_in z) (asks_result kind (One a))) ea))
+      (fit_known x kind a n (fits kind n) is h ea refl)
 
   pub fit_result : (x : Var) (kind : ValueKind) (a : Atom)
       → IsLine choices code table base m s going w l p (Fit x kind a) → is_there s.statics a ≡ true
       → Result choices code table base m s going w l p (Fit x kind a) (asks_set (term_of s.known a)
-      (asks_fit kind (number s.known (term_of s.known a))))
-  fit_result x kind a is h = elim (setting_is (term_of s.known a) (asks_fit kind
-      (number s.known (term_of s.known a)))) [
-        | unset_s e q ↦ subst (Result choices code table base m s going w l p (Fit x kind a)) (sym q)
-            (stops_result choices code table base m s going w l p (Fit x kind a) Quiet is (unset_led a _ h e))
-        | set_s ne q ↦ subst (Result choices code table base m s going w l p (Fit x kind a)) (sym q)
-            (fit_by x kind a (fits kind (number s.known (term_of s.known a))) is h ne refl)
-      ]
+      (Converted kind a))
+  fit_result x kind a is h = elim (setting_is (term_of s.known a) (Converted kind a)) [
+    | unset_s e q ↦ subst (Result choices code table base m s going w l p (Fit x kind a)) (sym q)
+        (stops_result choices code table base m s going w l p (Fit x kind a) Quiet is (unset_led a _ h e))
+    | set_s ne q ↦ subst (Result choices code table base m s going w l p (Fit x kind a)) (sym q)
+        (fit_by x kind a (numbered (term_of s.known a)) is h ne)
+  ]
 
   pub forget_result : (x : Var) → IsLine choices code table base m s going w l p (Forget x)
       → Result choices code table base m s going w l p (Forget x) (Does Quiet)
@@ -206,39 +309,67 @@ module _ (choices : List Choice) (code : List Line) (table : Table) (base : ℕ)
         this.0 other.0)),
   )
 
-  branch_by : (a : Atom) (this other : Label) (x : Term) → term_of s.known a ≡ x
+  abbrev Signed : Term → Question
+  Signed x = asks_sign (sum_in s.known x) (asks_known s.known x (Does Quiet))
+
+  -- the condition is a number that isn't known
+  branch_sum : (a : Atom) (this other : Label) (u : SumOf)
       → IsLine choices code table base m s going w l p (Branch a this other) → is_there s.statics a ≡ true
-      → Result choices code table base m s going w l p (Branch a this other)
-      (asks_order (number_in x) (Some (pos 0)) (asks_known s.known x (Does Quiet)))
-  branch_by a this other Unset e is h = stops_result choices code table base m s going w l p (Branch a this other)
-      Quiet is (unset_led a _ h e)
-  branch_by a this other Null e is h = branch_goes a this other Quiet is h
-      (λ z. let bad : Null ≡ Unset = sym e ∙ z in cc) (ap (λ y. is_true (term_value table y)) e
-      ∙ sym (ap (λ y. is_true (known_value s.known y)) e))
-  branch_by a this other Text e is h = branch_goes a this other Quiet is h
-      (λ z. let bad : Text ≡ Unset = sym e ∙ z in cc) (ap (λ y. is_true (term_value table y)) e
-      ∙ sym (ap (λ y. is_true (known_value s.known y)) e))
-  branch_by a this other (Number n) e is h = branch_goes a this other (Order (int_cmp n (pos 0))) is h
-      (λ z. let bad : Number n ≡ Unset = sym e ∙ z in cc) (ap (λ y. is_true (term_value table y)) e
-      ∙ sym (ap (λ y. is_true (known_value s.known y)) e))
-  branch_by a this other (Token t) e is h = elim (knowing_is s.known (Token t) (Does Quiet)) [
-    | unset z q ↦ absurd (cc)
+      → (term_of s.known a ≡ Unset → ⊥) → sum_in s.known (term_of s.known a) ≡ Some u
+      → Result choices code table base m s going w l p (Branch a this other) (Orders u zero_sum)
+  branch_sum a this other u is h ne e =
+      let o = int_cmp (sum_value table u) (sum_value table zero_sum) in
+      let to = cond (is_true (value.Int (order_number o))) this.0 other.0 in
+      orders_result choices code table base m s going w l p (Branch a this other) u zero_sum m
+      (record s.known { pc = to; progress = Looking 0 }) refl is refl
+      (set_led a _ h ne ∙ ap (BranchGo this other) (sum_number a u h e)
+      ∙ ap (λ b. goes (cond b this.0 other.0) m) (true_by_order (sum_value table u))) going
+      (jump_lies choices code table base m s going w l p to)
+
+  branch_pointer : (a : Atom) (this other : Label)
+      → IsLine choices code table base m s going w l p (Branch a this other) → is_there s.statics a ≡ true
+      → sum_in s.known (term_of s.known a) ≡ None
+      → Result choices code table base m s going w l p (Branch a this other) (asks_known s.known (term_of s.known a)
+      (Does Quiet))
+  branch_pointer a this other is h e = elim (knowing_is s.known (term_of s.known a) (Does Quiet)) [
+    | unset z q ↦ subst (Result choices code table base m s going w l p (Branch a this other)) (sym q)
+        (stops_result choices code table base m s going w l p (Branch a this other) Quiet is (unset_led a _ h z))
     | asks u z o q ↦ subst (Result choices code table base m s going w l p (Branch a this other)) (sym q)
         (null_result choices code table base m s going w l p (Branch a this other) u (open_below s.known.marks u o) o)
-    | passes k q ↦ subst (Result choices code table base m s going w l p (Branch a this other)) (sym q) (
-        let known : IsKnown s.known (term_of s.known a) = subst (IsKnown s.known) (sym e) k in
-        branch_goes a this other Quiet is h (known_set s.known (term_of s.known a) known)
+    | passes k q ↦ subst (Result choices code table base m s going w l p (Branch a this other)) (sym q)
+        (branch_goes a this other Quiet is h (known_set s.known (term_of s.known a) k)
         (agrees_true (term_value table (term_of s.known a)) (known_value s.known (term_of s.known a))
         (known_agrees table s.known (marks choices code table base m s going w l p) (term_of s.known a)
-        (below_is choices code table base m s going w l p a h) known)))
+        (below_is choices code table base m s going w l p a h) k e)))
   ]
+
+  branch_signed : (a : Atom) (this other : Label) (r : Option SumOf) → sum_in s.known (term_of s.known a) ≡ r
+      → IsLine choices code table base m s going w l p (Branch a this other) → is_there s.statics a ≡ true
+      → Result choices code table base m s going w l p (Branch a this other) (asks_sign r
+      (asks_known s.known (term_of s.known a) (Does Quiet)))
+  branch_signed a this other None e is h = branch_pointer a this other is h e
+  branch_signed a this other (Some u) e is h = branch_sum a this other u is h
+      (λ z. let bad : None ≡ Some u = sym (ap (sum_in s.known) z) ∙ e in cc) e
+
+  branch_by : (a : Atom) (this other : Label) → Numbered (term_of s.known a)
+      → IsLine choices code table base m s going w l p (Branch a this other) → is_there s.statics a ≡ true
+      → Result choices code table base m s going w l p (Branch a this other)
+      (asks_order (number_in (term_of s.known a)) (Some (pos 0)) (Signed (term_of s.known a)))
+  branch_by a this other (no_number e) is h =
+      subst (Result choices code table base m s going w l p (Branch a this other))
+      (sym (ap (λ z. asks_order z (Some (pos 0)) (Signed (term_of s.known a))) e))
+      (branch_signed a this other (sum_in s.known (term_of s.known a)) refl is h)
+  branch_by a this other (a_number n e) is h =
+      subst (Result choices code table base m s going w l p (Branch a this other))
+      (sym (ap (λ z. asks_order (number_in z) (Some (pos 0)) (Signed (term_of s.known a))) e))
+      (branch_goes a this other (Order (int_cmp n (pos 0))) is h (λ z. let bad : Number n ≡ Unset = sym e ∙ z in cc)
+      (ap (λ y. is_true (term_value table y)) e ∙ sym (ap (λ y. is_true (known_value s.known y)) e)))
 
   pub branch_result : (a : Atom) (this other : Label)
       → IsLine choices code table base m s going w l p (Branch a this other) → is_there s.statics a ≡ true
       → Result choices code table base m s going w l p (Branch a this other)
-      (asks_order (number_in (term_of s.known a)) (Some (pos 0)) (asks_known s.known (term_of s.known a)
-      (Does Quiet)))
-  branch_result a this other is h = branch_by a this other (term_of s.known a) refl is h
+      (asks_order (number_in (term_of s.known a)) (Some (pos 0)) (Signed (term_of s.known a)))
+  branch_result a this other is h = branch_by a this other (numbered (term_of s.known a)) is h
 
   -- ---- returns
 

@@ -10,16 +10,18 @@ use Rattle.pungi_symbol.specs.declared.answers.decision.Decision.TheVariants.{Qu
 use Rattle.pungi_symbol.specs.declared.states.known.Known.{Known}
 use Rattle.pungi_symbol.specs.declared.states.mark.Mark.{Mark}
 use Rattle.pungi_symbol.specs.declared.states.mark.Mark.TheVariants.{Pointer, TextPointer, IsNull, IsObject, IsText}
-use Rattle.pungi_symbol.specs.declared.states.mark.Mark.TheVariants.{IsNumber}
+use Rattle.pungi_symbol.specs.declared.states.mark.Mark.TheVariants.{IsNumber, Integer}
 use Rattle.pungi_symbol.specs.declared.questions.question.Question.{Question}
 use Rattle.pungi_symbol.specs.declared.questions.question.Question.TheVariants.{Does, Touches, Overwrites}
 use Rattle.pungi_symbol.specs.declared.questions.question.Question.TheVariants.{Null as AsksNull, Base, Answers, Same}
+use Rattle.pungi_symbol.specs.declared.questions.question.Question.TheVariants.{Orders, Range, Unplain}
 use Rattle.pungi_symbol.specs.declared.questions.question.Question.TheVariants.{Returns, Stops, Over}
 use Rattle.pungi_symbol.specs.declared.states.state.State.{State}
+use Rattle.pungi_symbol.specs.declared.states.sum.Sum.{Sum as SumOf}
 use Rattle.pungi_symbol.specs.declared.states.term.Term.{Term}
-use Rattle.pungi_symbol.specs.declared.states.term.Term.TheVariants.{Unset, Null, Text, Number, Token}
+use Rattle.pungi_symbol.specs.declared.states.term.Term.TheVariants.{Unset, Null, Text, Number, Token, Sum}
 use Rattle.pungi_symbol.specs.runs.Fits.{IsBelow, IsSound}
-use Rattle.pungi_symbol.specs.runs.ObjectForm.{is_there}
+use Rattle.pungi_symbol.specs.runs.JudgedForm.{is_there}
 use Rattle.std.specs.Prelude.{position}
 use Rattle.std.specs.List.{list_all}
 use Rattle.std.proofs.lemmas.List.Quantifiers.{position-Some}
@@ -36,6 +38,8 @@ use Rattle.pungi_api.specs.declared.own_effect.OwnEffect.TheVariants.{IncRef, De
 use Rattle.pungi_api.specs.declared.signature.Signature.{Signature}
 use Rattle.pungi_api.specs.declared.take.Take.{Take}
 use Rattle.pungi_api.specs.declared.take.Take.TheVariants as take
+use Rattle.pungi_types.specs.declared.kind.ValueKind.{ValueKind}
+use Rattle.pungi_meaning.specs.declared.op.Op.{Op}
 use Rattle.pungi_meaning.specs.Values.{fits, arithmetic}
 use Rattle.pungi_code.specs.declared.instr.Instr.TheVariants.{Set, Arith, Fit, Compare, Load, Store, Api, Call}
 use Rattle.pungi_code.specs.declared.instr.Instr.TheVariants.{Unset as Forget, Jump, Branch, Return, Fall}
@@ -45,24 +49,25 @@ use Rattle.pungi_code.specs.WellFormed.{place_kind}
 use Rattle.pungi_symbol.specs.declared.questions.found_slot.Finding.TheVariants.{Waits, At, Nowhere}
 use Rattle.pungi_symbol.specs.declared.states.spot.Progress.{Progress}
 use Rattle.pungi_symbol.specs.declared.states.spot.Progress.TheVariants.{Looking, Found}
-use Rattle.pungi_symbol.specs.states.Known.{count, mark_of, term_of, number, number_in, object_of, find, find_field}
+use Rattle.pungi_symbol.specs.states.Known.{count, mark_of, term_of, number_in, sum_in, object_of, find, find_field}
 use Rattle.pungi_symbol.specs.states.Known.{find_token, seek, ask_base, at_place, is_field, is_global, base_of, no_slot}
 use Rattle.pungi_symbol.specs.states.Known.{slot_note, spot_of, token_in}
 use Rattle.pungi_symbol.specs.questions.NextQuestion.{asks_set, asks_known, asks_thing, asks_order, asks_same}
 use Rattle.pungi_symbol.specs.questions.NextQuestion.{asks_range, content_mark, asks_load, asks_store, asks_dropped}
 use Rattle.pungi_symbol.specs.questions.NextQuestion.{asks_all_set, asks_param, asks_params, asks_take, asks_takes}
 use Rattle.pungi_symbol.specs.questions.NextQuestion.{asks_answer, asks_call_answer, asks_own, asks_signature}
-use Rattle.pungi_symbol.specs.questions.NextQuestion.{first_term}
-use Rattle.pungi_symbol.specs.questions.NextQuestion.{terms_of}
+use Rattle.pungi_symbol.specs.questions.NextQuestion.{asks_orders, asks_pointers, asks_compare, asks_arith, is_below}
+use Rattle.pungi_symbol.specs.questions.NextQuestion.{asks_conversion, asks_result, asks_sign, sum_of_two}
+use Rattle.pungi_symbol.specs.questions.NextQuestion.{first_term, terms_of}
 use Rattle.pungi_symbol.specs.questions.NextQuestion.{asks_return, asks_instr, asks_line}
 use Rattle.pungi_symbol.specs.answers.KnownAfter.{instr_of}
-use Rattle.pungi_symbol.specs.runs.ObjectForm.{atoms_of, atom_in}
+use Rattle.pungi_symbol.specs.runs.JudgedForm.{atoms_of, atom_in}
 use Rattle.pungi_symbol.specs.runs.Fits.{IsObjectSpot}
 use Rattle.pungi_symbol.proofs.states.Contents.{unset, asks, passes, knowing_is, unset_n, null_n, asks_n, passes_n}
-use Rattle.pungi_symbol.proofs.states.Contents.{needing_is, IsKnown, is_open}
+use Rattle.pungi_symbol.proofs.states.Contents.{needing_is, IsKnown, is_open, has_answers}
 use Rattle.pungi_symbol.proofs.steps.Comparisons.{Objected, an_object, no_object, objected}
 use Rattle.pungi_symbol.proofs.steps.SlotSearch.{spot_object}
-use Rattle.pungi_symbol.proofs.steps.Stores.{drop_asks, drop_known, drop_unset, dropping_is, contents_open}
+use Rattle.pungi_symbol.proofs.steps.Stores.{drop_asks, drop_known, drop_unset, dropping_is, content_answers}
 use Rattle.pungi_symbol.proofs.states.Terms.{atom_below}
 use Rattle.pungi_symbol.proofs.steps.Rows.{all_there}
 
@@ -77,12 +82,15 @@ IsGiven k (Some x) = IsKnown k x × IsBelow (count k) x
 
 abbrev pub IsAsked : Instr → Known → Question → Type 0
 IsAsked i k (Does d) = Unit {0}
-IsAsked i k (Touches r) = SpotOk i k × (is_open r ≡ true)
-IsAsked i k (Overwrites r) = SpotOk i k × (is_open r ≡ true)
+IsAsked i k (Touches r) = SpotOk i k × (has_answers r ≡ true)
+IsAsked i k (Overwrites r) = SpotOk i k × (has_answers r ≡ true)
 IsAsked i k (AsksNull t) = is_open (mark_of k t) ≡ true
 IsAsked i k (Base t u j) = (mark_of k t ≡ IsObject) × (mark_of k u ≡ IsObject)
 IsAsked i k (Answers a) = Unit {0}
 IsAsked i k (Same t u) = (mark_of k t ≡ IsObject) × (mark_of k u ≡ IsObject)
+IsAsked i k (Orders a b) = Unit {0}
+IsAsked i k (Range kind a) = Unit {0}
+IsAsked i k Unplain = Unit {0}
 IsAsked i k (Returns x) = IsGiven k x
 IsAsked i k (Stops d) = Unit {0}
 IsAsked i k Over = Unit {0}
@@ -94,6 +102,7 @@ module _ (i : Instr) (k : Known) where
   setting_asked Text q h = h
   setting_asked (Number n) q h = h
   setting_asked (Token t) q h = h
+  setting_asked (Sum s) q h = h
 
   knowing_asked : (x : Term) (q : Question) → (IsKnown k x → IsAsked i k q) → IsAsked i k (asks_known k x q)
   knowing_asked x q h = elim (knowing_is k x q) [
@@ -115,6 +124,24 @@ module _ (i : Instr) (k : Known) where
   ordering_asked (Some m) None q h = h
   ordering_asked (Some m) (Some n) q h = tt
 
+  orders_asked : (a b : Option SumOf) (q : Question) → IsAsked i k q → IsAsked i k (asks_orders a b q)
+  orders_asked None b q h = h
+  orders_asked (Some a) None q h = h
+  orders_asked (Some a) (Some b) q h = tt
+
+  pointers_asked : (a b : Option SumOf) (q : Question) → IsAsked i k q → IsAsked i k (asks_pointers a b q)
+  pointers_asked None None q h = h
+  pointers_asked None (Some b) q h = tt
+  pointers_asked (Some a) b q h = tt
+
+  sign_asked : (a : Option SumOf) (q : Question) → IsAsked i k q → IsAsked i k (asks_sign a q)
+  sign_asked None q h = h
+  sign_asked (Some a) q h = tt
+
+  result_asked : (kind : ValueKind) (r : Option SumOf) → IsAsked i k (asks_result kind r)
+  result_asked kind None = tt
+  result_asked kind (Some r) = tt
+
   comparing_by : (a b : Term) → Objected k a → Objected k b → IsAsked i k (asks_same (object_of k a) (object_of k b))
   comparing_by a b (an_object t e m o) (an_object u f n r) = subst (IsAsked i k)
       (sym (ap (λ z. asks_same z (object_of k b)) o ∙ ap (asks_same (Some t)) r)) (m, n)
@@ -122,13 +149,29 @@ module _ (i : Instr) (k : Known) where
       (sym (ap (λ z. asks_same z (object_of k b)) o ∙ ap (asks_same (Some t)) r)) tt
   comparing_by a b (no_object o g) r = subst (IsAsked i k) (sym (ap (λ z. asks_same z (object_of k b)) o)) tt
 
+  compared_asked : (a b : Term) → IsAsked i k (asks_compare k a b)
+  compared_asked a b = ordering_asked (number_in a) (number_in b) _
+      (orders_asked (sum_in k a) (sum_in k b) _ (knowing_asked a _ (λ _. knowing_asked b _ (λ _. pointers_asked
+      (sum_in k a) (sum_in k b) _ (comparing_by a b (objected k a) (objected k b))))))
+
   ranged_asked : (o : Option ℤ) (b : Bool) → IsAsked i k (asks_range o b)
   ranged_asked None b = tt
   ranged_asked (Some n) b = tt
 
+  arithmetic_asked : (o : Op) (kind : ValueKind) (a b : Option ℤ) (q : Question) → IsAsked i k q
+      → IsAsked i k (asks_arith o kind a b q)
+  arithmetic_asked o kind None b q h = h
+  arithmetic_asked o kind (Some m) None q h = h
+  arithmetic_asked o kind (Some m) (Some n) q h = ranged_asked (arithmetic o kind m n) (is_below o m n)
+
   fitting_by : (b : Bool) (d e : Decision) → IsAsked i k (cond b (Does d) (Stops e))
   fitting_by true d e = tt
   fitting_by false d e = tt
+
+  conversion_asked : (kind : ValueKind) (a : Option ℤ) (q : Question) → IsAsked i k q
+      → IsAsked i k (asks_conversion kind a q)
+  conversion_asked kind None q h = h
+  conversion_asked kind (Some n) q h = fitting_by (fits kind n) _ _
 
   dropping_asked : (x : Term) → IsAsked i k (asks_dropped k x)
   dropping_asked x = elim (dropping_is k x) [
@@ -242,6 +285,7 @@ module _ (k : Known) (spots : (j : ℕ) → IsObjectSpot k.marks (slot_note k.sl
     token_seeks t IsObject e m f = object_seeks t k.progress e m refl f
     token_seeks t IsText e m f = s_stop f
     token_seeks t (IsNumber n) e m f = s_stop f
+    token_seeks t (Integer r) e m f = s_stop f
 
     field_seeks : (x : Term) → term_of k base' ≡ x → find k F ≡ find_field k x tag field → Seeks k F
     field_seeks Unset e f = s_stop f
@@ -249,6 +293,7 @@ module _ (k : Known) (spots : (j : ℕ) → IsObjectSpot k.marks (slot_note k.sl
     field_seeks Text e f = s_stop f
     field_seeks (Number n) e f = s_stop f
     field_seeks (Token t) e f = token_seeks t (mark_of k t) e refl f
+    field_seeks (Sum s) e f = s_stop f
 
   pub seeks : (place : Place) → Seeks k place
   seeks (places.Global n kind) = global_seeks n kind (position (λ y. is_global n y.spot) k.slots) refl
@@ -266,7 +311,7 @@ module _ (k : Known) (spots : (j : ℕ) → IsObjectSpot k.marks (slot_note k.sl
         | s_base t u j e m n ↦ subst (λ f. IsAsked i k (asks_load k r f)) (sym e) (m, n)
         | s_at j e ↦ subst (λ f. IsAsked i k (asks_load k r f)) (sym e) (setting_asked i k
             (slot_note k.slots j).held (Does Quiet) tt)
-        | s_new e h ↦ subst (λ f. IsAsked i k (asks_load k r f)) (sym e) (h, contents_open (place_kind place))
+        | s_new e h ↦ subst (λ f. IsAsked i k (asks_load k r f)) (sym e) (h, content_answers (place_kind place))
       ]
 
   storing_asked : (place : Place) (a : Atom)
@@ -279,7 +324,7 @@ module _ (k : Known) (spots : (j : ℕ) → IsObjectSpot k.marks (slot_note k.sl
         | s_null t e o ↦ subst (λ f. IsAsked i k (asks_store k r f)) (sym e) o
         | s_base t u j e m n ↦ subst (λ f. IsAsked i k (asks_store k r f)) (sym e) (m, n)
         | s_at j e ↦ subst (λ f. IsAsked i k (asks_store k r f)) (sym e) (dropping_asked i k (slot_note k.slots j).held)
-        | s_new e h ↦ subst (λ f. IsAsked i k (asks_store k r f)) (sym e) (h, contents_open (place_kind place))
+        | s_new e h ↦ subst (λ f. IsAsked i k (asks_store k r f)) (sym e) (h, content_answers (place_kind place))
       ]
 
 -- ---- instructions
@@ -299,15 +344,14 @@ module _ (s : State) (w : IsSound s) where
   asked (Set x a) h = setting_asked (Set x a) s.known (term_of s.known a) (Does Quiet) tt
   asked (Arith x kind o a b) h = setting_asked (Arith x kind o a b) s.known (term_of s.known a) _
       (setting_asked (Arith x kind o a b) s.known (term_of s.known b) _
-      (ranged_asked (Arith x kind o a b) s.known (arithmetic o kind (number s.known (term_of s.known a))
-      (number s.known (term_of s.known b))) _))
-  asked (Fit x kind a) h = setting_asked (Fit x kind a) s.known (term_of s.known a) _
-      (fitting_by (Fit x kind a) s.known (fits kind (number s.known (term_of s.known a))) _ _)
-  asked (Compare x c a b) h = ordering_asked (Compare x c a b) s.known (number_in (term_of s.known a))
+      (arithmetic_asked (Arith x kind o a b) s.known o kind (number_in (term_of s.known a))
       (number_in (term_of s.known b)) _
-      (knowing_asked (Compare x c a b) s.known (term_of s.known a) _ (λ _. knowing_asked (Compare x c a b) s.known
-      (term_of s.known b) _ (λ _. comparing_by (Compare x c a b) s.known (term_of s.known a) (term_of s.known b)
-      (objected s.known (term_of s.known a)) (objected s.known (term_of s.known b)))))
+      (result_asked (Arith x kind o a b) s.known kind
+      (sum_of_two o (sum_in s.known (term_of s.known a)) (sum_in s.known (term_of s.known b))))))
+  asked (Fit x kind a) h = setting_asked (Fit x kind a) s.known (term_of s.known a) _
+      (conversion_asked (Fit x kind a) s.known kind (number_in (term_of s.known a)) _
+      (result_asked (Fit x kind a) s.known kind (sum_in s.known (term_of s.known a))))
+  asked (Compare x c a b) h = compared_asked (Compare x c a b) s.known (term_of s.known a) (term_of s.known b)
   asked (Load x place) h = loading_asked s.known w.terms.spots x place
   asked (Store place a) h = knowing_asked (Store place a) s.known (term_of s.known a) _
       (λ _. storing_asked s.known w.terms.spots place a)
@@ -317,7 +361,8 @@ module _ (s : State) (w : IsSound s) where
   asked (Forget x) h = tt
   asked (Jump to) h = tt
   asked (Branch a this other) h = ordering_asked (Branch a this other) s.known (number_in (term_of s.known a))
-      (Some (pos 0)) _ (knowing_asked (Branch a this other) s.known (term_of s.known a) (Does Quiet) (λ _. tt))
+      (Some (pos 0)) _ (sign_asked (Branch a this other) s.known (sum_in s.known (term_of s.known a)) _
+      (knowing_asked (Branch a this other) s.known (term_of s.known a) (Does Quiet) (λ _. tt)))
   asked (Return o) h = return_asked o h
   asked Fall h = tt
 

@@ -1,6 +1,6 @@
 -- What a call of a row needs, takes over and returns.
-use Rattle.std.proofs.Common.{◌≡◌, ℕ, ◌<◌, ◌≤◌, ℤ, pos, negsuc, ◌+ℤ◌, List, [], ◌∷◌, length, map, Bool, true, false}
-use Rattle.std.proofs.Common.{refl, sym, ap, ◌∙◌, subst, arith, ◌⊎◌, inl, inr, Option, None, Some, cond}
+use Rattle.std.proofs.Common.{◌≡◌, ℕ, ◌<◌, ◌+ℤ◌, List, [], ◌∷◌, length, map, Bool, true, false}
+use Rattle.std.proofs.Common.{refl, sym, ap, ◌∙◌, subst, arith, Option, None, Some, cond}
 use Rattle.pungi_base.specs.declared.choice.Choice.{Choice}
 use Rattle.pungi_base.specs.declared.value.Value.{Value}
 use Rattle.pungi_base.specs.declared.value.Value.TheVariants as value
@@ -8,23 +8,21 @@ use Rattle.pungi_world.specs.declared.content.Content.{Content}
 use Rattle.pungi_world.specs.declared.content.Content.TheVariants as content
 use Rattle.pungi_code.specs.declared.atom.Atom.{Atom}
 use Rattle.pungi_code.specs.Registers.{content_of as atom_content}
-use Rattle.pungi_symbol.specs.declared.answers.decision.Decision.TheVariants.{Quiet, Outcome}
+use Rattle.pungi_symbol.specs.declared.answers.decision.Decision.TheVariants.{Quiet}
 use Rattle.pungi_symbol.specs.declared.states.known.Known.{Known}
 use Rattle.pungi_symbol.specs.declared.states.mark.Mark.{Mark}
 use Rattle.pungi_symbol.specs.declared.states.mark.Mark.TheVariants.{Pointer, TextPointer, IsNull, IsObject, IsText}
-use Rattle.pungi_symbol.specs.declared.states.mark.Mark.TheVariants.{IsNumber}
+use Rattle.pungi_symbol.specs.declared.states.mark.Mark.TheVariants.{IsNumber, Integer}
 use Rattle.pungi_symbol.specs.declared.questions.question.Question.{Question}
 use Rattle.pungi_symbol.specs.declared.questions.question.Question.TheVariants.{Null as AsksNull, Answers, Stops}
 use Rattle.pungi_symbol.specs.declared.states.term.Term.{Term}
-use Rattle.pungi_symbol.specs.declared.states.term.Term.TheVariants.{Unset, Null, Text, Number, Token}
+use Rattle.pungi_symbol.specs.declared.states.term.Term.TheVariants.{Unset, Null, Text, Number, Token, Sum}
 use Rattle.pungi_symbol.specs.states.Terms.{Table, at, content_of, is_mark}
 use Rattle.pungi_symbol.specs.runs.Fits.{IsBelow}
-use Rattle.pungi_symbol.specs.runs.ObjectForm.{is_there}
-use Rattle.std.specs.Prelude.{◌||◌, ◌&&◌, nat_le, Ok, Err}
+use Rattle.pungi_symbol.specs.runs.JudgedForm.{is_there}
+use Rattle.std.specs.Prelude.{◌||◌, ◌&&◌, Ok, Err}
 use Rattle.std.specs.List.{list_all}
 use Rattle.std.proofs.lemmas.Int.{ints}
-use Rattle.std.proofs.lemmas.Bool.Decides.{nat_tests}
-use Rattle.pungi_base.specs.declared.choice.Choice.TheVariants as choice
 use Rattle.pungi_api.specs.declared.answer.Answer.{Answer}
 use Rattle.pungi_api.specs.declared.answer.Answer.TheVariants as answer
 use Rattle.pungi_api.specs.declared.param.Param.{Param}
@@ -33,24 +31,22 @@ use Rattle.pungi_api.specs.declared.take.Take.{Take}
 use Rattle.pungi_api.specs.declared.take.Take.TheVariants as take
 use Rattle.pungi_world.specs.declared.halt.Halt.TheVariants as halt
 use Rattle.pungi_world.specs.declared.world.World.{World}
-use Rattle.pungi_world.specs.Calls.{lacks, stops, is_success, is_taken, take_over, is_zero, is_object}
-use Rattle.pungi_world.specs.Choices.{value_of, is_null, is_text, is_number, is_between, is_object_choice, is_accepted}
+use Rattle.pungi_world.specs.Calls.{lacks, stops, is_taken, take_over}
+use Rattle.pungi_world.specs.Choices.{value_of, is_accepted}
 use Rattle.pungi_world.specs.Choices.{choose, answer_of}
 use Rattle.pungi_world.specs.Counts.{hand_over}
 use Rattle.pungi_world.specs.Effects.{◌>>=◌}
 use Rattle.pungi_code.specs.Registers.{all_values, both_values}
-use Rattle.pungi_symbol.specs.states.Terms.{outcomes_of_answer, place_of, mark_at}
+use Rattle.pungi_symbol.specs.states.Terms.{sum_value}
 use Rattle.pungi_symbol.specs.states.Known.{count, mark_of, term_of}
 use Rattle.pungi_symbol.specs.questions.NextQuestion.{asks_all_set, asks_thing, asks_param, asks_params, asks_known}
 use Rattle.pungi_symbol.specs.questions.NextQuestion.{asks_take, asks_takes, asks_answer}
-use Rattle.pungi_symbol.specs.answers.SymbolicState.{taken_terms, is_outcome}
-use Rattle.pungi_symbol.specs.runs.ObjectForm.{is_small}
+use Rattle.pungi_symbol.specs.answers.SymbolicState.{taken_terms}
 use Rattle.pungi_symbol.specs.runs.RunInState.{owed, IsOf}
 use Rattle.pungi_symbol.proofs.states.Contents.{unset, asks, passes, knowing_is, unset_n, null_n, asks_n, passes_n}
-use Rattle.pungi_symbol.proofs.states.Contents.{needing_is, IsKnown, IsThing, is_open, term_value, null_value, Agrees}
-use Rattle.pungi_symbol.proofs.states.Contents.{one, objects}
+use Rattle.pungi_symbol.proofs.states.Contents.{needing_is, IsKnown, IsThing, is_open, term_value, null_value}
 use Rattle.pungi_symbol.proofs.states.Claims.{AreKnown, owing}
-use Rattle.pungi_symbol.proofs.steps.Worlds.{IsNear, Keeps, keeps_self, keeps_then, handed_keeps, handed_owed}
+use Rattle.pungi_symbol.proofs.steps.Worlds.{Keeps, keeps_self, keeps_then, handed_keeps, handed_owed}
 
 -- ---- arguments
 
@@ -90,6 +86,10 @@ set_cons table (Number n) xs c o e (are_set f g h) =
 set_cons table (Token t) xs c o e (not_set f g) = not_set f (both_none c o g)
 set_cons table (Token t) xs c o e (are_set f g h) =
     are_set f (ap (λ z. both_values z o) e ∙ ap (both_values (content.Holds (at table t))) g) ((λ z. cc), h)
+set_cons table (Sum s) xs c o e (not_set f g) = not_set f (both_none c o g)
+set_cons table (Sum s) xs c o e (are_set f g h) =
+    are_set f (ap (λ z. both_values z o) e ∙ ap (both_values (content.Holds (value.Int (sum_value table s)))) g)
+    ((λ z. cc), h)
 
 pub all_there : (n : ℕ) (a : Atom) (as' : List Atom) → list_all (is_there n) (a ∷ as') ≡ true
     → (is_there n a ≡ true) × (list_all (is_there n) as' ≡ true)
@@ -122,6 +122,7 @@ not_null k table Unset marks b kn th e = th
 not_null k table Null marks b kn th e = th
 not_null k table Text marks b kn th e = cc
 not_null k table (Number n) marks b kn th e = cc
+not_null k table (Sum s) marks b kn th e = cc
 not_null k table (Token t) marks b kn th e = by (mark_of k t) refl
   where
     by : (r : Mark) → mark_of k t ≡ r → ⊥
@@ -135,6 +136,7 @@ not_null k table (Token t) marks b kn th e = by (mark_of k t) refl
         off IsObject h o n = absurd (let bad : false ≡ true = h in cc)
         off IsText h o n = absurd (let bad : false ≡ true = h in cc)
         off (IsNumber i) h o n = absurd (let bad : false ≡ true = h in cc)
+        off (Integer i) h o n = absurd (let bad : false ≡ true = h in cc)
 
 pub object_lacks : (v : Value) → (v ≡ value.Null → ⊥) → lacks param.Object v ≡ false
 object_lacks value.Null n = absurd (n refl)
@@ -345,130 +347,3 @@ chosen_by n a c rest false e = chose_none (ap (λ b. cond b (Ok (value_of c)) (E
 pub chosen_is : (n : ℕ) (a : Answer) (cs : List Choice) → Chosen n a cs
 chosen_is n a [] = chose_none refl
 chosen_is n a (c ∷ cs) = chosen_by n a c cs (is_accepted n a c) refl
-
--- the answer is one of those that traces distinguish
-pub record Told (a : Answer) (n : ℕ) (v : Value) : Type 0 where
-  pub can : is_outcome (length (outcomes_of_answer a)) (Outcome (place_of (outcomes_of_answer a) v)) ≡ true
-  pub marked : is_mark (mark_at (outcomes_of_answer a) (place_of (outcomes_of_answer a) v)) v ≡ true
-  pub shut : is_open (mark_at (outcomes_of_answer a) (place_of (outcomes_of_answer a) v)) ≡ false
-  pub near : (w : World) → length w.accounts ≡ n → IsNear w v
-
-le_says : (k n : ℕ) → nat_le k n ≡ true → k ≤ n
-le_says k n e = grind (arith, nat_tests)
-
-no_way : {X : Type 0} → false ≡ true → X
-no_way e = absurd (cc)
-
-pointer_told : (a : Answer) (n : ℕ) (c : Choice) → outcomes_of_answer a ≡ IsNull ∷ IsObject ∷ []
-    → (is_null c || is_object_choice n c) ≡ true → Told a n (value_of c)
-pointer_told a n choice.Null e h =
-    record {
-      can = ap (λ z. is_outcome (length z) (Outcome (place_of z value.Null))) e;
-      marked = ap
-          (λ z. is_mark (mark_at z (place_of z value.Null)) value.Null) e;
-      shut = ap
-          (λ z. is_open (mark_at z (place_of z value.Null))) e;
-      near = λ w f. tt;
-    }
-pointer_told a n (choice.Object k) e h =
-    record {
-      can = ap (λ z. is_outcome (length z) (Outcome (place_of z (value.Object k)))) e;
-      marked = ap
-          (λ z. is_mark (mark_at z (place_of z (value.Object k))) (value.Object k)) e;
-      shut = ap
-          (λ z. is_open (mark_at z (place_of z (value.Object k)))) e;
-      near = λ w f. let le = le_says k n h in omega
-          (arith, f, le);
-    }
-pointer_told a n (choice.Int i) e h = no_way h
-pointer_told a n choice.Text e h = no_way h
-pointer_told a n (choice.Given i) e h = no_way h
-pointer_told a n (choice.Failed i) e h = no_way h
-
-sure_told : (n : ℕ) (c : Choice) → is_object_choice n c ≡ true → Told answer.BorrowedSure n (value_of c)
-sure_told n choice.Null h = no_way h
-sure_told n (choice.Object k) h =
-    record { can = refl; marked = refl; shut = refl; near = λ w f. let le = le_says k n h in omega (arith, f, le) }
-sure_told n (choice.Int i) h = no_way h
-sure_told n choice.Text h = no_way h
-sure_told n (choice.Given i) h = no_way h
-sure_told n (choice.Failed i) h = no_way h
-
-text_told : (n : ℕ) (c : Choice) → (is_null c || is_text c) ≡ true → Told answer.Text n (value_of c)
-text_told n choice.Null h = record { can = refl; marked = refl; shut = refl; near = λ w f. tt }
-text_told n (choice.Object k) h = no_way h
-text_told n (choice.Int i) h = no_way h
-text_told n choice.Text h = record { can = refl; marked = refl; shut = refl; near = λ w f. tt }
-text_told n (choice.Given i) h = no_way h
-text_told n (choice.Failed i) h = no_way h
-
-status_cases : (i : ℤ) → is_between (negsuc 0) (pos 0) i ≡ true → (i ≡ pos 0) ⊎ (i ≡ negsuc 0)
-status_cases i h = grind (arith, ints)
-
-truth_cases : (i : ℤ) → is_between (negsuc 0) (pos 1) i ≡ true → (i ≡ pos 1) ⊎ ((i ≡ pos 0) ⊎ (i ≡ negsuc 0))
-truth_cases i h = grind (arith, ints)
-
-status_told : (n : ℕ) (c : Choice) → is_number (negsuc 0) (pos 0) c ≡ true → Told answer.Status n (value_of c)
-status_told n choice.Null h = no_way h
-status_told n (choice.Object k) h = no_way h
-status_told n (choice.Int i) h = elim (status_cases i h) [
-  | inl e ↦ subst (λ z. Told answer.Status n (value.Int z)) (sym e) (record
-      { can = refl; marked = refl; shut = refl; near = λ w f. tt })
-  | inr e ↦ subst (λ z. Told answer.Status n (value.Int z)) (sym e) (record
-      { can = refl; marked = refl; shut = refl; near = λ w f. tt })
-]
-status_told n choice.Text h = no_way h
-status_told n (choice.Given i) h = no_way h
-status_told n (choice.Failed i) h = no_way h
-
-truth_told : (n : ℕ) (c : Choice) → is_number (negsuc 0) (pos 1) c ≡ true → Told answer.Truth n (value_of c)
-truth_told n choice.Null h = no_way h
-truth_told n (choice.Object k) h = no_way h
-truth_told n (choice.Int i) h = elim (truth_cases i h) [
-  | inl e ↦ subst (λ z. Told answer.Truth n (value.Int z)) (sym e) (record
-      { can = refl; marked = refl; shut = refl; near = λ w f. tt })
-  | inr r ↦ elim r [
-    | inl e ↦ subst (λ z. Told answer.Truth n (value.Int z)) (sym e) (record
-        { can = refl; marked = refl; shut = refl; near = λ w f. tt })
-    | inr e ↦ subst (λ z. Told answer.Truth n (value.Int z)) (sym e) (record
-        { can = refl; marked = refl; shut = refl; near = λ w f. tt })
-  ]
-]
-truth_told n choice.Text h = no_way h
-truth_told n (choice.Given i) h = no_way h
-truth_told n (choice.Failed i) h = no_way h
-
-pub known_is : (a : Answer) (n : ℕ) (c : Choice) → is_small a ≡ true → is_accepted n a c ≡ true → Told a n (value_of c)
-known_is answer.New n c s h = pointer_told answer.New n c refl h
-known_is answer.Borrowed n c s h = pointer_told answer.Borrowed n c refl h
-known_is answer.BorrowedSure n c s h = sure_told n c h
-known_is answer.Status n c s h = status_told n c h
-known_is answer.Truth n c s h = truth_told n c h
-known_is answer.Text n c s h = text_told n c h
-known_is answer.Size n c s h = no_way s
-known_is answer.Int n c s h = no_way s
-known_is answer.Long n c s h = no_way s
-known_is answer.Void n c s h = no_way h
-known_is answer.Null n c s h = no_way h
-
--- a call succeeds by its answer's mark
-zero_agrees : (v x : Value) → Agrees v x → is_zero v ≡ is_zero x
-zero_agrees v x (one e) = ap is_zero e
-zero_agrees v x (objects a b e f) = ap is_zero e ∙ sym (ap is_zero f)
-
-object_agrees : (v x : Value) → Agrees v x → is_object v ≡ is_object x
-object_agrees v x (one e) = ap is_object e
-object_agrees v x (objects a b e f) = ap is_object e ∙ sym (ap is_object f)
-
-pub success_agrees : (a : Answer) (v x : Value) → Agrees v x → is_success a (Some v) ≡ is_success a (Some x)
-success_agrees answer.New v x h = object_agrees v x h
-success_agrees answer.Status v x h = zero_agrees v x h
-success_agrees answer.Borrowed v x h = refl
-success_agrees answer.BorrowedSure v x h = refl
-success_agrees answer.Truth v x h = refl
-success_agrees answer.Size v x h = refl
-success_agrees answer.Int v x h = refl
-success_agrees answer.Long v x h = refl
-success_agrees answer.Text v x h = refl
-success_agrees answer.Void v x h = refl
-success_agrees answer.Null v x h = refl

@@ -1,6 +1,6 @@
 -- A run lies in a state after a step: the parts that each step shares.
 use Rattle.std.proofs.Common.{◌≡◌, ℕ, zero, suc, ◌+◌, ◌-◌, ◌<◌, ◌≤◌, List, [], ◌∷◌, length, map, get_or, Bool, true}
-use Rattle.std.proofs.Common.{false, refl, sym, ap, ◌∙◌, arith, ◌⊎◌, inr, Option, None, Some}
+use Rattle.std.proofs.Common.{false, refl, sym, ap, ◌∙◌, arith, ◌⊎◌, inr, Option, None, Some, cond}
 use Rattle.std.specs.Prelude.{slice_set, slice_get}
 use Rattle.std.proofs.Math.ListN.{length-set}
 use Rattle.std.proofs.lemmas.List.{map-set}
@@ -25,7 +25,7 @@ use Rattle.pungi_symbol.specs.declared.states.known.Known.{Known}
 use Rattle.pungi_symbol.specs.declared.states.known.Status.TheVariants as status
 use Rattle.pungi_symbol.specs.declared.states.mark.Mark.{Mark}
 use Rattle.pungi_symbol.specs.declared.states.mark.Mark.TheVariants.{Pointer, TextPointer, IsNull, IsObject, IsText}
-use Rattle.pungi_symbol.specs.declared.states.mark.Mark.TheVariants.{IsNumber}
+use Rattle.pungi_symbol.specs.declared.states.mark.Mark.TheVariants.{IsNumber, Integer}
 use Rattle.pungi_symbol.specs.declared.questions.question.Question.{Question}
 use Rattle.pungi_symbol.specs.declared.questions.question.Question.TheVariants.{Null as AsksNull, Returns, Stops}
 use Rattle.pungi_symbol.specs.declared.states.spot.Progress.{Progress}
@@ -36,12 +36,12 @@ use Rattle.pungi_symbol.specs.states.Terms.{Table, at, content_of, is_mark, outc
 use Rattle.pungi_symbol.specs.states.Known.{count, mark_of, term_of}
 use Rattle.pungi_symbol.specs.answers.SymbolicState.{can, is_decision, is_order, is_outcome, apply}
 use Rattle.pungi_symbol.specs.runs.Fits.{IsBelow, IsSound}
-use Rattle.pungi_symbol.specs.runs.ObjectForm.{is_there}
+use Rattle.pungi_symbol.specs.runs.JudgedForm.{is_there}
 use Rattle.pungi_symbol.specs.runs.RunInState.{IsWalked, answer, Lies}
 use Rattle.pungi_symbol.specs.runs.Paths.{returned_value}
 use Rattle.pungi_symbol.specs.runs.OneInstruction.{leads, leads_at, leads_line}
 use Rattle.pungi_symbol.proofs.steps.ChoicesForAnswers.{Lacks}
-use Rattle.pungi_symbol.proofs.states.Contents.{is_open, atom_term}
+use Rattle.pungi_symbol.proofs.states.Contents.{is_open, has_answers, open_answers, atom_term}
 use Rattle.pungi_symbol.proofs.answers.Fits.{mark_fits}
 use Rattle.pungi_symbol.proofs.states.Terms.{atom_below}
 use Rattle.std.specs.declared.cmp.Ordering.{Ordering}
@@ -93,6 +93,8 @@ outcome_closed IsNull k = refl
 outcome_closed IsObject k = refl
 outcome_closed IsText k = refl
 outcome_closed (IsNumber n) k = refl
+outcome_closed (Integer r) zero = refl
+outcome_closed (Integer r) (suc k) = refl
 
 -- where a step of a run leads, and in which state it lies then
 pub data Moved (choices : List Choice) (code : List Line) (table : Table) (base : ℕ) (pc before : ℕ) (m : Regs)
@@ -104,6 +106,8 @@ pub data Moved (choices : List Choice) (code : List Line) (table : Table) (base 
       → Lies code table base m' s' → Moved choices code table base pc before m s'
   leaves : (p : Pos) (x : Option Term) → s'.known.status ≡ status.Returned p x
       → leads_at choices code pc m ≡ (after.Leaves p (returned_value table x), m) → Lies code table base m s'
+      → Moved choices code table base pc before m s'
+  sees : (p : Pos) → s'.known.pc ≡ pc → s'.known.status ≡ status.NumberSeen p → Lies code table base m s'
       → Moved choices code table base pc before m s'
   halts : (p : Pos) → s'.known.status ≡ status.Stopped p → leads_at choices code pc m ≡ (after.Stops p, m)
       → Lies code table base m s' → Moved choices code table base pc before m s'
@@ -127,8 +131,8 @@ same_decision (Order o) = same_order o
 same_decision (IsSame true) = refl
 same_decision (IsSame false) = refl
 
--- the answer to whether a token is NULL
-pub null_outcome : (m : Mark) (v : Value) → is_open m ≡ true → is_mark m v ≡ true
+-- the answer to whether a token is NULL, or that it is a number
+pub null_outcome : (m : Mark) (v : Value) → has_answers m ≡ true → is_mark m v ≡ true
     → (is_outcome (length (outcomes_of_mark m)) (Outcome (place_of (outcomes_of_mark m) v)) ≡ true)
     × (is_mark (mark_at (outcomes_of_mark m) (place_of (outcomes_of_mark m) v)) v ≡ true)
 null_outcome Pointer value.Null o h = (refl, refl)
@@ -143,6 +147,11 @@ null_outcome IsNull v o h = absurd (let bad : false ≡ true = o in cc)
 null_outcome IsObject v o h = absurd (let bad : false ≡ true = o in cc)
 null_outcome IsText v o h = absurd (let bad : false ≡ true = o in cc)
 null_outcome (IsNumber n) v o h = absurd (let bad : false ≡ true = o in cc)
+null_outcome (Integer r) v o h =
+    let first : place_of (Integer r ∷ []) v ≡ 0 = ap (λ b. cond b 0 1) h in (
+      ap (λ k. is_outcome 1 (Outcome k)) first,
+      ap (λ k. is_mark (mark_at (Integer r ∷ []) k) v) first ∙ h,
+    )
 
 module _ (choices : List Choice) (code : List Line) (table : Table) (base : ℕ) (m : Regs) (s : State)
     (going : s.known.status ≡ status.Going) (w : IsSound s) (l : Lies code table base m s) (p : Pos) where
@@ -163,10 +172,10 @@ module _ (choices : List Choice) (code : List Line) (table : Table) (base : ℕ)
       s))
 
   pub marks : (t : ℕ) → t < count s.known → is_mark (mark_of s.known t) (at table t) ≡ true
-  marks t lt = l.fits.marks t lt
+  marks t lt = l.fits.notes.marks t lt
 
   pub atom_is : (a : Atom) → is_there s.statics a ≡ true → atom_content a m.vars ≡ content_of table (term_of s.known a)
-  atom_is a h = atom_term table s.known s.statics m.vars l.fits.statics l.vars a h
+  atom_is a h = atom_term table s.known s.statics m.vars l.fits.notes.statics l.vars a h
 
   pub below_is : (a : Atom) → is_there s.statics a ≡ true → IsBelow (count s.known) (term_of s.known a)
   below_is a h = atom_below s.known.marks s.known.vars s.known.slots w.terms s.known s.statics a refl w.notes.statics h
@@ -177,7 +186,7 @@ module _ (choices : List Choice) (code : List Line) (table : Table) (base : ℕ)
   -- a question about NULL
   pub null_result : (i : Instr) (t : ℕ) → t < count s.known → is_open (mark_of s.known t) ≡ true → Result i (AsksNull t)
   null_result i t lt opened' =
-      let o = null_outcome (mark_of s.known t) (at table t) opened' (marks t lt) in
+      let o = null_outcome (mark_of s.known t) (at table t) (open_answers (mark_of s.known t) opened') (marks t lt) in
       let new = mark_at (outcomes_of_mark (mark_of s.known t)) (place_of (outcomes_of_mark (mark_of s.known t))
       (at table t)) in
       let len : length (slice_set s.known.marks t new) ≡ length s.known.marks = length-set s.known.marks t new in
@@ -185,7 +194,10 @@ module _ (choices : List Choice) (code : List Line) (table : Table) (base : ℕ)
         o.0,
         stays refl going (let e = opens_set s.known.marks t new opened' (outcome_closed (mark_of s.known t)
             (place_of (outcomes_of_mark (mark_of s.known t)) (at table t))) in omega (arith, e)) (record {
-              fits = mark_fits table s.statics s.known.marks s.classes s.others t new o.1 l.fits;
+              fits = record {
+                notes = mark_fits table s.statics s.known.marks s.classes s.others t new o.1 l.fits.notes;
+                limits = l.fits.limits;
+              };
               vars = l.vars;
               slots = l.slots;
               used = l.used ∙ sym len;
@@ -202,7 +214,7 @@ module _ (choices : List Choice) (code : List Line) (table : Table) (base : ℕ)
   stops_result i d is e = inr (
     same_decision d,
     halts p refl (led_is i is ∙ e) (record {
-      fits = l.fits;
+      fits = record { notes = l.fits.notes; limits = l.fits.limits };
       vars = l.vars;
       slots = l.slots;
       used = l.used;
@@ -219,7 +231,7 @@ module _ (choices : List Choice) (code : List Line) (table : Table) (base : ℕ)
   returns_result i x is e = inr (
     refl,
     leaves p x refl (led_is i is ∙ e) (record {
-      fits = l.fits;
+      fits = record { notes = l.fits.notes; limits = l.fits.limits };
       vars = l.vars;
       slots = l.slots;
       used = l.used;
@@ -241,7 +253,7 @@ module _ (choices : List Choice) (code : List Line) (table : Table) (base : ℕ)
         };
       })
   put_lies x c v pc e = record {
-    fits = l.fits;
+    fits = record { notes = l.fits.notes; limits = l.fits.limits };
     vars = ap (λ vs. slice_set vs x.0 v) l.vars ∙ ap (slice_set (map (content_of table) s.known.vars) x.0) (sym e)
         ∙ sym (map-set (content_of table) s.known.vars x.0 c);
     slots = l.slots;
@@ -257,7 +269,7 @@ module _ (choices : List Choice) (code : List Line) (table : Table) (base : ℕ)
         { pc = pc; progress = Looking 0 };
   })
   jump_lies pc = record {
-    fits = l.fits;
+    fits = record { notes = l.fits.notes; limits = l.fits.limits };
     vars = l.vars;
     slots = l.slots;
     used = l.used;

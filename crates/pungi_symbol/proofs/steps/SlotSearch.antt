@@ -15,14 +15,14 @@ use Rattle.pungi_symbol.specs.declared.answers.decision.Decision.TheVariants.{Qu
 use Rattle.pungi_symbol.specs.declared.states.known.Status.TheVariants as status
 use Rattle.pungi_symbol.specs.declared.states.mark.Mark.{Mark}
 use Rattle.pungi_symbol.specs.declared.states.mark.Mark.TheVariants.{Pointer, TextPointer, IsNull, IsObject, IsText}
-use Rattle.pungi_symbol.specs.declared.states.mark.Mark.TheVariants.{IsNumber}
+use Rattle.pungi_symbol.specs.declared.states.mark.Mark.TheVariants.{IsNumber, Integer}
 use Rattle.pungi_symbol.specs.declared.questions.question.Question.TheVariants.{Null as AsksNull, Base, Stops}
 use Rattle.pungi_symbol.specs.declared.states.state.State.{State}
 use Rattle.pungi_symbol.specs.declared.states.term.Term.{Term}
-use Rattle.pungi_symbol.specs.declared.states.term.Term.TheVariants.{Unset, Null, Text, Number, Token}
+use Rattle.pungi_symbol.specs.declared.states.term.Term.TheVariants.{Unset, Null, Text, Number, Token, Sum}
 use Rattle.pungi_symbol.specs.states.Terms.{Table, at, content_of, is_mark}
 use Rattle.pungi_symbol.specs.runs.Fits.{IsBelow, IsSound}
-use Rattle.pungi_symbol.specs.runs.ObjectForm.{is_there}
+use Rattle.pungi_symbol.specs.runs.JudgedForm.{is_there}
 use Rattle.pungi_symbol.specs.runs.RunInState.{Lies}
 use Rattle.std.specs.Prelude.{position, ◌&&◌}
 use Rattle.std.specs.List.{list_all}
@@ -47,7 +47,7 @@ use Rattle.pungi_symbol.specs.declared.states.spot.Spot.TheVariants.{Global, Fie
 use Rattle.pungi_symbol.specs.states.Known.{count, mark_of, term_of, find, find_field, find_token, seek, ask_base}
 use Rattle.pungi_symbol.specs.states.Known.{at_place, is_field, is_global, base_of, slot_note, spot_of, token_in}
 use Rattle.pungi_symbol.specs.answers.KnownAfter.{instr_of}
-use Rattle.pungi_symbol.specs.runs.ObjectForm.{atoms_in}
+use Rattle.pungi_symbol.specs.runs.JudgedForm.{atoms_in}
 use Rattle.pungi_symbol.specs.runs.Fits.{IsObjectSpot}
 use Rattle.pungi_symbol.specs.runs.RunInState.{number_of_object, slot_in, state_in, IsWalked, place_in, slot_at_place}
 use Rattle.pungi_symbol.proofs.states.Contents.{is_open}
@@ -74,6 +74,7 @@ no_base (value.Object k) IsNull tag field kind h z = absurd (let bad : false ≡
 no_base (value.Object k) IsObject tag field kind h z = absurd (let bad : true ≡ false = z in cc)
 no_base (value.Object k) IsText tag field kind h z = absurd (let bad : false ≡ true = h in cc)
 no_base (value.Object k) (IsNumber n) tag field kind h z = absurd (let bad : false ≡ true = h in cc)
+no_base (value.Object k) (Integer r) tag field kind h z = absurd (let bad : false ≡ true = h in cc)
 no_base (value.Int n) r tag field kind h z = refl
 no_base value.Text r tag field kind h z = refl
 
@@ -208,6 +209,7 @@ module _ (choices : List Choice) (code : List Line) (table : Table) (base : ℕ)
     token_by t IsObject e f lt walked = object_token t e f walked s.known.progress refl
     token_by t IsText e f lt walked = null_token t IsText e f refl refl lt
     token_by t (IsNumber n) e f lt walked = null_token t (IsNumber n) e f refl refl lt
+    token_by t (Integer r) e f lt walked = null_token t (Integer r) e f refl refl lt
 
     field_by : (x : Term) → term_of s.known base' ≡ x → IsBelow (count s.known) x
         → IsWalked Slots s.known.progress (slot_of F m.vars) → Sought F
@@ -216,6 +218,7 @@ module _ (choices : List Choice) (code : List Line) (table : Table) (base : ℕ)
     field_by Text e b walked = stop_field Text e refl refl
     field_by (Number n) e b walked = stop_field (Number n) e refl refl
     field_by (Token t) e b walked = token_by t (mark_of s.known t) e refl b walked
+    field_by (Sum u) e b walked = stop_field (Sum u) e refl refl
 
   one_there : (a : Atom) → list_all (is_there s.statics) (a ∷ []) ≡ true → is_there s.statics a ≡ true
   one_there a e = by (is_there s.statics a) e
@@ -258,7 +261,7 @@ module _ (choices : List Choice) (code : List Line) (table : Table) (base : ℕ)
         same_can s t u table w mt mu lt lu l.fits,
         stays refl going (less b) (same_lies choices code table base m s going w l p t u m
             (record s.known { progress = q }) mt mu refl (record {
-              fits = l.fits;
+              fits = record { notes = l.fits.notes; limits = l.fits.limits };
               vars = l.vars;
               slots = l.slots;
               used = l.used;

@@ -1,7 +1,9 @@
 -- A sound state stays sound after an answer.
-use Rattle.std.proofs.Common.{◌≡◌, ℕ, ◌+◌, ◌<◌, ℤ, pos, negsuc, List, [], ◌∷◌, ◌++◌, length, Bool, true, false, refl}
-use Rattle.std.proofs.Common.{sym, subst, arith, Option, None, Some}
-use Rattle.std.specs.Prelude.{slice_set}
+use Rattle.std.proofs.Common.{◌≡◌, ℕ, ◌+◌, ◌<◌, ℤ, pos, negsuc, List, [], ◌∷◌, ◌++◌, length, Bool, true, false}
+use Rattle.std.proofs.Common.{refl, sym, subst, arith, Option, None, Some, cond}
+use Rattle.std.specs.Prelude.{slice_set, ◌==◌}
+use Rattle.std.specs.declared.cmp.Ordering.{Ordering}
+use Rattle.pungi_base.specs.declared.pos.Pos.{Pos}
 use Rattle.pungi_code.specs.declared.atom.Atom.{Atom}
 use Rattle.pungi_code.specs.declared.atom.Var.{Var}
 use Rattle.pungi_code.specs.declared.code.Line.{Line}
@@ -9,19 +11,23 @@ use Rattle.pungi_code.specs.declared.instr.Instr.{Instr}
 use Rattle.pungi_symbol.specs.declared.answers.decision.Decision.{Decision}
 use Rattle.pungi_symbol.specs.declared.answers.decision.Decision.TheVariants.{Quiet, Outcome, Order, Same as IsSame}
 use Rattle.pungi_symbol.specs.declared.states.known.Known.{Known}
+use Rattle.pungi_symbol.specs.declared.states.known.Status.TheVariants as status
+use Rattle.pungi_symbol.specs.declared.states.limit.Limit.{Limit}
 use Rattle.pungi_symbol.specs.declared.states.mark.Mark.{Mark}
 use Rattle.pungi_symbol.specs.declared.states.mark.Mark.TheVariants.{Pointer, TextPointer, IsNull, IsObject, IsText}
-use Rattle.pungi_symbol.specs.declared.states.mark.Mark.TheVariants.{IsNumber}
+use Rattle.pungi_symbol.specs.declared.states.mark.Mark.TheVariants.{IsNumber, Integer}
 use Rattle.pungi_symbol.specs.declared.questions.question.Question.{Question}
 use Rattle.pungi_symbol.specs.declared.questions.question.Question.TheVariants.{Does, Touches, Overwrites}
 use Rattle.pungi_symbol.specs.declared.questions.question.Question.TheVariants.{Null as AsksNull, Base, Answers, Same}
+use Rattle.pungi_symbol.specs.declared.questions.question.Question.TheVariants.{Orders, Range, Unplain}
 use Rattle.pungi_symbol.specs.declared.questions.question.Question.TheVariants.{Returns, Stops, Over}
 use Rattle.pungi_symbol.specs.declared.states.state.State.{State}
+use Rattle.pungi_symbol.specs.declared.states.sum.Sum.{Sum as SumOf}
 use Rattle.pungi_symbol.specs.declared.states.term.Term.{Term}
-use Rattle.pungi_symbol.specs.declared.states.term.Term.TheVariants.{Unset, Number, Token}
+use Rattle.pungi_symbol.specs.declared.states.term.Term.TheVariants.{Unset, Number, Token, Sum}
 use Rattle.pungi_symbol.specs.states.Terms.{value_of_mark}
 use Rattle.pungi_symbol.specs.runs.Fits.{IsBelow, IsSound}
-use Rattle.pungi_symbol.specs.runs.ObjectForm.{is_there}
+use Rattle.pungi_symbol.specs.runs.JudgedForm.{is_there}
 use Rattle.std.specs.List.{list_all}
 use Rattle.std.proofs.Common.{length-append}
 use Rattle.pungi_api.specs.declared.answer.Answer.{Answer}
@@ -40,11 +46,13 @@ use Rattle.pungi_symbol.specs.questions.NextQuestion.{first_term, terms_of}
 use Rattle.pungi_symbol.specs.answers.KnownAfter.{go_on, put as put_known, arrive, put_answer, answer_of_call}
 use Rattle.pungi_symbol.specs.answers.KnownAfter.{answer_of_row, term_with, does, load_first}
 use Rattle.pungi_symbol.specs.answers.KnownAfter.{store_first, touched_slot, comparison_var, comparison_term, instr_of}
-use Rattle.pungi_symbol.specs.answers.KnownAfter.{call_var, says_same, number_of_outcome}
+use Rattle.pungi_symbol.specs.answers.KnownAfter.{call_var, says_same, says_order, number_of_outcome, place_of_line}
+use Rattle.pungi_symbol.specs.answers.KnownAfter.{ordered, computed, truth_term, holds_order}
 use Rattle.pungi_symbol.specs.answers.SymbolicState.{can, can_same, are_one, apply, apply_same, weigh, own_weigh}
 use Rattle.pungi_symbol.specs.answers.SymbolicState.{lower, taken_terms, terms_taken_by, add_term}
 use Rattle.pungi_symbol.specs.answers.SymbolicState.{owed_for, owed_for_answer, stored_term, join, take_answer}
-use Rattle.pungi_symbol.specs.runs.ObjectForm.{atoms_of, atoms_in}
+use Rattle.pungi_symbol.specs.answers.SymbolicState.{limited, order_limits, range_limits}
+use Rattle.pungi_symbol.specs.runs.JudgedForm.{atoms_of, atoms_in}
 use Rattle.pungi_symbol.specs.runs.Fits.{AreNotesSound, AreTermsSound}
 use Rattle.pungi_symbol.proofs.states.Terms.{below_more, put_terms, stored_terms, touched_terms, more_terms, null_terms}
 use Rattle.pungi_symbol.proofs.states.Terms.{spot_more, atom_below, object_is_below, open_below}
@@ -94,6 +102,7 @@ term_with_below IsNull n = tt
 term_with_below IsObject n = omega arith
 term_with_below IsText n = tt
 term_with_below (IsNumber i) n = tt
+term_with_below (Integer r) n = omega arith
 
 zero_one : (r : Mark) → (r ≡ IsObject → ⊥) → owed_for r ≡ pos 0
 zero_one Pointer h = refl
@@ -102,6 +111,7 @@ zero_one IsNull h = refl
 zero_one IsObject h = absurd (h refl)
 zero_one IsText h = refl
 zero_one (IsNumber i) h = refl
+zero_one (Integer r) h = refl
 
 zero_new : (a : Answer) (r : Mark) → (r ≡ IsObject → ⊥) → owed_for_answer a r ≡ pos 0
 zero_new answer.New r h = zero_one r h
@@ -327,6 +337,55 @@ module _ (s : State) (w : IsSound s) where
             s.known) s.balances w.notes) (zero_new a r));
       }
 
+  -- a comparison or a branch of two numbers; the result of an operator
+  ordered_sound : (i : Instr) (o : Ordering) (ls : List Limit)
+      → IsSound (record (limited ls s) { known = ordered i o s.known })
+  ordered_sound (Compare x c a b) o ls = record {
+    terms = put_terms s.known.marks s.known.vars s.known.slots T x.0 (truth_term (holds_order c o)) tt;
+    notes = w.notes;
+  }
+  ordered_sound (Branch a this other) o ls = record { terms = T; notes = w.notes }
+  ordered_sound (Set x a) o ls = record { terms = T; notes = w.notes }
+  ordered_sound (Arith x kind p a b) o ls = record { terms = T; notes = w.notes }
+  ordered_sound (Fit x kind a) o ls = record { terms = T; notes = w.notes }
+  ordered_sound (Load x place) o ls = record { terms = T; notes = w.notes }
+  ordered_sound (Store place a) o ls = record { terms = T; notes = w.notes }
+  ordered_sound (Api x shape as' outs) o ls = record { terms = T; notes = w.notes }
+  ordered_sound (Call x f as') o ls = record { terms = T; notes = w.notes }
+  ordered_sound (Forget x) o ls = record { terms = T; notes = w.notes }
+  ordered_sound (Jump to) o ls = record { terms = T; notes = w.notes }
+  ordered_sound (Return a) o ls = record { terms = T; notes = w.notes }
+  ordered_sound Fall o ls = record { terms = T; notes = w.notes }
+
+  computed_sound : (i : Instr) (a : SumOf) (ls : List Limit)
+      → IsSound (record (limited ls s) { known = computed i a s.known })
+  computed_sound (Arith x kind p b c) a ls = record {
+    terms = put_terms s.known.marks s.known.vars s.known.slots T x.0 (Sum a) tt;
+    notes = w.notes;
+  }
+  computed_sound (Fit x kind b) a ls = record {
+    terms = put_terms s.known.marks s.known.vars s.known.slots T x.0 (Sum a) tt;
+    notes = w.notes;
+  }
+  computed_sound (Compare x c b d) a ls = record { terms = T; notes = w.notes }
+  computed_sound (Branch b this other) a ls = record { terms = T; notes = w.notes }
+  computed_sound (Set x b) a ls = record { terms = T; notes = w.notes }
+  computed_sound (Load x place) a ls = record { terms = T; notes = w.notes }
+  computed_sound (Store place b) a ls = record { terms = T; notes = w.notes }
+  computed_sound (Api x shape as' outs) a ls = record { terms = T; notes = w.notes }
+  computed_sound (Call x f as') a ls = record { terms = T; notes = w.notes }
+  computed_sound (Forget x) a ls = record { terms = T; notes = w.notes }
+  computed_sound (Jump to) a ls = record { terms = T; notes = w.notes }
+  computed_sound (Return b) a ls = record { terms = T; notes = w.notes }
+  computed_sound Fall a ls = record { terms = T; notes = w.notes }
+
+  ranged_sound : (i : Instr) (a : SumOf) (ls : List Limit) (p : Pos) (b : Bool)
+      → IsSound (record (limited ls s) {
+        known = cond b (computed i a s.known) (record s.known { status = status.Stopped p });
+      })
+  ranged_sound i a ls p true = computed_sound i a ls
+  ranged_sound i a ls p false = record { terms = T; notes = w.notes }
+
   pub apply_sound : (o : Option Line) (q : Question) (d : Decision)
       → list_all (is_there s.statics) (atoms_of (instr_of o)) ≡ true → IsAsked (instr_of o) s.known q
       → can s q d ≡ true → IsSound (apply o q d s)
@@ -347,6 +406,10 @@ module _ (s : State) (w : IsSound s) where
   apply_sound o (Same t u) d h a c = same_sound t u d _ a.0 a.1 c refl (put_terms s.known.marks s.known.vars
       s.known.slots T (comparison_var (instr_of o)) (comparison_term (says_same d) (instr_of o))
       (compared_below (count s.known) (says_same d) (instr_of o)))
+  apply_sound o (Orders x y) d h a c = ordered_sound (instr_of o) (says_order d) (order_limits x y (says_order d))
+  apply_sound o (Range kind x) d h a c = ranged_sound (instr_of o) x (range_limits kind x (number_of_outcome d))
+      (place_of_line o) (number_of_outcome d == 1)
+  apply_sound o Unplain d h a c = record { terms = T; notes = w.notes }
   apply_sound o (Returns x) d h a c = record { terms = T; notes = w.notes }
   apply_sound o (Stops d') d h a c = record { terms = T; notes = w.notes }
   apply_sound o Over d h a c = w

@@ -1,6 +1,6 @@
 -- One step back: values of the tokens that fit the state after an answer fit the state before, and give that answer.
-use Rattle.std.proofs.Common.{◌≡◌, ℕ, zero, suc, ◌<◌, ℤ, pos, negsuc, List, [], ◌∷◌, ◌++◌, length, true, false, refl}
-use Rattle.std.proofs.Common.{sym, ap, ◌∙◌, subst, arith, Option, None, Some, cond}
+use Rattle.std.proofs.Common.{◌≡◌, ℕ, zero, suc, ◌<◌, ℤ, pos, negsuc, List, [], ◌∷◌, ◌++◌, length, Bool, true, false}
+use Rattle.std.proofs.Common.{refl, sym, ap, ◌∙◌, subst, arith, Option, None, Some, cond}
 use Rattle.pungi_base.specs.declared.choice.Choice.{Choice}
 use Rattle.pungi_base.specs.declared.value.Value.{Value}
 use Rattle.pungi_base.specs.declared.value.Value.TheVariants as value
@@ -8,13 +8,15 @@ use Rattle.pungi_code.specs.declared.code.Line.{Line}
 use Rattle.pungi_code.specs.declared.instr.Instr.{Instr}
 use Rattle.pungi_symbol.specs.declared.answers.decision.Decision.{Decision}
 use Rattle.pungi_symbol.specs.declared.answers.decision.Decision.TheVariants.{Quiet, Outcome, Order, Same as IsSame}
+use Rattle.pungi_symbol.specs.declared.states.integer_range.IntegerRange.TheVariants as ranges
 use Rattle.pungi_symbol.specs.declared.states.known.Known.{Known}
 use Rattle.pungi_symbol.specs.declared.states.mark.Mark.{Mark}
 use Rattle.pungi_symbol.specs.declared.states.mark.Mark.TheVariants.{Pointer, TextPointer, IsNull, IsObject, IsText}
-use Rattle.pungi_symbol.specs.declared.states.mark.Mark.TheVariants.{IsNumber}
+use Rattle.pungi_symbol.specs.declared.states.mark.Mark.TheVariants.{IsNumber, Integer}
 use Rattle.pungi_symbol.specs.declared.questions.question.Question.{Question}
 use Rattle.pungi_symbol.specs.declared.questions.question.Question.TheVariants.{Does, Touches, Overwrites}
 use Rattle.pungi_symbol.specs.declared.questions.question.Question.TheVariants.{Null as AsksNull, Base, Answers, Same}
+use Rattle.pungi_symbol.specs.declared.questions.question.Question.TheVariants.{Orders, Range, Unplain}
 use Rattle.pungi_symbol.specs.declared.questions.question.Question.TheVariants.{Returns, Stops, Over}
 use Rattle.pungi_symbol.specs.declared.states.state.State.{State}
 use Rattle.pungi_symbol.specs.states.Terms.{Table, at, is_mark}
@@ -24,7 +26,12 @@ use Rattle.std.specs.declared.cmp.Ordering.{Ordering}
 use Rattle.std.specs.declared.cmp.Ordering.TheVariants as orders
 use Rattle.std.proofs.lemmas.Bool.{eqb-true}
 use Rattle.std.proofs.lemmas.Bool.Decides.{nat_tests, Decides-int_eq}
-use Rattle.std.specs.Prelude.{nat_lt}
+use Rattle.std.specs.Prelude.{nat_lt, ◌==◌}
+use Rattle.std.specs.Ordering.{int_cmp}
+use Rattle.pungi_base.specs.declared.pos.Pos.{Pos}
+use Rattle.pungi_types.specs.declared.kind.ValueKind.{ValueKind}
+use Rattle.pungi_symbol.specs.declared.states.known.Status.TheVariants as status
+use Rattle.pungi_symbol.specs.declared.states.sum.Sum.{Sum}
 use Rattle.pungi_api.specs.declared.answer.Answer.{Answer}
 use Rattle.pungi_api.specs.declared.answer.Answer.TheVariants as answers
 use Rattle.pungi_code.specs.declared.instr.Instr.TheVariants.{Set, Arith, Fit, Compare, Load, Store, Api, Call}
@@ -34,20 +41,23 @@ use Rattle.pungi_symbol.specs.states.Known.{count, mark_of}
 use Rattle.pungi_symbol.specs.questions.NextQuestion.{first_term, terms_of}
 use Rattle.pungi_symbol.specs.answers.KnownAfter.{arrive, answer_of_call, term_with, does, load_first, store_first}
 use Rattle.pungi_symbol.specs.answers.KnownAfter.{perform_line, instr_of, call_var, says_same, number_of_outcome}
+use Rattle.pungi_symbol.specs.answers.KnownAfter.{says_order, place_of_line, ordered, computed}
 use Rattle.pungi_symbol.specs.answers.SymbolicState.{can, can_same, are_one, apply, apply_same, is_decision, is_order}
-use Rattle.pungi_symbol.specs.answers.SymbolicState.{is_outcome}
-use Rattle.pungi_symbol.specs.runs.Fits.{Fits}
+use Rattle.pungi_symbol.specs.answers.SymbolicState.{is_outcome, is_any_order, can_order, can_range, range_place}
+use Rattle.pungi_symbol.specs.answers.SymbolicState.{order_limits, range_limits}
+use Rattle.pungi_symbol.specs.runs.Fits.{Fits, AreMet}
 use Rattle.pungi_meaning.specs.Values.{is_equal}
 use Rattle.pungi_world.specs.declared.world.World.{World}
 use Rattle.pungi_world.specs.Choices.{value_of}
 use Rattle.pungi_symbol.specs.runs.RunInState.{IsOf}
 use Rattle.pungi_symbol.specs.runs.Paths.{choice_of}
 use Rattle.pungi_symbol.proofs.steps.ChoicesForAnswers.{Suits}
-use Rattle.pungi_symbol.proofs.states.Contents.{is_open}
+use Rattle.pungi_symbol.proofs.states.Contents.{has_answers, open_answers}
 use Rattle.pungi_symbol.proofs.answers.Fits.{mark_back, arrives_back}
+use Rattle.pungi_symbol.proofs.answers.LimitsMet.{earlier_met, later_met, met_order, met_range, place_few}
 use Rattle.pungi_symbol.proofs.states.Terms.{open_below, object_is_below}
 use Rattle.pungi_symbol.proofs.answers.SameObject.{way_is, way_back}
-use Rattle.pungi_symbol.proofs.steps.Comparisons.{way_statics}
+use Rattle.pungi_symbol.proofs.steps.Comparisons.{way_statics, way_limits}
 use Rattle.pungi_symbol.proofs.steps.Questions.{IsAsked}
 use Rattle.pungi_symbol.proofs.steps.SoundAfter.{answered_marks, decided}
 
@@ -156,6 +166,7 @@ mark_apart IsNull = tt
 mark_apart IsObject = tt
 mark_apart IsText = tt
 mark_apart (IsNumber n) = tt
+mark_apart (Integer r) = (none_after (Integer r), tt)
 
 answer_apart : (a : Answer) → AreApart (outcomes_of_answer a)
 answer_apart answers.New = (apart_by IsNull IsObject null_object, (none_after IsObject, tt))
@@ -173,14 +184,14 @@ answer_apart answers.Truth = (
   ),
 )
 answer_apart answers.Text = (apart_by IsNull IsText null_text, (none_after IsText, tt))
-answer_apart answers.Size = tt
-answer_apart answers.Int = tt
-answer_apart answers.Long = tt
+answer_apart answers.Size = (none_after (Integer ranges.SizeOrError), tt)
+answer_apart answers.Int = (none_after (Integer ranges.Int), tt)
+answer_apart answers.Long = (none_after (Integer ranges.Long), tt)
 answer_apart answers.Void = tt
 answer_apart answers.Null = tt
 
 -- an answer says more than the mark before it
-pub weaker : (r : Mark) (k : ℕ) (v : Value) → is_open r ≡ true → k < length (outcomes_of_mark r)
+pub weaker : (r : Mark) (k : ℕ) (v : Value) → has_answers r ≡ true → k < length (outcomes_of_mark r)
     → is_mark (mark_at (outcomes_of_mark r) k) v ≡ true → is_mark r v ≡ true
 weaker Pointer zero value.Null o lt h = refl
 weaker Pointer zero (value.Object k) o lt h = refl
@@ -204,6 +215,8 @@ weaker IsNull k v o lt h = no_way o
 weaker IsObject k v o lt h = no_way o
 weaker IsText k v o lt h = no_way o
 weaker (IsNumber n) k v o lt h = no_way o
+weaker (Integer r) zero v o lt h = h
+weaker (Integer r) (suc k) v o lt h = absurd (omega (arith, lt))
 
 -- ---- marks after an answer
 
@@ -256,6 +269,68 @@ store_marks (Branch a this other) r k = refl
 store_marks (Return o) r k = refl
 store_marks Fall r k = refl
 
+pub ordered_marks : (i : Instr) (o : Ordering) (k : Known) → (ordered i o k).marks ≡ k.marks
+ordered_marks (Compare x c a b) o k = refl
+ordered_marks (Branch a this other) o k = refl
+ordered_marks (Set x a) o k = refl
+ordered_marks (Arith x kind p a b) o k = refl
+ordered_marks (Fit x kind a) o k = refl
+ordered_marks (Load x place) o k = refl
+ordered_marks (Store place a) o k = refl
+ordered_marks (Api x shape as' outs) o k = refl
+ordered_marks (Call x f as') o k = refl
+ordered_marks (Forget x) o k = refl
+ordered_marks (Jump to) o k = refl
+ordered_marks (Return a) o k = refl
+ordered_marks Fall o k = refl
+
+pub computed_marks : (i : Instr) (a : Sum) (k : Known) → (computed i a k).marks ≡ k.marks
+computed_marks (Arith x kind p b c) a k = refl
+computed_marks (Fit x kind b) a k = refl
+computed_marks (Compare x c b d) a k = refl
+computed_marks (Branch b this other) a k = refl
+computed_marks (Set x b) a k = refl
+computed_marks (Load x place) a k = refl
+computed_marks (Store place b) a k = refl
+computed_marks (Api x shape as' outs) a k = refl
+computed_marks (Call x f as') a k = refl
+computed_marks (Forget x) a k = refl
+computed_marks (Jump to) a k = refl
+computed_marks (Return b) a k = refl
+computed_marks Fall a k = refl
+
+pub ranged_marks : (i : Instr) (a : Sum) (p : Pos) (b : Bool) (k : Known)
+    → (cond b (computed i a k) (record k { status = status.Stopped p })).marks ≡ k.marks
+ranged_marks i a p true k = computed_marks i a k
+ranged_marks i a p false k = refl
+
+order_known : (d : Decision) → is_any_order d ≡ true → d ≡ Order (says_order d)
+order_known (Order o) e = refl
+order_known Quiet e = no_way e
+order_known (Outcome k) e = no_way e
+order_known (IsSame b) e = no_way e
+
+pub order_decided : (a b : Sum) (d : Decision) → can_order a b d ≡ true → d ≡ Order (says_order d)
+order_decided a b d c = by (a.node == b.node) c
+  where
+    by : (t : Bool) → cond t (is_decision (Order (int_cmp a.plus b.plus)) d) (is_any_order d) ≡ true
+        → d ≡ Order (says_order d)
+    by true e = let is = decision_says (Order (int_cmp a.plus b.plus)) d e in
+        sym is ∙ ap (λ z. Order (says_order z)) is
+    by false e = order_known d e
+
+pub range_decided : (kind : ValueKind) (a : Sum) (d : Decision) → can_range kind a d ≡ true
+    → (d ≡ Outcome (number_of_outcome d)) × (number_of_outcome d < 3)
+range_decided kind a d c = by (a.node == 0) c
+  where
+    by : (t : Bool) → cond t (is_decision (Outcome (range_place kind a.plus)) d) (is_outcome 3 d) ≡ true
+        → (d ≡ Outcome (number_of_outcome d)) × (number_of_outcome d < 3)
+    by true e =
+        let is = decision_says (Outcome (range_place kind a.plus)) d e in
+        subst (λ z. (z ≡ Outcome (number_of_outcome z)) × (number_of_outcome z < 3)) is
+        (refl, place_few kind a.plus)
+    by false e = outcome_says 3 d e
+
 module _ (table : Table) (s : State) (w : IsSound s) where
   abbrev FitsMarks : List Mark → Type 0
   FitsMarks ms = Fits table s.statics ms s.classes s.others
@@ -263,17 +338,25 @@ module _ (table : Table) (s : State) (w : IsSound s) where
   abbrev FitsMore : List Mark → Type 0
   FitsMore ms = Fits table s.statics ms (s.classes ++ count s.known ∷ []) s.others
 
-  more_back : (r : Mark) → FitsMore (s.known.marks ++ r ∷ [])
-      → FitsState table s × (is_mark r (at table (count s.known)) ≡ true)
+  abbrev Notes : Type 0
+  Notes = FitsMarks s.known.marks
+
+  more_back : (r : Mark) → FitsMore (s.known.marks ++ r ∷ []) → Notes × (is_mark r (at table (count s.known)) ≡ true)
   more_back r f = arrives_back table s.statics s.known.marks s.classes s.others r w.notes.classes_long f
+
+  -- where no more limits are noted
+  back_with : (q : Question) (d : Decision) → AreMet table s.limits → Notes × (answer table s.known q ≡ d)
+      → FitsState table s × (answer table s.known q ≡ d)
+  back_with q d l r = (record { notes = r.0; limits = l }, r.1)
 
   same_back : (t u : ℕ) (d : Decision) → mark_of s.known t ≡ IsObject → mark_of s.known u ≡ IsObject
       → can_same s t u d ≡ true
       → Fits table (apply_same (are_one s.classes t u) (says_same d) t u s).statics s.known.marks
       (apply_same (are_one s.classes t u) (says_same d) t u s).classes (apply_same (are_one s.classes t u)
       (says_same d) t u s).others
+      → AreMet table (apply_same (are_one s.classes t u) (says_same d) t u s).limits
       → FitsState table s × (IsSame (is_equal (at table t) (at table u)) ≡ d)
-  same_back t u d mt mu c f =
+  same_back t u d mt mu c f l =
       let b = says_same d in
       let is = decided s w t u d c in
       let way = way_is s t u b (subst (λ z. can_same s t u z ≡ true) is c) in
@@ -281,7 +364,7 @@ module _ (table : Table) (s : State) (w : IsSound s) where
       let g = subst (λ n. Fits table n s.known.marks s'.classes s'.others) (way_statics s t u b s' way) f in
       let r = way_back s t u table w mt mu (object_is_below s.known.marks t mt) (object_is_below s.known.marks u mu)
       b s' way g in
-      (r.0, ap IsSame r.1 ∙ sym is)
+      (record { notes = r.0; limits = subst (AreMet table) (way_limits s t u b s' way) l }, ap IsSame r.1 ∙ sym is)
 
   outcome_back : (ms : List Mark) (d : Decision) (v : Value) → AreApart ms → is_outcome (length ms) d ≡ true
       → is_mark (mark_at ms (number_of_outcome d)) v ≡ true → Outcome (place_of ms v) ≡ d
@@ -290,30 +373,53 @@ module _ (table : Table) (s : State) (w : IsSound s) where
 
   pub apply_back : (o : Option Line) (q : Question) (d : Decision) → IsAsked (instr_of o) s.known q
       → can s q d ≡ true → FitsState table (apply o q d s) → FitsState table s × (answer table s.known q ≡ d)
-  apply_back o (Does d') d a c f = (subst FitsMarks (line_marks s.known o) f, decision_says d' d c)
+  apply_back o (Does d') d a c f =
+      back_with (Does d') d f.limits (subst FitsMarks (line_marks s.known o) f.notes, decision_says d' d c)
   apply_back o (Touches r) d a c f =
-      let g = more_back r (subst FitsMore (load_marks (instr_of o) r s.known) f) in
-      (g.0, decision_says Quiet d c)
+      let g = more_back r (subst FitsMore (load_marks (instr_of o) r s.known) f.notes) in
+      back_with (Touches r) d f.limits (g.0, decision_says Quiet d c)
   apply_back o (Overwrites r) d a c f =
       let r' = mark_at (outcomes_of_mark r) (number_of_outcome d) in
-      let g = more_back r' (subst FitsMore (store_marks (instr_of o) r' s.known) f) in
+      let g = more_back r' (subst FitsMore (store_marks (instr_of o) r' s.known) f.notes) in
+      back_with (Overwrites r) d f.limits
       (g.0, outcome_back (outcomes_of_mark r) d (at table (count s.known)) (mark_apart r) c g.1)
   apply_back o (AsksNull t) d a c f =
       let old = mark_of s.known t in
       let said = outcome_says (length (outcomes_of_mark old)) d c in
       let g = mark_back table s.statics s.known.marks s.classes s.others t (mark_at (outcomes_of_mark old)
       (number_of_outcome d)) old (open_below s.known.marks t a) refl (λ h. weaker old (number_of_outcome d)
-      (at table t) a said.1 h) f in
-      (g.0, outcome_back (outcomes_of_mark old) d (at table t) (mark_apart old) c g.1)
-  apply_back o (Base t u j) d a c f = same_back t u d a.0 a.1 c f
+      (at table t) (open_answers old a) said.1 h) f.notes in
+      back_with (AsksNull t) d f.limits (g.0, outcome_back (outcomes_of_mark old) d (at table t) (mark_apart old) c g.1)
+  apply_back o (Base t u j) d a c f = same_back t u d a.0 a.1 c f.notes f.limits
   apply_back o (Answers x) d a c f =
       let r = mark_at (outcomes_of_answer x) (number_of_outcome d) in
       let g = more_back r (subst FitsMore (answered_marks (arrive r s.known) (call_var (instr_of o))
-      (Some (term_with r (count s.known)))) f) in
+      (Some (term_with r (count s.known)))) f.notes) in
+      back_with (Answers x) d f.limits
       (g.0, outcome_back (outcomes_of_answer x) d (at table (count s.known)) (answer_apart x) c g.1)
-  apply_back o (Same t u) d a c f = same_back t u d a.0 a.1 c f
-  apply_back o (Returns x) d a c f = (f, decision_says Quiet d c)
-  apply_back o (Stops d') d a c f = (f, decision_says d' d c)
+  apply_back o (Same t u) d a c f = same_back t u d a.0 a.1 c f.notes f.limits
+  apply_back o (Orders x y) d a c f =
+      let ls = order_limits x y (says_order d) in (
+        record {
+          notes = subst FitsMarks (ordered_marks (instr_of o) (says_order d) s.known) f.notes;
+          limits = earlier_met table s.limits ls f.limits;
+        },
+        ap Order (met_order table x y (says_order d) (later_met table s.limits ls f.limits))
+            ∙ sym (order_decided x y d c),
+      )
+  apply_back o (Range kind x) d a c f =
+      let n = number_of_outcome d in
+      let ls = range_limits kind x n in
+      let is = range_decided kind x d c in (
+        record {
+          notes = subst FitsMarks (ranged_marks (instr_of o) x (place_of_line o) (n == 1) s.known) f.notes;
+          limits = earlier_met table s.limits ls f.limits;
+        },
+        ap Outcome (met_range table kind x n is.1 (later_met table s.limits ls f.limits)) ∙ sym is.0,
+      )
+  apply_back o Unplain d a c f = back_with Unplain d f.limits (f.notes, decision_says Quiet d c)
+  apply_back o (Returns x) d a c f = back_with (Returns x) d f.limits (f.notes, decision_says Quiet d c)
+  apply_back o (Stops d') d a c f = back_with (Stops d') d f.limits (f.notes, decision_says d' d c)
   apply_back o Over d a c f = no_way c
 
   -- the token that came in is as the answer says, and its choice suits the question
@@ -323,12 +429,12 @@ module _ (table : Table) (s : State) (w : IsSound s) where
       → c ≡ choice_of (value_of c) → Suits accounts q c
   came_in o (Does d') d c n a ok f e b y = tt
   came_in o (Touches r) d c n a ok f e b y =
-      let g = more_back r (subst FitsMore (load_marks (instr_of o) r s.known) f) in
+      let g = more_back r (subst FitsMore (load_marks (instr_of o) r s.known) f.notes) in
       (ap (is_mark r) (sym e) ∙ g.1, b, y)
   came_in o (Overwrites r) d c n a ok f e b y =
       let r' = mark_at (outcomes_of_mark r) (number_of_outcome d) in
       let said = outcome_says (length (outcomes_of_mark r)) d ok in
-      let g = more_back r' (subst FitsMore (store_marks (instr_of o) r' s.known) f) in
+      let g = more_back r' (subst FitsMore (store_marks (instr_of o) r' s.known) f.notes) in
       (weaker r (number_of_outcome d) (value_of c) a.1 said.1 (ap (is_mark r') (sym e) ∙ g.1), b, y)
   came_in o (AsksNull t) d c n a ok f e b y = tt
   came_in o (Base t u j) d c n a ok f e b y = tt
@@ -336,9 +442,12 @@ module _ (table : Table) (s : State) (w : IsSound s) where
       let r = mark_at (outcomes_of_answer x) (number_of_outcome d) in
       let said = outcome_says (length (outcomes_of_answer x)) d ok in
       let g = more_back r (subst FitsMore (answered_marks (arrive r s.known) (call_var (instr_of o))
-      (Some (term_with r (count s.known)))) f) in
+      (Some (term_with r (count s.known)))) f.notes) in
       ((number_of_outcome d, said.1, ap (is_mark r) (sym e) ∙ g.1), b, y)
   came_in o (Same t u) d c n a ok f e b y = tt
+  came_in o (Orders x y) d c n a ok f e b z = tt
+  came_in o (Range kind x) d c n a ok f e b z = tt
+  came_in o Unplain d c n a ok f e b z = tt
   came_in o (Returns x) d c n a ok f e b y = tt
   came_in o (Stops d') d c n a ok f e b y = tt
   came_in o Over d c n a ok f e b y = tt

@@ -15,7 +15,7 @@ use Rattle.pungi_symbol.specs.declared.questions.question.Question.{Question}
 use Rattle.pungi_symbol.specs.declared.states.state.State.{State}
 use Rattle.pungi_symbol.specs.states.Terms.{Table}
 use Rattle.pungi_symbol.specs.runs.Fits.{IsSound}
-use Rattle.pungi_symbol.specs.runs.ObjectForm.{is_there}
+use Rattle.pungi_symbol.specs.runs.JudgedForm.{is_there}
 use Rattle.pungi_symbol.specs.runs.RunInState.{answer, Lies}
 use Rattle.std.specs.Prelude.{◌&&◌}
 use Rattle.std.specs.List.{list_all}
@@ -23,7 +23,7 @@ use Rattle.pungi_code.specs.declared.instr.Instr.TheVariants.{Set, Arith, Fit, C
 use Rattle.pungi_code.specs.declared.instr.Instr.TheVariants.{Unset as Forget, Jump, Branch, Return, Fall}
 use Rattle.pungi_symbol.specs.questions.NextQuestion.{ask, asks_instr, asks_line, ask_while}
 use Rattle.pungi_symbol.specs.answers.SymbolicState.{can, apply}
-use Rattle.pungi_symbol.specs.runs.ObjectForm.{is_object_instr, is_known_here, atoms_of, atoms_in}
+use Rattle.pungi_symbol.specs.runs.JudgedForm.{is_judged_instr, is_held_here, atoms_of, atoms_in}
 use Rattle.pungi_symbol.specs.runs.OneInstruction.{leads_at, leads_line}
 use Rattle.pungi_symbol.proofs.steps.Rows.{all_there}
 use Rattle.pungi_symbol.proofs.steps.ChoicesForAnswers.{Lacks}
@@ -45,7 +45,7 @@ one_there n a e = (all_there n a [] e).0
 module _ (choices : List Choice) (code : List Line) (table : Table) (base : ℕ) (m : Regs) (s : State)
     (going : s.known.status ≡ status.Going) (w : IsSound s) (l : Lies code table base m s) (p : Pos) where
   instr_by : (i : Instr) → Linked table base choices → IsLine choices code table base m s going w l p i
-      → is_known_here i ≡ true → list_all (is_there s.statics) (atoms_of i) ≡ true
+      → is_held_here i ≡ true → list_all (is_there s.statics) (atoms_of i) ≡ true
       → Result choices code table base m s going w l p i (asks_instr s.known i)
   instr_by (Set x a) linked is told h = set_result choices code table base m s going w l p x a is
       (one_there s.statics a h)
@@ -70,13 +70,13 @@ module _ (choices : List Choice) (code : List Line) (table : Table) (base : ℕ)
   instr_by Fall linked is told h = fall_result choices code table base m s going w l p is
 
   pub instr_result : (i : Instr) → Linked table base choices → IsLine choices code table base m s going w l p i
-      → is_object_instr s.statics i ≡ true → Result choices code table base m s going w l p i (asks_instr s.known i)
-  instr_result i linked is e = let r = two_true (is_known_here i) (list_all (is_there s.statics) (atoms_of i)) e in
+      → is_judged_instr s.statics i ≡ true → Result choices code table base m s going w l p i (asks_instr s.known i)
+  instr_result i linked is e = let r = two_true (is_held_here i) (list_all (is_there s.statics) (atoms_of i)) e in
       instr_by i linked is r.0 r.1
 
--- each line of a code has the object form
+-- each line of a code has the judged form
 abbrev pub AreObjectLines : ℕ → List Line → Type 0
-AreObjectLines n code = (pc : ℕ) (line : Line) → slice_get code pc ≡ Some line → is_object_instr n line.instr ≡ true
+AreObjectLines n code = (pc : ℕ) (line : Line) → slice_get code pc ≡ Some line → is_judged_instr n line.instr ≡ true
 
 pub going_ask : (code : List Line) (k : Known) → k.status ≡ status.Going
     → ask code k ≡ asks_line k (slice_get code k.pc)
@@ -92,12 +92,12 @@ module _ (choices : List Choice) (code : List Line) (table : Table) (base : ℕ)
       × Moved choices code table base s.known.pc (effort s.known) m (apply line q (answer table s.known q) s))
 
   line_by : (o : Option Line) → Linked table base choices → slice_get code s.known.pc ≡ o
-      → ((line : Line) → o ≡ Some line → is_object_instr s.statics line.instr ≡ true)
+      → ((line : Line) → o ≡ Some line → is_judged_instr s.statics line.instr ≡ true)
       → Stepped o (asks_line s.known o)
   line_by None linked e form = inr (
     refl,
     halts _ refl (ap (λ o. leads_line choices o s.known.pc m) e) (record {
-      fits = l.fits;
+      fits = record { notes = l.fits.notes; limits = l.fits.limits };
       vars = l.vars;
       slots = l.slots;
       used = l.used;

@@ -15,14 +15,14 @@ use Rattle.pungi_symbol.specs.declared.states.known.Known.{Known}
 use Rattle.pungi_symbol.specs.declared.states.known.Status.TheVariants as status
 use Rattle.pungi_symbol.specs.declared.states.mark.Mark.{Mark}
 use Rattle.pungi_symbol.specs.declared.states.mark.Mark.TheVariants.{Pointer, TextPointer, IsNull, IsObject, IsText}
-use Rattle.pungi_symbol.specs.declared.states.mark.Mark.TheVariants.{IsNumber}
+use Rattle.pungi_symbol.specs.declared.states.mark.Mark.TheVariants.{IsNumber, Integer}
 use Rattle.pungi_symbol.specs.declared.questions.question.Question.TheVariants.{Does, Overwrites, Null as AsksNull}
 use Rattle.pungi_symbol.specs.declared.states.state.State.{State}
 use Rattle.pungi_symbol.specs.declared.states.term.Term.{Term}
-use Rattle.pungi_symbol.specs.declared.states.term.Term.TheVariants.{Unset, Null, Text, Number, Token}
+use Rattle.pungi_symbol.specs.declared.states.term.Term.TheVariants.{Unset, Null, Text, Number, Token, Sum}
 use Rattle.pungi_symbol.specs.states.Terms.{Table, at, content_of, is_mark}
 use Rattle.pungi_symbol.specs.runs.Fits.{IsBelow, IsSound}
-use Rattle.pungi_symbol.specs.runs.ObjectForm.{is_there}
+use Rattle.pungi_symbol.specs.runs.JudgedForm.{is_there}
 use Rattle.pungi_symbol.specs.runs.RunInState.{Lies}
 use Rattle.std.specs.Prelude.{replicate, Result as Res, Ok}
 use Rattle.std.specs.List.{list_all}
@@ -56,11 +56,12 @@ use Rattle.pungi_symbol.specs.declared.questions.found_slot.Finding.TheVariants.
 use Rattle.pungi_symbol.specs.states.Known.{count, mark_of, term_of, find, found_at, slot_note, spot_of}
 use Rattle.pungi_symbol.specs.questions.NextQuestion.{asks_store, asks_dropped, asks_known, knows_mark, content_mark}
 use Rattle.pungi_symbol.specs.answers.SymbolicState.{lower, add_term, owed_for}
-use Rattle.pungi_symbol.specs.runs.ObjectForm.{atoms_in, is_pointer}
+use Rattle.pungi_symbol.specs.runs.JudgedForm.{atoms_in, is_held}
 use Rattle.pungi_symbol.specs.runs.Fits.{named, is_the}
 use Rattle.pungi_symbol.specs.runs.RunInState.{slot_in, state_in, IsOf}
 use Rattle.pungi_symbol.specs.runs.OneInstruction.{Led, on_slot, on_effect, goes, leads}
 use Rattle.pungi_symbol.proofs.states.Contents.{unset, asks, passes, knowing_is, known_set, IsKnown, is_open}
+use Rattle.pungi_symbol.proofs.states.Contents.{has_answers}
 use Rattle.pungi_symbol.proofs.states.Contents.{term_value, holds_term}
 use Rattle.pungi_symbol.proofs.states.NamedObjects.{part, named_end}
 use Rattle.pungi_symbol.proofs.states.Claims.{at_term, at_terms, add_to_long, lowered_long}
@@ -90,6 +91,7 @@ dropping_by k t b IsNull e f = drop_known (ap (λ z. knows_mark z t (Does Quiet)
 dropping_by k t b IsObject e f = drop_known (ap (λ z. knows_mark z t (Does Quiet)) e) (ap is_open e)
 dropping_by k t b IsText e f = drop_known (ap (λ z. knows_mark z t (Does Quiet)) e) (ap is_open e)
 dropping_by k t b (IsNumber n) e f = drop_known (ap (λ z. knows_mark z t (Does Quiet)) e) (ap is_open e)
+dropping_by k t b (Integer r) e f = drop_known (ap (λ z. knows_mark z t (Does Quiet)) e) (ap is_open e)
 
 pub dropping_is : (k : Known) (x : Term) → Dropping k x
 dropping_is k Unset = drop_unset refl refl
@@ -97,6 +99,7 @@ dropping_is k Null = drop_known refl tt
 dropping_is k Text = drop_known refl tt
 dropping_is k (Number n) = drop_known refl tt
 dropping_is k (Token t) = dropping_by k t (is_open (mark_of k t)) (mark_of k t) refl refl
+dropping_is k (Sum s) = drop_known refl tt
 
 -- the balance of a token that comes in
 pub one_part : (o : ℕ) (r : Mark) (v : Value) → is_mark r v ≡ true → is_open r ≡ false
@@ -116,16 +119,20 @@ one_part o (IsNumber n) value.Null h c = refl
 one_part o (IsNumber n) (value.Object k) h c = absurd (let bad : false ≡ true = h in cc)
 one_part o (IsNumber n) (value.Int i) h c = refl
 one_part o (IsNumber n) value.Text h c = refl
+one_part o (Integer r) value.Null h c = refl
+one_part o (Integer r) (value.Object k) h c = absurd (let bad : false ≡ true = h in cc)
+one_part o (Integer r) (value.Int i) h c = refl
+one_part o (Integer r) value.Text h c = refl
 
-pub contents_open : (kind : Param) → is_open (content_mark kind) ≡ true
-contents_open param.Object = refl
-contents_open param.ObjectOrNull = refl
-contents_open param.Text = refl
-contents_open param.TextOrNull = refl
-contents_open param.Int = refl
-contents_open param.Long = refl
-contents_open param.Size = refl
-contents_open param.ModuleDef = refl
+pub content_answers : (kind : Param) → has_answers (content_mark kind) ≡ true
+content_answers param.Object = refl
+content_answers param.ObjectOrNull = refl
+content_answers param.Text = refl
+content_answers param.TextOrNull = refl
+content_answers param.Int = refl
+content_answers param.Long = refl
+content_answers param.Size = refl
+content_answers param.ModuleDef = refl
 
 module _ (choices : List Choice) (code : List Line) (table : Table) (base : ℕ) (m : Regs) (s : State)
     (going : s.known.status ≡ status.Going) (w : IsSound s) (l : Lies code table base m s) (p : Pos) where
@@ -198,7 +205,7 @@ module _ (choices : List Choice) (code : List Line) (table : Table) (base : ℕ)
         refl,
         goes_on m' (as_many m) (led_is choices code table base m s going w l p (Store place a) is
             ∙ store_at place a z j h ne f gj) going (record {
-              fits = l.fits;
+              fits = record { notes = l.fits.notes; limits = l.fits.limits };
               vars = l.vars;
               slots = slots_stored j a ne;
               used = let x = length-append m.used (replicate 0 p) in let y = l.used in omega (arith, x, y);
@@ -272,7 +279,7 @@ module _ (choices : List Choice) (code : List Line) (table : Table) (base : ℕ)
       ∙ ap (λ r. StoreGo (r >>= Stores (Va a))) t
 
   overwrite_result : (place : Place) (a : Atom) (z : Slot) → Linked table base choices
-      → is_pointer (place_kind place) ≡ true → is_there s.statics a ≡ true → IsKnown s.known (term_of s.known a)
+      → is_held (place_kind place) ≡ true → is_there s.statics a ≡ true → IsKnown s.known (term_of s.known a)
       → IsLine choices code table base m s going w l p (Store place a)
       → slot_of place m.vars ≡ Some (z, place_kind place)
       → slot_place m.world.slots z ≡ None → z ≡ slot_in table (spot_of s.known place)
@@ -298,7 +305,7 @@ module _ (choices : List Choice) (code : List Line) (table : Table) (base : ℕ)
             let vn : at table n ≡ v = next_value choices code table base m s going w l p c rest linked e in
             let good = content_good m.world (place_kind place) c kind ok in
             let marked : is_mark big (at table n) ≡ true = ap (is_mark big) vn ∙ good.0 in
-            let out = null_outcome big (at table n) (contents_open (place_kind place)) marked in
+            let out = null_outcome big (at table n) (content_answers (place_kind place)) marked in
             let r = mark_at (outcomes_of_mark big) (place_of (outcomes_of_mark big) (at table n)) in
             let shut : is_open r ≡ false = outcome_closed big (place_of (outcomes_of_mark big) (at table n)) in
             let w' = Stored1 z v (Va a) in
@@ -360,7 +367,7 @@ module _ (choices : List Choice) (code : List Line) (table : Table) (base : ℕ)
   abbrev Wm : Place → Mark
   Wm place = content_mark (place_kind place)
 
-  store_by : (place : Place) (a : Atom) → Linked table base choices → is_pointer (place_kind place) ≡ true
+  store_by : (place : Place) (a : Atom) → Linked table base choices → is_held (place_kind place) ≡ true
       → is_there s.statics a ≡ true → IsKnown s.known (term_of s.known a)
       → IsLine choices code table base m s going w l p (Store place a)
       → Sought choices code table base m s going w l p place
@@ -383,7 +390,7 @@ module _ (choices : List Choice) (code : List Line) (table : Table) (base : ℕ)
       (Result choices code table base m s going w l p (Store place a)) (sym (ap (asks_store s.known (Wm place)) e))
       (overwrite_result place a z linked kind h ka is f g zs)
 
-  pub store_result : (place : Place) (a : Atom) → Linked table base choices → is_pointer (place_kind place) ≡ true
+  pub store_result : (place : Place) (a : Atom) → Linked table base choices → is_held (place_kind place) ≡ true
       → is_there s.statics a ≡ true → list_all (is_there s.statics) (atoms_in place) ≡ true
       → IsLine choices code table base m s going w l p (Store place a)
       → Result choices code table base m s going w l p (Store place a) (asks_known s.known (term_of s.known a)

@@ -19,15 +19,17 @@ use Rattle.pungi_world.specs.declared.slot.Slot.{Slot}
 use Rattle.pungi_world.specs.declared.slot.Slot.TheVariants as slot
 use Rattle.pungi_world.specs.declared.touch.Touch.{Touch}
 use Rattle.pungi_world.specs.declared.world.World.{World}
-use Rattle.pungi_world.specs.Choices.{value_of, is_null, is_text}
+use Rattle.pungi_world.specs.Choices.{value_of, is_null, is_text, is_number}
 use Rattle.pungi_world.specs.Counts.{count_value, hand_over, with_value}
 use Rattle.pungi_world.specs.Escapes.{is_this_object}
 use Rattle.pungi_world.specs.Slots.{is_made, is_fresh, is_old, is_content, find_content, with_content, with_slot}
 use Rattle.pungi_world.specs.Slots.{touch_at, touch, place_of}
-use Rattle.pungi_symbol.specs.declared.states.mark.Mark.TheVariants.{Pointer, TextPointer}
-use Rattle.pungi_symbol.specs.states.Terms.{is_mark}
+use Rattle.pungi_symbol.specs.declared.states.mark.Mark.TheVariants.{Pointer, TextPointer, Integer}
+use Rattle.pungi_symbol.specs.declared.states.integer_range.IntegerRange.{IntegerRange}
+use Rattle.pungi_symbol.specs.declared.states.integer_range.IntegerRange.TheVariants as ranges
+use Rattle.pungi_symbol.specs.states.Terms.{is_mark, low_of, high_of}
 use Rattle.pungi_symbol.specs.questions.NextQuestion.{content_mark}
-use Rattle.pungi_symbol.specs.runs.ObjectForm.{is_pointer}
+use Rattle.pungi_symbol.specs.runs.JudgedForm.{is_held}
 use Rattle.pungi_symbol.specs.runs.RunInState.{owed, IsOf}
 use Rattle.pungi_symbol.proofs.states.NamedObjects.{part}
 use Rattle.pungi_symbol.proofs.states.Owed.{AreUnmade, owed_counted, owed_handed, owed_object, object_slots}
@@ -239,13 +241,22 @@ text_good w c e = elim (or_of (is_null c) (is_text c) e) [
   | inr h ↦ (ap (is_mark TextPointer) (text_near w c h), subst (IsNear w) (sym (text_near w c h)) tt)
 ]
 
-pub content_good : (w : World) (kind : Param) (c : Choice) → is_pointer kind ≡ true → is_content w kind c ≡ true
+pub integer_good : (w : World) (r : IntegerRange) (c : Choice) → is_number (low_of r) (high_of r) c ≡ true
+    → (is_mark (Integer r) (value_of c) ≡ true) × IsNear w (value_of c)
+integer_good w r choice.Null e = absurd (let bad : false ≡ true = e in cc)
+integer_good w r (choice.Object k) e = absurd (let bad : false ≡ true = e in cc)
+integer_good w r (choice.Int n) e = (e, tt)
+integer_good w r choice.Text e = absurd (let bad : false ≡ true = e in cc)
+integer_good w r (choice.Given n) e = absurd (let bad : false ≡ true = e in cc)
+integer_good w r (choice.Failed n) e = absurd (let bad : false ≡ true = e in cc)
+
+pub content_good : (w : World) (kind : Param) (c : Choice) → is_held kind ≡ true → is_content w kind c ≡ true
     → Good w kind c
 content_good w param.Object c p e = pointer_good w c e
 content_good w param.ObjectOrNull c p e = pointer_good w c e
 content_good w param.Text c p e = text_good w c e
 content_good w param.TextOrNull c p e = text_good w c e
-content_good w param.Int c p e = absurd (let bad : false ≡ true = p in cc)
-content_good w param.Long c p e = absurd (let bad : false ≡ true = p in cc)
-content_good w param.Size c p e = absurd (let bad : false ≡ true = p in cc)
+content_good w param.Int c p e = integer_good w ranges.Int c e
+content_good w param.Long c p e = integer_good w ranges.Long c e
+content_good w param.Size c p e = integer_good w ranges.Long c e
 content_good w param.ModuleDef c p e = absurd (let bad : false ≡ true = p in cc)

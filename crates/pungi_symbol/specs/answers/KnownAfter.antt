@@ -4,6 +4,10 @@
 --   number_of_outcome d, says_same d    the number of an answer; whether it says that two tokens are the same
 --   truth_term b                 what a comparison gives
 --   compares, compares_same      a comparison of terms, as far as they are known; of two objects
+--   says_order d, order_number o    how two numbers compare, by an answer; two numbers that compare so are this and 0
+--   holds_order c o              a comparison of two numbers that compare so
+--   ordered i o k                what a comparison or a branch does then
+--   computed i x k               the result of an instruction is this sum
 --   number_there                 the result of arithmetic
 --   comparison_var, comparison_term    the variable of a comparison, and what it holds where two objects were compared
 --   put_answer x o k             a variable gets the answer of a call, where there is one
@@ -17,7 +21,10 @@
 --   does k i                     an instruction's work is done
 --   perform_line, place_of_line, instr_of    the instruction and the place of the next line, if there is one
 --   go line k q d                what is known after the answer to a question
-use Rattle.std.specs.Prelude.{ℕ, ◌+◌, ℤ, pos, Bool, false, [], ◌∷◌, ◌++◌, slice_set, Option, Some, None, if◌then◌else◌}
+use Rattle.std.specs.Prelude.{ℕ, ◌+◌, ◌==◌, ℤ, pos, negsuc, Bool, false, [], ◌∷◌, ◌++◌, slice_set, Option, Some}
+use Rattle.std.specs.Prelude.{None, if◌then◌else◌}
+use Rattle.std.specs.declared.cmp.Ordering.{Ordering}
+use Rattle.std.specs.declared.cmp.Ordering.TheVariants.{Less, Equal, Greater}
 use Rattle.pungi_base.specs.declared.pos.Pos.{Pos}
 use Rattle.pungi_base.specs.declared.value.Value.TheVariants as value
 use Rattle.pungi_api.specs.declared.answer.Answer.{Answer}
@@ -38,16 +45,18 @@ use Rattle.pungi_symbol.specs.declared.states.known.Known.{Known}
 use Rattle.pungi_symbol.specs.declared.states.known.Status.TheVariants as status
 use Rattle.pungi_symbol.specs.declared.states.mark.Mark.{Mark}
 use Rattle.pungi_symbol.specs.declared.states.mark.Mark.TheVariants.{Pointer, TextPointer, IsNull, IsObject, IsText}
-use Rattle.pungi_symbol.specs.declared.states.mark.Mark.TheVariants.{IsNumber}
+use Rattle.pungi_symbol.specs.declared.states.mark.Mark.TheVariants.{IsNumber, Integer}
 use Rattle.pungi_symbol.specs.declared.questions.question.Question.{Question}
 use Rattle.pungi_symbol.specs.declared.questions.question.Question.TheVariants.{Does, Touches, Overwrites}
 use Rattle.pungi_symbol.specs.declared.questions.question.Question.TheVariants.{Null as AsksNull, Base, Answers, Same}
-use Rattle.pungi_symbol.specs.declared.questions.question.Question.TheVariants.{Returns, Stops, Over}
+use Rattle.pungi_symbol.specs.declared.questions.question.Question.TheVariants.{Orders, Range, Unplain, Returns}
+use Rattle.pungi_symbol.specs.declared.questions.question.Question.TheVariants.{Stops, Over}
 use Rattle.pungi_symbol.specs.declared.states.spot.Progress.TheVariants.{Looking, Found}
 use Rattle.pungi_symbol.specs.declared.states.spot.Spot.{Spot}
 use Rattle.pungi_symbol.specs.declared.states.spot.Touched.{Touched}
+use Rattle.pungi_symbol.specs.declared.states.sum.Sum.{Sum as SumOf}
 use Rattle.pungi_symbol.specs.declared.states.term.Term.{Term}
-use Rattle.pungi_symbol.specs.declared.states.term.Term.TheVariants.{Unset, Null, Text, Number, Token}
+use Rattle.pungi_symbol.specs.declared.states.term.Term.TheVariants.{Unset, Null, Text, Number, Token, Sum}
 use Rattle.pungi_symbol.specs.states.Terms.{outcomes_of_mark, outcomes_of_answer, mark_at}
 use Rattle.pungi_symbol.specs.states.Known.{count, mark_of, term_of, known_value, number, slot_note, find, found_at}
 use Rattle.pungi_symbol.specs.states.Known.{held_in, spot_of}
@@ -77,7 +86,21 @@ says_same (Outcome k) = false
 says_same Quiet = false
 says_same (Order o) = false
 
+abbrev pub says_order : Decision → Ordering
+says_order (Order o) = o
+says_order (Outcome k) = Equal
+says_order Quiet = Equal
+says_order (IsSame b) = Equal
+
 -- ---- numbers
+
+abbrev pub order_number : Ordering → ℤ
+order_number Less = negsuc 0
+order_number Equal = pos 0
+order_number Greater = pos 1
+
+abbrev pub holds_order : Cmp → Ordering → Bool
+holds_order c o = holds c (value.Int (order_number o)) (value.Int (pos 0))
 
 abbrev pub truth_term : Bool → Term
 truth_term b = Number (number_of (truth b))
@@ -122,6 +145,7 @@ term_with IsNull t = Null
 term_with IsObject t = Token t
 term_with IsText t = Text
 term_with (IsNumber n) t = Number n
+term_with (Integer r) t = Token t
 
 abbrev pub call_var : Instr → Option Var
 call_var (Api x g as' outs) = x
@@ -166,6 +190,16 @@ does k (Branch a this other) = go_to (if is_true (known_value k (term_of k a)) t
 does k (Return a) = k
 does k Fall = k
 
+abbrev pub ordered : Instr → Ordering → Known → Known
+ordered (Compare x c a b) o k = go_on (put x.0 (truth_term (holds_order c o)) k)
+ordered (Branch a this other) o k = go_to (if is_true (value.Int (order_number o)) then this.0 else other.0) k
+ordered i o k = k
+
+abbrev pub computed : Instr → SumOf → Known → Known
+computed (Arith x kind o a b) s k = go_on (put x.0 (Sum s) k)
+computed (Fit x kind a) s k = go_on (put x.0 (Sum s) k)
+computed i s k = k
+
 abbrev pub perform_line : Option Line → (Instr → Known) → Known → Known
 perform_line None f k = k
 perform_line (Some line) f k = f line.instr
@@ -189,6 +223,11 @@ go line k (Answers a) d =
     go_on (put_answer (call_var (instr_of line)) (Some (term_with (mark_at (outcomes_of_answer a)
     (number_of_outcome d)) (count k))) (arrive (mark_at (outcomes_of_answer a) (number_of_outcome d)) k))
 go line k (Same t u) d = go_on (put (comparison_var (instr_of line)) (comparison_term (says_same d) (instr_of line)) k)
+go line k (Orders a b) d = ordered (instr_of line) (says_order d) k
+go line k (Range kind a) d =
+    if number_of_outcome d == 1 then computed (instr_of line) a k else
+    record k { status = status.Stopped (place_of_line line) }
+go line k Unplain d = record k { status = status.NumberSeen (place_of_line line) }
 go line k (Returns x) d = record k { status = status.Returned (place_of_line line) x }
 go line k (Stops d') d = record k { status = status.Stopped (place_of_line line) }
 go line k Over d = k

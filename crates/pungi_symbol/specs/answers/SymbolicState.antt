@@ -2,7 +2,11 @@
 --   class_of, balance_at    the token that stands for a token; what its object is owed
 --   is_part, are_one, are_other  a pair parts two classes; two tokens are noted as one object; as different ones
 --   is_order, is_decision, is_outcome    two orders, two answers are the same; an answer is one of the first so many
---   can_be, can_same, can   a question still has this answer: as notes have it, of two tokens, of any question
+--   can_be, can_same        a question still has this answer: as notes have it, of two tokens
+--   is_any_order d, can_order a b d    an answer says how numbers compare; how these may compare
+--   range_place kind n      whether a number is below the range of a kind, within it or above it: 0, 1 or 2
+--   can_range kind a d      whether a sum may be so
+--   can                     a question still has this answer
 --   add_to, add_term        a number is added to the balance of a token's object; of a term's
 --   lower                   it falls by 1 for each of these terms
 --   taken_terms, terms_taken_by    the arguments that a call takes over
@@ -11,14 +15,20 @@
 --   stored_term             what a store writes
 --   redirect, gather, merge two tokens become one: their class, their balance, the state
 --   merge_two               the older token stands for both
+--   low_limit, high_limit kind    the bounds of the range of a kind
+--   order_limits a b o      what it says of two numbers that they compare so
+--   range_limits kind a k   what it says of a number that it is below the range of a kind, within it or above it
+--   limited ls s            a state that notes more of numbers
 --   apply_same, join, take_answer, follow, apply    the state after an answer
 --   numbered n, answers_of q    the first so many numbered answers; the answers to a question, in the order in which
 --                           the states after them stand
 --   after_if, successors    the states after the answers that the next question still has
 --   after_left              the state after an answer that is left over, if there is one
-use Rattle.std.specs.Prelude.{ℕ, ◌==◌, nat_lt, ℤ, pos, negsuc, ◌+ℤ◌, Bool, true, false, not, ◌&&◌, ◌||◌, List, [], ◌∷◌}
+use Rattle.std.specs.Prelude.{ℕ, zero, suc, ◌-◌, ◌^◌, ◌==◌, nat_lt, int_lt, ℤ, pos, negsuc, ◌+ℤ◌, ◌-ℤ◌, Bool, true}
+use Rattle.std.specs.Prelude.{false, not, ◌&&◌, ◌||◌, List, [], ◌∷◌}
 use Rattle.std.specs.Prelude.{◌++◌, length, get_or, slice_get, slice_set, map, Option, Some, None, if◌then◌else◌}
 use Rattle.std.specs.List.{list_any, flat_map, range_with_len}
+use Rattle.std.specs.Ordering.{int_cmp}
 use Rattle.std.specs.declared.cmp.Ordering.{Ordering}
 use Rattle.std.specs.declared.cmp.Ordering.TheVariants.{Less, Equal, Greater}
 use Rattle.pungi_api.specs.declared.answer.Answer.{Answer}
@@ -26,7 +36,9 @@ use Rattle.pungi_api.specs.declared.answer.Answer.TheVariants as answer
 use Rattle.pungi_api.specs.declared.own_effect.OwnEffect.{OwnEffect}
 use Rattle.pungi_api.specs.declared.own_effect.OwnEffect.TheVariants.{IncRef, DecRef, Undescribed}
 use Rattle.pungi_api.specs.declared.take.Take.{Take}
+use Rattle.pungi_types.specs.declared.kind.ValueKind.{ValueKind}
 use Rattle.pungi_world.specs.Calls.{is_success, is_taken}
+use Rattle.pungi_meaning.specs.Values.{bits, fits}
 use Rattle.pungi_code.specs.declared.code.Line.{Line}
 use Rattle.pungi_code.specs.declared.instr.Instr.{Instr}
 use Rattle.pungi_code.specs.declared.instr.Instr.TheVariants.{Store, Api}
@@ -35,18 +47,21 @@ use Rattle.pungi_symbol.specs.declared.answers.decision.Decision.TheVariants.{Qu
 use Rattle.pungi_symbol.specs.declared.states.known.Known.{Known}
 use Rattle.pungi_symbol.specs.declared.states.mark.Mark.{Mark}
 use Rattle.pungi_symbol.specs.declared.states.mark.Mark.TheVariants.{Pointer, TextPointer, IsNull, IsObject, IsText}
-use Rattle.pungi_symbol.specs.declared.states.mark.Mark.TheVariants.{IsNumber}
+use Rattle.pungi_symbol.specs.declared.states.mark.Mark.TheVariants.{IsNumber, Integer}
 use Rattle.pungi_symbol.specs.declared.questions.question.Question.{Question}
 use Rattle.pungi_symbol.specs.declared.questions.question.Question.TheVariants.{Does, Touches, Overwrites}
 use Rattle.pungi_symbol.specs.declared.questions.question.Question.TheVariants.{Null as AsksNull, Base, Answers, Same}
-use Rattle.pungi_symbol.specs.declared.questions.question.Question.TheVariants.{Returns, Stops, Over}
+use Rattle.pungi_symbol.specs.declared.questions.question.Question.TheVariants.{Orders, Range, Unplain, Returns}
+use Rattle.pungi_symbol.specs.declared.questions.question.Question.TheVariants.{Stops, Over}
+use Rattle.pungi_symbol.specs.declared.states.limit.Limit.{Limit}
 use Rattle.pungi_symbol.specs.declared.states.state.Pair.{Pair}
 use Rattle.pungi_symbol.specs.declared.states.state.State.{State}
+use Rattle.pungi_symbol.specs.declared.states.sum.Sum.{Sum}
 use Rattle.pungi_symbol.specs.declared.states.term.Term.{Term}
 use Rattle.pungi_symbol.specs.states.Terms.{outcomes_of_mark, outcomes_of_answer, mark_at, value_of_mark}
 use Rattle.pungi_symbol.specs.states.Known.{count, mark_of, term_of, object_of, find, held_in}
 use Rattle.pungi_symbol.specs.questions.NextQuestion.{ask, first_term, terms_of}
-use Rattle.pungi_symbol.specs.answers.KnownAfter.{go, number_of_outcome, says_same, instr_of}
+use Rattle.pungi_symbol.specs.answers.KnownAfter.{go, number_of_outcome, says_same, says_order, instr_of}
 
 abbrev pub class_of : List ℕ → ℕ → ℕ
 class_of classes t = get_or classes t 0
@@ -101,6 +116,22 @@ can_be one other (Order o) = false
 abbrev pub can_same : State → ℕ → ℕ → Decision → Bool
 can_same s t u d = can_be (are_one s.classes t u) (are_other s.statics s.classes s.others t u) d
 
+abbrev pub is_any_order : Decision → Bool
+is_any_order (Order o) = true
+is_any_order Quiet = false
+is_any_order (Outcome k) = false
+is_any_order (IsSame b) = false
+
+abbrev pub can_order : Sum → Sum → Decision → Bool
+can_order a b d =
+    if a.node == b.node then is_decision (Order (int_cmp a.plus b.plus)) d else is_any_order d
+
+abbrev pub range_place : ValueKind → ℤ → ℕ
+range_place kind n = if fits kind n then 1 else (if int_lt n (pos 0) then 0 else 2)
+
+abbrev pub can_range : ValueKind → Sum → Decision → Bool
+can_range kind a d = if a.node == 0 then is_decision (Outcome (range_place kind a.plus)) d else is_outcome 3 d
+
 abbrev pub can : State → Question → Decision → Bool
 can s (Does d') d = is_decision d' d
 can s (Touches m) d = is_decision Quiet d
@@ -109,6 +140,9 @@ can s (AsksNull t) d = is_outcome (length (outcomes_of_mark (mark_of s.known t))
 can s (Base t u i) d = can_same s t u d
 can s (Answers a) d = is_outcome (length (outcomes_of_answer a)) d
 can s (Same t u) d = can_same s t u d
+can s (Orders a b) d = can_order a b d
+can s (Range kind a) d = can_range kind a d
+can s Unplain d = is_decision Quiet d
 can s (Returns x) d = is_decision Quiet d
 can s (Stops d') d = is_decision d' d
 can s Over d = false
@@ -157,6 +191,7 @@ owed_for TextPointer = pos 0
 owed_for IsNull = pos 0
 owed_for IsText = pos 0
 owed_for (IsNumber n) = pos 0
+owed_for (Integer r) = pos 0
 
 abbrev pub owed_for_answer : Answer → Mark → ℤ
 owed_for_answer answer.New m = owed_for m
@@ -194,6 +229,31 @@ take_answer i a m s =
     join (owed_for_answer a m) (lower s.classes s.known (terms_taken_by (is_success a (Some (value_of_mark m))) i
     s.known) s.balances) s
 
+-- ---- what answers say of numbers
+
+abbrev pub low_limit : ValueKind → ℤ
+low_limit kind = negsuc (2 ^ bits kind - 1)
+
+abbrev pub high_limit : ValueKind → ℤ
+high_limit kind = pos (2 ^ bits kind - 1)
+
+abbrev pub order_limits : Sum → Sum → Ordering → List Limit
+order_limits a b Less = (record { x = a.node; y = b.node; c = (b.plus -ℤ a.plus) -ℤ pos 1 }) ∷ []
+order_limits a b Equal =
+    (record { x = a.node; y = b.node; c = b.plus -ℤ a.plus })
+    ∷ (record { x = b.node; y = a.node; c = a.plus -ℤ b.plus }) ∷ []
+order_limits a b Greater = (record { x = b.node; y = a.node; c = (a.plus -ℤ b.plus) -ℤ pos 1 }) ∷ []
+
+abbrev pub range_limits : ValueKind → Sum → ℕ → List Limit
+range_limits kind a zero = (record { x = a.node; y = 0; c = (low_limit kind -ℤ a.plus) -ℤ pos 1 }) ∷ []
+range_limits kind a (suc zero) =
+    (record { x = a.node; y = 0; c = high_limit kind -ℤ a.plus })
+    ∷ (record { x = 0; y = a.node; c = a.plus -ℤ low_limit kind }) ∷ []
+range_limits kind a (suc (suc n)) = (record { x = 0; y = a.node; c = (a.plus -ℤ high_limit kind) -ℤ pos 1 }) ∷ []
+
+abbrev pub limited : List Limit → State → State
+limited ls s = record s { limits = s.limits ++ ls }
+
 abbrev pub follow : Option Line → Question → Decision → State → State
 follow line (Does d') d s = record s { balances = weigh s.classes s.known (instr_of line) s.balances }
 follow line (Touches m) d s = join (pos 0) s.balances s
@@ -204,6 +264,9 @@ follow line (AsksNull t) d s = s
 follow line (Base t u i) d s = apply_same (are_one s.classes t u) (says_same d) t u s
 follow line (Answers a) d s = take_answer (instr_of line) a (mark_at (outcomes_of_answer a) (number_of_outcome d)) s
 follow line (Same t u) d s = apply_same (are_one s.classes t u) (says_same d) t u s
+follow line (Orders a b) d s = limited (order_limits a b (says_order d)) s
+follow line (Range kind a) d s = limited (range_limits kind a (number_of_outcome d)) s
+follow line Unplain d s = s
 follow line (Returns x) d s = s
 follow line (Stops d') d s = s
 follow line Over d s = s
@@ -214,7 +277,8 @@ apply line q d s = record (follow line q d s) { known = go line s.known q d }
 abbrev pub numbered : ℕ → List Decision
 numbered n = map Outcome (range_with_len 0 n)
 
--- whether a token is NULL has two answers, and so has whether two tokens are one object
+-- whether a token is NULL has two answers, and so has whether two tokens are one object; three say how numbers compare,
+-- and three where a number lies
 abbrev pub answers_of : Question → List Decision
 answers_of (Does d) = d ∷ []
 answers_of (Touches m) = Quiet ∷ []
@@ -223,6 +287,9 @@ answers_of (AsksNull t) = numbered 2
 answers_of (Base t u i) = IsSame false ∷ IsSame true ∷ []
 answers_of (Answers a) = numbered (length (outcomes_of_answer a))
 answers_of (Same t u) = IsSame false ∷ IsSame true ∷ []
+answers_of (Orders a b) = Order Less ∷ Order Equal ∷ Order Greater ∷ []
+answers_of (Range kind a) = numbered 3
+answers_of Unplain = Quiet ∷ []
 answers_of (Returns x) = Quiet ∷ []
 answers_of (Stops d) = d ∷ []
 answers_of Over = []

@@ -3,8 +3,16 @@
 --   asks_known k x q, knows_mark   it needs to know whether a term is NULL
 --   asks_thing k x q, needs_mark   it needs one that isn't NULL
 --   asks_order, asks_same, asks_compare    it compares two numbers; two terms that are objects; two terms
---   asks_range r below, is_below, asks_fit    it computes a number that may be out of range: below it, within it or
---                                             above it
+--   asks_range r below, is_below, asks_fit    it computes a known number that may be out of range: below it, within it
+--                                             or above it
+--   small_sum s, sum_of o a b      a sum whose constant lies between -2^64 and 2^64; what an operator gives that is
+--                                  such a sum
+--   sum_of_two o x y               the same of two operands that may be no numbers
+--   asks_result kind x             it computes a number of this kind, which is a sum or none
+--   asks_arith, asks_conversion    it computes a known number, or another one
+--   asks_orders x y q              it compares two numbers, at least one of which isn't known
+--   asks_pointers x y q            it compares what isn't two numbers; what isn't two pointers either isn't followed
+--   zero_sum, asks_sign x q        the number 0 as a sum; the step needs to know whether a number is 0
 --   content_mark kind              what is known of what a slot of a kind held at entry
 --   asks_load, asks_store, asks_dropped    it reads a slot; it writes one; it needs to know whether what a slot held is
 --                                          NULL
@@ -20,9 +28,8 @@
 --   asks_instr k i, asks_line      what an instruction asks; what the next one asks, if there is one
 --   ask_while, ask code k          what is asked next, where the run isn't over
 --   IsPlaced code k q              a question names a touched slot that is there, or is that of an instruction
-use Rattle.std.specs.Prelude.{ℕ, ◌<◌, length, ℤ, pos, Bool, ◌&&◌, not, int_lt, List, [], ◌∷◌, map, slice_get, Option}
-use Rattle.std.specs.Prelude.{Some, None}
-use Rattle.std.specs.Prelude.{if◌then◌else◌}
+use Rattle.std.specs.Prelude.{ℕ, ◌<◌, ◌-◌, ◌^◌, ◌==◌, length, ℤ, pos, negsuc, ◌+ℤ◌, ◌-ℤ◌, Bool, ◌&&◌, not, int_lt, List}
+use Rattle.std.specs.Prelude.{[], ◌∷◌, map, slice_get, Option, Some, None, if◌then◌else◌}
 use Rattle.std.specs.Ordering.{int_cmp}
 use Rattle.pungi_api.specs.declared.answer.Answer.{Answer}
 use Rattle.pungi_api.specs.declared.answer.Answer.TheVariants as answer
@@ -36,7 +43,9 @@ use Rattle.pungi_api.specs.declared.signature.Signature.{Signature}
 use Rattle.pungi_api.specs.declared.take.Take.{Take}
 use Rattle.pungi_api.specs.declared.take.Take.TheVariants as take
 use Rattle.pungi_types.specs.declared.kind.ValueKind.{ValueKind}
+use Rattle.pungi_world.specs.Choices.{is_between}
 use Rattle.pungi_meaning.specs.declared.op.Op.{Op}
+use Rattle.pungi_meaning.specs.declared.op.Op.TheVariants as ops
 use Rattle.pungi_meaning.specs.Values.{fits, arithmetic, result_of, is_undefined}
 use Rattle.pungi_code.specs.declared.atom.Atom.{Atom}
 use Rattle.pungi_code.specs.declared.code.Line.{Line}
@@ -47,19 +56,22 @@ use Rattle.pungi_code.specs.WellFormed.{place_kind}
 use Rattle.pungi_symbol.specs.declared.answers.decision.Decision.TheVariants.{Quiet, Outcome, Order}
 use Rattle.pungi_symbol.specs.declared.questions.found_slot.Finding.{Finding}
 use Rattle.pungi_symbol.specs.declared.questions.found_slot.Finding.TheVariants.{Waits, At, Nowhere}
+use Rattle.pungi_symbol.specs.declared.states.integer_range.IntegerRange.TheVariants as ranges
 use Rattle.pungi_symbol.specs.declared.states.known.Known.{Known}
 use Rattle.pungi_symbol.specs.declared.states.known.Status.{Status}
 use Rattle.pungi_symbol.specs.declared.states.known.Status.TheVariants as status
 use Rattle.pungi_symbol.specs.declared.states.mark.Mark.{Mark}
 use Rattle.pungi_symbol.specs.declared.states.mark.Mark.TheVariants.{Pointer, TextPointer, IsNull, IsObject, IsText}
-use Rattle.pungi_symbol.specs.declared.states.mark.Mark.TheVariants.{IsNumber}
+use Rattle.pungi_symbol.specs.declared.states.mark.Mark.TheVariants.{IsNumber, Integer}
 use Rattle.pungi_symbol.specs.declared.questions.question.Question.{Question}
 use Rattle.pungi_symbol.specs.declared.questions.question.Question.TheVariants.{Does, Touches, Overwrites}
 use Rattle.pungi_symbol.specs.declared.questions.question.Question.TheVariants.{Null as AsksNull, Base, Answers, Same}
-use Rattle.pungi_symbol.specs.declared.questions.question.Question.TheVariants.{Returns, Stops, Over}
+use Rattle.pungi_symbol.specs.declared.questions.question.Question.TheVariants.{Orders, Range, Unplain, Returns}
+use Rattle.pungi_symbol.specs.declared.questions.question.Question.TheVariants.{Stops, Over}
+use Rattle.pungi_symbol.specs.declared.states.sum.Sum.{Sum as SumOf}
 use Rattle.pungi_symbol.specs.declared.states.term.Term.{Term}
-use Rattle.pungi_symbol.specs.declared.states.term.Term.TheVariants.{Unset, Null, Text, Number, Token}
-use Rattle.pungi_symbol.specs.states.Known.{mark_of, term_of, number, object_of, number_in, slot_note, find}
+use Rattle.pungi_symbol.specs.declared.states.term.Term.TheVariants.{Unset, Null, Text, Number, Token, Sum}
+use Rattle.pungi_symbol.specs.states.Known.{mark_of, term_of, object_of, number_in, sum_in, slot_note, find}
 
 abbrev pub asks_set : Term → Question → Question
 asks_set Unset q = Stops Quiet
@@ -67,6 +79,7 @@ asks_set Null q = q
 asks_set Text q = q
 asks_set (Number n) q = q
 asks_set (Token t) q = q
+asks_set (Sum s) q = q
 
 abbrev pub knows_mark : Mark → ℕ → Question → Question
 knows_mark Pointer t q = AsksNull t
@@ -75,6 +88,7 @@ knows_mark IsNull t q = q
 knows_mark IsObject t q = q
 knows_mark IsText t q = q
 knows_mark (IsNumber n) t q = q
+knows_mark (Integer r) t q = q
 
 abbrev pub asks_known : Known → Term → Question → Question
 asks_known k Unset q = Stops Quiet
@@ -82,6 +96,7 @@ asks_known k Null q = q
 asks_known k Text q = q
 asks_known k (Number n) q = q
 asks_known k (Token t) q = knows_mark (mark_of k t) t q
+asks_known k (Sum s) q = q
 
 abbrev pub needs_mark : Mark → ℕ → Question → Question
 needs_mark Pointer t q = AsksNull t
@@ -90,6 +105,7 @@ needs_mark IsNull t q = Stops Quiet
 needs_mark IsObject t q = q
 needs_mark IsText t q = q
 needs_mark (IsNumber n) t q = q
+needs_mark (Integer r) t q = q
 
 abbrev pub asks_thing : Known → Term → Question → Question
 asks_thing k Unset q = Stops Quiet
@@ -97,6 +113,7 @@ asks_thing k Null q = Stops Quiet
 asks_thing k Text q = q
 asks_thing k (Number n) q = q
 asks_thing k (Token t) q = needs_mark (mark_of k t) t q
+asks_thing k (Sum s) q = q
 
 -- ---- numbers and comparisons
 
@@ -110,10 +127,20 @@ asks_same None u = Does Quiet
 asks_same (Some t) None = Does Quiet
 asks_same (Some t) (Some u) = Same t u
 
+abbrev pub asks_orders : Option SumOf → Option SumOf → Question → Question
+asks_orders None y q = q
+asks_orders (Some a) None q = q
+asks_orders (Some a) (Some b) q = Orders a b
+
+abbrev pub asks_pointers : Option SumOf → Option SumOf → Question → Question
+asks_pointers None None q = q
+asks_pointers None (Some b) q = Unplain
+asks_pointers (Some a) y q = Unplain
+
 abbrev pub asks_compare : Known → Term → Term → Question
 asks_compare k a b =
-    asks_order (number_in a) (number_in b) (asks_known k a (asks_known k b
-    (asks_same (object_of k a) (object_of k b))))
+    asks_order (number_in a) (number_in b) (asks_orders (sum_in k a) (sum_in k b) (asks_known k a (asks_known k b
+    (asks_pointers (sum_in k a) (sum_in k b) (asks_same (object_of k a) (object_of k b))))))
 
 -- below the range, within it, above it
 abbrev pub asks_range : Option ℤ → Bool → Question
@@ -126,6 +153,45 @@ is_below o m n = not (is_undefined o n) && int_lt (result_of o m n) (pos 0)
 abbrev pub asks_fit : ValueKind → ℤ → Question
 asks_fit kind n = if fits kind n then Does (Outcome 1) else Stops (Outcome (if int_lt n (pos 0) then 0 else 2))
 
+abbrev pub small_sum : SumOf → Option SumOf
+small_sum s = if is_between (negsuc (2 ^ 64 - 2)) (pos (2 ^ 64 - 1)) s.plus then Some s else None
+
+abbrev pub sum_of : Op → SumOf → SumOf → Option SumOf
+sum_of ops.Add a b =
+    if b.node == 0 then small_sum (record { node = a.node; plus = a.plus +ℤ b.plus }) else
+    (if a.node == 0 then small_sum (record { node = b.node; plus = a.plus +ℤ b.plus }) else None)
+sum_of ops.Sub a b =
+    if b.node == 0 then small_sum (record { node = a.node; plus = a.plus -ℤ b.plus }) else
+    (if a.node == b.node then small_sum (record { node = 0; plus = a.plus -ℤ b.plus }) else None)
+sum_of ops.Mul a b = None
+sum_of ops.Div a b = None
+sum_of ops.Rem a b = None
+
+abbrev pub sum_of_two : Op → Option SumOf → Option SumOf → Option SumOf
+sum_of_two o None y = None
+sum_of_two o (Some a) None = None
+sum_of_two o (Some a) (Some b) = sum_of o a b
+
+abbrev pub asks_result : ValueKind → Option SumOf → Question
+asks_result kind None = Unplain
+asks_result kind (Some s) = Range kind s
+
+abbrev pub asks_arith : Op → ValueKind → Option ℤ → Option ℤ → Question → Question
+asks_arith o kind None y q = q
+asks_arith o kind (Some m) None q = q
+asks_arith o kind (Some m) (Some n) q = asks_range (arithmetic o kind m n) (is_below o m n)
+
+abbrev pub asks_conversion : ValueKind → Option ℤ → Question → Question
+asks_conversion kind None q = q
+asks_conversion kind (Some n) q = asks_fit kind n
+
+abbrev pub zero_sum : SumOf
+zero_sum = record { node = 0; plus = pos 0 }
+
+abbrev pub asks_sign : Option SumOf → Question → Question
+asks_sign None q = q
+asks_sign (Some a) q = Orders a zero_sum
+
 -- ---- slots
 
 abbrev pub content_mark : Param → Mark
@@ -133,9 +199,9 @@ content_mark param.Object = Pointer
 content_mark param.ObjectOrNull = Pointer
 content_mark param.Text = TextPointer
 content_mark param.TextOrNull = TextPointer
-content_mark param.Int = Pointer
-content_mark param.Long = Pointer
-content_mark param.Size = Pointer
+content_mark param.Int = Integer ranges.Int
+content_mark param.Long = Integer ranges.Long
+content_mark param.Size = Integer ranges.Long
 content_mark param.ModuleDef = Pointer
 
 abbrev pub asks_load : Known → Mark → Finding → Question
@@ -150,6 +216,7 @@ asks_dropped k Null = Does Quiet
 asks_dropped k Text = Does Quiet
 asks_dropped k (Number n) = Does Quiet
 asks_dropped k (Token t) = knows_mark (mark_of k t) t (Does Quiet)
+asks_dropped k (Sum s) = Does Quiet
 
 abbrev pub asks_store : Known → Mark → Finding → Question
 asks_store k m (Waits q) = q
@@ -222,9 +289,10 @@ asks_return k (Some a) = asks_known k (term_of k a) (Returns (Some (term_of k a)
 abbrev pub asks_instr : Known → Instr → Question
 asks_instr k (Set x a) = asks_set (term_of k a) (Does Quiet)
 asks_instr k (Arith x kind o a b) =
-    asks_set (term_of k a) (asks_set (term_of k b) (asks_range (arithmetic o kind (number k (term_of k a))
-    (number k (term_of k b))) (is_below o (number k (term_of k a)) (number k (term_of k b)))))
-asks_instr k (Fit x kind a) = asks_set (term_of k a) (asks_fit kind (number k (term_of k a)))
+    asks_set (term_of k a) (asks_set (term_of k b) (asks_arith o kind (number_in (term_of k a))
+    (number_in (term_of k b)) (asks_result kind (sum_of_two o (sum_in k (term_of k a)) (sum_in k (term_of k b))))))
+asks_instr k (Fit x kind a) =
+    asks_set (term_of k a) (asks_conversion kind (number_in (term_of k a)) (asks_result kind (sum_in k (term_of k a))))
 asks_instr k (Compare x c a b) = asks_compare k (term_of k a) (term_of k b)
 asks_instr k (Load x place) = asks_load k (content_mark (place_kind place)) (find k place)
 asks_instr k (Store place a) =
@@ -234,7 +302,8 @@ asks_instr k (Call x f as') = Stops Quiet
 asks_instr k (Forget x) = Does Quiet
 asks_instr k (Jump to) = Does Quiet
 asks_instr k (Branch a this other) =
-    asks_order (number_in (term_of k a)) (Some (pos 0)) (asks_known k (term_of k a) (Does Quiet))
+    asks_order (number_in (term_of k a)) (Some (pos 0)) (asks_sign (sum_in k (term_of k a))
+    (asks_known k (term_of k a) (Does Quiet)))
 asks_instr k (Return a) = asks_return k a
 asks_instr k Fall = Stops Quiet
 
@@ -246,6 +315,7 @@ abbrev pub ask_while : Status → Question → Question
 ask_while status.Going q = q
 ask_while (status.Returned p x) q = Over
 ask_while (status.Stopped p) q = Over
+ask_while (status.NumberSeen p) q = Over
 
 abbrev pub ask : List Line → Known → Question
 ask code k = ask_while k.status (asks_line k (slice_get code k.pc))
@@ -258,6 +328,9 @@ IsPlaced code k (Does d) = Unit {0}
 IsPlaced code k (Touches m) = Unit {0}
 IsPlaced code k (Overwrites m) = Unit {0}
 IsPlaced code k (AsksNull t) = Unit {0}
+IsPlaced code k (Orders a b) = Unit {0}
+IsPlaced code k (Range kind a) = Unit {0}
+IsPlaced code k Unplain = Unit {0}
 IsPlaced code k (Returns x) = Unit {0}
 IsPlaced code k (Stops d) = Unit {0}
 IsPlaced code k Over = Unit {0}

@@ -1,17 +1,21 @@
 -- Which values of the tokens a state stands for, and what its balances say.
 --   is_the o v              a value is this object
---   Fits, FitsState         all that is noted of tokens is true of their values; all that a state notes
+--   Fits                    what is noted of tokens is true of their values
+--   IsMet, AreMet           so is a bound of numbers; so are several
+--   FitsState               so is all that a state notes
 --   named o table balances  what is owed by an object: the balances of its tokens
 --   IsBelow n x             a token of a term is among the first n
 --   IsObjectSpot ms s       the base of a touched field is known to be an object
 --   AreTermsSound           each term has a token that is there
 --   AreNotesSound           what is noted of tokens isn't against itself
 --   IsSound                 a state notes nothing against itself
-use Rattle.std.specs.Prelude.{◌≡◌, ℕ, ◌≤◌, ◌<◌, ℤ, pos, ◌+ℤ◌, Bool, true, List, [], ◌∷◌, length, get_or, if◌then◌else◌}
+use Rattle.std.specs.Prelude.{◌≡◌, ℕ, ◌≤◌, ◌<◌, ℤ, pos, ◌+ℤ◌, ◌≤ℤ◌, Bool, true, List, [], ◌∷◌, length, get_or}
+use Rattle.std.specs.Prelude.{if◌then◌else◌}
 use Rattle.std.specs.Prelude.{All}
 use Rattle.pungi_base.specs.declared.value.Value.{Value}
 use Rattle.pungi_base.specs.declared.value.Value.TheVariants as value
 use Rattle.pungi_world.specs.Escapes.{is_this_object}
+use Rattle.pungi_symbol.specs.declared.states.limit.Limit.{Limit}
 use Rattle.pungi_symbol.specs.declared.states.mark.Mark.{Mark}
 use Rattle.pungi_symbol.specs.declared.states.mark.Mark.TheVariants.{IsNull, IsObject}
 use Rattle.pungi_symbol.specs.declared.states.spot.Spot.{Spot}
@@ -20,8 +24,8 @@ use Rattle.pungi_symbol.specs.declared.states.spot.Touched.{Touched}
 use Rattle.pungi_symbol.specs.declared.states.state.Pair.{Pair}
 use Rattle.pungi_symbol.specs.declared.states.state.State.{State}
 use Rattle.pungi_symbol.specs.declared.states.term.Term.{Term}
-use Rattle.pungi_symbol.specs.declared.states.term.Term.TheVariants.{Unset, Null, Text, Number, Token}
-use Rattle.pungi_symbol.specs.states.Terms.{Table, at, is_mark}
+use Rattle.pungi_symbol.specs.declared.states.term.Term.TheVariants.{Unset, Null, Text, Number, Token, Sum}
+use Rattle.pungi_symbol.specs.states.Terms.{Table, at, is_mark, node_value}
 use Rattle.pungi_symbol.specs.states.Known.{slot_note}
 use Rattle.pungi_symbol.specs.answers.SymbolicState.{class_of, balance_at}
 
@@ -34,8 +38,15 @@ pub record Fits (table : Table) (first : ℕ) (ms : List Mark) (cs : List ℕ) (
   pub classes : (t : ℕ) → t < length ms → at table (class_of cs t) ≡ at table t
   pub others : All (λ p. at table p.a ≡ at table p.b → ⊥) ps
 
-abbrev pub FitsState : Table → State → Type 0
-FitsState table s = Fits table s.statics s.known.marks s.classes s.others
+abbrev pub IsMet : Table → Limit → Type 0
+IsMet table l = node_value table l.x ≤ℤ (node_value table l.y +ℤ l.c)
+
+abbrev pub AreMet : Table → List Limit → Type 0
+AreMet table ls = All (IsMet table) ls
+
+pub record FitsState (table : Table) (s : State) : Type 0 where
+  pub notes : Fits table s.statics s.known.marks s.classes s.others
+  pub limits : AreMet table s.limits
 
 abbrev pub named : ℕ → Table → List ℤ → ℤ
 named o table [] = pos 0
@@ -48,6 +59,7 @@ IsBelow n Null = Unit {0}
 IsBelow n Text = Unit {0}
 IsBelow n (Number m) = Unit {0}
 IsBelow n (Token t) = t < n
+IsBelow n (Sum s) = Unit {0}
 
 -- the base of a touched field is an object
 abbrev pub IsObjectSpot : List Mark → Spot → Type 0

@@ -11,25 +11,37 @@
 --   EndsFrom                      a run of that many instructions or more ends as the run from there on
 --   IsAt                          a run is, after so many instructions, where a state says
 --   Meets                         a run is, after so many instructions, in a state at the end of a path with its trace
---   IsCovered                     so is each run, as long as it needs no choice that isn't there
+--   SeesNumber                    a run comes to an instruction that computes a number that isn't followed, and is in a
+--                                 state there
+--   IsCovered                     each run meets a state, as long as it needs no choice that isn't there and computes
+--                                 no such number
 --   GoesBack                      values of the tokens that fit a next state fit the state before, and give that answer
---   own_value, own_values, canon  the values of the tokens of a state where all that may differ differs
+--   node_at ns n                  the number at a node, where the tokens stand for these numbers
+--   IsInMark m n                  a token with this mark may stand for this number; what is no number counts as 0
+--   IsMetBy ns l                  the numbers meet a bound
+--   IsModel s ns                  they meet all that a state notes of numbers
+--   HasNoTable s                  no values of the tokens fit a state
+--   own_value, own_values, canon  the values of the tokens of a state where all that may differ differs, and the
+--                                 numbers are these
 --   AreApart                      tokens that weren't merged are different objects
 --   choice_of v                   the choice by which a token has a value
 --   end_of                        how a state ends
 --   returned_object, is_class     the token that is returned, where it is an object; whether a token stands for it
 --   wanted, IsLevelState          what is owed to the object of a token where a function returns; each balance is that
-use Rattle.std.specs.Prelude.{◌≡◌, ℕ, ◌+◌, ◌-◌, ◌<◌, ◌≤◌, ◌==◌, ℤ, pos, ◌⊎◌, Bool, true, false, List, [], ◌∷◌, ◌++◌}
-use Rattle.std.specs.Prelude.{length, map, take, replicate, slice_get, Option, Some, None, if◌then◌else◌}
+use Rattle.std.specs.Prelude.{◌≡◌, ℕ, zero, suc, ◌+◌, ◌-◌, ◌<◌, ◌≤◌, ◌==◌, ℤ, pos, ◌+ℤ◌, ◌≤ℤ◌, ◌⊎◌, Bool, true, false}
+use Rattle.std.specs.Prelude.{List}
+use Rattle.std.specs.Prelude.{[], ◌∷◌, ◌++◌, length, map, take, replicate, get_or, slice_get, Option, Some, None, All}
+use Rattle.std.specs.Prelude.{if◌then◌else◌}
 use Rattle.std.specs.List.{range_with_len}
 use Rattle.pungi_base.specs.declared.choice.Choice.{Choice}
 use Rattle.pungi_base.specs.declared.choice.Choice.TheVariants as choice
 use Rattle.pungi_base.specs.declared.entry.Entry.{Entry}
+use Rattle.pungi_base.specs.declared.pos.Pos.{Pos}
 use Rattle.pungi_base.specs.declared.value.Value.{Value}
 use Rattle.pungi_base.specs.declared.value.Value.TheVariants as value
 use Rattle.pungi_world.specs.declared.content.Content.{Content}
 use Rattle.pungi_world.specs.declared.content.Content.TheVariants as content
-use Rattle.pungi_world.specs.Choices.{value_of}
+use Rattle.pungi_world.specs.Choices.{value_of, is_between}
 use Rattle.pungi_meaning.specs.Run as run
 use Rattle.pungi_code.specs.declared.code.Code.{Code}
 use Rattle.pungi_code.specs.declared.code.Line.{Line}
@@ -43,17 +55,18 @@ use Rattle.pungi_symbol.specs.declared.answers.decision.Decision.TheVariants.{Qu
 use Rattle.pungi_symbol.specs.declared.states.known.Known.{Known}
 use Rattle.pungi_symbol.specs.declared.states.known.Status.{Status}
 use Rattle.pungi_symbol.specs.declared.states.known.Status.TheVariants as status
+use Rattle.pungi_symbol.specs.declared.states.limit.Limit.{Limit}
 use Rattle.pungi_symbol.specs.declared.states.mark.Mark.{Mark}
 use Rattle.pungi_symbol.specs.declared.states.mark.Mark.TheVariants.{Pointer, TextPointer, IsNull, IsObject, IsText}
-use Rattle.pungi_symbol.specs.declared.states.mark.Mark.TheVariants.{IsNumber}
+use Rattle.pungi_symbol.specs.declared.states.mark.Mark.TheVariants.{IsNumber, Integer}
 use Rattle.pungi_symbol.specs.declared.states.spot.Progress.TheVariants.{Looking}
 use Rattle.pungi_symbol.specs.declared.states.state.State.{State}
 use Rattle.pungi_symbol.specs.declared.states.sym_end.SymEnd.{SymEnd}
 use Rattle.pungi_symbol.specs.declared.states.sym_end.SymEnd.TheVariants as ends
 use Rattle.pungi_symbol.specs.declared.states.term.Term.{Term}
 use Rattle.pungi_symbol.specs.declared.states.term.Term.TheVariants.{Unset, Token}
-use Rattle.pungi_symbol.specs.states.Terms.{Table, at, content_of}
-use Rattle.pungi_symbol.specs.states.Known.{count, object_of}
+use Rattle.pungi_symbol.specs.states.Terms.{Table, at, content_of, low_of, high_of}
+use Rattle.pungi_symbol.specs.states.Known.{count, mark_of, object_of}
 use Rattle.pungi_symbol.specs.questions.NextQuestion.{ask, content_mark}
 use Rattle.pungi_symbol.specs.answers.KnownAfter.{go}
 use Rattle.pungi_symbol.specs.answers.SymbolicState.{class_of, balance_at, can, apply}
@@ -89,6 +102,7 @@ known_at statics f code = record {
 abbrev pub start_state : ℕ → ℕ → Code → State
 start_state statics f code = record {
   known = known_at statics f code;
+  limits = [];
   statics = statics;
   classes = range_with_len 0 (statics + argument_count code);
   balances = replicate (statics + argument_count code) (pos 0);
@@ -124,6 +138,7 @@ abbrev pub led_of : Table → Regs → ℕ → Status → Led
 led_of table m pc status.Going = (after.Goes pc, m)
 led_of table m pc (status.Returned p x) = (after.Leaves p (returned_value table x), m)
 led_of table m pc (status.Stopped p) = (after.Stops p, m)
+led_of table m pc (status.NumberSeen p) = (after.Goes pc, m)
 
 abbrev pub EndsFrom : Code → Entry → List Choice → ℕ → Led → Type 0
 EndsFrom code entry choices n led =
@@ -144,10 +159,19 @@ pub record Meets (statics f : ℕ) (code : Code) (entry : Entry) (choices : List
   pub enough : s.known.status ≡ status.Going → n ≤ length ds
   pub is_at : IsAt code entry choices n (table_of statics entry choices) m s.known.pc s.known.status
 
+pub record SeesNumber (statics f : ℕ) (code : Code) (entry : Entry) (choices : List Choice) : Type 0 where
+  pub steps : ℕ
+  pub decisions : List Decision
+  pub s : State
+  pub place : Pos
+  pub meets : Meets statics f code entry choices steps decisions s
+  pub seen : s.known.status ≡ status.NumberSeen place
+
 abbrev pub IsCovered : ℕ → ℕ → Code → Type 0
 IsCovered statics f code = (entry : Entry) (choices : List Choice) (n : ℕ) → code_fits statics code entry ≡ true
     → (run_for code entry choices n ≡ run.NeedsChoice)
-    ⊎ ((ds : List Decision) × ((s : State) × Meets statics f code entry choices n ds s))
+    ⊎ (((ds : List Decision) × ((s : State) × Meets statics f code entry choices n ds s))
+    ⊎ SeesNumber statics f code entry choices)
 
 abbrev pub GoesBack : List Line → State → Decision × State → Type 0
 GoesBack code s p =
@@ -155,21 +179,47 @@ GoesBack code s p =
 
 -- ---- a run for a state
 
-abbrev pub own_value : Mark → ℕ → Value
-own_value Pointer c = value.Object c
-own_value TextPointer c = value.Text
-own_value IsNull c = value.Null
-own_value IsObject c = value.Object c
-own_value IsText c = value.Text
-own_value (IsNumber n) c = value.Int n
+abbrev pub node_at : List ℤ → ℕ → ℤ
+node_at ns zero = pos 0
+node_at ns (suc t) = get_or ns t (pos 0)
 
-abbrev pub own_values : List Mark → List ℕ → Table
-own_values [] cs = []
-own_values (m ∷ ms) [] = []
-own_values (m ∷ ms) (c ∷ cs) = own_value m c ∷ own_values ms cs
+abbrev pub IsInMark : Mark → ℤ → Type 0
+IsInMark Pointer n = n ≡ pos 0
+IsInMark TextPointer n = n ≡ pos 0
+IsInMark IsNull n = n ≡ pos 0
+IsInMark IsObject n = n ≡ pos 0
+IsInMark IsText n = n ≡ pos 0
+IsInMark (IsNumber m) n = n ≡ m
+IsInMark (Integer r) n = is_between (low_of r) (high_of r) n ≡ true
 
-abbrev pub canon : State → Table
-canon s = own_values s.known.marks s.classes
+abbrev pub IsMetBy : List ℤ → Limit → Type 0
+IsMetBy ns l = node_at ns l.x ≤ℤ (node_at ns l.y +ℤ l.c)
+
+pub record IsModel (s : State) (ns : List ℤ) : Type 0 where
+  pub all : length ns ≡ count s.known
+  pub marks : (t : ℕ) → t < count s.known → IsInMark (mark_of s.known t) (get_or ns t (pos 0))
+  pub limits : All (IsMetBy ns) s.limits
+
+abbrev pub HasNoTable : State → Type 0
+HasNoTable s = (table : Table) → FitsState table s → ⊥
+
+abbrev pub own_value : Mark → ℕ → ℤ → Value
+own_value Pointer c n = value.Object c
+own_value TextPointer c n = value.Text
+own_value IsNull c n = value.Null
+own_value IsObject c n = value.Object c
+own_value IsText c n = value.Text
+own_value (IsNumber m) c n = value.Int m
+own_value (Integer r) c n = value.Int n
+
+abbrev pub own_values : List Mark → List ℕ → List ℤ → Table
+own_values [] cs ns = []
+own_values (m ∷ ms) [] ns = []
+own_values (m ∷ ms) (c ∷ cs) [] = []
+own_values (m ∷ ms) (c ∷ cs) (n ∷ ns) = own_value m c n ∷ own_values ms cs ns
+
+abbrev pub canon : State → List ℤ → Table
+canon s ns = own_values s.known.marks s.classes ns
 
 abbrev pub AreApart : State → Table → Type 0
 AreApart s table =
@@ -188,6 +238,7 @@ abbrev pub end_of : Status → SymEnd
 end_of status.Going = ends.Going
 end_of (status.Returned p x) = ends.Returned p
 end_of (status.Stopped p) = ends.Stopped p
+end_of (status.NumberSeen p) = ends.NumberSeen p
 
 abbrev pub returned_object : Known → Option Term → Option ℕ
 returned_object k None = None

@@ -10,6 +10,7 @@
 --   Lies                   a run lies in a state
 use Rattle.std.specs.Prelude.{◌≡◌, ℕ, ◌+◌, ◌<◌, ℤ, pos, ◌+ℤ◌, ◌-ℤ◌, false, List, length, map, take, slice_get, Option}
 use Rattle.std.specs.Prelude.{Some, None}
+use Rattle.std.specs.Ordering.{int_cmp}
 use Rattle.pungi_base.specs.declared.value.Value.{Value}
 use Rattle.pungi_base.specs.declared.value.Value.TheVariants as value
 use Rattle.pungi_api.specs.declared.param.Param.{Param}
@@ -29,21 +30,24 @@ use Rattle.pungi_code.specs.declared.place.Place.{Place}
 use Rattle.pungi_code.specs.Registers.{Regs}
 use Rattle.pungi_code.specs.Perform.{slot_of}
 use Rattle.pungi_symbol.specs.declared.answers.decision.Decision.{Decision}
-use Rattle.pungi_symbol.specs.declared.answers.decision.Decision.TheVariants.{Quiet, Outcome, Same as IsSame}
+use Rattle.pungi_symbol.specs.declared.answers.decision.Decision.TheVariants.{Quiet, Outcome, Order, Same as IsSame}
 use Rattle.pungi_symbol.specs.declared.states.known.Known.{Known}
 use Rattle.pungi_symbol.specs.declared.questions.question.Question.{Question}
 use Rattle.pungi_symbol.specs.declared.questions.question.Question.TheVariants.{Does, Touches, Overwrites}
 use Rattle.pungi_symbol.specs.declared.questions.question.Question.TheVariants.{Null as AsksNull, Base, Answers, Same}
-use Rattle.pungi_symbol.specs.declared.questions.question.Question.TheVariants.{Returns, Stops, Over}
+use Rattle.pungi_symbol.specs.declared.questions.question.Question.TheVariants.{Orders, Range, Unplain, Returns}
+use Rattle.pungi_symbol.specs.declared.questions.question.Question.TheVariants.{Stops, Over}
 use Rattle.pungi_symbol.specs.declared.states.spot.Progress.{Progress}
 use Rattle.pungi_symbol.specs.declared.states.spot.Progress.TheVariants.{Looking, Found}
 use Rattle.pungi_symbol.specs.declared.states.spot.Spot.{Spot}
 use Rattle.pungi_symbol.specs.declared.states.spot.Spot.TheVariants.{Global, Field}
 use Rattle.pungi_symbol.specs.declared.states.spot.Touched.{Touched}
 use Rattle.pungi_symbol.specs.declared.states.state.State.{State}
-use Rattle.pungi_symbol.specs.states.Terms.{Table, at, content_of, outcomes_of_mark, outcomes_of_answer, place_of}
+use Rattle.pungi_symbol.specs.states.Terms.{Table, at, content_of, sum_value, outcomes_of_mark, outcomes_of_answer}
+use Rattle.pungi_symbol.specs.states.Terms.{place_of}
 use Rattle.pungi_symbol.specs.states.Known.{count, mark_of}
 use Rattle.pungi_symbol.specs.answers.KnownAfter.{instr_of}
+use Rattle.pungi_symbol.specs.answers.SymbolicState.{range_place}
 use Rattle.pungi_symbol.specs.runs.Fits.{FitsState, named}
 
 abbrev pub number_of_object : Value → ℕ
@@ -92,6 +96,9 @@ answer table k (AsksNull t) = Outcome (place_of (outcomes_of_mark (mark_of k t))
 answer table k (Base t u i) = IsSame (is_equal (at table t) (at table u))
 answer table k (Answers a) = Outcome (place_of (outcomes_of_answer a) (at table (count k)))
 answer table k (Same t u) = IsSame (is_equal (at table t) (at table u))
+answer table k (Orders a b) = Order (int_cmp (sum_value table a) (sum_value table b))
+answer table k (Range kind a) = Outcome (range_place kind (sum_value table a))
+answer table k Unplain = Quiet
 answer table k (Returns x) = Quiet
 answer table k (Stops d) = d
 answer table k Over = Quiet

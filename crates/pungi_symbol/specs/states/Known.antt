@@ -5,6 +5,7 @@
 --   known_value k x            the value of a term as far as it is known; an object is any one
 --   number k x                 a term as a number
 --   object_mark, object_of     the token that is known to be an object, of a mark; of a term
+--   sum_of_mark, sum_in            the number that a token stands for, as a sum; the one that a term stands for
 --   number_in x                the number that a term is
 --   no_slot, slot_note         the touched slot at a place, and what stands where none is
 --   is_global, is_field        a touched slot is this global, or this field of some object
@@ -13,7 +14,8 @@
 --   find_token, find_field, find    where the slot of an instruction is: of a token, of a term, of a place
 --   found_at, held_in          the place that was found, and what the slot there holds
 --   token_in, spot_of          the slot of a place, with the token of its base
-use Rattle.std.specs.Prelude.{ℕ, ◌+◌, ◌==◌, ℤ, Bool, false, ◌&&◌, List, length, drop, position, Option, Some, None}
+use Rattle.std.specs.Prelude.{ℕ, suc, ◌+◌, ◌==◌, ℤ, pos, Bool, false, ◌&&◌, List, length, drop, position, Option}
+use Rattle.std.specs.Prelude.{Some, None}
 use Rattle.std.specs.Prelude.{get_or}
 use Rattle.pungi_base.specs.declared.names.Name.{Name}
 use Rattle.pungi_base.specs.declared.value.Value.{Value}
@@ -29,15 +31,16 @@ use Rattle.pungi_symbol.specs.declared.questions.found_slot.Finding.TheVariants.
 use Rattle.pungi_symbol.specs.declared.states.known.Known.{Known}
 use Rattle.pungi_symbol.specs.declared.states.mark.Mark.{Mark}
 use Rattle.pungi_symbol.specs.declared.states.mark.Mark.TheVariants.{Pointer, TextPointer, IsNull, IsObject, IsText}
-use Rattle.pungi_symbol.specs.declared.states.mark.Mark.TheVariants.{IsNumber}
+use Rattle.pungi_symbol.specs.declared.states.mark.Mark.TheVariants.{IsNumber, Integer}
 use Rattle.pungi_symbol.specs.declared.questions.question.Question.TheVariants as asks
 use Rattle.pungi_symbol.specs.declared.states.spot.Progress.{Progress}
 use Rattle.pungi_symbol.specs.declared.states.spot.Progress.TheVariants.{Looking, Found}
 use Rattle.pungi_symbol.specs.declared.states.spot.Spot.{Spot}
 use Rattle.pungi_symbol.specs.declared.states.spot.Spot.TheVariants.{Global, Field}
 use Rattle.pungi_symbol.specs.declared.states.spot.Touched.{Touched}
+use Rattle.pungi_symbol.specs.declared.states.sum.Sum.{Sum as SumOf}
 use Rattle.pungi_symbol.specs.declared.states.term.Term.{Term}
-use Rattle.pungi_symbol.specs.declared.states.term.Term.TheVariants.{Unset, Null, Text, Number, Token}
+use Rattle.pungi_symbol.specs.declared.states.term.Term.TheVariants.{Unset, Null, Text, Number, Token, Sum}
 use Rattle.pungi_symbol.specs.states.Terms.{value_of_mark}
 
 abbrev pub count : Known → ℕ
@@ -62,6 +65,7 @@ known_value k Null = value.Null
 known_value k Text = value.Text
 known_value k (Number n) = value.Int n
 known_value k (Token t) = value_of_mark (mark_of k t)
+known_value k (Sum s) = value.Int (pos 0)
 
 abbrev pub number : Known → Term → ℤ
 number k x = number_of (known_value k x)
@@ -73,6 +77,7 @@ object_mark IsNull t = None
 object_mark IsObject t = Some t
 object_mark IsText t = None
 object_mark (IsNumber n) t = None
+object_mark (Integer r) t = None
 
 abbrev pub object_of : Known → Term → Option ℕ
 object_of k Unset = None
@@ -80,6 +85,7 @@ object_of k Null = None
 object_of k Text = None
 object_of k (Number n) = None
 object_of k (Token t) = object_mark (mark_of k t) t
+object_of k (Sum s) = None
 
 abbrev pub number_in : Term → Option ℤ
 number_in Unset = None
@@ -87,6 +93,24 @@ number_in Null = None
 number_in Text = None
 number_in (Number n) = Some n
 number_in (Token t) = None
+number_in (Sum s) = None
+
+abbrev pub sum_of_mark : Mark → ℕ → Option SumOf
+sum_of_mark Pointer t = None
+sum_of_mark TextPointer t = None
+sum_of_mark IsNull t = None
+sum_of_mark IsObject t = None
+sum_of_mark IsText t = None
+sum_of_mark (IsNumber n) t = None
+sum_of_mark (Integer r) t = Some (record { node = suc t; plus = pos 0 })
+
+abbrev pub sum_in : Known → Term → Option SumOf
+sum_in k Unset = None
+sum_in k Null = None
+sum_in k Text = None
+sum_in k (Number n) = Some (record { node = 0; plus = n })
+sum_in k (Token t) = sum_of_mark (mark_of k t) t
+sum_in k (Sum s) = Some s
 
 -- ---- slots
 
@@ -128,6 +152,7 @@ find_token k t IsNull tag field = Waits (asks.Stops Quiet)
 find_token k t IsObject tag field = seek k.progress t tag field k.slots
 find_token k t IsText tag field = Waits (asks.Stops Quiet)
 find_token k t (IsNumber n) tag field = Waits (asks.Stops Quiet)
+find_token k t (Integer r) tag field = Waits (asks.Stops Quiet)
 
 abbrev pub find_field : Known → Term → Name → Name → Finding
 find_field k Unset tag field = Waits (asks.Stops Quiet)
@@ -135,6 +160,7 @@ find_field k Null tag field = Waits (asks.Stops Quiet)
 find_field k Text tag field = Waits (asks.Stops Quiet)
 find_field k (Number n) tag field = Waits (asks.Stops Quiet)
 find_field k (Token t) tag field = find_token k t (mark_of k t) tag field
+find_field k (Sum s) tag field = Waits (asks.Stops Quiet)
 
 abbrev pub find : Known → Place → Finding
 find k (places.Global n kind) = at_place (position (λ s. is_global n s.spot) k.slots)
@@ -155,6 +181,7 @@ token_in Null = 0
 token_in Text = 0
 token_in (Number n) = 0
 token_in (Token t) = t
+token_in (Sum s) = 0
 
 abbrev pub spot_of : Known → Place → Spot
 spot_of k (places.Global n kind) = Global n

@@ -1,6 +1,9 @@
 -- What tokens stand for, and what is known of them.
 --   Table                    the values of the tokens: the static objects, then the arguments, then the choices
 --   at table t               the value of a token
+--   low_of, high_of r        the least and the greatest number of a range
+--   node_value table n       the number at a node: 0 at node 0, that of the token n at node n + 1
+--   sum_value table s        the number that a sum stands for
 --   content_of table x       what a term stands for
 --   is_mark m v              a mark is true of a value
 --   outcomes_of_mark m       the answers to whether a token is NULL, in order
@@ -8,7 +11,8 @@
 --   place_of ms v            the number of the answer that a value is
 --   mark_at ms k             the mark that an answer leaves
 --   value_of_mark m          a value that a mark is true of, where it is known what the value is
-use Rattle.std.specs.Prelude.{ℕ, suc, pos, negsuc, Bool, true, false, List, [], ◌∷◌, get_or, if◌then◌else◌}
+use Rattle.std.specs.Prelude.{ℕ, zero, suc, ◌-◌, ◌^◌, ℤ, pos, negsuc, ◌+ℤ◌, Bool, true, false, List, [], ◌∷◌, get_or}
+use Rattle.std.specs.Prelude.{if◌then◌else◌}
 use Rattle.std.specs.Ordering.{int_eq}
 use Rattle.pungi_base.specs.declared.value.Value.{Value}
 use Rattle.pungi_base.specs.declared.value.Value.TheVariants as value
@@ -16,11 +20,16 @@ use Rattle.pungi_api.specs.declared.answer.Answer.{Answer}
 use Rattle.pungi_api.specs.declared.answer.Answer.TheVariants as answer
 use Rattle.pungi_world.specs.declared.content.Content.{Content}
 use Rattle.pungi_world.specs.declared.content.Content.TheVariants as content
+use Rattle.pungi_world.specs.Choices.{is_between}
+use Rattle.pungi_meaning.specs.Values.{number_of}
+use Rattle.pungi_symbol.specs.declared.states.integer_range.IntegerRange.{IntegerRange}
+use Rattle.pungi_symbol.specs.declared.states.integer_range.IntegerRange.TheVariants as ranges
+use Rattle.pungi_symbol.specs.declared.states.sum.Sum.{Sum as SumOf}
 use Rattle.pungi_symbol.specs.declared.states.term.Term.{Term}
-use Rattle.pungi_symbol.specs.declared.states.term.Term.TheVariants.{Unset, Null, Text, Number, Token}
+use Rattle.pungi_symbol.specs.declared.states.term.Term.TheVariants.{Unset, Null, Text, Number, Token, Sum}
 use Rattle.pungi_symbol.specs.declared.states.mark.Mark.{Mark}
 use Rattle.pungi_symbol.specs.declared.states.mark.Mark.TheVariants.{Pointer, TextPointer, IsNull, IsObject, IsText}
-use Rattle.pungi_symbol.specs.declared.states.mark.Mark.TheVariants.{IsNumber}
+use Rattle.pungi_symbol.specs.declared.states.mark.Mark.TheVariants.{IsNumber, Integer}
 
 abbrev pub Table : Type 0
 Table = List Value
@@ -28,12 +37,30 @@ Table = List Value
 abbrev pub at : Table → ℕ → Value
 at table t = get_or table t value.Null
 
+abbrev pub low_of : IntegerRange → ℤ
+low_of ranges.Int = negsuc (2 ^ 31 - 1)
+low_of ranges.Long = negsuc (2 ^ 63 - 1)
+low_of ranges.SizeOrError = negsuc 0
+
+abbrev pub high_of : IntegerRange → ℤ
+high_of ranges.Int = pos (2 ^ 31 - 1)
+high_of ranges.Long = pos (2 ^ 63 - 1)
+high_of ranges.SizeOrError = pos (2 ^ 63 - 1)
+
+abbrev pub node_value : Table → ℕ → ℤ
+node_value table zero = pos 0
+node_value table (suc t) = number_of (at table t)
+
+abbrev pub sum_value : Table → SumOf → ℤ
+sum_value table s = node_value table s.node +ℤ s.plus
+
 abbrev pub content_of : Table → Term → Content
 content_of table Unset = content.Unset
 content_of table Null = content.Holds value.Null
 content_of table Text = content.Holds value.Text
 content_of table (Number n) = content.Holds (value.Int n)
 content_of table (Token t) = content.Holds (at table t)
+content_of table (Sum s) = content.Holds (value.Int (sum_value table s))
 
 abbrev pub is_mark : Mark → Value → Bool
 is_mark Pointer value.Null = true
@@ -60,6 +87,10 @@ is_mark (IsNumber m) value.Null = false
 is_mark (IsNumber m) (value.Object k) = false
 is_mark (IsNumber m) (value.Int n) = int_eq n m
 is_mark (IsNumber m) value.Text = false
+is_mark (Integer r) value.Null = false
+is_mark (Integer r) (value.Object k) = false
+is_mark (Integer r) (value.Int n) = is_between (low_of r) (high_of r) n
+is_mark (Integer r) value.Text = false
 
 abbrev pub outcomes_of_mark : Mark → List Mark
 outcomes_of_mark Pointer = IsNull ∷ IsObject ∷ []
@@ -68,8 +99,10 @@ outcomes_of_mark IsNull = []
 outcomes_of_mark IsObject = []
 outcomes_of_mark IsText = []
 outcomes_of_mark (IsNumber n) = []
+outcomes_of_mark (Integer r) = Integer r ∷ []
 
--- a call that always returns an object has one outcome; sizes and other numbers have none here
+-- a call that always returns an object has one outcome, and so has one that returns a number which answers don't tell
+-- apart
 abbrev pub outcomes_of_answer : Answer → List Mark
 outcomes_of_answer answer.New = IsNull ∷ IsObject ∷ []
 outcomes_of_answer answer.Borrowed = IsNull ∷ IsObject ∷ []
@@ -77,9 +110,9 @@ outcomes_of_answer answer.BorrowedSure = IsObject ∷ []
 outcomes_of_answer answer.Status = IsNumber (pos 0) ∷ IsNumber (negsuc 0) ∷ []
 outcomes_of_answer answer.Truth = IsNumber (pos 1) ∷ IsNumber (pos 0) ∷ IsNumber (negsuc 0) ∷ []
 outcomes_of_answer answer.Text = IsNull ∷ IsText ∷ []
-outcomes_of_answer answer.Size = []
-outcomes_of_answer answer.Int = []
-outcomes_of_answer answer.Long = []
+outcomes_of_answer answer.Size = Integer ranges.SizeOrError ∷ []
+outcomes_of_answer answer.Int = Integer ranges.Int ∷ []
+outcomes_of_answer answer.Long = Integer ranges.Long ∷ []
 outcomes_of_answer answer.Void = []
 outcomes_of_answer answer.Null = []
 
@@ -97,3 +130,4 @@ value_of_mark IsNull = value.Null
 value_of_mark IsObject = value.Object 0
 value_of_mark IsText = value.Text
 value_of_mark (IsNumber n) = value.Int n
+value_of_mark (Integer r) = value.Int (pos 0)

@@ -1,13 +1,17 @@
 // Which answers a question still has in a state.
 ghost use Rattle.std.specs.Prelude.{◌≡◌, ◌||◌, not};
 ghost use Rattle.pungi_symbol.specs.answers.SymbolicState.{is_order, is_decision, is_outcome, are_one, are_other};
-ghost use Rattle.pungi_symbol.specs.answers.SymbolicState.{can_same, can};
+ghost use Rattle.pungi_symbol.specs.answers.SymbolicState.{can_same, is_any_order, can_order, range_place, can_range};
+ghost use Rattle.pungi_symbol.specs.answers.SymbolicState.{can};
 
 use crate::answers::decision::Decision;
+use crate::answers::limits::{high_limit, low_limit};
 use crate::answers::outcomes::{outcomes_after, outcomes_of_call};
 use crate::questions::question::Question;
 use crate::states::balances::is_other;
 use crate::states::state::State;
+use crate::states::sum::Sum;
+use pungi_types::ValueKind;
 use std::cmp::Ordering;
 
 fn is_same_order(a: Ordering, b: Ordering) -> bool
@@ -80,6 +84,51 @@ fn is_an_outcome(n: u32, d: Decision) -> bool
     }
 }
 
+fn is_any_order(d: Decision) -> bool
+    ensures { result ≡ is_any_order d }
+{
+    match d {
+        Decision::Order(_) => true,
+        Decision::Quiet => false,
+        Decision::Outcome(_) => false,
+        Decision::Same(_) => false,
+    }
+}
+
+/// Whether two sums may compare so. Those of one token compare as their constants do.
+fn can_order(a: Sum, b: Sum, d: Decision) -> bool
+    ensures { result ≡ can_order a b d }
+{
+    if a.node == b.node {
+        is_this_decision(Decision::Order(a.plus.cmp(&b.plus)), d)
+    } else {
+        is_any_order(d)
+    }
+}
+
+fn range_place(kind: ValueKind, n: i128) -> u32
+    ensures { result ≡ range_place kind n }
+{
+    if low_limit(kind) <= n && n <= high_limit(kind) {
+        1
+    } else if n < 0 {
+        0
+    } else {
+        2
+    }
+}
+
+/// Whether a sum may be there in the range of a kind. One of no token is where its constant is.
+fn can_range(kind: ValueKind, a: Sum, d: Decision) -> bool
+    ensures { result ≡ can_range kind a d }
+{
+    if a.node == 0 {
+        is_this_decision(Decision::Outcome(range_place(kind, a.plus)), d)
+    } else {
+        is_an_outcome(3, d)
+    }
+}
+
 impl State {
     /// Whether two tokens may be one object.
     fn can_be_one(&self, t: usize, u: usize) -> bool
@@ -114,6 +163,9 @@ impl State {
             Question::Base(t, u, _) => self.can_same(t, u, d),
             Question::Answers(answer) => is_an_outcome(outcomes_of_call(answer), d),
             Question::Same(t, u) => self.can_same(t, u, d),
+            Question::Orders(a, b) => can_order(a, b, d),
+            Question::Range(kind, a) => can_range(kind, a, d),
+            Question::Unplain => is_this_decision(Decision::Quiet, d),
             Question::Returns(_) => is_this_decision(Decision::Quiet, d),
             Question::Stops(told) => is_this_decision(told, d),
             Question::Over => false,

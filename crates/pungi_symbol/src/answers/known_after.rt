@@ -1,30 +1,35 @@
 // What is known after an answer to a question.
-ghost use Rattle.std.specs.Prelude.{◌≡◌, ◌+◌, ◌<◌, ◌^◌, OnOk, Some, length, slice_get, slice_set, if◌then◌else◌};
+ghost use Rattle.std.specs.Prelude.{◌≡◌, ◌+◌, ◌==◌, ◌<◌, ◌^◌, OnOk, Some, length, slice_get, slice_set, if◌then◌else◌};
 ghost use Rattle.pungi_code.specs.declared.instr.Instr.TheVariants.{Load as LoadOf, Store as StoreOf};
 ghost use Rattle.pungi_code.specs.declared.instr.Instr.TheVariants.{Compare as CompareOf};
 ghost use Rattle.pungi_symbol.specs.declared.states.known.Status.TheVariants.{Returned as IsReturned};
 ghost use Rattle.pungi_symbol.specs.declared.states.known.Status.TheVariants.{Stopped as IsStopped};
+ghost use Rattle.pungi_symbol.specs.declared.states.known.Status.TheVariants.{NumberSeen as IsNumberSeen};
 ghost use Rattle.pungi_symbol.specs.states.Terms.{outcomes_of_mark, outcomes_of_answer, mark_at};
 ghost use Rattle.pungi_symbol.specs.states.Known.{count, mark_of};
 ghost use Rattle.pungi_symbol.specs.answers.KnownAfter.{go_on, put, arrive, compares_same, comparison_var};
 ghost use Rattle.pungi_symbol.specs.answers.KnownAfter.{comparison_term, put_answer, term_with, call_var, touch};
 ghost use Rattle.pungi_symbol.specs.answers.KnownAfter.{load_first, store_first, does, perform_line, place_of_line};
-ghost use Rattle.pungi_symbol.specs.answers.KnownAfter.{instr_of, go, number_of_outcome, says_same};
+ghost use Rattle.pungi_symbol.specs.answers.KnownAfter.{instr_of, go, number_of_outcome, says_same, ordered, computed};
 ghost use Rattle.pungi_symbol.specs.questions.NextQuestion.{IsPlaced};
 
 use crate::answers::decision::Decision;
-use crate::answers::outcomes::{mark_after, mark_of_answer, number_of_outcome, says_same};
+use crate::answers::outcomes::{
+    mark_after, mark_of_answer, number_of_outcome, says_order, says_same,
+};
 use crate::answers::perform::truth_term;
 use crate::questions::next_question::line_at;
 use crate::questions::question::Question;
 use crate::states::known::{Known, Status};
 use crate::states::mark::Mark;
 use crate::states::spot::{Progress, Spot, Touched};
+use crate::states::sum::Sum;
 use crate::states::term::Term;
 use pungi_api::Answer;
 use pungi_base::{Memory, Pos, Value};
 use pungi_code::{Atom, Instr, Line, Place, Var};
 use pungi_meaning::Cmp;
+use std::cmp::Ordering;
 
 /// A comparison of two objects.
 fn compares_same(cmp: Cmp, same: bool) -> bool
@@ -44,6 +49,7 @@ fn term_with(m: Mark, t: usize) -> Term
         Mark::IsObject => Term::Token(t),
         Mark::IsText => Term::Text,
         Mark::IsNumber(n) => Term::Number(n),
+        Mark::Integer(_) => Term::Token(t),
     }
 }
 
@@ -250,6 +256,43 @@ impl Known {
         self.status = Status::Stopped(place_of_line(code, self.pc));
     }
 
+    fn sees_number(&mut self, code: &[Line])
+        ensures { self.new ≡ record self.old {
+          status = IsNumberSeen (place_of_line (slice_get code.now self.old.pc));
+        } }
+    {
+        self.status = Status::NumberSeen(place_of_line(code, self.pc));
+    }
+
+    fn take_order(&mut self, code: &[Line], order: Ordering)
+        ensures { self.new ≡ ordered (instr_of (slice_get code.now self.old.pc)) order self.old }
+    {
+        match line_at(code, self.pc) {
+            None => {}
+            Some(line) => self.order(&line.instr, order),
+        }
+    }
+
+    fn take_range(&mut self, code: &[Line], a: Sum, k: u32)
+        ensures { self.new ≡ (if k == 1 then computed (instr_of (slice_get code.now self.old.pc)) a self.old else
+            record self.old { status = IsStopped (place_of_line (slice_get code.now self.old.pc)) }) }
+    {
+        if k == 1 {
+            self.compute_line(code, a);
+        } else {
+            self.stops(code);
+        }
+    }
+
+    fn compute_line(&mut self, code: &[Line], a: Sum)
+        ensures { self.new ≡ computed (instr_of (slice_get code.now self.old.pc)) a self.old }
+    {
+        match line_at(code, self.pc) {
+            None => {}
+            Some(line) => self.compute(&line.instr, a),
+        }
+    }
+
     /// What is known after an answer to a question.
     pub fn go(&mut self, code: &[Line], q: Question, d: Decision) -> Result<(), Memory>
         requires placed { IsPlaced code.now self.old q }
@@ -275,6 +318,18 @@ impl Known {
             Question::Answers(answer) => self.take_answer(code, mark_of_answer(answer, k)),
             Question::Same(_, _) => {
                 self.take_same(code, same);
+                Ok(())
+            }
+            Question::Orders(_, _) => {
+                self.take_order(code, says_order(d));
+                Ok(())
+            }
+            Question::Range(_, a) => {
+                self.take_range(code, a, k);
+                Ok(())
+            }
+            Question::Unplain => {
+                self.sees_number(code);
                 Ok(())
             }
             Question::Returns(x) => {

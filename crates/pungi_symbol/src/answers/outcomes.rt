@@ -1,11 +1,13 @@
 // The answers to a question, by their numbers.
 ghost use Rattle.std.specs.Prelude.{◌≡◌, ◌∷◌, [], length};
 ghost use Rattle.pungi_symbol.specs.states.Terms.{outcomes_of_mark, outcomes_of_answer, mark_at};
-ghost use Rattle.pungi_symbol.specs.answers.KnownAfter.{number_of_outcome, says_same};
+ghost use Rattle.pungi_symbol.specs.answers.KnownAfter.{number_of_outcome, says_same, says_order};
 
 use crate::answers::decision::Decision;
+use crate::states::integer_range::IntegerRange;
 use crate::states::mark::Mark;
 use pungi_api::Answer;
+use std::cmp::Ordering;
 
 /// The number of an answer.
 pub fn number_of_outcome(d: Decision) -> u32
@@ -28,6 +30,18 @@ pub fn says_same(d: Decision) -> bool
         Decision::Outcome(_) => false,
         Decision::Quiet => false,
         Decision::Order(_) => false,
+    }
+}
+
+/// How two numbers compare, by an answer.
+pub fn says_order(d: Decision) -> Ordering
+    ensures { result ≡ says_order d }
+{
+    match d {
+        Decision::Order(o) => o,
+        Decision::Outcome(_) => Ordering::Equal,
+        Decision::Quiet => Ordering::Equal,
+        Decision::Same(_) => Ordering::Equal,
     }
 }
 
@@ -60,6 +74,7 @@ pub fn mark_after(m: Mark, k: u32) -> Mark
         Mark::IsObject => Mark::IsNull,
         Mark::IsText => Mark::IsNull,
         Mark::IsNumber(_) => Mark::IsNull,
+        Mark::Integer(_) => one_mark(m, k),
     }
 }
 
@@ -74,6 +89,7 @@ pub fn outcomes_after(m: Mark) -> u32
         Mark::IsObject => 0,
         Mark::IsText => 0,
         Mark::IsNumber(_) => 0,
+        Mark::Integer(_) => 1,
     }
 }
 
@@ -90,9 +106,9 @@ pub fn mark_of_answer(answer: Answer, k: u32) -> Mark
             one_of_three(Mark::IsNumber(1), Mark::IsNumber(0), Mark::IsNumber(-1), k)
         }
         Answer::Text => one_of_two(Mark::IsNull, Mark::IsText, k),
-        Answer::Size => Mark::IsNull,
-        Answer::Int => Mark::IsNull,
-        Answer::Long => Mark::IsNull,
+        Answer::Size => one_mark(Mark::Integer(IntegerRange::SizeOrError), k),
+        Answer::Int => one_mark(Mark::Integer(IntegerRange::Int), k),
+        Answer::Long => one_mark(Mark::Integer(IntegerRange::Long), k),
         Answer::Void => Mark::IsNull,
         Answer::Null => Mark::IsNull,
     }
@@ -109,9 +125,9 @@ pub fn outcomes_of_call(answer: Answer) -> u32
         Answer::Status => 2,
         Answer::Truth => 3,
         Answer::Text => 2,
-        Answer::Size => 0,
-        Answer::Int => 0,
-        Answer::Long => 0,
+        Answer::Size => 1,
+        Answer::Int => 1,
+        Answer::Long => 1,
         Answer::Void => 0,
         Answer::Null => 0,
     }

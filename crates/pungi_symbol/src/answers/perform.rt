@@ -1,5 +1,7 @@
 // What is known after an instruction's work is done.
-ghost use Rattle.std.specs.Prelude.{◌≡◌, ◌+◌, ◌<◌, ◌^◌};
+ghost use Rattle.std.specs.Prelude.{◌≡◌, ◌+◌, ◌<◌, ◌^◌, if◌then◌else◌};
+ghost use Rattle.pungi_base.specs.declared.value.Value.TheVariants.{Int as IntOf};
+ghost use Rattle.pungi_meaning.specs.Values.{is_true};
 ghost use Rattle.pungi_code.specs.declared.instr.Instr.TheVariants.{Arith as ArithOf, Fit as FitOf};
 ghost use Rattle.pungi_code.specs.declared.instr.Instr.TheVariants.{Compare as CompareOf, Load as LoadOf};
 ghost use Rattle.pungi_code.specs.declared.instr.Instr.TheVariants.{Store as StoreOf, Api as ApiOf, Branch as BranchOf};
@@ -7,21 +9,43 @@ ghost use Rattle.pungi_symbol.specs.states.Known.{find, found_at, term_of};
 ghost use Rattle.pungi_symbol.specs.questions.NextQuestion.{first_term, terms_of};
 ghost use Rattle.pungi_symbol.specs.answers.KnownAfter.{go_on, go_to, put, truth_term, compares, number_there};
 ghost use Rattle.pungi_symbol.specs.answers.KnownAfter.{put_answer, answer_of_row, answer_of_call, store_at, does};
+ghost use Rattle.pungi_symbol.specs.answers.KnownAfter.{order_number, holds_order, ordered, computed};
 
 use crate::questions::slot_search::place_found;
 use crate::states::known::Known;
 use crate::states::spot::{Progress, Touched};
+use crate::states::sum::Sum;
 use crate::states::term::Term;
 use pungi_api::{Answer, CallAnswer};
+use pungi_base::Value;
 use pungi_code::{Atom, Instr, Label, Place, Var};
 use pungi_meaning::{Cmp, Op, arithmetic, is_true, number_of, truth};
 use pungi_types::ValueKind;
+use std::cmp::Ordering;
 
 /// What a comparison gives.
 pub fn truth_term(holds: bool) -> Term
     ensures { result ≡ truth_term holds }
 {
     Term::Number(number_of(truth(holds)))
+}
+
+/// A number that compares so with 0.
+fn order_number(order: Ordering) -> i64
+    ensures { result ≡ order_number order }
+{
+    match order {
+        Ordering::Less => -1,
+        Ordering::Equal => 0,
+        Ordering::Greater => 1,
+    }
+}
+
+/// A comparison of two numbers that compare so.
+fn holds_order(cmp: Cmp, order: Ordering) -> bool
+    ensures { result ≡ holds_order cmp order }
+{
+    cmp.holds(Value::Int(order_number(order)), Value::Int(0))
 }
 
 fn number_there(n: Option<i64>) -> i64
@@ -181,6 +205,47 @@ impl Known {
             self.go_to(this);
         } else {
             self.go_to(other);
+        }
+    }
+
+    fn order_compare(&mut self, x: Var, cmp: Cmp, order: Ordering)
+        requires room { self.old.pc + 1 < 2 ^ 64 }
+        ensures { self.new ≡ go_on (put x.0 (truth_term (holds_order cmp order)) self.old) }
+    {
+        self.assign(x.0, truth_term(holds_order(cmp, order)));
+    }
+
+    fn order_branch(&mut self, this: Label, other: Label, order: Ordering)
+        ensures { self.new ≡ go_to (if is_true (IntOf (order_number order)) then this.0 else other.0) self.old }
+    {
+        if is_true(Value::Int(order_number(order))) {
+            self.go_to(this);
+        } else {
+            self.go_to(other);
+        }
+    }
+
+    /// An instruction goes on where two numbers compare so.
+    pub fn order(&mut self, instr: &Instr, order: Ordering)
+        requires room { self.old.pc + 1 < 2 ^ 64 }
+        ensures { self.new ≡ ordered instr.now order self.old }
+    {
+        match instr {
+            Instr::Compare(x, cmp, _, _) => self.order_compare(*x, *cmp, order),
+            Instr::Branch(_, this, other) => self.order_branch(*this, *other, order),
+            _ => {}
+        }
+    }
+
+    /// The result of an instruction is this sum.
+    pub fn compute(&mut self, instr: &Instr, a: Sum)
+        requires room { self.old.pc + 1 < 2 ^ 64 }
+        ensures { self.new ≡ computed instr.now a self.old }
+    {
+        match instr {
+            Instr::Arith(x, _, _, _, _) => self.assign(x.0, Term::Sum(a)),
+            Instr::Fit(x, _, _) => self.assign(x.0, Term::Sum(a)),
+            _ => {}
         }
     }
 

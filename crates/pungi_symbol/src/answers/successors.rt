@@ -1,6 +1,7 @@
 // The states after the answers to the next question.
 ghost use Rattle.std.specs.Prelude.{◌≡◌, ◌++◌, ◌∷◌, [], true, false, Some, slice_get, IfOk, OnOk};
-ghost use Rattle.pungi_symbol.specs.declared.answers.decision.Decision.TheVariants.{Same as IsSame};
+ghost use Rattle.pungi_symbol.specs.declared.answers.decision.Decision.TheVariants.{Order as IsOrder, Same as IsSame};
+ghost use Rattle.std.specs.declared.cmp.Ordering.TheVariants.{Less, Equal, Greater};
 ghost use Rattle.std.specs.List.{flat_map};
 ghost use Rattle.pungi_symbol.specs.answers.SymbolicState.{after_if, after_left, numbered, answers_of};
 ghost use Rattle.pungi_symbol.specs.answers.SymbolicState.{successors};
@@ -16,6 +17,7 @@ use crate::states::sym::Sym;
 use pungi_base::Memory;
 use pungi_code::{Codes, Line};
 use std::alloc::Global;
+use std::cmp::Ordering;
 
 impl State {
     /// The state after an answer is put among the next ones.
@@ -178,6 +180,27 @@ impl State {
         self.put_each(alloc, code, q, &answers, next)
     }
 
+    /// The same of how two numbers compare.
+    fn put_orders(
+        &self,
+        alloc: Global,
+        code: &[Line],
+        q: Question,
+        next: &mut Vec<(Decision, Sym)>,
+    ) -> Result<Option<Decision>, Memory>
+        requires placed { IsPlaced code.now self.now.known q }
+        ensures { IfOk result (λ o. next.new.items ++ after_left (slice_get code.now self.now.known.pc) q self.now o
+            ≡ next.old.items ++ flat_map (after_if (slice_get code.now self.now.known.pc) q self.now)
+            (IsOrder Less ∷ IsOrder Equal ∷ IsOrder Greater ∷ [])) }
+    {
+        let answers = [
+            Decision::Order(Ordering::Less),
+            Decision::Order(Ordering::Equal),
+            Decision::Order(Ordering::Greater),
+        ];
+        self.put_each(alloc, code, q, &answers, next)
+    }
+
     /// The states after all answers but the last one, which is left over.
     fn put_all(
         &self,
@@ -200,6 +223,9 @@ impl State {
                 self.put_numbered(alloc, code, q, outcomes_of_call(answer), next)
             }
             Question::Same(_, _) => self.put_same(alloc, code, q, next),
+            Question::Orders(_, _) => self.put_orders(alloc, code, q, next),
+            Question::Range(_, _) => self.put_numbered(alloc, code, q, 3, next),
+            Question::Unplain => self.put_one(alloc, code, q, Decision::Quiet, next),
             Question::Returns(_) => self.put_one(alloc, code, q, Decision::Quiet, next),
             Question::Stops(d) => self.put_one(alloc, code, q, d, next),
             Question::Over => Ok(None),

@@ -1,17 +1,17 @@
 // What the next instruction asks.
 ghost use Rattle.std.specs.Prelude.{◌≡◌, ◌<◌, MatchOption, None, Some, length, slice_get};
-ghost use Rattle.pungi_code.specs.declared.instr.Instr.TheVariants.{Arith as ArithOf};
 ghost use Rattle.pungi_code.specs.WellFormed.{place_kind};
-ghost use Rattle.pungi_meaning.specs.Values.{arithmetic};
-ghost use Rattle.pungi_symbol.specs.states.Known.{term_of, number, find};
-ghost use Rattle.pungi_symbol.specs.questions.NextQuestion.{asks_set, asks_known, asks_range, is_below, asks_fit};
+ghost use Rattle.pungi_symbol.specs.states.Known.{term_of, number_in, sum_in, find};
+ghost use Rattle.pungi_symbol.specs.questions.NextQuestion.{asks_set, asks_known, sum_of_two, asks_result, asks_arith};
+ghost use Rattle.pungi_symbol.specs.questions.NextQuestion.{asks_conversion};
 ghost use Rattle.pungi_symbol.specs.questions.NextQuestion.{content_mark, asks_load, asks_store, asks_return};
 ghost use Rattle.pungi_symbol.specs.questions.NextQuestion.{asks_instr, asks_line, ask};
 
 use crate::answers::decision::Decision;
+use crate::questions::number_questions::{asks_arith, asks_conversion, asks_result, sum_of_two};
 use crate::questions::question::Question;
-use crate::questions::term_questions::{asks_arith, asks_fit, asks_set, content_mark};
-use crate::states::known::{Known, Status};
+use crate::questions::term_questions::{asks_set, content_mark};
+use crate::states::known::{Known, Status, constant};
 use pungi_api::Param;
 use pungi_code::{Atom, Instr, Line, Place};
 use pungi_meaning::Op;
@@ -48,20 +48,24 @@ impl Known {
 
     fn asks_operator(&self, kind: ValueKind, op: Op, a: Atom, b: Atom) -> Question
         ensures { result ≡ asks_set (term_of self.now a) (asks_set (term_of self.now b)
-            (asks_range (arithmetic op kind (number self.now (term_of self.now a))
-            (number self.now (term_of self.now b))) (is_below op (number self.now (term_of self.now a))
-            (number self.now (term_of self.now b))))) }
+            (asks_arith op kind (number_in (term_of self.now a)) (number_in (term_of self.now b)) (asks_result kind
+            (sum_of_two op (sum_in self.now (term_of self.now a)) (sum_in self.now (term_of self.now b)))))) }
     {
         let (x, y) = (self.term(a), self.term(b));
-        let done = asks_arith(op, kind, self.number(x), self.number(y));
+        let result = asks_result(kind, sum_of_two(op, self.sum(x), self.sum(y)));
+        let done = asks_arith(op, kind, constant(x), constant(y), result);
         asks_set(x, asks_set(y, done))
     }
 
     fn asks_conversion(&self, kind: ValueKind, a: Atom) -> Question
-        ensures { result ≡ asks_set (term_of self.now a) (asks_fit kind (number self.now (term_of self.now a))) }
+        ensures { result ≡ asks_set (term_of self.now a) (asks_conversion kind (number_in (term_of self.now a))
+            (asks_result kind (sum_in self.now (term_of self.now a)))) }
     {
         let x = self.term(a);
-        asks_set(x, asks_fit(kind, self.number(x)))
+        asks_set(
+            x,
+            asks_conversion(kind, constant(x), asks_result(kind, self.sum(x))),
+        )
     }
 
     fn asks_place_load(&self, place: Place) -> Question
@@ -129,6 +133,7 @@ impl Known {
             Status::Going => self.asks_line(code),
             Status::Returned(_, _) => Question::Over,
             Status::Stopped(_) => Question::Over,
+            Status::NumberSeen(_) => Question::Over,
         }
     }
 }

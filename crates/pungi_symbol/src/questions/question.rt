@@ -1,7 +1,9 @@
 use crate::answers::decision::Decision;
 use crate::states::mark::Mark;
+use crate::states::sum::Sum;
 use crate::states::term::Term;
 use pungi_api::Answer;
+use pungi_types::ValueKind;
 
 /// What a run is asked next.
 #[derive(Clone, Copy)]
@@ -20,6 +22,12 @@ pub enum Question {
     Answers(Answer),
     /// Whether two tokens that are compared are the same object.
     Same(usize, usize),
+    /// How two numbers compare.
+    Orders(Sum, Sum),
+    /// Whether a number is below the range of a kind, within it or above it.
+    Range(ValueKind, Sum),
+    /// Nothing: the instruction computes a number that no token and constant add up to.
+    Unplain,
     /// The function returns this.
     Returns(Option<Term>),
     /// The run stops, with this one answer.

@@ -110,6 +110,7 @@ fn token_of(x: Term) -> usize
         Term::Text => 0,
         Term::Number(_) => 0,
         Term::Token(t) => t,
+        Term::Sum(_) => 0,
     }
 }
 
@@ -135,6 +136,7 @@ impl Known {
             Mark::IsObject => sought(self.progress, t, tag, field, self.slots.as_slice()),
             Mark::IsText => Finding::Waits(Question::Stops(Decision::Quiet)),
             Mark::IsNumber(_) => Finding::Waits(Question::Stops(Decision::Quiet)),
+            Mark::Integer(_) => Finding::Waits(Question::Stops(Decision::Quiet)),
         }
     }
 
@@ -147,6 +149,7 @@ impl Known {
             Term::Text => Finding::Waits(Question::Stops(Decision::Quiet)),
             Term::Number(_) => Finding::Waits(Question::Stops(Decision::Quiet)),
             Term::Token(t) => self.seek_token(t, self.mark_of(t), tag, field),
+            Term::Sum(_) => Finding::Waits(Question::Stops(Decision::Quiet)),
         }
     }
 

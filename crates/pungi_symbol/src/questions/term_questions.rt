@@ -1,21 +1,20 @@
 // What the parts of an instruction ask.
 ghost use Rattle.std.specs.Prelude.{◌≡◌, pos, Some};
-ghost use Rattle.pungi_symbol.specs.states.Known.{number_in};
-ghost use Rattle.pungi_meaning.specs.Values.{arithmetic};
+ghost use Rattle.pungi_symbol.specs.states.Known.{number_in, sum_in};
 ghost use Rattle.pungi_symbol.specs.questions.NextQuestion.{asks_set, asks_known, knows_mark, asks_thing, needs_mark};
-ghost use Rattle.pungi_symbol.specs.questions.NextQuestion.{asks_order, asks_same, asks_compare, asks_range, is_below};
-ghost use Rattle.pungi_symbol.specs.questions.NextQuestion.{asks_fit, content_mark, asks_load, asks_store};
+ghost use Rattle.pungi_symbol.specs.questions.NextQuestion.{asks_order, asks_same, asks_compare, asks_sign};
+ghost use Rattle.pungi_symbol.specs.questions.NextQuestion.{content_mark, asks_load, asks_store};
 ghost use Rattle.pungi_symbol.specs.questions.NextQuestion.{asks_dropped, asks_answer};
 
 use crate::answers::decision::Decision;
 use crate::questions::found_slot::Finding;
+use crate::questions::number_questions::{asks_orders, asks_pointers, asks_sign};
 use crate::questions::question::Question;
+use crate::states::integer_range::IntegerRange;
 use crate::states::known::{Known, constant};
 use crate::states::mark::Mark;
 use crate::states::term::Term;
 use pungi_api::{Answer, Param};
-use pungi_meaning::{Op, arithmetic, fits};
-use pungi_types::ValueKind;
 
 /// The step needs a set term.
 pub fn asks_set(x: Term, q: Question) -> Question
@@ -27,6 +26,7 @@ pub fn asks_set(x: Term, q: Question) -> Question
         Term::Text => q,
         Term::Number(_) => q,
         Term::Token(_) => q,
+        Term::Sum(_) => q,
     }
 }
 
@@ -40,6 +40,7 @@ fn knows_mark(m: Mark, t: usize, q: Question) -> Question
         Mark::IsObject => q,
         Mark::IsText => q,
         Mark::IsNumber(_) => q,
+        Mark::Integer(_) => q,
     }
 }
 
@@ -53,6 +54,7 @@ fn needs_mark(m: Mark, t: usize, q: Question) -> Question
         Mark::IsObject => q,
         Mark::IsText => q,
         Mark::IsNumber(_) => q,
+        Mark::Integer(_) => q,
     }
 }
 
@@ -80,26 +82,6 @@ fn asks_same(a: Option<usize>, b: Option<usize>) -> Question
     }
 }
 
-fn asks_range(number: Option<i64>, below: bool) -> Question
-    ensures { result ≡ asks_range number below }
-{
-    match number {
-        Some(_) => Question::Does(Decision::Outcome(1)),
-        None => Question::Stops(Decision::Outcome(if below { 0 } else { 2 })),
-    }
-}
-
-/// A conversion to a kind of integers.
-pub fn asks_fit(kind: ValueKind, n: i64) -> Question
-    ensures { result ≡ asks_fit kind n }
-{
-    if fits(kind, n) {
-        Question::Does(Decision::Outcome(1))
-    } else {
-        Question::Stops(Decision::Outcome(if n < 0 { 0 } else { 2 }))
-    }
-}
-
 /// What is known of what a slot of a kind held at entry.
 pub fn content_mark(kind: Param) -> Mark
     ensures { result ≡ content_mark kind }
@@ -109,9 +91,9 @@ pub fn content_mark(kind: Param) -> Mark
         Param::ObjectOrNull => Mark::Pointer,
         Param::Text => Mark::TextPointer,
         Param::TextOrNull => Mark::TextPointer,
-        Param::Int => Mark::Pointer,
-        Param::Long => Mark::Pointer,
-        Param::Size => Mark::Pointer,
+        Param::Int => Mark::Integer(IntegerRange::Int),
+        Param::Long => Mark::Integer(IntegerRange::Long),
+        Param::Size => Mark::Integer(IntegerRange::Long),
         Param::ModuleDef => Mark::Pointer,
     }
 }
@@ -138,6 +120,7 @@ impl Known {
             Term::Text => q,
             Term::Number(_) => q,
             Term::Token(t) => knows_mark(self.mark_of(t), t, q),
+            Term::Sum(_) => q,
         }
     }
 
@@ -151,6 +134,7 @@ impl Known {
             Term::Text => q,
             Term::Number(_) => q,
             Term::Token(t) => needs_mark(self.mark_of(t), t, q),
+            Term::Sum(_) => q,
         }
     }
 
@@ -158,18 +142,19 @@ impl Known {
     pub fn asks_compare(&self, a: Term, b: Term) -> Question
         ensures { result ≡ asks_compare self.now a b }
     {
-        let same = asks_same(self.object(a), self.object(b));
-        let known = self.asks_known(a, self.asks_known(b, same));
+        let (x, y) = (self.sum(a), self.sum(b));
+        let same = asks_pointers(x, y, asks_same(self.object(a), self.object(b)));
+        let known = asks_orders(x, y, self.asks_known(a, self.asks_known(b, same)));
         asks_order(constant(a), constant(b), known)
     }
 
     /// The condition of a branch.
     pub fn asks_condition(&self, a: Term) -> Question
-        ensures { result ≡ asks_order (number_in a) (Some (pos 0)) (asks_known self.now a
-            (Question.Does Decision.Quiet)) }
+        ensures { result ≡ asks_order (number_in a) (Some (pos 0)) (asks_sign (sum_in self.now a)
+            (asks_known self.now a (Question.Does Decision.Quiet))) }
     {
         let known = self.asks_known(a, Question::Does(Decision::Quiet));
-        asks_order(constant(a), Some(0), known)
+        asks_order(constant(a), Some(0), asks_sign(self.sum(a), known))
     }
 
     /// What a slot held that wasn't set doesn't matter.
@@ -182,6 +167,7 @@ impl Known {
             Term::Text => Question::Does(Decision::Quiet),
             Term::Number(_) => Question::Does(Decision::Quiet),
             Term::Token(t) => knows_mark(self.mark_of(t), t, Question::Does(Decision::Quiet)),
+            Term::Sum(_) => Question::Does(Decision::Quiet),
         }
     }
 
@@ -206,65 +192,4 @@ impl Known {
             Finding::Nowhere => Question::Overwrites(m),
         }
     }
-}
-
-fn is_sum_below(m: i64, n: i64) -> bool
-    ensures { result ≡ is_below Op.Add m n }
-{
-    match m.checked_add(n) {
-        Some(r) => r < 0,
-        None => m < 0,
-    }
-}
-
-fn is_difference_below(m: i64, n: i64) -> bool
-    ensures { result ≡ is_below Op.Sub m n }
-{
-    match m.checked_sub(n) {
-        Some(r) => r < 0,
-        None => m < 0,
-    }
-}
-
-fn is_product_below(m: i64, n: i64) -> bool
-    ensures { result ≡ is_below Op.Mul m n }
-{
-    (m < 0 && n > 0) || (m > 0 && n < 0)
-}
-
-fn is_quotient_below(m: i64, n: i64) -> bool
-    ensures { result ≡ is_below Op.Div m n }
-{
-    match m.checked_div(n) {
-        Some(r) => r < 0,
-        None => false,
-    }
-}
-
-fn is_rest_below(m: i64, n: i64) -> bool
-    ensures { result ≡ is_below Op.Rem m n }
-{
-    match m.checked_rem(n) {
-        Some(r) => r < 0,
-        None => false,
-    }
-}
-
-fn is_result_below(op: Op, m: i64, n: i64) -> bool
-    ensures { result ≡ is_below op m n }
-{
-    match op {
-        Op::Add => is_sum_below(m, n),
-        Op::Sub => is_difference_below(m, n),
-        Op::Mul => is_product_below(m, n),
-        Op::Div => is_quotient_below(m, n),
-        Op::Rem => is_rest_below(m, n),
-    }
-}
-
-/// An arithmetic operator.
-pub fn asks_arith(op: Op, kind: ValueKind, m: i64, n: i64) -> Question
-    ensures { result ≡ asks_range (arithmetic op kind m n) (is_below op m n) }
-{
-    asks_range(arithmetic(op, kind, m, n), is_result_below(op, m, n))
 }

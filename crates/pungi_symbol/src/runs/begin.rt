@@ -124,6 +124,7 @@ pub fn first_state(alloc: Global, statics: u32, f: usize, code: &Code) -> Result
         classes: Seq::new(classes),
         balances: Seq::new(balances),
         others: Seq::new(Vec::new(alloc)),
+        limits: Seq::new(Vec::new(alloc)),
     })
 }
 

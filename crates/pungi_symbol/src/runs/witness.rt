@@ -25,8 +25,8 @@ fn object_number(class: usize) -> Result<u32, Memory>
     Ok(class as u32)
 }
 
-fn value_for(m: Mark, class: u32) -> Value
-    ensures { result ≡ own_value m class }
+fn value_for(m: Mark, class: u32, number: i64) -> Value
+    ensures { result ≡ own_value m class number }
 {
     match m {
         Mark::Pointer => Value::Object(class),
@@ -35,6 +35,7 @@ fn value_for(m: Mark, class: u32) -> Value
         Mark::IsObject => Value::Object(class),
         Mark::IsText => Value::Text,
         Mark::IsNumber(n) => Value::Int(n),
+        Mark::Integer(_) => Value::Int(number),
     }
 }
 
@@ -49,16 +50,16 @@ fn choice_for(value: Value) -> Choice
     }
 }
 
-#[tactic(auto, using(crate::proofs::runs::Canon::own_step, crate::proofs::runs::Canon::own_end))]
-fn own_table(alloc: Global, state: &State) -> Result<Vec<Value>, Memory>
-    ensures { IfOk result (λ table. table.items ≡ canon state.now) }
+#[tactic(auto, using(crate::proofs::runs::Canon::own_end))]
+fn own_table(alloc: Global, state: &State, numbers: &[i64]) -> Result<Vec<Value>, Memory>
+    ensures { IfOk result (λ table. table.items ≡ canon state.now numbers.now) }
 {
     let marks = state.known.marks.as_slice();
     let classes = state.classes.as_slice();
-    let n = smaller_length(marks.len(), classes.len());
+    let n = smaller_length(smaller_length(marks.len(), classes.len()), numbers.len());
     let mut table = Vec::new(alloc);
     for i in 0..n {
-        table.push(value_for(marks[i], object_number(classes[i])?))?;
+        table.push(value_for(marks[i], object_number(classes[i])?, numbers[i]))?;
     }
     Ok(table)
 }
@@ -95,13 +96,15 @@ fn witness_of(
     statics: u32,
     arguments: usize,
     state: &State,
+    numbers: &[i64],
 ) -> Result<Witness, Memory>
     ensures objects { IfOk result (λ w. w.input.objects ≡ count state.now.known) }
     ensures few { IfOk result (λ w. w.input.objects < 2 ^ 31) }
-    ensures args { IfOk result (λ w. w.input.args ≡ take arguments (drop statics (canon state.now))) }
-    ensures choices { IfOk result (λ w. w.choices ≡ map choice_of (drop arguments (drop statics (canon state.now)))) }
+    ensures args { IfOk result (λ w. w.input.args ≡ take arguments (drop statics (canon state.now numbers.now))) }
+    ensures choices { IfOk result (λ w. w.choices
+        ≡ map choice_of (drop arguments (drop statics (canon state.now numbers.now)))) }
 {
-    let table = own_table(alloc, state)?;
+    let table = own_table(alloc, state, numbers)?;
     let came = rest(table.as_slice(), statics as usize);
     let args = Vec::from_slice(alloc, front(came, arguments))?;
     let choices = choices_for(alloc, rest(came, arguments))?;
@@ -114,16 +117,16 @@ fn witness_of(
     })
 }
 
-/// The run of a symbolic state.
-pub fn run_of(alloc: Global, codes: &Codes, state: &Sym) -> Result<Witness, Memory>
+/// The run of a symbolic state in which its numbers are these.
+pub fn run_of(alloc: Global, codes: &Codes, state: &Sym, numbers: &[i64]) -> Result<Witness, Memory>
     ensures objects { IfOk result (λ w. w.input.objects ≡ count state.now.known) }
     ensures few { IfOk result (λ w. w.input.objects < 2 ^ 31) }
     ensures args { IfOk result (λ w. w.input.args ≡ take (option_map_or argument_count
-        (code_at codes.now state.now.known.function) 0) (drop codes.now.statics (canon state.now))) }
+        (code_at codes.now state.now.known.function) 0) (drop codes.now.statics (canon state.now numbers.now))) }
     ensures choices { IfOk result (λ w. w.choices ≡ map choice_of (drop (option_map_or argument_count
-        (code_at codes.now state.now.known.function) 0) (drop codes.now.statics (canon state.now)))) }
+        (code_at codes.now state.now.known.function) 0) (drop codes.now.statics (canon state.now numbers.now)))) }
 {
     let state = state.state();
     let arguments = arguments_of(codes, state.known.function);
-    witness_of(alloc, codes.statics, arguments, state)
+    witness_of(alloc, codes.statics, arguments, state, numbers)
 }

@@ -1,10 +1,12 @@
-ghost use Rattle.std.specs.Prelude.{◌≡◌, IfOk};
+ghost use Rattle.std.specs.Prelude.{◌≡◌, ◌+◌, ◌<◌, ◌^◌, get_or, IfOk};
+ghost use Rattle.pungi_symbol.specs.declared.states.mark.Mark.TheVariants.{IsNull};
 ghost use Rattle.pungi_symbol.specs.states.Terms.{value_of_mark};
 ghost use Rattle.pungi_symbol.specs.states.Known.{mark_of, variable, term_of, known_value, number, object_mark};
-ghost use Rattle.pungi_symbol.specs.states.Known.{object_of, number_in, slot_note};
+ghost use Rattle.pungi_symbol.specs.states.Known.{object_of, number_in, sum_of_mark, sum_in, slot_note};
 
 use crate::states::mark::Mark;
 use crate::states::spot::{Progress, Spot, Touched};
+use crate::states::sum::Sum;
 use crate::states::term::Term;
 use pungi_base::{Memory, Name, Pos, Seq, Value};
 use pungi_code::Atom;
@@ -18,6 +20,8 @@ pub enum Status {
     /// At this place, with this value.
     Returned(Pos, Option<Term>),
     Stopped(Pos),
+    /// It goes on, but the instruction at this place computes a number that no token and constant add up to.
+    NumberSeen(Pos),
 }
 
 /// What is known at a step of a run.
@@ -46,6 +50,7 @@ fn value_of_mark(m: Mark) -> Value
         Mark::IsObject => Value::Object(0),
         Mark::IsText => Value::Text,
         Mark::IsNumber(n) => Value::Int(n),
+        Mark::Integer(_) => Value::Int(0),
     }
 }
 
@@ -60,6 +65,7 @@ fn object_mark(m: Mark, t: usize) -> Option<usize>
         Mark::IsObject => Some(t),
         Mark::IsText => None,
         Mark::IsNumber(_) => None,
+        Mark::Integer(_) => None,
     }
 }
 
@@ -73,6 +79,37 @@ pub fn constant(x: Term) -> Option<i64>
         Term::Text => None,
         Term::Number(n) => Some(n),
         Term::Token(_) => None,
+        Term::Sum(_) => None,
+    }
+}
+
+/// The number that a token with this mark stands for, where it is one.
+fn sum_of_mark(m: Mark, t: usize) -> Option<Sum>
+    requires room { t + 1 < 2 ^ 64 }
+    ensures { result ≡ sum_of_mark m t }
+{
+    match m {
+        Mark::Pointer => None,
+        Mark::TextPointer => None,
+        Mark::IsNull => None,
+        Mark::IsObject => None,
+        Mark::IsText => None,
+        Mark::IsNumber(_) => None,
+        Mark::Integer(_) => Some(Sum {
+            node: t + 1,
+            plus: 0,
+        }),
+    }
+}
+
+/// The number that a token stands for, where it is one.
+fn sum_of_token(marks: &[Mark], t: usize) -> Option<Sum>
+    ensures { result ≡ sum_of_mark (get_or marks.now t IsNull) t }
+{
+    if t < marks.len() {
+        sum_of_mark(marks[t], t)
+    } else {
+        None
     }
 }
 
@@ -152,6 +189,24 @@ impl Known {
             Term::Text => Value::Text,
             Term::Number(n) => Value::Int(n),
             Term::Token(t) => value_of_mark(self.mark_of(t)),
+            Term::Sum(_) => Value::Int(0),
+        }
+    }
+
+    /// The number that a term stands for, as a sum.
+    pub fn sum(&self, x: Term) -> Option<Sum>
+        ensures { result ≡ sum_in self.now x }
+    {
+        match x {
+            Term::Unset => None,
+            Term::Null => None,
+            Term::Text => None,
+            Term::Number(n) => Some(Sum {
+                node: 0,
+                plus: n as i128,
+            }),
+            Term::Token(t) => sum_of_token(self.marks.as_slice(), t),
+            Term::Sum(s) => Some(s),
         }
     }
 
@@ -172,6 +227,7 @@ impl Known {
             Term::Text => None,
             Term::Number(_) => None,
             Term::Token(t) => object_mark(self.mark_of(t), t),
+            Term::Sum(_) => None,
         }
     }
 

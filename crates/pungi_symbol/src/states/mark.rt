@@ -1,3 +1,5 @@
+use crate::states::integer_range::IntegerRange;
+
 /// What is known of the value of a token.
 #[derive(Clone, Copy)]
 pub enum Mark {
@@ -9,4 +11,6 @@ pub enum Mark {
     IsObject,
     IsText,
     IsNumber(i64),
+    /// Some number of this range.
+    Integer(IntegerRange),
 }

@@ -7,12 +7,15 @@ ghost use Rattle.pungi_symbol.specs.questions.NextQuestion.{IsPlaced};
 
 use crate::answers::balance_changes::succeeds;
 use crate::answers::decision::Decision;
-use crate::answers::outcomes::{mark_after, mark_of_answer, number_of_outcome, says_same};
+use crate::answers::outcomes::{
+    mark_after, mark_of_answer, number_of_outcome, says_order, says_same,
+};
 use crate::questions::question::Question;
 use crate::states::balances::{
     class_at, gather_at, is_one, owed_for, owed_for_answer, redirected_classes,
 };
 use crate::states::known::Known;
+use crate::states::limit::Limit;
 use crate::states::mark::Mark;
 use pungi_api::Answer;
 use pungi_base::{Memory, Seq};
@@ -36,6 +39,8 @@ pub struct State {
     pub classes: Seq<usize>,
     pub balances: Seq<i64>,
     pub others: Seq<Pair>,
+    /// What the answers say of numbers.
+    pub limits: Seq<Limit>,
 }
 
 impl State {
@@ -46,6 +51,7 @@ impl State {
         let classes = self.classes.copy(alloc)?;
         let balances = self.balances.copy(alloc)?;
         let others = self.others.copy(alloc)?;
+        let limits = self.limits.copy(alloc)?;
         let known = self.known.copy(alloc)?;
         Ok(State {
             known,
@@ -53,6 +59,7 @@ impl State {
             classes,
             balances,
             others,
+            limits,
         })
     }
 
@@ -166,6 +173,9 @@ impl State {
             Question::Base(t, u, _) => self.take_same(alloc, same, t, u),
             Question::Answers(answer) => self.take_answer(code, answer, mark_of_answer(answer, k)),
             Question::Same(t, u) => self.take_same(alloc, same, t, u),
+            Question::Orders(a, b) => self.limit_order(a, b, says_order(d)),
+            Question::Range(kind, a) => self.limit_range(kind, a, k),
+            Question::Unplain => Ok(()),
             Question::Returns(_) => Ok(()),
             Question::Stops(_) => Ok(()),
             Question::Over => Ok(()),

@@ -9,4 +9,6 @@ pub enum SymEnd {
     Returned(Pos),
     /// The run stopped at this place.
     Stopped(Pos),
+    /// The next instruction, at this place, computes a number that no token and constant add up to.
+    NumberSeen(Pos),
 }

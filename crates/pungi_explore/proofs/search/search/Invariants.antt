@@ -8,5 +8,5 @@ use Rattle.pungi_explore.proofs.search.search.Given as goal
 abbrev pub invariant-states : goal.invariant-states
 invariant-states l = record {
   few : l.ended ≤ most_traces;
-  searched : (code : Code) → HasForm l.codes l.f code → Searched l.codes l.f code l.pending l.ended;
+  searched : (code : Code) → HasForm l.codes l.f code → Searched l.codes l.f code l.pending l.ended l.seen;
 }

@@ -1,7 +1,7 @@
 use Rattle.std.proofs.Common.{subst}
 use Rattle.pungi_code.specs.declared.code.Codes.{Codes}
 use Rattle.pungi_symbol.specs.Promises.{AllLevel, OwnUneven, HasReturned}
-use Rattle.pungi_symbol.proofs.Promised.{all_level, own_uneven, off_returned}
+use Rattle.pungi_symbol.proofs.Returned.{all_level, own_uneven, off_returned}
 use Rattle.pungi_symbol.proofs.steps.is_balanced.Goals as goal
 
 pub returns-in-Some-clause-returned : goal.returns-in-Some-clause-returned

@@ -1,15 +1,12 @@
 use Rattle.std.proofs.Common.{◌≡◌, ◌<◌, ◌≤◌, ◌+◌, ◌^◌, ℕ, length, slice_get, Option, Some, None, ap, sym, subst, ◌∙◌}
 use Rattle.std.proofs.Common.{arith}
-use Rattle.pungi_base.specs.declared.verdict.Verdict.{Verdict}
-use Rattle.pungi_base.specs.declared.verdict.Verdict.TheVariants as verdict
-use Rattle.pungi_types.specs.Files.{Definition, definitions}
+use Rattle.pungi_types.specs.Files.{definitions}
 use Rattle.pungi_resolved.specs.ActionView.{function_view}
 use Rattle.pungi_resolved.specs.declared.function.Function.{Function}
 use Rattle.pungi_check.specs.Found.{checked_view}
 use Rattle.pungi_code.specs.declared.code.Codes.{Codes}
-use Rattle.pungi_verdict.specs.Verdicts.{IsJudged}
 use Rattle.pungi_verdict.proofs.Files.{at-index, functions-long, function-there, none-there, finding-here, defined-at}
-use Rattle.pungi_verdict.proofs.Files.{same-at, sound-there, given, judged-verdict, refused-verdict}
+use Rattle.pungi_verdict.proofs.Files.{sound-there, given, judged-verdict, refused-verdict}
 use Rattle.pungi_verdict.proofs.judge.verdict.Goals as goal
 
 pub returns-in-Some : goal.returns-in-Some

@@ -4,4 +4,6 @@ use Rattle.pungi_symbol.specs.runs.Paths.{own_values}
 use Rattle.pungi_symbol.proofs.runs.witness.own_table.Given as goal
 
 abbrev pub invariant-loop-i : goal.invariant-loop-i
-invariant-loop-i l = l.table.items ++ own_values (drop l.i l.marks) (drop l.i l.classes) ≡ own_values l.marks l.classes
+invariant-loop-i l =
+    l.table.items ++ own_values (drop l.i l.marks) (drop l.i l.classes) (drop l.i l.numbers)
+    ≡ own_values l.marks l.classes l.numbers

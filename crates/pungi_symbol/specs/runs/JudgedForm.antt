@@ -1,16 +1,17 @@
--- The object form of a code: each integer on a trace is a known number.
+-- The judged form of a code: it calls no function of its file, and its arguments and slots are of kinds that states
+-- hold.
 --   atoms_in, atom_in           what a place takes; what may be there
 --   atoms_of i                  what an instruction takes
 --   is_there n a                a static object of an atom is there
---   is_pointer kind             a kind of pointers
---   is_pointer_param p          a parameter of such a kind
---   is_small a                  a return value whose numbers traces distinguish
+--   is_held kind                a slot of this kind holds an object, a text or a number, or a pointer that is NULL
+--   is_held_param p             so does a parameter
 --   is_sure a                   a return value that no choice decides
---   has_small own a             traces distinguish what a call returns; one with an effect of its own returns what no
---                               choice decides
---   is_known_here i             an instruction without unknown integers or calls of functions of the file
---   is_object_instr n i         an instruction of the object form, where there are n static objects
---   has_object_form n code      a code of the object form
+--   has_outcomes own a          states hold what a call returns; one with an effect of its own returns what no choice
+--                               decides
+--   is_held_here i              so is what an instruction loads, stores or returns, and it calls no function of the
+--                               file
+--   is_judged_instr n i         an instruction of the judged form, where there are n static objects
+--   has_judged_form n code      a code of the judged form
 use Rattle.std.specs.Prelude.{ℕ, nat_lt, Bool, true, false, ◌&&◌, List, [], ◌∷◌, take, Option, Some, None}
 use Rattle.std.specs.List.{list_all}
 use Rattle.pungi_api.specs.declared.answer.Answer.{Answer}
@@ -60,56 +61,47 @@ is_there n (atom.Int i) = true
 is_there n atom.Null = true
 is_there n atom.Text = true
 
-abbrev pub is_pointer : Param → Bool
-is_pointer param.Object = true
-is_pointer param.ObjectOrNull = true
-is_pointer param.Text = true
-is_pointer param.TextOrNull = true
-is_pointer param.Int = false
-is_pointer param.Long = false
-is_pointer param.Size = false
-is_pointer param.ModuleDef = false
+abbrev pub is_held : Param → Bool
+is_held param.Object = true
+is_held param.ObjectOrNull = true
+is_held param.Text = true
+is_held param.TextOrNull = true
+is_held param.Int = true
+is_held param.Long = true
+is_held param.Size = true
+is_held param.ModuleDef = false
 
--- what a parameter holds that is a pointer
-abbrev pub is_pointer_param : Param → Bool
-is_pointer_param param.ObjectOrNull = true
-is_pointer_param param.TextOrNull = true
-is_pointer_param p = false
-
-abbrev pub is_small : Answer → Bool
-is_small answer.Size = false
-is_small answer.Int = false
-is_small answer.Long = false
-is_small answer.New = true
-is_small answer.Borrowed = true
-is_small answer.BorrowedSure = true
-is_small answer.Status = true
-is_small answer.Truth = true
-is_small answer.Text = true
-is_small answer.Void = true
-is_small answer.Null = true
+abbrev pub is_held_param : Param → Bool
+is_held_param param.Object = false
+is_held_param param.ObjectOrNull = true
+is_held_param param.Text = false
+is_held_param param.TextOrNull = true
+is_held_param param.Int = true
+is_held_param param.Long = true
+is_held_param param.Size = true
+is_held_param param.ModuleDef = false
 
 abbrev pub is_sure : Answer → Bool
 is_sure answer.Void = true
 is_sure answer.Null = true
 is_sure a = false
 
-abbrev pub has_small : Option OwnEffect → CallAnswer → Bool
-has_small own Argument = true
-has_small None (Of a) = is_small a
-has_small (Some o) (Of a) = is_sure a
+abbrev pub has_outcomes : Option OwnEffect → CallAnswer → Bool
+has_outcomes own Argument = true
+has_outcomes None (Of a) = true
+has_outcomes (Some o) (Of a) = is_sure a
 
-abbrev pub is_known_here : Instr → Bool
-is_known_here (Load x place) = is_pointer (place_kind place)
-is_known_here (Store place a) = is_pointer (place_kind place)
-is_known_here (Api x g as' outs) = has_small g.own g.answer
-is_known_here (Call x f as') = false
-is_known_here i = true
+abbrev pub is_held_here : Instr → Bool
+is_held_here (Load x place) = is_held (place_kind place)
+is_held_here (Store place a) = is_held (place_kind place)
+is_held_here (Api x g as' outs) = has_outcomes g.own g.answer
+is_held_here (Call x f as') = false
+is_held_here i = true
 
-abbrev pub is_object_instr : ℕ → Instr → Bool
-is_object_instr n i = is_known_here i && list_all (is_there n) (atoms_of i)
+abbrev pub is_judged_instr : ℕ → Instr → Bool
+is_judged_instr n i = is_held_here i && list_all (is_there n) (atoms_of i)
 
-abbrev pub has_object_form : ℕ → Code → Bool
-has_object_form n code =
-    list_all is_pointer_param (take code.params code.vars)
-    && list_all (λ line. is_object_instr n line.instr) code.instrs
+abbrev pub has_judged_form : ℕ → Code → Bool
+has_judged_form n code =
+    list_all is_held_param (take code.params code.vars)
+    && list_all (λ line. is_judged_instr n line.instr) code.instrs

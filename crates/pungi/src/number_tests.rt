@@ -1,0 +1,169 @@
+//! What is reported of functions with integers: which comparisons exclude one another, where the run stops since a number
+//! is out of range, and where a number isn't followed. Worked out by hand from C11 6.3.1.3, 6.5 and the ranges of the
+//! types (`int` of 32 bits, `long` and `Py_ssize_t` of 64).
+
+use crate::tests::is_told;
+use std::test::Fail;
+
+/// Files with their status and the first lines of their verdicts. The number of an object is K.
+const NUMBERS: &[(&str, u8, &str)] = &[
+    (
+        "void f(PyObject *x, int n) { if (n < 5) Py_XINCREF(x); if (n < 5) Py_XDECREF(x); }",
+        0,
+        "clean f\n",
+    ),
+    (
+        "void f(PyObject *x, int n) { if (n < 5) { if (n > 7) Py_XINCREF(x); } }",
+        0,
+        "clean f\n",
+    ),
+    (
+        "void f(PyObject *x, int n) { if (n < 5) Py_XINCREF(x); if (n > 7) Py_XINCREF(x); if (n < 5) Py_XDECREF(x); }",
+        1,
+        "faulty f 1:108 object K change 1 escaped 0\n",
+    ),
+    (
+        "PyObject *f(PyObject *x, int n) { if (n == 7) return x; return NULL; }",
+        1,
+        "faulty f 1:47 object K change 0 escaped 1\n",
+    ),
+    (
+        "PyObject *f(PyObject *x, int n) { if (n - 1 > n) return x; return NULL; }",
+        0,
+        "clean f\n",
+    ),
+    (
+        "PyObject *f(PyObject *x, long a, long b, long c) { if (a < b && b < c && c <= a) return x; return NULL; }",
+        0,
+        "clean f\n",
+    ),
+    (
+        "PyObject *f(PyObject *x, long a, long b, long c) { if (a < b && b < c && c <= a + 2) return x; return NULL; }",
+        1,
+        "faulty f 1:86 object K change 0 escaped 1\n",
+    ),
+    (
+        "PyObject *f(PyObject *x) { Py_ssize_t n = PyObject_Size(x); if (n < -1) return x; return NULL; }",
+        0,
+        "clean f\n",
+    ),
+    (
+        "PyObject *f(PyObject *x) { Py_ssize_t n = PyObject_Size(x); if (n < 0) return NULL; if (n + 1 <= 0) return x; return NULL; }",
+        0,
+        "clean f\n",
+    ),
+    (
+        "PyObject *f(PyObject *x) { Py_ssize_t n = PyObject_Size(x); if (n < 0) return x; return NULL; }",
+        1,
+        "faulty f 1:72 object K change 0 escaped 1\n",
+    ),
+    (
+        "int f(PyObject *x) { long n = PyLong_AsLong(x); if (n == -1) return -1; Py_INCREF(x); if (n != -1) Py_DECREF(x); return 0; }",
+        0,
+        "clean f\n",
+    ),
+    (
+        "void f(PyObject *x, int n) { switch (n) { case 1: Py_XINCREF(x); break; case 2: break; default: return; } if (n == 1) Py_XDECREF(x); }",
+        0,
+        "clean f\n",
+    ),
+    (
+        "void f(PyObject *x, int n) { switch (n) { case 1: Py_XINCREF(x); break; default: ; } if (n == 2) return; }",
+        1,
+        "faulty f 1:106 object K change 1 escaped 0\n",
+    ),
+    (
+        "PyObject *f(PyObject *x, int n) { if (n == 2147483647) { n++; return x; } return NULL; }",
+        0,
+        "clean f\n",
+    ),
+    (
+        "PyObject *f(PyObject *x, int n) { if (n == 2147483646) { n++; return x; } return NULL; }",
+        1,
+        "faulty f 1:63 object K change 0 escaped 1\n",
+    ),
+    (
+        "PyObject *f(PyObject *x, long n) { int i = n; if (n > 2147483647) return x; return NULL; }",
+        0,
+        "clean f\n",
+    ),
+    (
+        "PyObject *f(PyObject *x, long n) { int i = n; if (n == 2147483647) return x; return NULL; }",
+        1,
+        "faulty f 1:68 object K change 0 escaped 1\n",
+    ),
+    (
+        "PyObject *f(PyObject *x, int n) { int m = n + 1; if (m == -2147483648) return x; return NULL; }",
+        0,
+        "clean f\n",
+    ),
+    (
+        "typedef struct { PyObject_HEAD long hits; } Box; void f(Box *b, PyObject *x) { long old = b->hits; b->hits++; if (b->hits == old) Py_XINCREF(x); }",
+        0,
+        "clean f\n",
+    ),
+    (
+        "static int total; void f(PyObject *x) { total = 3; if (total != 3) Py_XINCREF(x); }",
+        0,
+        "clean f\n",
+    ),
+    (
+        "static int total; void f(PyObject *x) { if (total == 3) Py_XINCREF(x); }",
+        1,
+        "faulty f 1:72 object K change 1 escaped 0\n",
+    ),
+    (
+        "typedef struct { PyObject_HEAD int a; } Box; void f(Box *b, Box *c) { b->a = 1; c->a = 2; if (b->a == 2) Py_INCREF(b); }",
+        1,
+        "faulty f 1:120 object K change 1 escaped 0\n",
+    ),
+    (
+        "int f(int n, int m) { return n * m; }",
+        2,
+        "unknown f number 1:32\n",
+    ),
+    (
+        "int f(PyObject *x, int n, int m) { if (x) return n * m; return n / m; }",
+        2,
+        "unknown f number 1:52\n",
+    ),
+    (
+        "int f(PyObject *x, int n, int m) { if (!x) return n * m; return n / m; }",
+        2,
+        "unknown f number 1:53\n",
+    ),
+    (
+        "int f(int n) { int i = -n; return i; }",
+        2,
+        "unknown f number 1:24\n",
+    ),
+    (
+        "long f(long a, long b) { return a - b; }",
+        2,
+        "unknown f number 1:35\n",
+    ),
+    (
+        "void f(PyObject *x, int n) { if (n * n < 0) Py_XINCREF(x); }",
+        2,
+        "unknown f number 1:36\n",
+    ),
+    (
+        "int f(int n) { if (n < 0) { if (n > 0) return n * n; } return 0; }",
+        0,
+        "clean f\n",
+    ),
+    ("int f(void) { int n = 3; return n * 2; }", 0, "clean f\n"),
+    (
+        "void f(PyObject *x, int n) { if (n != 0) n * n; else Py_XINCREF(x); }",
+        1,
+        "faulty f 1:69 object K change 1 escaped 0\n",
+    ),
+];
+
+#[test]
+fn numbers(rt: HostRuntime) -> Result<(), Fail> {
+    for (text, status, lines) in NUMBERS {
+        assert!(rt; is_told(rt.alloc(), text, *status, lines)?, "at {text}");
+    }
+    Ok(())
+}

@@ -1,0 +1,27 @@
+use Rattle.std.proofs.Common.{ap}
+use Rattle.std.specs.Prelude.{is_some}
+use Rattle.pungi_symbol.specs.Promises.{IsRunOf, IsOwn, HasEachChoice}
+use Rattle.pungi_explore.proofs.Endings.{of_some}
+use Rattle.pungi_explore.proofs.visit.at_run.Goals as goal
+
+pub returns-then-is_balanced : goal.returns-then-is_balanced
+returns-then-is_balanced c = (c.is_balanced.ensures.balanced c.if-is_balanced.true c.args.codes.now, c.requires)
+
+pub returns-in-Some : goal.returns-in-Some
+returns-in-Some c =
+    let codes = c.args.codes.now in
+    let s = c.args.state.now in
+    let o = c.in_ok-witness.field-0 in
+    let w = c.in-Some.witness in
+    record {
+      returned = c.is_balanced.ensures.returned c.if-is_balanced.false;
+      uneven = c.is_balanced.ensures.uneven c.if-is_balanced.false codes;
+      run_at = record {
+        run = of_some (IsRunOf codes s) o w c.in-Some.is c.in_ok-witness.ensures.run;
+        own = of_some (IsOwn codes s) o w c.in-Some.is c.in_ok-witness.ensures.own;
+        each = of_some (HasEachChoice codes s) o w c.in-Some.is c.in_ok-witness.ensures.each;
+      };
+    }
+
+pub returns-in-None : goal.returns-in-None
+returns-in-None c = c.in_ok-witness.ensures.none (ap is_some c.in-None.is)
