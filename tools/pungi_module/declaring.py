@@ -1,0 +1,99 @@
+"""Finds the conventions that a package follows, and what is clean where they are declared."""
+
+from __future__ import annotations
+
+from collections.abc import Iterator, Mapping, Sequence
+from dataclasses import replace
+
+from .compilation import Source
+from .convention_file import Convention, merge, table_of
+from .conventions import find_conventions
+from .function_text import find_functions
+from .judged import Judged
+from .judging import FAILURES, Judge, Settings, over_all
+from .model import Prepared
+from .variant import source_of
+
+#: A convention of one function shows others, of those that call it.
+ROUNDS = 2
+
+Package = Sequence[tuple[Source, Judged]]
+
+
+def with_conventions(package: Package, settings: Settings, jobs: int) -> tuple[list[Judged], list[Convention]]:
+    """The modules, each with the lines that make its faulty functions clean, and the conventions that were found.
+
+    A convention that is found is declared, and what it touches is prepared and judged again.
+    """
+    found: dict[str, Convention] = {}
+    current = [judged for _, judged in package]
+    for _ in range(ROUNDS):
+        new = new_conventions(current, settings, found)
+        if not new:
+            break
+        found |= new
+        current = judged_again([source for source, _ in package], current, settings, found, new, jobs)
+    judged = [explained(first, last, found) for (_, first), last in zip(package, current, strict=True)]
+    return judged, list(found.values())
+
+
+def new_conventions(
+    modules: Sequence[Judged], settings: Settings, known: Mapping[str, Convention]
+) -> dict[str, Convention]:
+    """The conventions that make faulty functions clean, of functions of which none is known yet.
+
+    A function that stands in a table is called by Python, which knows no conventions but its own.
+    """
+    faulty = [one for one in modules if any(verdict.word == "faulty" for verdict in one.verdicts.values())]
+    spoken = known.keys() | settings.declared.conventions.keys() | settings.declared.rows.keys()
+    python_calls = {f.name for one in modules for f in one.prepared.functions if f.is_in_table}
+    try:
+        found = find_conventions([one.prepared for one in faulty], Judge(settings.seconds, settings.program), rounds=1)
+    except FAILURES:
+        return {}
+    return {one.name: one for one in found if one.name not in spoken and one.name not in python_calls}
+
+
+def judged_again(
+    sources: Sequence[Source],
+    modules: Sequence[Judged],
+    settings: Settings,
+    found: Mapping[str, Convention],
+    new: Mapping[str, Convention],
+    jobs: int,
+) -> list[Judged]:
+    """The modules, judged again where they define or call what has a new convention."""
+    declared = replace(settings, declared=merge(settings.declared, found.values()))
+    touched = [new.keys() & set(names_of(one.prepared)) for one in modules]
+    again = over_all([source for source, names in zip(sources, touched, strict=True) if names], declared, jobs)
+    return [kept_or_judged(one, again) if names else one for one, names in zip(modules, touched, strict=True)]
+
+
+def kept_or_judged(before: Judged, again: Iterator[Judged | Exception]) -> Judged:
+    """The module as it was judged again, or as it was where that failed."""
+    after = next(again)
+    return after if isinstance(after, Judged) else before
+
+
+def names_of(prepared: Prepared) -> Iterator[str]:
+    """The functions that a module defines or calls."""
+    yield from prepared.rows
+    for function in prepared.functions:
+        yield function.name
+        yield from function.calls
+
+
+def explained(first: Judged, last: Judged, found: Mapping[str, Convention]) -> Judged:
+    """The module as it was judged first, with the lines under which its faulty functions are clean."""
+    lines = {name: lines_for(name, first.prepared, found) for name, verdict in first.verdicts.items()
+             if verdict.word == "faulty" and name in last.verdicts and last.verdicts[name].word == "clean"}
+    return replace(first, conventions={name: text for name, text in lines.items() if text})
+
+
+def lines_for(name: str, prepared: Prepared, found: Mapping[str, Convention]) -> str:
+    """The lines that declare what makes a function clean: its own convention, or else those of what it may call."""
+    if name in found:
+        return table_of(found[name])
+    words = find_functions(prepared.text)[name].words
+    called = {source_of(prepared, row).function for row in prepared.rows.keys() & words} | words
+    return "".join(table_of(found[callee]) for callee in sorted(called & found.keys()))

@@ -1,0 +1,22 @@
+"""A module that was prepared and judged."""
+
+from __future__ import annotations
+
+from collections.abc import Mapping
+from dataclasses import dataclass, field
+
+from .model import Prepared, Row, Verdict
+
+
+@dataclass(frozen=True)
+class Judged:
+    """What the program reports of a prepared module, and how long it took."""
+
+    prepared: Prepared
+    verdicts: Mapping[str, Verdict]
+    #: The rows of all calls of the text.
+    rows: Mapping[str, Row]
+    #: The lines that declare the conventions under which a faulty function is clean.
+    conventions: Mapping[str, str] = field(default_factory=dict)
+    seconds_preparing: float = 0.0
+    seconds_judging: float = 0.0

@@ -1,0 +1,1 @@
+"""Calls: of the API, of the module's own functions, and of others."""

@@ -1,0 +1,80 @@
+"""New objects: their fields hold nothing at first."""
+
+from __future__ import annotations
+
+from pycparser import c_ast
+
+from ..types.c_types import CType, Pointer, Struct
+from ..translation.conversions import effects_of
+from .freed import MAKING_CALLS
+from ..types.kinds import Kind
+from ...model import Row
+from ..text.rows_used import LETTERS, WORDS, Effect
+from ..text.subset import NULL, STOP_VALUE, Assign, Call, CastTo, Conditional, Expr, Name, UnsetFields
+from ..reading.syntax import arguments, called_name, stripped
+from ..translation.targets import target
+from ..translation.translation import Translation
+from ..translation.values import Form, Value, kept
+
+
+def made_struct(t: Translation, node: c_ast.Node, kind: CType) -> CType | None:
+    """The type of the object that a call makes, where its struct has fields of its own."""
+    inner = stripped(node)
+    if called_name(inner) == "pungi_New":
+        kind = t.types.of(arguments(inner)[0].to_type)
+    is_struct = isinstance(kind, Pointer) and isinstance(kind.target, Struct)
+    return kind if is_struct and t.kinds.is_python_object(kind) and t.kinds.tag(kind) else None
+
+
+def allocation(t: Translation, node: c_ast.Node, kind: CType) -> Value | None:
+    """A call that makes an object, as a value of this type."""
+    inner = stripped(node)
+    name = called_name(inner)
+    if name not in MAKING_CALLS:
+        return None
+    of_type = made_struct(t, node, kind)
+    if of_type is None:
+        return None
+    effects: list[Effect] = []
+    for argument in arguments(inner):
+        if not (name == "pungi_New" and isinstance(argument, c_ast.Cast)):
+            value = t.value(argument)
+            effects += [(value.code, value.kind)] if value.kind == Kind.OBJECT else effects_of(t, value)
+    t.state.use_struct(of_type)
+    row = Row(tuple(WORDS[LETTERS[of_kind]] for _, of_kind in effects), "new")
+    printed = t.state.rows.name("pungi_tp_alloc" if name == "tp_alloc" else "pungi_new_object", row)
+    call = Call(printed, tuple(expr for expr, _ in effects), place=t.place(inner))
+    return kept(Kind.OBJECT, of_type, CastTo(t.kinds.words(of_type), call))
+
+
+def allocated_into(t: Translation, left: c_ast.Node, right: c_ast.Node) -> Value | None:
+    """The assignment of a new object to a variable, which stops where a field holds something."""
+    place = target(t, left) if isinstance(left, c_ast.ID) else None
+    if place is None or place.form != Form.KEPT or t.kind(place.type) != Kind.OBJECT:
+        return None
+    made = allocation(t, right, place.type)
+    if made is None:
+        return None
+    assign = Assign(place.code, "=", as_type(t, made, place.type), place.slot, place=t.place(left))
+    if not isinstance(place.code, Name) or place.slot is not None:
+        return kept(Kind.OBJECT, place.type, assign)
+    t.assume("new object", place.code.text, right)
+    return kept(Kind.OBJECT, place.type, with_empty_fields(t, assign, made.type, place))
+
+
+def as_type(t: Translation, value: Value, kind: CType) -> Expr:
+    """The value as one of another pointer type."""
+    return value.code if t.kinds.words(value.type) == t.kinds.words(kind) else CastTo(t.kinds.words(kind), value.code)
+
+
+def with_empty_fields(t: Translation, assign: Assign, made: CType, place) -> Expr:
+    """`(x = made) ? (some field holds something ? stop : x) : NULL`."""
+    assert isinstance(made, Pointer) and isinstance(made.target, Struct)
+    name = Name(place.code.text)
+    base: Expr = name
+    if t.kinds.words(made) != t.kinds.words(place.type):
+        base = CastTo(t.kinds.words(made), name)
+    stop: Expr = STOP_VALUE
+    if t.kinds.words(place.type) != "PyObject *":
+        stop = CastTo(t.kinds.words(place.type), STOP_VALUE)
+    return Conditional(assign, Conditional(UnsetFields(made.target.key, base), stop, name), NULL)

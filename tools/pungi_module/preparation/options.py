@@ -1,0 +1,27 @@
+"""What the caller of a preparation may say besides the source."""
+
+from __future__ import annotations
+
+from dataclasses import dataclass, field
+
+
+@dataclass(frozen=True)
+class Convention:
+    """What the author declares of a function: its result is borrowed, and which parameters it takes over, from 1."""
+
+    returns_borrowed: bool = False
+    takes: tuple[int, ...] = ()
+
+
+@dataclass
+class Options:
+    """Settings of a preparation."""
+
+    #: Functions of the module and of others, by name.
+    conventions: dict[str, Convention] = field(default_factory=dict)
+    #: Fields that hold no reference of their own, as (word of the struct, field).
+    borrowed_fields: frozenset[tuple[str, str]] = frozenset()
+    #: `__init__` may run twice on one object.
+    init_twice: bool = False
+    #: Functions that are not to be prepared, with the reason: the program refused them.
+    refused: dict[str, str] = field(default_factory=dict)

@@ -1,0 +1,1 @@
+"""What changes a whole function after its parts are translated."""

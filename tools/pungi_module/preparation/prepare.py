@@ -1,0 +1,143 @@
+"""From a module's source to the text that Pungi reads."""
+
+from __future__ import annotations
+
+import os
+
+from pycparser import c_ast
+
+from .translation import translators
+from .text.assemble import print_text, row_sources, used_rows
+from .passes.collapse import Collapse
+from .passes.first_stores import FirstStores
+from .translation.functions import PrintedFunction, translate
+from .passes.init_once import guarded
+from .text.limits import broken_limit, broken_size
+from ..model import Assumption, Place, Prepared, PreparedFunction, Row
+from .types.module import Module
+from .options import Options
+from .reading.parse import parse
+from .reading.preprocess import python_flags
+from .passes.resolve import resolved
+from .passes.shared_locals import with_shared_locals
+from .text.text_state import TextState
+from .types.type_slots import TypeSlots
+from .passes.unused import Unused
+from .translation.values import Cannot
+
+#: How often the functions are translated again because one of them turned out not to be expressible.
+ROUND_LIMIT = 8
+
+#: How many modules that were read are remembered.
+MODULE_LIMIT = 8
+
+_MODULES: dict[tuple[str, int, tuple[str, ...]], Module] = {}
+
+assert translators.ALL
+
+
+def prepare(source: str, flags: list[str] | None, rows: dict[str, Row], options: Options | None = None) -> Prepared:
+    """Prepares a source file. `flags` are the compiler's; None stands for those of the running Python."""
+    return prepare_module(read_module(source, flags), rows, options or Options())
+
+
+def read_module(source: str, flags: list[str] | None) -> Module:
+    """The module of a source file; one that was read before and has not changed is not read again."""
+    flags = python_flags() if flags is None else flags
+    key = (os.path.abspath(source), os.stat(source).st_mtime_ns, tuple(flags))
+    if key not in _MODULES:
+        if len(_MODULES) >= MODULE_LIMIT:
+            del _MODULES[next(iter(_MODULES))]
+        _MODULES[key] = Module(parse(source, flags))
+    return _MODULES[key]
+
+
+def prepare_module(module: Module, rows: dict[str, Row], options: Options) -> Prepared:
+    """Prepares a module that is read. A function that cannot be expressed becomes a row for its callers, and the others
+    are translated again."""
+    slots = TypeSlots(module)
+    refused = dict(options.refused)
+    for _ in range(ROUND_LIMIT):
+        state = TextState(module, slots, rows, options, refused)
+        functions, failed = translate_all(state)
+        if not failed:
+            break
+        refused = {**refused, **failed}
+    return assembled(state, functions)
+
+
+def translate_all(state: TextState) -> tuple[list[PrintedFunction], dict[str, str]]:
+    """Each function that can be expressed, and why the others cannot."""
+    found: list[tuple[c_ast.FuncDef, PrintedFunction]] = []
+    failed: dict[str, str] = {}
+    for name, node in state.module.functions.items():
+        if name in state.refused:
+            continue
+        try:
+            found.append((node, fitting(state, node)))
+        except Cannot as reason:
+            failed[name] = str(reason)
+        except RecursionError:
+            failed[name] = "nested too deep"
+    for node, function in found:
+        function.body = resolved(state, function.body)
+        reason = broken_limit(function)
+        if reason is not None:
+            failed[function.name] = reason
+    return [function for _, function in found], failed
+
+
+def fitting(state: TextState, node: c_ast.FuncDef) -> PrintedFunction:
+    """The finished function: where it is too large, without the bodies of callees, and then without its numbers."""
+    function = finished(state, node)
+    for without in (state.without_bodies, state.without_numbers):
+        if broken_size(function) is None:
+            break
+        without.add(node.decl.name)
+        function = finished(state, node)
+    return function
+
+
+def finished(state: TextState, node: c_ast.FuncDef) -> PrintedFunction:
+    """The translated function, in which parts without objects collapse and first stores are guarded."""
+    function = translate(state, node)
+    function.body = Collapse(state.rows, function.variables).body(function.body)
+    parameters = {name for _, name in function.parameters}
+    function.body = Unused(state.rows, function.variables, parameters).body(function.body)
+    stores = FirstStores(state, node, function.variables)
+    function.body, slots = guarded(function.body, stores.is_first, stores.is_global)
+    for slot in slots:
+        function.assumptions.append(Assumption(stores.assumption(slot), slot, function.place))
+    if broken_size(function) is not None:
+        function.body = with_shared_locals(function.body)
+    if function.place.file != state.module.parsed.path:
+        function.line = state.module.parsed.include_lines.get(function.place.file, 1)
+    return function
+
+
+def assembled(state: TextState, functions: list[PrintedFunction]) -> Prepared:
+    """The prepared module."""
+    printer, lines = print_text(state, functions)
+    by_name = {function.name: function for function in functions}
+    in_tables = state.module.names_in_tables()
+    found = []
+    for name, node in state.module.functions.items():
+        function = by_name.get(name)
+        if function is None:
+            item = not_prepared(name, node.decl, state.refused.get(name, "not expressed"))
+        else:
+            item = PreparedFunction(name, function.place, lines[name], function.assumptions, function.calls)
+        item.is_in_table = name in in_tables or name.startswith("PyInit_")
+        found.append(item)
+    for name, declaration in state.module.unparsed.items():
+        if name not in state.module.functions:
+            found.append(not_prepared(name, declaration, "the parser does not read its body"))
+    rows = used_rows(state, functions)
+    return Prepared(state.module.parsed.path, "".join(printer.out), rows, found, printer.places,
+                    row_sources=row_sources(state, rows))
+
+
+def not_prepared(name: str, node: c_ast.Decl, reason: str) -> PreparedFunction:
+    """A function that does not stand in the text."""
+    place = Place(node.coord.file, node.coord.line, node.coord.column or 1)
+    return PreparedFunction(name, place, 0, not_prepared=reason)

@@ -1,0 +1,1 @@
+"""A source, preprocessed and parsed."""

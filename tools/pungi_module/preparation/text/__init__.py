@@ -1,0 +1,1 @@
+"""The tree of the prepared text, and how it is printed."""

@@ -1,0 +1,79 @@
+"""What the functions of one prepared text share: rows, structs with their fields, globals and type objects."""
+
+from __future__ import annotations
+
+from dataclasses import dataclass, field
+
+from ..types.c_types import CType, Pointer, Struct
+from ..types.kinds import HEAD_TAG, Kinds
+from .known_names import RESERVED
+from ...model import Row
+from ..types.module import Module
+from ..options import Options
+from .rows_used import RowsUsed
+from ..types.type_slots import TypeSlots
+
+
+@dataclass
+class TextState:
+    """A prepared text while it is made."""
+
+    module: Module
+    slots: TypeSlots
+    #: The rows of the API's manual, and of what else the caller knows.
+    api: dict[str, Row]
+    options: Options
+    #: Functions that do not stand in the text, with the reason.
+    refused: dict[str, str]
+    rows: RowsUsed = field(init=False)
+    #: For a struct's key: its printed fields with their types.
+    fields: dict[str, dict[str, CType]] = field(default_factory=dict)
+    #: The printed structs, by tag, with their keys.
+    structs: dict[str, str | None] = field(default_factory=dict)
+    globals: dict[str, CType] = field(default_factory=dict)
+    type_objects: set[str] = field(default_factory=set)
+    module_tables: set[str] = field(default_factory=set)
+    #: Whether functions store objects into fields or globals, as far as that was asked.
+    changing: dict[str, bool] = field(default_factory=dict)
+    #: Functions that grow too large where the bodies of their callees stand in place.
+    without_bodies: set[str] = field(default_factory=set)
+    #: Functions with too many locals: only those for objects are kept.
+    without_numbers: set[str] = field(default_factory=set)
+    #: Names that no local may have.
+    reserved: set[str] = field(init=False)
+
+    def __post_init__(self) -> None:
+        module = self.module
+        own = {name for name, known in module.globals.items() if known.is_own}
+        self.rows = RowsUsed(set(module.functions) | own | set(module.unparsed))
+        self.reserved = set(RESERVED) | set(module.functions) | set(module.prototypes) | set(module.globals)
+
+    @property
+    def kinds(self) -> Kinds:
+        """The kinds of the file's types."""
+        return self.module.kinds
+
+    def use_struct(self, kind: CType) -> None:
+        """The printed text names the struct that a pointer points to."""
+        tag = self.kinds.tag(kind)
+        if tag is not None and isinstance(kind, Pointer):
+            self.structs[tag] = kind.target.key if isinstance(kind.target, Struct) else None
+
+    def use_head(self) -> None:
+        """The printed text names an object's reference to its type."""
+        self.structs[HEAD_TAG] = None
+
+    def use_field(self, key: str, name: str, kind: CType) -> None:
+        """The printed text names a field."""
+        self.fields.setdefault(key, {})[name] = kind
+        self.use_struct(Pointer(Struct(key)))
+        self.use_struct(kind)
+
+    def use_global(self, name: str, kind: CType) -> None:
+        """The printed text names a global."""
+        self.globals[name] = kind
+        self.use_struct(kind)
+
+    def stands_in_text(self, name: str) -> bool:
+        """A function of the file that is printed."""
+        return name in self.module.functions and name not in self.refused

@@ -1,0 +1,1 @@
+"""Expressions, statements and declarations, each as it stands in the prepared text."""

@@ -1,0 +1,1 @@
+"""The types, constants and tables of a module."""

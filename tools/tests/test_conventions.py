@@ -1,0 +1,263 @@
+"""Conventions: texts of functions, variants of them, what is found with a stand-in judge and with the program."""
+
+from __future__ import annotations
+
+import re
+import sys
+import unittest
+from pathlib import Path
+
+sys.path.insert(0, str(Path(__file__).resolve().parents[1]))
+
+from pungi_module.configuration import write_configuration
+from pungi_module.convention_file import Convention
+from pungi_module.conventions import find_conventions, groups, judge_under, part_with
+from pungi_module.function_text import Parameter, find_functions, with_bodies_of
+from pungi_module.model import Place, Prepared, PreparedFunction, Row, RowSource, Run, Step, Value, Verdict
+from pungi_module.program import NoProgram, TimeLimit, find_program, judge
+from pungi_module.variant import row_under, variant
+
+PLACE = Place("m.c", 1, 1)
+MODULE = """\
+typedef struct { PyObject_HEAD PyObject *item; } Box;
+static PyObject *kept;
+PyObject *peek(PyObject *x) { return x; }
+void drop(PyObject *x) { Py_XDECREF(x); }
+PyObject *swap(PyObject *a, int n, PyObject *b) { Py_DECREF(a); return b; }
+PyObject *leak(PyObject *x) { Py_INCREF(x); Py_INCREF(x); return x; }
+PyObject *none(PyObject *self) { if (self == NULL) return Py_None; return Py_None; }
+PyObject *item(Box *self) { return self->item; }
+int size(PyObject *x) { return 1; }
+"""
+
+
+def prepared(text: str, rows: dict[str, Row] | None = None, calls: dict[str, list[str]] | None = None) -> Prepared:
+    """A module with this text."""
+    functions = [
+        PreparedFunction(name, PLACE, 1, calls=(calls or {}).get(name, [])) for name in find_functions(text)
+    ]  # fmt: skip
+    return Prepared("m.c", text, rows or {}, functions)
+
+
+class Texts(unittest.TestCase):
+    def test_functions(self) -> None:
+        functions = find_functions(MODULE)
+        self.assertEqual(list(functions), ["peek", "drop", "swap", "leak", "none", "item", "size"])
+        swap = functions["swap"]
+        self.assertTrue(swap.returns_object)
+        self.assertEqual(swap.parameters, (Parameter("a", True), Parameter("n", False), Parameter("b", True)))
+        self.assertEqual(MODULE[swap.body - 1], "{")
+        self.assertEqual([MODULE[r.begin : r.end] for r in swap.returns], ["b"])
+        self.assertEqual(len(functions["none"].returns), 2)
+        self.assertFalse(functions["size"].returns_object)
+
+    def test_what_is_no_function(self) -> None:
+        text = (
+            "struct s { int a; };\nstatic int t[] = { 1, 2 };\nint f(const char *s);\n"
+            '/* int g(void) { } */\nchar *h(char *s) { if (s) { return "}"; } return s; } // {\n'
+        )
+        functions = find_functions(text)
+        self.assertEqual(list(functions), ["h"])
+        self.assertFalse(functions["h"].returns_object)
+        self.assertEqual(functions["h"].parameters, (Parameter("s", False),))
+        self.assertEqual([text[r.begin : r.end] for r in functions["h"].returns], ['"}"', "s"])
+
+    def test_bodies_that_are_left_out(self) -> None:
+        text = "int f(void) {\n  return 1; }\nint g(void) { return f(); }\nint h(void) { return 2; }\n"
+        self.assertEqual(
+            with_bodies_of(text, {"g"}),
+            "int f(void) ;\n" + " " * 13 + "\nint g(void) { return f(); }\nint h(void) ;" + " " * 12 + "\n",
+        )
+        module = prepared(text, calls={"g": ["f"]})
+        self.assertEqual(part_with(module, ["g"]).text, with_bodies_of(text, {"f", "g"}))
+
+    def test_macro_that_returns(self) -> None:
+        text = "PyObject *f(void) { if (1) Py_RETURN_NONE; return NULL; }"
+        changed = variant(prepared(text), [Convention("f", "borrowed")]).prepared.text
+        self.assertEqual(
+            changed,
+            "PyObject *f(void) { if (1) { Py_INCREF(Py_None); Py_RETURN_NONE; } return Py_XNewRef(NULL); }",
+        )
+
+
+class Variants(unittest.TestCase):
+    def test_text(self) -> None:
+        changed = variant(prepared(MODULE), [Convention("swap", "borrowed", (1, 3)), Convention("absent")])
+        self.assertIn(
+            "swap(PyObject *a, int n, PyObject *b) { Py_XINCREF(a); Py_XINCREF(b); Py_DECREF(a); "
+            "return Py_XNewRef(b); }",
+            changed.prepared.text,
+        )
+        self.assertEqual(changed.prepared.text.count("\n"), MODULE.count("\n"))
+
+    def test_parameters_that_are_no_objects_stay(self) -> None:
+        changed = variant(prepared(MODULE), [Convention("swap", takes=(2, 9)), Convention("size", "borrowed")])
+        self.assertEqual(changed.prepared.text, MODULE)
+
+    def test_places_move_back(self) -> None:
+        text = "PyObject *f(PyObject *x) { g(x); return h(x); }"
+        changed = variant(prepared(text), [Convention("f", "borrowed", (1,))])
+        after = changed.prepared.text
+        steps = tuple(Step(1, after.index(call) + 1, Value("null")) for call in ("g(x)", "h(x)"))
+        at = after.index("return") + 1
+        run = Run(1, at, 24, 1, 0, 25, (Value("object", 24),), steps)
+        back = changed.moved_back(Verdict("f", "faulty", None, 1, at, run))
+        self.assertEqual(back.column, text.index("return") + 1)
+        self.assertEqual([step.column for step in back.run.steps], [text.index("g(x)") + 1, text.index("h(x)") + 1])
+        self.assertEqual(changed.moved_back(Verdict("f", "clean")), Verdict("f", "clean"))
+
+    def test_rows(self) -> None:
+        row = Row(("object", "text", "object?"), "new", takes_on_success=(3,))
+        taking = Convention("g", "borrowed", (1, 2))
+        self.assertEqual(row_under(row, taking, (1, 2, 3)), Row(row.params, "borrowed", (1,)))
+        self.assertEqual(row_under(row, taking, (3, 1, 2)), Row(row.params, "borrowed", (3,)))
+        self.assertEqual(row_under(row, taking, ()), Row(row.params, "borrowed"))
+        self.assertEqual(row_under(row, Convention("g", takes=(3,)), (1, 2, 3)), Row(row.params, "new", (3,)))
+        self.assertEqual(row_under(Row((), "status"), taking, ()), Row((), "status"))
+
+
+class StandIn:
+    """A judge that calls a function clean where its line has a text, or a row has a value."""
+
+    def __init__(self, lines: dict[str, str], rows: dict[str, tuple[str, Row]] | None = None) -> None:
+        self.lines = lines
+        self.rows = rows or {}
+        self.asked = 0
+
+    def __call__(self, module: Prepared) -> list[Verdict]:
+        self.asked += 1
+        verdicts = []
+        for line in module.text.splitlines():
+            for name, wanted in self.lines.items():
+                if re.search(rf"\b{name}\(", line.split("{")[0]):
+                    call, row = self.rows.get(name, ("", None))
+                    clean = wanted in line and (row is None or module.rows.get(call) == row)
+                    verdicts.append(Verdict(name, "clean" if clean else "faulty"))
+        return verdicts
+
+
+class Finding(unittest.TestCase):
+    def test_own_promises(self) -> None:
+        wanted = {
+            "peek": "return Py_XNewRef(x)",
+            "drop": "{ Py_XINCREF(x);",
+            "swap": "{ Py_XINCREF(a); Py_DECREF(a); return Py_XNewRef(b)",
+            "leak": "never",
+            "size": "return 1",
+        }
+        found = find_conventions([prepared(MODULE)], StandIn(wanted))
+        self.assertEqual(
+            found,
+            [Convention("drop", takes=(1,)), Convention("peek", "borrowed"), Convention("swap", "borrowed", (1,))],
+        )
+
+    def test_texts_that_the_program_does_not_judge(self) -> None:
+        standing = StandIn({"peek": "Py_XNewRef(x)", "drop": "{ Py_XINCREF(x);"})
+
+        def judge_most(module: Prepared) -> list[Verdict]:
+            """Verdicts but on one variant."""
+            if "Py_XNewRef" in module.text:
+                raise TimeLimit("too long")
+            return standing(module)
+
+        self.assertEqual(find_conventions([prepared(MODULE)], judge_most), [Convention("drop", takes=(1,))])
+
+    def test_declared_functions_are_left_alone(self) -> None:
+        known = {"peek": Convention("peek", takes=(1,))}
+        self.assertEqual(find_conventions([prepared(MODULE)], StandIn({"peek": "Py_XNewRef(x)"}), known), [])
+
+    def calling(self, row: Row) -> Prepared:
+        """A module with two functions that call one which is known by this row of its second parameter."""
+        text = "void f(PyObject *x) { Py_INCREF(x); steal(1, x); }\nvoid g(PyObject *x) { steal(2, x); }\n"
+        module = prepared(text, {"steal": row, "pungi_any": Row((), "void")})
+        module.row_sources["steal"] = RowSource("steal", (2,))
+        return module
+
+    def test_promise_of_a_call(self) -> None:
+        plain = Row(("object",), "void")
+        standing = StandIn({"f": "steal"}, {"f": ("steal", Row(plain.params, "void", (1,)))})
+        self.assertEqual(find_conventions([self.calling(plain)], standing), [Convention("steal", takes=(2,))])
+
+    def test_promise_of_a_call_that_makes_another_function_faulty(self) -> None:
+        plain = Row(("object",), "void")
+        rows = {"f": ("steal", Row(plain.params, "void", (1,))), "g": ("steal", plain)}
+        self.assertEqual(find_conventions([self.calling(plain)], StandIn(dict.fromkeys("fg", "steal"), rows)), [])
+
+    def test_parameters_that_the_preparation_does_not_number(self) -> None:
+        module = self.calling(Row(("object",), "void"))
+        module.row_sources.clear()
+        standing = StandIn({"f": "steal"}, {"f": ("steal", Row(("object",), "void", (1,)))})
+        self.assertEqual(find_conventions([module], standing), [])
+
+    def test_rows_of_one_function(self) -> None:
+        text = "void f(PyObject *x) { steal(x); }\nvoid g(PyObject *x) { steal_2(NULL, x); }\n"
+        module = prepared(text, {"steal": Row(("object",), "void"), "steal_2": Row(("object?", "object"), "void")})
+        module.row_sources |= {"steal": RowSource("steal", (2,)), "steal_2": RowSource("steal", (1, 2))}
+        rows = {
+            "f": ("steal", Row(("object",), "void", (1,))),
+            "g": ("steal_2", Row(("object?", "object"), "void", (2,))),
+        }
+        self.assertEqual(
+            find_conventions([module], StandIn(dict.fromkeys("fg", "steal"), rows)), [Convention("steal", takes=(2,))]
+        )
+
+    def test_second_round_over_a_package(self) -> None:
+        first = prepared("void use(PyObject *x) { lend(x); }\n", {"lend": Row(("object",), "new")})
+        second = prepared("PyObject *lend(PyObject *x) { return x; }\n")
+        standing = StandIn(
+            {"use": "lend", "lend": "Py_XNewRef"}, {"use": ("lend", Row(("object",), "borrowed"))}
+        )  # fmt: skip
+        self.assertEqual(find_conventions([first, second], standing), [Convention("lend", "borrowed")])
+
+    def test_callers_are_judged_by_the_body_as_written(self) -> None:
+        text = "PyObject *low(PyObject *x) { return x; }\nPyObject *top(PyObject *x) { return low(x); }\n"
+        module = prepared(text, calls={"top": ["low"]})
+        self.assertEqual(groups(module, ["low", "top"]), [["low"], ["top"]])
+
+        def judge_bodies(changed: Prepared) -> list[Verdict]:
+            """Clean is `low` where its result is counted once, and `top` where that of both is counted once."""
+            low, top = changed.text.splitlines()
+            counted = low.count("NewRef")
+            return [
+                Verdict("low", "clean" if counted == 1 else "faulty"),
+                Verdict("top", "clean" if counted + top.count("NewRef") == 1 else "faulty"),
+            ]
+
+        conventions = {name: Convention(name, "borrowed") for name in ("low", "top")}
+        words = [verdict.word for verdict in judge_under(module, conventions, judge_bodies)]
+        self.assertEqual(words, ["clean", "clean"])
+
+
+class WithTheProgram(unittest.TestCase):
+    def setUp(self) -> None:
+        try:
+            self.program = find_program()
+        except NoProgram as error:
+            self.skipTest(str(error))
+
+    def judge(self, module: Prepared) -> list[Verdict]:
+        """What the program says."""
+        return judge(module.text, write_configuration(module.rows).text, program=self.program)
+
+    def test_own_promises(self) -> None:
+        found = find_conventions([prepared(MODULE)], self.judge)
+        self.assertEqual(
+            found,
+            [
+                Convention("drop", takes=(1,)),
+                Convention("item", "borrowed"),
+                Convention("none", "borrowed"),
+                Convention("peek", "borrowed"),
+                Convention("swap", "borrowed", (1,)),
+            ],
+        )
+
+    def test_promise_of_a_call(self) -> None:
+        text = "int f(PyObject *x) { PyObject *y = look_up(x); if (y == NULL) return -1; return 0; }\n"
+        module = prepared(text, {"look_up": Row(("object",), "new")})
+        self.assertEqual([verdict.word for verdict in self.judge(module)], ["faulty"])
+        self.assertEqual(find_conventions([module], self.judge), [Convention("look_up", "borrowed")])
+
+
+if __name__ == "__main__":
+    unittest.main()

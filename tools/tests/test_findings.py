@@ -1,0 +1,104 @@
+"""Tests of what is made of verdicts: the findings, the run in words, and the formats."""
+
+from __future__ import annotations
+
+import json
+import tempfile
+import unittest
+from pathlib import Path
+
+import samples
+from pungi_module.findings import Word, findings_of
+from pungi_module.formats import FORMATS, Shown
+from pungi_module.results import Report, Status, Strictness, status_of
+
+
+class Findings(unittest.TestCase):
+    """The findings of the sample."""
+
+    def setUp(self) -> None:
+        folder = tempfile.TemporaryDirectory()
+        self.addCleanup(folder.cleanup)
+        self.file = str(Path(folder.name, "box.c"))
+        Path(self.file).write_text(samples.TEXT, encoding="utf-8")
+        self.findings = findings_of(samples.judged(self.file), samples.is_weak)
+        self.named = {finding.function: finding for finding in self.findings}
+
+    def printed(self, name: str, shown: Shown = Shown()) -> str:
+        """The findings in a format."""
+        return FORMATS[name]([Report(self.file, self.findings)], shown)
+
+    def test_words(self) -> None:
+        words = {name: finding.word for name, finding in self.named.items()}
+        self.assertEqual(words, {"Box_round": Word.FAULT, "twice": Word.DOUBTFUL, "same": Word.CLEAN, "deep": Word.OPEN,
+                                 "odd": Word.NOT_PREPARED, "first": Word.CONVENTION})
+
+    def test_fault_through_a_callee_is_named_there(self) -> None:
+        self.assertEqual(self.named["Box_round"].also, ["Box_rounded"])
+
+    def test_run_with_counts(self) -> None:
+        told = [(t.place.line, t.words, t.owned) for t in self.named["Box_round"].told]
+        self.assertEqual(told, [
+            (7, "PyObject_GetAttrString returns a new reference to round", 1),
+            (10, "PyObject_CallObject fails", None),
+            (12, "return, with 1 reference too many", None),
+        ])
+
+    def test_messages(self) -> None:
+        self.assertEqual(self.named["twice"].message, "twice leaks 1 reference to x (an argument)")
+        self.assertEqual(self.named["first"].message,
+                         "first gives up 1 reference to self->item that it does not own (self->item in line 53)")
+
+    def test_text(self) -> None:
+        text = self.printed("text")
+        self.assertIn(f"{self.file}:12:9: fault: Box_round leaks 1 reference to round", text)
+        self.assertIn("\n            return NULL;\n            ^\n", text)
+        self.assertIn("rests on element: args[1] (line 20)", text)
+        self.assertIn('        [convention.first]\n        returns = "borrowed"\n', text)
+        self.assertTrue(text.endswith("1 fault, 1 doubtful, 1 convention, 1 clean, 1 open, 1 not prepared\n"))
+        self.assertNotIn("\x1b", text)
+        self.assertIn("\x1b[1;31mfault\x1b[0m", self.printed("text", Shown(colours=True)))
+
+    def test_strict_text(self) -> None:
+        self.assertIn("clean: same, if declared", self.printed("text", Shown(Strictness.STRICT, clean=True)))
+
+    def test_github(self) -> None:
+        lines = self.printed("github").splitlines()
+        self.assertEqual([line.split(" ")[0] for line in lines], ["::error", "::warning", "::notice", "::notice", "::notice"])
+        self.assertIn(",line=12,col=9,title=fault%3A Box_round::Box_round leaks", lines[0])
+        self.assertIn("%0Aline 10: PyObject_CallObject fails", lines[0])
+
+    def test_sarif(self) -> None:
+        value = json.loads(self.printed("sarif"))
+        self.assertEqual(value["version"], "2.1.0")
+        run = value["runs"][0]
+        rules = {rule["id"] for rule in run["tool"]["driver"]["rules"]}
+        self.assertEqual([r["level"] for r in run["results"]], ["error", "warning", "note", "note", "note"])
+        self.assertLessEqual({r["ruleId"] for r in run["results"]}, rules)
+        steps = run["results"][0]["codeFlows"][0]["threadFlows"][0]["locations"]
+        self.assertEqual(steps[0]["location"]["physicalLocation"]["region"]["startLine"], 7)
+
+    def test_json(self) -> None:
+        module = json.loads(self.printed("json"))["modules"][0]
+        self.assertEqual(module["counts"]["fault"], 1)
+        self.assertEqual(module["findings"][0]["run"][0]["owned"], 1)
+
+    def test_failure(self) -> None:
+        failed = Report("no.c", failure=Status.NOT_READ, reason="cannot be read")
+        for name, printed in FORMATS.items():
+            self.assertIn("cannot be read", printed([failed], Shown()), name)
+
+    def test_status(self) -> None:
+        def status(words: list[str], strictness: Strictness = Strictness.MIDDLE) -> Status:
+            return status_of([Report("x.c", [f for f in self.findings if f.function in words])], strictness)
+
+        self.assertEqual(status(["same"]), Status.CLEAN)
+        self.assertEqual(status(["same", "Box_round", "deep"]), Status.FAULT)
+        self.assertEqual(status(["same", "deep"]), Status.NOT_JUDGED)
+        self.assertEqual(status(["twice"]), Status.NOT_JUDGED)
+        self.assertEqual(status(["twice"], Strictness.STRICT), Status.FAULT)
+        self.assertEqual(status(["twice"], Strictness.LENIENT), Status.CLEAN)
+
+
+if __name__ == "__main__":
+    unittest.main()

@@ -1,0 +1,97 @@
+"""Tests of judging: what the program does not take is left out, and a text that is too much is judged in parts."""
+
+from __future__ import annotations
+
+import sys
+import tempfile
+import unittest
+from pathlib import Path
+from unittest import mock
+
+sys.path.insert(0, str(Path(__file__).resolve().parent.parent))
+
+import running  # noqa: E402
+from pungi_module import parts  # noqa: E402
+from pungi_module.compilation import Source  # noqa: E402
+from pungi_module.findings import Word, findings_of  # noqa: E402
+from pungi_module.judging import Settings, in_the_way, judge_module  # noqa: E402
+from pungi_module.model import Place, Prepared, PreparedFunction, Verdict  # noqa: E402
+from pungi_module.program import FileRefused, ProgramError, TimeLimit  # noqa: E402
+from pungi_module.replay.definitions import definitions_of, place_at  # noqa: E402
+
+MODULE = """#include <Python.h>
+static PyObject *odd(PyObject *x) { Py_INCREF(x); return x; }
+static PyObject *same(PyObject *x) { return odd(x); }
+"""
+TEXT = "".join(f"int {name}(void) {{ return 0; }}\n" for name in "abcd")
+
+
+def clean(text: str) -> list[Verdict]:
+    """Verdicts that all functions of a text are clean."""
+    return [Verdict(name, "clean") for name in definitions_of(text)]
+
+
+class InTheWay(unittest.TestCase):
+    """Functions that are refused for which others are refused."""
+
+    def verdicts(self, **reasons: str) -> dict[str, Verdict]:
+        """Refusals of functions by these rules."""
+        return {name: Verdict(name, "refused", rule) for name, rule in reasons.items()}
+
+    def test_callee_with_a_rule_of_its_own(self) -> None:
+        place = Place("x.c", 1, 1)
+        functions = [PreparedFunction("f", place, 1, calls=["g"]), PreparedFunction("g", place, 2, calls=["h"]),
+                     PreparedFunction("h", place, 3)]
+        prepared = Prepared("x.c", "", {}, functions)
+        self.assertEqual(in_the_way(prepared, self.verdicts(f="N9", g="N9", h="N2")).keys(), {"h"})
+        self.assertEqual(in_the_way(prepared, self.verdicts(g="N9", h="N0")).keys(), set())
+        self.assertEqual(in_the_way(prepared, self.verdicts(h="N2")).keys(), set())
+
+
+class Parts(unittest.TestCase):
+    """Texts that take too long."""
+
+    def judged(self, slow: str, error: type[ProgramError] = TimeLimit) -> dict[str, str]:
+        """The words of all functions where the program does not end on a text that defines one of these."""
+        def judge(text: str, *_: object) -> list[Verdict]:
+            if set(slow) & definitions_of(text).keys():
+                raise error("too much")
+            return clean(text)
+
+        with mock.patch.object(parts, "judge", judge):
+            return {v.function: v.word for v in parts.judged_in_parts(TEXT, "", {"a": ["b"]}, 1, None)}
+
+    def test_only_what_takes_long_is_unknown(self) -> None:
+        self.assertEqual(self.judged("d"), {"a": "clean", "b": "clean", "c": "clean", "d": "unknown"})
+
+    def test_what_calls_it_takes_long_too(self) -> None:
+        self.assertEqual(self.judged("b"), {"a": "unknown", "b": "unknown", "c": "clean", "d": "clean"})
+
+    def test_other_errors_are_passed_on(self) -> None:
+        with self.assertRaises(ProgramError):
+            self.judged("d", ProgramError)
+
+
+@unittest.skipIf(running.missing(), running.missing())
+class Rounds(unittest.TestCase):
+    """A module of which the program refuses a function."""
+
+    def test_function_at_which_the_text_is_refused(self) -> None:
+        def judge(prepared: Prepared) -> list[Verdict]:
+            definitions = definitions_of(prepared.text)
+            if "odd" in definitions:
+                raise FileRefused("nested over 64", *place_at(prepared.text, definitions["odd"].body + 2))
+            return clean(prepared.text)
+
+        with tempfile.TemporaryDirectory() as folder:
+            path = Path(folder, "module.c")
+            path.write_text(MODULE, encoding="utf-8")
+            judged = judge_module(Source(str(path), ()), Settings(), judge)
+            found = {f.function: f for f in findings_of(judged, lambda name: False)}
+        self.assertEqual({name: f.word for name, f in found.items()}, {"odd": Word.OPEN, "same": Word.CLEAN})
+        self.assertIn("nested over 64", found["odd"].message)
+        self.assertEqual([a.name for a in found["same"].rests_on], ["default row for a function of the file"])
+
+
+if __name__ == "__main__":
+    unittest.main()
