@@ -1,11 +1,11 @@
 #!/bin/sh
 # Fetches the released modules that pungi-module is measured on, as Debian's source packages:
-#     sh tools/fetch_sources.sh [FOLDER]        /tmp/sources where none is named
+#     sh tools/fetch_sources.sh [FOLDER]        the folder `sources` of the system's temporary files where none is named
 # Each package is unpacked into a folder of its own: python3.11, psycopg2, multidict, mysqlclient, and headers/ for those of
 # the libraries that they use. The lists of the system's packages stay as they are: copies of them, with the sources asked
 # for besides, stand in a folder that goes away.
 set -eu
-folder=${1:-/tmp/sources}
+folder=${1:-$(python3 -c 'import tempfile; print(tempfile.gettempdir())')/sources}
 for word in apt-get dpkg-source; do
     command -v "$word" >/dev/null || { echo "fetch_sources: there is no $word (it is in the package dpkg-dev)" >&2; exit 1; }
 done
@@ -13,11 +13,14 @@ mkdir -p "$folder"
 work=$(mktemp -d)
 trap 'rm -rf "$work"' EXIT
 mkdir -p "$work/parts" "$work/lists/partial" "$work/packages"
+# Where the system's lists are: `list` is the file, and `parts` the folder, with a slash at its end.
+eval "$(apt-config shell list Dir::Etc::sourcelist/f parts Dir::Etc::sourceparts/d)"
+system_list=$list
 # In a .sources file a stanza says `Types: deb`; in a .list file each line begins with `deb`.
-for list in /etc/apt/sources.list.d/*.sources; do
+for list in "$parts"*.sources; do
     [ -e "$list" ] && sed 's/^Types:.*/Types: deb deb-src/' "$list" >"$work/parts/$(basename "$list")"
 done
-for list in /etc/apt/sources.list /etc/apt/sources.list.d/*.list; do
+for list in "$system_list" "$parts"*.list; do
     [ -e "$list" ] && sed -n 's/^deb \(.*\)/&\ndeb-src \1/p' "$list" >"$work/parts/sources_$(basename "$list")"
 done
 as_sources() {

@@ -3,13 +3,14 @@
 
     python3 tools/measure.py [FOLDER] [--only WORD,..] [--findings FILE] [--seconds S]
 
-FOLDER is that of fetch_sources.sh, /tmp/sources where none is named. A source that is not there is left out, and said.
+FOLDER is that of fetch_sources.sh, as is the one that is taken where none is named. A source that is not there is left out, and said.
 """
 
 from __future__ import annotations
 
 import argparse
 import sys
+import tempfile
 import time
 from collections import Counter
 from dataclasses import dataclass, field
@@ -104,7 +105,7 @@ def measured(name: str, files: list[Source], settings: Settings, printed: list[R
 def main() -> int:
     """Prints the table."""
     words = argparse.ArgumentParser(description="Measures pungi-module on released modules.")
-    words.add_argument("folder", nargs="?", default="/tmp/sources")
+    words.add_argument("folder", nargs="?", default=str(Path(tempfile.gettempdir()) / "sources"))
     words.add_argument("--only", default="")
     words.add_argument("--findings", metavar="FILE", help="writes the findings to a file")
     words.add_argument("--seconds", type=float, default=20.0)

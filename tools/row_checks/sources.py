@@ -4,10 +4,11 @@ from __future__ import annotations
 
 import os
 import subprocess
+import tempfile
 from pathlib import Path
 
 #: The directory of fetched sources, unless the environment variable PUNGI_SOURCES names another one.
-DIRECTORY = Path(os.environ.get("PUNGI_SOURCES", "/tmp/sources"))
+DIRECTORY = Path(os.environ.get("PUNGI_SOURCES", Path(tempfile.gettempdir()) / "sources"))
 SCRIPT = Path(__file__).resolve().parents[1] / "fetch_sources.sh"
 
 

@@ -14,8 +14,9 @@ from pungi_module.convention_file import (
     Convention, ConventionError, extend, merge, read_conventions,
 )  # fmt: skip
 from pungi_module.model import Row
-from pungi_module.program import ConfigurationRefused, NoProgram, find_program, judge
+from pungi_module.program import ConfigurationRefused, judge
 from pungi_module.rows import Output, load_rows
+from with_program import ProgramCase
 
 CONVENTIONS = """
 # What psycopg2 lends.
@@ -135,13 +136,7 @@ class Read(unittest.TestCase):
         self.assertEqual(read_conventions(text).conventions["curs_get"].takes, (2,))
 
 
-class WithTheProgram(unittest.TestCase):
-    def setUp(self) -> None:
-        try:
-            self.program = find_program()
-        except NoProgram as error:
-            self.skipTest(str(error))
-
+class WithTheProgram(ProgramCase):
     def test_all_rows_are_accepted(self) -> None:
         rows = load_rows()
         names = list(rows)

@@ -14,8 +14,9 @@ from pungi_module.convention_file import Convention
 from pungi_module.conventions import find_conventions, groups, judge_under, part_with
 from pungi_module.function_text import Parameter, find_functions, with_bodies_of
 from pungi_module.model import Place, Prepared, PreparedFunction, Row, RowSource, Run, Step, Value, Verdict
-from pungi_module.program import NoProgram, TimeLimit, find_program, judge
+from pungi_module.program import TimeLimit, judge
 from pungi_module.variant import row_under, variant
+from with_program import ProgramCase
 
 PLACE = Place("m.c", 1, 1)
 MODULE = """\
@@ -228,13 +229,7 @@ class Finding(unittest.TestCase):
         self.assertEqual(words, ["clean", "clean"])
 
 
-class WithTheProgram(unittest.TestCase):
-    def setUp(self) -> None:
-        try:
-            self.program = find_program()
-        except NoProgram as error:
-            self.skipTest(str(error))
-
+class WithTheProgram(ProgramCase):
     def judge(self, module: Prepared) -> list[Verdict]:
         """What the program says."""
         return judge(module.text, write_configuration(module.rows).text, program=self.program)

@@ -17,6 +17,7 @@ from pungi_module.program import (
     ConfigurationRefused, FileRefused, NoProgram, ProgramError, TimeLimit, find_program, judge,
 )  # fmt: skip
 from pungi_module.report import ReportError, read_report
+from with_program import ProgramCase
 
 #: The report of the README on crates/pungi/data/helpers.c.
 REPORT = """\
@@ -199,13 +200,7 @@ class Running(unittest.TestCase):
             self.assertEqual(find_program(), self.directory / "pungi")
 
 
-class WithTheProgram(unittest.TestCase):
-    def setUp(self) -> None:
-        try:
-            self.program = find_program()
-        except NoProgram as error:
-            self.skipTest(str(error))
-
+class WithTheProgram(ProgramCase):
     def test_report_of_the_readme(self) -> None:
         helpers = program.REPOSITORY / "crates" / "pungi" / "data" / "helpers.c"
         self.assertEqual(judge(helpers.read_text(), program=self.program), read_report(REPORT))
