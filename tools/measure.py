@@ -3,14 +3,14 @@
 
     python3 tools/measure.py [FOLDER] [--only WORD,..] [--findings FILE] [--seconds S]
 
-FOLDER is that of fetch_sources.sh, as is the one that is taken where none is named. A source that is not there is left out, and said.
+FOLDER is that of fetch_sources.sh, as is the one that is taken where none is named. A source that is not there is left
+out, and said.
 """
 
 from __future__ import annotations
 
 import argparse
 import sys
-import tempfile
 import time
 from collections import Counter
 from dataclasses import dataclass, field
@@ -18,6 +18,7 @@ from pathlib import Path
 
 sys.path.insert(0, str(Path(__file__).resolve().parent))
 
+from fetched import FOLDER, packages  # noqa: E402
 from pungi_module.compilation import Source  # noqa: E402
 from pungi_module.findings import Finding, Word  # noqa: E402
 from pungi_module.formats import FORMATS, Shown  # noqa: E402
@@ -27,10 +28,6 @@ from pungi_module.package import judge_package, report_of  # noqa: E402
 from pungi_module.program import find_program  # noqa: E402
 from pungi_module.results import Report  # noqa: E402
 
-CPYTHON = "_bisectmodule _heapqmodule _queuemodule _operator _csv _json xxlimited _struct".split()
-POSTGRES = ("-Iheaders/libpq-dev/usr/include/postgresql", '-DPSYCOPG_VERSION="2.9.5"', "-DPY_SSIZE_T_CLEAN",
-            "-DHAVE_LO64=1")
-MYSQL = ("-Iheaders/libmariadb-dev/usr/include/mariadb", '-D__version__="1.4.6"', "-Dversion_info=(1,4,6,'final',0)")
 #: What the columns of the table are.
 HEADS = "Module Functions Accepted Clean Plain Fault Doubtful Convention Open Refused Prepare Judge".split()
 
@@ -78,17 +75,6 @@ class Row:
         return [self.name, *map(str, counts), *causes, f"{self.preparing:.1f}", f"{self.judging:.1f}"]
 
 
-def sources(folder: Path) -> list[tuple[str, list[Source]]]:
-    """The sources to measure on, by the line of the table."""
-    modules = folder / "python3.11" / "Modules"
-    named = [(name, [modules / f"{name}.c"], ("-I" + str(modules),)) for name in CPYTHON]
-    named.append(("psycopg2", sorted((folder / "psycopg2" / "psycopg").glob("*.c")), POSTGRES))
-    named.append(("multidict", [folder / "multidict" / "multidict" / "_multidict.c"], ()))
-    named.append(("mysqlclient", [folder / "mysqlclient" / "MySQLdb" / "_mysql.c"], MYSQL))
-    placed = {name: tuple(f.replace("-Iheaders", f"-I{folder}/headers") for f in flags) for name, _, flags in named}
-    return [(name, [Source(str(path), placed[name]) for path in paths if path.exists()]) for name, paths, _ in named]
-
-
 def measured(name: str, files: list[Source], settings: Settings, printed: list[Report]) -> Row:
     """The line of some files."""
     row = Row(name)
@@ -105,7 +91,7 @@ def measured(name: str, files: list[Source], settings: Settings, printed: list[R
 def main() -> int:
     """Prints the table."""
     words = argparse.ArgumentParser(description="Measures pungi-module on released modules.")
-    words.add_argument("folder", nargs="?", default=str(Path(tempfile.gettempdir()) / "sources"))
+    words.add_argument("folder", nargs="?", default=str(FOLDER))
     words.add_argument("--only", default="")
     words.add_argument("--findings", metavar="FILE", help="writes the findings to a file")
     words.add_argument("--seconds", type=float, default=20.0)
@@ -113,7 +99,7 @@ def main() -> int:
     settings = Settings(seconds=asked.seconds, program=find_program())
     print("| " + " | ".join(HEADS) + " |\n|" + "---|" * len(HEADS))
     whole, printed, start = Row("all"), [], time.monotonic()
-    for name, files in sources(Path(asked.folder)):
+    for name, files in packages(Path(asked.folder)):
         if asked.only and name not in asked.only.split(","):
             continue
         if not files:

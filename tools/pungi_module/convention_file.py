@@ -5,7 +5,7 @@ It is a file of TOML with up to three kinds of tables:
     [convention.Box_item]       # a function of the package or of a library: what its callers may rely on
     returns = "borrowed"        # its result is a borrowed reference; "new" where nothing is said
     takes = [2]                 # the numbers, from 1, of the parameters whose reference it takes over
-    outputs = { 3 = "new?" }    # what it writes through a pointer, in the words of rows/wide.py
+    outputs = { 3 = "new?" }    # what it writes through a pointer: "new", "new?", "borrowed", "kept" or "replaced"
 
     [function.library_call]     # a call of a library, by a whole row as in docs/CONFIGURATION.md
     params = ["object", "text"]
@@ -31,6 +31,10 @@ from .rows.plain import RowError, row_of
 FOUND = "# Found by pungi-module. Keep what is meant, and mend the functions where it is not.\n"
 
 
+#: What a function may do to the object to whose variable it gets a pointer, in the words of rows/wide.py.
+OUTPUTS = ("new", "new?", "borrowed", "kept", "replaced")
+
+
 class ConventionError(ValueError):
     """A file of conventions that cannot be read. The text is the wrong key, with the reason."""
 
@@ -46,6 +50,11 @@ class Convention:
     takes: tuple[int, ...] = ()
     #: What it writes through its pointers, by the number of the parameter.
     outputs: dict[int, Output] = field(default_factory=dict, hash=False)
+
+    @property
+    def returns_borrowed(self) -> bool:
+        """Its result is a borrowed reference."""
+        return self.returns == "borrowed"
 
 
 @dataclass
@@ -107,9 +116,8 @@ def convention_of(name: str, table: dict[str, Any]) -> Convention:
     if not is_numbers(takes):
         raise ConventionError(f"{key}.takes: no list of different numbers from 1")
     outputs = table.get("outputs", {})
-    words = [output.value for output in Output]
-    if not isinstance(outputs, dict) or not all(n.isdecimal() and w in words for n, w in outputs.items()):
-        raise ConventionError(f"{key}.outputs: no table from numbers to {', '.join(words)}")
+    if not isinstance(outputs, dict) or not all(n.isdecimal() and w in OUTPUTS for n, w in outputs.items()):
+        raise ConventionError(f"{key}.outputs: no table from numbers to {', '.join(OUTPUTS)}")
     return Convention(name, returns, tuple(takes), {int(n): Output(w) for n, w in outputs.items()})
 
 

@@ -13,9 +13,11 @@ from dataclasses import replace
 from itertools import combinations
 
 from .convention_file import Convention
-from .function_text import find_functions, with_bodies_of
+from .function_text import find_functions
 from .model import Prepared, Verdict
 from .program import ProgramError
+from .reached import reached
+from .replay.definitions import calls_in, with_only
 from .rows import load_rows, load_wide_rows
 from .variant import source_of, variant, with_rows
 
@@ -117,7 +119,9 @@ def promises_of_calls(
     used = words_of_faulty(prepared, judge_under(prepared, known, judge))
     rows = by_function(prepared, used)
     for name in sorted(rows.keys() - described):
-        users = [module for module in package if by_function(module, module.rows.keys()).get(name)]
+        called = [by_function(module, module.rows.keys()).get(name, []) for module in package]
+        users = [part_that_calls(module, names, judge) for module, names in zip(package, called, strict=True)
+                 if names]
         so_far = {**known, **found}
         before = [judge_under(module, so_far, judge) for module in users]
         for promise in promises_of_rows(name, prepared, rows[name]):
@@ -186,32 +190,27 @@ def words_of_faulty(prepared: Prepared, verdicts: list[Verdict]) -> set[str]:
 
 def part_with(prepared: Prepared, names: Iterable[str]) -> Prepared:
     """The module with the bodies of some functions, and of those that their calls come to, alone."""
-    needed = set(names).union(*(reachable(prepared, name) for name in names))
-    return replace(prepared, text=with_bodies_of(prepared.text, needed))
+    return replace(prepared, text=with_only(prepared.text, reached(names, calls_in(prepared.text))))
+
+
+def part_that_calls(prepared: Prepared, rows: Collection[str], judge: Judge) -> Prepared:
+    """The module with the bodies alone of the functions whose verdict depends on one of these rows, without those that
+    Pungi gives up on."""
+    given_up = {verdict.function for verdict in judge(prepared) if verdict.word == "unknown"}
+    users = {name for name, function in find_functions(prepared.text).items() if function.words & set(rows)}
+    calls = calls_in(prepared.text)
+    return part_with(prepared, [name for name in calls if name not in given_up and users & set(reached([name], calls))])
 
 
 def groups(prepared: Prepared, names: list[str]) -> list[list[str]]:
     """The names in groups, in none of which a function comes to a call of another one."""
-    reached = {name: reachable(prepared, name) for name in names}
+    met = {name: reached([name], prepared.calls) for name in names}
     made: list[list[str]] = []
     for name in names:
         for group in made:
-            if not any(other in reached[name] or name in reached[other] for other in group):
+            if not any(other in met[name] or name in met[other] for other in group):
                 group.append(name)
                 break
         else:
             made.append([name])
     return made
-
-
-def reachable(prepared: Prepared, name: str) -> set[str]:
-    """The functions of a module that calls from a function come to."""
-    calls = {function.name: function.calls for function in prepared.functions}
-    found: set[str] = set()
-    left = list(calls.get(name, ()))
-    while left:
-        callee = left.pop()
-        if callee not in found:
-            found.add(callee)
-            left += calls.get(callee, ())
-    return found

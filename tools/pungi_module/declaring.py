@@ -47,8 +47,11 @@ def new_conventions(
     faulty = [one for one in modules if any(verdict.word == "faulty" for verdict in one.verdicts.values())]
     spoken = known.keys() | settings.declared.conventions.keys() | settings.declared.rows.keys()
     python_calls = {f.name for one in modules for f in one.prepared.functions if f.is_in_table}
+    judge = Judge(settings.seconds, settings.program)
+    for one in faulty:
+        judge.remember(one)
     try:
-        found = find_conventions([one.prepared for one in faulty], Judge(settings.seconds, settings.program), rounds=1)
+        found = find_conventions([one.prepared for one in faulty], judge, rounds=1)
     except FAILURES:
         return {}
     return {one.name: one for one in found if one.name not in spoken and one.name not in python_calls}

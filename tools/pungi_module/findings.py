@@ -8,8 +8,9 @@ from enum import Enum
 
 from .judged import Judged
 from .model import Assumption, Place, Prepared, PreparedFunction, Run, Verdict
+from .reached import reached
 from .reasons import cause_of, reason_of
-from .telling import Told, tell
+from .run_in_words import RunLine, run_in_words
 
 
 #: The assumption that a callee, whose name is its detail, does as its verdict says.
@@ -40,7 +41,7 @@ class Finding:
     place: Place
     message: str
     #: The run, line by line.
-    told: list[Told] = field(default_factory=list)
+    lines: list[RunLine] = field(default_factory=list)
     #: What it rests on: of a doubtful one the weak assumptions, else all.
     rests_on: list[Assumption] = field(default_factory=list)
     #: The reason as one word, where it is open.
@@ -81,12 +82,12 @@ def open_place(prepared: Prepared, function: PreparedFunction, verdict: Verdict)
 
 def fault_of(judged: Judged, function: PreparedFunction, run: Run, is_weak: Callable[[str], bool]) -> Finding:
     """The finding of a faulty function."""
-    message, told, lines = tell(judged.prepared, judged.rows, function, run)
+    message, lines, visited = run_in_words(judged.prepared, judged.rows, function, run)
     place = judged.prepared.place_of(run.line, run.column) or function.place
-    weak = [a for a in function.assumptions if is_met(a, lines) and (is_weak(a.name) or is_on_unclean(a, judged))]
+    weak = [a for a in function.assumptions if is_met(a, visited) and (is_weak(a.name) or is_on_unclean(a, judged))]
     paste = judged.conventions.get(function.name)
     word = Word.CONVENTION if paste else Word.DOUBTFUL if weak else Word.FAULT
-    return Finding(word, function.name, place, message, told, weak or function.assumptions, paste=paste)
+    return Finding(word, function.name, place, message, lines, weak or function.assumptions, paste=paste)
 
 
 def is_on_unclean(assumption: Assumption, judged: Judged) -> bool:
@@ -102,11 +103,10 @@ def is_met(assumption: Assumption, lines: set[tuple[str, int]] | None) -> bool:
 
 def grouped(judged: Judged, found: Iterable[Finding]) -> list[Finding]:
     """The findings without the faults that a caller has through a callee, which are named at the callee's."""
-    calls = {f.name: f.calls for f in judged.prepared.functions}
     faulty = {f.function: f for f in found if f.word in (Word.FAULT, Word.DOUBTFUL, Word.CONVENTION)}
     kept = []
     for finding in found:
-        callee = callee_at_fault(finding, calls, faulty) if finding.function in faulty else None
+        callee = callee_at_fault(finding, judged.prepared.calls, faulty) if finding.function in faulty else None
         if callee is None:
             kept.append(finding)
         else:
@@ -117,7 +117,7 @@ def grouped(judged: Judged, found: Iterable[Finding]) -> list[Finding]:
 def callee_at_fault(finding: Finding, calls: Mapping[str, list[str]], faulty: Mapping[str, Finding]) -> Finding | None:
     """The faulty callee within which the caller's object came into being, if its own fault is of that object too."""
     born = birth(finding)
-    for name in reached(finding.function, calls):
+    for name in reached([finding.function], calls):
         callee = faulty.get(name)
         if name != finding.function and callee is not None and born is not None and birth(callee) == born:
             return callee
@@ -126,16 +126,5 @@ def callee_at_fault(finding: Finding, calls: Mapping[str, list[str]], faulty: Ma
 
 def birth(finding: Finding) -> tuple[str, int, str] | None:
     """Where a run first has to do with the object that is not level."""
-    first = next((t for t in finding.told if t.owned is not None), None)
+    first = next((t for t in finding.lines if t.owned is not None), None)
     return (first.place.file, first.place.line, first.words) if first else None
-
-
-def reached(function: str, calls: Mapping[str, list[str]]) -> list[str]:
-    """The functions of the module that a function calls, and those that these call."""
-    seen, left = [function], [function]
-    while left:
-        for name in calls.get(left.pop(), []):
-            if name not in seen:
-                seen.append(name)
-                left.append(name)
-    return seen

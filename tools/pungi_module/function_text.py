@@ -85,18 +85,6 @@ def find_functions(text: str) -> dict[str, FunctionText]:
     return found
 
 
-def with_bodies_of(text: str, names: Collection[str]) -> str:
-    """The text with the bodies of these functions alone. The others are only declared, and no line moves."""
-    pieces: list[str] = []
-    at = 0
-    for function in find_functions(text).values():
-        if function.name not in names:
-            left_out = text[function.body : function.end]
-            pieces += [text[at : function.body - 1], ";", re.sub(r"[^\n]", " ", left_out)]
-            at = function.end
-    return "".join([*pieces, text[at:]])
-
-
 def tokens_of(text: str) -> list[Token]:
     """The tokens of a text without comments and directives."""
     return [Token(m[0], m.start(), m.end()) for m in TOKEN.finditer(text) if m.lastgroup != "skip"]

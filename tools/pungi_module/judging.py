@@ -15,8 +15,8 @@ from .configuration import write_configuration
 from .convention_file import Declared
 from .judged import Judged
 from .model import Prepared, Row, Verdict
-from .preparation.options import Convention, Options
 from .parts import judged_in_parts
+from .preparation.options import Options
 from .preparation.prepare import prepare
 from .preparation.reading.preprocess import NotRead, python_flags
 from .program import FileRefused, ProgramError
@@ -46,10 +46,9 @@ class Settings:
         return {**load_rows(), **self.declared.rows}
 
     def options(self) -> Options:
-        """What the preparation is told besides the source."""
-        conventions = {c.name: Convention(c.returns == "borrowed", c.takes) for c in self.declared.conventions.values()}
+        """What the preparation knows besides the source."""
         borrowed = frozenset((tag, name) for tag, names in self.declared.borrowed_fields.items() for name in names)
-        return Options(conventions=conventions, borrowed_fields=borrowed, init_twice=self.init_twice)
+        return Options(self.declared.conventions, borrowed, init_twice=self.init_twice)
 
 
 @dataclass(frozen=True)
@@ -63,11 +62,20 @@ class Judge:
     def __call__(self, prepared: Prepared) -> list[Verdict]:
         """The verdicts on the functions of a prepared module."""
         configuration = write_configuration(prepared.rows).text
-        mark = hashlib.sha256(f"{configuration}\0{prepared.text}".encode("utf-8", "surrogateescape")).hexdigest()
+        mark = mark_of(prepared, configuration)
         if mark not in self.known:
-            calls = {f.name: f.calls for f in prepared.functions if f.not_prepared is None}
-            self.known[mark] = judged_in_parts(prepared.text, configuration, calls, self.seconds, self.program)
+            self.known[mark] = judged_in_parts(prepared.text, configuration, self.seconds, self.program)
         return self.known[mark]
+
+    def remember(self, judged: Judged) -> None:
+        """Takes over the verdicts on a module that was judged before."""
+        mark = mark_of(judged.prepared, write_configuration(judged.prepared.rows).text)
+        self.known[mark] = list(judged.verdicts.values())
+
+
+def mark_of(prepared: Prepared, configuration: str) -> str:
+    """A mark of what the program reads of a prepared module."""
+    return hashlib.sha256(f"{configuration}\0{prepared.text}".encode("utf-8", "surrogateescape")).hexdigest()
 
 
 def judge_module(source: Source, settings: Settings, judge: Judge) -> Judged:

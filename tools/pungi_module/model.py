@@ -79,6 +79,13 @@ class Prepared:
     places: dict[tuple[int, int], Place] = field(default_factory=dict)
     #: Of rows that stand for functions with conventions of their own, which functions these are.
     row_sources: dict[str, RowSource] = field(default_factory=dict)
+    #: What the preprocessor had to pass over, such as a header that is not there.
+    notes: list[str] = field(default_factory=list)
+
+    @cached_property
+    def calls(self) -> dict[str, list[str]]:
+        """The functions of the module that each one calls."""
+        return {function.name: function.calls for function in self.functions}
 
     def place_of(self, line: int, column: int) -> Place | None:
         """The place of a token of the text, or of the nearest one before it on its line."""
@@ -136,7 +143,7 @@ class Verdict:
     function: str
     #: `clean`, `faulty`, `unknown` or `refused`.
     word: str
-    #: For `unknown`: `traces`, `number`, or another word of the report. For `refused`: `N0` to `N17`.
+    #: For `unknown`: `traces`, `number`, `loop`, or another word of the report. For `refused`: `N0` to `N16`.
     reason: str | None = None
     line: int | None = None
     column: int | None = None

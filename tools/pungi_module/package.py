@@ -5,13 +5,13 @@ from __future__ import annotations
 import sys
 from collections.abc import Iterator, Sequence
 
-from .preparation.assumptions import ASSUMPTIONS
 from .compilation import Source
 from .convention_file import Convention
 from .declaring import with_conventions
 from .findings import findings_of
 from .judged import Judged
 from .judging import Settings, over_all
+from .preparation.assumptions import ASSUMPTIONS
 from .preparation.reading.preprocess import NotRead
 from .results import Report, Status
 
@@ -21,6 +21,9 @@ def judge_package(
 ) -> tuple[list[Judged | Exception], list[Convention]]:
     """The modules, judged, in their order, and the conventions that were found."""
     done = list(progress(sources, over_all(sources, settings, jobs)))
+    for source, one in zip(sources, done, strict=True):
+        for note in one.prepared.notes if isinstance(one, Judged) else ():
+            print(f"pungi-module: {source.path}: {note}", file=sys.stderr)
     package = [(source, one) for source, one in zip(sources, done, strict=True) if isinstance(one, Judged)]
     judged, found = with_conventions(package, settings, jobs)
     left = iter(judged)

@@ -9,8 +9,8 @@ UNKNOWN = {
     "traces": "there are more ways through it than Pungi looks at",
     "shapes": "its objects take more shapes than Pungi looks at",
     "range": "its numbers grow past the range in which Pungi computes",
-    "number": "a number in it is not followed exactly",
-    "loop": "what a loop does to references is not the same each time",
+    "number": "a number in it is not followed; up to there nothing is wrong",
+    "loop": "a loop in it is followed until it begins a third round; up to there nothing is wrong",
     "call": "what a call in it does to references is not known",
     "time": "judging it takes longer than is allowed",
     "memory": "judging it takes more memory than there is",
@@ -18,7 +18,7 @@ UNKNOWN = {
 
 #: The rules of the verdict `refused` (README, 'What is refused').
 REFUSED = {
-    "N0": "its form is not judged yet: a loop, or a call of a function of the file",
+    "N0": "its form is not judged yet: a call of a function of the file",
     "N1": "the type of a parameter, local, result or cast is not supported",
     "N2": "an operator or constant is not supported",
     "N3": "a call through a pointer, or the name of a function that is not called",

@@ -87,7 +87,7 @@ def constants(code: types.CodeType) -> list[object]:
 
 
 def staying(call: Callable[..., object], make: types.FunctionType, objects: dict[int, object]) -> dict[str, object]:
-    """The objects whose counts tell what a call does: of the arguments and the result those that stay."""
+    """The objects whose counts show what a call does: of the arguments and the result those that stay."""
     found = dict(KEPT)
     for number, (one, other) in enumerate(zip(make(), make(), strict=True), 1):
         if one is other:

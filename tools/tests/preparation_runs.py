@@ -2,7 +2,6 @@
 
 from __future__ import annotations
 
-import functools
 import re
 import sys
 import tempfile
@@ -15,11 +14,9 @@ sys.path.insert(0, str(Path(__file__).resolve().parent.parent))
 from pungi_module.model import Prepared, Row  # noqa: E402
 from pungi_module.preparation.options import Options  # noqa: E402
 from pungi_module.preparation.prepare import prepare  # noqa: E402
+from pungi_module.rows import load_rows  # noqa: E402
 
-try:
-    import running
-except ImportError:  # the harness is a part of its own
-    running = None  # type: ignore[assignment]
+import running  # noqa: E402
 
 HEAD = "#define PY_SSIZE_T_CLEAN\n#include <Python.h>\n"
 
@@ -30,36 +27,13 @@ static void pungi_checked_DECREF(void *p) { if (!p) 1 / 0; Py_DECREF((PyObject *
 static PyObject *pungi_checked_NewRef(void *p) { if (!p) 1 / 0; return Py_NewRef((PyObject *)p); }
 """
 
-#: The rows that the tests use where the rows of the manual are not there.
-FEW_ROWS = {
-    "PyUnicode_AsUTF8": Row(("object",), "text"),
-    "PyUnicode_Check": Row(("object",), "truth"),
-    "PyNumber_Index": Row(("object",), "new"),
-    "PyErr_Occurred": Row((), "borrowed"),
-    "PyTuple_GET_SIZE": Row(("object",), "size"),
-    "PyList_GET_SIZE": Row(("object",), "size"),
-    "PyErr_ExceptionMatches": Row(("object",), "truth"),
-    "PyErr_Restore": Row(("object?", "object?", "object?"), "void", (1, 2, 3)),
-    "PyErr_NewException": Row(("text", "object?", "object?"), "new"),
-}
-
-
-@functools.lru_cache
-def all_rows() -> dict[str, Row]:
-    """The rows of the manual, where they are there."""
-    try:
-        from pungi_module.rows import load_rows
-    except ImportError:
-        return FEW_ROWS
-    return load_rows()
-
 
 def prepared(source: str, options: Options | None = None) -> Prepared:
     """The prepared text of a source that includes Python.h."""
     with tempfile.TemporaryDirectory(prefix="pungi-test-") as folder:
         path = Path(folder, "module.c")
         path.write_text(HEAD + source)
-        return prepare(str(path), None, all_rows(), options)
+        return prepare(str(path), None, load_rows(), options)
 
 
 def body(found: Prepared, name: str) -> str:
@@ -97,7 +71,7 @@ class PreparationCase(unittest.TestCase):
         found = prepared(source, options)
         reasons = [item.not_prepared for item in found.functions if item.name == function]
         self.assertEqual(reasons, [None], found.text)
-        if running is None or running.missing():
+        if running.missing():
             return found
         original = HEAD + source
         rows = {**found.rows, "pungi_occurred": Row((), "borrowed")}

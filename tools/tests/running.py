@@ -1,7 +1,7 @@
 """Runs a C function and its prepared text in this Python, and compares what they do to reference counts.
 
-Both are compiled with gcc into shared libraries and called with the same arguments. A call of the prepared text that no
-function of Python stands behind (`pungi_long_o`, a default row) is one that chooses what it returns, among all that its
+Both are compiled with gcc into shared libraries and called with the same arguments. A call of the prepared text for which
+Python has no function (`pungi_long_o`, a default row) is one that chooses what it returns, among all that its
 row allows; each way of choosing is one run. The runs of the original have to be among those of the prepared text.
 """
 
@@ -46,7 +46,7 @@ def missing() -> str | None:
 class Outcome:
     """What a run did: the number that it returned, or which object; the changes of counts; whether memory is lost.
 
-    Objects are told by their number among the tracked ones. The changes are those after the result is given back and
+    Objects go by their number among the tracked ones. The changes are those after the result is given back and
     the error is cleared.
     """
 

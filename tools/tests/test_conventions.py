@@ -12,9 +12,10 @@ sys.path.insert(0, str(Path(__file__).resolve().parents[1]))
 from pungi_module.configuration import write_configuration
 from pungi_module.convention_file import Convention
 from pungi_module.conventions import find_conventions, groups, judge_under, part_with
-from pungi_module.function_text import Parameter, find_functions, with_bodies_of
+from pungi_module.function_text import Parameter, find_functions
 from pungi_module.model import Place, Prepared, PreparedFunction, Row, RowSource, Run, Step, Value, Verdict
 from pungi_module.program import TimeLimit, judge
+from pungi_module.replay.definitions import with_only
 from pungi_module.variant import row_under, variant
 from with_program import ProgramCase
 
@@ -66,11 +67,11 @@ class Texts(unittest.TestCase):
     def test_bodies_that_are_left_out(self) -> None:
         text = "int f(void) {\n  return 1; }\nint g(void) { return f(); }\nint h(void) { return 2; }\n"
         self.assertEqual(
-            with_bodies_of(text, {"g"}),
+            with_only(text, {"g"}),
             "int f(void) ;\n" + " " * 13 + "\nint g(void) { return f(); }\nint h(void) ;" + " " * 12 + "\n",
         )
         module = prepared(text, calls={"g": ["f"]})
-        self.assertEqual(part_with(module, ["g"]).text, with_bodies_of(text, {"f", "g"}))
+        self.assertEqual(part_with(module, ["g"]).text, with_only(text, {"f", "g"}))
 
     def test_macro_that_returns(self) -> None:
         text = "PyObject *f(void) { if (1) Py_RETURN_NONE; return NULL; }"

@@ -5,11 +5,13 @@ from __future__ import annotations
 import json
 import tempfile
 import unittest
+from dataclasses import replace
 from pathlib import Path
 
 import samples
 from pungi_module.findings import Word, findings_of
 from pungi_module.formats import FORMATS, Shown
+from pungi_module.model import Verdict
 from pungi_module.results import Report, Status, Strictness, status_of
 
 
@@ -33,12 +35,21 @@ class Findings(unittest.TestCase):
         self.assertEqual(words, {"Box_round": Word.FAULT, "twice": Word.DOUBTFUL, "same": Word.CLEAN, "deep": Word.OPEN,
                                  "odd": Word.NOT_PREPARED, "first": Word.CONVENTION})
 
+    def test_function_that_is_open_at_a_place(self) -> None:
+        judged = samples.judged(self.file)
+        for cause in ("loop", "number"):
+            verdicts = {**judged.verdicts, "same": Verdict("same", "unknown", cause, 29, 5)}
+            found = findings_of(replace(judged, verdicts=verdicts), samples.is_weak)[2]
+            self.assertEqual((found.function, found.word, found.cause), ("same", Word.OPEN, cause))
+            self.assertEqual((found.place.line, found.place.column), (29, 5))
+            self.assertIn("nothing is wrong", found.message)
+
     def test_fault_through_a_callee_is_named_there(self) -> None:
         self.assertEqual(self.named["Box_round"].also, ["Box_rounded"])
 
     def test_run_with_counts(self) -> None:
-        told = [(t.place.line, t.words, t.owned) for t in self.named["Box_round"].told]
-        self.assertEqual(told, [
+        lines = [(t.place.line, t.words, t.owned) for t in self.named["Box_round"].lines]
+        self.assertEqual(lines, [
             (7, "PyObject_GetAttrString returns a new reference to round", 1),
             (10, "PyObject_CallObject fails", None),
             (12, "return, with 1 reference too many", None),
@@ -64,7 +75,8 @@ class Findings(unittest.TestCase):
 
     def test_github(self) -> None:
         lines = self.printed("github").splitlines()
-        self.assertEqual([line.split(" ")[0] for line in lines], ["::error", "::warning", "::notice", "::notice", "::notice"])
+        levels = [line.split(" ")[0] for line in lines]
+        self.assertEqual(levels, ["::error", "::warning", "::notice", "::notice", "::notice"])
         self.assertIn(",line=12,col=9,title=fault%3A Box_round::Box_round leaks", lines[0])
         self.assertIn("%0Aline 10: PyObject_CallObject fails", lines[0])
 

@@ -23,7 +23,8 @@ MODULE = """#include <Python.h>
 static PyObject *odd(PyObject *x) { Py_INCREF(x); return x; }
 static PyObject *same(PyObject *x) { return odd(x); }
 """
-TEXT = "".join(f"int {name}(void) {{ return 0; }}\n" for name in "abcd")
+#: Of four functions the first calls the second.
+TEXT = "".join(f"int {name}(void) {{ return {'b()' if name == 'a' else 0}; }}\n" for name in "abcd")
 
 
 def clean(text: str) -> list[Verdict]:
@@ -59,7 +60,7 @@ class Parts(unittest.TestCase):
             return clean(text)
 
         with mock.patch.object(parts, "judge", judge):
-            return {v.function: v.word for v in parts.judged_in_parts(TEXT, "", {"a": ["b"]}, 1, None)}
+            return {v.function: v.word for v in parts.judged_in_parts(TEXT, "", 1, None)}
 
     def test_only_what_takes_long_is_unknown(self) -> None:
         self.assertEqual(self.judged("d"), {"a": "clean", "b": "clean", "c": "clean", "d": "unknown"})

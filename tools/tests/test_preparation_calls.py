@@ -3,9 +3,16 @@
 from __future__ import annotations
 
 import unittest
+from collections.abc import Iterator
+from contextvars import ContextVar
 
 from preparation_runs import PreparationCase, assumed, body, prepared
-from pungi_module.preparation.options import Convention, Options
+from with_program import ProgramCase
+
+from pungi_module.findings import Word
+from pungi_module.convention_file import Convention
+from pungi_module.preparation.options import Options
+from pungi_module.rows import Output
 
 
 class Calls(PreparationCase):
@@ -48,6 +55,15 @@ class Calls(PreparationCase):
         source = """PyObject *f(PyObject *a) { return PyErr_Format(PyExc_ValueError, "%R", a); }"""
         self.assert_runs(source, "f", [list])
 
+    def test_iterator_that_returns_gives_a_reference(self) -> None:
+        source = """PyObject *f(PyObject *it) { PyObject *out; PySendResult sent = PyIter_Send(it, Py_None, &out);
+            if (sent == PYGEN_ERROR) { PyErr_Clear(); return Py_NewRef(out ? Py_True : Py_False); }
+            if (sent == PYGEN_RETURN) { Py_DECREF(out); return Py_NewRef(Py_None); }
+            Py_DECREF(out); return Py_NewRef(it); }"""
+        for made in (returning, lambda: (x for x in ([],)), lambda: map(int, ["x"])):
+            with self.subTest(made):
+                self.assert_runs(source, "f", [made])
+
     def test_dictionary_loop(self) -> None:
         source = """PyObject *f(PyObject *d) { Py_ssize_t at = 0; PyObject *k, *v, *last = Py_None;
             while (PyDict_Next(d, &at, &k, &v)) { last = v; } return Py_NewRef(last); }"""
@@ -58,6 +74,18 @@ class Calls(PreparationCase):
         found = prepared(source)
         self.assertIn("output parameter", assumed(found, "f"))
         self.assertIn("out->i0 = Py_NewRef(a)", body(found, "f"))
+
+    def test_parameter_that_is_cleared_or_set(self) -> None:
+        source = """int f(PyObject *a, PyObject **out) { if (a == NULL) { Py_DECREF(*out); *out = NULL; return 1; }
+            *out = Py_NewRef(a); return 2; }
+            int g(PyObject *a, PyObject **out) { if (*out) Py_INCREF(a); *out = a; return 0; }
+            int h(PyObject *a, PyObject **out) { PyObject *old; if (f(a, out) < 0) return -1; old = *out; *out = a;
+                Py_XDECREF(old); return 0; }"""
+        found = prepared(source)
+        self.assertEqual([assumed(found, name) & {"output parameter"} for name in "fgh"],
+                         [{"output parameter"}, set(), set()])
+        self.assertIn("Py_DECREF(out->i0); out->i0 = NULL;", body(found, "f"))
+        self.assertIn("if (out->i0) { Py_INCREF(NULL); } out->i0 = Py_NewRef(a);", body(found, "f"))
 
     def test_own_callee_is_a_row(self) -> None:
         source = """static PyObject *helper(PyObject *a) { return Py_NewRef(a); }
@@ -84,13 +112,22 @@ class Calls(PreparationCase):
     def test_declared_conventions(self) -> None:
         source = """PyObject *keep(PyObject *a) { Py_DECREF(a); return Py_None; }
             PyObject *f(PyObject *a) { Py_INCREF(a); return Py_NewRef(keep(a)); }"""
-        options = Options(conventions={"keep": Convention(returns_borrowed=True, takes=(1,))})
+        options = Options(conventions={"keep": Convention("keep", "borrowed", (1,))})
         found = prepared(source, options)
         self.assertIn("Py_XINCREF(a)", body(found, "keep"))
         self.assertIn("return Py_XNewRef(Py_None)", body(found, "keep"))
         row = found.rows["pungi_call_keep"]
         self.assertEqual((row.result, row.takes), ("borrowed", (1,)))
         self.assertIn("declared", assumed(found, "f"))
+
+    def test_declared_outputs(self) -> None:
+        source = """int find(PyObject *a, PyObject **out);
+            PyObject *f(PyObject *a) { PyObject *x = NULL; if (find(a, &x) < 0) return NULL; Py_XINCREF(x); return x; }"""
+        for left, printed in ((Output.BORROWED, "x = pungi_any_sure()"), (Output.NEW, "x = pungi_any_new()")):
+            options = Options(conventions={"find": Convention("find", outputs={2: left})})
+            found = prepared(source, options)
+            self.assertIn(printed, body(found, "f"))
+            self.assertEqual(assumed(found, "f"), {"declared"})
 
     def test_call_through_a_pointer(self) -> None:
         source = "PyObject *f(PyObject *a, PyObject *(*g)(PyObject *)) { return g(a); }"
@@ -101,6 +138,28 @@ class Calls(PreparationCase):
         found = prepared(source)
         self.assertIn("default row", assumed(found, "f"))
         self.assertEqual(found.rows["other"].result, "new")
+
+    def test_check_of_a_type_goes_two_ways(self) -> None:
+        source = """PyObject *f(PyObject *a) { if (PyLong_Check(a) && !PyBool_Check(a)) Py_RETURN_NONE;
+            return Py_NewRef(a); }"""
+        for made in (lambda: 3, lambda: True, list):
+            found = self.assert_runs(source, "f", [made])
+        self.assertIn("!pungi_PyLong_Check(a)", body(found, "f"))
+        self.assertEqual(found.rows["pungi_PyLong_Check"].result, "status")
+
+    def test_wide_rows(self) -> None:
+        source = """PyObject *f(PyObject *a) { int over; long n; void *p = PyMem_Malloc(3); if (!p) return NULL;
+            PyMem_Free(p); n = PyLong_AsLongAndOverflow(a, &over); if (over || n > 1) return NULL;
+            return Py_NewRef(a); }"""
+        for number in (1, 2 ** 80):
+            found = self.assert_runs(source, "f", [lambda: number])
+        self.assertEqual(assumed(found, "f"), set())
+
+    def test_output_that_is_null_where_the_call_fails(self) -> None:
+        source = """PyObject *f(PyObject *a) { PyObject *out; if (PyContextVar_Get(a, NULL, &out) < 0) {
+            PyErr_Clear(); return out ? Py_NewRef(out) : Py_NewRef(a); } Py_XDECREF(out); return Py_NewRef(a); }"""
+        self.assert_runs(source, "f", [lambda: ContextVar("v")])
+        self.assert_runs(source, "f", [lambda: 3])
 
     def test_more_arguments_than_a_row_has(self) -> None:
         source = """PyObject *f(PyObject *a) { return PyTuple_Pack(9, a, a, a, a, a, a, a, a, a); }"""
@@ -113,6 +172,23 @@ class Calls(PreparationCase):
     def test_stop(self) -> None:
         source = """PyObject *f(PyObject *a) { if (a == Py_None) Py_FatalError("none"); return Py_NewRef(a); }"""
         self.assert_runs(source, "f", [list])
+
+
+def returning() -> Iterator[object]:
+    """A generator that returns a list before it gives anything."""
+    return []
+    yield
+
+
+class WithTheProgram(ProgramCase):
+    """What the program reports of calls."""
+
+    def test_parameter_that_is_cleared_or_set(self) -> None:
+        found = self.words("""int f(PyObject *a, PyObject **out) {
+                if (a == NULL) { Py_DECREF(*out); *out = NULL; return 1; } *out = Py_NewRef(a); return 2; }
+            int g(PyObject *a, PyObject **out) { if (a == NULL) Py_XDECREF(*out); *out = Py_XNewRef(a); return 0; }
+            """)
+        self.assertEqual({name: word for name, (word, _) in found.items()}, {"f": Word.CLEAN, "g": Word.FAULT})
 
 
 class _Box:

@@ -9,9 +9,8 @@ from pathlib import Path
 sys.path.insert(0, str(Path(__file__).resolve().parent.parent))
 
 from pungi_module.model import Row, Run, Step, Value  # noqa: E402
-from pungi_module.parts import with_only  # noqa: E402
 from pungi_module.replay import Deed, replayed  # noqa: E402
-from pungi_module.replay.definitions import definitions_of  # noqa: E402
+from pungi_module.replay.definitions import definitions_of, with_only  # noqa: E402
 
 ROWS = {
     "PyList_New": Row(("size",), "new"),
@@ -94,7 +93,7 @@ class Definitions(unittest.TestCase):
         self.assertEqual(list(definitions_of(self.TEXT)), ["f", "g"])
 
     def test_parts(self) -> None:
-        part = with_only(self.TEXT, definitions_of(self.TEXT), {"f"})
+        part = with_only(self.TEXT, {"f"})
         self.assertEqual((len(part), part.count("\n")), (len(self.TEXT), self.TEXT.count("\n")))
         self.assertEqual(list(definitions_of(part)), ["f"])
         self.assertIn("int g(int a)\n;", part)

@@ -176,7 +176,7 @@ class WithCPython(unittest.TestCase):
 
     @unittest.skipIf(NO_COMPILER or OTHER_PYTHON, "needs gcc and CPython 3.11")
     def test_wrong_rows_are_noticed(self) -> None:
-        rows, wide = load_rows(), load_wide_rows()
+        rows, wide = dict(load_rows()), dict(load_wide_rows())
         rows["PyDict_GetItem"] = replace(rows["PyDict_GetItem"], result="new")
         rows["PyNumber_Add"] = replace(rows["PyNumber_Add"], result="borrowed")
         rows["PyList_SetItem"] = replace(rows["PyList_SetItem"], takes=())

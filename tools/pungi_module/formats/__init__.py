@@ -5,7 +5,7 @@ from __future__ import annotations
 from collections.abc import Callable, Sequence
 
 from ..results import Report
-from . import github, as_json, sarif, text
+from . import as_json, github, sarif, text
 from .shown import Shown
 
 #: Each format prints all reports at once.

@@ -27,7 +27,7 @@ def module(report: Report) -> dict[str, Any]:
 
 def found(finding: Finding) -> dict[str, Any]:
     """One finding."""
-    run = [{**place(t.place), "words": t.words, "owned": t.owned} for t in finding.told]
+    run = [{**place(t.place), "words": t.words, "owned": t.owned} for t in finding.lines]
     return {
         "word": finding.word.value,
         "function": finding.function,

@@ -29,7 +29,7 @@ def command(finding: Finding, shown: Shown) -> str:
     """The command of one finding."""
     place = finding.place
     where = f"file={property_text(shown_path(place.file))},line={place.line},col={place.column}"
-    lines = [finding.message, *(f"line {t.place.line}: {t.words}{count(t.owned)}" for t in finding.told)]
+    lines = [finding.message, *(f"line {t.place.line}: {t.words}{count(t.owned)}" for t in finding.lines)]
     lines += [f"rests on {a.name}: {a.detail}" for a in finding.rests_on] if finding.word is Word.DOUBTFUL else []
     lines += ["clean with:", finding.paste] if finding.paste else []
     title = property_text(f"{finding.word.value}: {finding.function}")

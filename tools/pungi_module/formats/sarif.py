@@ -9,7 +9,7 @@ from typing import Any
 from ..findings import Finding, Word
 from ..model import Place
 from ..results import Report, level_of, shown_path
-from ..telling import Told
+from ..run_in_words import RunLine
 from .shown import Shown
 
 SCHEMA = "https://json.schemastore.org/sarif-2.1.0.json"
@@ -29,7 +29,8 @@ def printed(reports: Sequence[Report], shown: Shown) -> str:
     failures = [failure(report) for report in reports if report.failure is not None]
     invocation = {"executionSuccessful": not failures, "toolExecutionNotifications": failures}
     driver = {"name": "pungi-module", "rules": rules}
-    run = {"tool": {"driver": driver}, "results": results, "invocations": [invocation], "columnKind": "unicodeCodePoints"}
+    run = {"tool": {"driver": driver}, "results": results, "invocations": [invocation],
+           "columnKind": "unicodeCodePoints"}
     return json.dumps({"$schema": SCHEMA, "version": "2.1.0", "runs": [run]}, indent=1) + "\n"
 
 
@@ -52,8 +53,8 @@ def result(finding: Finding, shown: Shown) -> dict[str, Any]:
         "message": {"text": message(finding)},
         "locations": [{**location(finding.place), "logicalLocations": [logical(finding.function)]}],
     }
-    if finding.told:
-        steps = [{"location": {**location(t.place), "message": {"text": told(t)}}} for t in finding.told]
+    if finding.lines:
+        steps = [{"location": {**location(t.place), "message": {"text": words_of(t)}}} for t in finding.lines]
         value["codeFlows"] = [{"threadFlows": [{"locations": steps}]}]
     return value
 
@@ -67,7 +68,7 @@ def message(finding: Finding) -> str:
     return "\n".join([finding.message, *rests, *also, *declared])
 
 
-def told(line: Told) -> str:
+def words_of(line: RunLine) -> str:
     """A line of a run."""
     return line.words if line.owned is None else f"{line.words}: {line.owned}"
 

@@ -7,7 +7,7 @@ from collections.abc import Iterator, Sequence
 from ..findings import Finding, Word
 from ..model import Place
 from ..results import Report, Strictness, shown_path
-from ..telling import Told, source_line
+from ..run_in_words import RunLine, source_line
 from .shown import Shown
 
 COLOURS = {Word.FAULT: 31, Word.DOUBTFUL: 33, Word.CONVENTION: 33, Word.CLEAN: 32, Word.OPEN: 36, Word.NOT_PREPARED: 36}
@@ -38,8 +38,8 @@ def finding_lines(finding: Finding, shown: Shown) -> Iterator[str]:
     yield f"{at(finding.place)}: {coloured(finding.word, shown)}: {message(finding, shown)}"
     if finding.word in (Word.FAULT, Word.DOUBTFUL, Word.CONVENTION):
         yield from caret_lines(finding.place)
-        for told in finding.told:
-            yield f"        {told_line(told, finding.place)}"
+        for line in finding.lines:
+            yield f"        {run_line(line, finding.place)}"
     if finding.also:
         yield f"    also seen in {', '.join(finding.also)}"
     if finding.word is Word.DOUBTFUL:
@@ -83,9 +83,9 @@ def caret_lines(place: Place) -> Iterator[str]:
         yield f"    {before}^"
 
 
-def told_line(told: Told, beside: Place) -> str:
+def run_line(line: RunLine, beside: Place) -> str:
     """A line of a run, with its count and its source."""
-    where = f"line {told.place.line}" if told.place.file == beside.file else at(told.place)
-    count = "" if told.owned is None else f": {told.owned}"
-    words = f"{where}: {told.words}{count}"
-    return f"{words:<58} | {source_line(told.place).strip()[:WIDTH]}".rstrip(" |")
+    where = f"line {line.place.line}" if line.place.file == beside.file else at(line.place)
+    count = "" if line.owned is None else f": {line.owned}"
+    words = f"{where}: {line.words}{count}"
+    return f"{words:<58} | {source_line(line.place).strip()[:WIDTH]}".rstrip(" |")

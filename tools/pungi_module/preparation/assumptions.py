@@ -37,11 +37,15 @@ ASSUMPTIONS: dict[str, AssumptionKind] = {
     "output of a function of the file": AssumptionKind(
         "A function of the file leaves a new reference or NULL where an argument points to.", True, True),
     "output parameter": AssumptionKind(
-        "What a parameter points to holds no reference at entry.", False, True),
+        "What a parameter points to holds no reference where the function stores there before it reads it.", False,
+        True),
     "struct passed by address": AssumptionKind(
         "A call that gets the address of a local struct leaves borrowed references or NULL in its fields.", True, True),
+    "buffer passed on": AssumptionKind(
+        "A call that gets the address of a local Py_buffer leaves the reference in it as it is.", True, True),
     "pointer to a struct": AssumptionKind(
-        "A pointer that is not kept, taken as one to a struct without a count, points to any such struct.", False, False),
+        "A pointer that is not kept, taken as one to a struct without a count, points to any such struct.", False,
+        False),
     "pointer to object": AssumptionKind(
         "A pointer that is not kept, cast to an object, is any borrowed reference.", True, True),
     "pointer returned as an object": AssumptionKind(
@@ -73,6 +77,8 @@ ASSUMPTIONS: dict[str, AssumptionKind] = {
         "Each optional argument is given or not, whatever the others are.", False, False),
     "format": AssumptionKind(
         "A format that is no constant takes nothing over.", True, True),
+    "any number": AssumptionKind(
+        "The result of an arithmetic that Pungi does not follow is any number.", True, False),
     "variadic": AssumptionKind(
         "Arguments after the named ones are any values.", False, False),
     "resized object": AssumptionKind(

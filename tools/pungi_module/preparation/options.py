@@ -4,13 +4,7 @@ from __future__ import annotations
 
 from dataclasses import dataclass, field
 
-
-@dataclass(frozen=True)
-class Convention:
-    """What the author declares of a function: its result is borrowed, and which parameters it takes over, from 1."""
-
-    returns_borrowed: bool = False
-    takes: tuple[int, ...] = ()
+from ..convention_file import Convention
 
 
 @dataclass

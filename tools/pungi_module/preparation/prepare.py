@@ -6,24 +6,25 @@ import os
 
 from pycparser import c_ast
 
-from .translation import translators
-from .text.assemble import print_text, row_sources, used_rows
+from ..model import Assumption, Place, Prepared, PreparedFunction, Row
+from .options import Options
+from .passes.arithmetic import Arithmetic
 from .passes.collapse import Collapse
 from .passes.first_stores import FirstStores
-from .translation.functions import PrintedFunction, translate
 from .passes.init_once import guarded
-from .text.limits import broken_limit, broken_size
-from ..model import Assumption, Place, Prepared, PreparedFunction, Row
-from .types.module import Module
-from .options import Options
-from .reading.parse import parse
-from .reading.preprocess import python_flags
 from .passes.resolve import resolved
 from .passes.shared_locals import with_shared_locals
-from .text.text_state import TextState
-from .types.type_slots import TypeSlots
 from .passes.unused import Unused
+from .reading.parse import parse
+from .reading.preprocess import python_flags
+from .text.assemble import print_text, row_sources, used_rows
+from .text.limits import broken_limit, broken_size
+from .text.text_state import TextState
+from .translation import translators
+from .translation.functions import PrintedFunction, translate
 from .translation.values import Cannot
+from .types.module import Module
+from .types.type_slots import TypeSlots
 
 #: How often the functions are translated again because one of them turned out not to be expressible.
 ROUND_LIMIT = 8
@@ -102,11 +103,15 @@ def finished(state: TextState, node: c_ast.FuncDef) -> PrintedFunction:
     """The translated function, in which parts without objects collapse and first stores are guarded."""
     function = translate(state, node)
     function.body = Collapse(state.rows, function.variables).body(function.body)
+    arithmetic = Arithmetic(state.rows, function.variables)
+    function.body = arithmetic.body(function.body)
     parameters = {name for _, name in function.parameters}
     function.body = Unused(state.rows, function.variables, parameters).body(function.body)
+    function.assumptions += [Assumption("any number", op, place)
+                             for place, op in arithmetic.left_in(function.body).items()]
     stores = FirstStores(state, node, function.variables)
     function.body, slots = guarded(function.body, stores.is_first, stores.is_global)
-    for slot in slots:
+    for slot in dict.fromkeys(slots):
         function.assumptions.append(Assumption(stores.assumption(slot), slot, function.place))
     if broken_size(function) is not None:
         function.body = with_shared_locals(function.body)
@@ -134,7 +139,7 @@ def assembled(state: TextState, functions: list[PrintedFunction]) -> Prepared:
             found.append(not_prepared(name, declaration, "the parser does not read its body"))
     rows = used_rows(state, functions)
     return Prepared(state.module.parsed.path, "".join(printer.out), rows, found, printer.places,
-                    row_sources=row_sources(state, rows))
+                    row_sources=row_sources(state, rows), notes=state.module.parsed.notes)
 
 
 def not_prepared(name: str, node: c_ast.Decl, reason: str) -> PreparedFunction:

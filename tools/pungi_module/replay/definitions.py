@@ -3,6 +3,7 @@
 from __future__ import annotations
 
 import re
+from collections.abc import Collection
 from dataclasses import dataclass
 from functools import lru_cache
 
@@ -10,8 +11,8 @@ from pycparser import c_ast, c_parser
 
 #: The types that Pungi knows by itself, and its macros, as a parser of C needs them.
 TYPES = """PyObject PyVarObject PyTypeObject PyMethodDef PyModuleDef PyModuleDef_Slot PyMemberDef PyGetSetDef
-PyNumberMethods PySequenceMethods PyMappingMethods PyType_Slot PyType_Spec PyCFunction Py_ssize_t Py_hash_t Py_buffer PyThreadState
-PyGILState_STATE size_t ssize_t int8_t int16_t int32_t int64_t uint8_t uint16_t uint32_t uint64_t bool FILE""".split()
+PyNumberMethods PySequenceMethods PyMappingMethods PyType_Slot PyType_Spec PyCFunction Py_ssize_t Py_hash_t Py_buffer
+PyThreadState PyGILState_STATE size_t ssize_t int8_t int16_t int32_t int64_t uint8_t uint16_t uint32_t uint64_t bool FILE""".split()
 #: Pungi's macros as a parser of C reads them. `NULL` keeps its width, so that what follows it stays at its place.
 MACROS = {
     "Py_RETURN_NONE": "return Py_NewRef(Py_None)",
@@ -61,9 +62,28 @@ def definitions_of(text: str) -> dict[str, Definition]:
     return found
 
 
+@lru_cache(maxsize=4)
+def calls_in(text: str) -> dict[str, list[str]]:
+    """The functions of a text that each one names: a call by a row names none."""
+    found = definitions_of(text)
+    words = {name: dict.fromkeys(re.findall(r"\w+", text[one.body : one.end])) for name, one in found.items()}
+    return {name: [word for word in words[name] if word in found] for name in found}
+
+
 def place_at(text: str, offset: int) -> tuple[int, int]:
     """Line and column of a byte, counted from 1."""
     return text.count("\n", 0, offset) + 1, offset - (text.rfind("\n", 0, offset) + 1) + 1
+
+
+def with_only(text: str, names: Collection[str]) -> str:
+    """The text with the bodies of these functions alone; the others are declared, and all stands where it stood."""
+    pieces, at = [], 0
+    for definition in definitions_of(text).values():
+        if definition.name not in names:
+            body = text[definition.body : definition.end]
+            pieces += [text[at : definition.body], ";", re.sub(r"[^\n]", " ", body)[1:]]
+            at = definition.end
+    return "".join([*pieces, text[at:]])
 
 
 def parsed(text: str, definition: Definition) -> c_ast.FuncDef:

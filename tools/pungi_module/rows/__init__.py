@@ -12,6 +12,6 @@ A parameter is `object?` or `text?` where the manual allows NULL, and also where
 
 from .known import Known, load_known
 from .plain import load_rows
-from .wide import Output, WideRow, load_wide_rows
+from .wide import Output, WideRow, Written, load_wide_rows
 
-__all__ = ["Known", "Output", "WideRow", "load_known", "load_rows", "load_wide_rows"]
+__all__ = ["Known", "Output", "WideRow", "Written", "load_known", "load_rows", "load_wide_rows"]

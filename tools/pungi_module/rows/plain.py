@@ -3,7 +3,10 @@
 from __future__ import annotations
 
 import tomllib
+from collections.abc import Mapping
+from functools import cache
 from pathlib import Path
+from types import MappingProxyType
 from typing import Any
 
 from ..model import Row
@@ -21,12 +24,13 @@ class RowError(ValueError):
     """A row that says what no row can say. The text names the function and the key."""
 
 
-def load_rows() -> dict[str, Row]:
+@cache
+def load_rows() -> Mapping[str, Row]:
     """The row of each call, by its name."""
     rows: dict[str, Row] = {}
     for name, table in read_tables(DIRECTORY, "function"):
         rows[name] = row_of(name, table)
-    return rows
+    return MappingProxyType(rows)
 
 
 def read_tables(directory: Path, key: str) -> list[tuple[str, dict[str, Any]]]:

@@ -18,9 +18,12 @@ Besides the words of a configuration there are
 
 from __future__ import annotations
 
+from collections.abc import Mapping
 from dataclasses import dataclass, field
 from enum import Enum
+from functools import cache
 from pathlib import Path
+from types import MappingProxyType
 from typing import Any
 
 from .plain import PARAMETERS, RESULTS, RowError, read_tables
@@ -98,9 +101,10 @@ class WideRow:
     rest: Rest | None = None
 
 
-def load_wide_rows() -> dict[str, WideRow]:
+@cache
+def load_wide_rows() -> Mapping[str, WideRow]:
     """The row of each call that needs more words than a configuration has, by its name."""
-    return {name: wide_row_of(name, table) for name, table in read_tables(DIRECTORY, "wide")}
+    return MappingProxyType({name: wide_row_of(name, table) for name, table in read_tables(DIRECTORY, "wide")})
 
 
 def wide_row_of(name: str, table: dict[str, Any]) -> WideRow:

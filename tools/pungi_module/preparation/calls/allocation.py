@@ -4,17 +4,17 @@ from __future__ import annotations
 
 from pycparser import c_ast
 
-from ..types.c_types import CType, Pointer, Struct
-from ..translation.conversions import effects_of
-from .freed import MAKING_CALLS
-from ..types.kinds import Kind
 from ...model import Row
+from ..reading.syntax import arguments, called_name, stripped
 from ..text.rows_used import LETTERS, WORDS, Effect
 from ..text.subset import NULL, STOP_VALUE, Assign, Call, CastTo, Conditional, Expr, Name, UnsetFields
-from ..reading.syntax import arguments, called_name, stripped
+from ..translation.conversions import effects_of
 from ..translation.targets import target
 from ..translation.translation import Translation
 from ..translation.values import Form, Value, kept
+from ..types.c_types import CType, Pointer, Struct
+from ..types.kinds import Kind
+from .freed import MAKING_CALLS
 
 
 def made_struct(t: Translation, node: c_ast.Node, kind: CType) -> CType | None:

@@ -4,13 +4,13 @@ from __future__ import annotations
 
 from pycparser import c_ast
 
+from ..reading.syntax import string_value
+from ..translation.handlers import call
+from ..translation.translation import Translation
+from ..translation.values import Value
 from ..types.c_types import OBJECT
 from .default_calls import Signature, default_call
 from .format_units import build_units
-from ..translation.handlers import call
-from ..reading.syntax import string_value
-from ..translation.translation import Translation
-from ..translation.values import Value
 
 #: For each call the place of its format among the arguments, from 0.
 FORMATS = {

@@ -4,25 +4,24 @@ from __future__ import annotations
 
 from pycparser import c_ast
 
-from . import tables
-from ..types.c_types import INT, OBJECT, OBJECTS, OTHER, SIZE, TEXT, VOID, CType, FunctionType, decayed, pointee
-from ..translation.conversions import effects_of
-from .default_calls import Signature, default_call
-from .freed import freed, freeing_names
-from ..translation.handlers import CALLS, expression
-from ..types.kinds import Kind
-from ..translation.names import effect_list
-from .outputs import output_target
-from .own_calls import own_call
-from .row_calls import known_row, row_call
-from ..text.subset import STOP
 from ..reading.syntax import arguments, stripped
-from .tables import Answer
+from ..text.subset import STOP
+from ..translation.conversions import effects_of
+from ..translation.handlers import CALLS, expression
+from ..translation.names import effect_list
 from ..translation.translation import Translation
 from ..translation.values import Value, done, done_by
-
-MACRO_TYPES: dict[str, CType] = {"size": SIZE, "void": VOID, "text": TEXT, "object": OBJECT, "objects": OBJECTS}
-
+from ..types.c_types import INT, OBJECT, OTHER, CType, FunctionType, decayed, pointee
+from ..types.kinds import Kind
+from . import tables
+from .default_calls import Signature, default_call
+from .freed import freed, freeing_names
+from .outputs import output_target
+from .own_calls import own_call
+from .row_calls import RESULT_TYPES, known_row, row_call
+from .row_names import freeing_calls, stopping_calls
+from .tables import WhenSet
+from .wide_calls import outputs_left, wide_call, wide_rows
 
 @expression(c_ast.FuncCall)
 def call_value(t: Translation, node: c_ast.FuncCall) -> Value:
@@ -41,19 +40,20 @@ def named_call(t: Translation, node: c_ast.FuncCall, name: str, given: list[c_as
         return own_call(t, node, name, given)
     if name in CALLS:
         return CALLS[name](t, node, given)
-    if name in tables.STOPS:
+    if name in stopping_calls():
         return done(*(item for item in done_by(effect_list(t, given)).statements), STOP)
     if name in tables.NOTHING:
         return done_by(effect_list(t, given))
-    if name in tables.FREES and given:
+    if name in freeing_calls() and given:
         return free_call(t, node, name, given)
     if name in t.state.options.conventions:
         return declared_call(t, node, name, given)
-    if name in tables.OUTPUTS:
-        return output_call(t, node, name, given)
     row = known_row(t, name, len(given))
     found = row_call(t, node, name, row, given) if row is not None else None
-    return found if found is not None else unknown_call(t, node, name, given)
+    if found is not None:
+        return found
+    wide = wide_rows().get(name) if name not in t.state.api else None
+    return unknown_call(t, node, name, given) if wide is None else wide_call(t, node, name, wide, given)
 
 
 def free_call(t: Translation, node: c_ast.FuncCall, name: str, given: list[c_ast.Node]) -> Value:
@@ -65,21 +65,14 @@ def free_call(t: Translation, node: c_ast.FuncCall, name: str, given: list[c_ast
     return done_by(effect_list(t, given))
 
 
-def output_call(t: Translation, node: c_ast.FuncCall, name: str, given: list[c_ast.Node]) -> Value:
-    """A call whose outputs are known."""
-    known = tables.OUTPUTS[name]
-    result = VOID if known.answer == Answer.VOID else INT
-    word = "status" if known.answer == Answer.CHOICE else None
-    return default_call(t, node, Signature(name, result, takes=known.takes, answer=known.answer, outputs=known.outputs,
-                                           result_word=word), given)
-
-
 def declared_call(t: Translation, node: c_ast.FuncCall, name: str, given: list[c_ast.Node]) -> Value:
     """A call of a function that the author describes."""
     said = t.state.options.conventions[name]
     t.assume("declared", name, node)
-    ownership = "borrowed" if said.returns_borrowed else "new"
-    return default_call(t, node, Signature(name, result_of(t, name), ownership, said.takes, function=name), given)
+    result, ownership = result_of(t, name), "borrowed" if said.returns_borrowed else "new"
+    when_set = WhenSet.STATUS if said.outputs and result == INT else None
+    return default_call(t, node, Signature(name, result, ownership, said.takes, when_set, outputs_left(said.outputs),
+                                           function=name), given)
 
 
 def result_of(t: Translation, name: str) -> CType:
@@ -87,29 +80,28 @@ def result_of(t: Translation, name: str) -> CType:
     signature = t.module.signature(name)
     if signature is not None:
         return signature.result
-    if name in tables.MACRO_RESULTS:
-        return MACRO_TYPES[tables.MACRO_RESULTS[name]]
+    row = t.state.api.get(name)
+    if row is not None:
+        return RESULT_TYPES[row.result]
     if name.endswith(("_Check", "_CheckExact", "_IS_TYPE")):
         return INT
     return OBJECT if name in tables.BORROWED else OTHER
 
 
 def unknown_call(t: Translation, node: c_ast.FuncCall, name: str, given: list[c_ast.Node]) -> Value:
-    """A call of a function of which only its prototype is known."""
+    """A call of a function of which only its prototype is known, or whose row is about other arguments."""
     result = result_of(t, name)
-    is_object = t.kind(result) == Kind.OBJECT
-    borrowed = name in tables.BORROWED or is_object and t.kinds.is_uncounted(result)
     row = t.state.api.get(name)
-    if not borrowed and row is not None and row.result.startswith("borrowed"):
-        borrowed = True
-    if row is None and name not in tables.BORROWED and name not in tables.MACRO_RESULTS:
+    borrowed = name in tables.BORROWED or t.kind(result) == Kind.OBJECT and t.kinds.is_uncounted(result)
+    if row is not None:
+        borrowed = borrowed or row.result.startswith("borrowed")
+    elif name not in tables.BORROWED:
         t.assume("default row", name, node)
     has_outputs = any(output_target(t, argument) is not None for argument in given)
     status = has_outputs and result == INT and name.startswith(("Py", "_Py"))
     word = "truth" if result == INT and name.endswith(("_Check", "_CheckExact")) else None
-    takes = tables.TAKES.get(name, row.takes if row is not None else ())
-    signature = Signature(name, result, "borrowed" if borrowed else "new", takes, Answer.STATUS if status else None,
-                          result_word=word, function=name)
+    signature = Signature(name, result, "borrowed" if borrowed else "new", row.takes if row is not None else (),
+                          WhenSet.STATUS if status else None, result_word=word, function=name)
     return default_call(t, node, signature, given)
 
 

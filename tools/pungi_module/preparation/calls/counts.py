@@ -4,16 +4,16 @@ from __future__ import annotations
 
 from pycparser import c_ast
 
-from ..types.c_types import OBJECT
+from ..reading.syntax import stripped
+from ..text.subset import NULL, Arrow, Assign, Block, Call, CastTo, Declare, Expr, Expression, Name, Stmt, walk
 from ..translation.conversions import as_object, effects_of
 from ..translation.handlers import call
-from ..types.kinds import Kind
 from ..translation.stores import store
-from ..text.subset import NULL, Arrow, Assign, Block, Call, CastTo, Declare, Expr, Expression, Name, Stmt, walk
-from ..reading.syntax import stripped
 from ..translation.targets import target
 from ..translation.translation import Translation
 from ..translation.values import Form, Target, Value, Variable, done, done_by, kept
+from ..types.c_types import OBJECT
+from ..types.kinds import Kind
 
 #: The call that is printed for each.
 COUNT_CALLS = {

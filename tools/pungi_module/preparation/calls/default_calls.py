@@ -6,16 +6,16 @@ from dataclasses import dataclass, field
 
 from pycparser import c_ast
 
-from ..types.c_types import INT, CType, Number
-from ..translation.conversions import effects_of, ordered
-from ..types.kinds import Kind
 from ...model import Row, RowSource
-from .outputs import OutputPlace, clear_output, output_places, set_output
 from ..text.rows_used import LETTERS, PARAMETER_LIMIT, WORDS, Effect, is_harmless
 from ..text.subset import NULL, ONE, ZERO, Assign, Binary, Call, Conditional, Expr, Expression, Literal, Unary, is_pure
-from .tables import Answer, Output
+from ..translation.conversions import effects_of, ordered
 from ..translation.translation import Translation
 from ..translation.values import Cannot, Value, done, kept, opaque
+from ..types.c_types import INT, CType, Number
+from ..types.kinds import Kind
+from .outputs import OutputPlace, clear_output, output_places, set_output
+from .tables import Output, WhenSet
 
 
 @dataclass
@@ -29,7 +29,7 @@ class Signature:
     #: The arguments that it takes over, from 1.
     takes: tuple[int, ...] = ()
     #: How its value says which outputs are set, where it does.
-    answer: Answer | None = None
+    when_set: WhenSet | None = None
     outputs: dict[int, Output] = field(default_factory=dict)
     #: The word of the row's result, where it is not that of the type.
     result_word: str | None = None
@@ -125,15 +125,20 @@ class DefaultCall:
         stores = [set_output(self.t, found) for found in self.outputs]
         return given_up + [store for store in stores if store is not None]
 
+    def clear_outputs(self) -> list[Effect]:
+        """NULL in the outputs that are objects."""
+        cleared = [clear_output(self.t, found) for found in self.outputs]
+        return [effect for effect in cleared if effect is not None]
+
     def value(self) -> Value:
         """The call's value, after its outputs are set."""
         stores = self.set_outputs()
         if not stores:
             return self.plain_value()
-        answer = self.signature.answer
-        if answer is None or answer in (Answer.VOID, Answer.CHOICE):
+        when_set = self.signature.when_set
+        if when_set is None:
             return self.value_after(stores)
-        return kept(Kind.INT, INT, self.answered(answer, stores))
+        return kept(Kind.INT, INT, self.value_with_outputs(when_set, stores))
 
     def plain_value(self) -> Value:
         """The value of a call without outputs."""
@@ -152,20 +157,24 @@ class DefaultCall:
             return done(Expression(call, place=call.place), *(Expression(expr) for expr, _ in stores))
         return ordered(self.t, stores, self.plain_value())
 
-    def answered(self, answer: Answer, stores: list[Effect]) -> Expr:
+    def value_with_outputs(self, when_set: WhenSet, stores: list[Effect]) -> Expr:
         """The value of a call that says which outputs are set."""
         all_set = self.t.generic("null", stores)
         minus_one = Literal("-1")
-        if answer == Answer.CONVERTER:
+        if when_set == WhenSet.CONVERTER:
             return Conditional(self.call("status"), Unary("!", all_set), ZERO)
-        if answer == Answer.TRUTH:
-            cleared = [clear_output(self.t, found) for found in self.outputs]
-            none = self.t.generic("null", [effect for effect in cleared if effect is not None])
+        if when_set == WhenSet.TRUTH:
+            none = self.t.generic("null", self.clear_outputs())
             failed = Conditional(self.t.generic("choice"), Conditional(none, ZERO, minus_one),
                                  Conditional(none, ONE, ZERO))
             return Conditional(Binary(">", self.call("truth"), ZERO), Unary("!", all_set), failed)
+        if when_set in (WhenSet.CLEARED, WhenSet.SENT):
+            none = self.t.generic("null", self.clear_outputs())
+            success = Unary("!", self.t.generic("choice")) if when_set == WhenSet.SENT else ZERO
+            return Conditional(Binary("<", self.call("status"), ZERO), Conditional(none, ZERO, minus_one),
+                               Conditional(all_set, ZERO, success))
         call = Binary("<", self.call("status"), ZERO)
-        if answer == Answer.RESIZED:
+        if when_set == WhenSet.RESIZED:
             place = self.outputs[0].place
             lost = [(self.t.state.rows.take(place.code), Kind.OBJECT),
                     (Assign(place.code, "=", NULL, place.slot), Kind.OBJECT)]

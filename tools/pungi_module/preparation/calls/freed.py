@@ -4,14 +4,15 @@ from __future__ import annotations
 
 from pycparser import c_ast
 
-from ..types.c_types import CType, Pointer, Struct
-from ..translation.conversions import effects_of
-from ..types.kinds import HEAD_KEYS, Kind
-from ..text.subset import EndOfObject, Name
 from ..reading.syntax import arguments, below, called_name, stripped, type_name
-from .tables import FREEING_SLOTS, FREES
+from ..text.subset import EndOfObject, Name
+from ..translation.conversions import effects_of
 from ..translation.translation import Translation
 from ..translation.values import Value, done, done_by
+from ..types.c_types import CType, Pointer, Struct
+from ..types.kinds import HEAD_KEYS, Kind
+from .row_names import freeing_calls
+from .tables import FREEING_SLOTS
 
 #: Calls that make an object with fields.
 MAKING_CALLS = frozenset("pungi_New tp_alloc PyType_GenericAlloc PyType_GenericNew".split())
@@ -88,5 +89,5 @@ def freeing_names(node: c_ast.Node) -> set[str]:
 
 def frees_something(node: c_ast.Node) -> bool:
     """An object is freed in the statement."""
-    names = FREES | FREEING_SLOTS | freeing_names(node)
+    names = freeing_calls() | FREEING_SLOTS | freeing_names(node)
     return any(called_name(item) in names for item in below(node))

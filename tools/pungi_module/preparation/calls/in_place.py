@@ -7,14 +7,13 @@ from dataclasses import replace
 
 from pycparser import c_ast
 
-from ..types.c_types import VOID, FunctionType, decayed
-from ..capabilities import CALLS_OF_THE_FILE
-from ..translation.conversions import effects_of, fit
-from ..types.kinds import Kind
-from ..text.subset import Assign, Block, Declare, Expression, Jump, Label, Name, Stmt
 from ..reading.syntax import arguments, below, called_name, stripped
+from ..text.subset import Assign, Block, Declare, Expression, Jump, Label, Name, Stmt
+from ..translation.conversions import effects_of, fit
 from ..translation.translation import Frame, Translation
 from ..translation.values import Variable
+from ..types.c_types import VOID, FunctionType, decayed
+from ..types.kinds import Kind
 
 #: How deep calls stand in place, and how large their bodies are, in nodes of pycparser's tree.
 DEPTH_LIMIT = 3
@@ -72,7 +71,7 @@ def is_object_memory(t: Translation, node: c_ast.Node) -> bool:
 def stands_in_place(t: Translation, node: c_ast.Node) -> bool:
     """The callee's body may stand in place of the call."""
     name = callee_of(t, node)
-    if CALLS_OF_THE_FILE or name is None or not t.state.stands_in_text(name):
+    if name is None or not t.state.stands_in_text(name):
         return False
     if t.node.decl.name in t.state.without_bodies:
         return False

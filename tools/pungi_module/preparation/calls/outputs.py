@@ -6,16 +6,16 @@ from dataclasses import dataclass
 
 from pycparser import c_ast
 
-from ..types.c_types import Array, Struct
-from ..translation.conversions import effects_of
-from ..types.kinds import Kind
+from ..reading.syntax import stripped
 from ..text.rows_used import Effect
 from ..text.subset import NULL, Assign, Conditional, Name
-from ..reading.syntax import stripped
-from .tables import Output
 from ..translation.targets import target
 from ..translation.translation import Translation
 from ..translation.values import Form, Target
+from ..types.c_types import Array, Struct
+from ..types.kinds import Kind
+from .buffers import is_only_read, owner_of
+from .tables import Output
 
 
 @dataclass
@@ -44,6 +44,9 @@ def output_target(t: Translation, argument: c_ast.Node) -> Target | None:
     inner = argument.expr
     if isinstance(inner, c_ast.UnaryOp):
         return None
+    buffer = owner_of(t, argument)
+    if buffer is not None:
+        return buffer
     if isinstance(inner, c_ast.ID) and t.lookup(inner.name) is None:
         known = t.module.globals.get(inner.name)
         if known is None or isinstance(known.type, Struct):
@@ -60,6 +63,10 @@ def output_places(t: Translation, node: c_ast.Node, function: str, at: int, argu
     place = output_target(t, argument)
     if place is None:
         return None
+    if said is None and owner_of(t, argument) is not None:
+        if not is_only_read(t, function.removeprefix("pungi_call_"), at):
+            t.assume("buffer passed on", "%s, argument %d" % (function, at + 1), node)
+        return [], []
     if place.form == Form.KEPT:
         if said is None and t.kind(place.type) == Kind.OBJECT:
             t.assume("output guessed", "%s, argument %d" % (function, at + 1), node)
@@ -94,7 +101,7 @@ def set_output(t: Translation, found: OutputPlace) -> Effect | None:
     elif kind == Kind.TEXT:
         value = t.generic("text")
     else:
-        value = t.generic("int" if kind == Kind.INT else "long")
+        value = t.generic(kind.number_word)
     slot = found.place.slot if kind == Kind.OBJECT else None
     return Assign(found.place.code, "=", value, slot), kind
 
@@ -104,8 +111,3 @@ def clear_output(t: Translation, found: OutputPlace) -> Effect | None:
     if t.kind(found.place.type) != Kind.OBJECT:
         return None
     return Assign(found.place.code, "=", NULL), Kind.OBJECT
-
-
-def argument_effects(t: Translation, argument: c_ast.Node) -> list[Effect]:
-    """What happens where an argument is evaluated that the call does not need."""
-    return effects_of(t, t.value(argument))

@@ -4,15 +4,16 @@ from __future__ import annotations
 
 from pycparser import c_ast
 
-from ..types.c_types import INT, Pointer, decayed
-from .default_calls import Signature, default_call
-from ..translation.directions import Direction, direction
-from ..types.kinds import Kind
-from ..translation.names import is_null_constant
 from ..reading.syntax import below
-from .tables import Answer, Output
+from ..translation.directions import Direction, direction
+from ..translation.names import is_null_constant
 from ..translation.translation import Translation
 from ..translation.values import Value
+from ..types.c_types import INT, Pointer, decayed
+from ..types.kinds import Kind
+from .default_calls import Signature, default_call
+from .tables import Output, WhenSet
+from .wide_calls import outputs_left
 
 
 def returned_constants(t: Translation, name: str) -> set[int | None]:
@@ -66,21 +67,22 @@ def own_call(t: Translation, node: c_ast.FuncCall, name: str, given: list[c_ast.
     result = signature.result if signature is not None else INT
     printed = t.state.stands_in_text(name)
     t.assume(assumption(t, name) if printed else "default row for a function of the file", name, node)
-    outputs = outputs_of(t, name)
+    said = t.state.options.conventions.get(name)
+    declared = outputs_left(said.outputs) if said is not None else {}
+    outputs = {**outputs_of(t, name), **declared}
     constants = returned_constants(t, name)
-    answer = None
+    when_set = None
     if result == INT and -1 in constants:
-        answer = Answer.STATUS
+        when_set = WhenSet.STATUS
     elif result == INT and constants >= {0, 1}:
-        answer = Answer.CONVERTER
-    if outputs and has_outputs(t, given):
+        when_set = WhenSet.CONVERTER
+    if outputs.keys() - declared.keys() and has_outputs(t, given):
         t.assume("output of a function of the file", name, node)
     word = None
     if result == INT and constants <= {0, -1}:
         word = "status"
     elif result == INT and constants <= {0, 1, -1}:
         word = "truth"
-    said = t.state.options.conventions.get(name)
     if said is not None:
         t.assume("declared", name, node)
     if t.kind(result) == Kind.OBJECT and constants == {0}:
@@ -88,5 +90,6 @@ def own_call(t: Translation, node: c_ast.FuncCall, name: str, given: list[c_ast.
     borrowed = said is not None and said.returns_borrowed or (
         t.kind(result) == Kind.OBJECT and (t.kinds.is_uncounted(result) or not isinstance(result, Pointer)))
     ownership = "null" if returns_null(t, name) else "borrowed" if borrowed else "new"
-    return default_call(t, node, Signature("pungi_call_" + name, result, ownership,
-                                           said.takes if said is not None else (), answer, outputs, word, name), given)
+    takes = said.takes if said is not None else ()
+    called = Signature("pungi_call_" + name, result, ownership, takes, when_set, outputs, word, name)
+    return default_call(t, node, called, given)

@@ -4,20 +4,21 @@ from __future__ import annotations
 
 from pycparser import c_ast
 
-from ..types.c_types import INT
-from ..translation.conversions import as_object, effects_of
-from .default_calls import Signature, default_call
-from .format_units import Unit, parse_units
-from ..translation.handlers import call
-from ..types.kinds import Kind
 from ...model import Row
-from .outputs import output_target
+from ..reading.syntax import addressed_name, string_value, stripped
 from ..text.rows_used import Effect
 from ..text.subset import ZERO, Assign, Call, Conditional, Expr, Unary
-from ..reading.syntax import addressed_name, string_value, stripped
-from .tables import NEW_CONVERTERS, Answer, Output
+from ..translation.conversions import as_object, effects_of
+from ..translation.handlers import call
 from ..translation.translation import Translation
 from ..translation.values import Form, Target, Value, kept
+from ..types.c_types import INT
+from ..types.kinds import Kind
+from .default_calls import Signature, default_call
+from .format_units import Unit, parse_units
+from .outputs import output_target
+from .own_calls import outputs_of
+from .tables import NEW_CONVERTERS, Output, WhenSet
 
 #: Units that leave an object, borrowed and not NULL.
 OBJECT_UNITS = frozenset(("O", "S", "U", "Y", "O!"))
@@ -65,7 +66,7 @@ def unknown_format(t: Translation, node: c_ast.FuncCall, source: c_ast.Node, out
     for at, output in enumerate(outputs[:-1]):
         if getattr(stripped(output), "name", None) in NEW_CONVERTERS:
             found[at + 2] = Output.NEW
-    return default_call(t, node, Signature("pungi_parse_any", INT, answer=Answer.CONVERTER, outputs=found),
+    return default_call(t, node, Signature("pungi_parse_any", INT, when_set=WhenSet.CONVERTER, outputs=found),
                         [source] + outputs)
 
 
@@ -91,7 +92,7 @@ def unit_value(t: Translation, node: c_ast.FuncCall, unit: Unit, outputs: list[c
     elif kind == Kind.TEXT:
         value = t.generic("text")
     else:
-        value = t.generic("int" if kind == Kind.INT else "long")
+        value = t.generic(kind.number_word)
     if unit.is_optional and kind == Kind.OBJECT:
         return Conditional(t.generic("choice"), place.code, value)
     return value
@@ -101,9 +102,14 @@ def object_value(t: Translation, node: c_ast.FuncCall, unit: Unit, outputs: list
     """What a unit leaves where an object is wanted."""
     if unit.letters in OBJECT_UNITS:
         return t.generic("sure")
+    if unit.letters.endswith("*"):
+        return t.generic("new")
     if unit.letters == "O&":
         converter = getattr(stripped(outputs[0]), "name", "?")
         if converter in NEW_CONVERTERS:
+            return t.generic("new")
+        if outputs_of(t, converter).get(1) in (Output.NEW, Output.UPDATED):
+            t.assume("output of a function of the file", converter, node)
             return t.generic("new")
         t.assume("output guessed", "converter %s" % converter, node)
     else:

@@ -4,23 +4,26 @@ from __future__ import annotations
 
 from pycparser import c_ast
 
-from ..types.c_types import INT, LONG, OBJECT, SIZE, TEXT, VOID, CType, Number, Pointer
-from ..translation.conversions import as_kind, as_object, fit_number
-from .default_calls import Signature, default_call
-from ..types.kinds import Kind
-from ..text.known_names import BUILTIN_ROWS
 from ...model import Row
-from .outputs import output_target
-from ..text.rows_used import RowsUsed, is_harmless
-from ..text.subset import Call, Expr, Expression, Literal
 from ..reading.syntax import stripped
+from ..text.known_names import BUILTIN_ROWS
+from ..text.rows_used import is_harmless
+from ..text.subset import Call, Expr, Expression, Literal, Unary
+from ..translation.conversions import as_kind, as_object, fit_number
 from ..translation.translation import Translation
 from ..translation.values import Cannot, Value, done, kept, opaque
+from ..types.c_types import INT, LONG, OBJECT, SIZE, TEXT, VOID, CType, Number, Pointer
+from ..types.kinds import Kind
+from .default_calls import Signature, default_call
+from .outputs import output_target
 
 RESULT_TYPES: dict[str, CType] = {
     "new": OBJECT, "borrowed": OBJECT, "borrowed_sure": OBJECT, "null": OBJECT, "status": INT, "truth": INT, "int": INT,
     "size": SIZE, "long": LONG, "text": TEXT, "void": VOID,
 }
+
+#: Calls of these names return 0 or 1, and do not fail: they are one of two ways.
+CHECKS = ("_Check", "_CheckExact")
 
 NUMBER_TYPES = {"int": INT, "long": LONG, "size": SIZE}
 
@@ -42,6 +45,9 @@ def row_call(t: Translation, node: c_ast.FuncCall, name: str, row: Row, argument
         if code is None:
             return null_argument(t, node, name, row, arguments)
         printed.append(code)
+    if row.result == "truth" and name.endswith(CHECKS):
+        asked = t.state.rows.name("pungi_" + name, Row(row.params, "status"))
+        return kept(Kind.INT, INT, Unary("!", Call(asked, tuple(printed), place=t.place(node), is_harmless=True)))
     printed_name = name if builtin else t.state.rows.name(name, accepting(row))
     call = Call(printed_name, tuple(printed), place=t.place(node), is_harmless=is_harmless(row))
     return row_value(t, name, row, call)
@@ -108,8 +114,3 @@ def row_value(t: Translation, name: str, row: Row, call: Call) -> Value:
             return opaque(kind, [(call, word_kind)])
         return kept(word_kind, kind, call)
     return kept(t.kind(kind), kind, call)
-
-
-def rows_of(t: Translation) -> RowsUsed:
-    """The rows of the text."""
-    return t.state.rows

@@ -4,18 +4,20 @@ from __future__ import annotations
 
 from pycparser import c_ast
 
-from .allocation import allocation
-from ..types.c_types import INT, OBJECT, VOID, Pointer
-from ..translation.conversions import as_object, effects_of
-from .default_calls import Signature, default_call
-from ..translation.handlers import call
-from ..types.kinds import Kind
 from ...model import Row
+from ..reading.syntax import addressed_name, stripped
+from ..text.subset import NULL, Assign, Call, Conditional, Expression, Literal, Name, Unary
+from ..translation.conversions import as_object, effects_of
+from ..translation.declarations import zero_of
+from ..translation.handlers import call
 from ..translation.names import effect_list, type_of
-from ..text.subset import NULL, Call, Conditional, Literal, Unary
-from ..reading.syntax import stripped
 from ..translation.translation import Translation
-from ..translation.values import Value, kept
+from ..translation.values import Value, done, kept
+from ..types.c_types import INT, OBJECT, VOID, Pointer
+from ..types.kinds import Kind
+from .allocation import allocation
+from .default_calls import Signature, default_call
+from .wide_calls import wide_call, wide_rows
 
 
 @call("Py_TYPE")
@@ -82,3 +84,13 @@ def create_module(t: Translation, node: c_ast.FuncCall, given: list[c_ast.Node])
         t.state.module_tables.add(name)
         return kept(Kind.OBJECT, OBJECT, Call("PyModule_Create", (Literal("&" + name),), place=t.place(node)))
     return default_call(t, node, Signature("PyModule_Create2", OBJECT), given)
+
+
+@call("memset")
+def fill_memory(t: Translation, node: c_ast.FuncCall, given: list[c_ast.Node]) -> Value:
+    """memset: a local struct of which the parts are printed becomes zero where each byte does."""
+    variable = t.lookup(addressed_name(given[0]) or "")
+    if variable is None or not variable.members or t.constant(given[1]) != 0:
+        return wide_call(t, node, "memset", wide_rows()["memset"], given)
+    return done(*(Expression(Assign(Name(name), "=", zero_of(t.kind(kind))), place=t.place(node))
+                  for name, kind in variable.members.values()))

@@ -2,12 +2,12 @@
 
 from __future__ import annotations
 
-from ..types.kinds import Kind
 from ..text.rewrite import bottom_up
 from ..text.rows_used import RowsUsed
 from ..text.subset import (Assign, Block, Call, Declare, Do, EndOfObject, Expr, Expression, For, If, Jump, Label,
-                     Literal, Name, Return, Step, Stmt, Switch, While, parts, walk)
+    Literal, Name, Return, Step, Stmt, Switch, While, parts, walk)
 from ..translation.values import Variable
+from ..types.kinds import Kind
 
 LOOPS = (While, Do, For)
 

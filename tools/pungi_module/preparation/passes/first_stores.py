@@ -6,12 +6,14 @@ import re
 
 from pycparser import c_ast
 
-from ..types.c_types import Pointer, Struct
 from ..calls.freed import MAKING_CALLS
-from ..types.kinds import Kind
 from ..reading.syntax import below, called_name, stripped
 from ..text.text_state import TextState
+from ..translation.directions import Direction, direction
+from ..translation.functions import parameter_nodes
 from ..translation.values import Variable
+from ..types.c_types import Pointer, Struct
+from ..types.kinds import Kind
 
 #: Names of functions that make what they return.
 MAKER = re.compile(r"PyObject_Call|New|new|alloc|Alloc|create")
@@ -40,6 +42,11 @@ def made_locals(node: c_ast.FuncDef) -> set[str]:
     return found
 
 
+def is_parameter(node: c_ast.FuncDef, name: str) -> bool:
+    """The function has a parameter of this name."""
+    return any(getattr(item, "name", None) == name for item in parameter_nodes(node))
+
+
 class FirstStores:
     """The slots of one function that hold nothing before they are stored into first."""
 
@@ -50,6 +57,10 @@ class FirstStores:
         self.is_module_initialiser = name in state.slots.module_initialisers
         self.is_object_initialiser = name in state.slots.object_initialisers and not state.options.init_twice
         self.made = made_locals(node)
+        #: The slots of parameters that are stored through on some ways, and read on others.
+        self.exchanged = {f"{name}->i0" for name, variable in variables.items()
+                          if state.kinds.is_objects(variable.type) and is_parameter(node, name)
+                          and direction(node, name) == Direction.BOTH}
 
     def is_global(self, name: str) -> bool:
         """A variable at file level, or a static local, for an object."""
@@ -58,6 +69,8 @@ class FirstStores:
     def assumption(self, slot: str) -> str:
         """The name of the assumption that the slot holds nothing."""
         base, arrow, _ = slot.partition("->")
+        if slot in self.exchanged:
+            return "output parameter"
         if arrow and base in self.made:
             return "new object"
         return "init runs once" if arrow or self.is_module_initialiser else "filled once"
@@ -65,6 +78,8 @@ class FirstStores:
     def is_first(self, slot: str, is_unfilled: bool) -> bool:
         """The slot, as `global` or `variable->field`, holds nothing before."""
         base, arrow, _ = slot.partition("->")
+        if slot in self.exchanged:
+            return True
         if not arrow:
             return (self.is_module_initialiser or is_unfilled) and self.is_global(base)
         variable = self.variables.get(base)

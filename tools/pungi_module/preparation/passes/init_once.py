@@ -1,15 +1,19 @@
-"""What an initialiser or a maker of objects stores into first: it held nothing before."""
+"""What an initialiser, a maker of objects or a function with an output stores into first: it held nothing before."""
 
 from __future__ import annotations
 
+import re
 from dataclasses import replace
 from typing import Callable
 
-from ..text.subset import (STOP, Assign, Binary, Block, Case, Declare, Do, Expr, For, If, Jump, Label, Name, Return, Stmt,
-                     Switch, Unary, While, parts, walk)
+from ..text.subset import (STOP, Arrow, Assign, Binary, Block, Call, Case, Declare, Do, Expr, For, If, Jump, Label,
+    Name, Return, Stmt, Switch, Unary, While, parts, walk)
+from ..translation.targets import slot_of
 
 LOOPS = (While, Do, For)
 
+#: The slot of an element.
+ELEMENT = re.compile(r"->i\d+$")
 
 IsFirst = Callable[[str, bool], bool]
 """Whether a slot held nothing before it is stored into first; the second argument says whether the store stands where a
@@ -44,6 +48,15 @@ def always_returns(node: Stmt) -> bool:
     return isinstance(last, Return) and not any(isinstance(item, Jump) for item in walk(node))
 
 
+def elements_read(node: Expr | Stmt) -> set[str]:
+    """The elements of arrays of objects that a statement or expression reads, or that a call in it may read."""
+    targets = {id(item.target) for item in walk(node) if isinstance(item, Assign)}
+    found = {slot_of(item) for item in walk(node) if isinstance(item, Arrow) and id(item) not in targets}
+    given = {f"{argument.text}->i0" for item in walk(node) if isinstance(item, Call)
+             for argument in item.arguments if isinstance(argument, Name)}
+    return {slot for slot in found if slot is not None and ELEMENT.search(slot)} | given
+
+
 class _Guard:
     """Statements with their guards, in the order of the text."""
 
@@ -52,7 +65,7 @@ class _Guard:
         self.is_global = is_global
         #: A global was found to be NULL around here.
         self.is_unfilled = False
-        #: The slots that may have been stored into before.
+        #: The slots that may have been stored into before; of an array of objects also those that may have been read.
         self.stored: set[str] = set()
         self.guarded: list[str] = []
 
@@ -64,6 +77,7 @@ class _Guard:
             return self.branches(node)
         if isinstance(node, LOOPS):
             self.stored |= {item.slot for item in walk(node) if isinstance(item, Assign) and item.slot}
+            self.stored |= elements_read(node)
             return node
         if isinstance(node, Switch):
             guards = self.guards(node.value)
@@ -98,6 +112,7 @@ class _Guard:
 
     def guards(self, node: Expr | Stmt) -> list[Stmt]:
         """A stop for each slot that is stored into here first."""
+        self.stored |= elements_read(node)
         found: list[Stmt] = []
         for item in walk(node):
             if isinstance(item, Assign) and item.slot and item.slot not in self.stored:

@@ -5,12 +5,12 @@ from __future__ import annotations
 import re
 from typing import Iterator
 
-from ..types.c_types import CType, Pointer, Struct
-from ..types.kinds import HEAD_KEYS, HEAD_TAG, Kind
 from ..text.rewrite import bottom_up
 from ..text.subset import (NULL, ZERO, Arrow, Assign, Binary, Block, Call, CastTo, EndOfObject, Expr, Expression, Stmt,
-                     UnsetFields, walk)
+    UnsetFields, walk)
 from ..text.text_state import TextState
+from ..types.c_types import CType, Pointer, Struct
+from ..types.kinds import HEAD_KEYS, HEAD_TAG, Kind
 
 #: Fields of this name hold no reference of their own.
 WEAK = re.compile(r"weak")

@@ -4,13 +4,13 @@ from __future__ import annotations
 
 from dataclasses import replace
 
-from ..types.kinds import Kind
 from ..text.known_names import BUILTIN_ROWS
 from ..text.rewrite import bottom_up
 from ..text.rows_used import RowsUsed
-from ..text.subset import (ZERO, Assign, Block, Call, Declare, Expr, Expression, Literal, Name, Step, Stmt, is_pure, parts,
-                     walk)
+from ..text.subset import (ZERO, Assign, Block, Call, Declare, Expr, Expression, Literal, Name, Step, Stmt, is_pure,
+    parts, walk)
 from ..translation.values import Variable
+from ..types.kinds import Kind
 
 NUMBER_WORDS = ("int", "long", "size")
 

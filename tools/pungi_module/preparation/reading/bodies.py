@@ -11,6 +11,10 @@ PIECE = re.compile(r'^\#[^\n]*$|"(?:[^"\\\n]|\\.)*"|\'(?:[^\'\\\n]|\\.)*\'|[{}]'
 MARKER = re.compile(r'# (\d+) "((?:[^"\\]|\\.)*)"')
 
 
+#: The initial values of a long table of numbers.
+NUMBERS = re.compile(r"=\s*\{[\s\d,{}+\-xXa-fA-FuUlL]{2000,}\}\s*;")
+
+
 @dataclass(frozen=True)
 class Body:
     """A function's body: from its `{` to the end of its `}` in the text, and where the `{` stands in its file."""
@@ -61,6 +65,11 @@ def without_bodies(text: str, dropped: Callable[[Body], bool]) -> str:
         out += [text[at:body.start], ";", kept]
         at = body.end
     return "".join(out) + text[at:]
+
+
+def without_numbers(text: str) -> str:
+    """The text in which `{0}` stands for each long table of numbers; its lines stay."""
+    return NUMBERS.sub(lambda found: "= {0}" + "\n" * found.group().count("\n") + ";", text)
 
 
 def include_lines(text: str, main: str, own: Callable[[str], bool]) -> dict[str, int]:

@@ -7,12 +7,13 @@ import re
 import sys
 import tempfile
 from dataclasses import dataclass
+from functools import lru_cache
 from pathlib import Path
 
 from pycparser import c_ast, c_parser
 
 from . import parse_cache, unknown_types
-from .bodies import Body, bodies, include_lines, without_bodies
+from .bodies import Body, bodies, include_lines, without_bodies, without_numbers
 from .preprocess import NotRead, preprocess
 
 #: How many bodies that do not parse are dropped before the file is given up.
@@ -39,6 +40,7 @@ class ParsedFile:
         return is_own(self.path, file)
 
 
+@lru_cache(maxsize=4096)
 def is_own(path: str, file: str | None) -> bool:
     """The file stands in the directory of the source or below."""
     if not file or file.endswith("pungi_shim.h") or file.startswith("<"):
@@ -84,6 +86,7 @@ def parse_headers(path: str, text: str) -> c_ast.FileAST:
 def parse_text(path: str, text: str) -> tuple[c_ast.FileAST, dict[tuple[str, int], str]]:
     """Parses the text without foreign bodies; a body that does not parse is dropped, and it is tried again."""
     headers_text, own_text = split(text, path)
+    own_text = without_numbers(own_text)
     headers = parse_headers(path, headers_text)
     names = [node.name for node in headers.ext if isinstance(node, c_ast.Typedef)]
     unknown: list[str] = []

@@ -2,6 +2,7 @@
 
 from __future__ import annotations
 
+import gc
 import hashlib
 import os
 import pickle
@@ -44,12 +45,17 @@ def kept(text: str) -> Any | None:
     file = entry(text)
     if file.name in _FOUND:
         return _FOUND[file.name]
+    collecting = gc.isenabled()
+    gc.disable()  # nothing of what is read is garbage, and looking for it takes as long as reading
     try:
         with open(file, "rb") as source:
             _FOUND[file.name] = pickle.load(source)
             return _FOUND[file.name]
     except (OSError, pickle.UnpicklingError, EOFError, AttributeError, ImportError):
         return None
+    finally:
+        if collecting:
+            gc.enable()
 
 
 def keep(text: str, found: Any) -> None:

@@ -17,7 +17,8 @@ DIALECT = [
     "-D__restrict=", "-D__restrict__=", "-D__const=const", "-D__asm__(...)=", "-D__asm(...)=", "-D__volatile__=",
     "-D__signed__=signed", "-D__builtin_va_list=char *", "-D__builtin_offsetof(T,m)=0ul", "-D_Float128=double",
     "-D_Float64=double", "-D_Float32=float", "-D_Float64x=double", "-D_Float32x=double", "-D__int128=long long",
-    "-D__thread=", "-D_Thread_local=", "-D_Noreturn=", "-D__typeof__(...)=int", "-D__alignof__(x)=8ul", "-D_Alignas(x)=",
+    "-D__thread=", "-D_Thread_local=", "-D_Noreturn=", "-D__typeof__(...)=int", "-D__alignof__(x)=8ul",
+    "-D_Alignas(x)=",
     "-D_Atomic=", "-D__builtin_expect(a,b)=(a)", "-D_Static_assert(...)=", "-Dstatic_assert(...)=",
     "-D__builtin_types_compatible_p(...)=0", "-DNDEBUG", "-D_Complex=", "-U__SSE__", "-U__SSE2__",
 ]
@@ -94,7 +95,7 @@ def preprocess(path: str, flags: list[str], work: Path) -> Preprocessed:
         if not missing:
             break
         for name in missing:
-            notes.append("no header " + name)
+            notes.append("%s is not there, and is taken as empty" % name)
             stub = stubs / name
             stub.parent.mkdir(parents=True, exist_ok=True)
             stub.write_text("")

@@ -15,7 +15,7 @@ def below(node: c_ast.Node | None) -> Iterator[c_ast.Node]:
     while waiting:
         node = waiting.pop()
         yield node
-        waiting.extend(reversed([child for _, child in node.children()]))
+        waiting.extend(reversed(list(node)))
 
 
 def stripped(node: c_ast.Node) -> c_ast.Node:

@@ -2,10 +2,10 @@
 
 from __future__ import annotations
 
-from ..types.c_types import OBJECT, CType
-from ..translation.functions import PrintedFunction
-from ..types.kinds import ARRAY_TAG, HEAD_TAG
 from ...model import Row, RowSource
+from ..translation.functions import PrintedFunction
+from ..types.c_types import OBJECT, CType
+from ..types.kinds import ARRAY_TAG, HEAD_TAG
 from .printer import Printer
 from .subset import Call, walk
 from .text_state import TextState

@@ -4,10 +4,12 @@ from __future__ import annotations
 
 import re
 
-from ..capabilities import LOCAL_LIMIT, NESTING_LIMIT, NODE_LIMIT
 from ..translation.functions import PrintedFunction
 from .printer import Printer
 from .subset import Declare, Expr, Stmt, parts, walk
+
+#: Locals and parameters of a function (rule N15), its nodes (rule N16), and brackets around a token.
+LOCAL_LIMIT, NODE_LIMIT, NESTING_LIMIT = 32, 4096, 64
 
 #: Nodes on a path of a statement or expression; the program has 256 and counts some nodes that this tree has not.
 DEPTH_LIMIT = 120
@@ -42,6 +44,8 @@ def broken_size(function: PrintedFunction) -> str | None:
 
 def broken_limit(function: PrintedFunction) -> str | None:
     """The limit that a finished function breaks."""
-    if depth(function.body) > DEPTH_LIMIT or nesting(function) > NESTING_LIMIT:
+    deepest = depth(function.body)
+    # each bracket is that of a node, so that only a deep tree can be nested deep
+    if deepest > DEPTH_LIMIT or deepest > NESTING_LIMIT and nesting(function) > NESTING_LIMIT:
         return "nested too deep"
     return broken_size(function)

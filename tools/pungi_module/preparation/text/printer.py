@@ -2,11 +2,11 @@
 
 from __future__ import annotations
 
-from ..translation.functions import PrintedFunction
 from ...model import Place
+from ..translation.functions import PrintedFunction
 from .source_places import SourceLines
 from .subset import (Arrow, Assign, Binary, Block, Call, Case, CastTo, Conditional, Declare, Do, Expr, Expression, For,
-                     If, Jump, Label, Literal, Name, Return, Step, Stmt, Switch, Unary, While)
+    If, Jump, Label, Literal, Name, Return, Step, Stmt, Switch, Unary, While)
 
 
 class Printer:

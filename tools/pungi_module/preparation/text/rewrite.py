@@ -2,7 +2,7 @@
 
 from __future__ import annotations
 
-from dataclasses import fields, replace
+from dataclasses import replace
 from typing import Callable, TypeVar
 
 from .subset import Block, Expr, Stmt
@@ -15,17 +15,16 @@ def with_parts(node: Node, change: Change) -> Node:
     """The node with each direct part changed. A statement that becomes None is an empty block, or goes where it stands
     in one."""
     changed = {}
-    for item in fields(node):
-        value = getattr(node, item.name)
+    for word, value in vars(node).items():
         if isinstance(value, (Expr, Stmt)):
             new = change(value)
             new = Block() if new is None and isinstance(value, Stmt) else new
             if new is not value:
-                changed[item.name] = new
+                changed[word] = new
         elif isinstance(value, tuple) and value and isinstance(value[0], (Expr, Stmt)):
             parts = tuple(part for part in map(change, value) if part is not None)
             if len(parts) != len(value) or any(new is not old for new, old in zip(parts, value)):
-                changed[item.name] = parts
+                changed[word] = parts
     return replace(node, **changed) if changed else node
 
 

@@ -2,10 +2,10 @@
 
 from __future__ import annotations
 
-from .known_names import BUILTIN_ROWS, RESERVED
 from ...model import Row, RowSource
-from .subset import Call, Expr, is_pure
 from ..types.kinds import Kind
+from .known_names import BUILTIN_ROWS, RESERVED
+from .subset import Call, Expr, is_pure
 
 #: At most so many parameters has a row.
 PARAMETER_LIMIT = 8
@@ -54,16 +54,16 @@ class RowsUsed:
                 self.sources[name] = source
         return self._names[key]
 
-    def generic(self, answer: str, effects: list[Effect]) -> Expr:
+    def generic(self, result: str, effects: list[Effect]) -> Expr:
         """Any value of this sort, after the effects in their order."""
         effects = [effect for effect in effects if not is_pure(effect[0])]
         while len(effects) > PARAMETER_LIMIT:
             first = self.generic("null", effects[:PARAMETER_LIMIT])
             effects = [(first, Kind.OBJECT)] + effects[PARAMETER_LIMIT:]
         letters = "".join(LETTERS[kind] for _, kind in effects)
-        wanted = "pungi_%s_%s" % (answer, letters) if letters else "pungi_any_" + answer
-        row = Row(tuple(WORDS[letter] for letter in letters), GENERIC[answer])
-        return Call(self.name(wanted, row), tuple(expr for expr, _ in effects), is_harmless=answer != "new")
+        wanted = "pungi_%s_%s" % (result, letters) if letters else "pungi_any_" + result
+        row = Row(tuple(WORDS[letter] for letter in letters), GENERIC[result])
+        return Call(self.name(wanted, row), tuple(expr for expr, _ in effects), is_harmless=result != "new")
 
     def take(self, value: Expr) -> Expr:
         """A call that takes the reference of its argument over; its value is NULL."""

@@ -57,11 +57,12 @@ class Unary(Expr):
 
 @dataclass(frozen=True)
 class Binary(Expr):
-    """An operator between its operands."""
+    """An operator between its operands. `word` is the type of an arithmetic: `int` or `long`."""
 
     op: str
     left: Expr
     right: Expr
+    word: str = field(default="int", kw_only=True, compare=False)
 
 
 @dataclass(frozen=True)
@@ -75,12 +76,14 @@ class Conditional(Expr):
 
 @dataclass(frozen=True)
 class Assign(Expr):
-    """`target op value`. `slot` names a field or global that holds a reference of its own, the same for each store."""
+    """`target op value`. `slot` names a field or global that holds a reference of its own, the same for each store;
+    `word` is the type of what an arithmetic is assigned to: `int` or `long`."""
 
     target: Expr
     op: str
     value: Expr
     slot: str | None = None
+    word: str = field(default="int", kw_only=True, compare=False)
 
 
 @dataclass(frozen=True)
@@ -102,7 +105,7 @@ class CastTo(Expr):
 
 @dataclass(frozen=True)
 class UnsetFields(Expr):
-    """Any object field of the variable's struct holds something: it becomes a sum of tests once all fields are known."""
+    """Any object field of the variable's struct holds something: it becomes tests once all fields are known."""
 
     key: str
     base: Expr
@@ -237,10 +240,12 @@ def parts(node: Expr | Stmt) -> Iterator[Expr | Stmt]:
 
 
 def walk(node: Expr | Stmt) -> Iterator[Expr | Stmt]:
-    """The node and all below it."""
-    yield node
-    for part in parts(node):
-        yield from walk(part)
+    """The node and all below it, in the order of the text."""
+    waiting = [node]
+    while waiting:
+        node = waiting.pop()
+        yield node
+        waiting.extend(reversed(list(parts(node))))
 
 
 def is_pure(expr: Expr) -> bool:

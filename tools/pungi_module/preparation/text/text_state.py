@@ -4,14 +4,14 @@ from __future__ import annotations
 
 from dataclasses import dataclass, field
 
+from ...model import Row
+from ..options import Options
 from ..types.c_types import CType, Pointer, Struct
 from ..types.kinds import HEAD_TAG, Kinds
-from .known_names import RESERVED
-from ...model import Row
 from ..types.module import Module
-from ..options import Options
-from .rows_used import RowsUsed
 from ..types.type_slots import TypeSlots
+from .known_names import RESERVED
+from .rows_used import RowsUsed
 
 
 @dataclass

@@ -4,12 +4,12 @@ from __future__ import annotations
 
 from pycparser import c_ast
 
-from ..types.c_types import OTHER, TYPE_OBJECT, Array, CType, Pointer, Struct
-from .conversions import ordered
-from ..types.kinds import Kind
+from ..reading.syntax import stripped
 from ..text.known_names import STATICS
 from ..text.subset import EMPTY_TEXT, Literal
-from ..reading.syntax import stripped
+from ..types.c_types import OTHER, TYPE_OBJECT, Array, CType, Pointer, Struct
+from ..types.kinds import Kind
+from .conversions import ordered
 from .targets import target
 from .translation import Translation
 from .values import Form, Value, kept

@@ -4,12 +4,12 @@ from __future__ import annotations
 
 from pycparser import c_ast
 
+from ..text.subset import CastTo
 from ..types.c_types import INT, OTHER, VOID, CType, Number, Pointer
+from ..types.kinds import Kind
 from .conversions import as_kind, effects_of
 from .handlers import expression
-from ..types.kinds import Kind
 from .names import null_of
-from ..text.subset import CastTo
 from .translation import Translation
 from .values import Value, done, done_by, kept, opaque
 
@@ -66,8 +66,7 @@ def cast_to_number(t: Translation, value: Value, kind: CType) -> Value:
             return kept(Kind.INT if narrower else value.kind, kind,
                         CastTo("int ", value.code) if narrower else value.code)
     if kind.is_natural:
-        answer = "int" if of_kind == Kind.INT else "long"
-        return kept(of_kind, kind, t.generic(answer, effects_of(t, value)))
+        return kept(of_kind, kind, t.generic(of_kind.number_word, effects_of(t, value)))
     return opaque(kind, effects_of(t, value))
 
 

@@ -4,10 +4,10 @@ from __future__ import annotations
 
 from pycparser import c_ast
 
-from ..types.c_types import OTHER, VOID, CType, InUnion, Number
-from ..types.kinds import Kind
 from ..text.rows_used import Effect
 from ..text.subset import EMPTY_TEXT, NULL, ONE, ZERO, Call, Conditional, Expr, Expression, Name, Unary
+from ..types.c_types import OTHER, VOID, CType, InUnion, Number
+from ..types.kinds import Kind
 from .translation import Translation
 from .values import Cannot, Value, kept, opaque
 
@@ -61,7 +61,7 @@ def as_kind(
     if kind.is_number:
         if value.kind.is_number:
             return value.code
-        return t.generic("int" if kind == Kind.INT else "long", effects_of(t, value))
+        return t.generic(kind.number_word, effects_of(t, value))
     if kind == Kind.TEXT:
         return as_text(t, value)
     if kind == Kind.OBJECT:
@@ -125,7 +125,7 @@ def fit_number(t: Translation, value: Value, kind: Number) -> Expr:
             kind.holds(value.type) or kind.is_natural and value.type.is_natural)
         if held and value.constant is None:
             return value.code
-    return t.generic("int" if kind.word == "int" else "long", effects_of(t, value))
+    return t.generic(t.kind(kind).number_word, effects_of(t, value))
 
 
 def fit_bool(t: Translation, value: Value, kind: Number) -> Expr:
@@ -144,7 +144,7 @@ def any_value(t: Translation, kind: CType, effects: list[Effect], ownership: str
     of_kind = t.kind(kind)
     if of_kind.is_number:
         if isinstance(kind, Number) and kind.is_natural:
-            return kept(of_kind, kind, t.generic("int" if of_kind == Kind.INT else "long", effects))
+            return kept(of_kind, kind, t.generic(of_kind.number_word, effects))
         return opaque(kind, effects)
     if of_kind == Kind.TEXT:
         return kept(of_kind, kind, t.generic("text", effects))

@@ -5,13 +5,14 @@ from __future__ import annotations
 from pycparser import c_ast
 
 from ..calls.allocation import allocation, as_type, with_empty_fields
-from ..types.c_types import Array, CType, FunctionType, Struct
+from ..calls.buffers import OWNER, is_buffer, is_followed
+from ..calls.in_place import first_call_in_place
+from ..text.subset import NULL, ZERO, Assign, Declare, Expr, Expression, Name, Stmt
+from ..types.c_types import OBJECT, Array, CType, FunctionType, Struct
+from ..types.kinds import Kind
 from .conversions import any_value, effects_of, fit
 from .handlers import statement
-from ..calls.in_place import first_call_in_place
-from ..types.kinds import Kind
 from .moves import moved_value
-from ..text.subset import NULL, ZERO, Assign, Declare, Expr, Expression, Name, Stmt
 from .targets import is_kept_type
 from .translation import Translation
 from .values import Cannot, Form, Target, Variable
@@ -36,6 +37,9 @@ def declaration(t: Translation, node: c_ast.Decl) -> list[Stmt]:
         return array_of_objects(t, node, kind)
     if isinstance(kind, Struct) and t.kinds.is_state(kind.key):
         return struct_with_objects(t, node, kind)
+    if is_buffer(t, kind) and is_followed(t, node.name):
+        part = {OWNER: (t.printed_name("%s__%s" % (node.name, OWNER)), OBJECT)}
+        return parts_of(t, node, kind, part, [name or "" for name, _, _ in t.types.members(kind.key)])
     if isinstance(kind, (Array, FunctionType, Struct)) or not is_kept_local(t, kind):
         t.declare(node.name, Variable(node.name, kind, Kind.OPAQUE, is_printed=False))
         if node.init is None:

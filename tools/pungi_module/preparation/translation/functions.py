@@ -6,12 +6,12 @@ from dataclasses import dataclass
 
 from pycparser import c_ast
 
-from ..types.c_types import OBJECTS, VOID, CType, decayed
-from .directions import Direction, direction
-from ..types.kinds import ARRAY_TAG, Kind
 from ...model import Assumption, Place
 from ..text.subset import STOP, Arrow, Block, Call, Expression, If, Name, Stmt
 from ..text.text_state import TextState
+from ..types.c_types import OBJECTS, VOID, CType, decayed
+from ..types.kinds import ARRAY_TAG, Kind
+from .directions import Direction, direction
 from .translation import Translation
 from .values import Cannot, Variable
 

@@ -4,9 +4,9 @@ from __future__ import annotations
 
 from pycparser import c_ast
 
+from ..reading.syntax import arguments, called_name, stripped
 from ..types.c_types import OBJECT
 from ..types.kinds import Kind
-from ..reading.syntax import arguments, called_name, stripped
 from .translation import Translation
 from .values import Value, kept
 

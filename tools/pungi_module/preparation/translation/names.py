@@ -6,16 +6,16 @@ import re
 
 from pycparser import c_ast
 
-from ..types.c_types import (INT, LONG, OBJECT, OTHER, TEXT, TYPE_OBJECT, UNSIGNED_INT, UNSIGNED_LONG, Array, CType,
-                      FunctionType, Pointer, decayed)
-from ..types.constants import GREATEST, character
-from .conversions import any_value, effects_of, ordered
-from ..calls.freed import frees_something
-from .handlers import expression
-from ..types.kinds import HEAD_TAG, Kind
-from ..text.known_names import STATIC_TYPES, STATICS
 from ...model import Row
+from ..calls.freed import frees_something
+from ..text.known_names import STATICS, STATIC_TYPES
 from ..text.subset import EMPTY_TEXT, Arrow, Call, CastTo, Literal, Name
+from ..types.c_types import (INT, LONG, OBJECT, OTHER, TEXT, TYPE_OBJECT, UNSIGNED_INT, UNSIGNED_LONG, Array, CType,
+    FunctionType, Pointer, decayed)
+from ..types.constants import GREATEST, character
+from ..types.kinds import HEAD_TAG, Kind
+from .conversions import any_value, effects_of, ordered
+from .handlers import expression
 from .targets import element, member, named, variable_value
 from .translation import Translation
 from .values import Form, Target, Value, kept, null, opaque

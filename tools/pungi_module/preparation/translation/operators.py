@@ -4,14 +4,14 @@ from __future__ import annotations
 
 from pycparser import c_ast
 
+from ..text.subset import ZERO, Binary, Conditional, Expr, Unary
 from ..types.c_types import INT, LONG, OTHER, UNSIGNED_LONG, CType, Number, common, decayed
 from ..types.constants import GREATEST
+from ..types.kinds import Kind
 from .conversions import as_kind, condition, effects_of, ordered
 from .handlers import expression
-from ..types.kinds import Kind
 from .names import number, read
 from .stores import step
-from ..text.subset import ZERO, Binary, Conditional, Expr, Unary
 from .targets import element
 from .translation import Translation
 from .values import Cannot, Value, kept, null, opaque
@@ -91,7 +91,8 @@ def binary(t: Translation, node: c_ast.BinaryOp) -> Value:
     if left.kind.is_number and right.kind.is_number and node.op in ("+", "-", "*", "/", "%"):
         if isinstance(kind, Number) and kind.is_natural:
             of_kind = Kind.INT if left.kind == right.kind == Kind.INT else Kind.LONG
-            return kept(of_kind, kind, Binary(node.op, left.code, right.code))
+            return kept(of_kind, kind, Binary(node.op, left.code, right.code, word=of_kind.number_word,
+                                            place=t.place(node)))
     return opaque(kind, effects)
 
 
@@ -173,5 +174,6 @@ def unary(t: Translation, node: c_ast.UnaryOp) -> Value:
     if node.op in ("+", "-") and operand.kind.is_number and isinstance(operand.type, Number):
         kind: CType = INT if operand.type.bits < 32 else operand.type
         if operand.type.is_natural or operand.type.bits < 32:
-            return kept(operand.kind, kind, Binary(node.op, ZERO, operand.code))
+            return kept(operand.kind, kind, Binary(node.op, ZERO, operand.code, word=operand.kind.number_word,
+                                                   place=t.place(node)))
     return opaque(operand.type, effects_of(t, operand))

@@ -4,15 +4,15 @@ from __future__ import annotations
 
 from pycparser import c_ast
 
+from ..calls.in_place import first_call_in_place, return_in_place
+from ..reading.syntax import below, has_label, leaves_loop, stripped
+from ..text.subset import (NULL, ZERO, Block, Call, Case, Do, Expr, Expression, For, If, Jump, Label, Return, Stmt,
+    Switch, While)
 from ..types.c_types import OTHER, VOID, CType
+from ..types.kinds import Kind
 from .conversions import as_kind, condition, effects_of, fit
 from .handlers import statement
-from ..calls.in_place import first_call_in_place, return_in_place
-from ..types.kinds import Kind
 from .moves import moved_out
-from ..text.subset import (NULL, ZERO, Block, Call, Case, Do, Expr, Expression, For, If, Jump, Label, Return, Stmt, Switch,
-                     While)
-from ..reading.syntax import below, has_label, leaves_loop, stripped
 from .translation import Translation
 from .values import Cannot, Value, opaque
 

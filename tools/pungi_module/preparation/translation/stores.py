@@ -4,14 +4,14 @@ from __future__ import annotations
 
 from pycparser import c_ast
 
-from ..types.c_types import CType, Number, common
-from .conversions import any_value, effects_of, fit, ordered
-from .handlers import expression
-from ..types.kinds import Kind
-from .moves import moved_value
+from ..calls.tables import OWNING_FIELDS
 from ..text.rows_used import Effect
 from ..text.subset import NULL, Assign, Call, Expr, Step
-from ..calls.tables import OWNING_FIELDS
+from ..types.c_types import CType, Number, common
+from ..types.kinds import Kind
+from .conversions import any_value, effects_of, fit, ordered
+from .handlers import expression
+from .moves import moved_value
 from .targets import target
 from .translation import Translation
 from .values import Cannot, Form, Target, Value, kept, opaque
@@ -75,7 +75,7 @@ def owns(place: Target, node: c_ast.Node) -> bool:
 
 def any_number(t: Translation, kind: CType, effects: list[Effect]) -> Expr:
     """Any number of a type's kind."""
-    return t.generic("int" if t.kind(kind) == Kind.INT else "long", effects)
+    return t.generic(t.kind(kind).number_word, effects)
 
 
 @expression(c_ast.Assignment)
@@ -103,7 +103,8 @@ def compound(t: Translation, node: c_ast.Assignment) -> Value:
         result = common(place.type, value.type)
         exact = isinstance(place.type, Number) and place.type.is_natural and value.kind.is_number
         if exact and node.op[:-1] in KEPT_OPERATORS and isinstance(result, Number) and result.is_natural:
-            return kept(kind, place.type, Assign(place.code, node.op, value.code))
+            return kept(kind, place.type, Assign(place.code, node.op, value.code, word=kind.number_word,
+                                                 place=t.place(node)))
         return kept(kind, place.type, Assign(place.code, "=", any_number(t, place.type, effects_of(t, value))))
     if kind == Kind.TEXT:
         return ordered(t, effects_of(t, value), kept(kind, place.type, place.code))

@@ -4,10 +4,10 @@ from __future__ import annotations
 
 from pycparser import c_ast
 
-from ..types.c_types import OTHER, Array, CType, FunctionType, InUnion, Pointer, Struct, decayed, pointee
-from .conversions import effects_of
-from ..types.kinds import ARRAY_SLOTS, ARRAY_TAG, HEAD_KEYS, Kind
 from ..text.subset import Arrow, CastTo, Expr, Name
+from ..types.c_types import OTHER, Array, CType, FunctionType, InUnion, Pointer, Struct, decayed, pointee
+from ..types.kinds import ARRAY_SLOTS, ARRAY_TAG, HEAD_KEYS, Kind
+from .conversions import effects_of
 from .translation import Translation
 from .values import Form, Target, Value, Variable, kept
 
@@ -108,9 +108,9 @@ def member(t: Translation, node: c_ast.StructRef) -> Target:
         base = base.name
     if isinstance(base, c_ast.StructRef):
         names.insert(0, base.field.name)
-        return behind_pointer(t, t.value(base.name), tuple(names), node)
+        return through_pointer(t, t.value(base.name), tuple(names), node)
     if isinstance(base, c_ast.UnaryOp) and base.op == "*":
-        return behind_pointer(t, t.value(base.expr), tuple(names), node)
+        return through_pointer(t, t.value(base.expr), tuple(names), node)
     if isinstance(base, c_ast.ID):
         return of_variable(t, base, tuple(names), node)
     if isinstance(base, c_ast.ArrayRef):
@@ -148,7 +148,7 @@ def of_variable(t: Translation, base: c_ast.ID, names: tuple[str, ...], node: c_
     return Target(Form.LOST, path_type(t, known.type, names))
 
 
-def behind_pointer(t: Translation, base: Value, names: tuple[str, ...], node: c_ast.Node) -> Target:
+def through_pointer(t: Translation, base: Value, names: tuple[str, ...], node: c_ast.Node) -> Target:
     """A member of the struct that a pointer points to."""
     struct = pointee(base.type)
     found = t.types.path(struct.key, names) if isinstance(struct, Struct) else None

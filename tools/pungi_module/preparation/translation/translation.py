@@ -6,14 +6,14 @@ from dataclasses import dataclass
 
 from pycparser import c_ast
 
-from ..types.c_types import CType, FunctionType
-from ..types.constants import constant
-from .handlers import EXPRESSIONS, STATEMENTS
-from ..types.kinds import Kind
 from ...model import Assumption, Place
 from ..text.rows_used import Effect
 from ..text.subset import Expr, Stmt
 from ..text.text_state import TextState
+from ..types.c_types import CType, FunctionType
+from ..types.constants import constant
+from ..types.kinds import Kind
+from .handlers import EXPRESSIONS, STATEMENTS
 from .values import Cannot, Value, Variable
 
 
@@ -82,9 +82,9 @@ class Translation:
         """The value of a constant expression."""
         return constant(node, self.types)
 
-    def generic(self, answer: str, effects: list[Effect] | None = None) -> Expr:
+    def generic(self, result: str, effects: list[Effect] | None = None) -> Expr:
         """Any value of a sort, after the effects."""
-        return self.state.rows.generic(answer, effects or [])
+        return self.state.rows.generic(result, effects or [])
 
     def lookup(self, name: str) -> Variable | None:
         """The parameter or local of this name."""
@@ -123,11 +123,3 @@ class Translation:
     def kind(self, kind: CType) -> Kind:
         """The kind of a type's values."""
         return self.kinds.of(kind)
-
-    def is_initialiser(self) -> bool:
-        """A function that only runs while the module is made."""
-        return self.name in self.state.slots.module_initialisers
-
-    def is_object_initialiser(self) -> bool:
-        """A `tp_init`, or what only these call, where `__init__` is taken to run once."""
-        return self.name in self.state.slots.object_initialisers and not self.state.options.init_twice

@@ -5,10 +5,10 @@ from __future__ import annotations
 from dataclasses import dataclass, field
 from enum import Enum
 
-from ..types.c_types import VOID, CType
-from ..types.kinds import Kind
 from ..text.rows_used import Effect
 from ..text.subset import NULL, Expr, Expression, Stmt, is_pure
+from ..types.c_types import VOID, CType
+from ..types.kinds import Kind
 
 
 class Cannot(Exception):
@@ -29,11 +29,6 @@ class Value:
     is_null: bool = False
     #: The object that a cast to `void *` was made from.
     object_before: "Value | None" = None
-
-    @property
-    def is_kept(self) -> bool:
-        """The value itself stands in the printed text."""
-        return self.code is not None
 
     @property
     def is_pure(self) -> bool:
@@ -75,11 +70,11 @@ class Form(Enum):
     KEPT = "kept"
     #: Memory that is not kept.
     LOST = "lost"
-    #: An element of an array of objects that is not told apart from the others.
+    #: An element of an array of objects that is not kept apart from the others.
     ELEMENT = "element"
     #: The head of an object: its type, count or a field of PyTypeObject.
     HEAD = "head"
-    #: A whole struct behind a pointer.
+    #: A whole struct that a pointer points to.
     WHOLE = "whole"
 
 

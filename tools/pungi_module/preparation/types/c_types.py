@@ -1,4 +1,4 @@
-"""The types of C, as far as the preparation tells them apart."""
+"""The types of C, as far as they matter to the preparation."""
 
 from __future__ import annotations
 

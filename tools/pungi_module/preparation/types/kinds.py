@@ -34,8 +34,13 @@ class Kind(Enum):
         """A variable or field of this kind stands in the printed text."""
         return self.is_number or self in (Kind.OBJECT, Kind.TEXT)
 
+    @property
+    def number_word(self) -> str:
+        """The word of a row that returns any number of this kind."""
+        return "int" if self == Kind.INT else "long"
 
-#: How many slots of an array of objects are told apart: the elements with a constant index below this.
+
+#: How many slots of an array of objects are kept apart: the elements with a constant index below this.
 ARRAY_SLOTS = 12
 
 #: The struct that stands for an array of objects.

@@ -6,10 +6,10 @@ from dataclasses import dataclass
 
 from pycparser import c_ast
 
-from .c_types import CType, FunctionType, Struct
-from .kinds import Kind, Kinds
 from ..reading.parse import ParsedFile
 from ..reading.syntax import names_in
+from .c_types import CType, FunctionType
+from .kinds import Kind, Kinds
 from .type_table import TypeTable
 
 
@@ -92,7 +92,3 @@ class Module:
     def names_in_tables(self) -> set[str]:
         """What the module's tables name."""
         return set().union(*(names_in(node.init) for node in self.tables())) if self.tables() else set()
-
-    def is_type_object(self, name: str) -> bool:
-        """A type object that the file declares."""
-        return name in self.globals and self.globals[name].type == Struct("_typeobject")

@@ -4,9 +4,9 @@ from __future__ import annotations
 
 from pycparser import c_ast
 
+from ..reading.syntax import names_in, stripped, type_name
 from .constants import constant
 from .module import Module
-from ..reading.syntax import names_in, stripped, type_name
 
 #: The numbers of slots in a PyType_Slot table (Include/typeslots.h).
 SLOT_NUMBERS = {51: "tp_clear", 52: "tp_dealloc", 60: "tp_init", 71: "tp_traverse", 74: "tp_free"}

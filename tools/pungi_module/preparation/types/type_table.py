@@ -7,7 +7,7 @@ from dataclasses import dataclass, field
 from pycparser import c_ast
 
 from .c_types import (BOOL, CHAR, INT, LONG, OTHER, SIZE, UNSIGNED_INT, UNSIGNED_LONG, VOID, Array, CType, FunctionType,
-                      InUnion, Number, Pointer, Struct)
+    InUnion, Number, Pointer, Struct)
 from .constants import constant
 
 #: How deep members without a name are followed.

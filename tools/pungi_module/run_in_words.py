@@ -18,7 +18,7 @@ UNNAMED = "the object"
 
 
 @dataclass(frozen=True)
-class Told:
+class RunLine:
     """A line of a run: where it is, what happens, and how many references the function owns after it.
 
     `owned` and `by`, the call or the slot, are there where the line is about the object that is not level.
@@ -45,16 +45,16 @@ def source_line(place: Place) -> str:
     return lines[place.line - 1].rstrip() if 0 < place.line <= len(lines) else ""
 
 
-def tell(
+def run_in_words(
     prepared: Prepared, rows: Mapping[str, Row], function: PreparedFunction, run: Run
-) -> tuple[str, list[Told], set[tuple[str, int]] | None]:
+) -> tuple[str, list[RunLine], set[tuple[str, int]] | None]:
     """What a fault is, the run line by line, and the lines of the source that it comes to, where that is known."""
     followed = replayed(prepared.text, rows, function.name, run)
     name = called(run.object, followed.names if followed else {})
-    told = told_events(prepared, function, followed.account, name) if followed else told_steps(prepared, run)
+    lines = event_lines(prepared, function, followed.account, name) if followed else step_lines(prepared, run)
     place = prepared.place_of(run.line, run.column) or function.place
-    message = headline(function.name, run, "an object" if name == UNNAMED else name, origin_words(run, told))
-    return message, [*told, Told(place, ending(run))], lines_of(prepared, followed.visited) if followed else None
+    message = headline(function.name, run, "an object" if name == UNNAMED else name, origin_words(run, lines))
+    return message, [*lines, RunLine(place, ending(run))], lines_of(prepared, followed.visited) if followed else None
 
 
 def lines_of(prepared: Prepared, visited: set[tuple[int, int]]) -> set[tuple[str, int]]:
@@ -89,9 +89,9 @@ def called(number: int, names: Mapping[int, str]) -> str:
     return names.get(number, UNNAMED)
 
 
-def origin_words(run: Run, told: list[Told]) -> str:
+def origin_words(run: Run, lines: list[RunLine]) -> str:
     """Where the run meets the object of a fault first."""
-    first = next((t for t in told if t.owned is not None), None)
+    first = next((t for t in lines if t.owned is not None), None)
     if run.object < len(STATICS):
         return ""
     if any(v.kind == "object" and v.number == run.object for v in run.arguments):
@@ -99,7 +99,7 @@ def origin_words(run: Run, told: list[Told]) -> str:
     return f" ({first.by} in line {first.place.line})" if first else ""
 
 
-def told_events(prepared: Prepared, function: PreparedFunction, account: Account, name: str) -> list[Told]:
+def event_lines(prepared: Prepared, function: PreparedFunction, account: Account, name: str) -> list[RunLine]:
     """The lines of a run that was followed."""
     lines = []
     for event in account.events:
@@ -107,9 +107,9 @@ def told_events(prepared: Prepared, function: PreparedFunction, account: Account
         by = shown_name(event.name, place)
         words = event_words(event, by, name)
         if words and event.deed is Deed.FAILED:
-            lines.append(Told(place, words))
+            lines.append(RunLine(place, words))
         elif words:
-            lines.append(Told(place, words, event.owned, by))
+            lines.append(RunLine(place, words, event.owned, by))
     return lines
 
 
@@ -140,18 +140,18 @@ def shown_name(name: str, place: Place) -> str:
     return word.group() if word else "" if name.startswith("pungi_") else plain
 
 
-def told_steps(prepared: Prepared, run: Run) -> list[Told]:
+def step_lines(prepared: Prepared, run: Run) -> list[RunLine]:
     """The lines of a run that was not followed: what each call gave."""
-    lines = prepared.text.split("\n")
-    told = []
+    text = prepared.text.split("\n")
+    lines = []
     for step in run.steps:
         place = prepared.place_of(step.line, step.column)
-        word = re.match(r"\w+", lines[step.line - 1][step.column - 1 :]) if step.line <= len(lines) else None
+        word = re.match(r"\w+", text[step.line - 1][step.column - 1 :]) if step.line <= len(text) else None
         name = shown_name(word.group() if word else "", place) if place else ""
         if place is None or not name:
             continue
         if step.value.kind == "object" and step.value.number == run.object:
-            told.append(Told(place, f"{name} gives the object", 0, name))
+            lines.append(RunLine(place, f"{name} gives the object", 0, name))
         elif step.value.kind == "null" or step.value.number == -1:
-            told.append(Told(place, f"{name} fails"))
-    return told
+            lines.append(RunLine(place, f"{name} fails"))
+    return lines
