@@ -1,0 +1,2 @@
+-- Small codes and their edges, worked out by hand.
+pub mod worked

@@ -1,0 +1,21 @@
+-- In the order of reading.
+pub mod Forms
+pub mod Shapes
+pub mod Named
+pub mod Parts
+pub mod Liveness
+pub mod Scenes
+pub mod Arrivals
+pub mod Cases
+pub mod Numbers
+pub mod Comparisons
+pub mod Slots
+pub mod Calls
+pub mod Exits
+pub mod Steps
+pub mod Places
+pub mod Edges
+pub mod Limits
+pub mod Programs
+pub mod Promises
+pub mod Described

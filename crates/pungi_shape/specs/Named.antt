@@ -1,0 +1,96 @@
+-- What codes name: static objects, and functions of the file that they call.
+--   static_in a             the static object of an atom, if it is one
+--   base_of place, atoms_of i    the object of a field; the atoms of an instruction
+--   statics_in line         the static objects of an instruction
+--   put_all ns, in_order ns numbers in order, each once: with nothing beside them; alone
+--   named_statics code      the static objects that a code names, in the order of their numbers
+--   lines_of o              the instructions of a code, if there is one
+--   callee_of i, callees_in line, callees_of codes f    the functions of the file that an instruction calls, that a
+--                           function calls
+--   functions_within codes n f    a function, and those that it reaches by at most n calls
+--   functions_from codes f  a function, and those that it reaches by calls, in order. No chain of calls needs to go
+--                           through a function twice
+--   statics_from codes f, statics_of codes f    the static objects that a function names, that these name
+use Rattle.std.specs.Prelude.{ℕ, zero, suc, List, [], ◌∷◌, ◌++◌, length, map, Option, Some, None}
+use Rattle.std.specs.List.{flat_map}
+use Rattle.std.specs.Ordering.{nat_cmp}
+use Rattle.std.specs.FinMap.{put}
+use Rattle.pungi_code.specs.declared.atom.Atom.{Atom}
+use Rattle.pungi_code.specs.declared.atom.Atom.TheVariants as atom
+use Rattle.pungi_code.specs.declared.code.Code.{Code}
+use Rattle.pungi_code.specs.declared.code.Codes.{Codes}
+use Rattle.pungi_code.specs.declared.code.Line.{Line}
+use Rattle.pungi_code.specs.declared.instr.Instr.{Instr}
+use Rattle.pungi_code.specs.declared.instr.Instr.TheVariants.{Set, Arith, Fit, Compare, Load, Store, Api, Call, Unset}
+use Rattle.pungi_code.specs.declared.instr.Instr.TheVariants.{Jump, Branch, Return, Fall}
+use Rattle.pungi_code.specs.declared.place.Place.{Place}
+use Rattle.pungi_code.specs.declared.place.Place.TheVariants.{Global, Field}
+use Rattle.pungi_code.specs.Run.{code_at}
+
+-- ---- static objects
+
+abbrev pub static_in : Atom → List ℕ
+static_in (atom.Static k) = k ∷ []
+static_in a = []
+
+abbrev pub base_of : Place → List Atom
+base_of (Global n kind) = []
+base_of (Field base tag field kind) = base ∷ []
+
+abbrev pub atoms_of : Instr → List Atom
+atoms_of (Set x a) = a ∷ []
+atoms_of (Arith x kind o a b) = a ∷ b ∷ []
+atoms_of (Fit x kind a) = a ∷ []
+atoms_of (Compare x c a b) = a ∷ b ∷ []
+atoms_of (Load x place) = base_of place
+atoms_of (Store place a) = base_of place ++ a ∷ []
+atoms_of (Api x g as' outs) = as'
+atoms_of (Call x f as') = as'
+atoms_of (Unset x) = []
+atoms_of (Jump to) = []
+atoms_of (Branch a this other) = a ∷ []
+atoms_of (Return None) = []
+atoms_of (Return (Some a)) = a ∷ []
+atoms_of Fall = []
+
+abbrev pub statics_in : Line → List ℕ
+statics_in line = flat_map static_in (atoms_of line.instr)
+
+abbrev pub put_all : List ℕ → List (ℕ × Unit {0})
+put_all [] = []
+put_all (n ∷ ns) = put nat_cmp n tt (put_all ns)
+
+abbrev pub in_order : List ℕ → List ℕ
+in_order ns = map (λ e. e.0) (put_all ns)
+
+abbrev pub named_statics : Code → List ℕ
+named_statics code = in_order (flat_map statics_in code.instrs)
+
+-- ---- functions of the file
+
+abbrev pub callee_of : Instr → List ℕ
+callee_of (Call x f as') = f ∷ []
+callee_of i = []
+
+abbrev pub callees_in : Line → List ℕ
+callees_in line = callee_of line.instr
+
+abbrev pub lines_of : Option Code → List Line
+lines_of None = []
+lines_of (Some code) = code.instrs
+
+abbrev pub callees_of : Codes → ℕ → List ℕ
+callees_of codes f = in_order (flat_map callees_in (lines_of (code_at codes f)))
+
+abbrev pub functions_within : Codes → ℕ → ℕ → List ℕ
+functions_within codes zero f = f ∷ []
+functions_within codes (suc n) f = f ∷ flat_map (functions_within codes n) (callees_of codes f)
+
+abbrev pub functions_from : Codes → ℕ → List ℕ
+functions_from codes f = in_order (functions_within codes (length codes.codes) f)
+
+abbrev pub statics_from : Codes → ℕ → List ℕ
+statics_from codes f = flat_map statics_in (lines_of (code_at codes f))
+
+abbrev pub statics_of : Codes → ℕ → List ℕ
+statics_of codes f = in_order (flat_map (statics_from codes) (functions_from codes f))

@@ -1,0 +1,76 @@
+-- What affine programs are for (Karr 1976; Li and Tan, ECOOP 2014): where rows at the places of a program hold of every
+-- vector that may come there, and say that nothing is owed where a token is dropped or the function returns, each run
+-- of the function that returns is balanced, whatever parameters hold the same object, and for any number of turns.
+--   no_vectors f c          no function of the file is called, and so no vector stands at an exit class of one
+--   IsAlwaysBalanced statics code    each run of a code that returns is balanced, from each entry that fits it
+--   is_sure a, has_outcomes own a    an answer that no choice decides; what a call returns is told by its answer: one
+--                           with an effect of its own returns what no choice decides, or its argument
+--   has_outcomes_here i     so it is where an instruction is a call
+--   has_shapes n code       the static objects that a code names are there, where there are n, and its calls are such
+--   SafeIsBalanced          the promise
+--   NotTooLargeIsWellFormed a program is well-formed, unless it is too large
+use Rattle.std.specs.List.{list_all}
+use Rattle.std.specs.Prelude.{Bool, true, false, ◌&&◌, nat_lt, None, ◌≡◌, ℕ, true, List, Option, Some}
+use Rattle.pungi_base.specs.declared.choice.Choice.{Choice}
+use Rattle.pungi_base.specs.declared.entry.Entry.{Entry}
+use Rattle.pungi_base.specs.declared.pos.Pos.{Pos}
+use Rattle.pungi_base.specs.declared.value.Value.{Value}
+use Rattle.pungi_api.specs.declared.answer.Answer.{Answer}
+use Rattle.pungi_api.specs.declared.answer.Answer.TheVariants as answer
+use Rattle.pungi_api.specs.declared.call_answer.CallAnswer.{CallAnswer}
+use Rattle.pungi_api.specs.declared.call_answer.CallAnswer.TheVariants.{Of, Argument}
+use Rattle.pungi_api.specs.declared.own_effect.OwnEffect.{OwnEffect}
+use Rattle.pungi_domain.specs.Annotations.{Rows, IsSafeAnnotation}
+use Rattle.pungi_domain.specs.Programs.{IsWellFormed}
+use Rattle.pungi_domain.specs.Vectors.{Vectors}
+use Rattle.pungi_domain.specs.declared.affine_program.AffineProgram.{AffineProgram}
+use Rattle.pungi_world.specs.Escapes.{IsBalanced}
+use Rattle.pungi_world.specs.declared.world.World.{World}
+use Rattle.pungi_meaning.specs.Run.{Returned}
+use Rattle.pungi_code.specs.declared.code.Code.{Code}
+use Rattle.pungi_code.specs.declared.code.Codes.{Codes}
+use Rattle.pungi_code.specs.declared.instr.Instr.{Instr}
+use Rattle.pungi_code.specs.declared.instr.Instr.TheVariants.{Api}
+use Rattle.pungi_code.specs.Entries.{code_fits}
+use Rattle.pungi_code.specs.Run.{code_at, run_of_code}
+use Rattle.pungi_code.specs.WellFormed.{AreWellFormed}
+use Rattle.pungi_shape.specs.Named.{named_statics}
+use Rattle.pungi_shape.specs.Programs.{IsProgram, IsTooLarge}
+
+abbrev pub no_vectors : ℕ → ℕ → Vectors
+no_vectors f c v = ⊥
+
+abbrev pub IsAlwaysBalanced : ℕ → Code → Type 0
+IsAlwaysBalanced statics code =
+    (entry : Entry) (choices : List Choice) (fuel : ℕ) (w : World) (v : Option Value) (p : Pos) (used : List Pos)
+    → code_fits statics code entry ≡ true
+    → (run_of_code (Some code) entry choices fuel).end ≡ Returned w v p used → IsBalanced w v
+
+abbrev pub is_sure : Answer → Bool
+is_sure answer.Void = true
+is_sure answer.Null = true
+is_sure a = false
+
+abbrev pub has_outcomes : Option OwnEffect → CallAnswer → Bool
+has_outcomes own Argument = true
+has_outcomes None (Of a) = true
+has_outcomes (Some o) (Of a) = is_sure a
+
+abbrev pub has_outcomes_here : Instr → Bool
+has_outcomes_here (Api x g as' outs) = has_outcomes g.own g.answer
+has_outcomes_here i = true
+
+abbrev pub has_shapes : ℕ → Code → Bool
+has_shapes n code =
+    list_all (λ k. nat_lt k n) (named_statics code) && list_all (λ line. has_outcomes_here line.instr) code.instrs
+
+abbrev pub SafeIsBalanced : Type 0
+SafeIsBalanced =
+    (codes : Codes) (f : ℕ) (code : Code) (p : AffineProgram) (a : Rows) → AreWellFormed codes
+    → code_at codes f ≡ Some code → has_shapes codes.statics code ≡ true → IsProgram codes f p
+    → IsSafeAnnotation p no_vectors a → IsAlwaysBalanced codes.statics code
+
+abbrev pub NotTooLargeIsWellFormed : Type 0
+NotTooLargeIsWellFormed =
+    (codes : Codes) (f : ℕ) (p : AffineProgram) → AreWellFormed codes → IsProgram codes f p
+    → (IsTooLarge codes f → ⊥) → IsWellFormed p
